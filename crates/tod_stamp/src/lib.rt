@@ -1,0 +1,18 @@
+//! Stamps of time, and the names of volumes and sessions, with their texts and fields.
+#![tactic(auto)]
+
+mod laws;
+mod name;
+mod name_error;
+mod serial;
+mod session;
+mod stamp;
+
+pub use laws::{
+    fields_are_spelled, fields_read_back, names_are_read, names_read_back, texts_are_spelled,
+    texts_read_back, what_is_read_is_a_name,
+};
+pub use name_error::NameError;
+pub use serial::Serial;
+pub use session::Session;
+pub use stamp::{Stamp, StampError};

@@ -1,0 +1,14 @@
+//! The edge of the product: sources of bytes that count their faults, and the lists that its calls take and give.
+#![tactic(auto)]
+
+mod file_source;
+mod list;
+mod memory_source;
+mod outcome;
+mod source;
+
+pub use file_source::FileSource;
+pub use list::{Bytes, List};
+pub use memory_source::MemorySource;
+pub use outcome::{Failed, NoMemory};
+pub use source::Source;
