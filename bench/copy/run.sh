@@ -1,0 +1,60 @@
+#!/bin/sh
+# Times the copy of a volume of 256 MiB against cp of the same bytes followed by sync -f, and prints the ratio.
+set -eu
+
+repository=$(cd "$(dirname "$0")/../.." && pwd)
+program=$repository/crates/xrc/out/xrc
+[ -x "$program" ] || { echo "copy: build the program first, by examples/first-copy/run.sh" >&2; exit 1; }
+
+cylinders=316
+tracks=$((15 * cylinders))
+content=56656
+
+byte() { printf '\\%03o' "$1"; }
+two_bytes() { printf '%s%s' "$(byte $(($1 / 256)))" "$(byte $(($1 % 256)))"; }
+
+site=$(mktemp -d "${TMPDIR:-/tmp}/copy.XXXXXX")
+trap 'rm -rf "$site"' EXIT
+cd "$site"
+
+# A full image: one record, number 1, no key, 56,656 bytes of content.
+printf "$(two_bytes 1)\\001\\000$(two_bytes $content)" >image
+head -c $content /dev/urandom >>image
+
+# One whole track after another.
+{
+    printf "XTR1$(two_bytes 1)PRIM01$(two_bytes $cylinders)\\000\\000\\000\\000"
+    track=0
+    while [ $track -lt $tracks ]; do
+        printf "\\004\\000\\000\\000\\000\\000\\000$(two_bytes $((256 + track)))\\000\\000$(two_bytes $((track / 15)))$(two_bytes $((track % 15)))"
+        cat image
+        track=$((track + 1))
+    done
+} >trace.0
+
+truncate -s 1024 control
+truncate -s 16384 state
+truncate -s 1826816 journal.0 journal.1
+printf "XVOLSEC001\\000\\000$(two_bytes $cylinders)" >volume.0
+head -c $((512 - 14 + cylinders * 860160)) /dev/zero >>volume.0
+printf '%s\n' '0000000000000050 XSTART ABC' '0000000000000060 XADDPAIR ABC VOLUME(PRIM01,SEC001)' '00000000FFFFFFFF XEND ABC' >script
+head -c "$(stat -c %s trace.0)" /dev/zero >copy
+sync
+
+now() { date +%s%N; }
+
+echo "trace: $(stat -c %s trace.0) bytes, $tracks tracks"
+round=1
+while [ $round -le 5 ]; do
+    start=$(now)
+    cp trace.0 copy
+    sync -f copy
+    copied=$(now)
+    "$program" run ABC 1 <script >replies
+    ended=$(now)
+    plain=$(((copied - start) / 1000000))
+    ours=$(((ended - copied) / 1000000))
+    echo "round $round: cp and sync $plain ms, xrc $ours ms, ratio $((ours * 100 / plain)) / 100"
+    round=$((round + 1))
+done
+[ "$(wc -l <replies)" -eq 3 ]

@@ -1,0 +1,6 @@
+pub mod Tracks
+pub mod Effects
+pub mod Images
+pub mod Heads
+pub mod Reading
+pub mod Slots

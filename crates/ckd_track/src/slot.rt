@@ -1,0 +1,128 @@
+//! A slot: a buffer that is made once and begins with the image of a track.
+
+ghost use Rattle.std.specs.Prelude.{◌≡◌, ◌≢◌, ◌≤◌, [], ◌∷◌, ◌++◌, length, take, drop, Ok, Err, IfOk, IfErr, OnErr};
+ghost use Rattle.ckd_track.specs.Tracks.{IsTrack};
+ghost use Rattle.ckd_track.specs.Effects.{apply};
+ghost use Rattle.ckd_track.specs.Images.{image, image_at, longest_image};
+ghost use Rattle.ckd_track.specs.Slots.{IsImage, track_of};
+
+use crate::fault::ImageError;
+use crate::reading::after_image;
+use crate::spelling::put_image;
+use crate::track::Track;
+use crate::write::{Kind, Write};
+use std::alloc::Global;
+use std::marker::Model;
+use xrc_edge::NoMemory;
+
+/// The length of a slot's buffer.
+const SLOT_LENGTH: usize = 57_344;
+
+/// A buffer that is made once. Contracts see it as the track whose image it begins with.
+#[derive(Debug, Drop)]
+pub struct Slot {
+    buffer: Vec<u8>,
+    used: usize,
+}
+
+impl Model for Slot {
+    ghost use Rattle.std.specs.Prelude.{List, take};
+    ghost use Rattle.ckd_track.specs.declared.rec.Rec.{Rec};
+    ghost use Rattle.ckd_track.specs.Slots.{track_of, HoldsImage};
+
+    ghost Value = { List Rec };
+
+    ghost view = { λ slot. track_of (take slot.used slot.buffer.items) };
+
+    ghost invariant = { λ slot. HoldsImage slot.used slot.buffer.items };
+}
+
+/// That many zeros.
+fn zeros(alloc: Global, size: usize) -> Result<Vec<u8>, NoMemory>
+    requires { 2 ≤ size }
+    ensures sized { IfOk result (λ buffer. length buffer.items ≡ size) }
+    ensures front { IfOk result (λ buffer. take 2 buffer.items ≡ 0 ∷ 0 ∷ []) }
+{
+    Ok(vec![in alloc; 0u8; size]?)
+}
+
+/// Writes bytes over the front of a buffer.
+fn put_front(buffer: &mut [u8], bytes: &[u8])
+    requires { length bytes.now ≤ length buffer.old }
+    ensures { buffer.new ≡ bytes.now ++ drop (length bytes.now) buffer.old }
+{
+    buffer[..bytes.len()].copy_from_slice(bytes);
+}
+
+impl Slot {
+    /// A slot with no record. Its buffer is all the memory that a slot ever takes.
+    pub fn make(alloc: Global) -> Result<Slot, NoMemory>
+        ensures { IfOk result (λ slot. slot ≡ []) }
+    {
+        let buffer = zeros(alloc, SLOT_LENGTH)?;
+        Ok(Slot { buffer, used: 2 })
+    }
+
+    /// The image of the track.
+    pub fn bytes(&self) -> &[u8]
+        ensures image { result.now ≡ image self.now }
+        ensures track { IsTrack self.now }
+        ensures short { length result.now ≤ longest_image }
+    {
+        &self.buffer.as_slice()[..self.used]
+    }
+
+    /// Takes the track whose image the bytes are.
+    fn put(&mut self, image: &[u8])
+        requires { IsImage image.now }
+        ensures { self.new ≡ track_of image.now }
+    {
+        put_front(self.buffer.as_mut_slice(), image);
+        self.used = image.len();
+    }
+
+    /// Erases all records.
+    fn clear(&mut self)
+        ensures { self.new ≡ [] }
+    {
+        self.put(&[0, 0]);
+    }
+
+    /// Takes the track whose image the bytes begin with, and gives the image's length. If they begin with none, the slot
+    /// becomes empty.
+    pub fn load(&mut self, bytes: &[u8]) -> Result<usize, ImageError>
+        ensures ok { IfOk result (λ count. image_at bytes.now ≡ Ok (self.new, drop count bytes.now)) }
+        ensures length { IfOk result (λ count. count ≡ length (image self.new)) }
+        ensures err { IfErr result (λ error. image_at bytes.now ≡ Err error) }
+        ensures empty { OnErr result (self.new ≡ []) }
+        ensures memory { result ≢ Err ImageError.NoMemory }
+    {
+        match after_image(bytes) {
+            Ok(rest) => {
+                let length = bytes.len() - rest.len();
+                self.put(&bytes[..length]);
+                Ok(length)
+            }
+            Err(error) => {
+                self.clear();
+                Err(error)
+            }
+        }
+    }
+
+    /// Takes a track.
+    pub fn set(&mut self, track: &Track)
+        ensures { self.new ≡ track.now }
+    {
+        self.used = put_image(self.buffer.as_mut_slice(), track.recs());
+    }
+
+    /// Does what a write does to its track.
+    pub fn apply(&mut self, write: &Write)
+        ensures { self.new ≡ apply self.old write.now.kind }
+    {
+        match &write.kind {
+            Kind::Whole { track } => self.set(track),
+        }
+    }
+}

@@ -1,0 +1,206 @@
+//! Images from outside, refused images, tracks at their limits, and each call that takes memory once.
+
+use super::*;
+use crate::rec::copied_bytes;
+use std::alloc::Global;
+use std::process::Abort;
+use std::test::Fail;
+use tod_stamp::Stamp;
+use xrc_edge::{Bytes, NoMemory};
+
+/// The image of one record 1 without key, with content `AB`.
+const ONE_RECORD: [u8; 8] = [0x00, 0x01, 0x01, 0x00, 0x00, 0x02, 0x41, 0x42];
+
+fn record_of(alloc: Global, number: u8, key: &[u8], content: &[u8]) -> Result<Rec, NoMemory> {
+    Ok(Rec {
+        number,
+        key: copied_bytes(alloc, key)?,
+        content: copied_bytes(alloc, content)?,
+    })
+}
+
+fn one_record(rt: &impl Abort, alloc: Global) -> Result<Track, NoMemory> {
+    let mut track = Track::make(alloc);
+    let rec = record_of(alloc, 1, b"", b"AB")?;
+    assert!(rt; track.fits(&rec));
+    track.push(alloc, rec)?;
+    Ok(track)
+}
+
+fn is_one_record(recs: &[Rec]) -> bool {
+    match recs {
+        [rec] => rec.number == 1
+            && rec.key.is_empty()
+            && rec.content.as_slice() == b"AB".as_slice(),
+        _ => false,
+    }
+}
+
+#[test]
+fn one_record_has_its_image(rt: HostRuntime) -> Result<(), Fail> {
+    let alloc = rt.alloc();
+    let track = one_record(&rt, alloc)?;
+    assert!(rt; is_one_record(track.recs()));
+    let mut image = copied_bytes(alloc, b"before")?;
+    track.encode_image(alloc, &mut image)?;
+    assert_eq!(rt;
+        image.as_slice(),
+        b"before\x00\x01\x01\x00\x00\x02AB".as_slice()
+    );
+    let mut slot = Slot::make(alloc)?;
+    assert_eq!(rt; slot.bytes(), [0, 0].as_slice());
+    slot.set(&track);
+    assert_eq!(rt; slot.bytes(), ONE_RECORD.as_slice());
+    Ok(())
+}
+
+#[test]
+fn an_image_is_read(rt: HostRuntime) -> Result<(), Fail> {
+    let alloc = rt.alloc();
+    let bytes = [0x00, 0x01, 0x01, 0x00, 0x00, 0x02, 0x41, 0x42, 0x07];
+    let (track, length) = Track::decode_image(alloc, &bytes)?;
+    assert_eq!(rt; length, 8);
+    assert!(rt; is_one_record(track.recs()));
+    let mut slot = Slot::make(alloc)?;
+    assert_eq!(rt; slot.load(&bytes), Ok(8));
+    assert_eq!(rt; slot.bytes(), ONE_RECORD.as_slice());
+    Ok(())
+}
+
+#[test]
+fn a_write_replaces_the_track(rt: HostRuntime) -> Result<(), Fail> {
+    let alloc = rt.alloc();
+    let write = Write {
+        volume: 0,
+        track: 3,
+        stamp: Stamp(100),
+        kind: Kind::Whole {
+            track: one_record(&rt, alloc)?,
+        },
+    };
+    let mut track = Track::make(alloc);
+    track.apply(alloc, &write)?;
+    assert!(rt; is_one_record(track.recs()));
+    let mut slot = Slot::make(alloc)?;
+    slot.apply(&write);
+    assert_eq!(rt; slot.bytes(), ONE_RECORD.as_slice());
+    Ok(())
+}
+
+fn refuses(
+    rt: &impl Abort,
+    alloc: Global,
+    bytes: &[u8],
+    error: ImageError,
+) -> Result<(), NoMemory> {
+    assert_eq!(rt; Track::decode_image(alloc, bytes).err(), Some(error));
+    let mut slot = Slot::make(alloc)?;
+    slot.set(&one_record(rt, alloc)?);
+    assert_eq!(rt; slot.load(bytes), Err(error));
+    assert_eq!(rt; slot.bytes(), [0, 0].as_slice());
+    Ok(())
+}
+
+#[test]
+fn refused_images(rt: HostRuntime) -> Result<(), Fail> {
+    let alloc = rt.alloc();
+    refuses(&rt, alloc, &[0x00], ImageError::Short)?;
+    refuses(&rt, alloc, &[0, 1, 0, 0, 0, 0], ImageError::Order(2))?;
+    refuses(
+        &rt,
+        alloc,
+        &[0, 2, 2, 0, 0, 0, 1, 0, 0, 0],
+        ImageError::Order(6),
+    )?;
+    refuses(&rt, alloc, &[0, 1, 1, 0, 0xDD, 0x51], ImageError::TooBig)?;
+    refuses(&rt, alloc, &[1, 0], ImageError::Order(0))?;
+    Ok(())
+}
+
+fn filled(alloc: Global, length: usize) -> Result<Bytes, Fail> {
+    Ok(copied_bytes(alloc, &vec![in alloc; 0x5Au8; length]?)?)
+}
+
+/// Pushes a record without key, whose content has that many bytes, and says whether it fitted.
+fn pushes(alloc: Global, track: &mut Track, number: u8, length: usize) -> Result<bool, Fail> {
+    let rec = Rec {
+        number,
+        key: Bytes::make(alloc),
+        content: filled(alloc, length)?,
+    };
+    let fits = track.fits(&rec);
+    if fits {
+        track.push(alloc, rec)?;
+    }
+    Ok(fits)
+}
+
+/// The image of a track has that many bytes, and both ways of reading give it again.
+fn reads_back(rt: &impl Abort, alloc: Global, track: &Track, length: usize) -> Result<(), Fail> {
+    let mut image = Bytes::make(alloc);
+    track.encode_image(alloc, &mut image)?;
+    assert_eq!(rt; image.len(), length);
+    let mut slot = Slot::make(alloc)?;
+    slot.set(track);
+    assert_eq!(rt; slot.bytes(), image.as_slice());
+    assert_eq!(rt; slot.load(image.as_slice()), Ok(length));
+    let (again, read) = Track::decode_image(alloc, image.as_slice())?;
+    assert_eq!(rt; read, length);
+    assert_eq!(rt; again.recs().len(), track.recs().len());
+    let mut second = Bytes::make(alloc);
+    again.encode_image(alloc, &mut second)?;
+    assert_eq!(rt; second.as_slice(), image.as_slice());
+    Ok(())
+}
+
+#[test]
+fn the_longest_image(rt: HostRuntime) -> Result<(), Fail> {
+    let alloc = rt.alloc();
+    let mut track = Track::make(alloc);
+    assert!(rt; !pushes(alloc, &mut track, 1, 56_657)?);
+    assert!(rt; pushes(alloc, &mut track, 1, 56_656)?);
+    assert!(rt; !pushes(alloc, &mut track, 2, 0)?);
+    reads_back(&rt, alloc, &track, 56_662)
+}
+
+#[test]
+fn two_records_fill_a_track(rt: HostRuntime) -> Result<(), Fail> {
+    let alloc = rt.alloc();
+    let mut track = Track::make(alloc);
+    assert!(rt; pushes(alloc, &mut track, 1, 50_000)?);
+    assert!(rt; !pushes(alloc, &mut track, 2, 6_649)?);
+    assert!(rt; pushes(alloc, &mut track, 2, 6_648)?);
+    reads_back(&rt, alloc, &track, 56_658)
+}
+
+#[test]
+fn as_many_records_as_there_are_numbers(rt: HostRuntime) -> Result<(), Fail> {
+    let alloc = rt.alloc();
+    let mut track = Track::make(alloc);
+    assert!(rt; !pushes(alloc, &mut track, 0, 0)?);
+    for number in 1..=255u8 {
+        assert!(rt; pushes(alloc, &mut track, number, 0)?);
+        assert!(rt; !pushes(alloc, &mut track, number, 0)?);
+    }
+    reads_back(&rt, alloc, &track, 2 + 255 * 4)
+}
+
+#[test]
+fn keys_have_at_most_255_bytes(rt: HostRuntime) -> Result<(), Fail> {
+    let alloc = rt.alloc();
+    let mut track = Track::make(alloc);
+    let longer = Rec {
+        number: 1,
+        key: filled(alloc, 256)?,
+        content: Bytes::make(alloc),
+    };
+    assert!(rt; !track.fits(&longer));
+    let longest = Rec {
+        number: 1,
+        key: filled(alloc, 255)?,
+        content: filled(alloc, 3)?,
+    };
+    assert!(rt; track.fits(&longest));
+    track.push(alloc, longest)?;
+    reads_back(&rt, alloc, &track, 2 + 4 + 255 + 3)
+}

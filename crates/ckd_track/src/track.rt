@@ -1,0 +1,143 @@
+//! A track: its records in order.
+
+ghost use Rattle.std.specs.Prelude.{◌≡◌, ◌≢◌, ◌+◌, ◌↔◌, [], ◌∷◌, ◌++◌, length, drop, Ok, Err, OnOk, OnErr, IfOk, IfErr, IsTrue};
+
+use crate::decoding::decoded;
+use crate::fault::ImageError;
+use crate::rec::{Rec, RecList, copied_records};
+use crate::spelling::append_image;
+use crate::write::{Kind, Write};
+use std::alloc::Global;
+use std::marker::Model;
+use xrc_edge::{Bytes, NoMemory};
+
+/// The sizes of a track's records add up to at most this.
+pub const CAPACITY: usize = 56_664;
+
+/// A track. Contracts see it as the list of its records.
+#[derive(Debug, Drop)]
+pub struct Track {
+    recs: RecList,
+    used: u32,
+}
+
+impl Model for Track {
+    ghost use Rattle.std.specs.Prelude.{◌≡◌, List};
+    ghost use Rattle.ckd_track.specs.declared.rec.Rec.{Rec};
+    ghost use Rattle.ckd_track.specs.Tracks.{IsTrack, track_size};
+
+    ghost Value = { List Rec };
+
+    ghost view = { λ track. track.recs };
+
+    ghost invariant = { λ track. IsTrack track.recs × (track.used ≡ track_size track.recs) };
+}
+
+impl Track {
+    ghost use Rattle.ckd_track.specs.Tracks.{IsTrack, last_number, track_size, capacity};
+    ghost use Rattle.ckd_track.specs.Effects.{apply};
+    ghost use Rattle.ckd_track.specs.Images.{image, image_at};
+
+    /// A track with no record. It takes no memory.
+    pub fn make(alloc: Global) -> Track
+        ensures { result ≡ [] }
+    {
+        Track {
+            recs: RecList::make(alloc),
+            used: 0,
+        }
+    }
+
+    /// The records in order of their numbers.
+    pub fn recs(&self) -> &[Rec]
+        ensures recs { result.now ≡ self.now }
+        ensures track { IsTrack self.now }
+    {
+        self.recs.as_slice()
+    }
+
+    /// The number of the last record, or 0.
+    pub(crate) fn last(&self) -> u8
+        ensures { result ≡ last_number 0 self.now }
+    {
+        match self.recs.as_slice() {
+            [] => 0,
+            [.., rec] => rec.number,
+        }
+    }
+
+    /// The bytes that are left for records.
+    pub(crate) fn room(&self) -> usize
+        ensures left { result + track_size self.now ≡ capacity }
+        ensures track { IsTrack self.now }
+    {
+        CAPACITY - self.used as usize
+    }
+
+    /// Whether the record may stand behind those of the track: its number is above theirs, its key has at most 255
+    /// bytes, and there is room for it.
+    pub fn fits(&self, rec: &Rec) -> bool
+        ensures { IsTrue result ↔ IsTrack (self.now ++ rec.now ∷ []) }
+    {
+        if rec.number <= self.last() || rec.key.len() > 255 {
+            return false;
+        }
+        let size = (8 + rec.key.len()).saturating_add(rec.content.len());
+        size <= self.room()
+    }
+
+    /// Puts a record behind those of the track.
+    pub fn push(&mut self, alloc: Global, rec: Rec) -> Result<(), NoMemory>
+        requires { IsTrack (self.old ++ rec ∷ []) }
+        ensures ok { OnOk result (self.new ≡ self.old ++ rec ∷ []) }
+        ensures err { OnErr result (self.new ≡ self.old) }
+    {
+        let size = 8 + rec.key.len() + rec.content.len();
+        self.recs.push(alloc, rec)?;
+        self.used += size as u32;
+        Ok(())
+    }
+
+    fn copied(&self, alloc: Global) -> Result<Track, NoMemory>
+        ensures { IfOk result (λ copy. copy ≡ self.now) }
+    {
+        Ok(Track {
+            recs: copied_records(alloc, self.recs.as_slice())?,
+            used: self.used,
+        })
+    }
+
+    /// Does what a write does to its track.
+    pub fn apply(&mut self, alloc: Global, write: &Write) -> Result<(), NoMemory>
+        ensures ok { OnOk result (self.new ≡ apply self.old write.now.kind) }
+        ensures err { OnErr result (self.new ≡ self.old) }
+    {
+        match &write.kind {
+            Kind::Whole { track } => *self = track.copied(alloc)?,
+        }
+        Ok(())
+    }
+
+    /// Puts the track's image behind the bytes of `out`.
+    pub fn encode_image(&self, alloc: Global, out: &mut Bytes) -> Result<(), NoMemory>
+        ensures ok { OnOk result (out.new ≡ out.old ++ image self.now) }
+        ensures err { OnErr result (out.new ≡ out.old) }
+    {
+        let before = out.len();
+        let appended = append_image(alloc, out, self.recs());
+        if appended.is_err() {
+            out.truncate(before);
+        }
+        appended
+    }
+
+    /// The track whose image the bytes begin with, and the image's length.
+    pub fn decode_image(alloc: Global, bytes: &[u8]) -> Result<(Track, usize), ImageError>
+        ensures ok { IfOk result (λ read. image_at bytes.now ≡ Ok (read.0, drop read.1 bytes.now)) }
+        ensures length { IfOk result (λ read. read.1 ≡ length (image read.0)) }
+        ensures err { IfErr result (λ error. error ≢ ImageError.NoMemory → image_at bytes.now ≡ Err error) }
+    {
+        let (track, rest) = decoded(alloc, bytes)?;
+        Ok((track, bytes.len() - rest.len()))
+    }
+}

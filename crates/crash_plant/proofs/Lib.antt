@@ -1,0 +1,10 @@
+pub mod Choices
+pub mod Counts
+pub mod Lent
+pub mod Only
+pub mod Patches
+pub mod Planned
+pub mod Resize
+pub mod Seen
+pub mod Steps
+pub mod Still

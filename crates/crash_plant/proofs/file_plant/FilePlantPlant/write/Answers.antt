@@ -1,0 +1,16 @@
+use Rattle.std.proofs.Common.{[], ◌∙◌, sym, ap, arith}
+use Rattle.crash_plant.specs.FilePlant.{file_sight, shelf_length, shelf_faults, shelf_is_lent}
+use Rattle.crash_plant.proofs.Only.{only_journal, only_volume}
+use Rattle.crash_plant.proofs.file_plant.FilePlantPlant.write.Goals as goal
+
+pub returns-in-Journal-clause-only : goal.returns-in-Journal-clause-only
+returns-in-Journal-clause-only g c =
+    let p = c.args.self.now in
+    only_journal file_sight ⊥ p.control p.state p.journals.items p.volumes.items [] [] [] p.console.faults c.args.device _ _ c.from.ensures
+    _ c.write-in-Journal.new.self c.in-Journal.is c.index_mut.ensures.value c.write-in-Journal.ensures.length c.write-in-Journal.ensures.cause.later
+
+pub returns-in-Here-clause-only : goal.returns-in-Here-clause-only
+returns-in-Here-clause-only g c =
+    let p = c.args.self.now in
+    only_volume file_sight ⊥ p.control p.state p.journals.items p.volumes.items [] [] [] p.console.faults c.args.device _ _ c.from-in-Volume.ensures
+    _ _ c.in-Volume.is c.index_mut-in-Volume.ensures.value (c.write-in-Here.ensures.length ∙ sym (ap shelf_length c.in-Here.is)) (omega (arith, ap shelf_faults c.in-Here.is, c.write-in-Here.ensures.cause.later)) (sym (ap shelf_is_lent c.in-Here.is))

@@ -1,0 +1,14 @@
+pub mod Bytes
+pub mod Moments
+pub mod Calls
+pub mod Choices
+pub mod Devices
+pub mod Made
+pub mod Still
+pub mod PlainPlant
+pub mod PlainLaws
+pub mod FilePlant
+pub mod Fails
+pub mod FailPlans
+pub mod MemoryVolume
+pub mod MemoryPlant

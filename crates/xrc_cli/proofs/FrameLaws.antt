@@ -1,0 +1,81 @@
+-- How what calls leave as it was adds up.
+use Rattle.std.proofs.Common.{[], ◌++◌, List, sym, append_assoc, ap, ◌≡◌, ◌≤◌, ℕ, refl, ◌∙◌, arith, inl, inr}
+use Rattle.std.proofs.lemmas.Bool.{cases_lt}
+use Rattle.crash_plant.specs.declared.device.Device.TheVariants.{Volume}
+use Rattle.crash_plant.specs.Moments.{PlantState}
+use Rattle.crash_plant.specs.Calls.{WorksOn, WorksOnConsole}
+use Rattle.xrc_edge.specs.Causes.{Rose}
+use Rattle.xrc_cli.specs.Frames.{LeavesOthers}
+use Rattle.xrc_cli.specs.Hearing.{HearsText}
+
+-- no call
+pub leaves_here : (tells : Type 0) (a : PlantState) → LeavesOthers tells a a
+leaves_here tells a = record {
+  site = record { journals = refl; volumes = refl; lengths = λ d. refl };
+  loans = λ v. refl;
+  bytes = λ told d other. refl;
+  volume_faults = omega arith;
+  console_faults = omega arith;
+}
+
+pub leaves_then : (tells : Type 0) (a b c : PlantState) → LeavesOthers tells a b → LeavesOthers tells b c → LeavesOthers tells a c
+leaves_then tells a b c x y = record {
+  site = record {
+    journals = y.site.journals ∙ x.site.journals;
+    volumes = y.site.volumes ∙ x.site.volumes;
+    lengths = λ d. y.site.lengths d ∙ x.site.lengths d;
+  };
+  loans = λ v. y.loans v ∙ x.loans v;
+  bytes = λ told d other. y.bytes told d other ∙ x.bytes told d other;
+  volume_faults = omega (arith, x.volume_faults, y.volume_faults);
+  console_faults = omega (arith, x.console_faults, y.console_faults);
+}
+
+-- a call on volume 0
+pub leaves_on_volume : (tells : Type 0) (a b : PlantState) → WorksOn tells (λ d. d ≡ Volume 0) a b → LeavesOthers tells a b
+leaves_on_volume tells a b w = record {
+  site = w.site;
+  loans = λ v. (w.loans v).is_lent;
+  bytes = λ told d other. (w.others told d other).bytes;
+  volume_faults = w.faults (Volume 0);
+  console_faults = (let e = w.console_faults in omega (arith, e));
+}
+
+-- calls on volume 0 say nothing and hear nothing
+pub says_nothing_on_volume : (tells : Type 0) (a b : PlantState) → WorksOn tells (λ d. d ≡ Volume 0) a b → tells → b.said b.clock ≡ a.said a.clock
+says_nothing_on_volume tells a b w told = (w.silent told).said b.clock ((w.elapses told).kept (Volume 0)).later (omega arith)
+
+-- a call on the console
+pub leaves_on_console : (tells : Type 0) (a b : PlantState) → a.console_faults ≤ b.console_faults → WorksOnConsole tells a b → LeavesOthers tells a b
+leaves_on_console tells a b later w = record {
+  site = w.site;
+  loans = λ v. (w.loans v).is_lent;
+  bytes = λ told d other. (w.devices told d).bytes;
+  volume_faults = (let e = w.faults (Volume 0) in omega (arith, e));
+  console_faults = later;
+}
+
+-- a count that rose has risen over calls before and after, too
+pub rose_before : (a b c : ℕ) → a ≤ b → Rose b c → Rose a c
+rose_before a b c le (inl lt) = inl (omega arith)
+rose_before a b c le (inr end) = inr end
+
+pub rose_after : (a b c : ℕ) → a ≤ b → Rose a b → b ≤ c → Rose a c
+rose_after a b c le (inl lt) later = inl (omega arith)
+rose_after a b c le (inr end) later = elim (cases_lt b c) [
+  | inl more ↦ inl (omega (arith, more, le))
+  | inr here ↦ inr (omega (arith, here, later, end))
+]
+
+-- a call of the console that heard nothing
+pub hears_nothing : (tells : Type 0) (a b : PlantState) → LeavesOthers tells a b → (tells → b.bytes (Volume 0) ≡ a.bytes (Volume 0)) → (tells → b.said b.clock ≡ a.said a.clock)
+    → (tells → b.script ≡ a.script) → HearsText tells [] a b
+hears_nothing tells a b leaves volume said script = record { leaves = leaves; volume = volume; said = said; heard = λ told. sym (script told) }
+
+pub hears_then : (tells : Type 0) (x y : List ℕ) (a b c : PlantState) → HearsText tells x a b → HearsText tells y b c → HearsText tells (x ++ y) a c
+hears_then tells x y a b c first second = record {
+  leaves = leaves_then tells a b c first.leaves second.leaves;
+  volume = λ told. second.volume told ∙ first.volume told;
+  said = λ told. second.said told ∙ first.said told;
+  heard = λ told. first.heard told ∙ ap (λ rest. x ++ rest) (second.heard told) ∙ sym (append_assoc x y c.script);
+}

@@ -1,0 +1,17 @@
+pub mod WordLists
+pub mod PartReading
+pub mod ScriptReading
+pub mod ReplyParts
+pub mod TraceFronts
+pub mod TraceSame
+pub mod TraceNone
+pub mod TraceSteps
+pub mod TraceRest
+pub mod TraceEnds
+pub mod TracePulls
+pub mod FrameLaws
+pub mod LabelLaws
+pub mod SlotLaws
+pub mod SayLaws
+pub mod PlanLaws
+pub mod StopLaws

@@ -1,0 +1,31 @@
+-- The words of a command line, one by one.
+use Rattle.std.proofs.Common.{◌≡◌, ℕ, ◌<◌, ◌≤◌, Bool, true, false, List, [], ◌∷◌, length, get_or, Some, None, Result, Ok, Err, refl, sym, ap, ◌∙◌, arith}
+use Rattle.std.specs.Prelude.{bytes_eq, codes, if◌then◌else◌}
+use Rattle.std.specs.Result.{result_ok}
+use Rattle.tod_stamp.specs.declared.name_error.NameError.{NameError}
+use Rattle.tod_stamp.specs.Names.{is_session, name_of}
+use Rattle.tod_stamp.proofs.NameLaws.{names_are_read, read_are_names}
+use Rattle.xrc_cli.specs.Words.{run_session}
+
+pub three : {A : Type 0} (xs : List A) (x y z : A) → x ≡ get_or xs 0 x → y ≡ get_or xs 1 y → z ≡ get_or xs 2 z → 3 ≤ length xs → length xs < 4 → xs ≡ x ∷ y ∷ z ∷ []
+three [] x y z e f g low high = absurd (omega arith)
+three (a ∷ []) x y z e f g low high = absurd (omega arith)
+three (a ∷ b ∷ []) x y z e f g low high = absurd (omega arith)
+three (a ∷ b ∷ d ∷ []) x y z e f g low high = cc
+three (a ∷ b ∷ d ∷ h ∷ more) x y z e f g low high = absurd (omega arith)
+
+-- a name is read exactly where it is a session
+session_read : (bytes : List ℕ) (r : Result (List ℕ) NameError) (valid : Bool) → name_of 8 bytes ≡ r → is_session bytes ≡ valid → result_ok r ≡ (if valid then Some bytes else None)
+session_read bytes r true is e = ap result_ok (sym is ∙ names_are_read 8 bytes e)
+session_read bytes (Err error) false is e = refl
+session_read bytes (Ok name) false is e = absurd (clash (read_are_names 8 bytes name is))
+  where
+    clash : (name ≡ bytes) × (is_session name ≡ true) → ⊥
+    clash p = let h = p.0 in let k = p.1 in cc
+
+pub runs : (command session storage : List ℕ) → bytes_eq command (codes "run") ≡ true → bytes_eq storage (codes "1") ≡ true → result_ok (name_of 8 session) ≡ run_session (command ∷ session ∷ storage ∷ [])
+runs command session storage e f = choose (is_session session) refl
+  where
+    choose : (valid : Bool) → is_session session ≡ valid → result_ok (name_of 8 session) ≡ run_session (command ∷ session ∷ storage ∷ [])
+    choose true is = rw (e, is, f) (session_read session (name_of 8 session) true refl is)
+    choose false is = rw (e, is) (session_read session (name_of 8 session) false refl is)

@@ -1,0 +1,11 @@
+use Rattle.std.proofs.Common.{◌^◌, arith}
+use Rattle.std.specs.Int.{w64}
+use Rattle.tod_stamp.proofs.FieldLaws.{wide64}
+use Rattle.xrc_cli.proofs.TraceFronts.{number_front}
+use Rattle.xrc_cli.proofs.trace_fields.front_u64.Goals as goal
+
+pub returns-clause-number : goal.returns-clause-number
+returns-clause-number c =
+    let split = c.in_ok-front.ensures.cases in
+    number_front w64 (2 ^ 64) wide64 c.args.bytes.now c.in_ok-front.front.now c.in_ok-front.rest.now c.read_u64.result
+    (λ i. omega (arith, c.type_inv.bytes i)) split.1 split.2 split.3 (omega (arith, c.read_u64.ensures))

@@ -1,0 +1,26 @@
+-- What calls on volume 0 and the console leave as it was.
+use Rattle.std.specs.Prelude.{◌≡◌, ◌≢◌, ◌≤◌, ℕ}
+use Rattle.crash_plant.specs.declared.device.Device.{Device}
+use Rattle.crash_plant.specs.declared.device.Device.TheVariants.{Volume}
+use Rattle.crash_plant.specs.Moments.{PlantState}
+use Rattle.crash_plant.specs.Calls.{SameSite}
+
+-- Only volume 0 may be written; no volume is lent or given back, and no count falls.
+pub record LeavesOthers (tells : Type 0) (old new : PlantState) : Type 0 where
+  pub site : SameSite old new
+  pub loans : (v : ℕ) → new.is_lent v ≡ old.is_lent v
+  pub bytes : tells → (d : Device) → d ≢ Volume 0 → new.bytes d ≡ old.bytes d
+  pub volume_faults : old.faults (Volume 0) ≤ new.faults (Volume 0)
+  pub console_faults : old.console_faults ≤ new.console_faults
+
+-- Nothing was written on volume 0.
+abbrev pub SameVolume : Type 0 → PlantState → PlantState → Type 0
+SameVolume tells old new = tells → new.bytes (Volume 0) ≡ old.bytes (Volume 0)
+
+-- Nothing was said.
+abbrev pub SaysNothing : Type 0 → PlantState → PlantState → Type 0
+SaysNothing tells old new = tells → new.said new.clock ≡ old.said old.clock
+
+-- Nothing was heard.
+abbrev pub HearsNone : Type 0 → PlantState → PlantState → Type 0
+HearsNone tells old new = tells → new.script ≡ old.script

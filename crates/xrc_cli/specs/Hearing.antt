@@ -1,0 +1,22 @@
+-- What was heard of a script.
+use Rattle.std.specs.Prelude.{◌≡◌, [], ◌∷◌, ◌++◌, ℕ, List, Option, Some, None, Result, Ok, Err}
+use Rattle.crash_plant.specs.Moments.{PlantState}
+use Rattle.xrc_cli.specs.declared.stop.Stop.{Stop}
+use Rattle.xrc_cli.specs.Frames.{LeavesOthers, SameVolume, SaysNothing}
+
+-- These bytes were heard, and nothing else was done.
+pub record HearsText (tells : Type 0) (text : List ℕ) (old new : PlantState) : Type 0 where
+  pub leaves : LeavesOthers tells old new
+  pub volume : SameVolume tells old new
+  pub said : SaysNothing tells old new
+  pub heard : tells → old.script ≡ text ++ new.script
+
+-- The next byte was heard, or the script's end; where hearing fails nothing was heard.
+abbrev pub HearsNext : (tells : Type 0) → PlantState → PlantState → Result (Option ℕ) Stop → Type 0
+HearsNext tells old new (Ok (Some byte)) = HearsText tells (byte ∷ []) old new
+HearsNext tells old new (Ok None) = HearsText tells [] old new × (tells → new.script ≡ [])
+HearsNext tells old new (Err stop) = HearsText tells [] old new
+
+-- The script is these bytes, and nothing of it is left.
+abbrev pub HearsAll : List ℕ → PlantState → PlantState → Type 0
+HearsAll text old new = (old.script ≡ text) × (new.script ≡ [])

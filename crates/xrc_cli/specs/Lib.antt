@@ -1,0 +1,16 @@
+pub mod Words
+pub mod Scripts
+pub mod Reading
+pub mod Replies
+pub mod Stops
+pub mod Traces
+pub mod Copies
+pub mod TraceReading
+pub mod Frames
+pub mod Hearing
+pub mod Labels
+pub mod Slots
+pub mod Saying
+pub mod Plans
+pub mod Runs
+pub mod Sources

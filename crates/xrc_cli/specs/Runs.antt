@@ -1,0 +1,70 @@
+-- What a run that copies one volume has found and done.
+use Rattle.std.specs.Prelude.{◌≡◌, ◌≤◌, ◌⊎◌, ◌*◌, ◌++◌, ℕ, List, [], length, take, Option, Some}
+use Rattle.crash_plant.specs.declared.device.Device.TheVariants.{Volume}
+use Rattle.crash_plant.specs.Moments.{PlantState}
+use Rattle.ckd_track.specs.Images.{image}
+use Rattle.xrc_cli.specs.declared.label.Label.{Label}
+use Rattle.xrc_cli.specs.declared.plan.Plan.{Plan}
+use Rattle.xrc_cli.specs.declared.script.CopyScript.{CopyScript}
+use Rattle.xrc_cli.specs.declared.volume_head.VolumeHead.{VolumeHead}
+use Rattle.xrc_cli.specs.Hearing.{HearsAll}
+use Rattle.xrc_cli.specs.Labels.{HasLabel, HasRoom}
+use Rattle.xrc_cli.specs.Plans.{IsPlan, IsPair}
+use Rattle.xrc_cli.specs.Replies.{copy_replies}
+use Rattle.xrc_cli.specs.Scripts.{IsCopyScript}
+use Rattle.xrc_cli.specs.Slots.{HoldsImages, DiffersInSlots}
+use Rattle.xrc_cli.specs.Traces.{Entry, IsTrace, primary_track}
+
+-- A front of a text was said.
+abbrev pub SaidFront : List ℕ → PlantState → PlantState → Type 0
+SaidFront text old new = (k : ℕ) × (k ≤ length text) × (new.said new.clock ≡ old.said old.clock ++ take k text)
+
+-- what a plan says
+abbrev pub replies_of : Plan → List ℕ
+replies_of plan = plan.replies.start.items ++ plan.replies.pair.items ++ plan.replies.end.items
+
+-- A plan was made of the script that was heard, the bytes that the source gave and the label of volume 0.
+pub record FindsPlan (tells : Type 0) (session : List ℕ) (given : Option (List ℕ)) (old new : PlantState) (plan : Plan) : Type 0 where
+  pub text : List ℕ
+  pub bytes : List ℕ
+  pub label : Label
+  pub is_plan : IsPlan session text bytes label plan
+  pub heard : tells → HearsAll text old new
+  pub all_given : (all : List ℕ) → given ≡ Some all → bytes ≡ all
+  pub labelled : tells → HasLabel (old.bytes (Volume 0)) label
+  pub room : HasRoom (old.lengths (Volume 0)) label
+
+-- The script was heard to its end, and the replies to its three lines were said.
+pub record AnswersScript (session : List ℕ) (old new : PlantState) : Type 0 where
+  pub script : CopyScript
+  pub tracks : ℕ
+  pub heard : IsCopyScript session old.script script
+  pub all_heard : new.script ≡ []
+  pub said : new.said new.clock ≡ old.said old.clock ++ copy_replies script tracks
+
+-- The script asks to copy the one volume of the trace to volume 0, and so it was done: the replies to its three lines were
+-- said, and each slot begins with the image of the primary's track at the time of the last line.
+pub record CopiesVolume (session given : List ℕ) (old new : PlantState) : Type 0 where
+  pub script : CopyScript
+  pub head : VolumeHead
+  pub entries : List Entry
+  pub label : Label
+  pub heard : IsCopyScript session old.script script
+  pub all_heard : new.script ≡ []
+  pub trace : IsTrace given head entries
+  pub labelled : HasLabel (old.bytes (Volume 0)) label
+  pub is_pair : IsPair script head label
+  pub said : new.said new.clock ≡ old.said old.clock ++ copy_replies script (15 * head.cylinders)
+  pub copied : HoldsImages (λ x. image (primary_track entries script.end_time.0 x)) (15 * head.cylinders) (old.bytes (Volume 0)) (new.bytes (Volume 0))
+
+-- Nothing of volume 0 has changed, or only slots of the volume that its label names.
+abbrev pub ChangesSlots : PlantState → PlantState → Type 0
+ChangesSlots old new =
+    (new.bytes (Volume 0) ≡ old.bytes (Volume 0))
+    ⊎ ((label : Label) × (n : ℕ) × HasLabel (old.bytes (Volume 0)) label × (n ≤ 15 * label.cylinders) × DiffersInSlots n (old.bytes (Volume 0)) (new.bytes (Volume 0)))
+
+-- Nothing was said, or a front of the replies to the script's lines.
+abbrev pub SaidSome : (session : List ℕ) → PlantState → PlantState → Type 0
+SaidSome session old new =
+    (new.said new.clock ≡ old.said old.clock)
+    ⊎ ((script : CopyScript) × (tracks : ℕ) × IsCopyScript session old.script script × SaidFront (copy_replies script tracks) old new)

@@ -1,0 +1,118 @@
+ghost use Rattle.std.specs.Prelude.{◌≡◌, ◌≢◌, ◌≤◌, ◌↔◌, ℕ, List, [], ◌∷◌, map, length, string_bytes, vec_len, None, Err, IsTrue, Contains, IfErr, IfSome, OnOk};
+ghost use Rattle.xrc_edge.specs.Causes.{Rose};
+ghost use Rattle.crash_plant.specs.Calls.{NoneLent};
+ghost use Rattle.crash_plant.specs.declared.device.Device.TheVariants.{Volume};
+ghost use Rattle.xrc_cli.specs.Frames.{LeavesOthers, SameVolume, SaysNothing, HearsNone};
+ghost use Rattle.xrc_cli.specs.Replies.{status_line};
+ghost use Rattle.xrc_cli.specs.Runs.{AnswersScript, CopiesVolume, ChangesSlots, SaidFront, SaidSome};
+ghost use Rattle.xrc_cli.specs.Saying.{SaysFront};
+ghost use Rattle.xrc_cli.specs.Sources.{HoldsOnly, FirstRose, IsFirstSite};
+ghost use Rattle.xrc_cli.specs.Stops.{status_of, last_line};
+ghost use Rattle.xrc_cli.specs.Words.{run_session};
+
+use crate::run::copy_volume;
+use crate::say::say_text;
+use crate::stop::Stop;
+use crate::words::session_of;
+use crash_plant::Plant;
+use std::alloc::Global;
+use std::sync::Wait;
+use std::thread::Threads;
+use xrc_edge::Source;
+
+/// The status of a command that was done.
+const DONE: u8 = 0;
+
+/// Whether there are as many journals and volumes as a copy of one volume asks for.
+fn is_site(traces: usize, journals: u16, volumes: u16) -> bool
+    ensures { IsTrue result ↔ ((traces ≡ 1) × (2 ≤ journals) × (journals ≤ 16) × (1 ≤ volumes)) }
+{
+    traces == 1 && (2..=16).contains(&journals) && volumes >= 1
+}
+
+/// Says the last line of a command that was not done, and gives its status.
+fn finish<P: Plant>(plant: &mut P, stop: Stop) -> u8
+    ensures status { result ≡ status_of stop }
+    ensures said { SaysFront P.tells (last_line stop) (P.state plant.old) (P.state plant.new) }
+{
+    let line = stop.line();
+    if !line.is_empty() {
+        let _ = say_text(plant, line);
+    }
+    stop.status()
+}
+
+/// Runs the command of the words.
+fn run_command<S: Source, P: Plant>(
+    alloc: Global,
+    words: &[String],
+    traces: &mut Vec<S>,
+    plant: &mut P,
+) -> Result<(), Stop>
+    requires { NoneLent (P.state plant.old) }
+    ensures bad_words { (result ≡ Err Stop.BadWords) ↔ (run_session (map string_bytes words.now) ≡ None) }
+    ensures untouched { result ≡ Err Stop.BadWords → (traces.new.items ≡ traces.old.items) × HearsNone P.tells (P.state plant.old) (P.state plant.new) }
+    ensures site { OnOk result (IsFirstSite (length traces.old.items) (P.state plant.old)) }
+    ensures answered { P.tells → OnOk result (IfSome (run_session (map string_bytes words.now)) (λ session. AnswersScript session (P.state plant.old) (P.state plant.new))) }
+    ensures copied { P.tells → (given : List ℕ) → HoldsOnly S.left traces.old.items given → OnOk result (IfSome (run_session (map string_bytes words.now)) (λ session. CopiesVolume session given (P.state plant.old) (P.state plant.new))) }
+    ensures slots { P.tells → ChangesSlots (P.state plant.old) (P.state plant.new) }
+    ensures unchanged { IfErr result (λ stop. stop ≢ Stop.ConsoleFault → stop ≢ Stop.EarlyVolume → SameVolume P.tells (P.state plant.old) (P.state plant.new)) }
+    ensures silent { IfErr result (λ stop. stop ≢ Stop.ConsoleFault → SaysNothing P.tells (P.state plant.old) (P.state plant.new)) }
+    ensures said { P.tells → result ≡ Err Stop.ConsoleFault → IfSome (run_session (map string_bytes words.now)) (λ session. SaidSome session (P.state plant.old) (P.state plant.new)) }
+    ensures leaves { LeavesOthers P.tells (P.state plant.old) (P.state plant.new) }
+    ensures console_fault { result ≡ Err Stop.ConsoleFault → Rose (P.state plant.old).console_faults (P.state plant.new).console_faults }
+    ensures source_fault { result ≡ Err Stop.EarlyBreak → FirstRose S.faults traces.old.items traces.new.items }
+    ensures volume_fault { result ≡ Err Stop.EarlyVolume → Rose ((P.state plant.old).faults (Volume 0)) ((P.state plant.new).faults (Volume 0)) }
+{
+    let Some(session) = session_of(words) else {
+        return Err(Stop::BadWords);
+    };
+    if !is_site(traces.len(), plant.journals(), plant.volumes()) {
+        return Err(Stop::NotBuilt);
+    }
+    copy_volume(alloc, session, &mut traces[0], plant)
+}
+
+/// Runs the command of the words, which come without the program's name, over the traces and the devices, and gives the
+/// status that the program ends with. Of commands it knows `run SESSION 1`: it hears a script that starts a session, pairs
+/// the one volume of the trace with volume 0 and ends the session, copies the volume and says the three replies. A
+/// command that was not done says a last line, but where the console failed.
+///
+/// Statuses: 0 done, 1 no memory, 2 the words are no command line, 3 a call on the console failed, 17 the input is of a form
+/// that is not known yet, 18 a call on the trace failed, 19 a call on volume 0 failed.
+pub fn xrc<R: Threads + Wait + Sync, S: Source + Send, P: Plant>(
+    _rt: &R,
+    alloc: Global,
+    words: &[String],
+    traces: &mut Vec<S>,
+    plant: &mut P,
+) -> u8
+    requires { NoneLent (P.state plant.old) }
+
+    // Done: the replies were said, and each slot holds its primary's track.
+    ensures answered { P.tells → result ≡ 0 → IfSome (run_session (map string_bytes words.now)) (λ session. AnswersScript session (P.state plant.old) (P.state plant.new)) }
+    ensures copied { P.tells → (given : List ℕ) → HoldsOnly S.left traces.old.items given → result ≡ 0 → IfSome (run_session (map string_bytes words.now)) (λ session. CopiesVolume session given (P.state plant.old) (P.state plant.new)) }
+    ensures site { result ≡ 0 → IsFirstSite (length traces.old.items) (P.state plant.old) }
+
+    // Not done: why, and what it leaves.
+    ensures bad_words { (result ≡ 2) ↔ (run_session (map string_bytes words.now) ≡ None) }
+    ensures untouched { result ≡ 2 → (traces.new.items ≡ traces.old.items) × HearsNone P.tells (P.state plant.old) (P.state plant.new) }
+    ensures console_fault { result ≡ 3 → Rose (P.state plant.old).console_faults (P.state plant.new).console_faults }
+    ensures source_fault { result ≡ 18 → FirstRose S.faults traces.old.items traces.new.items }
+    ensures volume_fault { result ≡ 19 → Rose ((P.state plant.old).faults (Volume 0)) ((P.state plant.new).faults (Volume 0)) }
+    ensures unchanged { Contains (1 ∷ 2 ∷ 17 ∷ 18 ∷ []) result → SameVolume P.tells (P.state plant.old) (P.state plant.new) }
+
+    // Of the devices only slots of volume 0 change.
+    ensures slots { P.tells → ChangesSlots (P.state plant.old) (P.state plant.new) }
+    ensures others { LeavesOthers P.tells (P.state plant.old) (P.state plant.new) }
+
+    // What is said, where it was not done.
+    ensures last_line { P.tells → Contains (1 ∷ 2 ∷ 17 ∷ 18 ∷ 19 ∷ []) result → SaidFront (status_line result) (P.state plant.old) (P.state plant.new) }
+    ensures some_replies { P.tells → result ≡ 3 → IfSome (run_session (map string_bytes words.now)) (λ session. SaidSome session (P.state plant.old) (P.state plant.new)) }
+    ensures known { Contains (0 ∷ 1 ∷ 2 ∷ 3 ∷ 17 ∷ 18 ∷ 19 ∷ []) result }
+{
+    match run_command(alloc, words, traces, plant) {
+        Ok(()) => DONE,
+        Err(stop) => finish(plant, stop),
+    }
+}

@@ -1,0 +1,58 @@
+ghost use Rattle.std.specs.Prelude.{◌≡◌, ◌⊎◌, IfOk, IfSome, OnErr};
+ghost use Rattle.xrc_edge.specs.Causes.{Rose};
+ghost use Rattle.xrc_cli.specs.Frames.{LeavesOthers, SameVolume, SaysNothing};
+ghost use Rattle.xrc_cli.specs.Hearing.{HearsNext, HearsAll};
+
+use crate::stop::Stop;
+use crash_plant::{Heard, Plant};
+use std::alloc::Global;
+use xrc_edge::Failed;
+
+/// The most bytes that a line may have, without its line feed.
+const LINE_BYTES: usize = 256;
+
+/// The lines that are heard.
+const LINES: usize = 3;
+
+/// Hears one byte; None at the script's end.
+#[tactic(auto, using(crate::proofs::FrameLaws::leaves_on_console))]
+fn hear_next<P: Plant>(plant: &mut P) -> Result<Option<u8>, Stop>
+    ensures next { HearsNext P.tells (P.state plant.old) (P.state plant.new) result }
+    ensures fault { OnErr result (Rose (P.state plant.old).console_faults (P.state plant.new).console_faults) }
+    ensures cause { OnErr result (result ≡ Err Stop.ConsoleFault) }
+{
+    match plant.hear() {
+        Ok(Heard::Byte(byte)) => Ok(Some(byte)),
+        Ok(Heard::End) => Ok(None),
+        Err(Failed) => Err(Stop::ConsoleFault),
+    }
+}
+
+/// Hears the script to its end. None where it has a fourth line or a line of more than 256 bytes, which is heard no further.
+pub fn hear_script<P: Plant>(alloc: Global, plant: &mut P) -> Result<Option<Vec<u8>>, Stop>
+    ensures leaves { LeavesOthers P.tells (P.state plant.old) (P.state plant.new) }
+    ensures volume { SameVolume P.tells (P.state plant.old) (P.state plant.new) }
+    ensures said { SaysNothing P.tells (P.state plant.old) (P.state plant.new) }
+    ensures heard { P.tells → IfOk result (λ text. IfSome text (λ text. HearsAll text.items (P.state plant.old) (P.state plant.new))) }
+    ensures fault { result ≡ Err Stop.ConsoleFault → Rose (P.state plant.old).console_faults (P.state plant.new).console_faults }
+    ensures stops { OnErr result ((result ≡ Err Stop.ConsoleFault) ⊎ (result ≡ Err Stop.NoMemory)) }
+{
+    let mut text = Vec::new(alloc);
+    let mut lines = 0;
+    let mut line_bytes = 0;
+    for _ in 0..=LINES * (LINE_BYTES + 1) {
+        let Some(byte) = hear_next(plant)? else {
+            return Ok(Some(text));
+        };
+        if lines == LINES || (line_bytes == LINE_BYTES && byte != b'\n') {
+            break;
+        }
+        text.push(byte)?;
+        line_bytes += 1;
+        if byte == b'\n' {
+            lines += 1;
+            line_bytes = 0;
+        }
+    }
+    Ok(None)
+}

@@ -1,0 +1,34 @@
+ghost use Rattle.std.specs.Prelude.{◌≡◌};
+ghost use Rattle.xrc_cli.specs.Stops.{status_of, last_line};
+
+use crate::stop::Stop;
+
+impl Stop {
+    /// The status that the program ends with.
+    pub fn status(self) -> u8
+        ensures { result ≡ status_of self }
+    {
+        match self {
+            Stop::NoMemory => 1,
+            Stop::BadWords => 2,
+            Stop::ConsoleFault => 3,
+            Stop::NotBuilt => 17,
+            Stop::EarlyBreak => 18,
+            Stop::EarlyVolume => 19,
+        }
+    }
+
+    /// The last line that is said, with its line feed.
+    pub fn line(self) -> &'static [u8]
+        ensures { result.now ≡ last_line self }
+    {
+        match self {
+            Stop::NoMemory => b"STATUS 1\n",
+            Stop::BadWords => b"STATUS 2\n",
+            Stop::ConsoleFault => b"",
+            Stop::NotBuilt => b"STATUS 17\n",
+            Stop::EarlyBreak => b"STATUS 18\n",
+            Stop::EarlyVolume => b"STATUS 19\n",
+        }
+    }
+}

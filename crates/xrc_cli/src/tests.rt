@@ -1,0 +1,259 @@
+//! Whole runs over sources and devices in memory.
+
+ghost use Rattle.std.specs.Prelude.{◌≡◌, ◌<◌, IfOk};
+ghost use Rattle.crash_plant.specs.Calls.{NoneLent};
+
+use crate::xrc;
+use crash_plant::{Device, Fail as Failure, FailList, MemoryPlant, PlainPlant, Plant};
+use std::alloc::Global;
+use std::sync::Wait;
+use std::test::Fail;
+use std::thread::Threads;
+use xrc_edge::{Bytes, MemorySource, NoMemory};
+
+/// Volume 0 has one cylinder, and the label SEC001.
+const LABEL: [u8; 14] = *b"XVOLSEC001\x00\x00\x00\x01";
+
+const VOLUME_BYTES: u64 = 860_672;
+
+/// A volume PRIM01 of one cylinder; at time 64 its track 3 gets one record, number 1, with the content AB.
+const TRACE: [u8; 41] =
+    *b"XTR1\x00\x01PRIM01\x00\x01\x00\x00\x00\x00\x04\x00\x00\x00\x00\x00\x00\x00\x64\x00\x00\x00\x00\x00\x03\x00\x01\x01\x00\x00\x02AB";
+
+/// The update of that record at time 6E, which is of no form that is known yet.
+const UPDATE: [u8; 19] =
+    *b"\x02\x00\x00\x00\x00\x00\x00\x00\x6E\x00\x00\x00\x00\x00\x03\x01\x00\x01Z";
+
+const START: &[u8] = b"0000000000000050 XSTART ABC\n";
+
+const PAIR: &[u8] = b"0000000000000060 XADDPAIR ABC VOLUME(PRIM01,SEC001)\n";
+
+const END: &[u8] = b"0000000000000090 XEND ABC\n";
+
+const REPLIES: &[u8] =
+    b"0000000000000050 XSTART OK T=0000000000000050\n0000000000000060 XADDPAIR OK TRACKS 15 T=0000000000000060\n0000000000000090 XEND OK T=0000000000000090\n";
+
+/// How a run ended: its status, what was said, and the front of each slot.
+#[derive(Drop)]
+struct Outcome {
+    status: u8,
+    said: Vec<u8>,
+    slots: Vec<[u8; 8]>,
+}
+
+fn bytes(alloc: Global, parts: &[&[u8]]) -> Result<Bytes, NoMemory> {
+    let mut all = Bytes::make(alloc);
+    for part in parts {
+        all.extend_from_slice(alloc, part)?;
+    }
+    Ok(all)
+}
+
+fn words(alloc: Global, words: &[&str]) -> Result<Vec<String>, NoMemory> {
+    let mut all = Vec::new(alloc);
+    for word in words {
+        all.push(String::from_str(alloc, word)?)?;
+    }
+    Ok(all)
+}
+
+/// Writes the label of volume 0.
+fn label<P: Plant>(plant: &mut P)
+    requires { NoneLent (P.state plant.old) }
+    ensures { NoneLent (P.state plant.new) }
+{
+    let device = Device::Volume(0);
+    if plant.volumes() >= 1 && plant.length(device) >= 14 {
+        let _ = plant.write(device, 0, &LABEL);
+    }
+}
+
+fn site(alloc: Global, script: &[&[u8]], fails: &[Failure]) -> Result<MemoryPlant, NoMemory>
+    ensures { IfOk result (λ plant. NoneLent (⟦<MemoryPlant as Plant>⟧.state plant)) }
+{
+    let script = bytes(alloc, script)?;
+    let mut plain = PlainPlant::make(alloc, 2, 64, 1, VOLUME_BYTES, script)?;
+    label(&mut plain);
+    let mut list = FailList::make(alloc);
+    list.extend_from_slice(alloc, fails)?;
+    MemoryPlant::make(alloc, plain, list)
+}
+
+/// Runs `xrc` with these words over one trace, of which at most `most` bytes come at once, on a site with this script.
+fn run<R: Threads + Wait + Sync>(
+    rt: &R,
+    alloc: Global,
+    command: &[&str],
+    trace: MemorySource,
+    mut plant: MemoryPlant,
+) -> Result<Outcome, NoMemory>
+    requires { NoneLent (⟦<MemoryPlant as Plant>⟧.state plant) }
+{
+    let words = words(alloc, command)?;
+    let mut traces = Vec::new(alloc);
+    traces.push(trace)?;
+    let status = xrc(rt, alloc, &words, &mut traces, &mut plant);
+    let said = Vec::from_slice(alloc, plant.said())?;
+    let slots = slots(alloc, &mut plant)?;
+    Ok(Outcome {
+        status,
+        said,
+        slots,
+    })
+}
+
+/// The front of a slot of volume 0; twos where it cannot be read.
+fn slot<P: Plant>(plant: &mut P, track: u16) -> [u8; 8]
+    requires { NoneLent (P.state plant.old) }
+    ensures { NoneLent (P.state plant.new) }
+{
+    let mut front = [2u8; 8];
+    let device = Device::Volume(0);
+    let place = 512 + u64::from(track) * 57_344;
+    if plant.volumes() >= 1 && place + 8 <= plant.length(device) {
+        let _ = plant.read(device, place, &mut front);
+    }
+    front
+}
+
+/// The fronts of the slots of the first 15 tracks.
+fn slots<P: Plant>(alloc: Global, plant: &mut P) -> Result<Vec<[u8; 8]>, NoMemory>
+    requires { NoneLent (P.state plant.old) }
+{
+    let mut slots = Vec::new(alloc);
+    for track in 0..15 {
+        slots.push(slot(plant, track))?;
+    }
+    Ok(slots)
+}
+
+fn source(alloc: Global, parts: &[&[u8]], most: u32, fails: &[u8]) -> Result<MemorySource, NoMemory>
+    requires { 0 < most }
+{
+    MemorySource::make(alloc, bytes(alloc, parts)?, most, bytes(alloc, &[fails])?)
+}
+
+const RUN: [&str; 3] = ["run", "ABC", "1"];
+
+#[test]
+fn a_volume_is_copied(rt: HostRuntime) -> Result<(), Fail> {
+    let alloc = rt.alloc();
+    for most in [1, 7, 65_536] {
+        let trace = source(alloc, &[&TRACE], most, &[])?;
+        let plant = site(alloc, &[START, PAIR, END], &[])?;
+        let outcome = run(&rt, alloc, &RUN, trace, plant)?;
+        assert_eq!(rt; outcome.status, 0);
+        assert_eq!(rt; outcome.said.as_slice(), REPLIES);
+        for (track, slot) in outcome.slots.iter().enumerate() {
+            if track == 3 {
+                assert_eq!(rt; *slot, *b"\x00\x01\x01\x00\x00\x02AB");
+            } else {
+                assert_eq!(rt; *slot, [0; 8], "in track {track}");
+            }
+        }
+    }
+    Ok(())
+}
+
+#[test]
+fn other_words_touch_nothing(rt: HostRuntime) -> Result<(), Fail> {
+    let alloc = rt.alloc();
+    for command in [
+        &[] as &[&str],
+        &["run", "ABC"],
+        &["run", "ABC", "2"],
+        &["-v"],
+    ] {
+        let trace = source(alloc, &[&TRACE], 64, &[])?;
+        let plant = site(alloc, &[START, PAIR, END], &[])?;
+        let outcome = run(&rt, alloc, command, trace, plant)?;
+        assert_eq!(rt; outcome.status, 2);
+        assert_eq!(rt; outcome.said.as_slice(), b"STATUS 2\n".as_slice());
+    }
+    Ok(())
+}
+
+#[test]
+fn other_input_changes_nothing(rt: HostRuntime) -> Result<(), Fail> {
+    let alloc = rt.alloc();
+    let other_pair: &[u8] = b"0000000000000060 XADDPAIR ABC VOLUME(PRIM01,SEC002)\n";
+    let rows: [(&[&[u8]], &[&[u8]]); 5] = [
+        (&[&TRACE, &UPDATE], &[START, PAIR, END]),
+        (&[&TRACE], &[START, PAIR]),
+        (&[&TRACE], &[START, PAIR, END, END]),
+        (&[&TRACE], &[START, other_pair, END]),
+        (&[&TRACE[..40]], &[START, PAIR, END]),
+    ];
+    for (trace, script) in rows {
+        let trace = source(alloc, trace, 64, &[])?;
+        let outcome = run(&rt, alloc, &RUN, trace, site(alloc, script, &[])?)?;
+        assert_eq!(rt; outcome.status, 17);
+        assert_eq!(rt; outcome.said.as_slice(), b"STATUS 17\n".as_slice());
+        assert!(rt; outcome.slots.iter().all(|slot| *slot == [0; 8]));
+    }
+    Ok(())
+}
+
+#[test]
+fn a_pull_that_fails_changes_nothing(rt: HostRuntime) -> Result<(), Fail> {
+    let alloc = rt.alloc();
+    let rows: [&[u8]; 3] = [&[1], &[0, 1], &[0, 0, 0, 1]];
+    for fails in rows {
+        let trace = source(alloc, &[&TRACE], 16, fails)?;
+        let plant = site(alloc, &[START, PAIR, END], &[])?;
+        let outcome = run(&rt, alloc, &RUN, trace, plant)?;
+        assert_eq!(rt; outcome.status, 18);
+        assert_eq!(rt; outcome.said.as_slice(), b"STATUS 18\n".as_slice());
+        assert!(rt; outcome.slots.iter().all(|slot| *slot == [0; 8]));
+    }
+    Ok(())
+}
+
+fn failure(at: Option<Device>, call: u64) -> Failure {
+    Failure {
+        at,
+        said: 0,
+        call,
+        stop: false,
+    }
+}
+
+#[test]
+fn calls_on_the_volume_that_fail(rt: HostRuntime) -> Result<(), Fail> {
+    let alloc = rt.alloc();
+    // The label's read, the first write, the last one, and the sync.
+    for call in [0, 1, 15, 16] {
+        let trace = source(alloc, &[&TRACE], 64, &[])?;
+        let plant = site(
+            alloc,
+            &[START, PAIR, END],
+            &[failure(Some(Device::Volume(0)), call)],
+        )?;
+        let outcome = run(&rt, alloc, &RUN, trace, plant)?;
+        assert_eq!(rt; outcome.status, 19, "at call {call}");
+        assert_eq!(rt; outcome.said.as_slice(), b"STATUS 19\n".as_slice());
+    }
+    Ok(())
+}
+
+#[test]
+fn calls_on_the_console_that_fail(rt: HostRuntime) -> Result<(), Fail> {
+    let alloc = rt.alloc();
+    let heard = (START.len() + PAIR.len() + END.len()) as u64;
+    // The first byte, the script's end, and the first and the last reply.
+    for (call, said) in [
+        (0, 0),
+        (heard, 0),
+        (heard + 1, 23),
+        (heard + 3, 46 + 58 + 22),
+    ] {
+        let trace = source(alloc, &[&TRACE], 64, &[])?;
+        let plant = site(alloc, &[START, PAIR, END], &[failure(None, call)])?;
+        let outcome = run(&rt, alloc, &RUN, trace, plant)?;
+        assert_eq!(rt; outcome.status, 3, "at call {call}");
+        assert!(rt; outcome.said.len() <= REPLIES.len());
+        assert_eq!(rt; outcome.said.as_slice(), &REPLIES[..outcome.said.len()]);
+        assert_eq!(rt; outcome.said.len(), said, "at call {call}");
+    }
+    Ok(())
+}
