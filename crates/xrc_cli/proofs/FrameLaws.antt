@@ -1,8 +1,8 @@
 -- How what calls leave as it was adds up.
-use Rattle.std.proofs.Common.{[], ◌++◌, List, sym, append_assoc, ap, ◌≡◌, ◌≤◌, ℕ, refl, ◌∙◌, arith, inl, inr}
+use Rattle.std.proofs.Common.{Result, Ok, Err, OnOk, [], ◌++◌, List, sym, append_assoc, ap, ◌≡◌, ◌≤◌, ℕ, refl, ◌∙◌, arith, inl, inr}
 use Rattle.std.proofs.lemmas.Bool.{cases_lt}
 use Rattle.crash_plant.specs.declared.device.Device.TheVariants.{Volume}
-use Rattle.crash_plant.specs.Moments.{PlantState}
+use Rattle.crash_plant.specs.Moments.{PlantState, on, IsDurable}
 use Rattle.crash_plant.specs.Calls.{WorksOn, WorksOnConsole}
 use Rattle.xrc_edge.specs.Causes.{Rose}
 use Rattle.xrc_cli.specs.Frames.{LeavesOthers}
@@ -14,6 +14,7 @@ leaves_here tells a = record {
   site = record { journals = refl; volumes = refl; lengths = λ d. refl };
   loans = λ v. refl;
   bytes = λ told d other. refl;
+  faults = λ d other. refl;
   volume_faults = omega arith;
   console_faults = omega arith;
 }
@@ -27,6 +28,7 @@ leaves_then tells a b c x y = record {
   };
   loans = λ v. y.loans v ∙ x.loans v;
   bytes = λ told d other. y.bytes told d other ∙ x.bytes told d other;
+  faults = λ d other. y.faults d other ∙ x.faults d other;
   volume_faults = omega (arith, x.volume_faults, y.volume_faults);
   console_faults = omega (arith, x.console_faults, y.console_faults);
 }
@@ -37,6 +39,7 @@ leaves_on_volume tells a b w = record {
   site = w.site;
   loans = λ v. (w.loans v).is_lent;
   bytes = λ told d other. (w.others told d other).bytes;
+  faults = λ d other. w.others_faults d other;
   volume_faults = w.faults (Volume 0);
   console_faults = (let e = w.console_faults in omega (arith, e));
 }
@@ -51,9 +54,17 @@ leaves_on_console tells a b later w = record {
   site = w.site;
   loans = λ v. (w.loans v).is_lent;
   bytes = λ told d other. (w.devices told d).bytes;
+  faults = λ d other. w.faults d;
   volume_faults = (let e = w.faults (Volume 0) in omega (arith, e));
   console_faults = later;
 }
+
+-- a call on the console leaves a volume as durable as it was
+pub durable_on_console : (tells : Type 0) (a b : PlantState) → WorksOnConsole tells a b → tells → IsDurable (on a (Volume 0)) → IsDurable (on b (Volume 0))
+durable_on_console tells a b w told was c left =
+    let stays = w.devices told (Volume 0) in
+    let before = stays.images b.clock ((w.elapses told).kept (Volume 0)).later (omega arith) c left in
+    before.2 ∙ was before.0 before.1 ∙ sym stays.bytes
 
 -- a count that rose has risen over calls before and after, too
 pub rose_before : (a b c : ℕ) → a ≤ b → Rose b c → Rose a c
@@ -69,13 +80,19 @@ rose_after a b c le (inr end) later = elim (cases_lt b c) [
 
 -- a call of the console that heard nothing
 pub hears_nothing : (tells : Type 0) (a b : PlantState) → LeavesOthers tells a b → (tells → b.bytes (Volume 0) ≡ a.bytes (Volume 0)) → (tells → b.said b.clock ≡ a.said a.clock)
-    → (tells → b.script ≡ a.script) → HearsText tells [] a b
-hears_nothing tells a b leaves volume said script = record { leaves = leaves; volume = volume; said = said; heard = λ told. sym (script told) }
+    → b.faults (Volume 0) ≡ a.faults (Volume 0) → (tells → b.script ≡ a.script) → HearsText tells [] a b
+hears_nothing tells a b leaves volume said count script = record { leaves = leaves; volume = volume; volume_count = count; said = said; heard = λ told. sym (script told) }
 
 pub hears_then : (tells : Type 0) (x y : List ℕ) (a b c : PlantState) → HearsText tells x a b → HearsText tells y b c → HearsText tells (x ++ y) a c
 hears_then tells x y a b c first second = record {
   leaves = leaves_then tells a b c first.leaves second.leaves;
   volume = λ told. second.volume told ∙ first.volume told;
+  volume_count = second.volume_count ∙ first.volume_count;
   said = λ told. second.said told ∙ first.said told;
   heard = λ told. first.heard told ∙ ap (λ rest. x ++ rest) (second.heard told) ∙ sym (append_assoc x y c.script);
 }
+
+-- what holds at an Ok
+pub on_ok_more : {A E : Type 0} (r : Result A E) (P Q : Type 0) → (P → Q) → OnOk r P → OnOk r Q
+on_ok_more (Ok x) P Q more p = more p
+on_ok_more (Err e) P Q more p = tt

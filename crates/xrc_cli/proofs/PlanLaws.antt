@@ -2,7 +2,7 @@
 use Rattle.std.proofs.Common.{◌≡◌, ◌≢◌, ◌≤◌, ◌<◌, ◌+◌, ◌-◌, ◌⊎◌, OnOk, OnErr, IfErr, inl, inr, ◌*◌, ◌++◌, ℕ, List, Option, Some, None, Result, Ok, Err, IfOk, length, take, drop, refl, sym, ◌∙◌, ap, subst, arith, length-take, length-drop}
 use Rattle.std.specs.List.{slice_index_or, slice_range}
 use Rattle.crash_plant.specs.declared.device.Device.TheVariants.{Volume}
-use Rattle.crash_plant.specs.Moments.{PlantState}
+use Rattle.crash_plant.specs.Moments.{PlantState, on, IsDurable}
 use Rattle.crash_plant.specs.Calls.{IsThere}
 use Rattle.ckd_track.specs.declared.rec.Rec.{Rec}
 use Rattle.ckd_track.specs.Images.{image}
@@ -28,7 +28,8 @@ use Rattle.xrc_cli.specs.Frames.{LeavesOthers}
 use Rattle.xrc_cli.specs.Hearing.{HearsAll}
 use Rattle.xrc_cli.specs.Labels.{HasLabel, HasRoom}
 use Rattle.xrc_cli.specs.Plans.{IsPlan, CanBeWritten}
-use Rattle.xrc_cli.specs.Runs.{FindsPlan, AnswersScript, CopiesVolume, SaidFront, SaidSome, replies_of}
+use Rattle.xrc_cli.specs.Replies.{copy_replies}
+use Rattle.xrc_cli.specs.Runs.{FindsPlan, AnswersScript, CopiesTracks, CopiesVolume, RepliesInPart, SaidFront, replies_of}
 
 -- what holds of the value of an Ok
 pub if_ok_more : {A E : Type 0} (r : Result A E) (P Q : A → Type 0) → ((x : A) → P x → Q x) → IfOk r P → IfOk r Q
@@ -114,17 +115,12 @@ answers_script tells session given a b d plan told found silent script said =
       said = said ∙ ap (λ (l : List ℕ). l ++ replies_of plan) silent ∙ ap (λ (l : List ℕ). a.said a.clock ++ l) (joined _ _ _ _ _ _ is.start is.pair is.end);
     }
 
--- what holds at an Ok
-pub on_ok_more : {A E : Type 0} (r : Result A E) (P Q : Type 0) → (P → Q) → OnOk r P → OnOk r Q
-on_ok_more (Ok x) P Q more p = more p
-on_ok_more (Err e) P Q more p = tt
-
--- a plan that was found and carried out is a copy
-pub copies_volume : (tells : Type 0) (session given : List ℕ) (a b d : PlantState) (plan : Plan) → tells → FindsPlan tells session (Some given) a b plan
-    → b.bytes (Volume 0) ≡ a.bytes (Volume 0) → b.said b.clock ≡ a.said a.clock → d.script ≡ b.script
+-- a plan that was found and written is a copy
+abbrev pub copies_tracks : (tells : Type 0) (session given : List ℕ) (a b d : PlantState) (plan : Plan) → tells → FindsPlan tells session (Some given) a b plan
+    → b.bytes (Volume 0) ≡ a.bytes (Volume 0) → d.script ≡ b.script
     → HoldsImages (image_of plan.bytes.items plan.copy.images.items) (length plan.copy.images.items) (b.bytes (Volume 0)) (d.bytes (Volume 0))
-    → d.said d.clock ≡ b.said b.clock ++ replies_of plan → CopiesVolume session given a d
-copies_volume tells session given a b d plan told found volume silent script copied said =
+    → IsDurable (on d (Volume 0)) → CopiesTracks session given a d
+copies_tracks tells session given a b d plan told found volume script copied durable =
     let is = found.is_plan in
     let all = found.all_given given refl in
     let reads = is.reads in
@@ -138,16 +134,49 @@ copies_volume tells session given a b d plan told found volume silent script cop
       trace = subst (λ (l : List ℕ). IsTrace l plan.copy.head reads.entries) all reads.trace;
       labelled = found.labelled told;
       is_pair = is.is_pair;
-      said = said ∙ ap (λ (l : List ℕ). l ++ replies_of plan) silent ∙ ap (λ (l : List ℕ). a.said a.clock ++ l) (joined _ _ _ _ _ _ is.start is.pair is.end);
       copied = holds_same (image_of plan.bytes.items plan.copy.images.items) (λ x. image (primary_track reads.entries is.script.end_time.0 x)) _ _ _ _
           (λ x lt. ap (λ (l : List ℕ). image_of l plan.copy.images.items x) is.bytes ∙ image_there found.bytes _ (primary_track reads.entries is.script.end_time.0 x) (reads.holds x (let number = reads.number in omega (arith, lt, number))))
           reads.number (subst (λ (l : List ℕ). HoldsImages (image_of plan.bytes.items plan.copy.images.items) (length plan.copy.images.items) l (d.bytes (Volume 0))) volume copied);
+      durable = durable;
     }
 
--- what holds at an Ok of two facts
-pub on_ok_both : {A E : Type 0} (r : Result A E) (P Q R : Type 0) → (P → Q → R) → OnOk r P → OnOk r Q → OnOk r R
-on_ok_both (Ok x) P Q R both p q = both p q
-on_ok_both (Err e) P Q R both p q = tt
+-- the replies of a plan are those to its script
+says_replies : (session text given : List ℕ) (label : Label) (plan : Plan) → (is : IsPlan session text given label plan) → replies_of plan ≡ copy_replies is.script (15 * plan.copy.head.cylinders)
+says_replies session text given label plan is = joined _ _ _ _ _ _ is.start is.pair is.end
+
+-- and where its replies were said it is a whole one
+pub copies_volume : (tells : Type 0) (session given : List ℕ) (a b d : PlantState) (plan : Plan) → tells → FindsPlan tells session (Some given) a b plan
+    → b.bytes (Volume 0) ≡ a.bytes (Volume 0) → b.said b.clock ≡ a.said a.clock → d.script ≡ b.script
+    → HoldsImages (image_of plan.bytes.items plan.copy.images.items) (length plan.copy.images.items) (b.bytes (Volume 0)) (d.bytes (Volume 0))
+    → IsDurable (on d (Volume 0)) → d.said d.clock ≡ b.said b.clock ++ replies_of plan → CopiesVolume session given a d
+copies_volume tells session given a b d plan told found volume silent script copied durable said = record {
+  copy = copies_tracks tells session given a b d plan told found volume script copied durable;
+  said = said ∙ ap (λ (l : List ℕ). l ++ replies_of plan) silent ∙ ap (λ (l : List ℕ). a.said a.clock ++ l) (says_replies session found.text found.bytes found.label plan found.is_plan);
+}
+
+-- or one of which a front of the replies was said
+pub replies_in_part : (tells : Type 0) (session given : List ℕ) (a b d : PlantState) (plan : Plan) → tells → FindsPlan tells session (Some given) a b plan
+    → b.bytes (Volume 0) ≡ a.bytes (Volume 0) → b.said b.clock ≡ a.said a.clock → d.script ≡ b.script
+    → HoldsImages (image_of plan.bytes.items plan.copy.images.items) (length plan.copy.images.items) (b.bytes (Volume 0)) (d.bytes (Volume 0))
+    → IsDurable (on d (Volume 0)) → SaidFront (replies_of plan) b d → RepliesInPart session given a d
+replies_in_part tells session given a b d plan told found volume silent script copied durable front =
+    let same = says_replies session found.text found.bytes found.label plan found.is_plan in
+    record {
+      copy = copies_tracks tells session given a b d plan told found volume script copied durable;
+      said = (
+        front.0,
+        (let len = ap length same in omega (arith, front.1, len)),
+        front.2 ∙ ap (λ (l : List ℕ). l ++ take front.0 (replies_of plan)) quiet_said ∙ ap (λ (l : List ℕ). a.said a.clock ++ take front.0 l) same,
+      );
+    }
+  where
+    quiet_said : b.said b.clock ≡ a.said a.clock
+    quiet_said = silent
+
+-- an Ok is no stop
+pub ok_is_no_stop : {A : Type 0} (r : Result A Stop) (P Q : Type 0) → (r ≢ Err stops.EarlyVolume → P → Q) → OnOk r P → OnOk r Q
+ok_is_no_stop (Ok x) P Q more p = more (λ is. cc is) p
+ok_is_no_stop (Err e) P Q more p = tt
 
 -- where only the console and volume 0 fail, nothing is owed to another stop
 pub no_other_stop : {A : Type 0} (r : Result A Stop) (P : Type 0) → OnErr r ((r ≡ Err stops.ConsoleFault) ⊎ (r ≡ Err stops.EarlyVolume)) → IfErr r (λ stop. stop ≢ stops.ConsoleFault → stop ≢ stops.EarlyVolume → P)
@@ -160,20 +189,3 @@ pub volume_stop : {A : Type 0} (r : Result A Stop) (P : Type 0) → OnErr r ((r 
 volume_stop (Ok x) P why owed = tt
 volume_stop (Err e) P (inl is) owed = λ a. absurd (a (cc is))
 volume_stop (Err e) P (inr is) owed = λ a. owed is
-
--- a front of a plan's replies is one of the replies to the script's lines
-pub says_some : (tells : Type 0) (session : List ℕ) (given : Option (List ℕ)) (a b d : PlantState) (plan : Plan) → tells → FindsPlan tells session given a b plan → b.said b.clock ≡ a.said a.clock
-    → SaidFront (replies_of plan) b d → SaidSome session a d
-says_some tells session given a b d plan told found quiet front =
-    let is = found.is_plan in
-    let same = joined _ _ _ _ _ _ is.start is.pair is.end in
-    inr (
-      is.script,
-      15 * plan.copy.head.cylinders,
-      subst (λ (l : List ℕ). IsCopyScript session l is.script) (sym (found.heard told).0) is.asked,
-      (
-        front.0,
-        (let len = ap length same in omega (arith, front.1, len)),
-        front.2 ∙ ap (λ (l : List ℕ). l ++ take front.0 (replies_of plan)) quiet ∙ ap (λ (l : List ℕ). a.said a.clock ++ take front.0 l) same,
-      ),
-    )

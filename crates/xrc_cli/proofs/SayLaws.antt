@@ -6,7 +6,7 @@ use Rattle.crash_plant.specs.declared.device.Device.TheVariants.{Volume}
 use Rattle.crash_plant.specs.Moments.{PlantState}
 use Rattle.crash_plant.specs.Calls.{WorksOnConsole, Says}
 use Rattle.xrc_cli.specs.Saying.{SaysText, SaysFront}
-use Rattle.xrc_cli.proofs.FrameLaws.{leaves_on_console, leaves_then}
+use Rattle.xrc_cli.proofs.FrameLaws.{leaves_on_console, leaves_then, durable_on_console}
 
 -- a call that has said its text
 pub says_whole : (tells : Type 0) (text : List ℕ) (a b : PlantState) → a.console_faults ≤ b.console_faults → WorksOnConsole tells a b → (tells → Says text a b)
@@ -14,6 +14,8 @@ pub says_whole : (tells : Type 0) (text : List ℕ) (a b : PlantState) → a.con
 says_whole tells text a b later w moments said = record {
   leaves = leaves_on_console tells a b later w;
   volume = λ told. (w.devices told (Volume 0)).bytes;
+  durable = λ told. durable_on_console tells a b w told;
+  volume_count = w.faults (Volume 0);
   heard = λ told. (moments told).script;
   said = said;
 }
@@ -23,6 +25,8 @@ pub says_part : (tells : Type 0) (text : List ℕ) (a b : PlantState) → a.cons
 says_part tells text a b later w moments = record {
   leaves = leaves_on_console tells a b later w;
   volume = λ told. (w.devices told (Volume 0)).bytes;
+  durable = λ told. durable_on_console tells a b w told;
+  volume_count = w.faults (Volume 0);
   heard = λ told. (moments told).script;
   said = λ told. (moments told).front b.clock ((w.elapses told).kept (Volume 0)).later (omega arith);
 }
@@ -31,6 +35,8 @@ pub says_then : (tells : Type 0) (x y : List ℕ) (a b c : PlantState) → SaysT
 says_then tells x y a b c first second = record {
   leaves = leaves_then tells a b c first.leaves second.leaves;
   volume = λ told. second.volume told ∙ first.volume told;
+  durable = λ told was. second.durable told (first.durable told was);
+  volume_count = second.volume_count ∙ first.volume_count;
   heard = λ told. second.heard told ∙ first.heard told;
   said = λ told. second.said told ∙ ap (λ (l : List ℕ). l ++ y) (first.said told) ∙ append_assoc (a.said a.clock) x y;
 }
@@ -40,6 +46,8 @@ pub front_then : (tells : Type 0) (x y : List ℕ) (a b c : PlantState) → Says
 front_then tells x y a b c first second = record {
   leaves = leaves_then tells a b c first.leaves second.leaves;
   volume = λ told. second.volume told ∙ first.volume told;
+  durable = λ told was. second.durable told (first.durable told was);
+  volume_count = second.volume_count ∙ first.volume_count;
   heard = λ told. second.heard told ∙ first.heard told;
   said = λ told.
       let s = second.said told in (
@@ -54,6 +62,8 @@ pub front_of_more : (tells : Type 0) (x y : List ℕ) (a b : PlantState) → Say
 front_of_more tells x y a b front = record {
   leaves = front.leaves;
   volume = front.volume;
+  durable = front.durable;
+  volume_count = front.volume_count;
   heard = front.heard;
   said = λ told.
       let s = front.said told in (

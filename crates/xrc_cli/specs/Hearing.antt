@@ -1,13 +1,15 @@
 -- What was heard of a script.
 use Rattle.std.specs.Prelude.{◌≡◌, [], ◌∷◌, ◌++◌, ℕ, List, Option, Some, None, Result, Ok, Err}
+use Rattle.crash_plant.specs.declared.device.Device.TheVariants.{Volume}
 use Rattle.crash_plant.specs.Moments.{PlantState}
 use Rattle.xrc_cli.specs.declared.stop.Stop.{Stop}
 use Rattle.xrc_cli.specs.Frames.{LeavesOthers, SameVolume, SaysNothing}
 
--- These bytes were heard, and nothing else was done.
+-- These bytes were heard, nothing was said, and no device was written.
 pub record HearsText (tells : Type 0) (text : List ℕ) (old new : PlantState) : Type 0 where
   pub leaves : LeavesOthers tells old new
   pub volume : SameVolume tells old new
+  pub volume_count : new.faults (Volume 0) ≡ old.faults (Volume 0)
   pub said : SaysNothing tells old new
   pub heard : tells → old.script ≡ text ++ new.script
 

@@ -19,6 +19,6 @@ end_reply time = stamp_text time.0 ++ codes " XEND OK T=" ++ stamp_text time.0 +
 abbrev pub copy_replies : CopyScript → (tracks : ℕ) → List ℕ
 copy_replies script tracks = start_reply script.start_time ++ pair_reply script.pair_time tracks ++ end_reply script.end_time
 
--- The last line of a status; the statuses 0 and 3 say none.
+-- The line of a status.
 abbrev pub status_line : ℕ → List ℕ
 status_line status = codes "STATUS " ++ decimal status ++ 10 ∷ []

@@ -1,7 +1,8 @@
 -- What a run that copies one volume has found and done.
 use Rattle.std.specs.Prelude.{◌≡◌, ◌≤◌, ◌⊎◌, ◌*◌, ◌++◌, ℕ, List, [], length, take, Option, Some}
+use Rattle.xrc_edge.specs.Causes.{Rose}
 use Rattle.crash_plant.specs.declared.device.Device.TheVariants.{Volume}
-use Rattle.crash_plant.specs.Moments.{PlantState}
+use Rattle.crash_plant.specs.Moments.{PlantState, on, IsDurable}
 use Rattle.ckd_track.specs.Images.{image}
 use Rattle.xrc_cli.specs.declared.label.Label.{Label}
 use Rattle.xrc_cli.specs.declared.plan.Plan.{Plan}
@@ -42,9 +43,9 @@ pub record AnswersScript (session : List ℕ) (old new : PlantState) : Type 0 wh
   pub all_heard : new.script ≡ []
   pub said : new.said new.clock ≡ old.said old.clock ++ copy_replies script tracks
 
--- The script asks to copy the one volume of the trace to volume 0, and so it was done: the replies to its three lines were
--- said, and each slot begins with the image of the primary's track at the time of the last line.
-pub record CopiesVolume (session given : List ℕ) (old new : PlantState) : Type 0 where
+-- The script asks to copy the one volume of the trace to volume 0, and so it was done: each slot begins with the image of
+-- the primary's track at the time of the last line, and a crash leaves volume 0 so.
+pub record CopiesTracks (session given : List ℕ) (old new : PlantState) : Type 0 where
   pub script : CopyScript
   pub head : VolumeHead
   pub entries : List Entry
@@ -54,17 +55,35 @@ pub record CopiesVolume (session given : List ℕ) (old new : PlantState) : Type
   pub trace : IsTrace given head entries
   pub labelled : HasLabel (old.bytes (Volume 0)) label
   pub is_pair : IsPair script head label
-  pub said : new.said new.clock ≡ old.said old.clock ++ copy_replies script (15 * head.cylinders)
   pub copied : HoldsImages (λ x. image (primary_track entries script.end_time.0 x)) (15 * head.cylinders) (old.bytes (Volume 0)) (new.bytes (Volume 0))
+  pub durable : IsDurable (on new (Volume 0))
+
+-- what is said of a copy
+abbrev pub replies_to : {session given : List ℕ} {old new : PlantState} → CopiesTracks session given old new → List ℕ
+replies_to copy = copy_replies copy.script (15 * copy.head.cylinders)
+
+-- The volume was copied, and the replies to the script's three lines were said.
+pub record CopiesVolume (session given : List ℕ) (old new : PlantState) : Type 0 where
+  pub copy : CopiesTracks session given old new
+  pub said : new.said new.clock ≡ old.said old.clock ++ replies_to copy
+
+-- The volume was copied, and a front of the replies was said.
+pub record RepliesInPart (session given : List ℕ) (old new : PlantState) : Type 0 where
+  pub copy : CopiesTracks session given old new
+  pub said : SaidFront (replies_to copy) old new
+
+-- Nothing was written and nothing said.
+pub record StopsInHearing (old new : PlantState) : Type 0 where
+  pub volume : new.bytes (Volume 0) ≡ old.bytes (Volume 0)
+  pub said : new.said new.clock ≡ old.said old.clock
+
+-- The text was said whole, or a front of it where the console failed.
+abbrev pub SaidLine : List ℕ → PlantState → PlantState → Type 0
+SaidLine text old new =
+    (new.said new.clock ≡ old.said old.clock ++ text) ⊎ (SaidFront text old new × Rose old.console_faults new.console_faults)
 
 -- Nothing of volume 0 has changed, or only slots of the volume that its label names.
 abbrev pub ChangesSlots : PlantState → PlantState → Type 0
 ChangesSlots old new =
     (new.bytes (Volume 0) ≡ old.bytes (Volume 0))
     ⊎ ((label : Label) × (n : ℕ) × HasLabel (old.bytes (Volume 0)) label × (n ≤ 15 * label.cylinders) × DiffersInSlots n (old.bytes (Volume 0)) (new.bytes (Volume 0)))
-
--- Nothing was said, or a front of the replies to the script's lines.
-abbrev pub SaidSome : (session : List ℕ) → PlantState → PlantState → Type 0
-SaidSome session old new =
-    (new.said new.clock ≡ old.said old.clock)
-    ⊎ ((script : CopyScript) × (tracks : ℕ) × IsCopyScript session old.script script × SaidFront (copy_replies script tracks) old new)

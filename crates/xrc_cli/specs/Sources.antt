@@ -15,6 +15,13 @@ FirstRose faults [] new = ⊥
 FirstRose faults (source ∷ sources) [] = ⊥
 FirstRose faults (source ∷ sources) (after ∷ others) = Rose (faults source) (faults after)
 
+-- As many sources, and the count of the first is as before.
+abbrev pub FirstCountStays : {S : Type 0} → (S → ℕ) → List S → List S → Type 0
+FirstCountStays faults [] [] = Unit {0}
+FirstCountStays faults [] (after ∷ others) = ⊥
+FirstCountStays faults (source ∷ sources) [] = ⊥
+FirstCountStays faults (source ∷ sources) (after ∷ others) = faults after ≡ faults source
+
 -- There is one trace, there are 2 to 16 journals, and one volume at least.
 pub record IsFirstSite (traces : ℕ) (plant : PlantState) : Type 0 where
   pub one_trace : traces ≡ 1

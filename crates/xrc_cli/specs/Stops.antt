@@ -12,11 +12,11 @@ status_of NotBuilt = 17
 status_of EarlyBreak = 18
 status_of EarlyVolume = 19
 
--- Each says its line, but that the console failed says none.
+-- Each says the line of its status, but that the console failed says none.
 abbrev pub last_line : Stop → List ℕ
-last_line NoMemory = status_line 1
-last_line BadWords = status_line 2
 last_line ConsoleFault = []
-last_line NotBuilt = status_line 17
-last_line EarlyBreak = status_line 18
-last_line EarlyVolume = status_line 19
+last_line NoMemory = status_line (status_of NoMemory)
+last_line BadWords = status_line (status_of BadWords)
+last_line NotBuilt = status_line (status_of NotBuilt)
+last_line EarlyBreak = status_line (status_of EarlyBreak)
+last_line EarlyVolume = status_line (status_of EarlyVolume)

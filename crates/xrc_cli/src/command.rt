@@ -1,12 +1,11 @@
-ghost use Rattle.std.specs.Prelude.{◌≡◌, ◌≢◌, ◌≤◌, ◌↔◌, ℕ, List, [], ◌∷◌, map, length, string_bytes, vec_len, None, Err, IsTrue, Contains, IfErr, IfSome, OnOk};
+ghost use Rattle.std.specs.Prelude.{◌≡◌, ◌≢◌, ◌≤◌, ◌⊎◌, ◌↔◌, ℕ, List, [], ◌∷◌, map, length, string_bytes, vec_len, None, Err, IsTrue, Contains, IsSome, IfErr, IfSome, OnOk};
 ghost use Rattle.xrc_edge.specs.Causes.{Rose};
-ghost use Rattle.crash_plant.specs.Calls.{NoneLent};
+ghost use Rattle.crash_plant.specs.Calls.{NoneLent, WorksOnConsole};
 ghost use Rattle.crash_plant.specs.declared.device.Device.TheVariants.{Volume};
 ghost use Rattle.xrc_cli.specs.Frames.{LeavesOthers, SameVolume, SaysNothing, HearsNone};
 ghost use Rattle.xrc_cli.specs.Replies.{status_line};
-ghost use Rattle.xrc_cli.specs.Runs.{AnswersScript, CopiesVolume, ChangesSlots, SaidFront, SaidSome};
-ghost use Rattle.xrc_cli.specs.Saying.{SaysFront};
-ghost use Rattle.xrc_cli.specs.Sources.{HoldsOnly, FirstRose, IsFirstSite};
+ghost use Rattle.xrc_cli.specs.Runs.{AnswersScript, CopiesVolume, ChangesSlots, RepliesInPart, SaidLine, StopsInHearing};
+ghost use Rattle.xrc_cli.specs.Sources.{HoldsOnly, FirstRose, FirstCountStays, IsFirstSite};
 ghost use Rattle.xrc_cli.specs.Stops.{status_of, last_line};
 ghost use Rattle.xrc_cli.specs.Words.{run_session};
 
@@ -30,15 +29,28 @@ fn is_site(traces: usize, journals: u16, volumes: u16) -> bool
     traces == 1 && (2..=16).contains(&journals) && volumes >= 1
 }
 
-/// Says the last line of a command that was not done, and gives its status.
+/// Says a line, unless it is empty.
+fn say_line<P: Plant>(plant: &mut P, line: &[u8])
+    ensures said { P.tells → SaidLine line.now (P.state plant.old) (P.state plant.new) }
+    ensures only { WorksOnConsole P.tells (P.state plant.old) (P.state plant.new) }
+    ensures heard { HearsNone P.tells (P.state plant.old) (P.state plant.new) }
+    ensures later { (P.state plant.old).console_faults ≤ (P.state plant.new).console_faults }
+{
+    if line.is_empty() {
+        return;
+    }
+    let _ = say_text(plant, line);
+}
+
+/// Says the line of a command that was not done, and gives its status.
 fn finish<P: Plant>(plant: &mut P, stop: Stop) -> u8
     ensures status { result ≡ status_of stop }
-    ensures said { SaysFront P.tells (last_line stop) (P.state plant.old) (P.state plant.new) }
+    ensures said { P.tells → SaidLine (last_line stop) (P.state plant.old) (P.state plant.new) }
+    ensures only { WorksOnConsole P.tells (P.state plant.old) (P.state plant.new) }
+    ensures heard { HearsNone P.tells (P.state plant.old) (P.state plant.new) }
+    ensures later { (P.state plant.old).console_faults ≤ (P.state plant.new).console_faults }
 {
-    let line = stop.line();
-    if !line.is_empty() {
-        let _ = say_text(plant, line);
-    }
+    say_line(plant, stop.line());
     stop.status()
 }
 
@@ -51,18 +63,21 @@ fn run_command<S: Source, P: Plant>(
 ) -> Result<(), Stop>
     requires { NoneLent (P.state plant.old) }
     ensures bad_words { (result ≡ Err Stop.BadWords) ↔ (run_session (map string_bytes words.now) ≡ None) }
-    ensures untouched { result ≡ Err Stop.BadWords → (traces.new.items ≡ traces.old.items) × HearsNone P.tells (P.state plant.old) (P.state plant.new) }
+    ensures untouched { result ≡ Err Stop.BadWords → (traces.new ≡ traces.old) × (plant.new ≡ plant.old) }
+    ensures other_site { IsSome (run_session (map string_bytes words.now)) → ¬ (IsFirstSite (length traces.old.items) (P.state plant.old)) → (result ≡ Err Stop.NotBuilt) × (traces.new ≡ traces.old) × (plant.new ≡ plant.old) }
     ensures site { OnOk result (IsFirstSite (length traces.old.items) (P.state plant.old)) }
     ensures answered { P.tells → OnOk result (IfSome (run_session (map string_bytes words.now)) (λ session. AnswersScript session (P.state plant.old) (P.state plant.new))) }
     ensures copied { P.tells → (given : List ℕ) → HoldsOnly S.left traces.old.items given → OnOk result (IfSome (run_session (map string_bytes words.now)) (λ session. CopiesVolume session given (P.state plant.old) (P.state plant.new))) }
     ensures slots { P.tells → ChangesSlots (P.state plant.old) (P.state plant.new) }
     ensures unchanged { IfErr result (λ stop. stop ≢ Stop.ConsoleFault → stop ≢ Stop.EarlyVolume → SameVolume P.tells (P.state plant.old) (P.state plant.new)) }
     ensures silent { IfErr result (λ stop. stop ≢ Stop.ConsoleFault → SaysNothing P.tells (P.state plant.old) (P.state plant.new)) }
-    ensures said { P.tells → result ≡ Err Stop.ConsoleFault → IfSome (run_session (map string_bytes words.now)) (λ session. SaidSome session (P.state plant.old) (P.state plant.new)) }
+    ensures stopped { P.tells → (given : List ℕ) → HoldsOnly S.left traces.old.items given → result ≡ Err Stop.ConsoleFault → IfSome (run_session (map string_bytes words.now)) (λ session. (StopsInHearing (P.state plant.old) (P.state plant.new) × (traces.new.items ≡ traces.old.items)) ⊎ RepliesInPart session given (P.state plant.old) (P.state plant.new)) }
     ensures leaves { LeavesOthers P.tells (P.state plant.old) (P.state plant.new) }
     ensures console_fault { result ≡ Err Stop.ConsoleFault → Rose (P.state plant.old).console_faults (P.state plant.new).console_faults }
     ensures source_fault { result ≡ Err Stop.EarlyBreak → FirstRose S.faults traces.old.items traces.new.items }
+    ensures source_count { result ≢ Err Stop.EarlyBreak → FirstCountStays S.faults traces.old.items traces.new.items }
     ensures volume_fault { result ≡ Err Stop.EarlyVolume → Rose ((P.state plant.old).faults (Volume 0)) ((P.state plant.new).faults (Volume 0)) }
+    ensures volume_count { result ≢ Err Stop.EarlyVolume → (P.state plant.new).faults (Volume 0) ≡ (P.state plant.old).faults (Volume 0) }
 {
     let Some(session) = session_of(words) else {
         return Err(Stop::BadWords);
@@ -76,7 +91,7 @@ fn run_command<S: Source, P: Plant>(
 /// Runs the command of the words, which come without the program's name, over the traces and the devices, and gives the
 /// status that the program ends with. Of commands it knows `run SESSION 1`: it hears a script that starts a session, pairs
 /// the one volume of the trace with volume 0 and ends the session, copies the volume and says the three replies. A
-/// command that was not done says a last line, but where the console failed.
+/// command that was not done says the line of its status, but where the console failed.
 ///
 /// Statuses: 0 done, 1 no memory, 2 the words are no command line, 3 a call on the console failed, 17 the input is of a form
 /// that is not known yet, 18 a call on the trace failed, 19 a call on volume 0 failed.
@@ -89,26 +104,31 @@ pub fn xrc<R: Threads + Wait + Sync, S: Source + Send, P: Plant>(
 ) -> u8
     requires { NoneLent (P.state plant.old) }
 
-    // Done: the replies were said, and each slot holds its primary's track.
+    // Done: the replies were said, and the slots hold the primary's tracks.
     ensures answered { P.tells → result ≡ 0 → IfSome (run_session (map string_bytes words.now)) (λ session. AnswersScript session (P.state plant.old) (P.state plant.new)) }
     ensures copied { P.tells → (given : List ℕ) → HoldsOnly S.left traces.old.items given → result ≡ 0 → IfSome (run_session (map string_bytes words.now)) (λ session. CopiesVolume session given (P.state plant.old) (P.state plant.new)) }
     ensures site { result ≡ 0 → IsFirstSite (length traces.old.items) (P.state plant.old) }
 
-    // Not done: why, and what it leaves.
+    // The words and the numbers of traces, journals and volumes come first.
     ensures bad_words { (result ≡ 2) ↔ (run_session (map string_bytes words.now) ≡ None) }
-    ensures untouched { result ≡ 2 → (traces.new.items ≡ traces.old.items) × HearsNone P.tells (P.state plant.old) (P.state plant.new) }
+    ensures untouched { result ≡ 2 → (traces.new ≡ traces.old) × WorksOnConsole P.tells (P.state plant.old) (P.state plant.new) × HearsNone P.tells (P.state plant.old) (P.state plant.new) }
+    ensures other_site { IsSome (run_session (map string_bytes words.now)) → ¬ (IsFirstSite (length traces.old.items) (P.state plant.old)) → (result ≡ 17) × (traces.new ≡ traces.old) × WorksOnConsole P.tells (P.state plant.old) (P.state plant.new) × HearsNone P.tells (P.state plant.old) (P.state plant.new) }
+
+    // A fault comes only where its count rose, and no other answer hides one of the trace or of volume 0.
     ensures console_fault { result ≡ 3 → Rose (P.state plant.old).console_faults (P.state plant.new).console_faults }
     ensures source_fault { result ≡ 18 → FirstRose S.faults traces.old.items traces.new.items }
+    ensures source_count { result ≢ 18 → FirstCountStays S.faults traces.old.items traces.new.items }
     ensures volume_fault { result ≡ 19 → Rose ((P.state plant.old).faults (Volume 0)) ((P.state plant.new).faults (Volume 0)) }
-    ensures unchanged { Contains (1 ∷ 2 ∷ 17 ∷ 18 ∷ []) result → SameVolume P.tells (P.state plant.old) (P.state plant.new) }
+    ensures volume_count { result ≢ 19 → (P.state plant.new).faults (Volume 0) ≡ (P.state plant.old).faults (Volume 0) }
 
     // Of the devices only slots of volume 0 change.
+    ensures unchanged { result ≢ 0 → result ≢ 3 → result ≢ 19 → SameVolume P.tells (P.state plant.old) (P.state plant.new) }
     ensures slots { P.tells → ChangesSlots (P.state plant.old) (P.state plant.new) }
     ensures others { LeavesOthers P.tells (P.state plant.old) (P.state plant.new) }
 
     // What is said, where it was not done.
-    ensures last_line { P.tells → Contains (1 ∷ 2 ∷ 17 ∷ 18 ∷ 19 ∷ []) result → SaidFront (status_line result) (P.state plant.old) (P.state plant.new) }
-    ensures some_replies { P.tells → result ≡ 3 → IfSome (run_session (map string_bytes words.now)) (λ session. SaidSome session (P.state plant.old) (P.state plant.new)) }
+    ensures said_line { P.tells → result ≢ 0 → result ≢ 3 → SaidLine (status_line result) (P.state plant.old) (P.state plant.new) }
+    ensures stopped { P.tells → (given : List ℕ) → HoldsOnly S.left traces.old.items given → result ≡ 3 → IfSome (run_session (map string_bytes words.now)) (λ session. (StopsInHearing (P.state plant.old) (P.state plant.new) × (traces.new.items ≡ traces.old.items)) ⊎ RepliesInPart session given (P.state plant.old) (P.state plant.new)) }
     ensures known { Contains (0 ∷ 1 ∷ 2 ∷ 3 ∷ 17 ∷ 18 ∷ 19 ∷ []) result }
 {
     match run_command(alloc, words, traces, plant) {

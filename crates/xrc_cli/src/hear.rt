@@ -1,5 +1,6 @@
 ghost use Rattle.std.specs.Prelude.{◌≡◌, ◌⊎◌, IfOk, IfSome, OnErr};
 ghost use Rattle.xrc_edge.specs.Causes.{Rose};
+ghost use Rattle.crash_plant.specs.declared.device.Device.TheVariants.{Volume};
 ghost use Rattle.xrc_cli.specs.Frames.{LeavesOthers, SameVolume, SaysNothing};
 ghost use Rattle.xrc_cli.specs.Hearing.{HearsNext, HearsAll};
 
@@ -32,6 +33,7 @@ fn hear_next<P: Plant>(plant: &mut P) -> Result<Option<u8>, Stop>
 pub fn hear_script<P: Plant>(alloc: Global, plant: &mut P) -> Result<Option<Vec<u8>>, Stop>
     ensures leaves { LeavesOthers P.tells (P.state plant.old) (P.state plant.new) }
     ensures volume { SameVolume P.tells (P.state plant.old) (P.state plant.new) }
+    ensures volume_count { (P.state plant.new).faults (Volume 0) ≡ (P.state plant.old).faults (Volume 0) }
     ensures said { SaysNothing P.tells (P.state plant.old) (P.state plant.new) }
     ensures heard { P.tells → IfOk result (λ text. IfSome text (λ text. HearsAll text.items (P.state plant.old) (P.state plant.new))) }
     ensures fault { result ≡ Err Stop.ConsoleFault → Rose (P.state plant.old).console_faults (P.state plant.new).console_faults }

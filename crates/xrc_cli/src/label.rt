@@ -1,4 +1,4 @@
-ghost use Rattle.std.specs.Prelude.{◌≡◌, ◌↔◌, length, codes, IsTrue, IfOk, IfSome, OnErr};
+ghost use Rattle.std.specs.Prelude.{◌≡◌, ◌↔◌, length, codes, IsTrue, IsOk, IfOk, IfSome, OnErr};
 ghost use Rattle.std.specs.Int.{w32, to_be_bytes};
 ghost use Rattle.xrc_edge.specs.Causes.{Rose};
 ghost use Rattle.crash_plant.specs.Calls.{IsThere, WorksOn};
@@ -70,6 +70,7 @@ pub fn read_label<P: Plant>(plant: &mut P) -> Result<Option<Label>, Failed>
     ensures said { SaysNothing P.tells (P.state plant.old) (P.state plant.new) }
     ensures same { SameVolume P.tells (P.state plant.old) (P.state plant.new) }
     ensures only { WorksOn P.tells (λ d. d ≡ Volume 0) (P.state plant.old) (P.state plant.new) }
+    ensures count { IsOk result → (P.state plant.new).faults (Volume 0) ≡ (P.state plant.old).faults (Volume 0) }
     ensures fault { OnErr result (Rose ((P.state plant.old).faults (Volume 0)) ((P.state plant.new).faults (Volume 0))) }
 {
     let device = Device::Volume(0);

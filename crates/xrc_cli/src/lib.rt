@@ -27,6 +27,9 @@ mod volume_head;
 mod words;
 
 pub use command::xrc;
+pub use label::Label;
 pub use opening::wanted;
+pub use script::CopyScript;
 pub use trace_laws::traces_are_read_one_way;
+pub use volume_head::VolumeHead;
 pub use words::Wanted;

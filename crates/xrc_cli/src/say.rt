@@ -1,5 +1,6 @@
 ghost use Rattle.std.specs.Prelude.{◌≡◌, ◌++◌, OnOk, OnErr};
 ghost use Rattle.xrc_edge.specs.Causes.{Rose};
+ghost use Rattle.crash_plant.specs.Calls.{WorksOnConsole};
 ghost use Rattle.xrc_cli.specs.Saying.{SaysText, SaysFront};
 
 use crash_plant::Plant;
@@ -10,6 +11,7 @@ use xrc_edge::Failed;
 pub fn say_text<P: Plant>(plant: &mut P, text: &[u8]) -> Result<(), Failed>
     ensures whole { OnOk result (SaysText P.tells text.now (P.state plant.old) (P.state plant.new)) }
     ensures front { SaysFront P.tells text.now (P.state plant.old) (P.state plant.new) }
+    ensures only { WorksOnConsole P.tells (P.state plant.old) (P.state plant.new) }
     ensures fault { OnErr result (Rose (P.state plant.old).console_faults (P.state plant.new).console_faults) }
 {
     plant.say(text)

@@ -1,6 +1,7 @@
 ghost use Rattle.std.specs.Prelude.{◌≡◌, ◌≤◌, ◌<◌, ◌+◌, ◌^◌, ℕ, length, OnOk, OnErr, All, slice_index_or, None};
 ghost use Rattle.xrc_edge.specs.Causes.{Rose};
 ghost use Rattle.crash_plant.specs.Bytes.{patched, Torn};
+ghost use Rattle.crash_plant.specs.Moments.{on, IsDurable};
 ghost use Rattle.crash_plant.specs.Calls.{IsThere, WorksOn};
 ghost use Rattle.crash_plant.specs.declared.device.Device.TheVariants.{Volume};
 ghost use Rattle.xrc_cli.specs.Frames.{LeavesOthers, SaysNothing, HearsNone};
@@ -44,6 +45,7 @@ fn write_slot<P: Plant>(plant: &mut P, track: usize, image: &[u8]) -> Result<(),
     ensures torn { P.tells → Torn (slot_place track) (length image.now) ((P.state plant.old).bytes (Volume 0)) ((P.state plant.new).bytes (Volume 0)) }
     ensures only { WorksOn P.tells (λ d. d ≡ Volume 0) (P.state plant.old) (P.state plant.new) }
     ensures fault { OnErr result (Rose ((P.state plant.old).faults (Volume 0)) ((P.state plant.new).faults (Volume 0))) }
+    ensures count { OnOk result ((P.state plant.new).faults (Volume 0) ≡ (P.state plant.old).faults (Volume 0)) }
 {
     let place = FIRST_SLOT + track as u64 * SLOT_BYTES;
     plant.write(SECONDARY, place, image)
@@ -60,9 +62,11 @@ pub fn write_slots<P: Plant>(
     requires room { slot_place (length places.now) ≤ (P.state plant.old).lengths (Volume 0) }
     requires places { (x : ℕ) → x < length places.now → IsPlace bytes.now (slice_index_or places.now x None) }
     ensures copied { P.tells → OnOk result (HoldsImages (image_of bytes.now places.now) (length places.now) ((P.state plant.old).bytes (Volume 0)) ((P.state plant.new).bytes (Volume 0))) }
+    ensures durable { P.tells → OnOk result (IsDurable (on (P.state plant.new) (Volume 0))) }
     ensures slots { P.tells → DiffersInSlots (length places.now) ((P.state plant.old).bytes (Volume 0)) ((P.state plant.new).bytes (Volume 0)) }
     ensures only { WorksOn P.tells (λ d. d ≡ Volume 0) (P.state plant.old) (P.state plant.new) }
     ensures fault { OnErr result (Rose ((P.state plant.old).faults (Volume 0)) ((P.state plant.new).faults (Volume 0))) }
+    ensures count { OnOk result ((P.state plant.new).faults (Volume 0) ≡ (P.state plant.old).faults (Volume 0)) }
 {
     for (track, place) in places.iter().enumerate() {
         write_slot(plant, track, image_at(bytes, *place))?;

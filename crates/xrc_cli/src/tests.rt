@@ -71,8 +71,21 @@ fn label<P: Plant>(plant: &mut P)
 fn site(alloc: Global, script: &[&[u8]], fails: &[Failure]) -> Result<MemoryPlant, NoMemory>
     ensures { IfOk result (λ plant. NoneLent (⟦<MemoryPlant as Plant>⟧.state plant)) }
 {
+    site_of(alloc, 2, 1, script, fails)
+}
+
+/// A site of so many journals and volumes.
+fn site_of(
+    alloc: Global,
+    journals: u16,
+    volumes: u16,
+    script: &[&[u8]],
+    fails: &[Failure],
+) -> Result<MemoryPlant, NoMemory>
+    ensures { IfOk result (λ plant. NoneLent (⟦<MemoryPlant as Plant>⟧.state plant)) }
+{
     let script = bytes(alloc, script)?;
-    let mut plain = PlainPlant::make(alloc, 2, 64, 1, VOLUME_BYTES, script)?;
+    let mut plain = PlainPlant::make(alloc, journals, 64, volumes, VOLUME_BYTES, script)?;
     label(&mut plain);
     let mut list = FailList::make(alloc);
     list.extend_from_slice(alloc, fails)?;
@@ -254,6 +267,48 @@ fn calls_on_the_console_that_fail(rt: HostRuntime) -> Result<(), Fail> {
         assert!(rt; outcome.said.len() <= REPLIES.len());
         assert_eq!(rt; outcome.said.as_slice(), &REPLIES[..outcome.said.len()]);
         assert_eq!(rt; outcome.said.len(), said, "at call {call}");
+    }
+    Ok(())
+}
+
+#[test]
+fn the_first_cause_counts(rt: HostRuntime) -> Result<(), Fail> {
+    let alloc = rt.alloc();
+    let volume = Some(Device::Volume(0));
+    let good: &[&[u8]] = &[START, PAIR, END];
+    let short: &[&[u8]] = &[START, PAIR];
+    let sayings = 109;
+    let rows: [(&[u8], &[&[u8]], &[Failure], u8); 6] = [
+        (&[1], good, &[failure(None, 0)], 3),
+        (&[1], good, &[failure(volume, 0)], 18),
+        (&[1], short, &[], 18),
+        (&[], short, &[failure(volume, 0)], 19),
+        (&[], short, &[failure(volume, 1)], 17),
+        (&[], good, &[failure(volume, 1), failure(None, sayings)], 19),
+    ];
+    for (fails, script, failures, status) in rows {
+        let trace = source(alloc, &[&TRACE], 64, fails)?;
+        let plant = site(alloc, script, failures)?;
+        assert_eq!(rt; run(&rt, alloc, &RUN, trace, plant)?.status, status);
+    }
+    Ok(())
+}
+
+#[test]
+fn other_numbers_of_devices_are_refused_first(rt: HostRuntime) -> Result<(), Fail> {
+    let alloc = rt.alloc();
+    for (journals, volumes) in [(1, 1), (17, 1), (2, 0)] {
+        let trace = source(alloc, &[&TRACE], 64, &[1])?;
+        let plant = site_of(
+            alloc,
+            journals,
+            volumes,
+            &[START, PAIR, END],
+            &[failure(None, 1)],
+        )?;
+        let outcome = run(&rt, alloc, &RUN, trace, plant)?;
+        assert_eq!(rt; outcome.status, 17);
+        assert_eq!(rt; outcome.said.as_slice(), b"STATUS 17\n".as_slice());
     }
     Ok(())
 }

@@ -11,4 +11,4 @@ returns-in-Err-clause-next g c =
     (leaves_on_console g.P.Plant.tells (state c.args.plant.now) (state c.hear.new.self) e.cause.later e.only)
     (λ told. ((e.only.devices told (Volume 0)).bytes))
     (λ told. (e.moments told).said _ ((e.only.elapses told).kept (Volume 0)).later (omega arith))
-    (λ told. (e.err told).script)
+    (e.only.faults (Volume 0)) (λ told. (e.err told).script)

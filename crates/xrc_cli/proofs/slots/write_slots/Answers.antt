@@ -31,6 +31,7 @@ loop-track-preserved g c =
           (λ x lt. length-image_bytes c.args.bytes.now _ (c.requires.places x (omega arith)));
       slots = λ told. differs_more (length c.args.places.now) _ (length c.image_at.result.now) (old.bytes (Volume 0)) (mid.bytes (Volume 0)) (new.bytes (Volume 0))
           (c.loop-track.invariant.slots told) (c.write_slot.ensures.torn told) (omega arith) (omega arith);
+      count = (c.in_ok-write_slot.ensures.count) ∙ c.loop-track.invariant.count;
       only = works_on_trans g.P.Plant.tells (λ d. d ≡ Volume 0) old mid new c.loop-track.invariant.only c.write_slot.ensures.only;
     }
 

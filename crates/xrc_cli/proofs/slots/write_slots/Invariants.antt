@@ -12,5 +12,6 @@ invariant-loop-track g l =
     record {
       copied : g.P.Plant.tells → HoldsImages (image_of l.bytes l.places) l.track (old.bytes (Volume 0)) (now.bytes (Volume 0));
       slots : g.P.Plant.tells → DiffersInSlots (length l.places) (old.bytes (Volume 0)) (now.bytes (Volume 0));
+      count : now.faults (Volume 0) ≡ old.faults (Volume 0);
       only : WorksOn g.P.Plant.tells (λ d. d ≡ Volume 0) old now;
     }

@@ -4,7 +4,7 @@ use Rattle.crash_plant.specs.Made.{SameDevices}
 use Rattle.crash_plant.specs.PlainPlant.{plain_state}
 use Rattle.crash_plant.specs.MemoryPlant.{memory_state}
 use Rattle.xrc_cli.proofs.PlanLaws.{if_ok_more}
-use Rattle.xrc_cli.proofs.tests.site.Goals as goal
+use Rattle.xrc_cli.proofs.tests.site_of.Goals as goal
 
 pub returns : goal.returns
 returns c =
