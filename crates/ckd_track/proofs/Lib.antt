@@ -5,3 +5,9 @@ pub mod TrackLaws
 pub mod Wants
 pub mod Puts
 pub mod TrackReads
+pub mod Walks
+pub mod Updates
+pub mod FrontLaws
+pub mod Formatting
+pub mod KindLaws
+pub mod RowLaws

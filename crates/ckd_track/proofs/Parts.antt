@@ -18,7 +18,7 @@ pub length-spelling : (r : Rec) → length (record_spelling r) ≡ 4 + length r.
 length-spelling r = omega (arith, length-append r.key r.content)
 
 -- the spellings of some records are four bytes for each shorter than their sizes
-length-spellings : (recs : List Rec) → length (flat_map record_spelling recs) + 4 * length recs ≡ track_size recs
+pub length-spellings : (recs : List Rec) → length (flat_map record_spelling recs) + 4 * length recs ≡ track_size recs
 length-spellings [] = refl
 length-spellings (rec ∷ recs) = omega (arith, sum_by-cons size rec recs, length-append (record_spelling rec) (flat_map record_spelling recs), length-spelling rec, length-spellings recs)
 

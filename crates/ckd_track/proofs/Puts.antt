@@ -3,14 +3,14 @@ use Rattle.std.proofs.Common.{◌≡◌, ℕ, zero, suc, ◌+◌, ◌<◌, ◌�
 use Rattle.std.specs.Int.{w16, to_be_bytes}
 use Rattle.std.specs.List.{flat_map}
 use Rattle.std.proofs.lemmas.Bool.{leb-true}
-use Rattle.std.proofs.lemmas.Grind.{flat_map-append, common_steps}
+use Rattle.std.proofs.lemmas.Grind.{flat_map-append}
 use Rattle.std.proofs.lemmas.List.{append-nil, take_at, drop_at, drop-drop, take_more, take-append-drop}
 use Rattle.std.proofs.lemmas.List.Folds.{length-flat_map-take}
 use Rattle.std.proofs.lemmas.List.Sums.{sum_by-cons}
 use Rattle.tod_stamp.specs.Fields.{within}
 use Rattle.ckd_track.specs.declared.rec.Rec.{Rec}
 use Rattle.ckd_track.specs.Tracks.{size, track_size, capacity, rises_above, IsTrack}
-use Rattle.ckd_track.specs.Images.{record_spelling, image}
+use Rattle.ckd_track.specs.Images.{record_spelling}
 use Rattle.ckd_track.specs.Heads.{FitsHead}
 use Rattle.ckd_track.specs.Slots.{with_bytes}
 use Rattle.ckd_track.proofs.ImageLaws.{both_true, count_of}
@@ -27,6 +27,10 @@ put_next place end x y buffer is room =
     let behind : drop (end + length y) (front ++ (x ++ rest)) ≡ drop (place + length (x ++ y)) buffer =
     sym (drop-drop (length y) end (front ++ (x ++ rest))) ∙ ap (drop (length y)) middle ∙ drop-drop (length y) (place + length x) buffer ∙ ap (λ n. drop n buffer) there in
     rw (before, behind) (append_assoc front x (y ++ drop (place + length (x ++ y)) buffer) ∙ ap (λ (t : List ℕ). front ++ t) (sym (append_assoc x y (drop (place + length (x ++ y)) buffer))))
+
+-- two of them
+pub put_two : (place second : ℕ) (x y buffer one two : List ℕ) → second ≡ place + length x → second ≤ length buffer → one ≡ with_bytes place x buffer → two ≡ with_bytes second y one → two ≡ with_bytes place (x ++ y) buffer
+put_two place second x y buffer one two at_second room a b = b ∙ ap (with_bytes second y) a ∙ put_next place second x y buffer at_second room
 
 -- three of them
 pub put_three : (place second third : ℕ) (x y z buffer one two three : List ℕ) → second ≡ place + length x → third ≡ second + length y → third ≤ length buffer
@@ -60,6 +64,22 @@ record_fits recs i rec is lt at =
     let parts = both_true (rises_above 0 recs) (nat_le (track_size recs) capacity) is in
     subst FitsHead (sym at) (fits_at 0 recs i rec parts.0 (leb-true (track_size recs) capacity parts.1) lt)
 
+-- the spellings of the first records, with one more
+pub spelled_more : (recs : List Rec) (i : ℕ) (rec : Rec) → i < length recs → rec ≡ get_or recs i rec
+    → flat_map record_spelling (take i recs) ++ record_spelling rec ≡ flat_map record_spelling (take (i + 1) recs)
+spelled_more recs i rec lt at =
+    let longer : take (i + 1) recs ≡ take i recs ++ rec ∷ [] = take_more recs i rec lt ∙ ap (λ (r : Rec). take i recs ++ r ∷ []) (sym at) in
+    sym (ap (flat_map record_spelling) longer ∙ flat_map-append record_spelling (take i recs) (rec ∷ []) ∙ ap (λ (t : List ℕ). flat_map record_spelling (take i recs) ++ t) (append-nil (record_spelling rec)))
+
+-- with one more they are no longer than those of all records
+pub spelled_room : (recs : List Rec) (i : ℕ) (rec : Rec) → i < length recs → rec ≡ get_or recs i rec
+    → length (flat_map record_spelling (take i recs)) + length (record_spelling rec) ≤ length (flat_map record_spelling recs)
+spelled_room recs i rec lt at =
+    let le : length (flat_map record_spelling (take i recs)) + length (record_spelling (get_or recs i rec)) ≤ length (flat_map record_spelling recs) = length-flat_map-take record_spelling recs i rec lt in
+    let same : length (record_spelling (get_or recs i rec)) ≡ length (record_spelling rec) = ap (λ (r : Rec). length (record_spelling r)) (sym at) in
+    let long = le in
+    omega (arith, long, same)
+
 -- the front of an image: the count of all records, and the spellings of the first ones
 abbrev pub image_front : (recs : List Rec) (i : ℕ) → List ℕ
 image_front recs i = to_be_bytes w16 (length recs) ++ flat_map record_spelling (take i recs)
@@ -67,28 +87,13 @@ image_front recs i = to_be_bytes w16 (length recs) ++ flat_map record_spelling (
 -- a front with one more record
 pub front_more : (recs : List Rec) (i : ℕ) (rec : Rec) → i < length recs → rec ≡ get_or recs i rec → image_front recs i ++ record_spelling rec ≡ image_front recs (i + 1)
 front_more recs i rec lt at =
-    let longer : take (i + 1) recs ≡ take i recs ++ rec ∷ [] = take_more recs i rec lt ∙ ap (λ (r : Rec). take i recs ++ r ∷ []) (sym at) in
-    let spelled : flat_map record_spelling (take (i + 1) recs) ≡ flat_map record_spelling (take i recs) ++ record_spelling rec =
-    ap (flat_map record_spelling) longer ∙ flat_map-append record_spelling (take i recs) (rec ∷ []) ∙ ap (λ (t : List ℕ). flat_map record_spelling (take i recs) ++ t) (append-nil (record_spelling rec)) in
-    append_assoc (to_be_bytes w16 (length recs)) (flat_map record_spelling (take i recs)) (record_spelling rec) ∙ ap (λ (t : List ℕ). to_be_bytes w16 (length recs) ++ t) (sym spelled)
+    append_assoc (to_be_bytes w16 (length recs)) (flat_map record_spelling (take i recs)) (record_spelling rec) ∙ ap (λ (t : List ℕ). to_be_bytes w16 (length recs) ++ t) (spelled_more recs i rec lt at)
 
--- a front with one more record is no longer than the image
-pub front_room : (recs : List Rec) (i : ℕ) (rec : Rec) → i < length recs → rec ≡ get_or recs i rec → length (image_front recs i) + length (record_spelling rec) ≤ length (image recs)
-front_room recs i rec lt at =
-    let le : length (flat_map record_spelling (take i recs)) + length (record_spelling (get_or recs i rec)) ≤ length (flat_map record_spelling recs) = length-flat_map-take record_spelling recs i rec lt in
-    let same : length (record_spelling (get_or recs i rec)) ≡ length (record_spelling rec) = ap (λ (r : Rec). length (record_spelling r)) (sym at) in
-    let long = le in
-    omega (arith, long, same)
-
--- the front with all records, put at the start of a buffer
-pub put_whole : (recs : List Rec) (i : ℕ) (buffer : List ℕ) → length recs ≤ i → with_bytes 0 (image_front recs i) buffer ≡ image recs ++ drop (length (image recs)) buffer
-put_whole recs i buffer le =
-    let all : take i recs ≡ recs = take_all recs i le in
-    let zero_on : 0 + length (image recs) ≡ length (image recs) = omega arith in
-    ap (λ (r : List Rec). with_bytes 0 (to_be_bytes w16 (length recs) ++ flat_map record_spelling r) buffer) all ∙ ap (λ n. image recs ++ drop n buffer) zero_on
-  where
-    take_all : (recs : List Rec) (i : ℕ) → length recs ≤ i → take i recs ≡ recs
-    take_all recs i le = grind (arith, common_steps)
+-- bytes put at the front
+pub at_front : (bytes buffer : List ℕ) → with_bytes 0 bytes buffer ≡ bytes ++ drop (length bytes) buffer
+at_front bytes buffer =
+    let zero_on : 0 + length bytes ≡ length bytes = omega arith in
+    ap (λ n. bytes ++ drop n buffer) zero_on
 
 -- what stood before a longer front stands there still
 pub kept_through : (before more front out : List ℕ) → front ≡ before ++ more → take (length front) out ≡ front → take (length before) out ≡ before

@@ -4,3 +4,5 @@ pub mod Images
 pub mod Heads
 pub mod Reading
 pub mod Slots
+pub mod Places
+pub mod Entries

@@ -1,9 +1,10 @@
 -- A slot's buffer begins with the image of a track, and is seen as that track.
 use Rattle.std.specs.Prelude.{◌≡◌, ◌≤◌, ℕ, ◌+◌, List, [], ◌++◌, length, take, drop, Result, Ok, Err}
+use Rattle.std.specs.List.{flat_map}
 use Rattle.ckd_track.specs.declared.fault.ImageError.{ImageError}
 use Rattle.ckd_track.specs.declared.rec.Rec.{Rec}
-use Rattle.ckd_track.specs.Tracks.{IsTrack}
-use Rattle.ckd_track.specs.Images.{image, image_at}
+use Rattle.ckd_track.specs.Tracks.{IsTrack, capacity}
+use Rattle.ckd_track.specs.Images.{image, image_at, record_spelling, records_at}
 
 -- the records that were read, or none
 abbrev pub records_of : Result (List Rec × List ℕ) ImageError → List Rec
@@ -32,3 +33,15 @@ pub record HoldsImage (used : ℕ) (buffer : List ℕ) : Type 0 where
   pub sized : length buffer ≡ slot_size
   pub within : used ≤ length buffer
   pub begins : IsImage (take used buffer)
+
+-- ---- records in a row, as a format's fields have them
+
+-- the records that bytes spell in a row, that many
+abbrev pub spelled_records : (count : ℕ) → List ℕ → List Rec
+spelled_records count bytes = records_of (records_at count 0 0 capacity bytes)
+
+-- The bytes spell that many records in a row, all of the bytes, with rising numbers and sizes that fit a track.
+pub record AreSpelled (count : ℕ) (bytes : List ℕ) : Type 0 where
+  pub are_records : IsTrack (spelled_records count bytes)
+  pub number : length (spelled_records count bytes) ≡ count
+  pub spelled : bytes ≡ flat_map record_spelling (spelled_records count bytes)

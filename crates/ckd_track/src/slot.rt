@@ -1,13 +1,16 @@
 //! A slot: a buffer that is made once and begins with the image of a track.
 
-ghost use Rattle.std.specs.Prelude.{◌≡◌, ◌≢◌, ◌≤◌, [], ◌∷◌, ◌++◌, length, take, drop, Ok, Err, IfOk, IfErr, OnErr};
-ghost use Rattle.ckd_track.specs.Tracks.{IsTrack};
-ghost use Rattle.ckd_track.specs.Effects.{apply};
+ghost use Rattle.std.specs.Prelude.{◌≡◌, ◌≢◌, ◌≤◌, [], ◌∷◌, ◌++◌, length, take, drop, Ok, Err, IfOk, IfErr, OnErr, IsTrue};
+ghost use Rattle.ckd_track.specs.Tracks.{IsTrack, are_records_above, rises_above};
+ghost use Rattle.ckd_track.specs.Effects.{apply, updated, formatted, keeps_rules};
+ghost use Rattle.ckd_track.specs.Entries.{IsFields, AppliesFields, IsQueueForm, AppliesEntry, IsDelta, AppliesDelta};
 ghost use Rattle.ckd_track.specs.Images.{image, image_at, longest_image};
-ghost use Rattle.ckd_track.specs.Slots.{IsImage, track_of};
+ghost use Rattle.ckd_track.specs.Slots.{IsImage, track_of, AreSpelled, spelled_records};
 
+use crate::changes::{format_image, format_image_spelled, update_image};
 use crate::fault::ImageError;
 use crate::reading::after_image;
+use crate::rec::Rec;
 use crate::spelling::put_image;
 use crate::track::Track;
 use crate::write::{Kind, Write};
@@ -114,15 +117,84 @@ impl Slot {
     pub fn set(&mut self, track: &Track)
         ensures { self.new ≡ track.now }
     {
-        self.used = put_image(self.buffer.as_mut_slice(), track.recs());
+        self.used = put_image(self.buffer.as_mut_slice(), 0, track.recs());
+    }
+
+    /// Fills the content of the record with this number.
+    fn update(&mut self, number: u8, bytes: &[u8])
+        ensures { self.new ≡ updated number bytes.now self.old }
+    {
+        update_image(self.buffer.as_mut_slice(), self.used, number, bytes);
+    }
+
+    /// Puts the given records in the place of those above `after`.
+    fn format(&mut self, after: u8, given: &[Rec])
+        requires { IsTrue (are_records_above after given.now) }
+        ensures { self.new ≡ formatted after given.now self.old }
+    {
+        self.used = format_image(self.buffer.as_mut_slice(), self.used, after, given);
+    }
+
+    /// The same for records that are spelled one after another, that many.
+    fn format_spelled(&mut self, after: u8, count: u8, given: &[u8])
+        requires spelled { AreSpelled count given.now }
+        requires above { IsTrue (rises_above after (spelled_records count given.now)) }
+        ensures { self.new ≡ formatted after (spelled_records count given.now) self.old }
+    {
+        self.used = format_image_spelled(
+            self.buffer.as_mut_slice(),
+            self.used,
+            after,
+            count,
+            given,
+        );
     }
 
     /// Does what a write does to its track.
     pub fn apply(&mut self, write: &Write)
+        requires { IsTrue (keeps_rules write.now.kind) }
         ensures { self.new ≡ apply self.old write.now.kind }
     {
         match &write.kind {
+            Kind::Update { number, bytes } => self.update(*number, bytes.as_slice()),
+            Kind::Format { after, recs } => self.format(*after, recs.as_slice()),
             Kind::Whole { track } => self.set(track),
         }
+    }
+
+    /// Does what a kind with this tag and these fields does to its track.
+    fn apply_fields(&mut self, tag: u8, fields: &[u8])
+        requires fields { IsFields tag fields.now }
+        ensures { AppliesFields tag fields.now self.old self.new }
+    {
+        match tag {
+            2 => {
+                let (head, bytes) = fields.split_at(3);
+                self.update(head[0], bytes);
+            }
+            3 => {
+                let (head, given) = fields.split_at(2);
+                self.format_spelled(head[0], head[1], given);
+            }
+            _ => self.put(fields),
+        }
+    }
+
+    /// Does what the write does whose queue form the bytes are.
+    pub fn apply_entry(&mut self, entry: &[u8])
+        requires form { IsQueueForm entry.now }
+        ensures { AppliesEntry entry.now self.old self.new }
+    {
+        let (head, fields) = entry.split_at(15);
+        self.apply_fields(head[0], fields);
+    }
+
+    /// Does what the update or format does whose fields in a delta, from its tag on, the bytes are.
+    pub fn apply_delta(&mut self, fields: &[u8])
+        requires form { IsDelta fields.now }
+        ensures { AppliesDelta fields.now self.old self.new }
+    {
+        let (head, rest) = fields.split_at(1);
+        self.apply_fields(head[0], rest);
     }
 }

@@ -2,6 +2,7 @@
 
 ghost use Rattle.std.specs.Prelude.{◌≡◌, ◌≤◌, ◌+◌, ◌∷◌, ◌++◌, length, take, drop, OnOk};
 ghost use Rattle.std.specs.Int.{w16, to_be_bytes};
+ghost use Rattle.std.specs.List.{flat_map};
 ghost use Rattle.ckd_track.specs.Tracks.{IsTrack};
 ghost use Rattle.ckd_track.specs.Images.{image, record_spelling};
 ghost use Rattle.ckd_track.specs.Heads.{FitsHead};
@@ -22,6 +23,16 @@ fn head_bytes(rec: &Rec) -> [u8; 4]
     head
 }
 
+/// The first two bytes of a track's image.
+fn count_bytes(recs: &[Rec]) -> [u8; 2]
+    requires track { IsTrack recs.now }
+    ensures { result ≡ to_be_bytes w16 (length recs.now) }
+{
+    let mut count = [0; 2];
+    BigEndian::write_u16(&mut count, recs.len() as u16);
+    count
+}
+
 fn append_record(alloc: Global, out: &mut Bytes, rec: &Rec) -> Result<(), NoMemory>
     requires fits { FitsHead rec.now }
     ensures ok { OnOk result (out.new ≡ out.old ++ record_spelling rec.now) }
@@ -38,9 +49,7 @@ pub fn append_image(alloc: Global, out: &mut Bytes, recs: &[Rec]) -> Result<(), 
     ensures ok { OnOk result (out.new ≡ out.old ++ image recs.now) }
     ensures kept { take (length out.old) out.new ≡ out.old }
 {
-    let mut count = [0; 2];
-    BigEndian::write_u16(&mut count, recs.len() as u16);
-    out.extend_from_slice(alloc, &count)?;
+    out.extend_from_slice(alloc, &count_bytes(recs))?;
     for rec in recs {
         append_record(alloc, out, rec)?;
     }
@@ -48,7 +57,7 @@ pub fn append_image(alloc: Global, out: &mut Bytes, recs: &[Rec]) -> Result<(), 
 }
 
 /// Writes bytes at a place of a buffer, and gives the place behind them.
-fn put_bytes(buffer: &mut [u8], place: usize, bytes: &[u8]) -> usize
+pub fn put_bytes(buffer: &mut [u8], place: usize, bytes: &[u8]) -> usize
     requires { place + length bytes.now ≤ length buffer.old }
     ensures bytes { buffer.new ≡ with_bytes place bytes.now buffer.old }
     ensures end { result ≡ place + length bytes.now }
@@ -69,17 +78,27 @@ fn put_record(buffer: &mut [u8], place: usize, rec: &Rec) -> usize
     put_bytes(buffer, content_place, rec.content.as_slice())
 }
 
-/// Writes the image of a track over the front of a buffer, and gives the image's length.
-pub fn put_image(buffer: &mut [u8], recs: &[Rec]) -> usize
+/// Writes the spellings of records at a place of a buffer, and gives the place behind them.
+pub fn put_records(buffer: &mut [u8], place: usize, recs: &[Rec]) -> usize
     requires track { IsTrack recs.now }
-    requires room { length (image recs.now) ≤ length buffer.old }
-    ensures bytes { buffer.new ≡ image recs.now ++ drop (length (image recs.now)) buffer.old }
-    ensures length { result ≡ length (image recs.now) }
+    requires room { place + length (flat_map record_spelling recs.now) ≤ length buffer.old }
+    ensures bytes { buffer.new ≡ with_bytes place (flat_map record_spelling recs.now) buffer.old }
+    ensures end { result ≡ place + length (flat_map record_spelling recs.now) }
 {
-    BigEndian::write_u16(buffer, recs.len() as u16);
-    let mut end = 2;
+    let mut end = place;
     for rec in recs {
         end = put_record(buffer, end, rec);
     }
     end
+}
+
+/// Writes the image of a track at a place of a buffer, and gives the place behind it.
+pub fn put_image(buffer: &mut [u8], place: usize, recs: &[Rec]) -> usize
+    requires track { IsTrack recs.now }
+    requires room { place + length (image recs.now) ≤ length buffer.old }
+    ensures bytes { buffer.new ≡ with_bytes place (image recs.now) buffer.old }
+    ensures end { result ≡ place + length (image recs.now) }
+{
+    let records = put_bytes(buffer, place, &count_bytes(recs));
+    put_records(buffer, records, recs)
 }

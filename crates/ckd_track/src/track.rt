@@ -4,7 +4,10 @@ ghost use Rattle.std.specs.Prelude.{◌≡◌, ◌≢◌, ◌+◌, ◌↔◌, []
 
 use crate::decoding::decoded;
 use crate::fault::ImageError;
-use crate::rec::{Rec, RecList, copied_records};
+use crate::rec::{Rec, copied_records, fitted_bytes};
+use crate::recs::{
+    count_up_to, fitting_records, last_number, record_place, replace_behind, track_size,
+};
 use crate::spelling::append_image;
 use crate::write::{Kind, Write};
 use std::alloc::Global;
@@ -17,7 +20,7 @@ pub const CAPACITY: usize = 56_664;
 /// A track. Contracts see it as the list of its records.
 #[derive(Debug, Drop)]
 pub struct Track {
-    recs: RecList,
+    recs: Vec<Rec>,
     used: u32,
 }
 
@@ -28,14 +31,14 @@ impl Model for Track {
 
     ghost Value = { List Rec };
 
-    ghost view = { λ track. track.recs };
+    ghost view = { λ track. track.recs.items };
 
-    ghost invariant = { λ track. IsTrack track.recs × (track.used ≡ track_size track.recs) };
+    ghost invariant = { λ track. IsTrack track.recs.items × (track.used ≡ track_size track.recs.items) };
 }
 
 impl Track {
-    ghost use Rattle.ckd_track.specs.Tracks.{IsTrack, last_number, track_size, capacity};
-    ghost use Rattle.ckd_track.specs.Effects.{apply};
+    ghost use Rattle.ckd_track.specs.Tracks.{IsTrack, last_number, track_size, capacity, are_records_above};
+    ghost use Rattle.ckd_track.specs.Effects.{apply, updated, formatted, keeps_rules};
     ghost use Rattle.ckd_track.specs.Images.{image, image_at};
 
     /// A track with no record. It takes no memory.
@@ -43,7 +46,7 @@ impl Track {
         ensures { result ≡ [] }
     {
         Track {
-            recs: RecList::make(alloc),
+            recs: Vec::new(alloc),
             used: 0,
         }
     }
@@ -60,10 +63,7 @@ impl Track {
     pub(crate) fn last(&self) -> u8
         ensures { result ≡ last_number 0 self.now }
     {
-        match self.recs.as_slice() {
-            [] => 0,
-            [.., rec] => rec.number,
-        }
+        last_number(self.recs.as_slice())
     }
 
     /// The bytes that are left for records.
@@ -87,13 +87,13 @@ impl Track {
     }
 
     /// Puts a record behind those of the track.
-    pub fn push(&mut self, alloc: Global, rec: Rec) -> Result<(), NoMemory>
+    pub fn push(&mut self, _alloc: Global, rec: Rec) -> Result<(), NoMemory>
         requires { IsTrack (self.old ++ rec ∷ []) }
         ensures ok { OnOk result (self.new ≡ self.old ++ rec ∷ []) }
         ensures err { OnErr result (self.new ≡ self.old) }
     {
         let size = 8 + rec.key.len() + rec.content.len();
-        self.recs.push(alloc, rec)?;
+        self.recs.push(rec)?;
         self.used += size as u32;
         Ok(())
     }
@@ -107,15 +107,51 @@ impl Track {
         })
     }
 
+    /// Fills the content of the record with this number.
+    fn update(&mut self, alloc: Global, number: u8, bytes: &[u8]) -> Result<(), NoMemory>
+        ensures ok { OnOk result (self.new ≡ updated number bytes.now self.old) }
+        ensures err { OnErr result (self.new ≡ self.old) }
+    {
+        if let Some(place) = record_place(self.recs(), number) {
+            let rec = &mut self.recs[place];
+            rec.content = fitted_bytes(alloc, bytes, rec.content.len())?;
+        }
+        Ok(())
+    }
+
+    /// Puts the given records in the place of those above `after`.
+    fn format(&mut self, alloc: Global, after: u8, given: &[Rec]) -> Result<(), NoMemory>
+        requires { IsTrue (are_records_above after given.now) }
+        ensures ok { OnOk result (self.new ≡ formatted after given.now self.old) }
+        ensures err { OnErr result (self.new ≡ self.old) }
+    {
+        let kept = count_up_to(self.recs(), after);
+        let front = &self.recs()[..kept];
+        if last_number(front) != after {
+            return Ok(());
+        }
+        let front_size = track_size(front);
+        let taken = fitting_records(given, CAPACITY - front_size);
+        let used = front_size + track_size(taken);
+        replace_behind(&mut self.recs, kept, copied_records(alloc, taken)?)?;
+        self.used = used as u32;
+        Ok(())
+    }
+
     /// Does what a write does to its track.
     pub fn apply(&mut self, alloc: Global, write: &Write) -> Result<(), NoMemory>
+        requires { IsTrue (keeps_rules write.now.kind) }
         ensures ok { OnOk result (self.new ≡ apply self.old write.now.kind) }
         ensures err { OnErr result (self.new ≡ self.old) }
     {
         match &write.kind {
-            Kind::Whole { track } => *self = track.copied(alloc)?,
+            Kind::Update { number, bytes } => self.update(alloc, *number, bytes.as_slice()),
+            Kind::Format { after, recs } => self.format(alloc, *after, recs.as_slice()),
+            Kind::Whole { track } => {
+                *self = track.copied(alloc)?;
+                Ok(())
+            }
         }
-        Ok(())
     }
 
     /// Puts the track's image behind the bytes of `out`.

@@ -10,7 +10,6 @@ use Rattle.tod_stamp.proofs.FieldLaws.{wide16, wide32}
 use Rattle.tod_stamp.proofs.NameLaws.{names_back, length-name_field}
 use Rattle.ckd_track.specs.declared.fault.ImageError.{ImageError}
 use Rattle.ckd_track.specs.declared.rec.Rec.{Rec}
-use Rattle.ckd_track.specs.declared.write.Kind.{Kind}
 use Rattle.ckd_track.specs.declared.write.Kind.TheVariants.{Whole}
 use Rattle.ckd_track.specs.declared.write.Write.{Write}
 use Rattle.ckd_track.specs.Tracks.{IsTrack}
@@ -20,7 +19,7 @@ use Rattle.xrc_cli.specs.declared.volume_head.VolumeHead.{VolumeHead}
 use Rattle.xrc_cli.specs.Traces.{Entry, entry_spelling, are_entries, is_kind}
 use Rattle.xrc_cli.specs.Traces.Entry.{Written, Idle}
 use Rattle.xrc_cli.specs.TraceReading.{HasSerial, HasHeader, HasStamp, HasTrack, HasImage, HasEntry, is_next_stamp, track_spelling}
-use Rattle.xrc_cli.proofs.TraceSame.{both_true, fronts_same, number_same, serial_same, header_parts, cylinders_fit, rules_of, written_parts}
+use Rattle.xrc_cli.proofs.TraceSame.{both_true, fronts_same, number_same, serial_same, header_parts, cylinders_fit, rules_of, whole_of, written_parts}
 
 pub no_serial : (bytes field : List ℕ) (found : Option (List ℕ)) → found ≡ name_in 6 field → field ≡ take 6 bytes → IsNone found → HasSerial bytes → ⊥
 no_serial bytes field None read front none has =
@@ -87,12 +86,11 @@ write_at v last w recs after_tag rest kind kept e =
 has_write : (v : VolumeHead) (last : ℕ) (bytes after_tag : List ℕ) (tag : ℕ) → bytes ≡ tag ∷ after_tag → tag ≡ 4 → HasEntry v last bytes → HasWrite v last after_tag
 has_write v last bytes after_tag tag tagged is has = by_entry has.entry has.begins.kept (ap (λ n. n ∷ after_tag) (sym is) ∙ sym tagged ∙ has.begins.spelled)
   where
-    by_kind : (w : Write) (k : Kind) → w.kind ≡ k → are_entries v last (Written w ∷ []) ≡ true → 4 ∷ after_tag ≡ entry_spelling (Written w) ++ has.rest → HasWrite v last after_tag
-    by_kind w (Whole recs) kind kept e = write_at v last w recs after_tag has.rest kind kept e
-
     by_entry : (e : Entry) → are_entries v last (e ∷ []) ≡ true → 4 ∷ after_tag ≡ entry_spelling e ++ has.rest → HasWrite v last after_tag
     by_entry (Idle stamp) kept e = absurd cc
-    by_entry (Written w) kept e = by_kind w w.kind refl kept e
+    by_entry (Written w) kept e =
+        let whole = whole_of v last w kept in
+        write_at v last w whole.0 after_tag has.rest whole.1 kept e
 
 pub has_track : (v : VolumeHead) (last : ℕ) (bytes after_tag after_stamp : List ℕ) (tag stamp : ℕ) → bytes ≡ tag ∷ after_tag → tag ≡ 4 → after_tag ≡ to_be_bytes w64 stamp ++ after_stamp
     → HasEntry v last bytes → HasTrack v after_stamp
@@ -112,11 +110,9 @@ has_image v last bytes after_tag after_stamp after_track tag stamp track tagged 
 pub has_stamp : (v : VolumeHead) (last : ℕ) (bytes after_tag : List ℕ) (tag : ℕ) → bytes ≡ tag ∷ after_tag → HasEntry v last bytes → HasStamp last after_tag
 has_stamp v last bytes after_tag tag tagged has = by_entry has.entry has.begins.kept (sym tagged ∙ has.begins.spelled)
   where
-    by_kind : (w : Write) (k : Kind) → w.kind ≡ k → are_entries v last (Written w ∷ []) ≡ true → tag ∷ after_tag ≡ entry_spelling (Written w) ++ has.rest → HasStamp last after_tag
-    by_kind w (Whole recs) kind kept e =
-        let spelled = ap (drop 1) (e ∙ written_parts w recs has.rest kind) in
-        record { stamp = w.stamp.0; rest = to_be_bytes w16 w.volume ++ (to_be_bytes w16 (w.track / 15) ++ (to_be_bytes w16 (w.track % 15) ++ (image recs ++ has.rest))); spelled = spelled; kept = (rules_of v last (Written w) kept).next }
-
     by_entry : (e : Entry) → are_entries v last (e ∷ []) ≡ true → tag ∷ after_tag ≡ entry_spelling e ++ has.rest → HasStamp last after_tag
     by_entry (Idle stamp) kept e = record { stamp = stamp; rest = has.rest; spelled = ap (drop 1) e; kept = (rules_of v last (Idle stamp) kept).next }
-    by_entry (Written w) kept e = by_kind w w.kind refl kept e
+    by_entry (Written w) kept e =
+        let whole = whole_of v last w kept in
+        let spelled = ap (drop 1) (e ∙ written_parts w whole.0 has.rest whole.1) in
+        record { stamp = w.stamp.0; rest = to_be_bytes w16 w.volume ++ (to_be_bytes w16 (w.track / 15) ++ (to_be_bytes w16 (w.track % 15) ++ (image whole.0 ++ has.rest))); spelled = spelled; kept = (rules_of v last (Written w) kept).next }

@@ -12,7 +12,7 @@ use Rattle.tod_stamp.proofs.NameLaws.{names_back, length-name_field}
 use Rattle.tod_stamp.specs.Names.{name_in}
 use Rattle.ckd_track.specs.declared.rec.Rec.{Rec}
 use Rattle.ckd_track.specs.declared.write.Kind.{Kind}
-use Rattle.ckd_track.specs.declared.write.Kind.TheVariants.{Whole}
+use Rattle.ckd_track.specs.declared.write.Kind.TheVariants.{Update, Format, Whole}
 use Rattle.ckd_track.specs.declared.write.Write.{Write}
 use Rattle.ckd_track.specs.Tracks.{is_track}
 use Rattle.ckd_track.specs.Images.{image}
@@ -85,6 +85,18 @@ rules_of v last e kept =
     let high = leb-true stamp (2 ^ 64 - 1) (both_true (nat_le 1 stamp) (nat_le stamp (2 ^ 64 - 1)) next.0).1 in
     record { next = parts.0; fits = omega (arith, high); later = leb-true last stamp next.1; range = parts.1 }
 
+-- A write that keeps the rules replaces its track.
+pub whole_of : (v : VolumeHead) (last : ℕ) (w : Write) → are_entries v last (Written w ∷ []) ≡ true → (recs : List Rec) × (w.kind ≡ Whole recs)
+whole_of v last w kept = by_kind w.kind refl
+  where
+    is : is_kind w.kind ≡ true
+    is = (both_true (nat_eq w.volume 0 && nat_lt w.track (15 * v.cylinders)) (is_kind w.kind) (rules_of v last (Written w) kept).range).1
+
+    by_kind : (k : Kind) → w.kind ≡ k → (recs : List Rec) × (w.kind ≡ Whole recs)
+    by_kind (Update number bytes) kind = let never : false ≡ true = ap is_kind (sym kind) ∙ is in absurd cc
+    by_kind (Format after recs) kind = let never : false ≡ true = ap is_kind (sym kind) ∙ is in absurd cc
+    by_kind (Whole recs) kind = (recs, kind)
+
 -- what stands before a write's image, part by part
 pub written_parts : (w : Write) (recs : List Rec) (x : List ℕ) → w.kind ≡ Whole recs
     → entry_spelling (Written w) ++ x ≡ 4 ∷ (to_be_bytes w64 w.stamp.0 ++ (to_be_bytes w16 w.volume ++ (to_be_bytes w16 (w.track / 15) ++ (to_be_bytes w16 (w.track % 15) ++ (image recs ++ x)))))
@@ -130,12 +142,18 @@ pub entry_same : (v : VolumeHead) (last : ℕ) (a b : Entry) (x y : List ℕ) �
 entry_same v last (Idle s) (Idle t) x y volume is other e =
     let stamps = number_same w64 (2 ^ 64) wide64 s t x y (rules_of v last (Idle s) is).fits (rules_of v last (Idle t) other).fits (tail_same 1 1 _ _ e).1 in
     (ap Idle stamps.0, stamps.1)
-entry_same v last (Idle s) (Written w) x y volume is other e = absurd cc
-entry_same v last (Written w) (Idle s) x y volume is other e = absurd cc
-entry_same v last (Written a) (Written b) x y volume is other e = by_kind a.kind b.kind refl refl
-  where
-    by_kind : (k l : Kind) → a.kind ≡ k → b.kind ≡ l → (Written a ≡ Written b) × (x ≡ y)
-    by_kind (Whole recs) (Whole others) kind other_kind = written_same v last a b recs others x y volume kind other_kind is other e
+entry_same v last (Idle s) (Written w) x y volume is other e =
+    let whole = whole_of v last w other in
+    let never = e ∙ written_parts w whole.0 y whole.1 in
+    absurd cc
+entry_same v last (Written w) (Idle s) x y volume is other e =
+    let whole = whole_of v last w is in
+    let never = sym e ∙ written_parts w whole.0 x whole.1 in
+    absurd cc
+entry_same v last (Written a) (Written b) x y volume is other e =
+    let whole = whole_of v last a is in
+    let other_whole = whole_of v last b other in
+    written_same v last a b whole.0 other_whole.0 x y volume whole.1 other_whole.1 is other e
 
 -- ---- rows of entries
 

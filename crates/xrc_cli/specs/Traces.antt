@@ -1,17 +1,17 @@
 -- Traces of one volume without base tracks whose entries are idle ones and writes of whole tracks, and what the volume's
 -- tracks hold at a time.
-use Rattle.std.specs.Prelude.{◌≡◌, ◌≤◌, ◌*◌, ◌/◌, ◌%◌, ◌-◌, ◌^◌, ◌==◌, ◌&&◌, ℕ, List, [], ◌∷◌, ◌++◌, length, filter, fold, count_by, Bool, true, nat_lt, nat_le, codes, IsTrue}
+use Rattle.std.specs.Prelude.{◌≡◌, ◌≤◌, ◌*◌, ◌-◌, ◌^◌, ◌==◌, ◌&&◌, ℕ, List, [], ◌∷◌, ◌++◌, length, filter, fold, count_by, Bool, true, false, nat_lt, nat_le, codes, IsTrue}
 use Rattle.std.specs.List.{flat_map}
 use Rattle.std.specs.Int.{w16, w32, w64, to_be_bytes}
 use Rattle.tod_stamp.specs.Fields.{within}
 use Rattle.tod_stamp.specs.Names.{is_serial, serial_field}
 use Rattle.ckd_track.specs.declared.write.Kind.{Kind}
-use Rattle.ckd_track.specs.declared.write.Kind.TheVariants.{Whole}
+use Rattle.ckd_track.specs.declared.write.Kind.TheVariants.{Update, Format, Whole}
 use Rattle.ckd_track.specs.declared.write.Write.{Write}
 use Rattle.ckd_track.specs.declared.rec.Rec.{Rec}
 use Rattle.ckd_track.specs.Effects.{apply}
+use Rattle.ckd_track.specs.Entries as writes
 use Rattle.ckd_track.specs.Tracks.{is_track}
-use Rattle.ckd_track.specs.Images.{image}
 use Rattle.xrc_cli.specs.declared.volume_head.VolumeHead.{VolumeHead}
 
 -- An entry is a write, or an idle one that only tells the time.
@@ -35,14 +35,10 @@ writes_of (Idle stamp ∷ entries) = writes_of entries
 abbrev pub header_spelling : VolumeHead → List ℕ
 header_spelling v = codes "XTR1" ++ to_be_bytes w16 1 ++ serial_field v.serial ++ to_be_bytes w16 v.cylinders ++ to_be_bytes w32 0
 
--- the fields that follow the track
-abbrev pub kind_spelling : Kind → List ℕ
-kind_spelling (Whole track) = image track
-
--- tag and stamp, and for a write its volume, cylinder and head, and the fields of its kind
+-- An idle entry is its tag and its stamp.
 abbrev pub entry_spelling : Entry → List ℕ
 entry_spelling (Idle stamp) = 1 ∷ [] ++ to_be_bytes w64 stamp
-entry_spelling (Written w) = 4 ∷ [] ++ to_be_bytes w64 w.stamp.0 ++ to_be_bytes w16 w.volume ++ to_be_bytes w16 (w.track / 15) ++ to_be_bytes w16 (w.track % 15) ++ kind_spelling w.kind
+entry_spelling (Written w) = writes.entry_spelling w
 
 -- ---- the rules
 
@@ -50,7 +46,10 @@ entry_spelling (Written w) = 4 ∷ [] ++ to_be_bytes w64 w.stamp.0 ++ to_be_byte
 abbrev pub is_volume : VolumeHead → Bool
 is_volume v = is_serial v.serial && within 1 65520 v.cylinders
 
+-- a write replaces its track
 abbrev pub is_kind : Kind → Bool
+is_kind (Update number bytes) = false
+is_kind (Format after recs) = false
 is_kind (Whole track) = is_track track
 
 -- a write names the one volume and a track of it; a cylinder has 15 tracks

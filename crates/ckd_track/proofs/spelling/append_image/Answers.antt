@@ -1,9 +1,5 @@
-use Rattle.std.proofs.Common.{arith}
-use Rattle.ckd_track.proofs.Puts.{few, record_fits, image_front, kept_through}
+use Rattle.ckd_track.proofs.Puts.{record_fits, image_front, kept_through}
 use Rattle.ckd_track.proofs.spelling.append_image.Goals as goal
-
-pub overflow_cast-recs : goal.overflow_cast-recs
-overflow_cast-recs c = omega (arith, few c.args.recs.now c.requires.track)
 
 pub append_record-requires : goal.append_record-requires
 append_record-requires c =

@@ -1,32 +1,16 @@
-use Rattle.std.proofs.Common.{◌≡◌, ◌≤◌, ◌+◌, ℕ, List, length, ap, ◌∙◌, arith, length-append}
+use Rattle.std.proofs.Common.{◌≡◌, ◌≤◌, ◌+◌, ℕ, List, length, ap, ◌∙◌, arith}
+use Rattle.std.specs.Int.{w16, to_be_bytes}
+use Rattle.std.specs.List.{flat_map}
 use Rattle.ckd_track.specs.Images.{record_spelling}
 use Rattle.ckd_track.specs.Slots.{with_bytes}
-use Rattle.ckd_track.proofs.Puts.{few, record_fits, image_front, front_more, front_room, put_next, put_whole}
+use Rattle.ckd_track.proofs.Puts.{put_next}
 use Rattle.ckd_track.proofs.spelling.put_image.Goals as goal
 
-pub overflow_cast-recs : goal.overflow_cast-recs
-overflow_cast-recs c = omega (arith, few c.args.recs.now c.requires.track)
-
-pub put_record-end-requires-clause-fits : goal.put_record-end-requires-clause-fits
-put_record-end-requires-clause-fits c = record_fits c.args.recs.now c.loop-rec.rec-index c.rec-item.result c.requires.track c.loop-rec-test.true c.rec-item.is
-
-pub put_record-end-requires-clause-room : goal.put_record-end-requires-clause-room
-put_record-end-requires-clause-room c =
-    omega (arith, front_room c.args.recs.now c.loop-rec.rec-index c.rec-item.result c.loop-rec-test.true c.rec-item.is, c.loop-rec.invariant.end, c.requires.room, c.loop-rec.auto.buffer)
-
-pub loop-rec-preserved : goal.loop-rec-preserved
-loop-rec-preserved c =
-    let front = image_front c.args.recs.now c.loop-rec.rec-index in
-    let spelling = record_spelling c.rec-item.result in
-    let more = front_more c.args.recs.now c.loop-rec.rec-index c.rec-item.result c.loop-rec-test.true c.rec-item.is in
-    let room : c.loop-rec.end ≤ length c.args.buffer.now =
-    omega (arith, front_room c.args.recs.now c.loop-rec.rec-index c.rec-item.result c.loop-rec-test.true c.rec-item.is, c.loop-rec.invariant.end, c.requires.room) in
-    let end : c.loop-rec.end ≡ 0 + length front = omega (arith, c.loop-rec.invariant.end) in
-    record {
-      bytes = c.put_record-end.ensures.bytes ∙ ap (with_bytes c.loop-rec.end spelling) c.loop-rec.invariant.bytes
-          ∙ put_next 0 c.loop-rec.end front spelling c.args.buffer.now end room ∙ ap (λ (t : List ℕ). with_bytes 0 t c.args.buffer.now) more;
-      end = omega (arith, c.put_record-end.ensures.end, c.loop-rec.invariant.end, ap length more, length-append front spelling);
-    }
-
 pub returns-clause-bytes : goal.returns-clause-bytes
-returns-clause-bytes c = c.loop-rec.invariant.bytes ∙ put_whole c.args.recs.now c.loop-rec.rec-index c.args.buffer.now c.loop-rec-test.false
+returns-clause-bytes c =
+    let count = to_be_bytes w16 (length c.args.recs.now) in
+    let records = flat_map record_spelling c.args.recs.now in
+    let counted : c.put_bytes-records.new.buffer ≡ with_bytes c.args.place count c.args.buffer.now = c.put_bytes-records.ensures.bytes ∙ ap (λ (t : List ℕ). with_bytes c.args.place t c.args.buffer.now) c.count_bytes.ensures in
+    let end : c.put_bytes-records.result ≡ c.args.place + length count = omega (arith, c.put_bytes-records.ensures.end, ap length c.count_bytes.ensures) in
+    let room : c.put_bytes-records.result ≤ length c.args.buffer.now = omega (arith, end, c.requires.room) in
+    c.put_records.ensures.bytes ∙ ap (with_bytes c.put_bytes-records.result records) counted ∙ put_next c.args.place c.put_bytes-records.result count records c.args.buffer.now end room

@@ -1,0 +1,101 @@
+//! Entries of writes: how long they are, and the form in which they wait in a queue.
+
+ghost use Rattle.std.specs.Prelude.{◌≡◌, ◌≤◌, ◌<◌, ◌^◌, ◌+◌, ◌∷◌, [], ◌++◌, length, drop, IsTrue};
+ghost use Rattle.std.specs.Int.{w16, w32, w64, to_be_bytes};
+ghost use Rattle.ckd_track.specs.Effects.{keeps_rules, is_kind};
+ghost use Rattle.ckd_track.specs.Entries.{tag_of, kind_spelling, entry_spelling, queue_form};
+ghost use Rattle.ckd_track.specs.Images.{longest_image};
+ghost use Rattle.ckd_track.specs.Slots.{with_bytes};
+
+use crate::recs::spelled_length;
+use crate::spelling::{put_bytes, put_image, put_records};
+use crate::write::{Kind, Write};
+use byteorder::{BigEndian, ByteOrder};
+
+/// The length of the fields of a kind.
+fn fields_len(kind: &Kind) -> usize
+    requires { IsTrue (keeps_rules kind.now) }
+    ensures length { result ≡ length (kind_spelling kind.now) }
+    ensures short { result ≤ longest_image }
+{
+    match kind {
+        Kind::Update { bytes, .. } => 3 + bytes.len(),
+        Kind::Format { recs, .. } => 2 + spelled_length(recs.as_slice()),
+        Kind::Whole { track } => 2 + spelled_length(track.recs()),
+    }
+}
+
+/// The length of the write's entry in a trace of version 1, which is also that of its queue form.
+pub fn entry_len(write: &Write) -> u32
+    requires rules { IsTrue (keeps_rules write.now.kind) }
+    ensures entry { result ≡ length (entry_spelling write.now) }
+    ensures form { result ≡ length (queue_form write.now) }
+{
+    15 + fields_len(&write.kind) as u32
+}
+
+fn tag(kind: &Kind) -> u8
+    ensures { result ≡ tag_of kind.now }
+{
+    match kind {
+        Kind::Update { .. } => 2,
+        Kind::Format { .. } => 3,
+        Kind::Whole { .. } => 4,
+    }
+}
+
+/// The part of the queue form before the fields of the kind.
+fn form_head(write: &Write) -> [u8; 15]
+    ensures { result ≡ tag_of write.now.kind ∷ [] ++ to_be_bytes w64 write.now.stamp.0 ++ to_be_bytes w16 write.now.volume ++ to_be_bytes w32 write.now.track }
+{
+    let mut head = [0; 15];
+    head[0] = tag(&write.kind);
+    BigEndian::write_u64(&mut head[1..], write.stamp.0);
+    BigEndian::write_u16(&mut head[9..], write.volume);
+    BigEndian::write_u32(&mut head[11..], write.track);
+    head
+}
+
+/// An update's number, and the count of its bytes.
+fn update_head(number: u8, count: usize) -> [u8; 3]
+    requires { count < 2 ^ 16 }
+    ensures { result ≡ number ∷ to_be_bytes w16 count }
+{
+    let mut head = [number, 0, 0];
+    BigEndian::write_u16(&mut head[1..], count as u16);
+    head
+}
+
+/// Puts the fields of a kind at a place, and gives the place behind them.
+fn put_fields(out: &mut [u8], place: usize, kind: &Kind) -> usize
+    requires rules { IsTrue (keeps_rules kind.now) }
+    requires room { place + length (kind_spelling kind.now) ≤ length out.old }
+    ensures bytes { out.new ≡ with_bytes place (kind_spelling kind.now) out.old }
+    ensures end { result ≡ place + length (kind_spelling kind.now) }
+    ensures kind { IsTrue (is_kind kind.now) }
+{
+    match kind {
+        Kind::Update { number, bytes } => {
+            let behind = put_bytes(out, place, &update_head(*number, bytes.len()));
+            put_bytes(out, behind, bytes.as_slice())
+        }
+        Kind::Format { after, recs } => {
+            let behind = put_bytes(out, place, &[*after, recs.len() as u8]);
+            put_records(out, behind, recs.as_slice())
+        }
+        Kind::Whole { track } => put_image(out, place, track.recs()),
+    }
+}
+
+/// Puts the write's queue form at the front of `out`, leaves the rest, and gives the form's length, which is `entry_len`.
+/// It hands on that the whole write keeps the rules, a whole track's records among them, as `Slot::apply_entry` asks.
+pub fn put_entry(write: &Write, out: &mut [u8]) -> u32
+    requires rules { IsTrue (keeps_rules write.now.kind) }
+    requires room { length (queue_form write.now) ≤ length out.old }
+    ensures form { out.new ≡ queue_form write.now ++ drop (length (queue_form write.now)) out.old }
+    ensures length { result ≡ length (queue_form write.now) }
+    ensures kind { IsTrue (is_kind write.now.kind) }
+{
+    let fields = put_bytes(out, 0, &form_head(write));
+    put_fields(out, fields, &write.kind) as u32
+}
