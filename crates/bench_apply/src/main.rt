@@ -1,5 +1,5 @@
 //! How fast a slot takes updates, beside as many plain moves of the same bytes. The times are written to standard error,
-//! and what both loops left to standard output.
+//! and how many bytes both loops changed to standard output.
 #![tactic(auto)]
 
 ghost use Rattle.std.specs.Prelude.{◌≡◌, ◌<◌, ◌≤◌, ◌+◌, ◌*◌, length};
@@ -17,7 +17,11 @@ const TRACKS: usize = 25;
 
 const RECORDS: u8 = 12;
 
-const CONTENT: [u8; 80] = [0x5A; 80];
+/// What the records hold before the updates.
+const BEFORE: [u8; 80] = [0; 80];
+
+/// What an update writes.
+const AFTER: [u8; 80] = [0x5A; 80];
 
 /// The bytes between the contents of one record and the next.
 const STRIDE: usize = 84;
@@ -27,9 +31,9 @@ const SLOT: usize = 57_344;
 
 const NO_MEMORY: &str = "there is no memory";
 
-fn content(alloc: Global) -> Result<Bytes, NoMemory> {
+fn copied(alloc: Global, content: &[u8]) -> Result<Bytes, NoMemory> {
     let mut bytes = Bytes::make(alloc);
-    bytes.extend_from_slice(alloc, &CONTENT)?;
+    bytes.extend_from_slice(alloc, content)?;
     Ok(bytes)
 }
 
@@ -49,7 +53,7 @@ fn all_records(alloc: Global) -> Result<Write, NoMemory> {
         let rec = Rec {
             number,
             key: Bytes::make(alloc),
-            content: content(alloc)?,
+            content: copied(alloc, &BEFORE)?,
         };
         recs.push(alloc, rec)?;
     }
@@ -60,7 +64,7 @@ fn all_records(alloc: Global) -> Result<Write, NoMemory> {
 fn updates(alloc: Global) -> Result<WriteList, NoMemory> {
     let mut writes = WriteList::make(alloc);
     for number in 1..=RECORDS {
-        let bytes = content(alloc)?;
+        let bytes = copied(alloc, &AFTER)?;
         writes.push(alloc, write_of(Kind::Update { number, bytes }))?;
     }
     Ok(writes)
@@ -118,8 +122,17 @@ fn micros(took: Duration) -> u64 {
     u64::try_from(took.as_micros()).unwrap_or(u64::MAX)
 }
 
-fn filled(bytes: &[u8]) -> usize {
+/// How many bytes of these an update or a move wrote.
+fn changed(bytes: &[u8]) -> usize {
     bytes.iter().filter(|byte| **byte == 0x5A).count()
+}
+
+fn changed_in_slots(slots: &[Slot]) -> usize {
+    let mut sum: usize = 0;
+    for slot in slots {
+        sum = sum.saturating_add(changed(slot.bytes()));
+    }
+    sum
 }
 
 fn run<R: Print + Eprint + Clock>(rt: &R, alloc: Global) -> Result<()> {
@@ -138,7 +151,8 @@ fn run<R: Print + Eprint + Clock>(rt: &R, alloc: Global) -> Result<()> {
     let rate = (UPDATES as u64).saturating_mul(1_000_000) / updating.max(1);
     let ratio = updating.saturating_mul(100) / moving.max(1);
     eprintln!(rt; "{rate} updates a second; {ratio} hundredths of the time of the moves")?;
-    println!(rt; "{UPDATES} updates; {} bytes moved", filled(&area))?;
+    let updated = changed_in_slots(slots.as_slice());
+    println!(rt; "{updated} bytes updated, {} moved", changed(&area))?;
     Ok(())
 }
 

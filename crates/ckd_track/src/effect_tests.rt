@@ -1,4 +1,4 @@
-//! What writes do to tracks: each write is done to a track, to a slot, and to a slot by its queue form.
+//! What writes do to tracks: to a track, to a slot, and to a slot by their queue form or by the fields of a delta.
 
 ghost use Rattle.std.specs.Prelude.{◌≡◌};
 
@@ -110,9 +110,28 @@ fn a_format_erases_what_stands_behind(rt: HostRuntime) -> Result<(), Fail> {
     let from_start = format(alloc, 0, record(alloc, 2, b"K", b"Q")?)?;
     let after = written(&rt, alloc, &THREE_RECORDS, from_start)?;
     assert_eq!(rt; after.as_slice(), [0, 1, 2, 1, 0, 1, b'K', b'Q'].as_slice());
-    let unknown = format(alloc, 7, record(alloc, 8, b"", b"Q")?)?;
-    let after = written(&rt, alloc, &THREE_RECORDS, unknown)?;
+    Ok(())
+}
+
+#[test]
+fn a_format_behind_an_unknown_record_leaves_the_track(rt: HostRuntime) -> Result<(), Fail> {
+    let alloc = rt.alloc();
+    let behind_all = format(alloc, 7, record(alloc, 8, b"", b"Q")?)?;
+    let after = written(&rt, alloc, &THREE_RECORDS, behind_all)?;
     assert_eq!(rt; after.as_slice(), THREE_RECORDS.as_slice());
+    let with_a_gap = [0, 2, 1, 0, 0, 1, b'A', 3, 0, 0, 1, b'C'];
+    let in_the_gap = format(alloc, 2, record(alloc, 3, b"", b"Q")?)?;
+    let after = written(&rt, alloc, &with_a_gap, in_the_gap)?;
+    assert_eq!(rt; after.as_slice(), with_a_gap.as_slice());
+    Ok(())
+}
+
+#[test]
+fn a_whole_track_replaces_the_track(rt: HostRuntime) -> Result<(), Fail> {
+    let alloc = rt.alloc();
+    let (track, _) = Track::decode_image(alloc, &ONE_RECORD)?;
+    let after = written(&rt, alloc, &THREE_RECORDS, Kind::Whole { track })?;
+    assert_eq!(rt; after.as_slice(), ONE_RECORD.as_slice());
     Ok(())
 }
 
@@ -137,13 +156,24 @@ fn image_of(rt: &impl Abort, alloc: Global, rec: Rec) -> Result<Bytes, Fail> {
     Ok(image)
 }
 
+/// Whether these are two records whose contents have these lengths.
+fn are_two(recs: &[Rec], first_length: usize, second_length: usize) -> bool {
+    match recs {
+        [first, second] => {
+            first.content.len() == first_length && second.content.len() == second_length
+        }
+        _ => false,
+    }
+}
+
 #[test]
 fn records_are_put_up_to_the_first_that_does_not_fit(rt: HostRuntime) -> Result<(), Fail> {
     let alloc = rt.alloc();
     let before = image_of(&rt, alloc, long_record(alloc, 1, 0, 50_000)?)?;
     let fills = format(alloc, 1, long_record(alloc, 2, 0, 6_648)?)?;
     let after = written(&rt, alloc, before.as_slice(), fills)?;
-    assert_eq!(rt; after.len(), 2 + 50_004 + 6_652);
+    let (both, _) = Track::decode_image(alloc, after.as_slice())?;
+    assert!(rt; are_two(both.recs(), 50_000, 6_648));
     let mut recs = RecList::make(alloc);
     recs.push(alloc, long_record(alloc, 2, 0, 6_649)?)?;
     recs.push(alloc, long_record(alloc, 3, 0, 0)?)?;
@@ -196,17 +226,77 @@ fn the_longest_writes(rt: HostRuntime) -> Result<(), Fail> {
 }
 
 #[test]
-fn an_update_has_its_queue_form(rt: HostRuntime) -> Result<(), Fail> {
+fn writes_that_break_a_rule(rt: HostRuntime) -> Result<(), Fail> {
     let alloc = rt.alloc();
-    let write = write_of(update(alloc, 1, b"Z")?);
+    let passes_the_capacity = format(alloc, 0, long_record(alloc, 1, 0, 56_657)?)?;
+    assert!(rt; !passes_the_capacity.keeps_rules());
+    let long_key = format(alloc, 0, long_record(alloc, 1, 256, 0)?)?;
+    assert!(rt; !long_key.keeps_rules());
+    let mut recs = RecList::make(alloc);
+    recs.push(alloc, record(alloc, 2, b"", b"")?)?;
+    recs.push(alloc, record(alloc, 2, b"", b"")?)?;
+    let equal_numbers = Kind::Format { after: 1, recs };
+    assert!(rt; !equal_numbers.keeps_rules());
+    Ok(())
+}
+
+/// The queue form of an update of record 1 with `Z`, of a write to track 3 with the stamp 6E.
+const UPDATE_FORM: [u8; 19] = [
+    2, 0, 0, 0, 0, 0, 0, 0, 0x6E, 0, 0, 0, 0, 0, 3, 1, 0, 1, b'Z',
+];
+
+/// The queue form of a format after 5 with record 7, key `K` and content `Q`, of the same write.
+const FORMAT_FORM: [u8; 23] = [
+    3, 0, 0, 0, 0, 0, 0, 0, 0x6E, 0, 0, 0, 0, 0, 3, 5, 1, 7, 1, 0, 1, b'K', b'Q',
+];
+
+/// The queue form of a whole track with one record, of the same write.
+const WHOLE_FORM: [u8; 23] = [
+    4, 0, 0, 0, 0, 0, 0, 0, 0x6E, 0, 0, 0, 0, 0, 3, 0, 1, 1, 0, 0, 2, b'A', b'B',
+];
+
+/// The write's queue form is these bytes, and what follows them stays.
+fn has_form(rt: &impl Abort, kind: Kind, form: &[u8]) {
+    let write = write_of(kind);
     assert!(rt; write.kind.keeps_rules());
-    assert_eq!(rt; entry_len(&write), 19);
-    let mut out = [0xEE; 21];
-    assert_eq!(rt; put_entry(&write, &mut out), 19);
-    let form = [
-        2, 0, 0, 0, 0, 0, 0, 0, 0x6E, 0, 0, 0, 0, 0, 3, 1, 0, 1, 0x5A, 0xEE, 0xEE,
-    ];
-    assert_eq!(rt; out, form);
+    let length = entry_len(&write) as usize;
+    assert_eq!(rt; length, form.len());
+    let mut out = [0xEE; 25];
+    assert!(rt; length <= out.len());
+    assert_eq!(rt; put_entry(&write, &mut out) as usize, length);
+    let (front, rest) = out.split_at(length);
+    assert_eq!(rt; front, form);
+    assert!(rt; rest.iter().all(|byte| *byte == 0xEE));
+}
+
+#[test]
+fn writes_have_their_queue_forms(rt: HostRuntime) -> Result<(), Fail> {
+    let alloc = rt.alloc();
+    has_form(&rt, update(alloc, 1, b"Z")?, &UPDATE_FORM);
+    let behind_five = format(alloc, 5, record(alloc, 7, b"K", b"Q")?)?;
+    has_form(&rt, behind_five, &FORMAT_FORM);
+    let (track, _) = Track::decode_image(alloc, &ONE_RECORD)?;
+    has_form(&rt, Kind::Whole { track }, &WHOLE_FORM);
+    Ok(())
+}
+
+#[test]
+fn queue_forms_are_applied(rt: HostRuntime) -> Result<(), Fail> {
+    let alloc = rt.alloc();
+    let mut slot = Slot::make(alloc)?;
+    slot.apply_entry(&WHOLE_FORM);
+    assert_eq!(rt; slot.bytes(), ONE_RECORD.as_slice());
+    slot.apply_entry(&UPDATE_FORM);
+    assert_eq!(rt; slot.bytes(), [0, 1, 1, 0, 0, 2, b'Z', 0].as_slice());
+    slot.apply_entry(&FORMAT_FORM);
+    assert_eq!(rt; slot.bytes(), [0, 1, 1, 0, 0, 2, b'Z', 0].as_slice());
+    let five = [0, 2, 5, 0, 0, 1, b'E', 6, 0, 0, 1, b'F'];
+    assert_eq!(rt; slot.load(&five), Ok(12));
+    slot.apply_entry(&FORMAT_FORM);
+    assert_eq!(rt;
+        slot.bytes(),
+        [0, 2, 5, 0, 0, 1, b'E', 7, 1, 0, 1, b'K', b'Q'].as_slice()
+    );
     Ok(())
 }
 

@@ -3,7 +3,7 @@
 ghost use Rattle.std.specs.Prelude.{◌≡◌, ◌≤◌, ◌<◌, ◌^◌, ◌+◌, ◌∷◌, [], ◌++◌, length, drop, IsTrue};
 ghost use Rattle.std.specs.Int.{w16, w32, w64, to_be_bytes};
 ghost use Rattle.ckd_track.specs.Effects.{keeps_rules, is_kind};
-ghost use Rattle.ckd_track.specs.Entries.{tag_of, kind_spelling, entry_spelling, queue_form};
+ghost use Rattle.ckd_track.specs.Entries.{tag_of, kind_spelling, entry_spelling, queue_form, longest_entry};
 ghost use Rattle.ckd_track.specs.Images.{longest_image};
 ghost use Rattle.ckd_track.specs.Slots.{with_bytes};
 
@@ -25,11 +25,13 @@ fn fields_len(kind: &Kind) -> usize
     }
 }
 
-/// The length of the write's entry in a trace of version 1, which is also that of its queue form.
+/// The length of the write's queue form, which is also that of its entry in a trace of version 1, where its cylinder has
+/// one there.
 pub fn entry_len(write: &Write) -> u32
     requires rules { IsTrue (keeps_rules write.now.kind) }
     ensures entry { result ≡ length (entry_spelling write.now) }
     ensures form { result ≡ length (queue_form write.now) }
+    ensures short { result ≤ longest_entry }
 {
     15 + fields_len(&write.kind) as u32
 }
@@ -88,7 +90,7 @@ fn put_fields(out: &mut [u8], place: usize, kind: &Kind) -> usize
 }
 
 /// Puts the write's queue form at the front of `out`, leaves the rest, and gives the form's length, which is `entry_len`.
-/// It hands on that the whole write keeps the rules, a whole track's records among them, as `Slot::apply_entry` asks.
+/// The write then keeps all rules that `Slot::apply_entry` asks for, those of a whole track's records among them.
 pub fn put_entry(write: &Write, out: &mut [u8]) -> u32
     requires rules { IsTrue (keeps_rules write.now.kind) }
     requires room { length (queue_form write.now) ≤ length out.old }

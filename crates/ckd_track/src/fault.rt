@@ -2,7 +2,7 @@
 
 use xrc_edge::NoMemory;
 
-/// The first fault in the order of the bytes.
+/// The first fault in the order of the bytes, or want of memory, which may come before any.
 #[derive(Clone, Copy, Debug, PartialEq, Eq)]
 pub enum ImageError {
     /// The bytes end within the image.

@@ -15,16 +15,17 @@ use crate::spelling::put_image;
 use crate::track::Track;
 use crate::write::{Kind, Write};
 use std::alloc::Global;
+use std::boxed::BoxedSlice;
 use std::marker::Model;
 use xrc_edge::NoMemory;
 
 /// The length of a slot's buffer.
 const SLOT_LENGTH: usize = 57_344;
 
-/// A buffer that is made once. Contracts see it as the track whose image it begins with.
+/// A buffer that is made once and cannot grow. Contracts see it as the track whose image it begins with.
 #[derive(Debug, Drop)]
 pub struct Slot {
-    buffer: Vec<u8>,
+    buffer: BoxedSlice<u8>,
     used: usize,
 }
 
@@ -35,18 +36,18 @@ impl Model for Slot {
 
     ghost Value = { List Rec };
 
-    ghost view = { λ slot. track_of (take slot.used slot.buffer.items) };
+    ghost view = { λ slot. track_of (take slot.used slot.buffer.items.items) };
 
-    ghost invariant = { λ slot. HoldsImage slot.used slot.buffer.items };
+    ghost invariant = { λ slot. HoldsImage slot.used slot.buffer.items.items };
 }
 
 /// That many zeros.
-fn zeros(alloc: Global, size: usize) -> Result<Vec<u8>, NoMemory>
+fn zeros(alloc: Global, size: usize) -> Result<BoxedSlice<u8>, NoMemory>
     requires { 2 ≤ size }
-    ensures sized { IfOk result (λ buffer. length buffer.items ≡ size) }
-    ensures front { IfOk result (λ buffer. take 2 buffer.items ≡ 0 ∷ 0 ∷ []) }
+    ensures sized { IfOk result (λ buffer. length buffer.items.items ≡ size) }
+    ensures front { IfOk result (λ buffer. take 2 buffer.items.items ≡ 0 ∷ 0 ∷ []) }
 {
-    Ok(vec![in alloc; 0u8; size]?)
+    Ok(vec![in alloc; 0u8; size]?.into_boxed_slice())
 }
 
 /// Writes bytes over the front of a buffer.
@@ -58,7 +59,7 @@ fn put_front(buffer: &mut [u8], bytes: &[u8])
 }
 
 impl Slot {
-    /// A slot with no record. Its buffer is all the memory that a slot ever takes.
+    /// A slot with no record, with a buffer of 57,344 bytes. No other call of a slot takes an allocator.
     pub fn make(alloc: Global) -> Result<Slot, NoMemory>
         ensures { IfOk result (λ slot. slot ≡ []) }
     {
@@ -189,7 +190,7 @@ impl Slot {
         self.apply_fields(head[0], fields);
     }
 
-    /// Does what the update or format does whose fields in a delta, from its tag on, the bytes are.
+    /// Does what an update or a format does, from its fields in a delta: a tag of 2 or 3, and the fields of the kind.
     pub fn apply_delta(&mut self, fields: &[u8])
         requires form { IsDelta fields.now }
         ensures { AppliesDelta fields.now self.old self.new }

@@ -1,4 +1,4 @@
-//! Images from outside, refused images, tracks at their limits, and each call that takes memory once.
+//! Images from outside, refused images, and tracks at their limits.
 
 use super::*;
 use crate::rec::copied_bytes;
@@ -114,6 +114,16 @@ fn refused_images(rt: HostRuntime) -> Result<(), Fail> {
     )?;
     refuses(&rt, alloc, &[0, 1, 1, 0, 0xDD, 0x51], ImageError::TooBig)?;
     refuses(&rt, alloc, &[1, 0], ImageError::Order(0))?;
+    Ok(())
+}
+
+#[test]
+fn cut_images_and_the_order_of_faults(rt: HostRuntime) -> Result<(), Fail> {
+    let alloc = rt.alloc();
+    refuses(&rt, alloc, &[0, 1, 1, 0, 0, 2, 0x41], ImageError::Short)?;
+    refuses(&rt, alloc, &[0, 1, 1, 2, 0, 0, 0x4B], ImageError::Short)?;
+    refuses(&rt, alloc, &[0, 1, 0, 0, 0], ImageError::Short)?;
+    refuses(&rt, alloc, &[0, 1, 0, 0, 0xDD, 0x51], ImageError::Order(2))?;
     Ok(())
 }
 

@@ -12,11 +12,12 @@ const LONGEST_UPDATE: usize = 56_656;
 /// What a write does to its track.
 #[derive(Debug, Drop)]
 pub enum Kind {
-    /// The content of the record with this number becomes the bytes, filled with zeros or cut to its length.
+    /// The content of the record with this number becomes the bytes, filled with zeros or cut to its length. Where no record
+    /// has the number the track stays.
     Update { number: u8, bytes: Bytes },
 
-    /// Records above `after` are erased, and these are put behind it, up to the first that doesn't fit. 0 stands for the
-    /// track's start.
+    /// Records above `after` are erased, and of these the ones before the first that doesn't fit are put behind it. 0 stands
+    /// for the track's start. Where another `after` isn't found the track stays.
     Format { after: u8, recs: RecList },
 
     /// The track is replaced.
@@ -52,7 +53,7 @@ pub struct Write {
 /// Writes in order.
 pub type WriteList = List<Write>;
 
-/// Writes of a control, and the time up to which they are all of its writes.
+/// The next writes of a control, in order. Every later one has a stamp above `upto`.
 #[derive(Debug, Drop)]
 pub struct Batch {
     pub control: u16,

@@ -1,5 +1,5 @@
 -- What is known of a plant over files: numbers, lengths, counts, and what is lent.
-use Rattle.std.specs.Prelude.{ℕ, Bool, true, false, List, []}
+use Rattle.std.specs.Prelude.{ℕ, Bool, true, false, List, [], map}
 use Rattle.crash_plant.specs.declared.file_disk.FileDisk.{FileDisk}
 use Rattle.crash_plant.specs.declared.file_plant.Shelf.{Shelf}
 use Rattle.crash_plant.specs.declared.file_plant.Shelf.TheVariants.{Here, Lent}
@@ -36,3 +36,7 @@ file_sight = record {
 
 abbrev pub file_state : (control state : FileDisk) (journals : List FileDisk) (volumes : List Shelf) (console_faults : ℕ) → PlantState
 file_state control state journals volumes console_faults = still (contents_of file_sight control state journals volumes [] [] [] console_faults)
+
+-- a plant of these disks, all of them here, with a console that never failed
+abbrev pub opened_state : (control state : FileDisk) (journals volumes : List FileDisk) → PlantState
+opened_state control state journals volumes = file_state control state journals (map (λ disk. Here disk) volumes) 0

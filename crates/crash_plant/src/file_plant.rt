@@ -1,6 +1,6 @@
 ghost use Rattle.std.specs.Prelude.{◌≡◌, ◌<◌, ◌^◌, vec_len, IfOk};
 ghost use Rattle.crash_plant.specs.Calls.{NoneLent};
-ghost use Rattle.crash_plant.specs.declared.device.Device.TheVariants.{Control, State};
+ghost use Rattle.crash_plant.specs.declared.device.Device.{Device};
 
 use crate::console::Console;
 use crate::{Device, Disk, FileDisk, Heard, Plant};
@@ -58,7 +58,7 @@ impl Shelf {
 }
 
 impl<R: Read + Drop, W: Write + Drop> FilePlant<R, W> {
-    ghost use Rattle.crash_plant.specs.FilePlant.{file_standing};
+    ghost use Rattle.crash_plant.specs.FilePlant.{opened_state};
 
     /// A plant of these disks, and a console of this input and output. No volume is lent.
     pub fn new(
@@ -72,8 +72,8 @@ impl<R: Read + Drop, W: Write + Drop> FilePlant<R, W> {
     ) -> Result<Self, NoMemory>
         requires few_journals { vec_len journals < 2 ^ 16 }
         requires few_volumes { vec_len volumes < 2 ^ 16 }
-        ensures control { IfOk result (λ plant. (⟦<FilePlant<R, W> as Plant>⟧.state plant).lengths Control ≡ (file_standing control).length_is) }
-        ensures state { IfOk result (λ plant. (⟦<FilePlant<R, W> as Plant>⟧.state plant).lengths State ≡ (file_standing state).length_is) }
+        ensures lengths { IfOk result (λ plant. (d : Device) → (⟦<FilePlant<R, W> as Plant>⟧.state plant).lengths d ≡ (opened_state control state journals.items volumes.items).lengths d) }
+        ensures faults { IfOk result (λ plant. (d : Device) → (⟦<FilePlant<R, W> as Plant>⟧.state plant).faults d ≡ (opened_state control state journals.items volumes.items).faults d) }
         ensures journals { IfOk result (λ plant. (⟦<FilePlant<R, W> as Plant>⟧.state plant).journals ≡ vec_len journals) }
         ensures volumes { IfOk result (λ plant. (⟦<FilePlant<R, W> as Plant>⟧.state plant).volumes ≡ vec_len volumes) }
         ensures console_faults { IfOk result (λ plant. (⟦<FilePlant<R, W> as Plant>⟧.state plant).console_faults ≡ 0) }

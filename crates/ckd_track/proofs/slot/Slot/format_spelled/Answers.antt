@@ -11,12 +11,12 @@ format_image_spelled-self-inside-requires-clause-holds c = subst (λ (t : List �
 pub invariant_of-self : goal.invariant_of-self
 invariant_of-self c =
     let done = c.format_image_spelled-self-inside in
-    let len : length done.new.buffer ≡ c.self.inside.buffer.len = omega (arith, c.as_mut_slice.ensures.len, ap length c.as_mut_slice.ensures.value, done.ensures.holds.sized, c.self.invariant.sized) in
-    subst (λ (t : List ℕ). HoldsImage done.result t) (sym (with_items_is c.self.inside.buffer done.new.buffer len)) done.ensures.holds
+    let len : length done.new.buffer ≡ c.self.inside.buffer.items.len = omega (arith, c.as_mut_slice.ensures.len, ap length c.as_mut_slice.ensures.value, done.ensures.holds.sized, c.self.invariant.sized) in
+    subst (λ (t : List ℕ). HoldsImage done.result t) (sym (with_items_is c.self.inside.buffer.items done.new.buffer len)) done.ensures.holds
 
 pub returns : goal.returns
 returns c =
     let done = c.format_image_spelled-self-inside in
-    let len : length done.new.buffer ≡ c.self.inside.buffer.len = omega (arith, c.as_mut_slice.ensures.len, ap length c.as_mut_slice.ensures.value, done.ensures.holds.sized, c.self.invariant.sized) in
-    ap (λ (t : List ℕ). track_of (take done.result t)) (with_items_is c.self.inside.buffer done.new.buffer len) ∙ done.ensures.seen
+    let len : length done.new.buffer ≡ c.self.inside.buffer.items.len = omega (arith, c.as_mut_slice.ensures.len, ap length c.as_mut_slice.ensures.value, done.ensures.holds.sized, c.self.invariant.sized) in
+    ap (λ (t : List ℕ). track_of (take done.result t)) (with_items_is c.self.inside.buffer.items done.new.buffer len) ∙ done.ensures.seen
     ∙ ap (λ (t : List ℕ). formatted c.args.after (spelled_records c.args.count c.args.given.now) (track_of (take c.self.inside.used t))) c.as_mut_slice.ensures.value ∙ ap (λ (t : List Rec). formatted c.args.after (spelled_records c.args.count c.args.given.now) t) c.self.view_is

@@ -17,12 +17,12 @@ put_image-self-inside-requires-clause-room c =
 
 pub invariant_of-self : goal.invariant_of-self
 invariant_of-self c =
-    let done = set_track c.recs.result.now c.args.track.now c.put_image-self-inside.result c.as_mut_slice.result.now c.self.inside.buffer.items c.put_image-self-inside.new.buffer c.recs.ensures.recs c.as_mut_slice.ensures.value c.self.invariant.sized c.recs.ensures.track (c.put_image-self-inside.ensures.bytes ∙ at_front (image c.recs.result.now) c.as_mut_slice.result.now) (c.put_image-self-inside.ensures.end ∙ zero_on (length (image c.recs.result.now))) in
-    let len : length c.put_image-self-inside.new.buffer ≡ c.self.inside.buffer.len = omega (arith, c.as_mut_slice.ensures.len, ap length c.as_mut_slice.ensures.value, done.holds.sized, c.self.invariant.sized) in
-    subst (λ (t : List ℕ). HoldsImage c.put_image-self-inside.result t) (sym (with_items_is c.self.inside.buffer c.put_image-self-inside.new.buffer len)) done.holds
+    let done = set_track c.recs.result.now c.args.track.now c.put_image-self-inside.result c.as_mut_slice.result.now c.self.inside.buffer.items.items c.put_image-self-inside.new.buffer c.recs.ensures.recs c.as_mut_slice.ensures.value c.self.invariant.sized c.recs.ensures.track (c.put_image-self-inside.ensures.bytes ∙ at_front (image c.recs.result.now) c.as_mut_slice.result.now) (c.put_image-self-inside.ensures.end ∙ zero_on (length (image c.recs.result.now))) in
+    let len : length c.put_image-self-inside.new.buffer ≡ c.self.inside.buffer.items.len = omega (arith, c.as_mut_slice.ensures.len, ap length c.as_mut_slice.ensures.value, done.holds.sized, c.self.invariant.sized) in
+    subst (λ (t : List ℕ). HoldsImage c.put_image-self-inside.result t) (sym (with_items_is c.self.inside.buffer.items c.put_image-self-inside.new.buffer len)) done.holds
 
 pub returns : goal.returns
 returns c =
-    let done = set_track c.recs.result.now c.args.track.now c.put_image-self-inside.result c.as_mut_slice.result.now c.self.inside.buffer.items c.put_image-self-inside.new.buffer c.recs.ensures.recs c.as_mut_slice.ensures.value c.self.invariant.sized c.recs.ensures.track (c.put_image-self-inside.ensures.bytes ∙ at_front (image c.recs.result.now) c.as_mut_slice.result.now) (c.put_image-self-inside.ensures.end ∙ zero_on (length (image c.recs.result.now))) in
-    let len : length c.put_image-self-inside.new.buffer ≡ c.self.inside.buffer.len = omega (arith, c.as_mut_slice.ensures.len, ap length c.as_mut_slice.ensures.value, done.holds.sized, c.self.invariant.sized) in
-    ap (λ (t : List ℕ). track_of (take c.put_image-self-inside.result t)) (with_items_is c.self.inside.buffer c.put_image-self-inside.new.buffer len) ∙ done.seen
+    let done = set_track c.recs.result.now c.args.track.now c.put_image-self-inside.result c.as_mut_slice.result.now c.self.inside.buffer.items.items c.put_image-self-inside.new.buffer c.recs.ensures.recs c.as_mut_slice.ensures.value c.self.invariant.sized c.recs.ensures.track (c.put_image-self-inside.ensures.bytes ∙ at_front (image c.recs.result.now) c.as_mut_slice.result.now) (c.put_image-self-inside.ensures.end ∙ zero_on (length (image c.recs.result.now))) in
+    let len : length c.put_image-self-inside.new.buffer ≡ c.self.inside.buffer.items.len = omega (arith, c.as_mut_slice.ensures.len, ap length c.as_mut_slice.ensures.value, done.holds.sized, c.self.invariant.sized) in
+    ap (λ (t : List ℕ). track_of (take c.put_image-self-inside.result t)) (with_items_is c.self.inside.buffer.items c.put_image-self-inside.new.buffer len) ∙ done.seen
