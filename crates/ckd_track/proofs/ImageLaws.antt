@@ -152,11 +152,11 @@ record_takes place last room (a ∷ b ∷ c ∷ d ∷ bytes) r rest fits e =
     taken_after_head place last room a b c d bytes r rest (fits 0) (fits 1) (fits 2) (fits 3) (λ i. fits (suc (suc (suc (suc i))))) g.1
 
 -- what the reader of some records took from the front
-record ManyTaken (last room count : ℕ) (bytes : List ℕ) (recs : List Rec) (rest : List ℕ) : Type 0 where
-  parts : bytes ≡ flat_map record_spelling recs ++ rest
-  rises : rises_above last recs ≡ true
-  fits : track_size recs ≤ room
-  number : length recs ≡ count
+pub record ManyTaken (last room count : ℕ) (bytes : List ℕ) (recs : List Rec) (rest : List ℕ) : Type 0 where
+  pub parts : bytes ≡ flat_map record_spelling recs ++ rest
+  pub rises : rises_above last recs ≡ true
+  pub fits : track_size recs ≤ room
+  pub number : length recs ≡ count
 
 behind_first : (first others rest behind bytes : List ℕ) → bytes ≡ first ++ behind → behind ≡ others ++ rest → bytes ≡ (first ++ others) ++ rest
 behind_first first others rest behind bytes e f = e ∙ ap (λ (t : List ℕ). first ++ t) f ∙ sym (append_assoc first others rest)
@@ -164,7 +164,7 @@ behind_first first others rest behind bytes e f = e ∙ ap (λ (t : List ℕ). f
 many_ok : (a b : List Rec × List ℕ) → (let x : Result (List Rec × List ℕ) ImageError = Ok a in let y : Result (List Rec × List ℕ) ImageError = Ok b in x ≡ y) → a ≡ b
 many_ok a b e = cc
 
-records_take : (count place last room : ℕ) (bytes : List ℕ) (recs : List Rec) (rest : List ℕ) → IsBytes bytes → records_at count place last room bytes ≡ Ok (recs, rest) → ManyTaken last room count bytes recs rest
+pub records_take : (count place last room : ℕ) (bytes : List ℕ) (recs : List Rec) (rest : List ℕ) → IsBytes bytes → records_at count place last room bytes ≡ Ok (recs, rest) → ManyTaken last room count bytes recs rest
 unfolding records_at
 records_take zero place last room bytes recs rest fits e =
     subst (λ (p : List Rec × List ℕ). ManyTaken last room 0 bytes p.0 p.1) (many_ok ([], bytes) (recs, rest) e) (record { parts = refl; rises = refl; fits = omega arith; number = refl })

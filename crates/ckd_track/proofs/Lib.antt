@@ -4,7 +4,6 @@ pub mod Steps
 pub mod TrackLaws
 pub mod Wants
 pub mod Puts
-pub mod TrackReads
 pub mod Walks
 pub mod Updates
 pub mod FrontLaws

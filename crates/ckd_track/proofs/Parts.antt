@@ -8,8 +8,8 @@ use Rattle.tod_stamp.specs.Fields.{IsBytes}
 use Rattle.ckd_track.specs.declared.fault.ImageError.{ImageError}
 use Rattle.ckd_track.specs.declared.rec.Rec.{Rec}
 use Rattle.ckd_track.specs.Tracks.{size, track_size, capacity, rises_above, IsTrack}
-use Rattle.ckd_track.specs.Images.{record_spelling, image, image_at, longest_image}
-use Rattle.ckd_track.proofs.ImageLaws.{both_true, image_again, image_taken}
+use Rattle.ckd_track.specs.Images.{record_spelling, image, records_at, image_at, longest_image}
+use Rattle.ckd_track.proofs.ImageLaws.{both_true, records_take, image_again, image_taken}
 use Rattle.ckd_track.specs.Reading.{left_of}
 use Rattle.ckd_track.specs.Slots.{records_of, track_of, IsImage, HoldsImage, slot_size}
 
@@ -80,6 +80,21 @@ read_track bytes rest track fits read =
     }
 
 -- the same where only the rest is known
+-- Records were read from the front of the bytes, and the rest follows their spellings.
+pub record AreRead (bytes rest : List ℕ) (recs : List Rec) : Type 0 where
+  pub shorter : length rest ≤ length bytes
+  pub size_is : length bytes - length rest ≡ length (flat_map record_spelling recs)
+  pub rest_is : rest ≡ drop (length bytes - length rest) bytes
+
+pub read_records : (count low : ℕ) (bytes rest : List ℕ) (recs : List Rec) → IsBytes bytes → records_at count 0 low capacity bytes ≡ Ok (recs, rest) → AreRead bytes rest recs
+read_records count low bytes rest recs fits read =
+    let taken = records_take count 0 low capacity bytes recs rest fits read in
+    let spelled = flat_map record_spelling recs in
+    let both = ap length taken.parts ∙ length-append spelled rest in
+    let n : length bytes - length rest ≡ length spelled = omega (arith, both) in
+    let back : drop (length spelled) bytes ≡ rest = ap (drop (length spelled)) taken.parts ∙ drop_at spelled rest _ refl in
+    record { shorter = omega (arith, both); size_is = n; rest_is = sym back ∙ ap (λ k. drop k bytes) (sym n) }
+
 pub read_image : (bytes rest : List ℕ) → IsBytes bytes → left_of (image_at bytes) ≡ Ok rest → IsRead bytes rest (track_of bytes)
 read_image bytes rest fits e = read_track bytes rest (track_of bytes) fits (left_ok (image_at bytes) rest e)
 

@@ -7,7 +7,7 @@ use Rattle.ckd_track.specs.declared.rec.Rec.{Rec}
 use Rattle.ckd_track.specs.Tracks.{size}
 use Rattle.ckd_track.specs.Images.{record_spelling, record_after_head, record_at, records_at}
 use Rattle.ckd_track.specs.declared.head.Head.{Head}
-use Rattle.ckd_track.specs.Heads.{head_at, head_size, head_length, first_record, IsFirst}
+use Rattle.ckd_track.specs.Heads.{head_at, head_size, head_length, record_of, first_record, IsFirst}
 use Rattle.ckd_track.specs.declared.fault.ImageError.{ImageError}
 use Rattle.ckd_track.specs.Reading.{left_of}
 
@@ -17,6 +17,10 @@ sizes_of_first bytes long =
     let kl = (head_at bytes).key_length in
     let dl = (head_at bytes).content_length in
     (omega (arith, length-take kl (drop 4 bytes), length-drop 4 bytes), omega (arith, length-take dl (drop kl (drop 4 bytes)), length-drop kl (drop 4 bytes), length-drop 4 bytes))
+
+-- the record of a head that stands there is the first
+pub record_is_first : (bytes : List ℕ) (room : ℕ) (head : Head) (rest : List ℕ) → IsFirst bytes room head rest → record_of head bytes ≡ first_record bytes
+record_is_first bytes room head rest is = ap (λ (h : Head). record_of h bytes) is.is_head
 
 -- the record at the front is read, where it keeps the rules
 first_is_read : (place last room : ℕ) (bytes : List ℕ) → last < (head_at bytes).number → head_size (head_at bytes) ≤ room → head_length (head_at bytes) ≤ length bytes

@@ -135,6 +135,24 @@ fn a_whole_track_replaces_the_track(rt: HostRuntime) -> Result<(), Fail> {
     Ok(())
 }
 
+#[test]
+fn the_empty_track_takes_writes(rt: HostRuntime) -> Result<(), Fail> {
+    let alloc = rt.alloc();
+    let empty = [0, 0];
+    let after = written(&rt, alloc, &empty, update(alloc, 1, b"Z")?)?;
+    assert_eq!(rt; after.as_slice(), empty.as_slice());
+    let from_start = format(alloc, 0, record(alloc, 1, b"", b"AB")?)?;
+    let after = written(&rt, alloc, &empty, from_start)?;
+    assert_eq!(rt; after.as_slice(), ONE_RECORD.as_slice());
+    let (none, _) = Track::decode_image(alloc, &empty)?;
+    let after = written(&rt, alloc, &THREE_RECORDS, Kind::Whole { track: none })?;
+    assert_eq!(rt; after.as_slice(), empty.as_slice());
+    let recs = RecList::make(alloc);
+    let after = written(&rt, alloc, &THREE_RECORDS, Kind::Format { after: 1, recs })?;
+    assert_eq!(rt; after.as_slice(), [0, 1, 1, 0, 0, 1, b'A'].as_slice());
+    Ok(())
+}
+
 fn filled(alloc: Global, length: usize) -> Result<Bytes, Fail> {
     Ok(copied_bytes(alloc, &vec![in alloc; 0x5Au8; length]?)?)
 }

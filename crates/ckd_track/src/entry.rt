@@ -1,6 +1,6 @@
 //! Entries of writes: how long they are, and the form in which they wait in a queue.
 
-ghost use Rattle.std.specs.Prelude.{◌≡◌, ◌≤◌, ◌<◌, ◌^◌, ◌+◌, ◌∷◌, [], ◌++◌, length, drop, IsTrue};
+ghost use Rattle.std.specs.Prelude.{◌≡◌, ◌≤◌, ◌<◌, ◌^◌, ◌+◌, ◌∷◌, [], ◌++◌, length, take, drop, OnOk, OnErr, IsTrue};
 ghost use Rattle.std.specs.Int.{w16, w32, w64, to_be_bytes};
 ghost use Rattle.ckd_track.specs.Effects.{keeps_rules, is_kind};
 ghost use Rattle.ckd_track.specs.Entries.{tag_of, kind_spelling, entry_spelling, queue_form, longest_entry};
@@ -8,9 +8,11 @@ ghost use Rattle.ckd_track.specs.Images.{longest_image};
 ghost use Rattle.ckd_track.specs.Slots.{with_bytes};
 
 use crate::recs::spelled_length;
-use crate::spelling::{put_bytes, put_image, put_records};
+use crate::spelling::{append_image, append_records, put_bytes, put_image, put_records};
 use crate::write::{Kind, Write};
 use byteorder::{BigEndian, ByteOrder};
+use std::alloc::Global;
+use xrc_edge::{Bytes, NoMemory};
 
 /// The length of the fields of a kind.
 fn fields_len(kind: &Kind) -> usize
@@ -36,22 +38,12 @@ pub fn entry_len(write: &Write) -> u32
     15 + fields_len(&write.kind) as u32
 }
 
-fn tag(kind: &Kind) -> u8
-    ensures { result ≡ tag_of kind.now }
-{
-    match kind {
-        Kind::Update { .. } => 2,
-        Kind::Format { .. } => 3,
-        Kind::Whole { .. } => 4,
-    }
-}
-
 /// The part of the queue form before the fields of the kind.
 fn form_head(write: &Write) -> [u8; 15]
     ensures { result ≡ tag_of write.now.kind ∷ [] ++ to_be_bytes w64 write.now.stamp.0 ++ to_be_bytes w16 write.now.volume ++ to_be_bytes w32 write.now.track }
 {
     let mut head = [0; 15];
-    head[0] = tag(&write.kind);
+    head[0] = write.kind.tag();
     BigEndian::write_u64(&mut head[1..], write.stamp.0);
     BigEndian::write_u16(&mut head[9..], write.volume);
     BigEndian::write_u32(&mut head[11..], write.track);
@@ -66,6 +58,52 @@ fn update_head(number: u8, count: usize) -> [u8; 3]
     let mut head = [number, 0, 0];
     BigEndian::write_u16(&mut head[1..], count as u16);
     head
+}
+
+/// Puts the fields of a kind behind other bytes. Want of memory may leave a part of them there.
+fn append_fields(alloc: Global, out: &mut Bytes, kind: &Kind) -> Result<(), NoMemory>
+    requires rules { IsTrue (keeps_rules kind.now) }
+    ensures ok { OnOk result (out.new ≡ out.old ++ kind_spelling kind.now) }
+    ensures kept { take (length out.old) out.new ≡ out.old }
+{
+    match kind {
+        Kind::Update { number, bytes } => {
+            out.extend_from_slice(alloc, &update_head(*number, bytes.len()))?;
+            out.extend_from_slice(alloc, bytes.as_slice())
+        }
+        Kind::Format { after, recs } => {
+            out.extend_from_slice(alloc, &[*after, recs.len() as u8])?;
+            append_records(alloc, out, recs.as_slice())
+        }
+        Kind::Whole { track } => append_image(alloc, out, track.recs()),
+    }
+}
+
+impl Kind {
+    /// The tag of a write of this kind, in an entry and in a queue form.
+    pub fn tag(&self) -> u8
+        ensures { result ≡ tag_of self.now }
+    {
+        match self {
+            Kind::Update { .. } => 2,
+            Kind::Format { .. } => 3,
+            Kind::Whole { .. } => 4,
+        }
+    }
+
+    /// Puts the fields of the kind, as they follow the track in an entry, behind the bytes of `out`.
+    pub fn encode_fields(&self, alloc: Global, out: &mut Bytes) -> Result<(), NoMemory>
+        requires rules { IsTrue (keeps_rules self.now) }
+        ensures ok { OnOk result (out.new ≡ out.old ++ kind_spelling self.now) }
+        ensures err { OnErr result (out.new ≡ out.old) }
+    {
+        let before = out.len();
+        let appended = append_fields(alloc, out, self);
+        if appended.is_err() {
+            out.truncate(before);
+        }
+        appended
+    }
 }
 
 /// Puts the fields of a kind at a place, and gives the place behind them.

@@ -17,6 +17,7 @@ mod spelling;
 mod track;
 mod write;
 
+pub use decoding::decode_records;
 pub use entry::{entry_len, put_entry};
 pub use fault::ImageError;
 pub use laws::{images_are_read, images_read_back, no_image_begins_another};

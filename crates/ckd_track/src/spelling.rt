@@ -43,6 +43,18 @@ fn append_record(alloc: Global, out: &mut Bytes, rec: &Rec) -> Result<(), NoMemo
     out.extend_from_slice(alloc, rec.content.as_slice())
 }
 
+/// Puts the spellings of records behind other bytes. Want of memory may leave a part of them there.
+pub fn append_records(alloc: Global, out: &mut Bytes, recs: &[Rec]) -> Result<(), NoMemory>
+    requires track { IsTrack recs.now }
+    ensures ok { OnOk result (out.new ≡ out.old ++ flat_map record_spelling recs.now) }
+    ensures kept { take (length out.old) out.new ≡ out.old }
+{
+    for rec in recs {
+        append_record(alloc, out, rec)?;
+    }
+    Ok(())
+}
+
 /// Puts the image of a track behind other bytes. Want of memory may leave a part of it there.
 pub fn append_image(alloc: Global, out: &mut Bytes, recs: &[Rec]) -> Result<(), NoMemory>
     requires track { IsTrack recs.now }
@@ -50,10 +62,7 @@ pub fn append_image(alloc: Global, out: &mut Bytes, recs: &[Rec]) -> Result<(), 
     ensures kept { take (length out.old) out.new ≡ out.old }
 {
     out.extend_from_slice(alloc, &count_bytes(recs))?;
-    for rec in recs {
-        append_record(alloc, out, rec)?;
-    }
-    Ok(())
+    append_records(alloc, out, recs)
 }
 
 /// Writes bytes at a place of a buffer, and gives the place behind them.

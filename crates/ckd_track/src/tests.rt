@@ -68,6 +68,17 @@ fn an_image_is_read(rt: HostRuntime) -> Result<(), Fail> {
 }
 
 #[test]
+fn an_image_is_read_from_the_bytes_of_a_slot(rt: HostRuntime) -> Result<(), Fail> {
+    let alloc = rt.alloc();
+    let mut bytes = vec![in alloc; 0xEEu8; 57_344]?;
+    bytes[..8].copy_from_slice(&ONE_RECORD);
+    let (track, length) = Track::decode_image(alloc, bytes.as_slice())?;
+    assert_eq!(rt; length, 8);
+    assert!(rt; is_one_record(track.recs()));
+    Ok(())
+}
+
+#[test]
 fn a_write_replaces_the_track(rt: HostRuntime) -> Result<(), Fail> {
     let alloc = rt.alloc();
     let write = Write {

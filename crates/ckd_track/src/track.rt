@@ -51,6 +51,14 @@ impl Track {
         }
     }
 
+    fn of_records(recs: Vec<Rec>) -> Track
+        requires track { IsTrack recs.items }
+        ensures { result ≡ recs.items }
+    {
+        let used = track_size(recs.as_slice()) as u32;
+        Track { recs, used }
+    }
+
     /// The records in order of their numbers.
     pub fn recs(&self) -> &[Rec]
         ensures recs { result.now ≡ self.now }
@@ -173,7 +181,7 @@ impl Track {
         ensures length { IfOk result (λ read. read.1 ≡ length (image read.0)) }
         ensures err { IfErr result (λ error. error ≢ ImageError.NoMemory → image_at bytes.now ≡ Err error) }
     {
-        let (track, rest) = decoded(alloc, bytes)?;
-        Ok((track, bytes.len() - rest.len()))
+        let (recs, rest) = decoded(alloc, bytes)?;
+        Ok((Track::of_records(recs.into_vec()), bytes.len() - rest.len()))
     }
 }

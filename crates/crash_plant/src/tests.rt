@@ -1,4 +1,4 @@
-ghost use Rattle.std.specs.Prelude.{◌≡◌, ◌<◌, IfOk};
+ghost use Rattle.std.specs.Prelude.{◌≡◌, ◌<◌, vec_len, IfOk};
 ghost use Rattle.crash_plant.specs.Calls.{IsThere, NoneLent};
 ghost use Rattle.crash_plant.specs.PlainPlant.{plain_state};
 ghost use Rattle.crash_plant.specs.MemoryPlant.{memory_state};
@@ -348,53 +348,92 @@ fn open<R: Files<File = File>>(rt: &R, name: &str, content: &[u8]) -> io::Result
     Ok(file)
 }
 
-fn open_disk<R: Files<File = File>>(rt: &R, name: &str) -> io::Result<FileDisk> {
-    Ok(FileDisk::new(open(rt, name, &[0; 32])?, 32))
+/// A disk over a file that is filled with this byte.
+fn open_disk<R: Files<File = File>>(rt: &R, name: &str, fill: u8) -> io::Result<FileDisk> {
+    Ok(FileDisk::new(open(rt, name, &[fill; 32])?, 32))
 }
+
+fn open_two<R: Files<File = File>>(
+    rt: &R,
+    alloc: Global,
+    first: (&str, u8),
+    second: (&str, u8),
+) -> io::Result<Vec<FileDisk>>
+    ensures { IfOk result (λ disks. vec_len disks ≡ 2) }
+{
+    let mut disks = Vec::new(alloc);
+    disks.push(open_disk(rt, first.0, first.1)?)?;
+    disks.push(open_disk(rt, second.0, second.1)?)?;
+    Ok(disks)
+}
+
+/// A device holds this word at its place.
+fn holds<P: Plant>(rt: &impl Abort, plant: &mut P, device: Device, expected: [u8; 4])
+    requires { NoneLent (P.state plant.old) }
+    ensures { NoneLent (P.state plant.new) }
+{
+    let mut word = [0; 4];
+    assert!(rt; read_at(rt, plant, device, PLACE, &mut word).is_ok());
+    assert_eq!(rt; word, expected);
+}
+
+/// The files of a plant, of equal lengths, and what each is filled with.
+const FILES: [(&str, Device, u8); 6] = [
+    ("control", Device::Control, b'0'),
+    ("state", Device::State, b'1'),
+    ("journal.0", Device::Journal(0), b'2'),
+    ("journal.1", Device::Journal(1), b'3'),
+    ("volume.0", Device::Volume(0), b'4'),
+    ("volume.1", Device::Volume(1), b'5'),
+];
 
 #[test]
 fn files_are_a_plant(rt: HostRuntime) -> io::Result<()> {
-    let names = [
-        "control",
-        "state",
-        "journal.0",
-        "volume.0",
-        "script",
-        "said",
-    ];
-    let mut journals = Vec::new(rt.alloc());
-    journals.push(open_disk(&rt, names[2])?)?;
-    let mut volumes = Vec::new(rt.alloc());
-    volumes.push(open_disk(&rt, names[3])?)?;
     let outcome = FilePlant::new(
         rt.alloc(),
-        open_disk(&rt, names[0])?,
-        open_disk(&rt, names[1])?,
-        journals,
-        volumes,
-        open(&rt, names[4], b"h")?,
-        open(&rt, names[5], b"")?,
+        open_disk(&rt, "control", b'0')?,
+        open_disk(&rt, "state", b'1')?,
+        open_two(&rt, rt.alloc(), ("journal.0", b'2'), ("journal.1", b'3'))?,
+        open_two(&rt, rt.alloc(), ("volume.0", b'4'), ("volume.1", b'5'))?,
+        open(&rt, "script", b"h")?,
+        open(&rt, "said", b"")?,
     );
     let mut plant = outcome.expect(&rt, "memory");
-    for device in [
-        Device::Control,
-        Device::State,
-        Device::Journal(0),
-        Device::Volume(0),
-    ] {
-        let mut word = [9; 4];
+    for (_, device, fill) in FILES {
+        holds(&rt, &mut plant, device, [fill; 4]);
+    }
+    for (name, device, fill) in FILES {
         assert!(rt; perform(&rt, &mut plant, Call::Write(device)).is_ok());
         assert!(rt; perform(&rt, &mut plant, Call::Sync(device)).is_ok());
-        assert!(rt; read_at(&rt, &mut plant, device, PLACE, &mut word).is_ok());
-        assert_eq!(rt; word, WORD);
+        holds(&rt, &mut plant, device, WORD);
+        let mut content = [fill; 32];
+        content[5..9].copy_from_slice(&WORD);
+        assert!(rt; fs::read(&rt, name)?.as_slice() == content.as_slice());
+        fs::remove_file(&rt, name)?;
     }
-    assert!(rt; perform(&rt, &mut plant, Call::Lent(0)).is_ok());
+    assert!(rt; perform(&rt, &mut plant, Call::Lent(1)).is_ok());
     assert_eq!(rt; plant.hear(), Ok(Heard::Byte(b'h')));
     assert_eq!(rt; plant.hear(), Ok(Heard::End));
     assert_eq!(rt; plant.say(b"WXYZ"), Ok(()));
     assert!(rt; fs::read(&rt, "said")?.as_slice() == WORD.as_slice());
-    for name in names {
-        fs::remove_file(&rt, name)?;
-    }
-    Ok(())
+    fs::remove_file(&rt, "script")?;
+    fs::remove_file(&rt, "said")
+}
+
+#[test]
+fn a_console_alone_is_a_plant(rt: HostRuntime) -> io::Result<()> {
+    let outcome = FilePlant::new(
+        rt.alloc(),
+        FileDisk::absent(),
+        FileDisk::absent(),
+        Vec::new(rt.alloc()),
+        Vec::new(rt.alloc()),
+        open(&rt, "script", b"")?,
+        open(&rt, "said", b"")?,
+    );
+    let plant = outcome.expect(&rt, "memory");
+    assert_eq!(rt; plant.volumes(), 0);
+    assert_eq!(rt; plant.journals(), 0);
+    fs::remove_file(&rt, "script")?;
+    fs::remove_file(&rt, "said")
 }

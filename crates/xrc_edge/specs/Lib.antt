@@ -1,3 +1,4 @@
+pub mod Order
 pub mod Causes
 pub mod MemorySources
 pub mod Pulls

@@ -82,6 +82,13 @@ impl<T> List<T> {
         self.items.get(place)
     }
 
+    /// The items as a vector.
+    pub fn into_vec(self) -> Vec<T>
+        ensures { result.items ≡ self }
+    {
+        self.items
+    }
+
     /// The items in order.
     pub fn as_slice(&self) -> &[T]
         ensures { result.now ≡ self.now }

@@ -1,0 +1,22 @@
+-- Room: the records and the blocks of 512 bytes that entries take, and those that are free.
+use Rattle.std.specs.Prelude.{ℕ, ◌+◌, ◌/◌, ◌&&◌, List, length, sum_by, Bool, nat_le}
+use Rattle.ckd_track.specs.declared.write.Write.{Write}
+use Rattle.ckd_track.specs.Entries.{queue_form}
+use Rattle.pending_queue.specs.declared.room.Room.{Room}
+use Rattle.pending_queue.specs.Entries.{WaitingEntry}
+
+-- the length in blocks of 512 bytes, rounded up
+abbrev pub blocks_of : (length : ℕ) → ℕ
+blocks_of len = (len + 511) / 512
+
+-- the blocks that writes need as entries
+abbrev pub blocks_needed : List Write → ℕ
+blocks_needed writes = sum_by (λ write. blocks_of (length (queue_form write))) writes
+
+-- the blocks that entries take
+abbrev pub blocks_taken : List WaitingEntry → ℕ
+blocks_taken entries = sum_by (λ entry. blocks_of (length entry.form)) entries
+
+-- whether there are records and blocks enough for the writes
+abbrev pub has_room : Room → List Write → Bool
+has_room room writes = nat_le (length writes) room.records && nat_le (blocks_needed writes) room.blocks

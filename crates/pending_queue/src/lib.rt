@@ -1,0 +1,22 @@
+//! Writes of a control that wait in a queue until a group is formed, and the groups that are formed of them.
+#![tactic(auto)]
+
+mod entry;
+mod formed;
+mod head;
+mod laws;
+mod moving;
+mod queue;
+mod room;
+
+pub use formed::Formed;
+pub use head::EntryHead;
+pub use laws::{
+    controls_may_be_popped_apart, each_entry_once, groups_are_in_order, groups_grow,
+    groups_keep_entries, groups_keep_positions, groups_of_some, none_due_is_left,
+};
+pub use queue::Queue;
+pub use room::{PushError, Room};
+
+#[cfg(test)]
+mod tests;

@@ -1,0 +1,14 @@
+pub mod Local
+pub mod LocalImages
+pub mod LocalEntries
+pub mod Turns
+pub mod Steps
+pub mod LocalHeaders
+pub mod Collects
+pub mod RunLaws
+pub mod TurnLaws
+pub mod FirstTurns
+pub mod HandLaws
+pub mod UpTo
+pub mod TraceLaws
+pub mod HandoverLaws

@@ -1,0 +1,11 @@
+pub mod Runs
+pub mod Breaks
+pub mod Halts
+pub mod Hands
+pub mod Ahead
+pub mod Exact
+pub mod Looks
+pub mod States
+pub mod Turns
+pub mod Laws
+pub mod Handovers

@@ -1,0 +1,34 @@
+-- The runs of a trace's good entries.
+use Rattle.std.specs.Prelude.{◌≡◌, ℕ, ◌==◌, List, [], ◌∷◌, length, Bool, nat_lt, if◌then◌else◌}
+use Rattle.std.specs.List.{flat_map}
+use Rattle.trace_grammar.specs.declared.entry.Entry.{Entry}
+use Rattle.trace_grammar.specs.Entries.{stamp_of}
+use Rattle.trace_grammar.specs.Writes.{writes_of}
+
+-- the stamp of a run, which is that of its first entry
+abbrev pub run_stamp : List Entry → ℕ
+run_stamp [] = 0
+run_stamp (e ∷ run) = stamp_of e
+
+-- An entry goes to the front of the run of its stamp, or begins a run.
+abbrev pub with_first : Entry → List (List Entry) → List (List Entry)
+with_first e [] = (e ∷ []) ∷ []
+with_first e (run ∷ runs) = if stamp_of e == run_stamp run then (e ∷ run) ∷ runs else (e ∷ []) ∷ run ∷ runs
+
+-- A run is a maximal row of entries with one stamp. These are the runs of a list of entries, in order.
+abbrev pub runs : List Entry → List (List Entry)
+runs [] = []
+runs (e ∷ entries) = with_first e (runs entries)
+
+-- A run has room for 32 writes; idle entries don't count.
+abbrev pub quota : ℕ
+quota = 32
+
+abbrev pub is_crowded : List Entry → Bool
+is_crowded run = nat_lt quota (length (writes_of run))
+
+-- ---- the law
+
+-- The runs in a row are the entries.
+abbrev pub RunsAreAll : Type 0
+RunsAreAll = (entries : List Entry) → flat_map (λ run. run) (runs entries) ≡ entries

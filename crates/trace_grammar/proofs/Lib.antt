@@ -1,0 +1,10 @@
+pub mod Keeping
+pub mod FieldSteps
+pub mod EntryReads
+pub mod FieldsAgain
+pub mod EntryAgain
+pub mod HeaderReads
+pub mod BaseCounts
+pub mod HeaderAgain
+pub mod EntryRows
+pub mod Longest

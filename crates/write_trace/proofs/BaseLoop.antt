@@ -1,0 +1,210 @@
+-- Reading base track after base track over a source, and a header from its parts.
+use Rattle.std.proofs.Common.{◌≡◌, ℕ, suc, ◌+◌, ◌-◌, ◌<◌, ◌≤◌, Bool, true, false, ◌||◌, nat_le, List, [], ◌∷◌, ◌++◌, length, sum_by, Option, None, Result, Ok, Err, refl, sym, ap, subst, ◌∙◌, append_assoc, arith, length-append}
+use Rattle.std.specs.Prelude.{bytes_eq, slice_index}
+use Rattle.std.specs.Int.{w16, w32}
+use Rattle.std.proofs.lemmas.Bool.{le-leb}
+use Rattle.std.proofs.lemmas.List.{append-nil}
+use Rattle.std.proofs.lemmas.Slice.Eq.{bytes_eq-Decides}
+use Rattle.xrc_edge.specs.Causes.{Rose}
+use Rattle.tod_stamp.specs.Fields.{◌>>=◌, Left, Bad, bytes_at, number_at, within}
+use Rattle.tod_stamp.proofs.FieldLaws.{bind_ok}
+use Rattle.ckd_track.specs.Tracks.{IsTrack}
+use Rattle.trace_grammar.specs.declared.header.VolumeHead.{VolumeHead}
+use Rattle.trace_grammar.specs.declared.header.Header.{Header}
+use Rattle.trace_grammar.specs.declared.trace.HeaderError.{HeaderError}
+use Rattle.trace_grammar.specs.declared.trace.HeaderError.TheVariants.{BadHeader, HeaderFault, NoMemory}
+use Rattle.trace_grammar.specs.Headers.{Base, mark, is_mark, tracks_of, has_track, is_from, are_volumes, are_bases, is_header_of, version_at, volumes_at, base_at, bases_at, header_at}
+use Rattle.trace_grammar.specs.Good.{whole_trace}
+use Rattle.trace_grammar.proofs.FieldSteps.{and_true}
+use Rattle.write_trace.specs.Unread.{unread, seen}
+use Rattle.write_trace.specs.Answers.{ReaderState}
+use Rattle.write_trace.specs.Starts.{ReadsHeader, Starts}
+use Rattle.write_trace.specs.Reached.{Reader, Reach, Reached, ReadsPart}
+use Rattle.write_trace.specs.HeaderParts.{head_at}
+use Rattle.write_trace.proofs.HeaderSteps.{bytes_keep}
+
+-- readers that give the same
+pub reached_same : (start now : Option (List ℕ)) (remains others : Reader) (held : Left) → ((left : Left) → remains left ≡ others left) → Reached start now remains held → Reached start now others held
+reached_same start now remains others held same reached bytes told =
+    let r = reached bytes told in
+    record { left = r.left; told = r.told; given = r.given; all = r.all; long = r.long; reads = λ more. r.reads more ∙ same (seen held.place (held.bytes ++ more)) }
+
+-- ---- base track after base track
+
+-- base tracks that were read before, and what remains behind the others
+abbrev pub behind_bases : List Base → (List Base × Left → Result (Header × Left) Bad) → List Base × Left → Result (Header × Left) Bad
+behind_bases front remains x = remains (front ++ x.0, x.1)
+
+-- where so many of the base tracks were read, what remained behind all remains behind the others
+abbrev pub ReadsOn : (before now : Option (List ℕ)) → List VolumeHead → (many count : ℕ) → (low : ℕ × ℕ) → List Base → (old new : Left) → Type 0
+ReadsOn before now volumes many count low front old new = (start : Option (List ℕ)) (remains : List Base × Left → Result (Header × Left) Bad) → Reached start before (λ left. bases_at 1 volumes many (0, 0) left >>= remains) old
+    → Reached start now (λ left. bases_at 1 volumes count low left >>= behind_bases front remains) new
+
+pub reads_none : (before : Option (List ℕ)) (volumes : List VolumeHead) (many count : ℕ) (front : List Base) (old : Left) → count ≡ many → front ≡ [] → ReadsOn before before volumes many count (0, 0) front old old
+reads_none before volumes many count front old all none start remains reached =
+    subst (λ n. Reached start before (λ left. bases_at 1 volumes n (0, 0) left >>= behind_bases front remains) old) (sym all)
+    (subst (λ (f : List Base). Reached start before (λ left. bases_at 1 volumes many (0, 0) left >>= behind_bases f remains) old) (sym none) reached)
+
+-- what remains behind the next base track
+abbrev behind_base : List VolumeHead → (count : ℕ) → List Base → (List Base × Left → Result (Header × Left) Bad) → Base × Left → Result (Header × Left) Bad
+behind_base volumes count front remains first = (bases_at 1 volumes count (first.0.0, first.0.1 + 1) first.1 >>= λ others. Ok (first.0 ∷ others.0, others.1)) >>= behind_bases front remains
+
+next_base : (volumes : List VolumeHead) (count : ℕ) (low : ℕ × ℕ) (front : List Base) (remains : List Base × Left → Result (Header × Left) Bad) (left : Left)
+    → (bases_at 1 volumes (suc count) low left >>= behind_bases front remains) ≡ (base_at 1 volumes low left >>= behind_base volumes count front remains)
+unfolding bases_at
+next_base volumes count low front remains left = choose (base_at 1 volumes low left)
+  where
+    choose : (r : Result (Base × Left) Bad) → ((r >>= λ first. bases_at 1 volumes count (first.0.0, first.0.1 + 1) first.1 >>= λ others. Ok (first.0 ∷ others.0, others.1)) >>= behind_bases front remains) ≡ (r >>= behind_base volumes count front remains)
+    choose (Ok x) = refl
+    choose (Err e) = refl
+
+one_more : (front : List Base) (b : Base) (remains : List Base × Left → Result (Header × Left) Bad) (r : Result (List Base × Left) Bad)
+    → ((r >>= λ others. Ok (b ∷ others.0, others.1)) >>= behind_bases front remains) ≡ (r >>= behind_bases (front ++ b ∷ []) remains)
+one_more front b remains (Ok x) = ap (λ (t : List Base). remains (t, x.1)) (sym (append_assoc front (b ∷ []) x.0))
+one_more front b remains (Err e) = refl
+
+pub reads_next : (before now next : Option (List ℕ)) (volumes : List VolumeHead) (many i : ℕ) (low : ℕ × ℕ) (front : List Base) (faults risen : ℕ) (old mid new : Left) (b : Base) → i < many
+    → ReadsOn before now volumes many (many - i) low front old mid → ReadsPart (base_at 1 volumes low) now next faults risen mid new (Ok b) → ReadsOn before next volumes many (many - (i + 1)) (b.0, b.1 + 1) (front ++ b ∷ []) old new
+reads_next before now next volumes many i low front faults risen old mid new b lt on part start remains reached =
+    let count = many - (i + 1) in
+    let k : many - i ≡ suc count = omega arith in
+    let here : Reached start now (λ left. base_at 1 volumes low left >>= behind_base volumes count front remains) mid =
+    reached_same start now (λ left. bases_at 1 volumes (suc count) low left >>= behind_bases front remains) (λ left. base_at 1 volumes low left >>= behind_base volumes count front remains) mid (next_base volumes count low front remains)
+    (subst (λ n. Reached start now (λ left. bases_at 1 volumes n low left >>= behind_bases front remains) mid) k (on start remains reached)) in
+    reached_same start next (λ left. behind_base volumes count front remains (b, left)) (λ left. bases_at 1 volumes count (b.0, b.1 + 1) left >>= behind_bases (front ++ b ∷ []) remains) new
+    (λ left. one_more front b remains (bases_at 1 volumes count (b.0, b.1 + 1) left)) (part.0 start (behind_base volumes count front remains) here)
+
+pub reads_ends : (before now next : Option (List ℕ)) (volumes : List VolumeHead) (many i : ℕ) (low : ℕ × ℕ) (front : List Base) (faults risen after : ℕ) (old mid new : Left) (error : HeaderError) → i < many → risen ≡ faults
+    → ReadsOn before now volumes many (many - i) low front old mid → ReadsPart (base_at 1 volumes low) now next risen after mid new (Err error) → ReadsPart (bases_at 1 volumes many (0, 0)) before next faults after old new (Err error)
+reads_ends before now next volumes many i low front faults risen after old mid new error lt same on part = choose error part
+  where
+    here : (start : Option (List ℕ)) (remains : List Base × Left → Result (Header × Left) Bad) → Reached start before (λ left. bases_at 1 volumes many (0, 0) left >>= remains) old → Reached start now (λ left. base_at 1 volumes low left >>= behind_base volumes (many - (i + 1)) front remains) mid
+    here start remains reached =
+        let count = many - (i + 1) in
+        let k : many - i ≡ suc count = omega arith in
+        reached_same start now (λ left. bases_at 1 volumes (suc count) low left >>= behind_bases front remains) (λ left. base_at 1 volumes low left >>= behind_base volumes count front remains) mid (next_base volumes count low front remains)
+        (subst (λ n. Reached start now (λ left. bases_at 1 volumes n low left >>= behind_bases front remains) mid) k (on start remains reached))
+
+    choose : (e : HeaderError) → ReadsPart (base_at 1 volumes low) now next risen after mid new (Err e) → ReadsPart (bases_at 1 volumes many (0, 0)) before next faults after old new (Err e)
+    choose (BadHeader place) p = (λ start remains reached. p.0 start (behind_base volumes (many - (i + 1)) front remains) (here start remains reached), p.1 ∙ same)
+    choose HeaderFault p = (λ start remains reached. p.0 start (behind_base volumes (many - (i + 1)) front remains) (here start remains reached), subst (λ n. Rose n after) same p.1)
+    choose NoMemory p = p ∙ same
+
+pub reads_all : (before now : Option (List ℕ)) (volumes : List VolumeHead) (many i : ℕ) (low : ℕ × ℕ) (front : List Base) (faults risen : ℕ) (old mid : Left) → many ≤ i → risen ≡ faults
+    → ReadsOn before now volumes many (many - i) low front old mid → ReadsPart (bases_at 1 volumes many (0, 0)) before now faults risen old mid (Ok front)
+unfolding bases_at
+reads_all before now volumes many i low front faults risen old mid le same on = (λ start remains reached. done start remains (on start remains reached), same)
+  where
+    k : many - i ≡ 0
+    k = omega arith
+
+    last : (remains : List Base × Left → Result (Header × Left) Bad) (left : Left) → (bases_at 1 volumes (many - i) low left >>= behind_bases front remains) ≡ remains (front, left)
+    last remains left = rw k (ap (λ (t : List Base). remains (t, left)) (append-nil front))
+
+    done : (start : Option (List ℕ)) (remains : List Base × Left → Result (Header × Left) Bad) → Reached start now (λ left. bases_at 1 volumes (many - i) low left >>= behind_bases front remains) mid → Reached start now (λ left. remains (front, left)) mid
+    done start remains reached = reached_same start now (λ left. bases_at 1 volumes (many - i) low left >>= behind_bases front remains) (λ left. remains (front, left)) mid (last remains) reached
+
+-- ---- the rules of base tracks in a row
+
+-- base tracks that may stand before any that may stand from a place on
+abbrev pub KeepsFront : List VolumeHead → (low : ℕ × ℕ) → List Base → Type 0
+KeepsFront volumes low front = (rest : List Base) → are_bases volumes low rest ≡ true → are_bases volumes (0, 0) (front ++ rest) ≡ true
+
+pub keeps_none : (volumes : List VolumeHead) (front : List Base) → front ≡ [] → KeepsFront volumes (0, 0) front
+keeps_none volumes front none rest is = ap (λ (f : List Base). are_bases volumes (0, 0) (f ++ rest)) none ∙ is
+
+pub keeps_next : (volumes : List VolumeHead) (low : ℕ × ℕ) (front : List Base) (b : Base) → has_track volumes b.0 b.1 ≡ true → is_from low (b.0, b.1) ≡ true → IsTrack b.2 → KeepsFront volumes low front → KeepsFront volumes (b.0, b.1 + 1) (front ++ b ∷ [])
+keeps_next volumes low front b there from track keeps rest is =
+    ap (are_bases volumes (0, 0)) (append_assoc front (b ∷ []) rest) ∙ keeps (b ∷ rest) (and_true _ _ (and_true _ _ (and_true _ _ there from) track) is)
+
+pub keeps_all : (volumes : List VolumeHead) (low : ℕ × ℕ) (front : List Base) → KeepsFront volumes low front → are_bases volumes (0, 0) front ≡ true
+keeps_all volumes low front keeps = ap (are_bases volumes (0, 0)) (sym (append-nil front)) ∙ keeps [] refl
+
+-- ---- a header from its parts
+
+-- what remains of a header behind its head
+abbrev pub behind_head : (List VolumeHead × ℕ) × Left → Result (Header × Left) Bad
+behind_head head = bases_at 1 head.0.0 head.0.1 (0, 0) head.1 >>= λ base. Ok (record { version = 1; volumes = head.0.0; base = base.0 }, base.1)
+
+mark_is_first : (left : Left) (x : ℕ × Left) → version_at 1 left ≡ Ok x → x.0 ≡ 1
+unfolding version_at
+mark_is_first left x e =
+    let a = bind_ok (bytes_at 4 (is_mark 1) left) (λ m. Ok (slice_index m.0 3 - 48, m.1)) x e in
+    let rule : bytes_eq a.0.0 (mark 1) ≡ true = only (bytes_eq a.0.0 (mark 1)) (bytes_keep 4 (is_mark 1) left a.0 a.1) in
+    sym (first_is (slice_index a.0.0 3 - 48, a.0.1) x a.2) ∙ ap (λ (m : List ℕ). slice_index m 3 - 48) ((bytes_eq-Decides a.0.0 (mark 1)).0 rule)
+  where
+    only : (b : Bool) → (b || false) ≡ true → b ≡ true
+    only true h = refl
+    only false h = h
+
+    first_is : (a b : ℕ × Left) → (let p : Result (ℕ × Left) Bad = Ok a in let q : Result (ℕ × Left) Bad = Ok b in p ≡ q) → a.0 ≡ b.0
+    first_is a b e = cc
+
+abbrev many_at : List VolumeHead → Left → Result (ℕ × Left) Bad
+many_at volumes left = number_at w32 (λ n. nat_le n (sum_by tracks_of volumes)) left
+
+many_part : (volumes : List VolumeHead) (r : Result (ℕ × Left) Bad) → (r >>= λ many. bases_at 1 volumes many.0 (0, 0) many.1 >>= λ base. Ok (record { version = 1; volumes = volumes; base = base.0 }, base.1)) ≡ ((r >>= λ many. Ok ((volumes, many.0), many.1)) >>= behind_head)
+many_part volumes (Ok x) = refl
+many_part volumes (Err e) = refl
+
+volumes_part : (r : Result (List VolumeHead × Left) Bad)
+    → (r >>= λ volumes. many_at volumes.0 volumes.1 >>= λ many. bases_at 1 volumes.0 many.0 (0, 0) many.1 >>= λ base. Ok (record { version = 1; volumes = volumes.0; base = base.0 }, base.1))
+    ≡ ((r >>= λ volumes. many_at volumes.0 volumes.1 >>= λ many. Ok ((volumes.0, many.0), many.1)) >>= behind_head)
+volumes_part (Ok x) = many_part x.0 (many_at x.0 x.1)
+volumes_part (Err e) = refl
+
+count_part : (r : Result (ℕ × Left) Bad)
+    → (r >>= λ count. volumes_at 1 count.0 [] count.1 >>= λ volumes. many_at volumes.0 volumes.1 >>= λ many. bases_at 1 volumes.0 many.0 (0, 0) many.1 >>= λ base. Ok (record { version = 1; volumes = volumes.0; base = base.0 }, base.1))
+    ≡ ((r >>= λ count. volumes_at 1 count.0 [] count.1 >>= λ volumes. many_at volumes.0 volumes.1 >>= λ many. Ok ((volumes.0, many.0), many.1)) >>= behind_head)
+count_part (Ok x) = volumes_part (volumes_at 1 x.0 [] x.1)
+count_part (Err e) = refl
+
+abbrev behind_mark : (version : ℕ) → Left → Result (Header × Left) Bad
+behind_mark version left = number_at w16 (within 1 32) left >>= λ count. volumes_at version count.0 [] count.1 >>= λ volumes. many_at volumes.0 volumes.1 >>= λ many. bases_at version volumes.0 many.0 (0, 0) many.1 >>= λ base. Ok (record { version = version; volumes = volumes.0; base = base.0 }, base.1)
+
+abbrev head_behind_mark : Left → Result ((List VolumeHead × ℕ) × Left) Bad
+head_behind_mark left = number_at w16 (within 1 32) left >>= λ count. volumes_at 1 count.0 [] count.1 >>= λ volumes. many_at volumes.0 volumes.1 >>= λ many. Ok ((volumes.0, many.0), many.1)
+
+mark_part : (r : Result (ℕ × Left) Bad) → ((x : ℕ × Left) → r ≡ Ok x → x.0 ≡ 1) → (r >>= λ version. behind_mark version.0 version.1) ≡ ((r >>= λ version. head_behind_mark version.1) >>= behind_head)
+mark_part (Ok x) first = ap (λ v. behind_mark v x.1) (first x refl) ∙ count_part (number_at w16 (within 1 32) x.1)
+mark_part (Err e) first = refl
+
+-- A header is its head, and then its base tracks.
+pub header_parts : (left : Left) → header_at 1 left ≡ (head_at left >>= behind_head)
+unfolding header_at head_at
+header_parts left = mark_part (version_at 1 left) (mark_is_first left)
+
+-- At the start nothing was given, and all remains.
+pub at_start : (before : Option (List ℕ)) (held : Left) → held ≡ record { place = 0; bytes = [] } → Reached before before (λ left. head_at left >>= behind_head) held
+at_start before held is bytes told = subst (λ (l : Left). Reach before (λ left. head_at left >>= behind_head) l bytes) (sym is) (record {
+  left = bytes;
+  told = told;
+  given = [];
+  all = refl;
+  long = refl;
+  reads = λ more. header_parts (seen 0 more);
+})
+
+pub keeps_header : (volumes : List VolumeHead) (base : List Base) → 1 ≤ length volumes → length volumes ≤ 32 → are_volumes 1 [] volumes ≡ true → are_bases volumes (0, 0) base ≡ true → is_header_of 1 (record { version = 1; volumes = volumes; base = base }) ≡ true
+keeps_header volumes base some few rules bases = and_true _ _ (and_true _ _ (and_true (nat_le 1 (length volumes)) (nat_le (length volumes) 32) (le-leb _ _ some) (le-leb _ _ few)) rules) bases
+
+-- the whole header was read
+pub started : (before now : Option (List ℕ)) (volumes copy : List VolumeHead) (base : List Base) (held window : Left) (reader : ReaderState) → copy ≡ volumes → window ≡ held → Reached before now (λ left. Ok (record { version = 1; volumes = volumes; base = base }, left)) held
+    → reader ≡ record { volumes = copy; last = 0; left = window; stopped = None } → is_header_of 1 (record { version = 1; volumes = volumes; base = base }) ≡ true → ReadsHeader before now (record { version = 1; volumes = volumes; base = base }) reader
+started before now volumes copy base held window reader same there reached is keeps = subst (λ (r : ReaderState). ReadsHeader before now (record { version = 1; volumes = volumes; base = base }) r) (sym (is ∙ rw (same, there) refl)) (record {
+  volumes = refl;
+  last = refl;
+  goes_on = refl;
+  kept = keeps;
+  reads = λ bytes told.
+      let r = reached bytes told in
+      let len : held.place + length (held.bytes ++ r.left) ≡ length bytes = omega (arith, r.long, length-append held.bytes r.left, ap length r.all, length-append r.given r.left) in
+      (held.bytes ++ r.left, ap (unread held.bytes) r.told, ap (λ (t : List ℕ). header_at 1 (whole_trace t)) r.all ∙ r.reads r.left, len);
+})
+
+-- a part of the header was not read
+pub part_fails : {A : Type 0} (part : Left → Result (A × Left) Bad) (before mid now : Option (List ℕ)) (faults risen after : ℕ) (remains : A × Left → Result (Header × Left) Bad) (held new : Left) (error : HeaderError) → risen ≡ faults
+    → Reached before mid (λ left. part left >>= remains) held → ReadsPart part mid now risen after held new (Err error) → Starts before now faults after (Err error)
+part_fails part before mid now faults risen after remains held new (BadHeader place) same reached p = (p.0 before remains reached, p.1 ∙ same)
+part_fails part before mid now faults risen after remains held new HeaderFault same reached p = (p.0 before remains reached, subst (λ n. Rose n after) same p.1)
+part_fails part before mid now faults risen after remains held new NoMemory same reached p = p ∙ same

@@ -1,0 +1,171 @@
+//! The fields of a header, read from bytes.
+
+ghost use Rattle.std.specs.Prelude.{◌≡◌, ◌≤◌, ◌<◌, ◌+◌, ◌*◌, ◌^◌, length, sum_by, nat_le, bytes_eq, IfOk, IsTrue, []};
+ghost use Rattle.std.specs.Int.{w32};
+ghost use Rattle.std.specs.List.{list_any, All};
+ghost use Rattle.ckd_track.specs.Tracks.{IsTrack};
+ghost use Rattle.tod_stamp.specs.Fields.{after, number_at};
+ghost use Rattle.trace_grammar.specs.Headers.{most_cylinders, tracks_of, has_track, is_from, are_volumes, base_at, version_at, volume_at, volumes_at};
+ghost use Rattle.write_trace.specs.Gives.{Gives};
+ghost use Rattle.write_trace.specs.HeaderParts.{seen_after, head_at};
+
+use crate::cursor::Cursor;
+use crate::fields::{image_field_of, place_of};
+use crate::stop::Stop;
+use std::alloc::Global;
+use tod_stamp::Serial;
+use trace_grammar::{BaseTrack, VolumeHead, VolumeList};
+
+/// The most cylinders of a volume.
+const MOST_CYLINDERS: u16 = 65_520;
+
+/// The mark of version 1.
+#[tactic(auto, unfolding(trace_grammar::specs::Headers::version_at, tod_stamp::specs::Fields::bytes_at))]
+fn mark_of(c: Cursor<'_>) -> Result<Cursor<'_>, Stop>
+    ensures { Gives (λ c. (1, c)) result (version_at 1 c.entry) }
+{
+    let place = c.place();
+    let (mark, c) = c.front(4)?;
+    if mark != b"XTR1".as_slice() {
+        return Err(Stop::Broken(place));
+    }
+    Ok(c)
+}
+
+fn has_serial(volumes: &[VolumeHead], serial: Serial) -> bool
+    ensures { result ≡ list_any (λ v. bytes_eq serial v.serial) volumes.now }
+{
+    volumes.iter().any(|volume| serial == volume.serial)
+}
+
+/// Whether one of the volumes has the serial.
+fn is_taken(volumes: &[VolumeHead], serial: Serial) -> bool
+    ensures { result ≡ list_any (bytes_eq serial) (seen_after [] volumes.now) }
+{
+    has_serial(volumes, serial)
+}
+
+/// A volume, whose serial is none of those volumes'.
+#[tactic(auto, unfolding(trace_grammar::specs::Headers::volume_at, tod_stamp::specs::Fields::bytes_at))]
+fn volume_of<'a>(volumes: &[VolumeHead], c: Cursor<'a>) -> Result<(VolumeHead, Cursor<'a>), Stop>
+    ensures { Gives (λ x. (x.0, x.1)) result (volume_at 1 (seen_after [] volumes.now) c.entry) }
+{
+    let place = c.place();
+    let (field, c) = c.front(6)?;
+    let Some(serial) = Serial::from_field(field) else {
+        return Err(Stop::Broken(place));
+    };
+    if is_taken(volumes, serial) {
+        return Err(Stop::Broken(place));
+    }
+    let (cylinders, c) = c.number_within(1, MOST_CYLINDERS)?;
+    let volume = VolumeHead {
+        serial,
+        cylinders: u32::from(cylinders),
+    };
+    Ok((volume, c))
+}
+
+/// Volumes, one after another, with different serials.
+fn volumes_of(alloc: Global, count: u16, c: Cursor<'_>) -> Result<(VolumeList, Cursor<'_>), Stop>
+    ensures reads { Gives (λ x. (x.0, x.1)) result (volumes_at 1 count [] c.entry) }
+    ensures rules { IfOk result (λ x. IsTrue (are_volumes 1 [] x.0)) }
+    ensures many { IfOk result (λ x. length x.0 ≡ count) }
+{
+    let mut volumes = VolumeList::make(alloc);
+    let mut rest = c;
+    for _ in 0..count {
+        let (volume, after) = volume_of(volumes.as_slice(), rest)?;
+        volumes.push(alloc, volume)?;
+        rest = after;
+    }
+    Ok((volumes, rest))
+}
+
+/// The number of the volumes' tracks.
+fn tracks_in(volumes: &[VolumeHead]) -> u32
+    requires many { length volumes.now ≤ 32 }
+    requires small { All (λ v. v.cylinders ≤ most_cylinders 1) volumes.now }
+    ensures { result ≡ sum_by tracks_of volumes.now }
+{
+    let mut total: u32 = 0;
+    for volume in volumes {
+        total += 15 * volume.cylinders;
+    }
+    total
+}
+
+/// The number of base tracks, of which there are no more than tracks.
+fn many_of<'a>(volumes: &[VolumeHead], c: Cursor<'a>) -> Result<(u32, Cursor<'a>), Stop>
+    requires many { length volumes.now ≤ 32 }
+    requires rules { IsTrue (are_volumes 1 [] volumes.now) }
+    ensures { Gives (λ x. (x.0, x.1)) result (number_at w32 (λ n. nat_le n (sum_by tracks_of volumes.now)) c.entry) }
+{
+    c.long_up_to(tracks_in(volumes))
+}
+
+/// The head of a header: the mark, the volumes, and the number of base tracks.
+#[tactic(auto, unfolding(crate::specs::HeaderParts::head_at))]
+fn head_of(alloc: Global, c: Cursor<'_>) -> Result<((VolumeList, u32), Cursor<'_>), Stop>
+    ensures reads { Gives (λ x. ((x.0.0, x.0.1), x.1)) result (head_at c.entry) }
+    ensures rules { IfOk result (λ x. IsTrue (are_volumes 1 [] x.0.0)) }
+    ensures many { IfOk result (λ x. (1 ≤ length x.0.0) × (length x.0.0 ≤ 32)) }
+{
+    let c = mark_of(c)?;
+    let (count, c) = c.number_within(1, 32)?;
+    let (volumes, c) = volumes_of(alloc, count, c)?;
+    let (many, c) = many_of(volumes.as_slice(), c)?;
+    Ok(((volumes, many), c))
+}
+
+/// The head that the bytes begin with, and how many of them it takes.
+pub fn head_in(alloc: Global, place: u64, bytes: &[u8]) -> Result<((VolumeList, u32), usize), Stop>
+    requires { place + length bytes.now ≤ 2 ^ 40 }
+    ensures reads { Gives (λ x. ((x.0.0, x.0.1), after x.1 (record { place = place; bytes = bytes.now }))) result (head_at (record { place = place; bytes = bytes.now })) }
+    ensures used { IfOk result (λ x. x.1 ≤ length bytes.now) }
+    ensures rules { IfOk result (λ x. IsTrue (are_volumes 1 [] x.0.0)) }
+    ensures many { IfOk result (λ x. (1 ≤ length x.0.0) × (length x.0.0 ≤ 32)) }
+{
+    let (head, rest) = head_of(alloc, Cursor::new(place, bytes))?;
+    let used = (rest.place() - place) as usize;
+    Ok((head, used))
+}
+
+/// A base track that stands from the place `low` on.
+#[tactic(auto, unfolding(trace_grammar::specs::Headers::base_at))]
+fn base_of<'a>(
+    alloc: Global,
+    volumes: &[VolumeHead],
+    low: (u16, u32),
+    c: Cursor<'a>,
+) -> Result<(BaseTrack, Cursor<'a>), Stop>
+    ensures { Gives (λ x. (x.0, x.1)) result (base_at 1 volumes.now low c.entry) }
+{
+    let volume_place = c.place();
+    let (volume, track, c) = place_of(volumes, c)?;
+    if volume < low.0 || (volume == low.0 && track < low.1) {
+        return Err(Stop::Broken(volume_place));
+    }
+    let (recs, c) = image_field_of(alloc, c)?;
+    Ok(((volume, track, recs), c))
+}
+
+/// The base track that the bytes begin with, and how many of them it takes.
+pub fn base_in(
+    alloc: Global,
+    volumes: &[VolumeHead],
+    low: (u16, u32),
+    place: u64,
+    bytes: &[u8],
+) -> Result<(BaseTrack, usize), Stop>
+    requires { place + length bytes.now ≤ 2 ^ 40 }
+    ensures reads { Gives (λ x. (x.0, after x.1 (record { place = place; bytes = bytes.now }))) result (base_at 1 volumes.now low (record { place = place; bytes = bytes.now })) }
+    ensures used { IfOk result (λ x. x.1 ≤ length bytes.now) }
+    ensures there { IfOk result (λ x. IsTrue (has_track volumes.now x.0.0 x.0.1)) }
+    ensures from { IfOk result (λ x. IsTrue (is_from low (x.0.0, x.0.1))) }
+    ensures track { IfOk result (λ x. IsTrack x.0.2) }
+{
+    let (base, rest) = base_of(alloc, volumes, low, Cursor::new(place, bytes))?;
+    let used = (rest.place() - place) as usize;
+    Ok((base, used))
+}
