@@ -6,6 +6,7 @@ use Rattle.tod_stamp.specs.Names.{is_field, name_in, name_field, before_spaces}
 use Rattle.std.proofs.lemmas.List.{take-append-drop}
 use Rattle.std.proofs.lemmas.Nat.{be_bytes_4}
 use Rattle.std.proofs.lemmas.Bool.{eqb-true}
+use Rattle.xrc_cli.proofs.Both.{both_true}
 use Rattle.tod_stamp.proofs.NameLaws.{fields_spelled}
 
 -- four bytes, one by one
@@ -27,11 +28,6 @@ fields_joined bytes mark name number fields m n a b c d =
     sym (take-append-drop m bytes) ∙ ap (λ (l : List ℕ). l ++ drop m bytes) (sym a)
     ∙ ap (λ (l : List ℕ). mark ++ l) (sym b ∙ sym (take-append-drop n fields) ∙ ap (λ (l : List ℕ). l ++ drop n fields) (sym c) ∙ ap (λ (l : List ℕ). name ++ l) (sym d))
     ∙ sym (append_assoc mark name number)
-
--- both parts of a test
-pub both_true : (a b : Bool) → (a && b) ≡ true → (a ≡ true) × (b ≡ true)
-both_true true b e = (refl, e)
-both_true false b e = absurd cc
 
 -- the name in a field, and the field of that name
 pub name_in_is : (width : ℕ) (bytes name : List ℕ) → name_in width bytes ≡ Some name → name_field width name ≡ bytes

@@ -1,5 +1,5 @@
 -- The parts of a line: what is read stands in front of what is left, and what stands in front is read.
-use Rattle.std.proofs.Common.{◌≡◌, ℕ, ◌+◌, ◌<◌, Bool, true, false, not, cond, nat_eq, nat_lt, ◌&&◌, List, [], ◌∷◌, ◌++◌, length, take, drop, Option, Some, None, Result, Ok, Err, refl, sym, ap, subst, ◌∙◌, arith, inl, inr, length-append, suc, add-one}
+use Rattle.std.proofs.Common.{◌≡◌, ℕ, ◌+◌, ◌<◌, Bool, true, false, not, cond, nat_eq, nat_lt, List, [], ◌∷◌, ◌++◌, length, take, drop, Option, Some, None, Result, Ok, Err, refl, sym, ap, subst, ◌∙◌, arith, inl, inr, length-append, suc, add-one}
 use Rattle.std.specs.Prelude.{bytes_eq}
 use Rattle.std.specs.List.{position, position_or_len, list_all}
 use Rattle.std.proofs.lemmas.Bool.{cases_Bool, ltb-true, lt-ltb, le-ltb, eqb-true, eq-eqb}
@@ -15,6 +15,7 @@ use Rattle.tod_stamp.specs.Names.{is_name_char, is_serial, name_of}
 use Rattle.tod_stamp.specs.Fields.{first_place}
 use Rattle.tod_stamp.specs.Stamps.{stamp_of, first_other, is_hex}
 use Rattle.tod_stamp.proofs.NameLaws.{names_are_read, read_are_names}
+use Rattle.xrc_cli.proofs.Both.{both_true}
 use Rattle.xrc_cli.specs.Reading.{◌>>=◌, text_at, time_at, positive_before, cut, split_at, read_name, serial_of}
 
 -- ---- steps
@@ -36,10 +37,6 @@ allow_some false x y e = absurd cc
 deny_some : {A : Type 0} (b : Bool) (o : Option A) (y : A) → cond b None o ≡ Some y → (b ≡ false) × (o ≡ Some y)
 deny_some true o y e = absurd cc
 deny_some false o y e = (refl, e)
-
-pub both_true : (a b : Bool) → (a && b) ≡ true → (a ≡ true) × (b ≡ true)
-both_true true b e = (refl, e)
-both_true false b e = absurd cc
 
 -- ---- texts
 

@@ -11,7 +11,8 @@ use Rattle.tod_stamp.specs.Stamps.{stamp_of}
 use Rattle.xrc_cli.specs.declared.script.CopyScript.{CopyScript}
 use Rattle.xrc_cli.specs.Reading.{text_at, time_at, split_at, serial_of, command_at, volume_at, is_script_end, lines_at}
 use Rattle.xrc_cli.specs.Scripts.{IsCopyScript, start_command, pair_command, end_command}
-use Rattle.xrc_cli.proofs.PartReading.{bind_some, after_some, allow_some, both_true, text_takes, text_again, time_takes, time_again, split_takes, split_again, serial_takes, serial_again}
+use Rattle.xrc_cli.proofs.Both.{both_true}
+use Rattle.xrc_cli.proofs.PartReading.{bind_some, after_some, allow_some, text_takes, text_again, time_takes, time_again, split_takes, split_again, serial_takes, serial_again}
 
 -- ---- commands
 

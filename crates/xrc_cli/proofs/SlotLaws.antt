@@ -1,12 +1,11 @@
 -- What writing images into slots leaves.
-use Rattle.std.proofs.Common.{Option, Some, None, ◌≡◌, ◌≤◌, ◌<◌, ◌+◌, ◌-◌, ◌++◌, ℕ, List, length, take, drop, get_or, refl, sym, ◌∙◌, ap, arith, inl, inr, subst, append_assoc, length-take}
-use Rattle.std.specs.List.{slice_range, slice_index}
-use Rattle.std.proofs.lemmas.List.{take_at, drop_at, take-take, drop-drop, drop-take, get_or-take, get_or-drop}
-use Rattle.std.proofs.lemmas.Bool.{cases_lt}
+use Rattle.std.proofs.Common.{◌≡◌, Bool, true, false, ◌≤◌, ◌<◌, ◌+◌, ◌-◌, ◌++◌, ℕ, List, length, take, drop, set, get_or-set_other, refl, sym, ◌∙◌, ap, arith, inl, inr, subst, append_assoc, length-take}
+use Rattle.std.specs.List.{slice_range}
+use Rattle.std.proofs.lemmas.List.{length-set, take_at, drop_at, take-take, drop-drop, drop-take}
+use Rattle.std.proofs.lemmas.Bool.{cases_lt, cases_eq}
 use Rattle.crash_plant.specs.Bytes.{patched, Torn}
 use Rattle.crash_plant.proofs.Patches.{patched_torn}
-use Rattle.xrc_cli.specs.declared.volume_copy.Span.{Span}
-use Rattle.xrc_cli.specs.Slots.{slot_place, HoldsImages, DiffersInSlots, image_bytes, IsPlace}
+use Rattle.xrc_cli.specs.Slots.{slot_place, IsInSlot, AreInSlots, DiffersInSlots}
 
 -- what stands before a write
 pub slice_before : (p a e : ℕ) (b c : List ℕ) → take p c ≡ take p b → a ≤ e → e ≤ p → slice_range c a e ≡ slice_range b a e
@@ -15,20 +14,12 @@ slice_before p a e b c same up to =
     let front : take e c ≡ take e b = sym (take-take e p c to) ∙ ap (λ (l : List ℕ). take e l) same ∙ take-take e p b to in
     sym (drop-take a (e - a) c) ∙ ap (λ (k : ℕ). drop a (take k c)) end ∙ ap (λ (l : List ℕ). drop a l) front ∙ ap (λ (k : ℕ). drop a (take k b)) (sym end) ∙ drop-take a (e - a) b
 
-byte_before : (p i : ℕ) (b c : List ℕ) → take p c ≡ take p b → i < p → slice_index c i ≡ slice_index b i
-byte_before p i b c same lt = sym (get_or-take p c i 0 lt) ∙ ap (λ (l : List ℕ). get_or l i 0) same ∙ get_or-take p b i 0 lt
-
-byte_behind : (q i : ℕ) (b c : List ℕ) → drop q c ≡ drop q b → q ≤ i → slice_index c i ≡ slice_index b i
-byte_behind q i b c same le =
-    let at : q + (i - q) ≡ i = omega arith in
-    ap (λ (k : ℕ). get_or c k 0) (sym at) ∙ sym (get_or-drop q c (i - q) 0) ∙ ap (λ (l : List ℕ). get_or l (i - q) 0) same ∙ get_or-drop q b (i - q) 0 ∙ ap (λ (k : ℕ). get_or b k 0) at
-
--- the bytes outside of a write
-pub byte_outside : (p n i : ℕ) (b c : List ℕ) → Torn p n b c → (p ≤ i → ¬ (i < p + n)) → slice_index c i ≡ slice_index b i
-byte_outside p n i b c torn out = elim (cases_lt i p) [
-  | inl before ↦ byte_before p i b c torn.before before
-  | inr from ↦ elim (cases_lt i (p + n)) [ inl within ↦ absurd (out from within) | inr behind ↦ byte_behind (p + n) i b c torn.after behind ]
-]
+-- what stands behind a write
+pub slice_behind : (q a e : ℕ) (b c : List ℕ) → drop q c ≡ drop q b → q ≤ a → slice_range c a e ≡ slice_range b a e
+slice_behind q a e b c same le =
+    let at : q + (a - q) ≡ a = omega arith in
+    ap (λ (k : ℕ). take (e - a) (drop k c)) (sym at) ∙ ap (λ (l : List ℕ). take (e - a) l) (sym (drop-drop (a - q) q c) ∙ ap (λ (l : List ℕ). drop (a - q) l) same ∙ drop-drop (a - q) q b)
+    ∙ ap (λ (k : ℕ). take (e - a) (drop k b)) at
 
 -- what was written stands there
 pub slice_written : (p : ℕ) (bytes b : List ℕ) → p ≤ length b → slice_range (patched p bytes b) p (p + length bytes) ≡ bytes
@@ -41,35 +32,33 @@ slice_written p bytes b fits =
     ∙ ap (λ (l : List ℕ). take (length bytes) l) (drop_at (take p b) (bytes ++ rest) p front)
     ∙ take_at bytes rest (length bytes) refl
 
--- nothing is written
-pub holds_none : (images : ℕ → List ℕ) (a : List ℕ) → HoldsImages images 0 a a
-holds_none images a = record { begins = λ x lt. absurd (omega arith); others = λ i out. refl; size = refl }
-
 -- one image more
-pub holds_more : (images : ℕ → List ℕ) (k : ℕ) (a b c : List ℕ) → HoldsImages images k a b → c ≡ patched (slot_place k) (images k) b → slot_place (k + 1) ≤ length b
-    → ((x : ℕ) → x < k + 1 → length (images x) ≤ 57344) → HoldsImages images (k + 1) a c
-holds_more images k a b c so_far is room short = record {
-  begins = λ x lt. elim (cases_lt x k) [
-    | inl earlier ↦
-        let x_short = short x lt in
-        slice_before p (slot_place x) (slot_place x + length (images x)) b c torn.before (omega arith) (omega (arith, x_short, earlier)) ∙ so_far.begins x earlier
-    | inr from ↦
-        let here : x ≡ k = omega (arith, lt, from) in
-        subst (λ (y : ℕ). slice_range c (slot_place y) (slot_place y + length (images y)) ≡ images y) (sym here)
-        (ap (λ (l : List ℕ). slice_range l p (p + length (images k))) is ∙ slice_written p (images k) b (omega (arith, room)))
-  ];
-  others = λ i out. byte_outside p (length (images k)) i b c torn (λ from within. out (k, (omega arith), from, within)) ∙ so_far.others i (λ h. out (h.0, (omega (arith, h.1)), h.2, h.3));
-  size = torn.size ∙ so_far.size;
-}
+pub slots_more : (images : ℕ → List ℕ) (k : ℕ) (wanted : List Bool) (b c : List ℕ) → k < length wanted → AreInSlots images wanted b → length (images k) ≤ 57344
+    → c ≡ patched (slot_place k) (images k) b → slot_place (k + 1) ≤ length b → AreInSlots images (set wanted k false) c
+slots_more images k wanted b c there so_far short is room = λ x lt off. elim (cases_eq x k) [
+  | inl here ↦ subst (λ (y : ℕ). IsInSlot y (images y) c) (sym here) (record {
+    fits = short;
+    begins = ap (λ (l : List ℕ). slice_range l p (p + length (images k))) is ∙ slice_written p (images k) b (omega (arith, room));
+  })
+  | inr other ↦
+      let before = so_far x (omega (arith, lt, length-set wanted k false)) (sym (get_or-set_other wanted k x false true other) ∙ off) in
+      let x_short = before.fits in
+      record {
+        fits = x_short;
+        begins = elim (cases_lt x k) [
+          | inl earlier ↦ slice_before p (slot_place x) (slot_place x + length (images x)) b c torn.before (omega arith) (omega (arith, x_short, earlier)) ∙ before.begins
+          | inr from ↦
+              let later : k < x = omega (arith, from, other) in
+              slice_behind (p + length (images k)) (slot_place x) (slot_place x + length (images x)) b c torn.after (omega (arith, short, later)) ∙ before.begins
+        ];
+      }
+]
   where
     p : ℕ
     p = slot_place k
 
-    k_short : length (images k) ≤ 57344
-    k_short = short k (omega arith)
-
     torn : Torn (slot_place k) (length (images k)) b c
-    torn = patched_torn (slot_place k) (images k) b c (omega (arith, k_short, room)) is
+    torn = patched_torn (slot_place k) (images k) b c (omega (arith, short, room)) is
 
 -- only slots differ where nothing or a slot more was written
 pub differs_none : (n : ℕ) (a : List ℕ) → DiffersInSlots n a a
@@ -88,7 +77,5 @@ differs_more n p len a b c so_far torn from to = record {
     end : p + len + (slot_place n - (p + len)) ≡ slot_place n
     end = omega arith
 
--- an image that stands at a place fits a slot
-pub length-image_bytes : (bytes : List ℕ) (place : Option Span) → IsPlace bytes place → length (image_bytes bytes place) ≤ 57344
-length-image_bytes bytes None is = omega arith
-length-image_bytes bytes (Some span) is = omega (arith, length-take (span.end - span.start) (drop span.start bytes), is.2)
+pub differs_then : (n : ℕ) (a b c : List ℕ) → DiffersInSlots n a b → DiffersInSlots n b c → DiffersInSlots n a c
+differs_then n a b c x y = record { before = y.before ∙ x.before; after = y.after ∙ x.after; size = y.size ∙ x.size }

@@ -1,43 +1,83 @@
 -- The statuses of commands that were not done, and what was said and copied by then.
-use Rattle.std.proofs.Common.{◌≡◌, ◌≢◌, ◌≤◌, ◌⊎◌, ◌*◌, ◌++◌, ◌∷◌, [], ℕ, List, Option, Some, None, IfSome, Contains, length, take, refl, sym, ◌∙◌, ap, subst, arith, inl, inr, append-nil}
+use Rattle.std.proofs.Common.{◌≡◌, ◌≢◌, ◌≤◌, ◌⊎◌, ◌*◌, ◌++◌, ◌∷◌, [], ℕ, List, true, Option, Some, None, IfSome, Contains, Result, Ok, Err, OnOk, OnErr, length, take, refl, sym, ◌∙◌, ap, subst, arith, inl, inr, append-nil}
 use Rattle.crash_plant.specs.declared.device.Device.TheVariants.{Volume}
 use Rattle.crash_plant.specs.Moments.{PlantState}
+use Rattle.xrc_edge.specs.Causes.{Rose}
 use Rattle.crash_plant.specs.Calls.{WorksOnConsole}
 use Rattle.ckd_track.specs.Images.{image}
 use Rattle.xrc_cli.specs.declared.stop.Stop.{Stop}
-use Rattle.xrc_cli.specs.declared.stop.Stop.TheVariants.{NoMemory, BadWords, ConsoleFault, NotBuilt, EarlyBreak, EarlyVolume}
-use Rattle.xrc_cli.specs.Replies.{status_line}
+use Rattle.xrc_cli.specs.declared.stop.Stop.TheVariants.{NoMemory, BadWords, ConsoleFault, BadHeader, HeaderFault, NotBuilt, EarlyBreak, EarlyVolume}
+use Rattle.xrc_cli.specs.Replies.{status_line, bad_header_line, header_fault_line}
 use Rattle.xrc_cli.specs.Runs.{RepliesInPart, SaidLine, StopsInHearing}
+use Rattle.xrc_cli.specs.Saying.{SaysText, SaysFront}
 use Rattle.xrc_cli.specs.Slots.{HoldsImages}
-use Rattle.xrc_cli.specs.Stops.{status_of, last_line}
-use Rattle.xrc_cli.specs.Traces.{primary_track}
+use Rattle.xrc_cli.specs.Stops.{status_of, last_line, says_status, IsOfHeader}
+use Rattle.primary_ctl.specs.Primaries.{primary}
 use Rattle.xrc_cli.proofs.FrameLaws.{rose_before, durable_on_console}
 
 -- each status is one of these
-pub known_status : (stop : Stop) → Contains (0 ∷ 1 ∷ 2 ∷ 3 ∷ 17 ∷ 18 ∷ 19 ∷ []) (status_of stop)
+pub known_status : (stop : Stop) → Contains (0 ∷ 1 ∷ 2 ∷ 3 ∷ 8 ∷ 9 ∷ 17 ∷ 18 ∷ 19 ∷ []) (status_of stop)
 known_status NoMemory = (1, (omega arith), refl)
 known_status BadWords = (2, (omega arith), refl)
 known_status ConsoleFault = (3, (omega arith), refl)
-known_status NotBuilt = (4, (omega arith), refl)
-known_status EarlyBreak = (5, (omega arith), refl)
-known_status EarlyVolume = (6, (omega arith), refl)
+known_status (BadHeader place) = (4, (omega arith), refl)
+known_status HeaderFault = (5, (omega arith), refl)
+known_status NotBuilt = (6, (omega arith), refl)
+known_status EarlyBreak = (7, (omega arith), refl)
+known_status EarlyVolume = (8, (omega arith), refl)
 
 pub is_console_fault : (stop : Stop) → status_of stop ≡ 3 → stop ≡ ConsoleFault
 is_console_fault NoMemory is = absurd (omega (arith, is))
 is_console_fault BadWords is = absurd (omega (arith, is))
 is_console_fault ConsoleFault is = refl
+is_console_fault (BadHeader place) is = absurd (omega (arith, is))
+is_console_fault HeaderFault is = absurd (omega (arith, is))
 is_console_fault NotBuilt is = absurd (omega (arith, is))
 is_console_fault EarlyBreak is = absurd (omega (arith, is))
 is_console_fault EarlyVolume is = absurd (omega (arith, is))
 
--- the line of a stop that is not the console's
-line_is : (stop : Stop) → stop ≢ ConsoleFault → last_line stop ≡ status_line (status_of stop)
-line_is NoMemory other = refl
-line_is BadWords other = refl
-line_is ConsoleFault other = absurd (other refl)
-line_is NotBuilt other = refl
-line_is EarlyBreak other = refl
-line_is EarlyVolume other = refl
+pub is_bad_header : (stop : Stop) → status_of stop ≡ 8 → (place : ℕ) × (stop ≡ BadHeader place)
+is_bad_header NoMemory is = absurd (omega (arith, is))
+is_bad_header BadWords is = absurd (omega (arith, is))
+is_bad_header ConsoleFault is = absurd (omega (arith, is))
+is_bad_header (BadHeader place) is = (place, refl)
+is_bad_header HeaderFault is = absurd (omega (arith, is))
+is_bad_header NotBuilt is = absurd (omega (arith, is))
+is_bad_header EarlyBreak is = absurd (omega (arith, is))
+is_bad_header EarlyVolume is = absurd (omega (arith, is))
+
+-- what ends in reading a header
+pub header_status : (stop : Stop) → IsOfHeader stop → Contains (1 ∷ 8 ∷ 9 ∷ []) (status_of stop)
+header_status NoMemory ends = (0, (omega arith), refl)
+header_status (BadHeader place) ends = (1, (omega arith), refl)
+header_status HeaderFault ends = (2, (omega arith), refl)
+header_status BadWords ends = absurd ends
+header_status ConsoleFault ends = absurd ends
+header_status NotBuilt ends = absurd ends
+header_status EarlyBreak ends = absurd ends
+header_status EarlyVolume ends = absurd ends
+
+-- the line of a stop that says its status alone
+line_is : (stop : Stop) → says_status (status_of stop) ≡ true → last_line stop ≡ status_line (status_of stop)
+line_is NoMemory plain = refl
+line_is BadWords plain = refl
+line_is ConsoleFault plain = absurd cc
+line_is (BadHeader place) plain = absurd cc
+line_is HeaderFault plain = absurd cc
+line_is NotBuilt plain = refl
+line_is EarlyBreak plain = refl
+line_is EarlyVolume plain = refl
+
+-- and that of a header's fault
+fault_line_is : (stop : Stop) → status_of stop ≡ 9 → last_line stop ≡ header_fault_line
+fault_line_is NoMemory is = absurd (omega (arith, is))
+fault_line_is BadWords is = absurd (omega (arith, is))
+fault_line_is ConsoleFault is = absurd (omega (arith, is))
+fault_line_is (BadHeader place) is = absurd (omega (arith, is))
+fault_line_is HeaderFault is = refl
+fault_line_is NotBuilt is = absurd (omega (arith, is))
+fault_line_is EarlyBreak is = absurd (omega (arith, is))
+fault_line_is EarlyVolume is = absurd (omega (arith, is))
 
 -- the line of a status, said after nothing
 pub said_after : (text line : List ℕ) (a b d : PlantState) → text ≡ line → b.said b.clock ≡ a.said a.clock → a.console_faults ≤ b.console_faults → SaidLine text b d → SaidLine line a d
@@ -51,11 +91,26 @@ said_after text line a b d same quiet later (inr part) = inr (
   rose_before a.console_faults b.console_faults d.console_faults later part.1,
 )
 
-pub status_said : (n : ℕ) (stop : Stop) (a b d : PlantState) → n ≡ status_of stop → n ≢ 3 → (stop ≢ ConsoleFault → b.said b.clock ≡ a.said a.clock) → a.console_faults ≤ b.console_faults
+pub status_said : (n : ℕ) (stop : Stop) (a b d : PlantState) → n ≡ status_of stop → says_status n ≡ true → (stop ≢ ConsoleFault → b.said b.clock ≡ a.said a.clock) → a.console_faults ≤ b.console_faults
     → SaidLine (last_line stop) b d → SaidLine (status_line n) a d
-status_said n stop a b d is other quiet later said =
-    let no : stop ≢ ConsoleFault = λ same. other (is ∙ ap status_of same) in
-    said_after (last_line stop) (status_line n) a b d (line_is stop no ∙ ap status_line (sym is)) (quiet no) later said
+status_said n stop a b d is plain quiet later said =
+    let no : stop ≢ ConsoleFault = λ same. absurd (let w = plain_is in let k = ap (λ (s : Stop). says_status (status_of s)) same in cc) in
+    said_after (last_line stop) (status_line n) a b d (line_is stop plain_is ∙ ap status_line (sym is)) (quiet no) later said
+  where
+    plain_is : says_status (status_of stop) ≡ true
+    plain_is = ap says_status (sym is) ∙ plain
+
+pub fault_said : (n : ℕ) (stop : Stop) (a b d : PlantState) → n ≡ status_of stop → n ≡ 9 → (stop ≢ ConsoleFault → b.said b.clock ≡ a.said a.clock) → a.console_faults ≤ b.console_faults
+    → SaidLine (last_line stop) b d → SaidLine header_fault_line a d
+fault_said n stop a b d is nine quiet later said =
+    let no : stop ≢ ConsoleFault = λ same. (let k = ap status_of same in omega (arith, is, nine, k)) in
+    said_after (last_line stop) header_fault_line a b d (fault_line_is stop (sym is ∙ nine)) (quiet no) later said
+
+pub place_said : (place : ℕ) (stop : Stop) (a b d : PlantState) → stop ≡ BadHeader place → (stop ≢ ConsoleFault → b.said b.clock ≡ a.said a.clock) → a.console_faults ≤ b.console_faults
+    → SaidLine (last_line stop) b d → SaidLine (bad_header_line place) a d
+place_said place stop a b d is quiet later said =
+    let no : stop ≢ ConsoleFault = λ same. cc (is, same) in
+    said_after (last_line stop) (bad_header_line place) a b d (ap last_line is) (quiet no) later said
 
 -- an empty line is nothing
 pub says_no_line : (text : List ℕ) (b d : PlantState) → text ≡ [] → SaidLine text b d → d.said d.clock ≡ b.said b.clock
@@ -67,35 +122,43 @@ says_no_line text b d none (inr part) =
     part.0.2 ∙ ap (λ (k : ℕ). b.said b.clock ++ take k text) zero_is ∙ append-nil (b.said b.clock)
 
 -- what stopped a command stays so where nothing more is said or heard
-still : (tells : Type 0) (session given : List ℕ) (a b d : PlantState) (Rest : Type 0) → tells → WorksOnConsole tells b d → d.script ≡ b.script → d.said d.clock ≡ b.said b.clock
-    → (StopsInHearing a b × Rest) ⊎ RepliesInPart session given a b → (StopsInHearing a d × Rest) ⊎ RepliesInPart session given a d
-still tells session given a b d Rest told w script said (inl stopped) = inl (
-  (record {
-    volume = (w.devices told (Volume 0)).bytes ∙ stopped.0.volume;
-    said = said ∙ stopped.0.said;
-  }),
-  stopped.1,
-)
-still tells session given a b d Rest told w script said (inr part) =
+still : (tells : Type 0) (session given : List ℕ) (a b d : PlantState) → tells → WorksOnConsole tells b d → d.script ≡ b.script → d.said d.clock ≡ b.said b.clock
+    → StopsInHearing a b ⊎ RepliesInPart session given a b → StopsInHearing a d ⊎ RepliesInPart session given a d
+still tells session given a b d told w script said (inl stopped) = inl (record {
+  volume = (w.devices told (Volume 0)).bytes ∙ stopped.volume;
+  said = said ∙ stopped.said;
+})
+still tells session given a b d told w script said (inr part) =
     let copy = part.copy in
     inr (record {
       copy = record {
         script = copy.script;
+        t = copy.t;
+        volume = copy.volume;
         head = copy.head;
-        entries = copy.entries;
         label = copy.label;
         heard = copy.heard;
         all_heard = script ∙ copy.all_heard;
         trace = copy.trace;
+        at = copy.at;
         labelled = copy.labelled;
         is_pair = copy.is_pair;
-        copied = subst (λ (l : List ℕ). HoldsImages (λ x. image (primary_track copy.entries copy.script.end_time.0 x)) (15 * copy.head.cylinders) (a.bytes (Volume 0)) l) (sym (w.devices told (Volume 0)).bytes) copy.copied;
+        unbroken = copy.unbroken;
+        copied = subst (λ (l : List ℕ). HoldsImages (λ x. image (primary (copy.t ∷ []) copy.script.end_time.0 0 copy.volume x)) (15 * copy.head.cylinders) (a.bytes (Volume 0)) l) (sym (w.devices told (Volume 0)).bytes) copy.copied;
         durable = durable_on_console tells b d w told copy.durable;
       };
       said = (part.said.0, part.said.1, (said ∙ part.said.2));
     })
 
-pub some_still : (tells : Type 0) (session : Option (List ℕ)) (given : List ℕ) (a b d : PlantState) (Rest : Type 0) → tells → WorksOnConsole tells b d → d.script ≡ b.script → d.said d.clock ≡ b.said b.clock
-    → IfSome session (λ s. (StopsInHearing a b × Rest) ⊎ RepliesInPart s given a b) → IfSome session (λ s. (StopsInHearing a d × Rest) ⊎ RepliesInPart s given a d)
-some_still tells None given a b d Rest told w script said some = tt
-some_still tells (Some s) given a b d Rest told w script said some = still tells s given a b d Rest told w script said some
+pub some_still : (tells : Type 0) (session : Option (List ℕ)) (given : List ℕ) (a b d : PlantState) → tells → WorksOnConsole tells b d → d.script ≡ b.script → d.said d.clock ≡ b.said b.clock
+    → IfSome session (λ s. StopsInHearing a b ⊎ RepliesInPart s given a b) → IfSome session (λ s. StopsInHearing a d ⊎ RepliesInPart s given a d)
+some_still tells None given a b d told w script said some = tt
+some_still tells (Some s) given a b d told w script said some = still tells s given a b d told w script said some
+
+-- a text that was said whole, or of which a front was said
+pub line_said : {E : Type 0} (tells : Type 0) (text line : List ℕ) (a b : PlantState) (r : Result (Unit {0}) E) → tells → text ≡ line → OnOk r (SaysText tells text a b) → SaysFront tells text a b
+    → OnErr r (Rose a.console_faults b.console_faults) → SaidLine line a b
+line_said tells text line a b (Ok done) told same whole front fault = inl (whole.said told ∙ ap (λ (l : List ℕ). a.said a.clock ++ l) same)
+line_said tells text line a b (Err e) told same whole front fault =
+    let s = front.said told in
+    inr ((s.0, (let len = ap length same in omega (arith, s.1, len)), (s.2 ∙ ap (λ (l : List ℕ). a.said a.clock ++ take s.0 l) same)), fault)

@@ -3,14 +3,13 @@ pub mod Scripts
 pub mod Reading
 pub mod Replies
 pub mod Stops
-pub mod Traces
-pub mod Copies
-pub mod TraceReading
 pub mod Frames
 pub mod Hearing
 pub mod Labels
 pub mod Slots
 pub mod Saying
 pub mod Plans
+pub mod Taken
+pub mod Copiers
 pub mod Runs
 pub mod Sources

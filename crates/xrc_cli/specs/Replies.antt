@@ -22,3 +22,11 @@ copy_replies script tracks = start_reply script.start_time ++ pair_reply script.
 -- The line of a status.
 abbrev pub status_line : ℕ → List ℕ
 status_line status = codes "STATUS " ++ decimal status ++ 10 ∷ []
+
+-- The line of a header of which the field at this place is bad.
+abbrev pub bad_header_line : (place : ℕ) → List ℕ
+bad_header_line place = codes "STATUS 8 0 " ++ decimal place ++ 10 ∷ []
+
+-- The line of a header whose source failed.
+abbrev pub header_fault_line : List ℕ
+header_fault_line = codes "STATUS 9 0" ++ 10 ∷ []

@@ -1,20 +1,24 @@
 -- What a run that copies one volume has found and done.
-use Rattle.std.specs.Prelude.{◌≡◌, ◌≤◌, ◌⊎◌, ◌*◌, ◌++◌, ℕ, List, [], length, take, Option, Some}
+use Rattle.std.specs.Prelude.{◌≡◌, ◌≤◌, ◌⊎◌, ◌*◌, ◌++◌, ℕ, List, [], ◌∷◌, length, take, false, true, Some, Ok, Err, slice_get, IsTrue}
 use Rattle.xrc_edge.specs.Causes.{Rose}
 use Rattle.crash_plant.specs.declared.device.Device.TheVariants.{Volume}
 use Rattle.crash_plant.specs.Moments.{PlantState, on, IsDurable}
 use Rattle.ckd_track.specs.Images.{image}
+use Rattle.trace_grammar.specs.declared.header.VolumeHead.{VolumeHead}
+use Rattle.trace_grammar.specs.declared.trace.Trace.{Trace}
+use Rattle.trace_grammar.specs.declared.trace.HeaderError.TheVariants.{BadHeader, HeaderFault}
+use Rattle.trace_grammar.specs.Good.{trace_of}
+use Rattle.primary_ctl.specs.Primaries.{primary}
+use Rattle.sidefile.specs.Breaks.{has_broken}
 use Rattle.xrc_cli.specs.declared.label.Label.{Label}
 use Rattle.xrc_cli.specs.declared.plan.Plan.{Plan}
 use Rattle.xrc_cli.specs.declared.script.CopyScript.{CopyScript}
-use Rattle.xrc_cli.specs.declared.volume_head.VolumeHead.{VolumeHead}
 use Rattle.xrc_cli.specs.Hearing.{HearsAll}
 use Rattle.xrc_cli.specs.Labels.{HasLabel, HasRoom}
 use Rattle.xrc_cli.specs.Plans.{IsPlan, IsPair}
 use Rattle.xrc_cli.specs.Replies.{copy_replies}
 use Rattle.xrc_cli.specs.Scripts.{IsCopyScript}
 use Rattle.xrc_cli.specs.Slots.{HoldsImages, DiffersInSlots}
-use Rattle.xrc_cli.specs.Traces.{Entry, IsTrace, primary_track}
 
 -- A front of a text was said.
 abbrev pub SaidFront : List ℕ → PlantState → PlantState → Type 0
@@ -24,14 +28,25 @@ SaidFront text old new = (k : ℕ) × (k ≤ length text) × (new.said new.clock
 abbrev pub replies_of : Plan → List ℕ
 replies_of plan = plan.replies.start.items ++ plan.replies.pair.items ++ plan.replies.end.items
 
--- A plan was made of the script that was heard, the bytes that the source gave and the label of volume 0.
-pub record FindsPlan (tells : Type 0) (session : List ℕ) (given : Option (List ℕ)) (old new : PlantState) (plan : Plan) : Type 0 where
+-- ---- headers
+
+-- The bytes that were given begin with no header: the first field that is cut or breaks its rule stands at that place.
+abbrev pub IsRefused : (given : List ℕ) → (place : ℕ) → Type 0
+IsRefused given place = trace_of 1 false given ≡ Err (BadHeader place)
+
+-- Of all bytes of a source these were given before it failed, and they end within the header.
+pub record EndsInHeader (all left given : List ℕ) : Type 0 where
+  pub split : all ≡ given ++ left
+  pub cut : trace_of 1 true given ≡ Err HeaderFault
+
+-- ---- copies
+
+-- A plan was made of the script that was heard, these volumes of a trace, and the label of volume 0.
+pub record FindsPlan (tells : Type 0) (session : List ℕ) (volumes : List VolumeHead) (old new : PlantState) (plan : Plan) : Type 0 where
   pub text : List ℕ
-  pub bytes : List ℕ
   pub label : Label
-  pub is_plan : IsPlan session text bytes label plan
+  pub is_plan : IsPlan session text volumes label plan
   pub heard : tells → HearsAll text old new
-  pub all_given : (all : List ℕ) → given ≡ Some all → bytes ≡ all
   pub labelled : tells → HasLabel (old.bytes (Volume 0)) label
   pub room : HasRoom (old.lengths (Volume 0)) label
 
@@ -43,20 +58,39 @@ pub record AnswersScript (session : List ℕ) (old new : PlantState) : Type 0 wh
   pub all_heard : new.script ≡ []
   pub said : new.said new.clock ≡ old.said old.clock ++ copy_replies script tracks
 
--- The script asks to copy the one volume of the trace to volume 0, and so it was done: each slot begins with the image of
--- the primary's track at the time of the last line, and a crash leaves volume 0 so.
+-- The trace that was given was followed up to the plan's end: each slot begins with the image of the primary's track at that time,
+-- and a crash leaves volume 0 so. By that time the trace hasn't broken.
+pub record CarriesOut (given : List ℕ) (volumes : List VolumeHead) (plan : Plan) (old new : PlantState) : Type 0 where
+  pub t : Trace
+  pub trace : trace_of 1 false given ≡ Ok t
+  pub volumes_are : t.header.volumes ≡ volumes
+  pub copied : HoldsImages (λ x. image (primary (t ∷ []) plan.end_time.0 0 plan.volume x)) plan.tracks (old.bytes (Volume 0)) (new.bytes (Volume 0))
+  pub durable : IsDurable (on new (Volume 0))
+  pub unbroken : has_broken t plan.end_time.0 ≡ false
+
+-- The trace that was given breaks below a time.
+pub record BreaksBefore (given : List ℕ) (time : ℕ) : Type 0 where
+  pub t : Trace
+  pub trace : trace_of 1 false given ≡ Ok t
+  pub below : IsTrue (has_broken t time)
+
+-- The script asks to copy a volume of the trace that was given to volume 0, and so it was done: each slot begins with the image
+-- of the primary's track at the time of the last line, and a crash leaves volume 0 so. By that time the trace hasn't broken.
 pub record CopiesTracks (session given : List ℕ) (old new : PlantState) : Type 0 where
   pub script : CopyScript
+  pub t : Trace
+  pub volume : ℕ
   pub head : VolumeHead
-  pub entries : List Entry
   pub label : Label
   pub heard : IsCopyScript session old.script script
   pub all_heard : new.script ≡ []
-  pub trace : IsTrace given head entries
+  pub trace : trace_of 1 false given ≡ Ok t
+  pub at : slice_get t.header.volumes volume ≡ Some head
   pub labelled : HasLabel (old.bytes (Volume 0)) label
   pub is_pair : IsPair script head label
-  pub copied : HoldsImages (λ x. image (primary_track entries script.end_time.0 x)) (15 * head.cylinders) (old.bytes (Volume 0)) (new.bytes (Volume 0))
+  pub copied : HoldsImages (λ x. image (primary (t ∷ []) script.end_time.0 0 volume x)) (15 * head.cylinders) (old.bytes (Volume 0)) (new.bytes (Volume 0))
   pub durable : IsDurable (on new (Volume 0))
+  pub unbroken : has_broken t script.end_time.0 ≡ false
 
 -- what is said of a copy
 abbrev pub replies_to : {session given : List ℕ} {old new : PlantState} → CopiesTracks session given old new → List ℕ
@@ -71,6 +105,12 @@ pub record CopiesVolume (session given : List ℕ) (old new : PlantState) : Type
 pub record RepliesInPart (session given : List ℕ) (old new : PlantState) : Type 0 where
   pub copy : CopiesTracks session given old new
   pub said : SaidFront (replies_to copy) old new
+
+-- The script asks for a copy up to a time below which the trace that was given breaks.
+pub record BreaksEarly (session given : List ℕ) (old : PlantState) : Type 0 where
+  pub script : CopyScript
+  pub heard : IsCopyScript session old.script script
+  pub breaks : BreaksBefore given script.end_time.0
 
 -- Nothing was written and nothing said.
 pub record StopsInHearing (old new : PlantState) : Type 0 where

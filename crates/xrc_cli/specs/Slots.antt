@@ -1,20 +1,18 @@
 -- The slots of a volume, and what a copy leaves in them.
-use Rattle.std.specs.Prelude.{◌≡◌, ◌≤◌, ◌<◌, ◌+◌, ◌-◌, ◌*◌, ℕ, List, [], ◌∷◌, Option, Some, None, length, take, drop, slice_index, slice_index_or, slice_range}
-use Rattle.xrc_cli.specs.declared.volume_copy.Span.{Span}
+use Rattle.std.specs.Prelude.{◌≡◌, ◌≤◌, ◌<◌, ◌+◌, ◌*◌, ℕ, List, length, take, drop, Bool, true, false, slice_index_or, slice_range}
 
 -- The slot of track x begins at 512 + x × 57,344.
 abbrev pub slot_place : ℕ → ℕ
 slot_place x = 512 + x * 57344
 
--- whether a byte belongs to one of the first n images
-abbrev pub IsInImage : (images : ℕ → List ℕ) → (n i : ℕ) → Type 0
-IsInImage images n i = (x : ℕ) × (x < n) × (slot_place x ≤ i) × (i < slot_place x + length (images x))
+-- The slot of a track begins with this image, which fits it.
+pub record IsInSlot (x : ℕ) (image bytes : List ℕ) : Type 0 where
+  pub fits : length image ≤ 57344
+  pub begins : slice_range bytes (slot_place x) (slot_place x + length image) ≡ image
 
--- The first n slots begin with these images, and all other bytes are as before.
-pub record HoldsImages (images : ℕ → List ℕ) (n : ℕ) (old new : List ℕ) : Type 0 where
-  pub begins : (x : ℕ) → x < n → slice_range new (slot_place x) (slot_place x + length (images x)) ≡ images x
-  pub others : (i : ℕ) → ¬ (IsInImage images n i) → slice_index new i ≡ slice_index old i
-  pub size : length new ≡ length old
+-- The slots of the tracks that aren't wanted any more begin with their images.
+abbrev pub AreInSlots : (images : ℕ → List ℕ) → (wanted : List Bool) → List ℕ → Type 0
+AreInSlots images wanted bytes = (x : ℕ) → x < length wanted → slice_index_or wanted x true ≡ false → IsInSlot x (images x) bytes
 
 -- Only the first n slots may differ.
 pub record DiffersInSlots (n : ℕ) (old new : List ℕ) : Type 0 where
@@ -22,16 +20,7 @@ pub record DiffersInSlots (n : ℕ) (old new : List ℕ) : Type 0 where
   pub after : drop (slot_place n) new ≡ drop (slot_place n) old
   pub size : length new ≡ length old
 
--- The bytes of the image that stands in a trace, or those of the empty track.
-abbrev pub image_bytes : List ℕ → Option Span → List ℕ
-image_bytes bytes None = 0 ∷ 0 ∷ []
-image_bytes bytes (Some span) = slice_range bytes span.start span.end
-
--- the images of a volume's tracks, by these places
-abbrev pub image_of : List ℕ → List (Option Span) → ℕ → List ℕ
-image_of bytes places x = image_bytes bytes (slice_index_or places x None)
-
--- A place is one in the bytes, of no more of them than a slot has.
-abbrev pub IsPlace : List ℕ → Option Span → Type 0
-IsPlace bytes None = Unit {0}
-IsPlace bytes (Some span) = (span.start ≤ span.end) × (span.end ≤ length bytes) × (span.end - span.start ≤ 57344)
+-- The first n slots begin with these images, and no byte outside of these slots has changed.
+pub record HoldsImages (images : ℕ → List ℕ) (n : ℕ) (old new : List ℕ) : Type 0 where
+  pub begins : (x : ℕ) → x < n → IsInSlot x (images x) new
+  pub others : DiffersInSlots n old new

@@ -3,17 +3,18 @@ ghost use Rattle.xrc_edge.specs.Causes.{Rose};
 ghost use Rattle.crash_plant.specs.Calls.{NoneLent, WorksOnConsole};
 ghost use Rattle.crash_plant.specs.declared.device.Device.TheVariants.{Volume};
 ghost use Rattle.xrc_cli.specs.Frames.{LeavesOthers, SameVolume, SaysNothing, HearsNone};
-ghost use Rattle.xrc_cli.specs.Replies.{status_line};
-ghost use Rattle.xrc_cli.specs.Runs.{AnswersScript, CopiesVolume, ChangesSlots, RepliesInPart, SaidLine, StopsInHearing};
+ghost use Rattle.xrc_cli.specs.Replies.{status_line, bad_header_line, header_fault_line};
+ghost use Rattle.xrc_cli.specs.Runs.{IsRefused, EndsInHeader, AnswersScript, BreaksEarly, CopiesVolume, ChangesSlots, RepliesInPart, SaidLine, StopsInHearing};
 ghost use Rattle.xrc_cli.specs.Sources.{HoldsOnly, FirstRose, FirstCountStays, IsFirstSite};
-ghost use Rattle.xrc_cli.specs.Stops.{status_of, last_line};
+ghost use Rattle.xrc_cli.specs.Stops.{status_of, last_line, hears_nothing, changes_nothing, says_status, EndsThere};
 ghost use Rattle.xrc_cli.specs.Words.{run_session};
 
 use crate::run::copy_volume;
-use crate::say::say_text;
+use crate::say::{say_text, say_three};
 use crate::stop::Stop;
 use crate::words::session_of;
 use crash_plant::Plant;
+use itoa::Buffer;
 use std::alloc::Global;
 use std::sync::Wait;
 use std::thread::Threads;
@@ -42,6 +43,35 @@ fn say_line<P: Plant>(plant: &mut P, line: &[u8])
     let _ = say_text(plant, line);
 }
 
+/// Says the line of a header of which the field at this place is bad.
+fn say_bad_header<P: Plant>(plant: &mut P, place: u64)
+    ensures said { P.tells → SaidLine (bad_header_line place) (P.state plant.old) (P.state plant.new) }
+    ensures only { WorksOnConsole P.tells (P.state plant.old) (P.state plant.new) }
+    ensures heard { HearsNone P.tells (P.state plant.old) (P.state plant.new) }
+    ensures later { (P.state plant.old).console_faults ≤ (P.state plant.new).console_faults }
+{
+    let mut digits = Buffer::new();
+    let _ = say_three(
+        plant,
+        b"STATUS 8 0 ",
+        digits.format(place).as_bytes(),
+        b"\n",
+    );
+}
+
+/// Says the line of a command that was not done.
+fn say_stop<P: Plant>(plant: &mut P, stop: Stop)
+    ensures said { P.tells → SaidLine (last_line stop) (P.state plant.old) (P.state plant.new) }
+    ensures only { WorksOnConsole P.tells (P.state plant.old) (P.state plant.new) }
+    ensures heard { HearsNone P.tells (P.state plant.old) (P.state plant.new) }
+    ensures later { (P.state plant.old).console_faults ≤ (P.state plant.new).console_faults }
+{
+    if let Stop::BadHeader(place) = stop {
+        return say_bad_header(plant, place);
+    }
+    say_line(plant, stop.line());
+}
+
 /// Says the line of a command that was not done, and gives its status.
 fn finish<P: Plant>(plant: &mut P, stop: Stop) -> u8
     ensures status { result ≡ status_of stop }
@@ -50,7 +80,7 @@ fn finish<P: Plant>(plant: &mut P, stop: Stop) -> u8
     ensures heard { HearsNone P.tells (P.state plant.old) (P.state plant.new) }
     ensures later { (P.state plant.old).console_faults ≤ (P.state plant.new).console_faults }
 {
-    say_line(plant, stop.line());
+    say_stop(plant, stop);
     stop.status()
 }
 
@@ -68,14 +98,19 @@ fn run_command<S: Source, P: Plant>(
     ensures site { OnOk result (IsFirstSite (length traces.old.items) (P.state plant.old)) }
     ensures answered { P.tells → OnOk result (IfSome (run_session (map string_bytes words.now)) (λ session. AnswersScript session (P.state plant.old) (P.state plant.new))) }
     ensures copied { P.tells → (given : List ℕ) → HoldsOnly S.left traces.old.items given → OnOk result (IfSome (run_session (map string_bytes words.now)) (λ session. CopiesVolume session given (P.state plant.old) (P.state plant.new))) }
+    ensures refused { (place : ℕ) → result ≡ Err (Stop.BadHeader place) → (given : List ℕ) → HoldsOnly S.left traces.old.items given → IsRefused given place }
+    ensures header { (given : List ℕ) (place : ℕ) → HoldsOnly S.left traces.old.items given → IsRefused given place → IsSome (run_session (map string_bytes words.now)) → IsFirstSite (length traces.old.items) (P.state plant.old) → EndsThere result }
+    ensures cut { (all left : List ℕ) → HoldsOnly S.left traces.old.items all → HoldsOnly S.left traces.new.items left → result ≡ Err Stop.HeaderFault → (given : List ℕ) × EndsInHeader all left given }
+    ensures broken { P.tells → (given : List ℕ) → HoldsOnly S.left traces.old.items given → result ≡ Err Stop.EarlyBreak → IfSome (run_session (map string_bytes words.now)) (λ session. FirstRose S.faults traces.old.items traces.new.items ⊎ BreaksEarly session given (P.state plant.old)) }
     ensures slots { P.tells → ChangesSlots (P.state plant.old) (P.state plant.new) }
-    ensures unchanged { IfErr result (λ stop. stop ≢ Stop.ConsoleFault → stop ≢ Stop.EarlyVolume → SameVolume P.tells (P.state plant.old) (P.state plant.new)) }
+    ensures unchanged { IfErr result (λ stop. IsTrue (changes_nothing (status_of stop)) → SameVolume P.tells (P.state plant.old) (P.state plant.new)) }
+    ensures unheard { IfErr result (λ stop. IsTrue (hears_nothing (status_of stop)) → HearsNone P.tells (P.state plant.old) (P.state plant.new)) }
     ensures silent { IfErr result (λ stop. stop ≢ Stop.ConsoleFault → SaysNothing P.tells (P.state plant.old) (P.state plant.new)) }
-    ensures stopped { P.tells → (given : List ℕ) → HoldsOnly S.left traces.old.items given → result ≡ Err Stop.ConsoleFault → IfSome (run_session (map string_bytes words.now)) (λ session. (StopsInHearing (P.state plant.old) (P.state plant.new) × (traces.new.items ≡ traces.old.items)) ⊎ RepliesInPart session given (P.state plant.old) (P.state plant.new)) }
+    ensures stopped { P.tells → (given : List ℕ) → HoldsOnly S.left traces.old.items given → result ≡ Err Stop.ConsoleFault → IfSome (run_session (map string_bytes words.now)) (λ session. StopsInHearing (P.state plant.old) (P.state plant.new) ⊎ RepliesInPart session given (P.state plant.old) (P.state plant.new)) }
     ensures leaves { LeavesOthers P.tells (P.state plant.old) (P.state plant.new) }
     ensures console_fault { result ≡ Err Stop.ConsoleFault → Rose (P.state plant.old).console_faults (P.state plant.new).console_faults }
-    ensures source_fault { result ≡ Err Stop.EarlyBreak → FirstRose S.faults traces.old.items traces.new.items }
-    ensures source_count { result ≢ Err Stop.EarlyBreak → FirstCountStays S.faults traces.old.items traces.new.items }
+    ensures header_fault { result ≡ Err Stop.HeaderFault → FirstRose S.faults traces.old.items traces.new.items }
+    ensures source_count { result ≢ Err Stop.HeaderFault → result ≢ Err Stop.EarlyBreak → FirstCountStays S.faults traces.old.items traces.new.items }
     ensures volume_fault { result ≡ Err Stop.EarlyVolume → Rose ((P.state plant.old).faults (Volume 0)) ((P.state plant.new).faults (Volume 0)) }
     ensures volume_count { result ≢ Err Stop.EarlyVolume → (P.state plant.new).faults (Volume 0) ≡ (P.state plant.old).faults (Volume 0) }
 {
@@ -89,12 +124,14 @@ fn run_command<S: Source, P: Plant>(
 }
 
 /// Runs the command of the words, which come without the program's name, over the traces and the devices, and gives the
-/// status that the program ends with. Of commands it knows `run SESSION 1`: it hears a script that starts a session, pairs
-/// the one volume of the trace with volume 0 and ends the session, copies the volume and says the three replies. A
-/// command that was not done says the line of its status, but where the console failed.
+/// status that the program ends with. Of commands it knows `run SESSION 1`: it reads the header of the one trace, hears a script
+/// that starts a session, pairs a volume of the trace with volume 0 and ends the session, copies the volume as it is at the
+/// pair's time and follows it up to the end's, and says the three replies. A command that was not done says the line of its
+/// status, but where the console failed.
 ///
-/// Statuses: 0 done, 1 no memory, 2 the words are no command line, 3 a call on the console failed, 17 the input is of a form
-/// that is not known yet, 18 a call on the trace failed, 19 a call on volume 0 failed.
+/// Statuses: 0 done, 1 no memory, 2 the words are no command line, 3 a call on the console failed, 8 the trace's header is bad,
+/// 9 a call on the trace failed within its header, 17 the input is of a form that is not known yet, 18 the trace breaks before
+/// the last line's time, 19 a call on volume 0 failed.
 pub fn xrc<R: Threads + Wait + Sync, S: Source + Send, P: Plant>(
     _rt: &R,
     alloc: Global,
@@ -114,22 +151,32 @@ pub fn xrc<R: Threads + Wait + Sync, S: Source + Send, P: Plant>(
     ensures untouched { result ≡ 2 → (traces.new ≡ traces.old) × WorksOnConsole P.tells (P.state plant.old) (P.state plant.new) × HearsNone P.tells (P.state plant.old) (P.state plant.new) }
     ensures other_site { IsSome (run_session (map string_bytes words.now)) → ¬ (IsFirstSite (length traces.old.items) (P.state plant.old)) → (result ≡ 17) × (traces.new ≡ traces.old) × WorksOnConsole P.tells (P.state plant.old) (P.state plant.new) × HearsNone P.tells (P.state plant.old) (P.state plant.new) }
 
+    // Then the header: a bad one is refused at its first bad field, and nothing is heard.
+    ensures bad_header { P.tells → result ≡ 8 → (place : ℕ) × SaidLine (bad_header_line place) (P.state plant.old) (P.state plant.new) × ((given : List ℕ) → HoldsOnly S.left traces.old.items given → IsRefused given place) }
+    ensures header { (given : List ℕ) (place : ℕ) → HoldsOnly S.left traces.old.items given → IsRefused given place → IsSome (run_session (map string_bytes words.now)) → IsFirstSite (length traces.old.items) (P.state plant.old) → Contains (1 ∷ 8 ∷ 9 ∷ []) result }
+    ensures header_fault { result ≡ 9 → FirstRose S.faults traces.old.items traces.new.items }
+    ensures cut { (all left : List ℕ) → HoldsOnly S.left traces.old.items all → HoldsOnly S.left traces.new.items left → result ≡ 9 → (given : List ℕ) × EndsInHeader all left given }
+    ensures fault_line { P.tells → result ≡ 9 → SaidLine header_fault_line (P.state plant.old) (P.state plant.new) }
+    ensures unheard { IsTrue (hears_nothing result) → HearsNone P.tells (P.state plant.old) (P.state plant.new) }
+
+    // The trace broke below the end's time, or its count rose.
+    ensures broken { P.tells → (given : List ℕ) → HoldsOnly S.left traces.old.items given → result ≡ 18 → IfSome (run_session (map string_bytes words.now)) (λ session. FirstRose S.faults traces.old.items traces.new.items ⊎ BreaksEarly session given (P.state plant.old)) }
+
     // A fault comes only where its count rose, and no other answer hides one of the trace or of volume 0.
     ensures console_fault { result ≡ 3 → Rose (P.state plant.old).console_faults (P.state plant.new).console_faults }
-    ensures source_fault { result ≡ 18 → FirstRose S.faults traces.old.items traces.new.items }
-    ensures source_count { result ≢ 18 → FirstCountStays S.faults traces.old.items traces.new.items }
+    ensures source_count { result ≢ 9 → result ≢ 18 → FirstCountStays S.faults traces.old.items traces.new.items }
     ensures volume_fault { result ≡ 19 → Rose ((P.state plant.old).faults (Volume 0)) ((P.state plant.new).faults (Volume 0)) }
     ensures volume_count { result ≢ 19 → (P.state plant.new).faults (Volume 0) ≡ (P.state plant.old).faults (Volume 0) }
 
     // Of the devices only slots of volume 0 change.
-    ensures unchanged { result ≢ 0 → result ≢ 3 → result ≢ 19 → SameVolume P.tells (P.state plant.old) (P.state plant.new) }
+    ensures unchanged { IsTrue (changes_nothing result) → SameVolume P.tells (P.state plant.old) (P.state plant.new) }
     ensures slots { P.tells → ChangesSlots (P.state plant.old) (P.state plant.new) }
     ensures others { LeavesOthers P.tells (P.state plant.old) (P.state plant.new) }
 
     // What is said, where it was not done.
-    ensures said_line { P.tells → result ≢ 0 → result ≢ 3 → SaidLine (status_line result) (P.state plant.old) (P.state plant.new) }
-    ensures stopped { P.tells → (given : List ℕ) → HoldsOnly S.left traces.old.items given → result ≡ 3 → IfSome (run_session (map string_bytes words.now)) (λ session. (StopsInHearing (P.state plant.old) (P.state plant.new) × (traces.new.items ≡ traces.old.items)) ⊎ RepliesInPart session given (P.state plant.old) (P.state plant.new)) }
-    ensures known { Contains (0 ∷ 1 ∷ 2 ∷ 3 ∷ 17 ∷ 18 ∷ 19 ∷ []) result }
+    ensures said_line { P.tells → IsTrue (says_status result) → SaidLine (status_line result) (P.state plant.old) (P.state plant.new) }
+    ensures stopped { P.tells → (given : List ℕ) → HoldsOnly S.left traces.old.items given → result ≡ 3 → IfSome (run_session (map string_bytes words.now)) (λ session. StopsInHearing (P.state plant.old) (P.state plant.new) ⊎ RepliesInPart session given (P.state plant.old) (P.state plant.new)) }
+    ensures known { Contains (0 ∷ 1 ∷ 2 ∷ 3 ∷ 8 ∷ 9 ∷ 17 ∷ 18 ∷ 19 ∷ []) result }
 {
     match run_command(alloc, words, traces, plant) {
         Ok(()) => DONE,

@@ -26,6 +26,7 @@ pub fn say_three<P: Plant>(
 ) -> Result<(), Failed>
     ensures whole { OnOk result (SaysText P.tells (first.now ++ second.now ++ third.now) (P.state plant.old) (P.state plant.new)) }
     ensures front { SaysFront P.tells (first.now ++ second.now ++ third.now) (P.state plant.old) (P.state plant.new) }
+    ensures only { WorksOnConsole P.tells (P.state plant.old) (P.state plant.new) }
     ensures fault { OnErr result (Rose (P.state plant.old).console_faults (P.state plant.new).console_faults) }
 {
     say_text(plant, first)?;

@@ -13,9 +13,13 @@ pub enum Stop {
     BadWords,
     /// A call on the console failed.
     ConsoleFault,
+    /// The field of the trace's header that begins at this place is cut or breaks its rule.
+    BadHeader(u64),
+    /// The trace's source failed within the header.
+    HeaderFault,
     /// The input is of a form that the program does not know yet.
     NotBuilt,
-    /// A call on a trace failed.
+    /// The trace breaks before the last line's time.
     EarlyBreak,
     /// A call on a volume failed.
     EarlyVolume,

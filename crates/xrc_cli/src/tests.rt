@@ -20,7 +20,7 @@ const VOLUME_BYTES: u64 = 860_672;
 const TRACE: [u8; 41] =
     *b"XTR1\x00\x01PRIM01\x00\x01\x00\x00\x00\x00\x04\x00\x00\x00\x00\x00\x00\x00\x64\x00\x00\x00\x00\x00\x03\x00\x01\x01\x00\x00\x02AB";
 
-/// The update of that record at time 6E, which is of no form that is known yet.
+/// The update of that record at time 6E.
 const UPDATE: [u8; 19] =
     *b"\x02\x00\x00\x00\x00\x00\x00\x00\x6E\x00\x00\x00\x00\x00\x03\x01\x00\x01Z";
 
@@ -32,6 +32,11 @@ const END: &[u8] = b"0000000000000090 XEND ABC\n";
 
 const REPLIES: &[u8] =
     b"0000000000000050 XSTART OK T=0000000000000050\n0000000000000060 XADDPAIR OK TRACKS 15 T=0000000000000060\n0000000000000090 XEND OK T=0000000000000090\n";
+
+/// Three volumes of one cylinder, PRIM01 to PRIM03. Track 2 of the second has a record 5 with the content B, and track 0 of the
+/// third a record 7 with the content C.
+const VOLUMES: [u8; 60] =
+    *b"XTR1\x00\x03PRIM01\x00\x01PRIM02\x00\x01PRIM03\x00\x01\x00\x00\x00\x02\x00\x01\x00\x00\x00\x02\x00\x01\x05\x00\x00\x01B\x00\x02\x00\x00\x00\x00\x00\x01\x07\x00\x00\x01C";
 
 /// How a run ended: its status, what was said, and the front of each slot.
 #[derive(Drop)]
@@ -148,22 +153,164 @@ fn source(alloc: Global, parts: &[&[u8]], most: u32, fails: &[u8]) -> Result<Mem
 
 const RUN: [&str; 3] = ["run", "ABC", "1"];
 
+/// An idle entry.
+fn idle(stamp: u8) -> [u8; 9] {
+    [1, 0, 0, 0, 0, 0, 0, 0, stamp]
+}
+
+/// A write of a whole track of a volume's first cylinder: record 1 with a content of one byte.
+fn whole(stamp: u8, volume: u8, head: u8, content: u8) -> [u8; 22] {
+    [
+        4, 0, 0, 0, 0, 0, 0, 0, stamp, 0, volume, 0, 0, 0, head, 0, 1, 1, 0, 0, 1, content,
+    ]
+}
+
+/// The update of record 5 of track 2 of the second volume.
+fn update(stamp: u8, content: u8) -> [u8; 19] {
+    [
+        2, 0, 0, 0, 0, 0, 0, 0, stamp, 0, 1, 0, 0, 0, 2, 5, 0, 1, content,
+    ]
+}
+
+/// The slot of a track with one record, whose content is one byte.
+fn slot_of(number: u8, content: u8) -> [u8; 8] {
+    [0, 1, number, 0, 0, 1, content, 0]
+}
+
 #[test]
-fn a_volume_is_copied(rt: HostRuntime) -> Result<(), Fail> {
+fn a_volume_is_copied_and_followed(rt: HostRuntime) -> Result<(), Fail> {
     let alloc = rt.alloc();
-    for most in [1, 7, 65_536] {
-        let trace = source(alloc, &[&TRACE], most, &[])?;
-        let plant = site(alloc, &[START, PAIR, END], &[])?;
-        let outcome = run(&rt, alloc, &RUN, trace, plant)?;
-        assert_eq!(rt; outcome.status, 0);
-        assert_eq!(rt; outcome.said.as_slice(), REPLIES);
-        for (track, slot) in outcome.slots.iter().enumerate() {
-            if track == 3 {
-                assert_eq!(rt; *slot, *b"\x00\x01\x01\x00\x00\x02AB");
-            } else {
-                assert_eq!(rt; *slot, [0; 8], "in track {track}");
+    let rows: [(&[&[u8]], [u8; 8]); 2] = [
+        (&[&TRACE], *b"\x00\x01\x01\x00\x00\x02AB"),
+        (&[&TRACE, &UPDATE], *b"\x00\x01\x01\x00\x00\x02Z\x00"),
+    ];
+    for (parts, third) in rows {
+        for most in [1, 7, 65_536] {
+            let trace = source(alloc, parts, most, &[])?;
+            let plant = site(alloc, &[START, PAIR, END], &[])?;
+            let outcome = run(&rt, alloc, &RUN, trace, plant)?;
+            assert_eq!(rt; outcome.status, 0);
+            assert_eq!(rt; outcome.said.as_slice(), REPLIES);
+            for (track, slot) in outcome.slots.iter().enumerate() {
+                let expected = if track == 3 { third } else { [0; 8] };
+                assert_eq!(rt; *slot, expected, "in track {track}");
             }
         }
+    }
+    Ok(())
+}
+
+#[test]
+fn any_volume_of_the_header_is_copied(rt: HostRuntime) -> Result<(), Fail> {
+    let alloc = rt.alloc();
+    let second: &[u8] = b"0000000000000060 XADDPAIR ABC VOLUME(PRIM02,SEC001)\n";
+    let third: &[u8] = b"0000000000000060 XADDPAIR ABC VOLUME(PRIM03,SEC001)\n";
+    // Equal stamps, a write at the end's own time, and one just above it.
+    let entries: [&[u8]; 8] = [
+        &VOLUMES,
+        &whole(0x64, 0, 2, b'A'),
+        &update(0x64, b'X'),
+        &idle(0x65),
+        &whole(0x90, 1, 4, b'E'),
+        &whole(0x91, 1, 4, b'F'),
+        &whole(0x91, 2, 0, b'G'),
+        &idle(0x92),
+    ];
+    let rows: [(&[u8], [(usize, [u8; 8]); 2]); 2] = [
+        (second, [(2, slot_of(5, b'X')), (4, slot_of(1, b'E'))]),
+        (third, [(0, slot_of(7, b'C')), (1, [0; 8])]),
+    ];
+    for (pair, [first, last]) in rows {
+        let trace = source(alloc, &entries, 50, &[])?;
+        let plant = site(alloc, &[START, pair, END], &[])?;
+        let outcome = run(&rt, alloc, &RUN, trace, plant)?;
+        assert_eq!(rt; outcome.status, 0);
+        for (track, slot) in outcome.slots.iter().enumerate() {
+            let wanted = if track == first.0 {
+                first.1
+            } else if track == last.0 {
+                last.1
+            } else {
+                [0; 8]
+            };
+            assert_eq!(rt; *slot, wanted, "in track {track}");
+        }
+    }
+    Ok(())
+}
+
+/// A trace of these parts, and then so many writes of one stamp and the rest.
+fn crowd(alloc: Global, writes: u8, stamp: u8, rest: &[u8]) -> Result<MemorySource, NoMemory> {
+    let mut all = bytes(alloc, &[&TRACE])?;
+    for _ in 0..writes {
+        all.extend_from_slice(alloc, &whole(stamp, 0, 5, b'W'))?;
+    }
+    all.extend_from_slice(alloc, rest)?;
+    MemorySource::make(alloc, all, 4_096, bytes(alloc, &[])?)
+}
+
+#[test]
+fn a_trace_that_breaks_before_the_end_stops_the_copy(rt: HostRuntime) -> Result<(), Fail> {
+    let alloc = rt.alloc();
+    // How many writes of one stamp, the stamp, what follows them, and the status.
+    let rows: [(u8, u8, &[u8], u8); 9] = [
+        (32, 0x6E, &[], 0),
+        (33, 0x6E, &[], 18),
+        (33, 0x90, &[], 18),
+        (33, 0x91, &[], 0),
+        (33, 0x90, &idle(0x91), 18),
+        (0, 0, &UPDATE[..18], 18),
+        (1, 0x90, &[9], 18),
+        (1, 0x91, &[9], 0),
+        (1, 0x90, &idle(0x64), 18),
+    ];
+    for (place, (writes, stamp, rest, status)) in rows.iter().enumerate() {
+        let trace = crowd(alloc, *writes, *stamp, *rest)?;
+        let plant = site(alloc, &[START, PAIR, END], &[])?;
+        let outcome = run(&rt, alloc, &RUN, trace, plant)?;
+        assert_eq!(rt; outcome.status, *status, "row {place}");
+        if *status == 18 {
+            assert_eq!(rt; outcome.said.as_slice(), b"STATUS 18\n".as_slice());
+        }
+    }
+    Ok(())
+}
+
+#[test]
+fn a_bad_header_is_refused_at_its_place(rt: HostRuntime) -> Result<(), Fail> {
+    let alloc = rt.alloc();
+    let rows: [(&[u8], &[u8]); 4] = [
+        (&TRACE[..12], b"STATUS 8 0 12\n"),
+        (&[], b"STATUS 8 0 0\n"),
+        (b"XTR2\x00\x01", b"STATUS 8 0 0\n"),
+        (b"XTR1\x00\x00", b"STATUS 8 0 4\n"),
+    ];
+    for (given, line) in rows {
+        let trace = source(alloc, &[given], 64, &[])?;
+        let plant = site(alloc, &[], &[])?;
+        let outcome = run(&rt, alloc, &RUN, trace, plant)?;
+        assert_eq!(rt; outcome.status, 8);
+        assert_eq!(rt; outcome.said.as_slice(), line);
+    }
+    Ok(())
+}
+
+#[test]
+fn a_pull_that_fails_is_told(rt: HostRuntime) -> Result<(), Fail> {
+    let alloc = rt.alloc();
+    let rows: [(&[u8], u8, &[u8]); 4] = [
+        (&[1], 9, b"STATUS 9 0\n"),
+        (&[0, 1], 9, b"STATUS 9 0\n"),
+        (&[0, 0, 1], 18, b"STATUS 18\n"),
+        (&[0, 0, 0, 1], 18, b"STATUS 18\n"),
+    ];
+    for (fails, status, line) in rows {
+        let trace = source(alloc, &[&TRACE], 16, fails)?;
+        let plant = site(alloc, &[START, PAIR, END], &[])?;
+        let outcome = run(&rt, alloc, &RUN, trace, plant)?;
+        assert_eq!(rt; outcome.status, status);
+        assert_eq!(rt; outcome.said.as_slice(), line);
+        assert!(rt; outcome.slots.iter().all(|slot| *slot == [0; 8]));
     }
     Ok(())
 }
@@ -190,33 +337,18 @@ fn other_words_touch_nothing(rt: HostRuntime) -> Result<(), Fail> {
 fn other_input_changes_nothing(rt: HostRuntime) -> Result<(), Fail> {
     let alloc = rt.alloc();
     let other_pair: &[u8] = b"0000000000000060 XADDPAIR ABC VOLUME(PRIM01,SEC002)\n";
-    let rows: [(&[&[u8]], &[&[u8]]); 5] = [
-        (&[&TRACE, &UPDATE], &[START, PAIR, END]),
-        (&[&TRACE], &[START, PAIR]),
-        (&[&TRACE], &[START, PAIR, END, END]),
-        (&[&TRACE], &[START, other_pair, END]),
-        (&[&TRACE[..40]], &[START, PAIR, END]),
+    let no_primary: &[u8] = b"0000000000000060 XADDPAIR ABC VOLUME(PRIM02,SEC001)\n";
+    let rows: [&[&[u8]]; 4] = [
+        &[START, PAIR],
+        &[START, PAIR, END, END],
+        &[START, other_pair, END],
+        &[START, no_primary, END],
     ];
-    for (trace, script) in rows {
-        let trace = source(alloc, trace, 64, &[])?;
+    for script in rows {
+        let trace = source(alloc, &[&TRACE], 64, &[])?;
         let outcome = run(&rt, alloc, &RUN, trace, site(alloc, script, &[])?)?;
         assert_eq!(rt; outcome.status, 17);
         assert_eq!(rt; outcome.said.as_slice(), b"STATUS 17\n".as_slice());
-        assert!(rt; outcome.slots.iter().all(|slot| *slot == [0; 8]));
-    }
-    Ok(())
-}
-
-#[test]
-fn a_pull_that_fails_changes_nothing(rt: HostRuntime) -> Result<(), Fail> {
-    let alloc = rt.alloc();
-    let rows: [&[u8]; 3] = [&[1], &[0, 1], &[0, 0, 0, 1]];
-    for fails in rows {
-        let trace = source(alloc, &[&TRACE], 16, fails)?;
-        let plant = site(alloc, &[START, PAIR, END], &[])?;
-        let outcome = run(&rt, alloc, &RUN, trace, plant)?;
-        assert_eq!(rt; outcome.status, 18);
-        assert_eq!(rt; outcome.said.as_slice(), b"STATUS 18\n".as_slice());
         assert!(rt; outcome.slots.iter().all(|slot| *slot == [0; 8]));
     }
     Ok(())
@@ -234,8 +366,8 @@ fn failure(at: Option<Device>, call: u64) -> Failure {
 #[test]
 fn calls_on_the_volume_that_fail(rt: HostRuntime) -> Result<(), Fail> {
     let alloc = rt.alloc();
-    // The label's read, the first write, the last one, and the sync.
-    for call in [0, 1, 15, 16] {
+    // The label's read, the first write, the last one of the copy, that of the track that has changed, and the sync.
+    for call in [0, 1, 15, 16, 17] {
         let trace = source(alloc, &[&TRACE], 64, &[])?;
         let plant = site(
             alloc,
@@ -278,10 +410,13 @@ fn the_first_cause_counts(rt: HostRuntime) -> Result<(), Fail> {
     let good: &[&[u8]] = &[START, PAIR, END];
     let short: &[&[u8]] = &[START, PAIR];
     let sayings = 109;
-    let rows: [(&[u8], &[&[u8]], &[Failure], u8); 6] = [
-        (&[1], good, &[failure(None, 0)], 3),
-        (&[1], good, &[failure(volume, 0)], 18),
-        (&[1], short, &[], 18),
+    let rows: [(&[u8], &[&[u8]], &[Failure], u8); 9] = [
+        (&[1], good, &[failure(None, 0)], 9),
+        (&[0, 1], good, &[failure(None, 0)], 3),
+        (&[0, 1], good, &[failure(volume, 0)], 19),
+        (&[0, 1], short, &[], 17),
+        (&[0, 1], good, &[failure(volume, 1)], 19),
+        (&[0, 1], good, &[failure(volume, 16)], 18),
         (&[], short, &[failure(volume, 0)], 19),
         (&[], short, &[failure(volume, 1)], 17),
         (&[], good, &[failure(volume, 1), failure(None, sayings)], 19),

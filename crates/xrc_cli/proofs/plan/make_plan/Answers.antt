@@ -1,18 +1,8 @@
-use Rattle.std.proofs.Common.{ℕ, List, IsTrue, refl, rules, subst}
-use Rattle.xrc_cli.specs.Copies.{ReadsTrace}
+use Rattle.std.proofs.Common.{[], arith}
+use Rattle.xrc_cli.proofs.PlanLaws.{cylinders_bound}
 use Rattle.xrc_cli.proofs.plan.make_plan.Goals as goal
 
-pub returns-clause-plan : goal.returns-clause-plan
-returns-clause-plan c =
-    let reads = rw c.in-Some-2.is at c.in_ok-copy.ensures.read in
-    let is_pair : IsTrue c.is_pair.result = search rules in
-    record {
-      script = c.in-Some.script;
-      asked = search rules;
-      bytes = refl;
-      reads = subst (λ (bytes : List ℕ). ReadsTrace bytes c.in-Some.script.end_time.0 c.in-Some-2.copy) c.deref.ensures.value reads;
-      is_pair = c.is_pair.ensures.0 is_pair;
-      start = search rules;
-      pair = search rules;
-      end = search rules;
-    }
+pub overflow_mul-tracks : goal.overflow_mul-tracks
+overflow_mul-tracks c =
+    let few = cylinders_bound [] c.args.volumes.now c.in-Some-find_volume.volume c.in-Some-find_volume.head c.requires.rules c.in-Some-find_volume.ensures.at in
+    omega (arith, few)

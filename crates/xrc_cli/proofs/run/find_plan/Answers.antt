@@ -5,20 +5,19 @@ use Rattle.xrc_cli.specs.Runs.{FindsPlan}
 use Rattle.xrc_cli.proofs.PlanLaws.{if_ok_more, finds_plan}
 use Rattle.xrc_cli.proofs.run.find_plan.Goals as goal
 
-pub returns-in-Some-Some-Some-clause-plan : goal.returns-in-Some-Some-Some-clause-plan
-returns-in-Some-Some-Some-clause-plan g c =
+pub returns-in-Some-Some-clause-plan : goal.returns-in-Some-Some-clause-plan
+returns-in-Some-Some-clause-plan g c =
     let tells = g.P.Plant.tells in
-    let given = g.S.Source.left c.args.source.now in
+    let volumes = c.args.volumes.now in
     let a = g.P.Plant.state c.args.plant.now in
     let b = g.P.Plant.state c.hear_script.new.plant in
     let d = g.P.Plant.state c.read_label.new.plant in
-    let s = c.in-Some-Some-Some in
+    let s = c.in-Some-Some in
     let heard = rw s.is-0 at c.in_ok-text.ensures.heard in
-    let all = rw s.is-1 at c.in_ok-bytes.ensures.given in
-    let labelled = rw s.is-2 at c.in-Ok.ensures.label in
-    let room = rw s.is-2 at c.in-Ok.ensures.room in
-    if_ok_more c.make_plan.result (IsPlan c.args.session c.deref.result.now s.bytes.items s.label) (FindsPlan tells c.args.session given a d)
-    (λ plan is. finds_plan tells c.args.session given a b d c.deref.result.now s.bytes.items s.label plan is
-    (λ told. subst (λ (text : List ℕ). HearsAll text a b) (sym c.deref.ensures.value) (heard told)) all labelled room
+    let labelled = rw s.is-1 at c.in-Ok.ensures.label in
+    let room = rw s.is-1 at c.in-Ok.ensures.room in
+    if_ok_more c.make_plan.result (IsPlan c.args.session c.deref.result.now volumes s.label) (FindsPlan tells c.args.session volumes a d)
+    (λ plan is. finds_plan tells c.args.session volumes a b d c.deref.result.now s.label plan is
+    (λ told. subst (λ (text : List ℕ). HearsAll text a b) (sym c.deref.ensures.value) (heard told)) labelled room
     c.hear_script.ensures.leaves c.hear_script.ensures.volume (λ told. (c.in-Ok.ensures.only.silent told).script))
     c.make_plan.ensures.plan
