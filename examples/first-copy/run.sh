@@ -1,5 +1,5 @@
 #!/bin/sh
-# Copies one volume in a temporary folder, shows what is said and what stands in a slot, and checks both.
+# Copies one volume in a temporary folder by two traces in turn, shows what is said and what stands in the slots, and checks both.
 set -eu
 
 repository=$(cd "$(dirname "$0")/../.." && pwd)
@@ -33,17 +33,6 @@ site=$(mktemp -d)
 trap 'rm -rf "$site"' EXIT
 cd "$site"
 
-# The devices: control, state, two journals, and a volume of one cylinder with the label SEC001.
-truncate -s 1024 control
-truncate -s 16384 state
-truncate -s 1826816 journal.0 journal.1
-bytes '58 56 4F 4C 53 45 43 30 30 31 00 00 00 01' >volume.0
-truncate -s 860672 volume.0
-
-# The trace of a volume PRIM01 of one cylinder: at time 64 track 3 gets one record, number 1, with the content AB.
-bytes '58 54 52 31 00 01 50 52 49 4D 30 31 00 01 00 00 00 00' >trace.0
-bytes '04 00 00 00 00 00 00 00 64 00 00 00 00 00 03 00 01 01 00 00 02 41 42' >>trace.0
-
 cat >script <<'SCRIPT'
 0000000000000050 XSTART ABC
 0000000000000060 XADDPAIR ABC VOLUME(PRIM01,SEC001)
@@ -55,20 +44,61 @@ cat >wanted <<'WANTED'
 0000000000000090 XEND OK T=0000000000000090
 WANTED
 
-status=0
-"$program" run ABC 1 <script >replies || status=$?
+# Copies by the trace that is there, and checks what is said. The devices: control, state, two journals, and a new volume of one
+# cylinder with the label SEC001.
+copy() {
+    truncate -s 1024 control
+    truncate -s 16384 state
+    truncate -s 1826816 journal.0 journal.1
+    bytes '58 56 4F 4C 53 45 43 30 30 31 00 00 00 01' >volume.0
+    truncate -s 860672 volume.0
 
-echo "xrc run ABC 1 says:"
-cat replies
-[ "$status" -eq 0 ] || fail "the status is $status and not 0"
-cmp -s wanted replies || fail "the replies are not those that were wanted"
+    status=0
+    "$program" run ABC 1 <script >replies || status=$?
+    echo "xrc run ABC 1 says:"
+    cat replies
+    [ "$status" -eq 0 ] || fail "the status is $status and not 0"
+    cmp -s wanted replies || fail "the replies are not those that were wanted"
+    label=$(od -An -v -tx1 -N 14 volume.0 | tr -d ' \n')
+    [ "$label" = 58564f4c53454330303100000001 ] || fail "the label has changed"
+}
 
-# The slot of track 3 begins at 512 + 3 x 57,344.
-slot=$(od -An -v -tx1 -j 172544 -N 8 volume.0 | tr -d ' \n')
-echo "The slot of track 3 begins with $slot."
-[ "$slot" = 0001010000024142 ] || fail "the slot of track 3 does not hold the record"
-other=$(od -An -v -tx1 -j 512 -N 2 volume.0 | tr -d ' \n')
-[ "$other" = 0000 ] || fail "the slot of track 0 does not hold the empty track"
-label=$(od -An -v -tx1 -N 14 volume.0 | tr -d ' \n')
-[ "$label" = 58564f4c53454330303100000001 ] || fail "the label has changed"
+# Shows and checks the first bytes of a track's slot, which stands at 512 + the track's number x 57,344.
+check_slot() {
+    slot=$(od -An -v -tx1 -j $((512 + $1 * 57344)) -N $((${#2} / 2)) volume.0 | tr -d ' \n')
+    echo "The slot of track $1 begins with $slot."
+    [ "$slot" = "$2" ] || fail "the slot of track $1 does not begin with $2"
+}
+
+# The trace of a volume PRIM01 of one cylinder: at time 64 track 3 gets one record, number 1, with the content AB.
+bytes '58 54 52 31 00 01 50 52 49 4D 30 31 00 01 00 00 00 00' >header
+{
+    cat header
+    bytes '04 00 00 00 00 00 00 00 64 00 00 00 00 00 03 00 01 01 00 00 02 41 42'
+} >trace.0
+copy
+check_slot 3 0001010000024142
+check_slot 0 0000
 echo "The volume was copied."
+
+# A second trace of that volume, with updates and formats. XEND comes at time 90.
+{
+    cat header
+    # At time 10 track 3 gets the records 1, 2 and 3 with the contents AB, CD and EF.
+    bytes '04 00 00 00 00 00 00 00 10 00 00 00 00 00 03 00 03 01 00 00 02 41 42 02 00 00 02 43 44 03 00 00 02 45 46'
+    # At 58 its record 2 is updated by X, which is filled with a zero.
+    bytes '02 00 00 00 00 00 00 00 58 00 00 00 00 00 03 02 00 01 58'
+    # At 64 it is formatted behind record 2: record 3 is erased, and record 4 gets the key K and the content GHI.
+    bytes '03 00 00 00 00 00 00 00 64 00 00 00 00 00 03 02 01 04 01 00 03 4B 47 48 49'
+    # At 70 track 5, which is empty, is formatted from its start: record 1 gets the content N.
+    bytes '03 00 00 00 00 00 00 00 70 00 00 00 00 00 05 00 01 01 00 00 01 4E'
+    # At 90 record 1 of track 3 is updated by YZW, which is cut to YZ.
+    bytes '02 00 00 00 00 00 00 00 90 00 00 00 00 00 03 01 00 03 59 5A 57'
+    # At 91 it is updated by V, which is not copied any more.
+    bytes '02 00 00 00 00 00 00 00 91 00 00 00 00 00 03 01 00 01 56'
+} >trace.0
+copy
+check_slot 3 000301000002595a020000025800040100034b474849
+check_slot 5 0001010000014e
+check_slot 0 0000
+echo "The volume was copied and followed."

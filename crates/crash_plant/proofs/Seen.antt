@@ -1,5 +1,5 @@
 -- Reads and writes of an item at an index.
-use Rattle.std.proofs.Common.{◌≡◌, ◌≢◌, ◌<◌, ◌≤◌, ℕ, zero, suc, List, [], ◌∷◌, ◌++◌, length, slice_set, slice_index_or, map, ◌+◌, inl, inr, refl, ap, sym, ◌∙◌, subst, arith, length-append}
+use Rattle.std.proofs.Common.{◌≡◌, ◌≢◌, ◌<◌, ◌≤◌, ℕ, zero, suc, List, [], ◌∷◌, ◌++◌, length, slice_set, slice_index_or, map, ◌+◌, inl, inr, refl, ap, sym, ◌∙◌, subst, arith, length-append, append_assoc}
 use Rattle.std.proofs.lemmas.Bool.{cases_lt}
 use Rattle.crash_plant.specs.declared.device.Device.{Device}
 use Rattle.crash_plant.specs.declared.device.Device.TheVariants.{Control, State, Journal, Volume}
@@ -155,3 +155,30 @@ seen_of_none see see_place none control state journals volumes at_control at_sta
 seen_of_none see see_place none control state journals volumes at_control at_state at_journals at_volumes State = at_state
 seen_of_none see see_place none control state journals volumes at_control at_state at_journals at_volumes (Journal j) = at_journals j
 seen_of_none see see_place none control state journals volumes at_control at_state at_journals at_volumes (Volume v) = at_volumes v
+
+-- A row that was made item by item of another row.
+pub row_push : {A B C : Type 0} (see : A → C) (of : B → C) (none : C) (made new : List A) (x : A) (from : List B) (y : B) → length made ≡ length from → new ≡ made ++ x ∷ [] → ((i : ℕ) → i < length from → seen_at see none made i ≡ seen_at of none from i) → see x ≡ of y
+    → (i : ℕ) → i < length (from ++ y ∷ []) → seen_at see none new i ≡ seen_at of none (from ++ y ∷ []) i
+row_push see of none made new x from y size is before last i less =
+    seen_push see none (λ (k : ℕ). seen_at of none (from ++ y ∷ []) k) made new x (length from) size is (λ k early. before k early ∙ sym (seen_push_before of none from y k early)) (last ∙ sym (seen_push_last of none from y)) i (omega (arith, less, length-append from (y ∷ [])))
+
+pub same_length_push : {A B : Type 0} (made new : List A) (x : A) (from : List B) (y : B) → length made ≡ length from → new ≡ made ++ x ∷ [] → length new ≡ length (from ++ y ∷ [])
+same_length_push made new x from y size is = omega (arith, size, ap length is, length-append made (x ∷ []), length-append from (y ∷ []))
+
+-- Rows that are seen alike up to their common length are so everywhere.
+pub seen_alike : {A B C : Type 0} (see : A → C) (of : B → C) (none : C) (xs : List A) (ys : List B) → length xs ≡ length ys → ((i : ℕ) → i < length ys → seen_at see none xs i ≡ seen_at of none ys i) → (i : ℕ) → seen_at see none xs i ≡ seen_at of none ys i
+seen_alike see of none [] [] size each i = refl
+seen_alike see of none [] (y ∷ ys) size each i = absurd (omega (arith, size))
+seen_alike see of none (x ∷ xs) [] size each i = absurd (omega (arith, size))
+seen_alike see of none (x ∷ xs) (y ∷ ys) size each zero = each 0 (omega arith)
+seen_alike see of none (x ∷ xs) (y ∷ ys) size each (suc i) = seen_alike see of none xs ys (omega (arith, size)) (λ k less. each (suc k) (omega (arith, less))) i
+
+-- What is seen of what is seen.
+pub seen_through : {A B C : Type 0} (f : B → C) (see : A → B) (none : B) (xs : List A) (i : ℕ) → f (seen_at see none xs i) ≡ seen_at (λ x. f (see x)) (f none) xs i
+seen_through f see none [] i = refl
+seen_through f see none (x ∷ xs) zero = refl
+seen_through f see none (x ∷ xs) (suc i) = seen_through f see none xs i
+
+-- One item more is taken of a list.
+pub taken : {A : Type 0} (all so_far rest : List A) (x : A) (next : List A) → all ≡ so_far ++ rest → rest ≡ x ∷ next → all ≡ (so_far ++ x ∷ []) ++ next
+taken all so_far rest x next is goes = is ∙ ap (λ (l : List _). so_far ++ l) goes ∙ sym (append_assoc so_far (x ∷ []) next)

@@ -1,4 +1,5 @@
 pub mod Bytes
+pub mod Clock
 pub mod Moments
 pub mod Calls
 pub mod Choices
@@ -10,5 +11,16 @@ pub mod PlainLaws
 pub mod FilePlant
 pub mod Fails
 pub mod FailPlans
+pub mod Pasts
+pub mod MemoryDisk
+pub mod Shelves
+pub mod Fresh
+pub mod Remains
+pub mod MemoryDisks
+pub mod Turns
+pub mod MemoryConsole
+pub mod Left
+pub mod Passes
+pub mod MemoryLaws
 pub mod MemoryVolume
 pub mod MemoryPlant

@@ -54,3 +54,11 @@ pub record Restarts (script : List ℕ) (old new : PlantState) : Type 0 where
   pub heard : new.heard new.clock ≡ []
   pub said : new.said new.clock ≡ old.said old.clock
   pub console_faults : new.console_faults ≡ old.console_faults
+
+-- Nothing was heard or said, there is nothing to hear, and no call has failed.
+pub record IsSilent (plant : PlantState) : Type 0 where
+  pub heard : plant.heard plant.clock ≡ []
+  pub said : plant.said plant.clock ≡ []
+  pub is_to_hear : plant.script ≡ []
+  pub faults : (d : Device) → plant.faults d ≡ 0
+  pub console_faults : plant.console_faults ≡ 0

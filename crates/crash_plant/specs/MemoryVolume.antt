@@ -1,14 +1,21 @@
--- A volume in memory whose calls fail by plan.
-use Rattle.std.specs.Prelude.{◌≡◌, ◌||◌, Bool, map}
+-- A volume in memory that keeps its past, and whose calls fail by plan.
+use Rattle.std.specs.Prelude.{◌≡◌, ◌||◌, Bool, length, map}
 use Rattle.std.specs.List.{list_any}
 use Rattle.crash_plant.specs.declared.memory_volume.MemoryVolume.{MemoryVolume}
 use Rattle.crash_plant.specs.Moments.{Standing}
+use Rattle.crash_plant.specs.Clock.{clock_of}
 use Rattle.crash_plant.specs.Fails.{after, is_due, is_stopping}
-use Rattle.crash_plant.specs.PlainPlant.{disk_bytes, disk_length}
-use Rattle.crash_plant.specs.Still.{still_disk}
+use Rattle.crash_plant.specs.MemoryDisk.{held, first_held, past_of}
+use Rattle.crash_plant.specs.Pasts.{Reach}
 
 abbrev pub volume_standing : MemoryVolume → Standing
-volume_standing volume = still_disk (disk_bytes volume.disk) (disk_length volume.disk) volume.plan.faults
+volume_standing volume = record {
+  bytes = held volume.disk;
+  clock = clock_of volume.ticks;
+  images = λ t c. Reach t (past_of volume.disk) (first_held volume.disk) c;
+  length_is = length (held volume.disk);
+  faults = volume.plan.faults;
+}
 
 -- whether a call on it fails by plan
 abbrev pub volume_fails_by_plan : MemoryVolume → Bool

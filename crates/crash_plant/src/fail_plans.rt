@@ -111,6 +111,26 @@ impl FailPlans {
         self.console.meet(said, &mut self.is_stopped)
     }
 
+    /// Raises the count of faults of a device.
+    pub(crate) fn fail(&mut self, device: Device) -> Result<(), Failed>
+        requires { IsPlanned self.old device }
+        ensures fails { IsErr result }
+        ensures planned { (d : Device) → planned_of self.new d ≡ planned_of self.old d }
+        ensures cause { HasCause (faults_of self.old device) (faults_of self.new device) result }
+        ensures others { (d : Device) → d ≢ device → faults_of self.new d ≡ faults_of self.old d }
+        ensures stopped { self.new.is_stopped ≡ self.old.is_stopped }
+        ensures journals { length self.new.journals.items ≡ length self.old.journals.items }
+        ensures volumes { length self.new.volumes.items ≡ length self.old.volumes.items }
+        ensures console { self.new.console ≡ self.old.console }
+    {
+        match device {
+            Device::Control => self.control.fail(),
+            Device::State => self.state.fail(),
+            Device::Journal(number) => self.journals[usize::from(number)].fail(),
+            Device::Volume(number) => self.volumes[usize::from(number)].fail(),
+        }
+    }
+
     /// Raises the console's count of faults.
     pub(crate) fn fail_console(&mut self) -> Result<(), Failed>
         ensures fails { IsErr result }

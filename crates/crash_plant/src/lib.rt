@@ -1,21 +1,32 @@
 //! The devices and the console of a site, and what a crash may leave of them.
 #![tactic(auto)]
 
+mod clock;
 mod console;
+#[cfg(test)]
+mod crash_tests;
 mod device;
 mod disk;
+mod entry;
 mod fail;
 mod fail_plan;
 mod fail_plans;
 mod file_disk;
 mod file_plant;
+mod left;
+mod memory_console;
+mod memory_disk;
+mod memory_disks;
 mod memory_plant;
 mod memory_volume;
 mod plain_disk;
 mod plain_plant;
 mod plant;
+mod shelf;
+mod spot;
 #[cfg(test)]
 mod tests;
+mod turn;
 
 pub use device::{Device, Heard};
 pub use disk::Disk;
@@ -27,3 +38,4 @@ pub use memory_volume::MemoryVolume;
 pub use plain_disk::PlainDisk;
 pub use plain_plant::PlainPlant;
 pub use plant::Plant;
+pub use spot::Spot;

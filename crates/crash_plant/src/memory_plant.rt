@@ -1,36 +1,73 @@
-ghost use Rattle.std.specs.Prelude.{◌≡◌, ◌↔◌, ◌≤◌, ◌+◌, ◌++◌, length, slice_range, IfOk, IsErr, IsTrue, OnErr, OnOk};
+ghost use Rattle.std.specs.Prelude.{◌≡◌, ◌≢◌, ◌↔◌, ◌≤◌, ◌<◌, ◌+◌, ◌++◌, ◌^◌, ◌||◌, [], length, slice_range, IfOk, IsErr, IsTrue, OnErr, OnOk};
 ghost use Rattle.xrc_edge.specs.Causes.{HasCause};
 ghost use Rattle.crash_plant.specs.Bytes.{patched, Torn};
+ghost use Rattle.crash_plant.specs.Choices.{IsChoice};
+ghost use Rattle.crash_plant.specs.Clock.{clock_of, is_at_end, last_tick};
+ghost use Rattle.crash_plant.specs.MemoryConsole.{IsNext, SameConsole as SameRecord, Utters, last_told};
+ghost use Rattle.crash_plant.specs.MemoryDisks.{IsHome, SameSizes, journals_of, view, volumes_of};
 ghost use Rattle.crash_plant.specs.Moments.{Follows, IsDurable, Raises, Same, on};
-ghost use Rattle.crash_plant.specs.Calls.{Hears, HearsNothing, IsLentOne, IsThere, Lends, Listens, Says, TakesBack, WorksOn, WorksOnConsole};
-ghost use Rattle.crash_plant.specs.Made.{SameConsole, SameDevices};
+ghost use Rattle.crash_plant.specs.Calls.{Hears, HearsNothing, IsLentOne, IsThere, Lends, Listens, NoneLent, SameSite, Says, TakesBack, WorksOn, WorksOnConsole};
+ghost use Rattle.crash_plant.specs.Left.{left_of};
+ghost use Rattle.crash_plant.specs.Made.{IsSilent, SameConsole, SameDevices};
+ghost use Rattle.crash_plant.specs.Passes.{IsSynced, Opens, OpensOrNot, Passes, ShelfOpens, step_of};
+ghost use Rattle.crash_plant.specs.Pasts.{Does};
 ghost use Rattle.crash_plant.specs.PlainPlant.{plain_state};
+ghost use Rattle.crash_plant.specs.Shelves.{last_done, lent_at, shelf_bytes, shelf_length, shelf_past};
+ghost use Rattle.crash_plant.specs.declared.device.Device.{Device};
+ghost use Rattle.crash_plant.specs.declared.device.Device.TheVariants.{Volume};
 
+use crate::clock::{back, moment, raise};
+use crate::entry::Done;
 use crate::fail_plans::FailPlans;
+use crate::memory_console::MemoryConsole;
+use crate::memory_disk::MemoryDisk;
+use crate::memory_disks::MemoryDisks;
 use crate::memory_volume::front;
 use crate::{Device, FailList, Heard, MemoryVolume, PlainPlant, Plant};
 use std::alloc::Global;
 use xrc_edge::{Failed, NoMemory};
 
-/// A plant in memory whose calls fail by plan, and where memory is wanting. A write that fails tears its range: the front of
-/// its bytes is written. A say that fails by plan has said the front of its bytes. It keeps no past: its clock stands at 0.
+/// A plant in memory that keeps its past, so that it can tell what a crash leaves at each moment.
+///
+/// Its clock begins at 1, and each call that succeeds raises it. Between two syncs that succeed, each range written since the
+/// first of them may hold any bytes after a crash; all other bytes are as read.
+///
+/// Its calls fail by plan. A write that fails tears its range: the front of its bytes is written, and the range is open for a
+/// crash. A say that fails has said the front of its bytes. A write, a sync, a say, and the hearing of a byte take memory
+/// for their record, and fail where it is wanting, though no failure was planned; each call fails at the clock's end. So
+/// that a failure was planned is one cause of these failures, and not the only one.
 #[derive(Drop)]
 pub struct MemoryPlant {
     alloc: Global,
-    plain: PlainPlant,
+    // Each call that succeeds raises it.
+    ticks: u64,
+    disks: MemoryDisks,
+    console: MemoryConsole,
     plans: FailPlans,
-    ghost each_journal: { length plans.journals.items ≡ (plain_state plain).journals },
-    ghost each_volume: { length plans.volumes.items ≡ (plain_state plain).volumes },
+    ghost few_journals: { journals_of disks < 2 ^ 16 },
+    ghost few_volumes: { volumes_of disks < 2 ^ 16 },
+    ghost each_journal: { length plans.journals.items ≡ journals_of disks },
+    ghost each_volume: { length plans.volumes.items ≡ volumes_of disks },
+    ghost within: { ticks ≤ last_tick },
+    ghost done: { (d : Device) → last_done (view disks d) ≤ clock_of ticks },
+    ghost loans: { (d : Device) → lent_at (view disks d) ≤ ticks },
+    ghost told: { last_told console ≤ clock_of ticks },
 }
 
 impl MemoryPlant {
-    ghost use Rattle.crash_plant.specs.MemoryPlant.{IsPlannedAs, memory_state};
+    ghost use Rattle.crash_plant.specs.MemoryDisk.{past_of};
+    ghost use Rattle.crash_plant.specs.MemoryPlant.{IsPlannedAs, memory_state, said_count};
+    ghost use Rattle.crash_plant.specs.Passes.{Shelves};
+    ghost use Rattle.crash_plant.specs.Pasts.{last_till};
 
-    /// The plain plant, and a list of its calls that fail. The calls counted so far are none, and so are the devices' faults.
+    /// The plain plant, with its past from now on, and a list of its calls that fail. The calls counted so far are none, and
+    /// so are the devices' faults.
     pub fn make(alloc: Global, plain: PlainPlant, fails: FailList) -> Result<MemoryPlant, NoMemory>
         ensures planned { IfOk result (λ plant. IsPlannedAs fails plant) }
         ensures devices { IfOk result (λ plant. SameDevices (plain_state plain) (memory_state plant)) }
         ensures console { IfOk result (λ plant. SameConsole (plain_state plain) (memory_state plant)) }
+        ensures clock { IfOk result (λ plant. (memory_state plant).clock ≡ 1) }
+        ensures durable { IfOk result (λ plant. (d : Device) → IsDurable (on (memory_state plant) d)) }
     {
         let plans = FailPlans::make(
             alloc,
@@ -39,9 +76,22 @@ impl MemoryPlant {
             plain.volumes(),
             plain.console_faults(),
         )?;
+        let PlainPlant {
+            control,
+            state,
+            journals,
+            volumes,
+            script,
+            next,
+            said,
+            console_faults: _,
+        } = plain;
+        let disks = MemoryDisks::make(alloc, control, state, journals, volumes)?;
         Ok(MemoryPlant {
             alloc,
-            plain,
+            ticks: 0,
+            disks,
+            console: MemoryConsole::new(alloc, 1, script, next, said),
             plans,
         })
     }
@@ -50,22 +100,123 @@ impl MemoryPlant {
     pub fn said(&self) -> &[u8]
         ensures { result.now ≡ (memory_state self.now).said (memory_state self.now).clock }
     {
-        self.plain.said()
+        self.console.said()
+    }
+
+    /// The images of a crash now: a plant without a past, with an empty script, on which nothing is said. The open ranges are
+    /// filled from the choice repeated, each from its beginning, and with zeros where the choice is empty.
+    pub fn crash(&self, alloc: Global, choice: &[u8]) -> Result<PlainPlant, NoMemory>
+        requires { NoneLent (memory_state self.now) }
+        ensures site { IfOk result (λ plant. SameSite (memory_state self.now) (plain_state plant)) }
+        ensures images { IfOk result (λ plant. IsChoice (memory_state self.now) (memory_state self.now).clock (plain_state plant).bytes) }
+        ensures chosen { IfOk result (λ plant. (d : Device) → IsThere (memory_state self.now) d → (plain_state plant).bytes d ≡ left_of choice.now (shelf_past (view self.now.disks d)) ((memory_state self.now).bytes d)) }
+        ensures none_lent { IfOk result (λ plant. NoneLent (plain_state plant)) }
+        ensures console { IfOk result (λ plant. IsSilent (plain_state plant)) }
+    {
+        let plant = self.disks.left(alloc, choice)?;
+        Ok(plant)
     }
 
     fn said_so_far(&self) -> u64
-        ensures { result ≡ length ((memory_state self.now).said 0) }
+        ensures { result ≡ said_count self.now }
     {
-        self.plain.said().len() as u64
+        self.console.said().len() as u64
+    }
+
+    // Does a call on a device and raises the clock. Where it can't, nothing is done.
+    fn note(&mut self, device: Device, done: Done, place: u64, bytes: &[u8]) -> Result<(), Failed>
+        requires there { IsHome self.old.disks device }
+        requires range { place + length bytes.now ≤ shelf_length (view self.old.disks device) }
+        requires does { Does done (shelf_bytes (view self.old.disks device)) (patched place bytes.now (shelf_bytes (view self.old.disks device))) }
+        ensures passes { Passes (step_of done) (clock_of self.old.ticks) (clock_of self.new.ticks) (view self.old.disks device) (view self.new.disks device) }
+        ensures written { OnOk result (shelf_bytes (view self.new.disks device) ≡ patched place bytes.now (shelf_bytes (view self.old.disks device))) }
+        ensures durable { OnOk result (IsSynced done (clock_of self.new.ticks) (view self.new.disks device)) }
+        ensures opens { OnOk result (ShelfOpens done (clock_of self.old.ticks) (clock_of self.new.ticks) (view self.old.disks device) (view self.new.disks device)) }
+        ensures same { OnErr result (shelf_bytes (view self.new.disks device) ≡ shelf_bytes (view self.old.disks device)) }
+        ensures clock { OnOk result (self.new.ticks ≡ self.old.ticks + 1) }
+        ensures others { (d : Device) → d ≢ device → view self.new.disks d ≡ view self.old.disks d }
+        ensures sizes { SameSizes self.old.disks self.new.disks }
+        ensures console { self.new.console ≡ self.old.console }
+        ensures plans { self.new.plans ≡ self.old.plans }
+    {
+        if !raise(&mut self.ticks) {
+            return Err(Failed);
+        }
+        match self
+            .disks
+            .note(device, moment(self.ticks), done, place, bytes)
+        {
+            Ok(()) => Ok(()),
+            Err(_) => Err(Failed),
+        }
+    }
+
+    // Puts a volume in its place whose own clock stands at a tick. Its own calls lie between the moment behind that of the
+    // loan and now.
+    fn shelve(&mut self, device: u16, disk: MemoryDisk, ticks: u64)
+        requires there { device < volumes_of self.old.disks }
+        requires own { ticks ≤ last_tick }
+        requires done { last_till 0 (past_of disk) ≤ clock_of ticks }
+        ensures here { Shelves ticks (lent_at (view self.old.disks (Volume device))) self.old.ticks self.new.ticks disk (view self.new.disks (Volume device)) }
+        ensures others { (d : Device) → d ≢ Volume device → view self.new.disks d ≡ view self.old.disks d }
+        ensures later { self.old.ticks ≤ self.new.ticks }
+        ensures sizes { SameSizes self.old.disks self.new.disks }
+        ensures console { self.new.console ≡ self.old.console }
+        ensures plans { self.new.plans ≡ self.old.plans }
+    {
+        let lent = self.disks.lent_at(device);
+        if ticks <= lent {
+            self.disks.put(device, disk);
+        } else {
+            let now = back(self.ticks, lent);
+            self.ticks = now;
+            self.disks
+                .put(device, disk.moved(moment(lent), moment(now)));
+        }
+    }
+
+    // Says bytes and raises the clock. Where it can't, nothing is said.
+    fn utter(&mut self, bytes: &[u8]) -> Result<(), Failed>
+        ensures ok { OnOk result (Utters (clock_of self.new.ticks) bytes.now self.old.console self.new.console) }
+        ensures err { OnErr result (SameRecord self.old.console self.new.console) }
+        ensures clock { OnOk result (self.new.ticks ≡ self.old.ticks + 1) }
+        ensures later { self.old.ticks ≤ self.new.ticks }
+        ensures disks { self.new.disks ≡ self.old.disks }
+        ensures plans { self.new.plans ≡ self.old.plans }
+    {
+        if !raise(&mut self.ticks) {
+            return Err(Failed);
+        }
+        match self.console.say(moment(self.ticks), bytes) {
+            Ok(()) => Ok(()),
+            Err(_) => Err(Failed),
+        }
+    }
+
+    // Hears and raises the clock. Where it can't, nothing is heard.
+    fn attend(&mut self) -> Result<Heard, Failed>
+        ensures ok { IfOk result (λ heard. IsNext (clock_of self.new.ticks) self.old.console self.new.console heard) }
+        ensures err { OnErr result (SameRecord self.old.console self.new.console) }
+        ensures clock { OnOk result (self.new.ticks ≡ self.old.ticks + 1) }
+        ensures later { self.old.ticks ≤ self.new.ticks }
+        ensures disks { self.new.disks ≡ self.old.disks }
+        ensures plans { self.new.plans ≡ self.old.plans }
+    {
+        if !raise(&mut self.ticks) {
+            return Err(Failed);
+        }
+        match self.console.hear(moment(self.ticks)) {
+            Ok(heard) => Ok(heard),
+            Err(_) => Err(Failed),
+        }
     }
 }
 
+#[tactic(auto, using(crate::proofs::Memories::home_of))]
 impl Plant for MemoryPlant {
-    ghost use Rattle.crash_plant.specs.declared.device.Device.TheVariants.{Volume};
     ghost use Rattle.crash_plant.specs.MemoryPlant.{CountsCall, CountsConsoleCall, LendsPlan, TakesPlanBack, console_fails_by_plan, fails_by_plan, memory_state};
+    ghost use Rattle.crash_plant.specs.MemoryLaws.{plant_length_told, plant_read_is_image};
     ghost use Rattle.crash_plant.specs.MemoryVolume.{volume_standing};
-    ghost use Rattle.crash_plant.specs.PlainLaws.{plain_length_told};
-    ghost use Rattle.std.specs.Prelude.{refl};
 
     type Volume = MemoryVolume;
 
@@ -73,20 +224,20 @@ impl Plant for MemoryPlant {
 
     ghost tells = { Unit {0} };
 
-    ghost read_is_image = { λ plant d told there. refl };
+    ghost read_is_image = { λ plant d told there. plant_read_is_image plant d there };
 
-    ghost length_told = { λ plant d told there. plain_length_told plant.plain d there };
+    ghost length_told = { λ plant d told there. plant_length_told plant d there };
 
     fn journals(&self) -> u16 {
-        self.plain.journals()
+        self.disks.journals()
     }
 
     fn volumes(&self) -> u16 {
-        self.plain.volumes()
+        self.disks.volumes()
     }
 
     fn length(&self, device: Device) -> u64 {
-        self.plain.length(device)
+        self.disks.disk(device).length()
     }
 
     fn read(&mut self, device: Device, place: u64, into: &mut [u8]) -> Result<(), Failed>
@@ -98,12 +249,16 @@ impl Plant for MemoryPlant {
         ensures clock { OnOk result (Raises (memory_state self.old).clock (memory_state self.new).clock) }
         ensures only { WorksOn (Unit {0}) (λ d. d ≡ device) (memory_state self.old) (memory_state self.new) }
         ensures cause { HasCause ((memory_state self.old).faults device) ((memory_state self.new).faults device) result }
-        ensures planned { IsErr result ↔ IsTrue (fails_by_plan self.old device) }
+        ensures planned { IsErr result ↔ IsTrue (fails_by_plan self.old device || is_at_end self.old.ticks) }
         ensures counted { CountsCall device self.old self.new }
     {
         let said = self.said_so_far();
         self.plans.meet(device, said)?;
-        self.plain.read(device, place, into)
+        if !raise(&mut self.ticks) {
+            return self.plans.fail(device);
+        }
+        self.disks.disk(device).read(place, into);
+        Ok(())
     }
 
     fn write(&mut self, device: Device, place: u64, bytes: &[u8]) -> Result<(), Failed>
@@ -111,19 +266,28 @@ impl Plant for MemoryPlant {
         requires range { place + length bytes.now ≤ (memory_state self.old).lengths device }
         ensures written { OnOk result ((memory_state self.new).bytes device ≡ patched place bytes.now ((memory_state self.old).bytes device)) }
         ensures torn { Torn place (length bytes.now) ((memory_state self.old).bytes device) ((memory_state self.new).bytes device) }
+        ensures open { OnOk result (Opens place (length bytes.now) (on (memory_state self.old) device) (on (memory_state self.new) device)) }
+        ensures failed { OnErr result (OpensOrNot place (length bytes.now) (on (memory_state self.old) device) (on (memory_state self.new) device)) }
         ensures moments { Follows (Torn place (length bytes.now)) (on (memory_state self.old) device) (on (memory_state self.new) device) }
         ensures clock { OnOk result (Raises (memory_state self.old).clock (memory_state self.new).clock) }
         ensures only { WorksOn (Unit {0}) (λ d. d ≡ device) (memory_state self.old) (memory_state self.new) }
         ensures cause { HasCause ((memory_state self.old).faults device) ((memory_state self.new).faults device) result }
-        ensures planned { IsErr result ↔ IsTrue (fails_by_plan self.old device) }
+        ensures planned { IsTrue (fails_by_plan self.old device) → IsErr result }
         ensures counted { CountsCall device self.old self.new }
     {
         let said = self.said_so_far();
+        let done = Done::Write {
+            place,
+            count: bytes.len() as u64,
+        };
         match self.plans.meet(device, said) {
-            Ok(()) => self.plain.write(device, place, bytes),
+            Ok(()) => match self.note(device, done, place, bytes) {
+                Ok(()) => Ok(()),
+                Err(_) => self.plans.fail(device),
+            },
             Err(failed) => {
-                // What tears the range is no call of its own, and fails in no case.
-                let _ = self.plain.write(device, place, front(bytes));
+                // Without memory for the record nothing is torn. It is no call of its own.
+                let _ = self.note(device, done, place, front(bytes));
                 Err(failed)
             }
         }
@@ -137,12 +301,15 @@ impl Plant for MemoryPlant {
         ensures clock { OnOk result (Raises (memory_state self.old).clock (memory_state self.new).clock) }
         ensures only { WorksOn (Unit {0}) (λ d. d ≡ device) (memory_state self.old) (memory_state self.new) }
         ensures cause { HasCause ((memory_state self.old).faults device) ((memory_state self.new).faults device) result }
-        ensures planned { IsErr result ↔ IsTrue (fails_by_plan self.old device) }
+        ensures planned { IsTrue (fails_by_plan self.old device) → IsErr result }
         ensures counted { CountsCall device self.old self.new }
     {
         let said = self.said_so_far();
         self.plans.meet(device, said)?;
-        self.plain.sync(device)
+        match self.note(device, Done::Sync, 0, &[]) {
+            Ok(()) => Ok(()),
+            Err(_) => self.plans.fail(device),
+        }
     }
 
     fn hear(&mut self) -> Result<Heard, Failed>
@@ -152,12 +319,18 @@ impl Plant for MemoryPlant {
         ensures clock { OnOk result (Raises (memory_state self.old).clock (memory_state self.new).clock) }
         ensures only { WorksOnConsole (Unit {0}) (memory_state self.old) (memory_state self.new) }
         ensures cause { HasCause (memory_state self.old).console_faults (memory_state self.new).console_faults result }
-        ensures planned { IsErr result ↔ IsTrue (console_fails_by_plan self.old) }
+        ensures planned { IsTrue (console_fails_by_plan self.old) → IsErr result }
         ensures counted { CountsConsoleCall self.old self.new }
     {
         let said = self.said_so_far();
         self.plans.meet_console(said)?;
-        self.plain.hear()
+        match self.attend() {
+            Ok(heard) => Ok(heard),
+            Err(failed) => {
+                let _ = self.plans.fail_console();
+                Err(failed)
+            }
+        }
     }
 
     fn say(&mut self, bytes: &[u8]) -> Result<(), Failed>
@@ -171,13 +344,13 @@ impl Plant for MemoryPlant {
     {
         let said = self.said_so_far();
         match self.plans.meet_console(said) {
-            Ok(()) => match self.plain.say(bytes) {
+            Ok(()) => match self.utter(bytes) {
                 Ok(()) => Ok(()),
                 Err(_) => self.plans.fail_console(),
             },
             Err(failed) => {
                 // Where memory is wanting, nothing of the front is said, which is a front too.
-                let _ = self.plain.say(front(bytes));
+                let _ = self.utter(front(bytes));
                 Err(failed)
             }
         }
@@ -191,7 +364,8 @@ impl Plant for MemoryPlant {
     {
         let said = self.said_so_far();
         MemoryVolume {
-            disk: self.plain.lend(device),
+            disk: self.disks.lend(device, self.ticks),
+            ticks: self.ticks,
             plan: self.plans.lend(self.alloc, device),
             said,
             is_stopped: self.plans.is_stopped(),
@@ -205,11 +379,12 @@ impl Plant for MemoryPlant {
     {
         let MemoryVolume {
             disk,
+            ticks,
             plan,
             said: _,
             is_stopped,
         } = volume;
-        self.plain.give_back(device, disk);
+        self.shelve(device, disk, ticks);
         self.plans.give_back(device, plan, is_stopped);
     }
 }

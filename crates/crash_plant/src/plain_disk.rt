@@ -8,7 +8,7 @@ use xrc_edge::{Failed, NoMemory};
 /// Bytes in memory as a disk. Each call is done at once, and it keeps no past: its clock stands at 0.
 #[derive(Drop)]
 pub struct PlainDisk {
-    bytes: Vec<u8>,
+    pub(crate) bytes: Vec<u8>,
 }
 
 impl PlainDisk {
@@ -30,14 +30,14 @@ impl PlainDisk {
     }
 }
 
-fn copy_out(bytes: &[u8], place: usize, into: &mut [u8])
+pub(crate) fn copy_out(bytes: &[u8], place: usize, into: &mut [u8])
     requires { place + length into.old ≤ length bytes.now }
     ensures { into.new ≡ slice_range bytes.now place (place + length into.old) }
 {
     into.copy_from_slice(&bytes[place..place + into.len()]);
 }
 
-fn patch(bytes: &mut [u8], place: usize, with: &[u8])
+pub(crate) fn patch(bytes: &mut [u8], place: usize, with: &[u8])
     requires { place + length with.now ≤ length bytes.old }
     ensures { bytes.new ≡ patched place with.now bytes.old }
 {

@@ -16,7 +16,7 @@ const STATE_LENGTH: u64 = 16384;
 
 /// A volume's place: it is here, or lent, with its length.
 #[derive(Drop)]
-enum Place {
+pub(crate) enum Place {
     Here(PlainDisk),
     Lent(u64),
 }
@@ -25,14 +25,14 @@ enum Place {
 /// are constantly 0.
 #[derive(Drop)]
 pub struct PlainPlant {
-    control: PlainDisk,
-    state: PlainDisk,
-    journals: Vec<PlainDisk>,
-    volumes: Vec<Place>,
-    script: Bytes,
-    next: usize,
-    said: Vec<u8>,
-    console_faults: u64,
+    pub(crate) control: PlainDisk,
+    pub(crate) state: PlainDisk,
+    pub(crate) journals: Vec<PlainDisk>,
+    pub(crate) volumes: Vec<Place>,
+    pub(crate) script: Bytes,
+    pub(crate) next: usize,
+    pub(crate) said: Vec<u8>,
+    pub(crate) console_faults: u64,
     ghost few_journals: { vec_len journals < 2 ^ 16 },
     ghost few_volumes: { vec_len volumes < 2 ^ 16 },
     ghost next_within: { next ≤ length script },

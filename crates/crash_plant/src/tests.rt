@@ -46,7 +46,7 @@ fn made(alloc: Global) -> Result<PlainPlant, NoMemory>
 
 /// Such a plant, with calls that fail.
 #[tactic(auto, using(crate::proofs::Resize::none_lent_same))]
-fn failing(alloc: Global, fails: &[Fail]) -> Result<MemoryPlant, NoMemory>
+pub(crate) fn failing(alloc: Global, fails: &[Fail]) -> Result<MemoryPlant, NoMemory>
     ensures { IfOk result (λ plant. NoneLent (memory_state plant)) }
 {
     let mut list = FailList::make(alloc);
@@ -81,7 +81,7 @@ fn resize(
     }
 }
 
-fn assert_there<P: Plant>(rt: &impl Abort, plant: &P, device: Device)
+pub(crate) fn assert_there<P: Plant>(rt: &impl Abort, plant: &P, device: Device)
     requires { NoneLent (P.state plant.now) }
     ensures { IsThere (P.state plant.now) device }
 {
@@ -111,7 +111,7 @@ fn perform<P: Plant>(rt: &impl Abort, plant: &mut P, call: Call) -> Result<(), F
 }
 
 #[tactic(auto, using(crate::proofs::Steps::none_lent_then))]
-fn read_at<P: Plant>(
+pub(crate) fn read_at<P: Plant>(
     rt: &impl Abort,
     plant: &mut P,
     device: Device,
@@ -293,6 +293,30 @@ fn calls_fail_by_plan(rt: HostRuntime) {
         ],
         b"..xxx",
     );
+}
+
+#[test]
+fn a_stop_fails_every_later_call(rt: HostRuntime) {
+    let state = Device::State;
+    let calls = [
+        Call::Read(state),
+        Call::Write(state),
+        Call::Sync(state),
+        Call::Read(Device::Control),
+        Call::Hear,
+        Call::Say,
+        Call::Lent(0),
+    ];
+    let wanted = [b"xxxxxxx", b".xxxxxx", b"..xxxxx", b"......."];
+    for (call, want) in (0..4).zip(wanted) {
+        let fail = Fail {
+            at: Some(state),
+            said: 0,
+            call,
+            stop: true,
+        };
+        run(&rt, rt.alloc(), fail, &calls, want);
+    }
 }
 
 #[test]

@@ -1,6 +1,6 @@
 //! Queues of a control's writes.
 
-ghost use Rattle.std.specs.Prelude.{◌≡◌, ◌≤◌, ◌<◌, ◌^◌, ◌*◌, ◌+◌, ◌↔◌, ◌++◌, length, take, false, Err, IfOk, OnOk, OnErr, IsOk, IsTrue};
+ghost use Rattle.std.specs.Prelude.{◌≡◌, ◌≤◌, ◌<◌, ◌^◌, ◌*◌, ◌+◌, ◌↔◌, ◌++◌, length, take, false, Err, IfOk, OnOk, OnErr, IsOk, IsTrue, IfSome, IsSome, None};
 ghost use Rattle.ckd_track.specs.Effects.{keeps_rules};
 ghost use Rattle.pending_queue.specs.Entries.{entries_of, all_keep_rules, writes_never_fall, last_stamp, due, left};
 ghost use Rattle.pending_queue.specs.Rooms.{blocks_needed, blocks_taken, has_room};
@@ -23,17 +23,21 @@ pub struct Queue {
     control: u16,
     records: u32,
     blocks: u32,
+    // The blocks that the waiting entries take.
+    taken: u32,
     waiting: VecDeque<Entry>,
 }
 
 impl Model for Queue {
     ghost use Rattle.pending_queue.specs.Queues.{QueueState, KeepsRoom};
+    ghost use Rattle.pending_queue.specs.Rooms.{blocks_taken};
+    ghost use Rattle.std.specs.Prelude.{◌≡◌};
 
     ghost Value = { QueueState };
 
     ghost view = { λ queue. record { control = queue.control; records = queue.records; blocks = queue.blocks; waiting = queue.waiting.items } };
 
-    ghost invariant = { λ queue. KeepsRoom queue.records queue.blocks queue.waiting.items };
+    ghost invariant = { λ queue. KeepsRoom queue.records queue.blocks queue.waiting.items × (queue.taken ≡ blocks_taken queue.waiting.items) };
 }
 
 impl Queue {
@@ -46,6 +50,7 @@ impl Queue {
             control,
             records,
             blocks,
+            taken: 0,
             waiting: VecDeque::with_capacity(alloc, records as usize)?,
         })
     }
@@ -58,7 +63,7 @@ impl Queue {
     {
         Room {
             records: self.records - self.waiting.len() as u32,
-            blocks: blocks_left(self.blocks, &self.waiting),
+            blocks: self.blocks - self.taken,
         }
     }
 
@@ -75,10 +80,11 @@ impl Queue {
     {
         let writes = batch.writes.as_slice();
         let free = self.free();
-        if writes.len() > free.records as usize || blocks_needed(writes) > u64::from(free.blocks) {
+        let Some(needed) = blocks_within(free, writes) else {
             return Err(PushError::Full(free));
-        }
+        };
         push_entries(alloc, self.control, writes, &mut self.waiting)?;
+        self.taken += needed;
         Ok(())
     }
 
@@ -92,17 +98,35 @@ impl Queue {
         ensures always { IsOk result }
     {
         out.take_due(cut, &mut self.waiting);
+        self.taken = blocks_taken(&self.waiting);
         Ok(())
     }
 }
 
-/// The blocks that are left of so many.
-fn blocks_left(blocks: u32, waiting: &VecDeque<Entry>) -> u32
-    requires { blocks_taken waiting.now.items ≤ blocks }
-    ensures { result + blocks_taken waiting.now.items ≡ blocks }
+/// The blocks that waiting entries take.
+fn blocks_taken(waiting: &VecDeque<Entry>) -> u32
+    requires { blocks_taken waiting.now.items < 2 ^ 32 }
+    ensures { result ≡ blocks_taken waiting.now.items }
 {
-    let taken: u32 = waiting.iter().map(|entry| entry.blocks()).sum();
-    blocks - taken
+    waiting.iter().map(|entry| entry.blocks()).sum()
+}
+
+/// The blocks that the entries of writes need, where they fit the free room.
+fn blocks_within(free: Room, writes: &[Write]) -> Option<u32>
+    requires rules { IsTrue (all_keep_rules writes.now) }
+    ensures none { (result ≡ None) ↔ (has_room free writes.now ≡ false) }
+    ensures some { IfSome result (λ needed. needed ≡ blocks_needed writes.now) }
+    ensures blocks { IfSome result (λ needed. needed ≤ free.blocks) }
+    ensures records { IsSome result → length writes.now ≤ free.records }
+{
+    if writes.len() > free.records as usize {
+        return None;
+    }
+    let needed = blocks_needed(writes);
+    if needed > u64::from(free.blocks) {
+        return None;
+    }
+    Some(needed as u32)
 }
 
 /// The blocks that the entries of writes need.

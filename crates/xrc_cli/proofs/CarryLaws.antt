@@ -1,25 +1,26 @@
 -- What a copy that was started at a trace's header has done.
-use Rattle.std.proofs.Common.{◌≡◌, ◌<◌, ◌⊎◌, inl, inr, ℕ, List, [], ◌∷◌, length, Option, Some, None, Result, Ok, Err, OnOk, sym, ap, subst, ◌∙◌, arith}
-use Rattle.std.specs.Prelude.{IsTrue}
+use Rattle.std.proofs.Common.{◌≡◌, ◌<◌, ℕ, List, [], ◌∷◌, length, Option, Some, None, Result, Ok, Err, OnOk, refl, sym, ap, subst, ◌∙◌, arith, length-append}
+use Rattle.std.proofs.lemmas.Bool.{lt-ltb}
 use Rattle.crash_plant.specs.declared.device.Device.TheVariants.{Volume}
 use Rattle.crash_plant.specs.Moments.{PlantState, on, IsDurable}
 use Rattle.ckd_track.specs.declared.rec.Rec.{Rec}
 use Rattle.ckd_track.specs.Images.{image}
 use Rattle.trace_grammar.specs.declared.header.Header.{Header}
-use Rattle.trace_grammar.specs.declared.trace.Trace.{Trace}
+use Rattle.trace_grammar.specs.declared.trace.TraceEnd.TheVariants as ends
 use Rattle.write_trace.specs.Answers.{ReaderState}
 use Rattle.write_trace.specs.Starts.{ReadsHeader}
 use Rattle.primary_ctl.specs.States.{track_of, base_in}
 use Rattle.primary_ctl.specs.Primaries.{primary}
-use Rattle.sidefile.specs.Breaks.{has_broken}
+use Rattle.sidefile.specs.Ahead.{ahead}
 use Rattle.sidefile.specs.States.{SidefileState}
+use Rattle.sidefile.proofs.TraceLaws.{given_trace}
 use Rattle.xrc_cli.specs.declared.copier.Copier.{Copier}
 use Rattle.xrc_cli.specs.declared.plan.Plan.{Plan}
 use Rattle.xrc_cli.specs.Copiers.{images_of, Reaches}
-use Rattle.xrc_cli.specs.Runs.{CarriesOut, BreaksBefore}
+use Rattle.xrc_cli.specs.Runs.{CarriesOut, BreaksBefore, FailsBefore}
 use Rattle.xrc_cli.specs.Slots.{IsInSlot, DiffersInSlots}
-use Rattle.xrc_cli.specs.Taken.{HasTaken}
-use Rattle.xrc_cli.proofs.StartLaws.{IsStarted, starts}
+use Rattle.xrc_cli.specs.Taken.{WillBreak, HasFailed}
+use Rattle.xrc_cli.proofs.StartLaws.{version_is, IsStarted, starts}
 
 -- a sidefile of which nothing was handed over
 abbrev pub unread_side : ReaderState → SidefileState
@@ -55,7 +56,22 @@ carries_out (Ok done) given now later header plan a d copier next started volume
       unbroken = end.unbroken;
     }
 
-pub breaks_before : (given : List ℕ) (now : Option (List ℕ)) (header : Header) (time : ℕ) (copier : Copier) (P : Type 0) → IsStarted given now header copier.side copier.primary
-    → P ⊎ ((t : Trace) → HasTaken now t copier.side copier.primary → IsTrue (has_broken t time)) → P ⊎ BreaksBefore given time
-breaks_before given now header time copier P started (inl rose) = inl rose
-breaks_before given now header time copier P started (inr breaks) = inr (record { t = started.t; trace = started.is; below = breaks started.t started.taken })
+-- ---- breaks
+
+-- A source that failed below a time has given a trace that breaks below it.
+pub fails_before : (given : List ℕ) (now later : Option (List ℕ)) (header : Header) (reader : ReaderState) (time : ℕ) (side : SidefileState) → ReadsHeader (Some given) now header reader → side ≡ unread_side reader → HasFailed time now later side
+    → FailsBefore (λ left. later ≡ Some left) given time
+fails_before given now later header reader time side reads is failed =
+    let (rest, there, found, long) = reads.reads given refl in
+    let f = subst (λ (s : SidefileState). HasFailed time now later s) is failed rest (λ goes. there) in
+    record {
+      left = f.left;
+      told = f.told;
+      within = omega (arith, long, ap length f.split, length-append f.given f.left);
+      t = record { header = header; entries = ahead None reader f.given; end = ends.ReadFault };
+      trace = given_trace given rest f.given f.left header reader found (sym long) (version_is header reads.kept) reads.volumes reads.last reads.goes_on f.split f.fault;
+      breaks = rw (f.break_is, lt-ltb f.upto time f.below) refl;
+    }
+
+pub breaks_before : (given : List ℕ) (now : Option (List ℕ)) (header : Header) (time : ℕ) (copier : Copier) → IsStarted given now header copier.side copier.primary → WillBreak time now copier.side copier.primary → BreaksBefore given time
+breaks_before given now header time copier started breaks = record { t = started.t; trace = started.is; below = breaks started.t started.taken }

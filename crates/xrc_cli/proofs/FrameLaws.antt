@@ -1,23 +1,11 @@
 -- How what calls leave as it was adds up.
-use Rattle.std.proofs.Common.{Result, Ok, Err, OnOk, [], ◌++◌, List, sym, append_assoc, ap, ◌≡◌, ◌≤◌, ℕ, refl, ◌∙◌, arith, inl, inr}
-use Rattle.std.proofs.lemmas.Bool.{cases_lt}
+use Rattle.std.proofs.Common.{Result, Ok, Err, OnOk, [], sym, ◌≡◌, ◌≤◌, ℕ, ◌∙◌, arith, inl, inr}
 use Rattle.crash_plant.specs.declared.device.Device.TheVariants.{Volume}
 use Rattle.crash_plant.specs.Moments.{PlantState, on, IsDurable}
 use Rattle.crash_plant.specs.Calls.{WorksOn, WorksOnConsole}
 use Rattle.xrc_edge.specs.Causes.{Rose}
 use Rattle.xrc_cli.specs.Frames.{LeavesOthers}
 use Rattle.xrc_cli.specs.Hearing.{HearsText}
-
--- no call
-pub leaves_here : (tells : Type 0) (a : PlantState) → LeavesOthers tells a a
-leaves_here tells a = record {
-  site = record { journals = refl; volumes = refl; lengths = λ d. refl };
-  loans = λ v. refl;
-  bytes = λ told d other. refl;
-  faults = λ d other. refl;
-  volume_faults = omega arith;
-  console_faults = omega arith;
-}
 
 pub leaves_then : (tells : Type 0) (a b c : PlantState) → LeavesOthers tells a b → LeavesOthers tells b c → LeavesOthers tells a c
 leaves_then tells a b c x y = record {
@@ -71,26 +59,10 @@ pub rose_before : (a b c : ℕ) → a ≤ b → Rose b c → Rose a c
 rose_before a b c le (inl lt) = inl (omega arith)
 rose_before a b c le (inr end) = inr end
 
-pub rose_after : (a b c : ℕ) → a ≤ b → Rose a b → b ≤ c → Rose a c
-rose_after a b c le (inl lt) later = inl (omega arith)
-rose_after a b c le (inr end) later = elim (cases_lt b c) [
-  | inl more ↦ inl (omega (arith, more, le))
-  | inr here ↦ inr (omega (arith, here, later, end))
-]
-
 -- a call of the console that heard nothing
 pub hears_nothing : (tells : Type 0) (a b : PlantState) → LeavesOthers tells a b → (tells → b.bytes (Volume 0) ≡ a.bytes (Volume 0)) → (tells → b.said b.clock ≡ a.said a.clock)
     → b.faults (Volume 0) ≡ a.faults (Volume 0) → (tells → b.script ≡ a.script) → HearsText tells [] a b
 hears_nothing tells a b leaves volume said count script = record { leaves = leaves; volume = volume; volume_count = count; said = said; heard = λ told. sym (script told) }
-
-pub hears_then : (tells : Type 0) (x y : List ℕ) (a b c : PlantState) → HearsText tells x a b → HearsText tells y b c → HearsText tells (x ++ y) a c
-hears_then tells x y a b c first second = record {
-  leaves = leaves_then tells a b c first.leaves second.leaves;
-  volume = λ told. second.volume told ∙ first.volume told;
-  volume_count = second.volume_count ∙ first.volume_count;
-  said = λ told. second.said told ∙ first.said told;
-  heard = λ told. first.heard told ∙ ap (λ rest. x ++ rest) (second.heard told) ∙ sym (append_assoc x y c.script);
-}
 
 -- what holds at an Ok
 pub on_ok_more : {A E : Type 0} (r : Result A E) (P Q : Type 0) → (P → Q) → OnOk r P → OnOk r Q

@@ -1,10 +1,7 @@
 -- Reading the fields of a label.
 use Rattle.std.proofs.Common.{◌==◌, ◌≡◌, ◌&&◌, ◌++◌, ◌∷◌, [], ℕ, List, Bool, true, false, Some, None, length, take, drop, get_or, refl, sym, ◌∙◌, ap, arith, append_assoc}
-use Rattle.std.specs.Int.{w32, to_be_bytes, from_be_bytes}
-use Rattle.tod_stamp.specs.Fields.{IsBytes}
 use Rattle.tod_stamp.specs.Names.{is_field, name_in, name_field, before_spaces}
 use Rattle.std.proofs.lemmas.List.{take-append-drop}
-use Rattle.std.proofs.lemmas.Nat.{be_bytes_4}
 use Rattle.std.proofs.lemmas.Bool.{eqb-true}
 use Rattle.xrc_cli.proofs.Both.{both_true}
 use Rattle.tod_stamp.proofs.NameLaws.{fields_spelled}
@@ -17,10 +14,6 @@ four (a ∷ b ∷ []) len = absurd (omega (arith, len))
 four (a ∷ b ∷ c ∷ []) len = absurd (omega (arith, len))
 four (a ∷ b ∷ c ∷ d ∷ []) len = refl
 four (a ∷ b ∷ c ∷ d ∷ e ∷ more) len = absurd (omega (arith, len))
-
--- the number that four bytes spell
-pub number_spells : (bytes : List ℕ) (n : ℕ) → length bytes ≡ 4 → IsBytes bytes → n ≡ from_be_bytes w32 (get_or bytes 0 0 ∷ get_or bytes 1 0 ∷ get_or bytes 2 0 ∷ get_or bytes 3 0 ∷ []) → to_be_bytes w32 n ≡ bytes
-number_spells bytes n len fits is = be_bytes_4 bytes n len fits (is ∙ ap (λ (l : List ℕ). from_be_bytes w32 l) (four bytes len))
 
 -- three fields in a row
 pub fields_joined : (bytes mark name number fields : List ℕ) (m n : ℕ) → mark ≡ take m bytes → fields ≡ drop m bytes → name ≡ take n fields → number ≡ drop n fields → bytes ≡ mark ++ name ++ number

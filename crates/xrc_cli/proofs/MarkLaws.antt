@@ -1,10 +1,9 @@
 -- How marks add up.
-use Rattle.std.proofs.Common.{◌≡◌, ◌≢◌, ◌<◌, ℕ, Bool, true, false, nat_eq, List, [], ◌∷◌, ◌++◌, length, set, get_or, get_or-set_same, get_or-set_other, refl, sym, ap, subst, ◌∙◌, arith, inl, inr}
+use Rattle.std.proofs.Common.{◌≡◌, ◌≢◌, ◌<◌, ℕ, Bool, true, false, nat_eq, List, [], ◌∷◌, length, set, get_or, get_or-set_same, get_or-set_other, refl, sym, subst, ◌∙◌, inl, inr}
 use Rattle.std.specs.Prelude.{filter}
 use Rattle.std.proofs.lemmas.Bool.{cases_eq, eqb-true}
 use Rattle.ckd_track.specs.declared.write.Write.{Write}
 use Rattle.primary_ctl.specs.States.{is_on}
-use Rattle.std.proofs.lemmas.List.Elements.{filter-append}
 use Rattle.xrc_cli.specs.Copiers.{Marks}
 
 -- a write elsewhere
@@ -24,12 +23,3 @@ marks_here volume w wanted there = λ x lt off. elim (cases_eq x w.track) [
 
 pub marks_elsewhere : (volume : ℕ) (w : Write) (wanted : List Bool) → w.volume ≢ volume → Marks volume (w ∷ []) wanted wanted
 marks_elsewhere volume w wanted other = λ x lt off. (off, none_on volume x w (λ v t. other v))
-
-pub marks_none : (volume : ℕ) (wanted : List Bool) → Marks volume [] wanted wanted
-marks_none volume wanted = λ x lt off. (off, refl)
-
-pub marks_then : (volume : ℕ) (xs ys : List Write) (a b c : List Bool) → length b ≡ length a → Marks volume xs a b → Marks volume ys b c → Marks volume (xs ++ ys) a c
-marks_then volume xs ys a b c long first second = λ x lt off.
-    let two = second x (omega (arith, lt, long)) off in
-    let one = first x lt two.0 in
-    (one.0, filter-append (is_on volume x) xs ys ∙ ap (λ (l : List Write). l ++ filter (is_on volume x) ys) one.1 ∙ two.1)

@@ -1,17 +1,19 @@
 -- From what was heard and read to a plan, and from a plan to what a copy owes.
-use Rattle.std.proofs.Common.{◌≡◌, ◌≢◌, ◌≤◌, ◌<◌, ◌&&◌, OnErr, IfErr, ◌*◌, ◌++◌, ◌∷◌, [], ℕ, zero, suc, true, List, Some, Result, Ok, Err, IfOk, length, take, sym, ◌∙◌, ap, subst, arith}
+use Rattle.std.proofs.Common.{◌≡◌, ◌≢◌, ◌≤◌, ◌<◌, ◌&&◌, OnErr, IfErr, ◌*◌, ◌++◌, ◌∷◌, [], ℕ, zero, suc, true, false, inl, inr, List, Some, Result, Ok, Err, IfOk, IfSome, Option, None, slice_index_or, length, take, sym, ◌∙◌, ap, subst, arith}
 use Rattle.std.specs.Prelude.{slice_get, not, bytes_eq, nat_le, nat_eq}
 use Rattle.std.specs.List.{list_any}
 use Rattle.std.proofs.lemmas.Bool.{leb-true}
 use Rattle.crash_plant.specs.declared.device.Device.TheVariants.{Volume}
 use Rattle.crash_plant.specs.Moments.{PlantState, on, IsDurable}
-use Rattle.crash_plant.specs.Calls.{IsThere}
+use Rattle.crash_plant.specs.Calls.{IsThere, WorksOnConsole}
 use Rattle.ckd_track.specs.Images.{image}
 use Rattle.tod_stamp.specs.declared.stamp.Stamp.{Stamp}
 use Rattle.tod_stamp.specs.Fields.{within}
 use Rattle.tod_stamp.specs.Names.{is_serial}
 use Rattle.trace_grammar.specs.declared.header.VolumeHead.{VolumeHead}
 use Rattle.trace_grammar.specs.declared.header.Header.{Header}
+use Rattle.trace_grammar.specs.declared.trace.Trace.{Trace}
+use Rattle.trace_grammar.specs.Good.{trace_of}
 use Rattle.trace_grammar.specs.Headers.{cylinders_of, are_volumes, are_bases, is_header_of}
 use Rattle.primary_ctl.specs.Primaries.{primary}
 use Rattle.xrc_cli.proofs.Both.{both_true}
@@ -27,7 +29,8 @@ use Rattle.xrc_cli.specs.Plans.{IsPlan, CanBeCopied}
 use Rattle.xrc_cli.specs.Replies.{copy_replies}
 use Rattle.xrc_cli.specs.Scripts.{IsCopyScript}
 use Rattle.xrc_cli.specs.Slots.{IsInSlot, HoldsImages, DiffersInSlots}
-use Rattle.xrc_cli.specs.Runs.{FindsPlan, AnswersScript, CarriesOut, BreaksBefore, BreaksEarly, CopiesTracks, CopiesVolume, RepliesInPart, SaidFront, replies_of}
+use Rattle.xrc_cli.specs.Runs.{FindsPlan, AnswersScript, CarriesOut, BreaksBefore, FailsBefore, BreaksEarly, FailsEarly, CopiesTracks, CopiesVolume, RepliesInPart, SaidFront, replies_of, ChangesSlots}
+use Rattle.xrc_cli.specs.Sources.{HoldsOnly}
 use Rattle.xrc_cli.proofs.SayLaws.{joined}
 
 -- what holds of the value of an Ok
@@ -208,6 +211,88 @@ breaks_early tells session given volumes a b plan told found breaks =
       heard = subst (λ (l : List ℕ). IsCopyScript session l is.script) (sym (found.heard told).0) is.asked;
       breaks = subst (BreaksBefore given) (ap (λ (s : Stamp). s.0) is.end_time) breaks;
     }
+
+pub fails_early : (tells : Type 0) (has_left : List ℕ → Type 0) (session all : List ℕ) (volumes : List VolumeHead) (a b : PlantState) (plan : Plan) → tells → FindsPlan tells session volumes a b plan
+    → FailsBefore has_left all plan.end_time.0 → FailsEarly has_left session all a
+fails_early tells has_left session all volumes a b plan told found fails =
+    let is = found.is_plan in
+    record {
+      script = is.script;
+      heard = subst (λ (l : List ℕ). IsCopyScript session l is.script) (sym (found.heard told).0) is.asked;
+      fails = subst (FailsBefore has_left all) (ap (λ (s : Stamp). s.0) is.end_time) fails;
+    }
+
+-- a plan that was found, of which only slots of its volume have changed
+pub changes_asked : (tells : Type 0) (holds : List ℕ → Type 0) (session : List ℕ) (volumes : List VolumeHead) (a b d e : PlantState) (plan : Plan) → tells → FindsPlan tells session volumes a b plan
+    → b.bytes (Volume 0) ≡ a.bytes (Volume 0) → e.script ≡ b.script → DiffersInSlots plan.tracks (b.bytes (Volume 0)) (d.bytes (Volume 0)) → e.bytes (Volume 0) ≡ d.bytes (Volume 0)
+    → ((given : List ℕ) → holds given → (t : Trace) × (trace_of 1 false given ≡ Ok t) × (t.header.volumes ≡ volumes)) → ChangesSlots holds session a e
+changes_asked tells holds session volumes a b d e plan told found volume script differs same read =
+    let is = found.is_plan in
+    let by_tracks : DiffersInSlots plan.tracks (a.bytes (Volume 0)) (e.bytes (Volume 0)) =
+    subst (λ (l : List ℕ). DiffersInSlots plan.tracks (a.bytes (Volume 0)) l) (sym same)
+    (subst (λ (l : List ℕ). DiffersInSlots plan.tracks l (d.bytes (Volume 0))) volume differs) in
+    inr (record {
+      script = is.script;
+      head = is.head;
+      label = found.label;
+      heard = subst (λ (l : List ℕ). IsCopyScript session l is.script) (sym (found.heard told).0) is.asked;
+      all_heard = script ∙ (found.heard told).1;
+      of_trace = λ given there.
+          let trace = read given there in
+          record { t = trace.0; volume = plan.volume; trace = trace.1; at = ap (λ (vs : List VolumeHead). slice_get vs plan.volume) trace.2 ∙ is.at };
+      labelled = found.labelled told;
+      is_pair = is.is_pair;
+      slots = subst (λ (n : ℕ). DiffersInSlots n (a.bytes (Volume 0)) (e.bytes (Volume 0))) is.tracks by_tracks;
+    })
+
+-- the same for sources that hold less
+pub changes_more : (first second : List ℕ → Type 0) (session : List ℕ) (old new : PlantState) → ((given : List ℕ) → second given → first given) → ChangesSlots first session old new → ChangesSlots second session old new
+changes_more first second session old new more (inl same) = inl same
+changes_more first second session old new more (inr asked) = inr (record {
+  script = asked.script;
+  head = asked.head;
+  label = asked.label;
+  heard = asked.heard;
+  all_heard = asked.all_heard;
+  of_trace = λ given holds. asked.of_trace given (more given holds);
+  labelled = asked.labelled;
+  is_pair = asked.is_pair;
+  slots = asked.slots;
+})
+
+-- the same of a session that the words name
+pub slots_asked : (first second : List ℕ → Type 0) (named : Option (List ℕ)) (session : List ℕ) (old new : PlantState) → named ≡ Some session → ((given : List ℕ) → second given → first given)
+    → ChangesSlots first session old new → IfSome named (λ s. ChangesSlots second s old new)
+slots_asked first second None session old new is more changes = tt
+slots_asked first second (Some s) session old new is more changes =
+    let same : session ≡ s = cc is in
+    subst (λ (l : List ℕ). ChangesSlots second l old new) same (changes_more first second session old new more changes)
+
+still_asked : (holds : List ℕ → Type 0) (session : List ℕ) (a b d : PlantState) → d.bytes (Volume 0) ≡ b.bytes (Volume 0) → d.script ≡ b.script → ChangesSlots holds session a b → ChangesSlots holds session a d
+still_asked holds session a b d bytes script (inl same) = inl (bytes ∙ same)
+still_asked holds session a b d bytes script (inr asked) = inr (record {
+  script = asked.script;
+  head = asked.head;
+  label = asked.label;
+  heard = asked.heard;
+  all_heard = script ∙ asked.all_heard;
+  of_trace = asked.of_trace;
+  labelled = asked.labelled;
+  is_pair = asked.is_pair;
+  slots = subst (λ (l : List ℕ). DiffersInSlots (15 * asked.head.cylinders) (a.bytes (Volume 0)) l) (sym bytes) asked.slots;
+})
+
+-- and where something was said afterwards
+pub slots_still : (tells : Type 0) (holds : List ℕ → Type 0) (named : Option (List ℕ)) (a b d : PlantState) → tells → WorksOnConsole tells b d → d.script ≡ b.script
+    → IfSome named (λ s. ChangesSlots holds s a b) → IfSome named (λ s. ChangesSlots holds s a d)
+slots_still tells holds None a b d told w script some = tt
+slots_still tells holds (Some s) a b d told w script some = still_asked holds s a b d (w.devices told (Volume 0)).bytes script some
+
+-- what the one source holds
+pub first_holds : {S : Type 0} (left : S → Option (List ℕ)) (sources : List S) (source : S) (given : List ℕ) → source ≡ slice_index_or sources 0 source → HoldsOnly left sources given → left source ≡ Some given
+first_holds left [] source given first holds = absurd holds
+first_holds left (x ∷ []) source given first holds = ap left first ∙ holds
+first_holds left (x ∷ y ∷ sources) source given first holds = absurd holds
 
 -- where only the console fails, nothing is owed to another stop
 pub only_console : {A : Type 0} (r : Result A Stop) (P : Type 0) → OnErr r (r ≡ Err stops.ConsoleFault) → IfErr r (λ stop. stop ≢ stops.ConsoleFault → P)

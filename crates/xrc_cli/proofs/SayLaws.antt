@@ -1,5 +1,5 @@
 -- How texts that are said add up.
-use Rattle.std.proofs.Common.{append-nil, ◌≡◌, ◌≤◌, ◌+◌, ◌++◌, ℕ, List, length, take, sym, ◌∙◌, ap, arith, append_assoc, length-append}
+use Rattle.std.proofs.Common.{◌≡◌, ◌≤◌, ◌+◌, ◌++◌, ℕ, List, length, take, sym, ◌∙◌, ap, arith, append_assoc, length-append}
 use Rattle.std.proofs.lemmas.List.{take-append-le}
 use Rattle.std.proofs.Math.Seq.{take-append-add}
 use Rattle.crash_plant.specs.declared.device.Device.TheVariants.{Volume}
@@ -72,24 +72,6 @@ front_of_more tells x y a b front = record {
         s.2 ∙ ap (λ (l : List ℕ). a.said a.clock ++ l) (sym (take-append-le s.0 x y s.1)),
       );
 }
-
--- a front that was said after nothing
-pub front_after : (tells : Type 0) (x y : List ℕ) (a b c : PlantState) → tells → b.said b.clock ≡ a.said a.clock → x ≡ y → SaysFront tells x b c
-    → (k : ℕ) × (k ≤ length y) × (c.said c.clock ≡ a.said a.clock ++ take k y)
-front_after tells x y a b c told quiet same front =
-    let s = front.said told in (
-      s.0,
-      (let len = ap length same in omega (arith, s.1, len)),
-      s.2 ∙ ap (λ (l : List ℕ). l ++ take s.0 x) quiet ∙ ap (λ (l : List ℕ). a.said a.clock ++ take s.0 l) same,
-    )
-
--- a text that was said whole after nothing
-pub text_after : (tells : Type 0) (x y : List ℕ) (a b c : PlantState) → tells → b.said b.clock ≡ a.said a.clock → x ≡ y → SaysText tells x b c → c.said c.clock ≡ a.said a.clock ++ y
-text_after tells x y a b c told quiet same text = text.said told ∙ ap (λ (l : List ℕ). l ++ x) quiet ∙ ap (λ (l : List ℕ). a.said a.clock ++ l) same
-
--- nothing is a front of any text
-pub front_none : (y : List ℕ) (a b : PlantState) → b.said b.clock ≡ a.said a.clock → (k : ℕ) × (k ≤ length y) × (b.said b.clock ≡ a.said a.clock ++ take k y)
-front_none y a b quiet = (0, (omega arith), (quiet ∙ sym (append-nil (a.said a.clock))))
 
 -- three texts that are three others
 pub joined : (a b c x y z : List ℕ) → a ≡ x → b ≡ y → c ≡ z → a ++ b ++ c ≡ x ++ y ++ z

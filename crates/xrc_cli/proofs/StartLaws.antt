@@ -59,7 +59,7 @@ fails_in_header before now all left fails old new =
 
 -- ---- the trace
 
-version_is : (h : Header) → is_header_of 1 h ≡ true → h.version ≡ 1
+pub version_is : (h : Header) → is_header_of 1 h ≡ true → h.version ≡ 1
 version_is h is =
     let one = both_true (nat_eq h.version 1 && within 1 32 (length h.volumes) && are_volumes 1 [] h.volumes) (are_bases h.volumes (0, 0) h.base) is in
     let two = both_true (nat_eq h.version 1 && within 1 32 (length h.volumes)) (are_volumes 1 [] h.volumes) one.0 in
@@ -139,3 +139,11 @@ not_refused given now header reader place reads refused =
     let (rest, there, is, long) = reads.reads given refl in
     let trace = read_header false given header (seen reader.left.place rest) is in
     cc (trace, refused)
+
+-- a header that was read is that of the trace
+pub trace_read : (given : List ℕ) (now : Option (List ℕ)) (header : Header) (reader : ReaderState) → ReadsHeader (Some given) now header reader → (t : Trace) × (trace_of 1 false given ≡ Ok t) × (t.header.volumes ≡ header.volumes)
+trace_read given now header reader reads =
+    let (rest, there, is, long) = reads.reads given refl in
+    let left = seen reader.left.place rest in
+    let found = entries_from (length left.bytes) header.version header.volumes 0 left in
+    (after_header false given header found, read_header false given header left is, refl)

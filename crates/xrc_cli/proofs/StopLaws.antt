@@ -1,5 +1,5 @@
 -- The statuses of commands that were not done, and what was said and copied by then.
-use Rattle.std.proofs.Common.{◌≡◌, ◌≢◌, ◌≤◌, ◌⊎◌, ◌*◌, ◌++◌, ◌∷◌, [], ℕ, List, true, Option, Some, None, IfSome, Contains, Result, Ok, Err, OnOk, OnErr, length, take, refl, sym, ◌∙◌, ap, subst, arith, inl, inr, append-nil}
+use Rattle.std.proofs.Common.{◌≡◌, ◌≢◌, ◌≤◌, ◌⊎◌, ◌*◌, ◌++◌, ◌∷◌, [], ℕ, List, Option, Some, None, IfSome, Contains, Result, Ok, Err, OnOk, OnErr, length, take, refl, sym, ◌∙◌, ap, subst, arith, inl, inr, append-nil}
 use Rattle.crash_plant.specs.declared.device.Device.TheVariants.{Volume}
 use Rattle.crash_plant.specs.Moments.{PlantState}
 use Rattle.xrc_edge.specs.Causes.{Rose}
@@ -7,11 +7,11 @@ use Rattle.crash_plant.specs.Calls.{WorksOnConsole}
 use Rattle.ckd_track.specs.Images.{image}
 use Rattle.xrc_cli.specs.declared.stop.Stop.{Stop}
 use Rattle.xrc_cli.specs.declared.stop.Stop.TheVariants.{NoMemory, BadWords, ConsoleFault, BadHeader, HeaderFault, NotBuilt, EarlyBreak, EarlyVolume}
-use Rattle.xrc_cli.specs.Replies.{status_line, bad_header_line, header_fault_line}
+use Rattle.xrc_cli.specs.Replies.{bad_header_line}
 use Rattle.xrc_cli.specs.Runs.{RepliesInPart, SaidLine, StopsInHearing}
 use Rattle.xrc_cli.specs.Saying.{SaysText, SaysFront}
 use Rattle.xrc_cli.specs.Slots.{HoldsImages}
-use Rattle.xrc_cli.specs.Stops.{status_of, last_line, says_status, IsOfHeader}
+use Rattle.xrc_cli.specs.Stops.{status_of, last_line, IsOfHeader}
 use Rattle.primary_ctl.specs.Primaries.{primary}
 use Rattle.xrc_cli.proofs.FrameLaws.{rose_before, durable_on_console}
 
@@ -57,28 +57,6 @@ header_status NotBuilt ends = absurd ends
 header_status EarlyBreak ends = absurd ends
 header_status EarlyVolume ends = absurd ends
 
--- the line of a stop that says its status alone
-line_is : (stop : Stop) → says_status (status_of stop) ≡ true → last_line stop ≡ status_line (status_of stop)
-line_is NoMemory plain = refl
-line_is BadWords plain = refl
-line_is ConsoleFault plain = absurd cc
-line_is (BadHeader place) plain = absurd cc
-line_is HeaderFault plain = absurd cc
-line_is NotBuilt plain = refl
-line_is EarlyBreak plain = refl
-line_is EarlyVolume plain = refl
-
--- and that of a header's fault
-fault_line_is : (stop : Stop) → status_of stop ≡ 9 → last_line stop ≡ header_fault_line
-fault_line_is NoMemory is = absurd (omega (arith, is))
-fault_line_is BadWords is = absurd (omega (arith, is))
-fault_line_is ConsoleFault is = absurd (omega (arith, is))
-fault_line_is (BadHeader place) is = absurd (omega (arith, is))
-fault_line_is HeaderFault is = refl
-fault_line_is NotBuilt is = absurd (omega (arith, is))
-fault_line_is EarlyBreak is = absurd (omega (arith, is))
-fault_line_is EarlyVolume is = absurd (omega (arith, is))
-
 -- the line of a status, said after nothing
 pub said_after : (text line : List ℕ) (a b d : PlantState) → text ≡ line → b.said b.clock ≡ a.said a.clock → a.console_faults ≤ b.console_faults → SaidLine text b d → SaidLine line a d
 said_after text line a b d same quiet later (inl whole) = inl (whole ∙ ap (λ (l : List ℕ). l ++ text) quiet ∙ ap (λ (l : List ℕ). a.said a.clock ++ l) same)
@@ -90,21 +68,6 @@ said_after text line a b d same quiet later (inr part) = inr (
   ),
   rose_before a.console_faults b.console_faults d.console_faults later part.1,
 )
-
-pub status_said : (n : ℕ) (stop : Stop) (a b d : PlantState) → n ≡ status_of stop → says_status n ≡ true → (stop ≢ ConsoleFault → b.said b.clock ≡ a.said a.clock) → a.console_faults ≤ b.console_faults
-    → SaidLine (last_line stop) b d → SaidLine (status_line n) a d
-status_said n stop a b d is plain quiet later said =
-    let no : stop ≢ ConsoleFault = λ same. absurd (let w = plain_is in let k = ap (λ (s : Stop). says_status (status_of s)) same in cc) in
-    said_after (last_line stop) (status_line n) a b d (line_is stop plain_is ∙ ap status_line (sym is)) (quiet no) later said
-  where
-    plain_is : says_status (status_of stop) ≡ true
-    plain_is = ap says_status (sym is) ∙ plain
-
-pub fault_said : (n : ℕ) (stop : Stop) (a b d : PlantState) → n ≡ status_of stop → n ≡ 9 → (stop ≢ ConsoleFault → b.said b.clock ≡ a.said a.clock) → a.console_faults ≤ b.console_faults
-    → SaidLine (last_line stop) b d → SaidLine header_fault_line a d
-fault_said n stop a b d is nine quiet later said =
-    let no : stop ≢ ConsoleFault = λ same. (let k = ap status_of same in omega (arith, is, nine, k)) in
-    said_after (last_line stop) header_fault_line a b d (fault_line_is stop (sym is ∙ nine)) (quiet no) later said
 
 pub place_said : (place : ℕ) (stop : Stop) (a b d : PlantState) → stop ≡ BadHeader place → (stop ≢ ConsoleFault → b.said b.clock ≡ a.said a.clock) → a.console_faults ≤ b.console_faults
     → SaidLine (last_line stop) b d → SaidLine (bad_header_line place) a d

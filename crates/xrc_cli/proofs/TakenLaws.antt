@@ -1,8 +1,8 @@
 -- What each hand does to what was taken over of a trace.
-use Rattle.std.proofs.Common.{◌≡◌, ◌≤◌, ◌<◌, ◌+◌, ◌⊎◌, inl, inr, ℕ, Bool, true, false, nat_le, List, [], ◌∷◌, ◌++◌, Option, None, refl, sym, ap, subst, ◌∙◌, arith, append-nil, append_assoc}
+use Rattle.std.proofs.Common.{◌≡◌, ◌≤◌, ◌<◌, ◌+◌, ◌⊎◌, inl, inr, ℕ, Bool, true, false, nat_le, List, [], ◌∷◌, ◌++◌, Option, Some, None, refl, sym, ap, subst, ◌∙◌, arith, append-nil, append_assoc}
 use Rattle.std.specs.Prelude.{filter, All, option_map}
 use Rattle.std.specs.List.{flat_map}
-use Rattle.std.proofs.lemmas.Bool.{le-leb}
+use Rattle.std.proofs.lemmas.Bool.{le-leb, ltb-true}
 use Rattle.std.proofs.lemmas.List.Elements.{All-nil, All-append, All-head, All-tail, All-cons, All-same}
 use Rattle.xrc_edge.specs.Causes.{Rose}
 use Rattle.tod_stamp.specs.declared.stamp.Stamp.{Stamp}
@@ -22,15 +22,17 @@ use Rattle.primary_ctl.specs.Primaries.{never_fall}
 use Rattle.std.proofs.lemmas.List.Elements.{filter-append}
 use Rattle.xrc_cli.proofs.Both.{and_true}
 use Rattle.primary_ctl.proofs.Batches.{batches_make}
+use Rattle.sidefile.specs.declared.hand.Hand.{Hand}
 use Rattle.sidefile.specs.declared.hand.Hand.TheVariants as hands
 use Rattle.sidefile.specs.Runs.{run_stamp, runs}
-use Rattle.sidefile.specs.Breaks.{break_in, is_below, has_broken}
-use Rattle.sidefile.specs.Ahead.{ahead, cause_ahead}
-use Rattle.sidefile.specs.Exact.{IsDue}
+use Rattle.sidefile.specs.Breaks.{Break, break_in, is_below}
+use Rattle.sidefile.specs.Ahead.{IsAhead, ahead, cause_ahead}
+use Rattle.sidefile.specs.Exact.{IsHand, LeavesRuns, IsDue, runs_ahead}
 use Rattle.sidefile.specs.Hands.{hand, left_after}
 use Rattle.sidefile.specs.States.{SidefileState, front_of, IsRunOf, HasFault}
+use Rattle.sidefile.proofs.HandLaws.{step, break_here}
 use Rattle.sidefile.proofs.RunLaws.{runs_are_all, begins}
-use Rattle.xrc_cli.specs.Taken.{do_rise, HasTaken, HasReached}
+use Rattle.xrc_cli.specs.Taken.{do_rise, HasTaken, HasReached, WillBreak, FailsBelow, HasFailed, FailsAsBefore}
 use Rattle.xrc_cli.proofs.RisingEntries.{rise_behind, rise_first, writes_rise, none_early}
 use Rattle.xrc_cli.proofs.HandLaws.{break_time_in, hand_batch, IsAbove, hand_at_limit, hand_broken, runs_from, late_break}
 
@@ -171,18 +173,98 @@ take_limit told now t side next held after control limit taken due low upto trac
       },
     )
 
+-- ---- a source that fails
+
+-- Where the source fails behind what a hand left, it fails behind what was ahead, if the hand leaves the break as it is.
+fails_behind : (now later : Option (List ℕ)) (side next : SidefileState) (control limit : ℕ) (given : Hand) (below : ℕ) (bytes : List ℕ) (l : LeavesRuns control limit now (front_of side) (front_of next) bytes given)
+    → ((all : List (List Entry)) → given ≡ hand control (Some ReadFault) limit all → break_in (Some ReadFault) (left_after given all) ≡ break_in (Some ReadFault) all)
+    → FailsBelow below later (front_of next) l.rest → FailsBelow below later (front_of side) bytes
+fails_behind now later side next control limit given below bytes l same_break f =
+    let same = l.fronts f.goes_on f.given in
+    let all = runs_ahead (front_of side) (l.used ++ f.given) in
+    record {
+      given = l.used ++ f.given;
+      left = f.left;
+      upto = f.upto;
+      split = l.split ∙ ap (λ (u : List ℕ). l.used ++ u) f.split ∙ sym (append_assoc l.used f.given f.left);
+      told = f.told;
+      goes_on = l.went_on f.goes_on;
+      fault = same.fault f.fault;
+      break_is = sym (same_break all (same.hand (Some ReadFault))) ∙ ap (break_in (Some ReadFault)) (sym same.runs) ∙ f.break_is;
+      below = f.below;
+    }
+
+-- a batch leaves the break as it is
+batch_leaves : (control limit : ℕ) (batch : Batch) (all : List (List Entry)) → hands.Batch batch ≡ hand control (Some ReadFault) limit all
+    → break_in (Some ReadFault) (left_after (hands.Batch batch) all) ≡ break_in (Some ReadFault) all
+batch_leaves control limit batch all is =
+    let first = hand_batch control (Some ReadFault) limit all batch is in
+    ap (λ (rs : List (List Entry)). break_in (Some ReadFault) (left_after (hands.Batch batch) rs)) first.is ∙ first.same
+
+pub batch_fails : (told now : Option (List ℕ)) (side next : SidefileState) (control limit : ℕ) (batch : Batch) → IsDue control limit told now (front_of side) (front_of next) (hands.Batch batch) → FailsAsBefore told now side next
+batch_fails told now side next control limit batch due below later failed bytes there =
+    let l = (due bytes there).1 in
+    fails_behind now later side next control limit (hands.Batch batch) below bytes l (batch_leaves control limit batch) (failed l.rest l.there)
+
+-- and so does the limit
+pub limit_fails : (told now : Option (List ℕ)) (side next : SidefileState) (control limit : ℕ) → IsDue control limit told now (front_of side) (front_of next) hands.AtLimit → FailsAsBefore told now side next
+limit_fails told now side next control limit due below later failed bytes there =
+    let l = (due bytes there).1 in
+    fails_behind now later side next control limit hands.AtLimit below bytes l (λ all is. refl) (failed l.rest l.there)
+
+-- one after another
+pub then_fails : (told now last : Option (List ℕ)) (a b d : SidefileState) → FailsAsBefore told now a b → FailsAsBefore now last b d → FailsAsBefore told last a d
+then_fails told now last a b d first second below later failed = first below later (second below later failed)
+
+-- what is below a limit is below a later one
+pub fails_later : (told now : Option (List ℕ)) (side : SidefileState) (early late : ℕ) → early ≤ late → HasFailed early told now side → HasFailed late told now side
+fails_later told now side early late le failed bytes there =
+    let f = failed bytes there in
+    record {
+      given = f.given;
+      left = f.left;
+      upto = f.upto;
+      split = f.split;
+      told = f.told;
+      goes_on = f.goes_on;
+      fault = f.fault;
+      break_is = f.break_is;
+      below = (let lt = f.below in omega (arith, le, lt));
+    }
+
 -- ---- a break
 
--- A trace that breaks at a limit without a fault of its source has a break time below it.
+below_is : (b : Option Break) (upto limit : ℕ) → b ≡ Some (record { cause = ReadFault; upto = upto }) → is_below (option_map (λ x. x.upto) b) limit ≡ true → upto < limit
+below_is b upto limit is below = ltb-true upto limit (rw is at below)
+
+-- A break by a fault that is handed over is one of the source, below the limit.
+fails_here : (told now : Option (List ℕ)) (side next : SidefileState) (control limit : ℕ) (upto : Stamp) → 0 < limit → IsDue control limit told now (front_of side) (front_of next) (hands.Broken ReadFault upto) → HasFailed limit told now side
+fails_here told now side next control limit upto some due bytes there =
+    let d = due bytes there in
+    let all = runs_ahead (front_of side) d.front in
+    let is = break_here control limit (Some ReadFault) all (record { cause = ReadFault; upto = upto.0 }) (step control (Some ReadFault) limit all) (sym d.hand) in
+    record {
+      given = d.front;
+      left = d.left;
+      upto = upto.0;
+      split = d.split;
+      told = d.told;
+      goes_on = d.went_on;
+      fault = d.fault;
+      break_is = is;
+      below = below_is (break_in (Some ReadFault) all) upto.0 limit is (hand_broken control (Some ReadFault) limit all ReadFault upto some d.hand);
+    }
+
+-- A break that is handed over without a fault is one of the trace, below the limit.
+breaks_here : (told : Option (List ℕ)) (side : SidefileState) (held : PrimaryState) (control limit : ℕ) (cause : Cause) (upto : Stamp) → 0 < limit
+    → ((bytes : List ℕ) → IsAhead side.reader told bytes → IsHand control limit (front_of side) bytes (hands.Broken cause upto)) → WillBreak limit told side held
+breaks_here told side held control limit cause upto some due t taken =
+    ap (λ b. is_below (option_map (λ x. x.upto) b) limit) (sym taken.same_break)
+    ∙ hand_broken control (cause_ahead side.reader taken.rest) limit (runs (ahead side.waiting side.reader taken.rest)) cause upto some (due taken.rest taken.there)
+
 pub take_broken : (told now : Option (List ℕ)) (side next : SidefileState) (held : PrimaryState) (control limit faults risen : ℕ) (cause : Cause) (upto : Stamp)
     → 0 < limit → IsDue control limit told now (front_of side) (front_of next) (hands.Broken cause upto) → HasFault faults risen (hands.Broken cause upto)
-    → Rose faults risen ⊎ ((t : Trace) → HasTaken told t side held → has_broken t limit ≡ true)
-take_broken told now side next held control limit faults risen ReadFault upto some due fault = inl fault
-take_broken told now side next held control limit faults risen (BadTrace place) upto some due fault = inr (λ t taken.
-    let old = ahead side.waiting side.reader taken.rest in
-    ap (λ b. is_below (option_map (λ x. x.upto) b) limit) (sym taken.same_break)
-    ∙ hand_broken control (cause_ahead side.reader taken.rest) limit (runs old) (BadTrace place) upto some (due taken.rest taken.there))
-take_broken told now side next held control limit faults risen (Crowded stamp) upto some due fault = inr (λ t taken.
-    let old = ahead side.waiting side.reader taken.rest in
-    ap (λ b. is_below (option_map (λ x. x.upto) b) limit) (sym taken.same_break)
-    ∙ hand_broken control (cause_ahead side.reader taken.rest) limit (runs old) (Crowded stamp) upto some (due taken.rest taken.there))
+    → (Rose faults risen × HasFailed limit told now side) ⊎ ((risen ≡ faults) × WillBreak limit told side held)
+take_broken told now side next held control limit faults risen ReadFault upto some due fault = inl (fault, fails_here told now side next control limit upto some due)
+take_broken told now side next held control limit faults risen (BadTrace place) upto some due fault = inr (fault, breaks_here told side held control limit (BadTrace place) upto some due)
+take_broken told now side next held control limit faults risen (Crowded stamp) upto some due fault = inr (fault, breaks_here told side held control limit (Crowded stamp) upto some due)

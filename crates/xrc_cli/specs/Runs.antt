@@ -1,15 +1,16 @@
 -- What a run that copies one volume has found and done.
-use Rattle.std.specs.Prelude.{◌≡◌, ◌≤◌, ◌⊎◌, ◌*◌, ◌++◌, ℕ, List, [], ◌∷◌, length, take, false, true, Some, Ok, Err, slice_get, IsTrue}
+use Rattle.std.specs.Prelude.{◌≡◌, ◌≤◌, ◌⊎◌, ◌*◌, ◌-◌, ◌++◌, ℕ, List, [], ◌∷◌, length, take, false, true, Some, Ok, Err, slice_get, IsTrue}
 use Rattle.xrc_edge.specs.Causes.{Rose}
 use Rattle.crash_plant.specs.declared.device.Device.TheVariants.{Volume}
 use Rattle.crash_plant.specs.Moments.{PlantState, on, IsDurable}
 use Rattle.ckd_track.specs.Images.{image}
+use Rattle.ckd_track.specs.declared.write.Cause.TheVariants.{ReadFault}
 use Rattle.trace_grammar.specs.declared.header.VolumeHead.{VolumeHead}
 use Rattle.trace_grammar.specs.declared.trace.Trace.{Trace}
 use Rattle.trace_grammar.specs.declared.trace.HeaderError.TheVariants.{BadHeader, HeaderFault}
 use Rattle.trace_grammar.specs.Good.{trace_of}
 use Rattle.primary_ctl.specs.Primaries.{primary}
-use Rattle.sidefile.specs.Breaks.{has_broken}
+use Rattle.sidefile.specs.Breaks.{has_broken, cause_at}
 use Rattle.xrc_cli.specs.declared.label.Label.{Label}
 use Rattle.xrc_cli.specs.declared.plan.Plan.{Plan}
 use Rattle.xrc_cli.specs.declared.script.CopyScript.{CopyScript}
@@ -74,6 +75,20 @@ pub record BreaksBefore (given : List ℕ) (time : ℕ) : Type 0 where
   pub trace : trace_of 1 false given ≡ Ok t
   pub below : IsTrue (has_broken t time)
 
+-- Of all bytes of a source those that it gave: all but as many as are left.
+abbrev pub given_of : (all left : List ℕ) → List ℕ
+given_of all left = take (length all - length left) all
+
+-- A source that failed still tells what it has left of all its bytes. Those that it gave are a trace that its fault breaks below a
+-- time.
+pub record FailsBefore (has_left : List ℕ → Type 0) (all : List ℕ) (time : ℕ) : Type 0 where
+  pub left : List ℕ
+  pub told : has_left left
+  pub within : length left ≤ length all
+  pub t : Trace
+  pub trace : trace_of 1 true (given_of all left) ≡ Ok t
+  pub breaks : cause_at time t ≡ Some ReadFault
+
 -- The script asks to copy a volume of the trace that was given to volume 0, and so it was done: each slot begins with the image
 -- of the primary's track at the time of the last line, and a crash leaves volume 0 so. By that time the trace hasn't broken.
 pub record CopiesTracks (session given : List ℕ) (old new : PlantState) : Type 0 where
@@ -112,6 +127,12 @@ pub record BreaksEarly (session given : List ℕ) (old : PlantState) : Type 0 wh
   pub heard : IsCopyScript session old.script script
   pub breaks : BreaksBefore given script.end_time.0
 
+-- The script asks for a copy up to a time below which the source failed.
+pub record FailsEarly (has_left : List ℕ → Type 0) (session all : List ℕ) (old : PlantState) : Type 0 where
+  pub script : CopyScript
+  pub heard : IsCopyScript session old.script script
+  pub fails : FailsBefore has_left all script.end_time.0
+
 -- Nothing was written and nothing said.
 pub record StopsInHearing (old new : PlantState) : Type 0 where
   pub volume : new.bytes (Volume 0) ≡ old.bytes (Volume 0)
@@ -122,8 +143,26 @@ abbrev pub SaidLine : List ℕ → PlantState → PlantState → Type 0
 SaidLine text old new =
     (new.said new.clock ≡ old.said old.clock ++ text) ⊎ (SaidFront text old new × Rose old.console_faults new.console_faults)
 
--- Nothing of volume 0 has changed, or only slots of the volume that its label names.
-abbrev pub ChangesSlots : PlantState → PlantState → Type 0
-ChangesSlots old new =
-    (new.bytes (Volume 0) ≡ old.bytes (Volume 0))
-    ⊎ ((label : Label) × (n : ℕ) × HasLabel (old.bytes (Volume 0)) label × (n ≤ 15 * label.cylinders) × DiffersInSlots n (old.bytes (Volume 0)) (new.bytes (Volume 0)))
+-- A volume of the trace of these bytes.
+pub record IsOfTrace (given : List ℕ) (head : VolumeHead) : Type 0 where
+  pub t : Trace
+  pub volume : ℕ
+  pub trace : trace_of 1 false given ≡ Ok t
+  pub at : slice_get t.header.volumes volume ≡ Some head
+
+-- The script was heard to its end and asks to copy a volume of the trace to the one of the label on volume 0, and only slots of that
+-- volume's tracks have changed.
+pub record ChangesAsked (holds : List ℕ → Type 0) (session : List ℕ) (old new : PlantState) : Type 0 where
+  pub script : CopyScript
+  pub head : VolumeHead
+  pub label : Label
+  pub heard : IsCopyScript session old.script script
+  pub all_heard : new.script ≡ []
+  pub of_trace : (given : List ℕ) → holds given → IsOfTrace given head
+  pub labelled : HasLabel (old.bytes (Volume 0)) label
+  pub is_pair : IsPair script head label
+  pub slots : DiffersInSlots (15 * head.cylinders) (old.bytes (Volume 0)) (new.bytes (Volume 0))
+
+-- Nothing of volume 0 has changed, or only slots of the tracks that the script asks to copy.
+abbrev pub ChangesSlots : (holds : List ℕ → Type 0) → (session : List ℕ) → PlantState → PlantState → Type 0
+ChangesSlots holds session old new = (new.bytes (Volume 0) ≡ old.bytes (Volume 0)) ⊎ ChangesAsked holds session old new

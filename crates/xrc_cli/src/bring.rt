@@ -1,15 +1,13 @@
 //! Bringing volume 0 to what the primary holds at a time.
 
-ghost use Rattle.std.specs.Prelude.{◌≡◌, ◌≢◌, ◌≤◌, ◌<◌, ◌^◌, ◌⊎◌, ℕ, length, false, true, Err, OnOk, OnErr, IsTrue};
+ghost use Rattle.std.specs.Prelude.{◌≡◌, ◌≢◌, ◌≤◌, ◌<◌, ◌^◌, ◌⊎◌, ℕ, length, false, true, Err, OnOk, OnErr};
 ghost use Rattle.xrc_edge.specs.Causes.{Rose};
 ghost use Rattle.crash_plant.specs.Moments.{on, IsDurable};
 ghost use Rattle.crash_plant.specs.Calls.{IsThere, WorksOn};
 ghost use Rattle.crash_plant.specs.declared.device.Device.TheVariants.{Volume};
-ghost use Rattle.trace_grammar.specs.declared.trace.Trace.{Trace};
 ghost use Rattle.xrc_cli.specs.Copiers.{IsCopier, SameTracks, Reaches, is_wanted, images_of};
 ghost use Rattle.xrc_cli.specs.Slots.{slot_place, IsInSlot, AreInSlots, DiffersInSlots};
-ghost use Rattle.xrc_cli.specs.Taken.{HasTaken};
-ghost use Rattle.sidefile.specs.Breaks.{has_broken};
+ghost use Rattle.xrc_cli.specs.Taken.{WillBreak, HasFailed, FailsAsBefore};
 
 use crate::catch_up::catch_up;
 use crate::copier::Copier;
@@ -38,11 +36,12 @@ fn bring_to<S: Source, P: Plant>(
     ensures same { OnOk result (SameTracks copier.old copier.new) }
     ensures time { OnOk result (copier.new.side.upto ≡ limit.0) }
     ensures reached { OnOk result (Reaches limit.0 (S.left source.old) (S.left source.new) copier.old copier.new) }
+    ensures fails { OnOk result (FailsAsBefore (S.left source.old) (S.left source.new) copier.old.side copier.new.side) }
     ensures none { OnOk result ((x : ℕ) → x < length copier.old.wanted.items → is_wanted copier.new.wanted.items x ≡ false) }
     ensures copied { P.tells → AreInSlots (images_of copier.old.primary copier.old.volume) copier.old.wanted.items ((P.state plant.old).bytes (Volume 0)) → OnOk result (AreInSlots (images_of copier.new.primary copier.old.volume) copier.new.wanted.items ((P.state plant.new).bytes (Volume 0))) }
     ensures slots { P.tells → DiffersInSlots (length copier.old.wanted.items) ((P.state plant.old).bytes (Volume 0)) ((P.state plant.new).bytes (Volume 0)) }
     ensures only { WorksOn P.tells (λ d. d ≡ Volume 0) (P.state plant.old) (P.state plant.new) }
-    ensures broken { result ≡ Err Stop.EarlyBreak → Rose (S.faults source.old) (S.faults source.new) ⊎ ((t : Trace) → HasTaken (S.left source.old) t copier.old.side copier.old.primary → IsTrue (has_broken t limit.0)) }
+    ensures broken { result ≡ Err Stop.EarlyBreak → (Rose (S.faults source.old) (S.faults source.new) × HasFailed limit.0 (S.left source.old) (S.left source.new) copier.old.side) ⊎ ((S.faults source.new ≡ S.faults source.old) × WillBreak limit.0 (S.left source.old) copier.old.side copier.old.primary) }
     ensures count { result ≢ Err Stop.EarlyBreak → S.faults source.new ≡ S.faults source.old }
     ensures volume_fault { result ≡ Err Stop.EarlyVolume → Rose ((P.state plant.old).faults (Volume 0)) ((P.state plant.new).faults (Volume 0)) }
     ensures volume_count { result ≢ Err Stop.EarlyVolume → (P.state plant.new).faults (Volume 0) ≡ (P.state plant.old).faults (Volume 0) }
@@ -77,7 +76,7 @@ pub fn copy_tracks<S: Source, P: Plant>(
     ensures durable { P.tells → OnOk result (IsDurable (on (P.state plant.new) (Volume 0))) }
     ensures slots { P.tells → DiffersInSlots (length copier.old.wanted.items) ((P.state plant.old).bytes (Volume 0)) ((P.state plant.new).bytes (Volume 0)) }
     ensures only { WorksOn P.tells (λ d. d ≡ Volume 0) (P.state plant.old) (P.state plant.new) }
-    ensures broken { result ≡ Err Stop.EarlyBreak → Rose (S.faults source.old) (S.faults source.new) ⊎ ((t : Trace) → HasTaken (S.left source.old) t copier.old.side copier.old.primary → IsTrue (has_broken t end_time.0)) }
+    ensures broken { result ≡ Err Stop.EarlyBreak → (Rose (S.faults source.old) (S.faults source.new) × HasFailed end_time.0 (S.left source.old) (S.left source.new) copier.old.side) ⊎ ((S.faults source.new ≡ S.faults source.old) × WillBreak end_time.0 (S.left source.old) copier.old.side copier.old.primary) }
     ensures count { result ≢ Err Stop.EarlyBreak → S.faults source.new ≡ S.faults source.old }
     ensures volume_fault { result ≡ Err Stop.EarlyVolume → Rose ((P.state plant.old).faults (Volume 0)) ((P.state plant.new).faults (Volume 0)) }
     ensures volume_count { result ≢ Err Stop.EarlyVolume → (P.state plant.new).faults (Volume 0) ≡ (P.state plant.old).faults (Volume 0) }

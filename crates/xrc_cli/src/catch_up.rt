@@ -1,14 +1,12 @@
 //! Taking over what a sidefile hands over.
 
-ghost use Rattle.std.specs.Prelude.{[], ◌∷◌, ◌≡◌, ◌≢◌, ◌≤◌, ◌<◌, ◌⊎◌, ◌*◌, ℕ, length, All, Err, OnOk, OnErr, IsTrue, filter};
+ghost use Rattle.std.specs.Prelude.{[], ◌∷◌, ◌≡◌, ◌≢◌, ◌≤◌, ◌<◌, ◌⊎◌, ◌*◌, ℕ, length, All, Err, OnOk, OnErr, filter};
 ghost use Rattle.xrc_edge.specs.Causes.{Rose};
-ghost use Rattle.trace_grammar.specs.declared.trace.Trace.{Trace};
 ghost use Rattle.trace_grammar.specs.Headers.{cylinders_of};
 ghost use Rattle.trace_grammar.specs.Writes.{IsWriteTo};
 ghost use Rattle.primary_ctl.specs.States.{track_of, after_writes, is_on};
 ghost use Rattle.xrc_cli.specs.Copiers.{IsCopier, SameTracks, Marks, KeepsOthers, Reaches};
-ghost use Rattle.xrc_cli.specs.Taken.{HasTaken};
-ghost use Rattle.sidefile.specs.Breaks.{has_broken};
+ghost use Rattle.xrc_cli.specs.Taken.{WillBreak, HasFailed, FailsAsBefore};
 
 use crate::copier::Copier;
 use crate::stop::Stop;
@@ -68,7 +66,8 @@ pub fn catch_up<S: Source>(
     ensures time { OnOk result (copier.new.side.upto ≡ limit.0) }
     ensures others { OnOk result (KeepsOthers copier.old copier.new) }
     ensures reached { OnOk result (Reaches limit.0 (S.left source.old) (S.left source.new) copier.old copier.new) }
-    ensures broken { result ≡ Err Stop.EarlyBreak → Rose (S.faults source.old) (S.faults source.new) ⊎ ((t : Trace) → HasTaken (S.left source.old) t copier.old.side copier.old.primary → IsTrue (has_broken t limit.0)) }
+    ensures fails { OnOk result (FailsAsBefore (S.left source.old) (S.left source.new) copier.old.side copier.new.side) }
+    ensures broken { result ≡ Err Stop.EarlyBreak → (Rose (S.faults source.old) (S.faults source.new) × HasFailed limit.0 (S.left source.old) (S.left source.new) copier.old.side) ⊎ ((S.faults source.new ≡ S.faults source.old) × WillBreak limit.0 (S.left source.old) copier.old.side copier.old.primary) }
     ensures count { result ≢ Err Stop.EarlyBreak → S.faults source.new ≡ S.faults source.old }
     ensures stops { OnErr result ((result ≡ Err Stop.EarlyBreak) ⊎ (result ≡ Err Stop.NoMemory)) }
 {

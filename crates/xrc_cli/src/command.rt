@@ -4,7 +4,7 @@ ghost use Rattle.crash_plant.specs.Calls.{NoneLent, WorksOnConsole};
 ghost use Rattle.crash_plant.specs.declared.device.Device.TheVariants.{Volume};
 ghost use Rattle.xrc_cli.specs.Frames.{LeavesOthers, SameVolume, SaysNothing, HearsNone};
 ghost use Rattle.xrc_cli.specs.Replies.{status_line, bad_header_line, header_fault_line};
-ghost use Rattle.xrc_cli.specs.Runs.{IsRefused, EndsInHeader, AnswersScript, BreaksEarly, CopiesVolume, ChangesSlots, RepliesInPart, SaidLine, StopsInHearing};
+ghost use Rattle.xrc_cli.specs.Runs.{IsRefused, EndsInHeader, AnswersScript, BreaksEarly, FailsEarly, CopiesVolume, ChangesSlots, RepliesInPart, SaidLine, StopsInHearing};
 ghost use Rattle.xrc_cli.specs.Sources.{HoldsOnly, FirstRose, FirstCountStays, IsFirstSite};
 ghost use Rattle.xrc_cli.specs.Stops.{status_of, last_line, hears_nothing, changes_nothing, says_status, EndsThere};
 ghost use Rattle.xrc_cli.specs.Words.{run_session};
@@ -101,8 +101,8 @@ fn run_command<S: Source, P: Plant>(
     ensures refused { (place : ℕ) → result ≡ Err (Stop.BadHeader place) → (given : List ℕ) → HoldsOnly S.left traces.old.items given → IsRefused given place }
     ensures header { (given : List ℕ) (place : ℕ) → HoldsOnly S.left traces.old.items given → IsRefused given place → IsSome (run_session (map string_bytes words.now)) → IsFirstSite (length traces.old.items) (P.state plant.old) → EndsThere result }
     ensures cut { (all left : List ℕ) → HoldsOnly S.left traces.old.items all → HoldsOnly S.left traces.new.items left → result ≡ Err Stop.HeaderFault → (given : List ℕ) × EndsInHeader all left given }
-    ensures broken { P.tells → (given : List ℕ) → HoldsOnly S.left traces.old.items given → result ≡ Err Stop.EarlyBreak → IfSome (run_session (map string_bytes words.now)) (λ session. FirstRose S.faults traces.old.items traces.new.items ⊎ BreaksEarly session given (P.state plant.old)) }
-    ensures slots { P.tells → ChangesSlots (P.state plant.old) (P.state plant.new) }
+    ensures broken { P.tells → (given : List ℕ) → HoldsOnly S.left traces.old.items given → result ≡ Err Stop.EarlyBreak → IfSome (run_session (map string_bytes words.now)) (λ session. (FirstRose S.faults traces.old.items traces.new.items × FailsEarly (HoldsOnly S.left traces.new.items) session given (P.state plant.old)) ⊎ (FirstCountStays S.faults traces.old.items traces.new.items × BreaksEarly session given (P.state plant.old))) }
+    ensures slots { P.tells → IfSome (run_session (map string_bytes words.now)) (λ session. ChangesSlots (HoldsOnly S.left traces.old.items) session (P.state plant.old) (P.state plant.new)) }
     ensures unchanged { IfErr result (λ stop. IsTrue (changes_nothing (status_of stop)) → SameVolume P.tells (P.state plant.old) (P.state plant.new)) }
     ensures unheard { IfErr result (λ stop. IsTrue (hears_nothing (status_of stop)) → HearsNone P.tells (P.state plant.old) (P.state plant.new)) }
     ensures silent { IfErr result (λ stop. stop ≢ Stop.ConsoleFault → SaysNothing P.tells (P.state plant.old) (P.state plant.new)) }
@@ -159,8 +159,8 @@ pub fn xrc<R: Threads + Wait + Sync, S: Source + Send, P: Plant>(
     ensures fault_line { P.tells → result ≡ 9 → SaidLine header_fault_line (P.state plant.old) (P.state plant.new) }
     ensures unheard { IsTrue (hears_nothing result) → HearsNone P.tells (P.state plant.old) (P.state plant.new) }
 
-    // The trace broke below the end's time, or its count rose.
-    ensures broken { P.tells → (given : List ℕ) → HoldsOnly S.left traces.old.items given → result ≡ 18 → IfSome (run_session (map string_bytes words.now)) (λ session. FirstRose S.faults traces.old.items traces.new.items ⊎ BreaksEarly session given (P.state plant.old)) }
+    // The trace broke below the end's time: by a fault where its count rose, and else by the bytes that it held.
+    ensures broken { P.tells → (given : List ℕ) → HoldsOnly S.left traces.old.items given → result ≡ 18 → IfSome (run_session (map string_bytes words.now)) (λ session. (FirstRose S.faults traces.old.items traces.new.items × FailsEarly (HoldsOnly S.left traces.new.items) session given (P.state plant.old)) ⊎ (FirstCountStays S.faults traces.old.items traces.new.items × BreaksEarly session given (P.state plant.old))) }
 
     // A fault comes only where its count rose, and no other answer hides one of the trace or of volume 0.
     ensures console_fault { result ≡ 3 → Rose (P.state plant.old).console_faults (P.state plant.new).console_faults }
@@ -168,9 +168,9 @@ pub fn xrc<R: Threads + Wait + Sync, S: Source + Send, P: Plant>(
     ensures volume_fault { result ≡ 19 → Rose ((P.state plant.old).faults (Volume 0)) ((P.state plant.new).faults (Volume 0)) }
     ensures volume_count { result ≢ 19 → (P.state plant.new).faults (Volume 0) ≡ (P.state plant.old).faults (Volume 0) }
 
-    // Of the devices only slots of volume 0 change.
+    // Of the devices only slots of volume 0 change, and of these only those that the script asks to copy to.
     ensures unchanged { IsTrue (changes_nothing result) → SameVolume P.tells (P.state plant.old) (P.state plant.new) }
-    ensures slots { P.tells → ChangesSlots (P.state plant.old) (P.state plant.new) }
+    ensures slots { P.tells → IfSome (run_session (map string_bytes words.now)) (λ session. ChangesSlots (HoldsOnly S.left traces.old.items) session (P.state plant.old) (P.state plant.new)) }
     ensures others { LeavesOthers P.tells (P.state plant.old) (P.state plant.new) }
 
     // What is said, where it was not done.

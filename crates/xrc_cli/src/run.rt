@@ -9,7 +9,7 @@ ghost use Rattle.xrc_cli.specs.Plans.{CanBeCopied};
 ghost use Rattle.xrc_cli.specs.Slots.{DiffersInSlots};
 ghost use Rattle.xrc_cli.specs.Saying.{SaysText, SaysFront};
 ghost use Rattle.xrc_cli.specs.Stops.{IsOfHeader, EndsThere, status_of, hears_nothing, changes_nothing};
-ghost use Rattle.xrc_cli.specs.Runs.{IsRefused, EndsInHeader, StopsInHearing, RepliesInPart, ChangesSlots, replies_of, FindsPlan, AnswersScript, CarriesOut, BreaksBefore, BreaksEarly, CopiesVolume};
+ghost use Rattle.xrc_cli.specs.Runs.{IsRefused, EndsInHeader, StopsInHearing, RepliesInPart, ChangesSlots, replies_of, FindsPlan, AnswersScript, CarriesOut, BreaksBefore, FailsBefore, BreaksEarly, FailsEarly, CopiesVolume};
 
 use crate::bring::copy_tracks;
 use crate::copier::make_copier;
@@ -88,7 +88,7 @@ fn carry_out<S: Source, P: Plant>(
     requires goes_on { reader.stopped ≡ None }
     requires can { CanBeCopied header.volumes ((P.state plant.old).lengths (Volume 0)) plan.now }
     ensures copied { P.tells → (given : List ℕ) → ReadsHeader (Some given) (S.left source.old) header reader → OnOk result (CarriesOut given header.volumes plan.now (P.state plant.old) (P.state plant.new)) }
-    ensures broken { (given : List ℕ) → ReadsHeader (Some given) (S.left source.old) header reader → result ≡ Err Stop.EarlyBreak → Rose (S.faults source.old) (S.faults source.new) ⊎ BreaksBefore given plan.now.end_time.0 }
+    ensures broken { (given : List ℕ) → ReadsHeader (Some given) (S.left source.old) header reader → result ≡ Err Stop.EarlyBreak → (Rose (S.faults source.old) (S.faults source.new) × FailsBefore (λ left. S.left source.new ≡ Some left) given plan.now.end_time.0) ⊎ ((S.faults source.new ≡ S.faults source.old) × BreaksBefore given plan.now.end_time.0) }
     ensures slots { P.tells → DiffersInSlots plan.now.tracks ((P.state plant.old).bytes (Volume 0)) ((P.state plant.new).bytes (Volume 0)) }
     ensures leaves { LeavesOthers P.tells (P.state plant.old) (P.state plant.new) }
     ensures said { SaysNothing P.tells (P.state plant.old) (P.state plant.new) }
@@ -133,7 +133,7 @@ pub fn copy_volume<S: Source, P: Plant>(
     requires { IsThere (P.state plant.old) (Volume 0) }
     ensures answered { P.tells → OnOk result (AnswersScript session (P.state plant.old) (P.state plant.new)) }
     ensures copied { P.tells → (given : List ℕ) → S.left source.old ≡ Some given → OnOk result (CopiesVolume session given (P.state plant.old) (P.state plant.new)) }
-    ensures slots { P.tells → ChangesSlots (P.state plant.old) (P.state plant.new) }
+    ensures slots { P.tells → ChangesSlots (λ given. S.left source.old ≡ Some given) session (P.state plant.old) (P.state plant.new) }
     ensures unchanged { IfErr result (λ stop. IsTrue (changes_nothing (status_of stop)) → SameVolume P.tells (P.state plant.old) (P.state plant.new)) }
     ensures unheard { IfErr result (λ stop. IsTrue (hears_nothing (status_of stop)) → HearsNone P.tells (P.state plant.old) (P.state plant.new)) }
     ensures silent { IfErr result (λ stop. stop ≢ Stop.ConsoleFault → SaysNothing P.tells (P.state plant.old) (P.state plant.new)) }
@@ -143,7 +143,7 @@ pub fn copy_volume<S: Source, P: Plant>(
     ensures header { (given : List ℕ) (place : ℕ) → S.left source.old ≡ Some given → IsRefused given place → EndsThere result }
     ensures header_fault { result ≡ Err Stop.HeaderFault → Rose (S.faults source.old) (S.faults source.new) }
     ensures cut { result ≡ Err Stop.HeaderFault → (all left : List ℕ) → S.left source.old ≡ Some all → S.left source.new ≡ Some left → (given : List ℕ) × EndsInHeader all left given }
-    ensures broken { P.tells → (given : List ℕ) → S.left source.old ≡ Some given → result ≡ Err Stop.EarlyBreak → Rose (S.faults source.old) (S.faults source.new) ⊎ BreaksEarly session given (P.state plant.old) }
+    ensures broken { P.tells → (given : List ℕ) → S.left source.old ≡ Some given → result ≡ Err Stop.EarlyBreak → (Rose (S.faults source.old) (S.faults source.new) × FailsEarly (λ left. S.left source.new ≡ Some left) session given (P.state plant.old)) ⊎ ((S.faults source.new ≡ S.faults source.old) × BreaksEarly session given (P.state plant.old)) }
     ensures source_count { result ≢ Err Stop.HeaderFault → result ≢ Err Stop.EarlyBreak → S.faults source.new ≡ S.faults source.old }
     ensures console_fault { result ≡ Err Stop.ConsoleFault → Rose (P.state plant.old).console_faults (P.state plant.new).console_faults }
     ensures volume_fault { result ≡ Err Stop.EarlyVolume → Rose ((P.state plant.old).faults (Volume 0)) ((P.state plant.new).faults (Volume 0)) }

@@ -239,9 +239,37 @@ fn any_volume_of_the_header_is_copied(rt: HostRuntime) -> Result<(), Fail> {
     Ok(())
 }
 
-/// A trace of these parts, and then so many writes of one stamp and the rest.
-fn crowd(alloc: Global, writes: u8, stamp: u8, rest: &[u8]) -> Result<MemorySource, NoMemory> {
-    let mut all = bytes(alloc, &[&TRACE])?;
+#[test]
+fn idle_entries_change_no_track(rt: HostRuntime) -> Result<(), Fail> {
+    let alloc = rt.alloc();
+    let pair: &[u8] = b"0000000000000060 XADDPAIR ABC VOLUME(PRIM02,SEC001)\n";
+    // None, or one at 55 and two at 64.
+    let rows: [&[u8]; 2] = [
+        &[],
+        b"\x01\x00\x00\x00\x00\x00\x00\x00\x55\x01\x00\x00\x00\x00\x00\x00\x00\x64\x01\x00\x00\x00\x00\x00\x00\x00\x64",
+    ];
+    for entries in rows {
+        let trace = source(alloc, &[&VOLUMES, entries], 50, &[])?;
+        let plant = site(alloc, &[START, pair, END], &[])?;
+        let outcome = run(&rt, alloc, &RUN, trace, plant)?;
+        assert_eq!(rt; outcome.status, 0);
+        for (track, slot) in outcome.slots.iter().enumerate() {
+            let expected = if track == 2 { slot_of(5, b'B') } else { [0; 8] };
+            assert_eq!(rt; *slot, expected, "in track {track}");
+        }
+    }
+    Ok(())
+}
+
+/// This front of a trace, and then so many writes of one stamp and the rest.
+fn crowd(
+    alloc: Global,
+    front: &[u8],
+    writes: u8,
+    stamp: u8,
+    rest: &[u8],
+) -> Result<MemorySource, NoMemory> {
+    let mut all = bytes(alloc, &[front])?;
     for _ in 0..writes {
         all.extend_from_slice(alloc, &whole(stamp, 0, 5, b'W'))?;
     }
@@ -252,20 +280,26 @@ fn crowd(alloc: Global, writes: u8, stamp: u8, rest: &[u8]) -> Result<MemorySour
 #[test]
 fn a_trace_that_breaks_before_the_end_stops_the_copy(rt: HostRuntime) -> Result<(), Fail> {
     let alloc = rt.alloc();
-    // How many writes of one stamp, the stamp, what follows them, and the status.
-    let rows: [(u8, u8, &[u8], u8); 9] = [
-        (32, 0x6E, &[], 0),
-        (33, 0x6E, &[], 18),
-        (33, 0x90, &[], 18),
-        (33, 0x91, &[], 0),
-        (33, 0x90, &idle(0x91), 18),
-        (0, 0, &UPDATE[..18], 18),
-        (1, 0x90, &[9], 18),
-        (1, 0x91, &[9], 0),
-        (1, 0x90, &idle(0x64), 18),
+    let header = &TRACE[..18];
+    // What stands in front, how many writes of one stamp, the stamp, what follows them, and the status.
+    let rows: [(&[u8], u8, u8, &[u8], u8); 13] = [
+        (&TRACE, 32, 0x6E, &[], 0),
+        (&TRACE, 33, 0x6E, &[], 18),
+        (&TRACE, 33, 0x90, &[], 18),
+        (&TRACE, 33, 0x91, &[], 0),
+        (&TRACE, 33, 0x90, &idle(0x91), 18),
+        (&TRACE, 0, 0, &UPDATE[..18], 18),
+        (&TRACE, 1, 0x90, &[9], 18),
+        (&TRACE, 1, 0x91, &[9], 0),
+        (&TRACE, 1, 0x90, &idle(0x64), 18),
+        // In the first run, or in front of it.
+        (header, 33, 0x64, &idle(0x65), 18),
+        (header, 33, 0x91, &[], 0),
+        (header, 1, 0x64, &[9], 18),
+        (header, 0, 0, &[9], 18),
     ];
-    for (place, (writes, stamp, rest, status)) in rows.iter().enumerate() {
-        let trace = crowd(alloc, *writes, *stamp, *rest)?;
+    for (place, (front, writes, stamp, rest, status)) in rows.iter().enumerate() {
+        let trace = crowd(alloc, *front, *writes, *stamp, *rest)?;
         let plant = site(alloc, &[START, PAIR, END], &[])?;
         let outcome = run(&rt, alloc, &RUN, trace, plant)?;
         assert_eq!(rt; outcome.status, *status, "row {place}");
@@ -311,6 +345,33 @@ fn a_pull_that_fails_is_told(rt: HostRuntime) -> Result<(), Fail> {
         assert_eq!(rt; outcome.status, status);
         assert_eq!(rt; outcome.said.as_slice(), line);
         assert!(rt; outcome.slots.iter().all(|slot| *slot == [0; 8]));
+    }
+    Ok(())
+}
+
+#[test]
+fn a_fault_counts_below_the_end_alone(rt: HostRuntime) -> Result<(), Fail> {
+    let alloc = rt.alloc();
+    let pair: &[u8] = b"0000000000000060 XADDPAIR ABC VOLUME(PRIM02,SEC001)\n";
+    // The stamp of the last entry that comes before the fault, the status, and the content of the volume's one record.
+    let rows = [(0x91, 0, b'X'), (0x90, 18, b'B'), (0x65, 18, b'B')];
+    for (stamp, status, content) in rows {
+        let entries: [&[u8]; 3] = [&VOLUMES, &update(0x64, b'X'), &idle(stamp)];
+        let trace = source(alloc, &entries, 88, &[0, 1])?;
+        let plant = site(alloc, &[START, pair, END], &[])?;
+        let outcome = run(&rt, alloc, &RUN, trace, plant)?;
+        assert_eq!(rt; outcome.status, status, "at stamp {stamp}");
+        if status == 18 {
+            assert_eq!(rt; outcome.said.as_slice(), b"STATUS 18\n".as_slice());
+        }
+        for (track, slot) in outcome.slots.iter().enumerate() {
+            let expected = if track == 2 {
+                slot_of(5, content)
+            } else {
+                [0; 8]
+            };
+            assert_eq!(rt; *slot, expected, "in track {track}");
+        }
     }
     Ok(())
 }

@@ -4,8 +4,8 @@ use Rattle.trace_grammar.specs.Headers.{cylinders_of}
 use Rattle.primary_ctl.specs.States.{PrimaryState, track_of, after_writes, is_on}
 use Rattle.std.specs.Prelude.{filter}
 use Rattle.sidefile.specs.States.{SidefileState}
-use Rattle.xrc_cli.specs.Taken.{HasTaken}
-use Rattle.xrc_cli.proofs.TakenLaws.{take_batch, take_limit, take_broken}
+use Rattle.xrc_cli.specs.Taken.{HasTaken, FailsAsBefore}
+use Rattle.xrc_cli.proofs.TakenLaws.{take_batch, take_limit, take_broken, batch_fails, limit_fails, then_fails}
 use Rattle.xrc_cli.proofs.catch_up.catch_up.Goals as goal
 
 pub loop-batch-preserved : goal.loop-batch-preserved
@@ -43,6 +43,9 @@ loop-batch-preserved g c =
       taken = λ t taken. subst (λ (s : SidefileState). HasTaken (g.S.Source.left c.handover.new.source) t s after.primary) (sym side)
           (take_batch (g.S.Source.left c.loop-batch.source) (g.S.Source.left c.handover.new.source) t before.side c.handover.new.self before.primary after.primary before.side.control c.args.limit.0 c.in-Batch.batch before.side.reader.volumes
           (inv.taken t taken) (h.due good.goes_on) run upto ok.tracks);
+      fails = subst (λ (s : SidefileState). FailsAsBefore (g.S.Source.left c.args.source.now) (g.S.Source.left c.handover.new.source) first.side s) (sym side)
+          (then_fails (g.S.Source.left c.args.source.now) (g.S.Source.left c.loop-batch.source) (g.S.Source.left c.handover.new.source) first.side before.side c.handover.new.self inv.fails
+          (batch_fails (g.S.Source.left c.loop-batch.source) (g.S.Source.left c.handover.new.source) before.side c.handover.new.self before.side.control c.args.limit.0 c.in-Batch.batch (h.due good.goes_on)));
       count = h.fault good.goes_on ∙ inv.count;
     }
 
@@ -55,6 +58,13 @@ returns-in-AtLimit-clause-reached g c = λ t taken.
     take_limit (g.S.Source.left c.loop-batch.source) (g.S.Source.left c.handover.new.source) t before.side c.handover.new.self before.primary c.pass.new.self before.side.control c.args.limit.0
     (inv.taken t taken) (h.due good.goes_on) inv.later (h.reached good.goes_on) (λ v x. ap (λ (p : PrimaryState). track_of p v x) c.pass.ensures)
 
+pub returns-in-AtLimit-clause-fails : goal.returns-in-AtLimit-clause-fails
+returns-in-AtLimit-clause-fails g c =
+    let inv = c.loop-batch.invariant in
+    let before = c.loop-batch.copier in
+    then_fails (g.S.Source.left c.args.source.now) (g.S.Source.left c.loop-batch.source) (g.S.Source.left c.handover.new.source) c.args.copier.now.side before.side c.handover.new.self inv.fails
+    (limit_fails (g.S.Source.left c.loop-batch.source) (g.S.Source.left c.handover.new.source) before.side c.handover.new.self before.side.control c.args.limit.0 (c.in-AtLimit.ensures.due inv.good.goes_on))
+
 pub returns-in-Broken-clause-broken : goal.returns-in-Broken-clause-broken
 returns-in-Broken-clause-broken g c = λ is.
     let inv = c.loop-batch.invariant in
@@ -64,6 +74,6 @@ returns-in-Broken-clause-broken g c = λ is.
     let risen = g.S.Source.faults c.handover.new.source in
     elim (take_broken (g.S.Source.left c.loop-batch.source) (g.S.Source.left c.handover.new.source) before.side c.handover.new.self before.primary before.side.control c.args.limit.0
     (g.S.Source.faults c.loop-batch.source) risen c.in-Broken.cause c.in-Broken.upto c.requires.some (h.due good.goes_on) (h.fault good.goes_on)) [
-      | inl rose ↦ inl (subst (λ n. Rose n risen) inv.count rose)
-      | inr more ↦ inr (λ t taken. more t (inv.taken t taken))
+      | inl failed ↦ inl (subst (λ n. Rose n risen) inv.count failed.0, inv.fails c.args.limit.0 (g.S.Source.left c.handover.new.source) failed.1)
+      | inr breaks ↦ inr (breaks.0 ∙ inv.count, λ t taken. breaks.1 t (inv.taken t taken))
     ]

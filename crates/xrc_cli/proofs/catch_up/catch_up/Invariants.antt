@@ -1,7 +1,7 @@
 use Rattle.std.proofs.Common.{◌≡◌, ◌≤◌, ◌-◌}
 use Rattle.trace_grammar.specs.declared.trace.Trace.{Trace}
 use Rattle.xrc_cli.specs.Copiers.{IsCopier, SameTracks, KeepsOthers}
-use Rattle.xrc_cli.specs.Taken.{HasTaken}
+use Rattle.xrc_cli.specs.Taken.{HasTaken, FailsAsBefore}
 use Rattle.xrc_cli.proofs.catch_up.catch_up.Given as goal
 
 -- what was taken over so far
@@ -14,6 +14,7 @@ invariant-loop-batch g l =
       same : SameTracks first l.copier;
       others : KeepsOthers first l.copier;
       taken : (t : Trace) → HasTaken (g.S.Source.left l.initial.source) t first.side first.primary → HasTaken (g.S.Source.left l.source) t l.copier.side l.copier.primary;
+      fails : FailsAsBefore (g.S.Source.left l.initial.source) (g.S.Source.left l.source) first.side l.copier.side;
       count : g.S.Source.faults l.source ≡ g.S.Source.faults l.initial.source;
     }
 

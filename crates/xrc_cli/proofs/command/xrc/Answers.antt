@@ -1,6 +1,8 @@
 use Rattle.std.proofs.Common.{[], ◌∷◌, ℕ, Contains, map, string_bytes, sym, ap, ◌∙◌, subst}
+use Rattle.xrc_cli.specs.Sources.{HoldsOnly}
 use Rattle.xrc_cli.specs.Stops.{last_line, EndsThere}
 use Rattle.xrc_cli.specs.Words.{run_session}
+use Rattle.xrc_cli.proofs.PlanLaws.{slots_still}
 use Rattle.xrc_cli.proofs.StopLaws.{known_status, is_console_fault, is_bad_header, header_status, place_said, says_no_line, some_still}
 use Rattle.xrc_cli.proofs.command.xrc.Goals as goal
 
@@ -29,3 +31,8 @@ returns-in-Err-clause-stopped g c = λ told given holds is.
     some_still g.P.Plant.tells (run_session (map string_bytes c.args.words.now)) given (g.P.Plant.state c.args.plant.now) b d told c.finish.ensures.only (c.finish.ensures.heard told)
     (says_no_line (last_line c.in-Err.stop) b d (ap last_line fault) (c.finish.ensures.said told))
     (c.run_command.ensures.stopped told given holds (cc (c.in-Err.is, fault)))
+
+pub returns-in-Err-clause-slots : goal.returns-in-Err-clause-slots
+returns-in-Err-clause-slots g c = λ told.
+    slots_still g.P.Plant.tells (HoldsOnly g.S.Source.left c.args.traces.now.items) (run_session (map string_bytes c.args.words.now)) (g.P.Plant.state c.args.plant.now) (g.P.Plant.state c.run_command.new.plant) (g.P.Plant.state c.finish.new.plant)
+    told c.finish.ensures.only (c.finish.ensures.heard told) (c.run_command.ensures.slots told)

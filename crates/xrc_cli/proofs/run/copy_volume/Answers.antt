@@ -1,4 +1,4 @@
-use Rattle.std.proofs.Common.{◌∙◌, ◌++◌, ℕ, List, Option, take, sym, ap, subst, inl, inr}
+use Rattle.std.proofs.Common.{◌≡◌, ◌∙◌, ◌++◌, ℕ, List, Option, Some, take, sym, ap, subst, inl, inr, refl}
 use Rattle.std.proofs.lemmas.Result.{err_from_is_err_and}
 use Rattle.xrc_edge.specs.Causes.{Rose}
 use Rattle.crash_plant.specs.declared.device.Device.TheVariants.{Volume}
@@ -7,8 +7,8 @@ use Rattle.write_trace.specs.Starts.{ReadsHeader}
 use Rattle.xrc_cli.specs.Plans.{CanBeCopied}
 use Rattle.xrc_cli.specs.Runs.{FindsPlan, replies_of}
 use Rattle.xrc_cli.proofs.FrameLaws.{leaves_then, on_ok_more}
-use Rattle.xrc_cli.proofs.PlanLaws.{there_still, volumes_kept, can_be_copied, answers_script, copies_volume, replies_in_part, breaks_early, only_console}
-use Rattle.xrc_cli.proofs.StartLaws.{not_refused}
+use Rattle.xrc_cli.proofs.PlanLaws.{there_still, volumes_kept, can_be_copied, answers_script, copies_volume, replies_in_part, breaks_early, fails_early, changes_asked, only_console}
+use Rattle.xrc_cli.proofs.StartLaws.{not_refused, trace_read}
 use Rattle.xrc_cli.proofs.run.copy_volume.Goals as goal
 
 pub returns-in_err-plan-clause-header : goal.returns-in_err-plan-clause-header
@@ -55,10 +55,14 @@ returns-in_err-carry_out-clause-broken g c = λ told given there is.
     let plan = c.in_ok-plan.plan in
     let reads = subst (λ (o : Option (List ℕ)). ReadsHeader o now header reader) there c.in_ok-header.ensures.reads in
     let found = subst (λ (vs : List VolumeHead). FindsPlan g.P.Plant.tells c.args.session vs a b plan) c.as_slice.ensures c.in_ok-plan.ensures.plan in
+    let count = c.in_ok-header.ensures.count (λ e. cc e) in
     let p = err_from_is_err_and c.from_residual-in_err-carry_out.result c.from_residual-in_err-carry_out.ensures.1 in
     elim (c.carry_out.ensures.broken given reads (cc (c.in_err-carry_out.was, p.1, p.2, is))) [
-      | inl rose ↦ inl (subst (λ n. Rose n risen) (c.in_ok-header.ensures.count (λ e. cc e)) rose)
-      | inr breaks ↦ inr (breaks_early g.P.Plant.tells c.args.session given header.volumes a b plan told found breaks)
+      | inl failed ↦ inl (
+        subst (λ n. Rose n risen) count failed.0,
+        fails_early g.P.Plant.tells (λ left. g.S.Source.left c.carry_out.new.source ≡ Some left) c.args.session given header.volumes a b plan told found failed.1,
+      )
+      | inr breaks ↦ inr (breaks.0 ∙ count, breaks_early g.P.Plant.tells c.args.session given header.volumes a b plan told found breaks.1)
     ]
 
 pub returns-clause-answered : goal.returns-clause-answered
@@ -127,3 +131,28 @@ returns-clause-header g c = λ given place told refused.
     let header = c.in_ok-header.header in
     let reader = c.in_ok-header.reader in
     absurd (not_refused given now header reader place (subst (λ (o : Option (List ℕ)). ReadsHeader o now header reader) told c.in_ok-header.ensures.reads) refused)
+
+pub returns-in_err-carry_out-clause-slots : goal.returns-in_err-carry_out-clause-slots
+returns-in_err-carry_out-clause-slots g c = λ told.
+    let state = g.P.Plant.state in
+    let now = g.S.Source.left c.open_trace.new.source in
+    let header = c.in_ok-header.header in
+    let reader = c.in_ok-header.reader in
+    let plan = c.in_ok-plan.plan in
+    let found = subst (λ (vs : List VolumeHead). FindsPlan g.P.Plant.tells c.args.session vs (state c.args.plant.now) (state c.find_plan.new.plant) plan) c.as_slice.ensures c.in_ok-plan.ensures.plan in
+    changes_asked g.P.Plant.tells (λ given. g.S.Source.left c.args.source.now ≡ Some given) c.args.session header.volumes (state c.args.plant.now) (state c.find_plan.new.plant) (state c.carry_out.new.plant) (state c.carry_out.new.plant) plan told found
+    (c.find_plan.ensures.volume told) (c.carry_out.ensures.heard told) (c.carry_out.ensures.slots told) refl
+    (λ given there. trace_read given now header reader (subst (λ (o : Option (List ℕ)). ReadsHeader o now header reader) there c.in_ok-header.ensures.reads))
+
+pub returns-clause-slots : goal.returns-clause-slots
+returns-clause-slots g c = λ told.
+    let state = g.P.Plant.state in
+    let now = g.S.Source.left c.open_trace.new.source in
+    let header = c.in_ok-header.header in
+    let reader = c.in_ok-header.reader in
+    let plan = c.in_ok-plan.plan in
+    let found = subst (λ (vs : List VolumeHead). FindsPlan g.P.Plant.tells c.args.session vs (state c.args.plant.now) (state c.find_plan.new.plant) plan) c.as_slice.ensures c.in_ok-plan.ensures.plan in
+    let front = c.say_replies.ensures.front in
+    changes_asked g.P.Plant.tells (λ given. g.S.Source.left c.args.source.now ≡ Some given) c.args.session header.volumes (state c.args.plant.now) (state c.find_plan.new.plant) (state c.carry_out.new.plant) (state c.say_replies.new.plant) plan told found
+    (c.find_plan.ensures.volume told) (front.heard told ∙ c.carry_out.ensures.heard told) (c.carry_out.ensures.slots told) (front.volume told)
+    (λ given there. trace_read given now header reader (subst (λ (o : Option (List ℕ)). ReadsHeader o now header reader) there c.in_ok-header.ensures.reads))

@@ -1,4 +1,4 @@
-use Rattle.std.proofs.Common.{◌<◌, ◌∙◌, arith}
+use Rattle.std.proofs.Common.{◌∙◌, arith}
 use Rattle.crash_plant.specs.Calls.{NoneLent}
 use Rattle.crash_plant.specs.Made.{SameDevices}
 use Rattle.crash_plant.specs.PlainPlant.{plain_state}

@@ -1,20 +1,25 @@
-use Rattle.crash_plant.specs.FailPlans.{faults_of, is_failing}
-use Rattle.crash_plant.specs.PlainPlant.{plain_contents}
-use Rattle.std.proofs.Common.{◌≡◌, ◌↔◌, ℕ, IsErr, IsTrue, ap, subst}
-use Rattle.crash_plant.proofs.Counts.{cause_sure, none_falls, plain_faults, sure_as_planned, works_counted}
+use Rattle.std.proofs.Common.{rules, ◌≡◌, ◌≤◌, ◌+◌, refl, ap, arith}
+use Rattle.crash_plant.specs.Clock.{clock_of}
+use Rattle.crash_plant.specs.FailPlans.{faults_of}
+use Rattle.crash_plant.specs.MemoryDisks.{view}
+use Rattle.crash_plant.specs.Moments.{Same}
+use Rattle.crash_plant.proofs.Memories.{home_of, same_of, works_on_one}
+use Rattle.crash_plant.proofs.Passing.{passes_still}
+use Rattle.crash_plant.proofs.Views.{is_home}
 use Rattle.crash_plant.proofs.memory_plant.MemoryPlantPlant.read.Goals as goal
+
+pub returns-clause-moments : goal.returns-clause-moments
+returns-clause-moments c =
+    let m = c.args.self.now in
+    let up : c.raise.new.ticks ≡ m.ticks + 1 = search rules in
+    (passes_still Same (clock_of m.ticks) (clock_of c.raise.new.ticks) (view m.disks c.args.device) (λ l. refl) (m.done c.args.device) (omega (arith, up))).follows
 
 pub returns-clause-only : goal.returns-clause-only
 returns-clause-only c =
     let m = c.args.self.now in
-    works_counted (plain_contents m.plain) (plain_contents c.read.new.self) (faults_of m.plans) (faults_of c.meet.new.self) _ _ (λ d. d ≡ c.args.device) (ap (λ plan. plan.faults) c.meet.ensures.console) c.read.ensures.only c.meet.ensures.others
-    (none_falls (faults_of m.plans) (faults_of c.meet.new.self) c.args.device c.meet.ensures.cause.later c.meet.ensures.others)
-
-pub returns-clause-cause : goal.returns-clause-cause
-returns-clause-cause c = cause_sure _ _ _ _ c.read.result (plain_faults c.args.self.now.plain c.args.device) (plain_faults c.read.new.self c.args.device) c.read.ensures.cause c.in_ok-meet.ensures.cause.ok
-
-pub returns-clause-planned : goal.returns-clause-planned
-returns-clause-planned c =
-    let m = c.args.self.now in
-    subst (λ (n : ℕ). IsErr c.read.result ↔ IsTrue (is_failing m.plans n c.args.device)) c.said_so_far-said.ensures
-    (sure_as_planned _ _ c.read.result _ (plain_faults m.plain c.args.device) (plain_faults c.read.new.self c.args.device) c.read.ensures.cause c.in_ok-meet.ensures.fails.1)
+    let up : c.raise.new.ticks ≡ m.ticks + 1 = search rules in
+    let later : clock_of m.ticks ≤ clock_of c.raise.new.ticks = omega (arith, up) in
+    let home = is_home m.disks c.args.device (home_of m.disks m.console (clock_of m.ticks) (faults_of m.plans) m.plans.console.faults c.args.device c.requires.there) in
+    let passes = passes_still Same (clock_of m.ticks) (clock_of c.raise.new.ticks) (view m.disks c.args.device) (λ l. refl) (m.done c.args.device) later in
+    works_on_one m.disks m.disks m.console m.console (clock_of m.ticks) (clock_of c.raise.new.ticks) (faults_of m.plans) (faults_of c.meet.new.self) m.plans.console.faults c.meet.new.self.console.faults (omega arith) later m.done m.told (record { journals = refl; volumes = refl }) (same_of m.console m.console refl) Same c.args.device (λ d other. refl) home passes
+    c.meet.ensures.others c.meet.ensures.cause.later (ap (λ plan. plan.faults) c.meet.ensures.console)

@@ -1,20 +1,25 @@
-use Rattle.crash_plant.specs.FailPlans.{faults_of, is_failing}
-use Rattle.crash_plant.specs.PlainPlant.{plain_contents}
-use Rattle.std.proofs.Common.{◌≡◌, ◌↔◌, ℕ, IsErr, IsTrue, ap, subst}
-use Rattle.crash_plant.proofs.Counts.{cause_sure, none_falls, plain_faults, sure_as_planned, works_counted}
+use Rattle.std.proofs.Common.{◌∙◌, ap, arith}
+use Rattle.crash_plant.specs.declared.fail_plans.FailPlans.{FailPlans}
+use Rattle.crash_plant.specs.Clock.{clock_of}
+use Rattle.crash_plant.specs.FailPlans.{faults_of}
+use Rattle.crash_plant.proofs.Memories.{home_of, same_of, works_on_one}
+use Rattle.crash_plant.proofs.Views.{is_home}
 use Rattle.crash_plant.proofs.memory_plant.MemoryPlantPlant.sync.Goals as goal
 
-pub returns-clause-only : goal.returns-clause-only
-returns-clause-only c =
+pub returns-in-Ok-clause-only : goal.returns-in-Ok-clause-only
+returns-in-Ok-clause-only c =
     let m = c.args.self.now in
-    works_counted (plain_contents m.plain) (plain_contents c.sync.new.self) (faults_of m.plans) (faults_of c.meet.new.self) _ _ (λ d. d ≡ c.args.device) (ap (λ plan. plan.faults) c.meet.ensures.console) c.sync.ensures.only c.meet.ensures.others
-    (none_falls (faults_of m.plans) (faults_of c.meet.new.self) c.args.device c.meet.ensures.cause.later c.meet.ensures.others)
+    let n = c.note.new.self in
+    let home = is_home m.disks c.args.device (home_of m.disks m.console (clock_of m.ticks) (faults_of m.plans) m.plans.console.faults c.args.device c.requires) in
+    works_on_one m.disks n.disks m.console n.console (clock_of m.ticks) (clock_of n.ticks) (faults_of m.plans) (faults_of n.plans) m.plans.console.faults n.plans.console.faults (omega arith) c.note.ensures.passes.later m.done m.told c.note.ensures.sizes (same_of m.console n.console c.note.ensures.console) _ c.args.device c.note.ensures.others home c.note.ensures.passes
+    (λ d other. ap (λ (plans : FailPlans). faults_of plans d) c.note.ensures.plans ∙ c.meet.ensures.others d other) (omega (arith, ap (λ (plans : FailPlans). faults_of plans c.args.device) c.note.ensures.plans, c.meet.ensures.cause.later))
+    (ap (λ (plans : FailPlans). plans.console.faults) c.note.ensures.plans ∙ ap (λ plan. plan.faults) c.meet.ensures.console)
 
-pub returns-clause-cause : goal.returns-clause-cause
-returns-clause-cause c = cause_sure _ _ _ _ c.sync.result (plain_faults c.args.self.now.plain c.args.device) (plain_faults c.sync.new.self c.args.device) c.sync.ensures.cause c.in_ok-meet.ensures.cause.ok
-
-pub returns-clause-planned : goal.returns-clause-planned
-returns-clause-planned c =
+pub returns-in-Err-clause-only : goal.returns-in-Err-clause-only
+returns-in-Err-clause-only c =
     let m = c.args.self.now in
-    subst (λ (n : ℕ). IsErr c.sync.result ↔ IsTrue (is_failing m.plans n c.args.device)) c.said_so_far-said.ensures
-    (sure_as_planned _ _ c.sync.result _ (plain_faults m.plain c.args.device) (plain_faults c.sync.new.self c.args.device) c.sync.ensures.cause c.in_ok-meet.ensures.fails.1)
+    let n = c.note.new.self in
+    let home = is_home m.disks c.args.device (home_of m.disks m.console (clock_of m.ticks) (faults_of m.plans) m.plans.console.faults c.args.device c.requires) in
+    works_on_one m.disks n.disks m.console n.console (clock_of m.ticks) (clock_of n.ticks) (faults_of m.plans) (faults_of c.fail.new.self) m.plans.console.faults c.fail.new.self.console.faults (omega arith) c.note.ensures.passes.later m.done m.told c.note.ensures.sizes (same_of m.console n.console c.note.ensures.console) _ c.args.device c.note.ensures.others home c.note.ensures.passes
+    (λ d other. c.fail.ensures.others d other ∙ ap (λ (plans : FailPlans). faults_of plans d) c.note.ensures.plans ∙ c.meet.ensures.others d other) (omega (arith, c.fail.ensures.cause.later, ap (λ (plans : FailPlans). faults_of plans c.args.device) c.note.ensures.plans, c.meet.ensures.cause.later))
+    (ap (λ plan. plan.faults) c.fail.ensures.console ∙ ap (λ (plans : FailPlans). plans.console.faults) c.note.ensures.plans ∙ ap (λ plan. plan.faults) c.meet.ensures.console)

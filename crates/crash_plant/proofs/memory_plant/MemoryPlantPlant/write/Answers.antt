@@ -1,39 +1,51 @@
-use Rattle.std.proofs.Common.{◌≡◌, ◌↔◌, ℕ, length, IsErr, IsTrue, ap, subst}
-use Rattle.crash_plant.specs.Bytes.{Torn}
-use Rattle.crash_plant.specs.FailPlans.{faults_of, is_failing}
-use Rattle.crash_plant.specs.MemoryPlant.{memory_contents}
-use Rattle.crash_plant.specs.PlainPlant.{plain_contents}
-use Rattle.crash_plant.specs.Still.{counted}
-use Rattle.crash_plant.proofs.Counts.{cause_sure, follows_still, none_falls, plain_faults, sure_as_planned, works_counted}
-use Rattle.crash_plant.proofs.Patches.{torn_front}
+use Rattle.std.proofs.Common.{◌∙◌, ◌+◌, ◌≤◌, refl, length, ap, arith, length-take, ◌/◌}
+use Rattle.crash_plant.specs.declared.fail_plans.FailPlans.{FailPlans}
+use Rattle.crash_plant.specs.Clock.{clock_of}
+use Rattle.crash_plant.specs.FailPlans.{faults_of}
+use Rattle.crash_plant.specs.MemoryDisks.{view}
+use Rattle.crash_plant.specs.Shelves.{shelf_bytes}
+use Rattle.crash_plant.proofs.Memories.{home_of, same_of, works_on_one}
+use Rattle.crash_plant.proofs.Patches.{patched_torn, torn_front}
+use Rattle.crash_plant.proofs.Records.{does_torn}
+use Rattle.crash_plant.proofs.Views.{is_home, size_home}
 use Rattle.crash_plant.proofs.memory_plant.MemoryPlantPlant.write.Goals as goal
 
-pub returns-in-Ok-clause-only : goal.returns-in-Ok-clause-only
-returns-in-Ok-clause-only c =
+pub note-requires-clause-does : goal.note-requires-clause-does
+note-requires-clause-does c =
     let m = c.args.self.now in
-    works_counted (plain_contents m.plain) (plain_contents c.write.new.self) (faults_of m.plans) (faults_of c.meet.new.self) _ _ (λ d. d ≡ c.args.device) (ap (λ plan. plan.faults) c.meet.ensures.console) c.write.ensures.only c.meet.ensures.others
-    (none_falls (faults_of m.plans) (faults_of c.meet.new.self) c.args.device c.meet.ensures.cause.later c.meet.ensures.others)
+    let size = size_home m.disks c.args.device (is_home m.disks c.args.device (home_of m.disks m.console (clock_of m.ticks) (faults_of m.plans) m.plans.console.faults c.args.device c.requires.there)) in
+    does_torn c.args.place (length c.args.bytes.now) _ _ (omega (arith, c.requires.range, size)) (patched_torn c.args.place c.args.bytes.now _ _ (omega (arith, c.requires.range, size)) refl)
 
-pub returns-in-Ok-clause-cause : goal.returns-in-Ok-clause-cause
-returns-in-Ok-clause-cause c = cause_sure _ _ _ _ c.write.result (plain_faults c.args.self.now.plain c.args.device) (plain_faults c.write.new.self c.args.device) c.write.ensures.cause c.in-Ok.ensures.cause.ok
-
-pub returns-in-Err-clause-torn : goal.returns-in-Err-clause-torn
-returns-in-Err-clause-torn c = torn_front c.args.place c.args.bytes.now c.front.result.now _ _ c.front.ensures (c.write-in-Err.ensures.torn tt)
-
-pub returns-in-Err-clause-moments : goal.returns-in-Err-clause-moments
-returns-in-Err-clause-moments c =
+pub note-requires-in-Err-clause-does : goal.note-requires-in-Err-clause-does
+note-requires-in-Err-clause-does c =
     let m = c.args.self.now in
-    follows_still (Torn c.args.place (length c.args.bytes.now)) (memory_contents m) (counted (plain_contents c.write-in-Err.new.self) (faults_of c.meet.new.self) c.meet.new.self.console.faults) c.args.device
-    (torn_front c.args.place c.args.bytes.now c.front.result.now _ _ c.front.ensures (c.write-in-Err.ensures.torn tt))
+    let size = size_home m.disks c.args.device (is_home m.disks c.args.device (home_of m.disks m.console (clock_of m.ticks) (faults_of m.plans) m.plans.console.faults c.args.device c.requires.there)) in
+    let fits : c.args.place + length c.front.result.now ≤ length (shelf_bytes (view m.disks c.args.device)) = omega (arith, c.requires.range, size, ap length c.front.ensures, length-take (length c.args.bytes.now / 2) c.args.bytes.now) in
+    does_torn c.args.place (length c.args.bytes.now) _ _ (omega (arith, c.requires.range, size)) (torn_front c.args.place c.args.bytes.now c.front.result.now _ _ c.front.ensures (patched_torn c.args.place c.front.result.now _ _ fits refl))
+
+pub returns-in-Ok-note-clause-only : goal.returns-in-Ok-note-clause-only
+returns-in-Ok-note-clause-only c =
+    let m = c.args.self.now in
+    let n = c.note.new.self in
+    let home = is_home m.disks c.args.device (home_of m.disks m.console (clock_of m.ticks) (faults_of m.plans) m.plans.console.faults c.args.device c.requires.there) in
+    works_on_one m.disks n.disks m.console n.console (clock_of m.ticks) (clock_of n.ticks) (faults_of m.plans) (faults_of n.plans) m.plans.console.faults n.plans.console.faults (omega arith) c.note.ensures.passes.later m.done m.told c.note.ensures.sizes (same_of m.console n.console c.note.ensures.console) _ c.args.device c.note.ensures.others home c.note.ensures.passes
+    (λ d other. ap (λ (plans : FailPlans). faults_of plans d) c.note.ensures.plans ∙ c.meet.ensures.others d other) (omega (arith, ap (λ (plans : FailPlans). faults_of plans c.args.device) c.note.ensures.plans, c.meet.ensures.cause.later))
+    (ap (λ (plans : FailPlans). plans.console.faults) c.note.ensures.plans ∙ ap (λ plan. plan.faults) c.meet.ensures.console)
+
+pub returns-in-Err-note-clause-only : goal.returns-in-Err-note-clause-only
+returns-in-Err-note-clause-only c =
+    let m = c.args.self.now in
+    let n = c.note.new.self in
+    let home = is_home m.disks c.args.device (home_of m.disks m.console (clock_of m.ticks) (faults_of m.plans) m.plans.console.faults c.args.device c.requires.there) in
+    works_on_one m.disks n.disks m.console n.console (clock_of m.ticks) (clock_of n.ticks) (faults_of m.plans) (faults_of c.fail.new.self) m.plans.console.faults c.fail.new.self.console.faults (omega arith) c.note.ensures.passes.later m.done m.told c.note.ensures.sizes (same_of m.console n.console c.note.ensures.console) _ c.args.device c.note.ensures.others home c.note.ensures.passes
+    (λ d other. c.fail.ensures.others d other ∙ ap (λ (plans : FailPlans). faults_of plans d) c.note.ensures.plans ∙ c.meet.ensures.others d other) (omega (arith, c.fail.ensures.cause.later, ap (λ (plans : FailPlans). faults_of plans c.args.device) c.note.ensures.plans, c.meet.ensures.cause.later))
+    (ap (λ plan. plan.faults) c.fail.ensures.console ∙ ap (λ (plans : FailPlans). plans.console.faults) c.note.ensures.plans ∙ ap (λ plan. plan.faults) c.meet.ensures.console)
 
 pub returns-in-Err-clause-only : goal.returns-in-Err-clause-only
 returns-in-Err-clause-only c =
     let m = c.args.self.now in
-    works_counted (plain_contents m.plain) (plain_contents c.write-in-Err.new.self) (faults_of m.plans) (faults_of c.meet.new.self) _ _ (λ d. d ≡ c.args.device) (ap (λ plan. plan.faults) c.meet.ensures.console) c.write-in-Err.ensures.only c.meet.ensures.others
-    (none_falls (faults_of m.plans) (faults_of c.meet.new.self) c.args.device c.meet.ensures.cause.later c.meet.ensures.others)
-
-pub returns-in-Ok-clause-planned : goal.returns-in-Ok-clause-planned
-returns-in-Ok-clause-planned c =
-    let m = c.args.self.now in
-    subst (λ (n : ℕ). IsErr c.write.result ↔ IsTrue (is_failing m.plans n c.args.device)) c.said_so_far-said.ensures
-    (sure_as_planned _ _ c.write.result _ (plain_faults m.plain c.args.device) (plain_faults c.write.new.self c.args.device) c.write.ensures.cause c.in-Ok.ensures.fails.1)
+    let n = c.note-in-Err.new.self in
+    let home = is_home m.disks c.args.device (home_of m.disks m.console (clock_of m.ticks) (faults_of m.plans) m.plans.console.faults c.args.device c.requires.there) in
+    works_on_one m.disks n.disks m.console n.console (clock_of m.ticks) (clock_of n.ticks) (faults_of m.plans) (faults_of n.plans) m.plans.console.faults n.plans.console.faults (omega arith) c.note-in-Err.ensures.passes.later m.done m.told c.note-in-Err.ensures.sizes (same_of m.console n.console c.note-in-Err.ensures.console) _ c.args.device c.note-in-Err.ensures.others home c.note-in-Err.ensures.passes
+    (λ d other. ap (λ (plans : FailPlans). faults_of plans d) c.note-in-Err.ensures.plans ∙ c.meet.ensures.others d other) (omega (arith, ap (λ (plans : FailPlans). faults_of plans c.args.device) c.note-in-Err.ensures.plans, c.meet.ensures.cause.later))
+    (ap (λ (plans : FailPlans). plans.console.faults) c.note-in-Err.ensures.plans ∙ ap (λ plan. plan.faults) c.meet.ensures.console)

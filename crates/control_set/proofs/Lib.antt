@@ -1,0 +1,6 @@
+pub mod Again
+pub mod Chosen
+pub mod Stands
+pub mod Lengths
+pub mod Reading
+pub mod Spelled

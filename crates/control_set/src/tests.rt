@@ -1,0 +1,378 @@
+//! The worked slot and what is beside it, marks one after another, and each call failing in turn.
+
+ghost use Rattle.std.specs.Prelude.{◌<◌, ◌≤◌, IfOk, OnOk};
+ghost use Rattle.crash_plant.specs.declared.device.Device.TheVariants.{Control};
+ghost use Rattle.crash_plant.specs.MemoryPlant.{memory_state};
+ghost use Rattle.crash_plant.specs.Moments.{on, IsDurable};
+ghost use Rattle.control_set.specs.Marks.{IsMark};
+ghost use Rattle.control_set.specs.Slots.{IsNext, chosen_mark, lengths_of};
+
+use crate::slot::has_room;
+use crate::{ChooseError, Mark, choose, mark};
+use crash_plant::{Device, Fail, FailList, MemoryPlant, PlainPlant, Plant, Spot};
+use std::alloc::Global;
+use std::process::Abort;
+use tod_stamp::{Session, Stamp};
+use xrc_edge::{Bytes, Failed, NoMemory};
+
+/// Slot 0 after the session ABC was started at the time 50.
+const WORKED: [u8; 49] = [
+    0x01, 0x58, 0x43, 0x54, 0x4C, 0x00, 0x00, 0x00, 0x00, 0x00, 0x00, 0x00, 0x01, 0x41, 0x42, 0x43,
+    0x20, 0x20, 0x20, 0x20, 0x20, 0x00, 0x00, 0x00, 0x00, 0x00, 0x00, 0x00, 0x00, 0x00, 0x00, 0x00,
+    0x00, 0x00, 0x00, 0x00, 0x00, 0x00, 0x00, 0x01, 0x00, 0x00, 0x00, 0x00, 0x00, 0x00, 0x00, 0x50,
+    0x00,
+];
+
+const ZEROS: [u8; 49] = [0; 49];
+
+/// The length of each of the two journals.
+const JOURNAL: u64 = 100;
+
+fn worked(rt: &impl Abort) -> Mark {
+    Mark {
+        number: 1,
+        session: Session::read(b"ABC").expect(rt, "a name"),
+        state_slot: 0,
+        at: Spot {
+            set: 0,
+            place: 0,
+            number: 1,
+        },
+        time: Stamp(0x50),
+        ended: false,
+    }
+}
+
+/// The worked mark with another number, and a time that goes with it.
+fn numbered(rt: &impl Abort, number: u8) -> Mark {
+    Mark {
+        number: u64::from(number),
+        time: Stamp(0x50 + u64::from(number)),
+        ..worked(rt)
+    }
+}
+
+/// A plant of two journals, whose call of this number on the control fails.
+fn made(alloc: Global, call: u64) -> Result<MemoryPlant, NoMemory> {
+    let mut fails = FailList::make(alloc);
+    let fail = Fail {
+        at: Some(Device::Control),
+        said: 0,
+        call,
+        stop: false,
+    };
+    fails.push(alloc, fail)?;
+    let plain = PlainPlant::make(alloc, 2, JOURNAL, 0, 0, Bytes::make(alloc))?;
+    MemoryPlant::make(alloc, plain, fails)
+}
+
+/// A call that no test comes to.
+const NEVER: u64 = 1000;
+
+fn chosen(rt: &impl Abort, plant: &mut MemoryPlant) -> Result<Option<Mark>, ChooseError> {
+    assert!(rt; plant.length(Device::Control) >= 1024);
+    choose(plant)
+}
+
+/// The 49 bytes at a place of the control.
+fn content(rt: &impl Abort, plant: &mut MemoryPlant, place: u64) -> [u8; 49] {
+    let mut bytes = [9; 49];
+    assert!(rt; plant.length(Device::Control) >= 1024 && place <= 512);
+    assert!(rt; plant.read(Device::Control, place, &mut bytes).is_ok());
+    bytes
+}
+
+/// What is chosen where the slots begin with these bytes.
+fn chosen_of(
+    rt: &impl Abort,
+    plant: &mut MemoryPlant,
+    first: &[u8; 49],
+    second: &[u8; 49],
+) -> Result<Option<Mark>, ChooseError> {
+    assert!(rt; plant.length(Device::Control) >= 1024);
+    assert!(rt; plant.write(Device::Control, 0, first).is_ok());
+    assert!(rt; plant.length(Device::Control) >= 1024);
+    assert!(rt; plant.write(Device::Control, 512, second).is_ok());
+    chosen(rt, plant)
+}
+
+#[tactic(auto, using(crate::proofs::Lengths::room_is))]
+fn assert_mark(rt: &impl Abort, plant: &MemoryPlant, value: &Mark)
+    ensures { IsMark (lengths_of (memory_state plant.now)) value.now }
+{
+    assert!(rt; has_room(plant, value.at));
+    assert!(rt; value.number >= 1);
+    assert!(rt; value.number <= u64::MAX - 1);
+    assert!(rt; value.state_slot <= 1);
+    assert!(rt; value.at.number >= 1);
+    assert!(rt; value.time.0 >= 1);
+}
+
+/// The number of the next mark.
+#[tactic(auto, using(crate::proofs::Lengths::same_lengths))]
+fn next_number(rt: &impl Abort, plant: &mut MemoryPlant) -> Result<u64, Failed>
+    requires { 1024 ≤ (memory_state plant.old).lengths Control }
+    ensures next { IfOk result (λ number. IsNext (chosen_mark (lengths_of (memory_state plant.new)) ((memory_state plant.new).bytes Control)) number) }
+    ensures long { 1024 ≤ (memory_state plant.new).lengths Control }
+{
+    match choose(plant) {
+        Ok(None) => Ok(1),
+        Ok(Some(last)) => {
+            assert!(rt; last.number < u64::MAX);
+            Ok(last.number + 1)
+        }
+        Err(_) => Err(Failed),
+    }
+}
+
+/// Syncs the control, so that a crash leaves what a read gives.
+#[tactic(auto, using(crate::proofs::Lengths::same_lengths))]
+fn sync_before(plant: &mut MemoryPlant, number: u64) -> Result<(), Failed>
+    requires long { 1024 ≤ (memory_state plant.old).lengths Control }
+    requires next { IsNext (chosen_mark (lengths_of (memory_state plant.old)) ((memory_state plant.old).bytes Control)) number }
+    ensures long { 1024 ≤ (memory_state plant.new).lengths Control }
+    ensures next { IsNext (chosen_mark (lengths_of (memory_state plant.new)) ((memory_state plant.new).bytes Control)) number }
+    ensures durable { OnOk result (IsDurable (on (memory_state plant.new) Control)) }
+{
+    plant.sync(Device::Control)
+}
+
+/// Writes the next mark, after a call of `choose` and a sync.
+fn put(rt: &impl Abort, plant: &mut MemoryPlant, value: &Mark) -> Result<(), Failed> {
+    assert!(rt; plant.length(Device::Control) >= 1024);
+    let number = next_number(rt, plant)?;
+    assert_eq!(rt; value.number, number);
+    sync_before(plant, number)?;
+    assert_mark(rt, plant, value);
+    mark(plant, value)
+}
+
+#[test]
+fn the_worked_slot_is_written_and_read(rt: HostRuntime) {
+    let mut plant = made(rt.alloc(), NEVER).expect(&rt, "memory");
+    assert_eq!(rt; chosen(&rt, &mut plant), Ok(None));
+    assert_eq!(rt; put(&rt, &mut plant, &worked(&rt)), Ok(()));
+    assert_eq!(rt; content(&rt, &mut plant, 0), WORKED);
+    assert_eq!(rt; content(&rt, &mut plant, 512), ZEROS);
+    assert_eq!(rt; chosen(&rt, &mut plant), Ok(Some(worked(&rt))));
+}
+
+#[test]
+fn marks_go_from_slot_to_slot(rt: HostRuntime) {
+    let mut plant = made(rt.alloc(), NEVER).expect(&rt, "memory");
+    let mut last = ZEROS;
+    for number in 1..=4 {
+        let value = numbered(&rt, number);
+        assert_eq!(rt; put(&rt, &mut plant, &value), Ok(()));
+        assert_eq!(rt; chosen(&rt, &mut plant), Ok(Some(value)));
+        let (here, there) = if number % 2 == 1 { (0, 512) } else { (512, 0) };
+        assert_eq!(rt; content(&rt, &mut plant, there), last);
+        last = content(&rt, &mut plant, here);
+        assert!(rt; last[0] == 1 && last[12] == number && last[47] == 0x50 + number);
+    }
+}
+
+/// A number of eight bytes, the last one given and the others 0, in which one byte is another.
+fn number_with(last: u8, place: usize, value: u8) -> u64
+    requires { place < 8 }
+{
+    let mut bytes = [0, 0, 0, 0, 0, 0, 0, last];
+    bytes[place] = value;
+    u64::from_be_bytes(bytes)
+}
+
+/// What is chosen where one byte of the worked slot in slot 0 is another. No such value is a character of a name.
+fn answer(rt: &impl Abort, offset: usize, value: u8) -> Result<Option<Mark>, ChooseError> {
+    let mut mark = worked(rt);
+    let keeps = match offset {
+        0 => return Ok(None),
+        5..=12 => {
+            mark.number = number_with(1, offset - 5, value);
+            mark.number >= 1
+        }
+        21 => {
+            mark.state_slot = value;
+            value <= 1
+        }
+        23 => {
+            mark.at.set = u16::from(value);
+            value <= 1
+        }
+        24..=31 => {
+            mark.at.place = number_with(0, offset - 24, value);
+            mark.at.place <= JOURNAL - 24
+        }
+        32..=39 => {
+            mark.at.number = number_with(1, offset - 32, value);
+            mark.at.number >= 1
+        }
+        40..=47 => {
+            mark.time = Stamp(number_with(0x50, offset - 40, value));
+            mark.time.0 >= 1
+        }
+        48 => {
+            mark.ended = value == 1;
+            value <= 1
+        }
+        _ => false,
+    };
+    if keeps {
+        Ok(Some(mark))
+    } else {
+        Err(ChooseError::Damaged(0))
+    }
+}
+
+#[test]
+fn each_byte_counts(rt: HostRuntime) {
+    let mut plant = made(rt.alloc(), NEVER).expect(&rt, "memory");
+    for offset in 0..49 {
+        for value in [0, 1, 254, 255] {
+            if value != WORKED[offset] {
+                let mut bytes = WORKED;
+                bytes[offset] = value;
+                let found = chosen_of(&rt, &mut plant, &bytes, &ZEROS);
+                assert_eq!(rt; found, answer(&rt, offset, value), "at {offset}, {value}");
+            }
+        }
+    }
+}
+
+#[test]
+fn other_fields_are_read(rt: HostRuntime) {
+    let mut plant = made(rt.alloc(), NEVER).expect(&rt, "memory");
+    let mut bytes = WORKED;
+    bytes[5..13].fill(255);
+    assert_eq!(rt;
+        chosen_of(&rt, &mut plant, &bytes, &ZEROS),
+        Err(ChooseError::Damaged(0))
+    );
+    bytes[12] = 254;
+    bytes[13..21].copy_from_slice(b"Z@#$9876");
+    bytes[21] = 1;
+    bytes[22..24].copy_from_slice(&[0, 1]);
+    bytes[32..40].copy_from_slice(&[1, 2, 3, 4, 5, 6, 7, 8]);
+    bytes[40..48].copy_from_slice(&[9, 8, 7, 6, 5, 4, 3, 2]);
+    bytes[48] = 1;
+    let value = Mark {
+        number: u64::MAX - 1,
+        session: Session::read(b"Z@#$9876").expect(&rt, "a name"),
+        state_slot: 1,
+        at: Spot {
+            set: 1,
+            place: 0,
+            number: 0x0102_0304_0506_0708,
+        },
+        time: Stamp(0x0908_0706_0504_0302),
+        ended: true,
+    };
+    assert_eq!(rt; chosen_of(&rt, &mut plant, &bytes, &ZEROS), Ok(Some(value)));
+    bytes[16] = b' ';
+    assert_eq!(rt;
+        chosen_of(&rt, &mut plant, &bytes, &ZEROS),
+        Err(ChooseError::Damaged(0))
+    );
+}
+
+#[test]
+fn room_for_a_switch_is_left(rt: HostRuntime) {
+    let mut plant = made(rt.alloc(), NEVER).expect(&rt, "memory");
+    let mut bytes = WORKED;
+    for set in 0..2 {
+        bytes[23] = set;
+        bytes[31] = 76;
+        assert!(rt; chosen_of(&rt, &mut plant, &bytes, &ZEROS).is_ok());
+        bytes[31] = 77;
+        assert_eq!(rt;
+            chosen_of(&rt, &mut plant, &bytes, &ZEROS),
+            Err(ChooseError::Damaged(0))
+        );
+    }
+    bytes[23] = 2;
+    bytes[31] = 0;
+    assert_eq!(rt;
+        chosen_of(&rt, &mut plant, &bytes, &ZEROS),
+        Err(ChooseError::Damaged(0))
+    );
+}
+
+/// The worked slot with another number.
+fn slot(number: u8) -> [u8; 49] {
+    let mut bytes = WORKED;
+    bytes[12] = number;
+    bytes
+}
+
+#[test]
+fn the_greater_number_counts(rt: HostRuntime) {
+    let mut plant = made(rt.alloc(), NEVER).expect(&rt, "memory");
+    let mut open_plant = |first: [u8; 49], second: [u8; 49]| chosen_of(
+        &rt, &mut plant, &first, &second,
+    );
+    let found = |number: u8| Ok(Some(Mark {
+        number: u64::from(number),
+        ..worked(&rt)
+    }));
+    let damaged = |place: u64| Err(ChooseError::Damaged(place));
+    assert_eq!(rt; open_plant(ZEROS, ZEROS), Ok(None));
+    assert_eq!(rt; open_plant(ZEROS, slot(7)), found(7));
+    assert_eq!(rt; open_plant(slot(7), ZEROS), found(7));
+    assert_eq!(rt; open_plant(slot(7), slot(8)), found(8));
+    assert_eq!(rt; open_plant(slot(8), slot(7)), found(8));
+    assert_eq!(rt; open_plant(slot(7), slot(7)), damaged(512));
+    assert_eq!(rt; open_plant(slot(7), slot(0)), damaged(512));
+    assert_eq!(rt; open_plant(ZEROS, slot(0)), damaged(512));
+    assert_eq!(rt; open_plant(slot(0), slot(7)), damaged(0));
+    assert_eq!(rt; open_plant(slot(0), slot(0)), damaged(0));
+}
+
+#[test]
+fn a_read_that_fails_is_a_fault(rt: HostRuntime) {
+    for call in 0..2 {
+        let mut plant = made(rt.alloc(), call).expect(&rt, "memory");
+        assert_eq!(rt; chosen(&rt, &mut plant), Err(ChooseError::Fault));
+        assert_eq!(rt; chosen(&rt, &mut plant), Ok(None));
+    }
+}
+
+#[test]
+fn the_first_slot_is_examined_first(rt: HostRuntime) {
+    let mut plant = made(rt.alloc(), 3).expect(&rt, "memory");
+    // Two writes, and the first slot's read. The second slot's read would fail.
+    assert_eq!(rt;
+        chosen_of(&rt, &mut plant, &slot(0), &slot(7)),
+        Err(ChooseError::Damaged(0))
+    );
+}
+
+/// Three marks are put, of which one meets the call that fails. Gives the number of the mark that counts then.
+fn number_after(rt: &impl Abort, alloc: Global, call: u64) -> Option<u64> {
+    let mut plant = made(alloc, call).expect(rt, "memory");
+    for number in 1..=3 {
+        if put(rt, &mut plant, &numbered(rt, number)).is_err() {
+            return chosen(rt, &mut plant)
+                .expect(rt, "not damaged")
+                .map(|mark| mark.number);
+        }
+    }
+    None
+}
+
+// The reads and the sync before each mark, its own reads, and its writes and syncs: the first has calls 0 to 8, the second 9 to
+// 17, and the third, whose slot is open, 18 to 28.
+#[test]
+fn the_old_mark_or_the_new_one_counts(rt: HostRuntime) {
+    for call in 0..29 {
+        let expected = match call {
+            0..=7 => None,
+            8..=16 => Some(1),
+            17..=27 => Some(2),
+            _ => Some(3),
+        };
+        assert_eq!(rt;
+            number_after(&rt, rt.alloc(), call),
+            expected,
+            "at call {call}"
+        );
+    }
+}

@@ -1,0 +1,84 @@
+-- Tables of pairs: what a table is to its callers, how its rows change, and the rules over several rows.
+use Rattle.std.specs.Prelude.{ℕ, ◌≤◌, ◌==◌, ◌&&◌, ◌||◌, not, List, [], ◌∷◌, length, map, filter, find, Bool, true, false, Option, if◌then◌else◌, IsTrue, bytes_eq}
+use Rattle.std.specs.List.{list_any, list_all}
+use Rattle.pair_table.specs.declared.row.PairState.{PairState}
+use Rattle.pair_table.specs.declared.row.PairRow.{PairRow}
+use Rattle.pair_table.specs.Rows.{keeps_rules, is_row}
+
+pub record Table : Type 0 where
+  -- the session's name
+  pub session : List ℕ
+  pub is_started : Bool
+  -- the rows in order of adding
+  pub rows : List PairRow
+
+-- the table of a session before its start
+abbrev pub new_table : (session : List ℕ) → Table
+new_table session = record { session = session; is_started = false; rows = [] }
+
+-- the table with other rows
+abbrev pub with_rows : Table → List PairRow → Table
+with_rows table rows = record table { rows = rows }
+
+-- ---- rows of a device
+
+abbrev pub is_of : (device : ℕ) → PairRow → Bool
+is_of device r = device == r.device
+
+-- the device's row
+abbrev pub row_of : (device : ℕ) → List PairRow → Option PairRow
+row_of device rows = find (is_of device) rows
+
+abbrev pub HasRow : (device : ℕ) → List PairRow → Type 0
+HasRow device rows = IsTrue (list_any (is_of device) rows)
+
+-- the rows with one more: it takes the place of its device's row, or goes last
+abbrev pub with_row : PairRow → List PairRow → List PairRow
+with_row row [] = row ∷ []
+with_row row (r ∷ rows) = if is_of row.device r then row ∷ rows else r ∷ with_row row rows
+
+-- the rows without the device's
+abbrev pub without_row : (device : ℕ) → List PairRow → List PairRow
+without_row device rows = filter (λ r. not (is_of device r)) rows
+
+-- the row in another state
+abbrev pub in_state : PairState → PairRow → PairRow
+in_state state r = record r { state = state }
+
+-- the row in another state, where it is the device's
+abbrev pub changed_row : (device : ℕ) → PairState → PairRow → PairRow
+changed_row device state r = if is_of device r then in_state state r else r
+
+-- the rows with the device's in another state
+abbrev pub with_state : (device : ℕ) → PairState → List PairRow → List PairRow
+with_state device state rows = map (changed_row device state) rows
+
+-- ---- the rules over several rows
+
+-- Two rows clash where they have one primary, one device, or one pair of control and volume.
+abbrev pub clashes : PairRow → PairRow → Bool
+clashes r s = bytes_eq r.primary s.primary || r.device == s.device || (r.control == s.control && r.volume == s.volume)
+
+abbrev pub none_clash : List PairRow → Bool
+none_clash [] = true
+none_clash (r ∷ rows) = not (list_any (clashes r) rows) && none_clash rows
+
+-- a row of another device that clashes with a row
+abbrev pub clashes_apart : PairRow → PairRow → Bool
+clashes_apart row r = not (is_of row.device r) && clashes row r
+
+-- the most rows of a table
+abbrev pub most_rows : ℕ
+most_rows = 64
+
+-- What the rows of every table keep: each is a row, no two clash, and there are at most 64.
+pub record KeepsRows (rows : List PairRow) : Type 0 where
+  pub each : IsTrue (list_all is_row rows)
+  pub apart : IsTrue (none_clash rows)
+  pub few : length rows ≤ most_rows
+
+-- A row may be put where it keeps the rules that its types leave open, and the rows with it keep those over several rows.
+pub record MayPut (row : PairRow) (rows : List PairRow) : Type 0 where
+  pub rules : IsTrue (keeps_rules row)
+  pub apart : IsTrue (none_clash (with_row row rows))
+  pub few : length (with_row row rows) ≤ most_rows

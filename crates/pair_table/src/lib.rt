@@ -1,0 +1,23 @@
+//! Pairs of volumes: their rows, the spelling of a row, and the table of a session's rows.
+//!
+//! A table keeps its rows in a map from devices that holds them in order of adding.
+#![tactic(auto)]
+
+mod format;
+mod laws;
+mod level;
+mod row;
+mod table;
+pub mod vectors;
+
+pub use format::{decode_row, encode_row};
+pub use laws::{
+    places_stay, put_rows_are_found, removed_rows_are_gone, rows_are_spelled, rows_keep_rules,
+    rows_read_back, states_are_changed,
+};
+pub use level::Level;
+pub use row::{PairRow, PairState, SuspendCause};
+pub use table::PairTable;
+
+#[cfg(test)]
+mod tests;

@@ -1,0 +1,144 @@
+//! The table of a session's pairs.
+
+ghost use Rattle.std.specs.Prelude.{◌≡◌, ◌≤◌, ◌↔◌, length, nat_le, slice_get, true, IfOk, IsSome, IfSome, OnOk, OnErr, IsTrue};
+ghost use Rattle.std.specs.List.{list_any};
+ghost use Rattle.std.specs.Option.{option_copied};
+ghost use Rattle.pair_table.specs.Rows.{keeps_rules};
+ghost use Rattle.pair_table.specs.Tables.{most_rows, new_table, with_rows, row_of, HasRow, with_row, without_row, with_state, clashes_apart, KeepsRows, MayPut};
+
+use crate::row::{PairRow, PairState};
+use indexmap::IndexMap;
+use std::alloc::Global;
+use std::marker::Model;
+use tod_stamp::Session;
+use xrc_edge::NoMemory;
+
+/// The most rows of a table.
+const MOST_ROWS: usize = 64;
+
+/// The pairs of a session. Contracts see the session, whether it is started, and the rows in order of adding.
+#[derive(Drop)]
+pub struct PairTable {
+    session: Session,
+    started: bool,
+    rows: IndexMap<u16, PairRow>,
+}
+
+impl Model for PairTable {
+    ghost use Rattle.std.specs.HashMap.{values};
+    ghost use Rattle.pair_table.specs.Tables.{Table};
+    ghost use Rattle.pair_table.specs.Maps.{KeepsMap};
+
+    ghost Value = { Table };
+
+    ghost view = { λ table. record { session = table.session; is_started = table.started; rows = values table.rows } };
+
+    ghost invariant = { λ table. KeepsMap table.rows.entries };
+}
+
+impl PairTable {
+    /// The table of a session that isn't started and has no rows.
+    pub fn make(alloc: Global, session: Session) -> Result<PairTable, NoMemory>
+        ensures { IfOk result (λ table. table ≡ new_table session) }
+    {
+        Ok(PairTable {
+            session,
+            started: false,
+            rows: IndexMap::with_capacity(alloc, MOST_ROWS)?,
+        })
+    }
+
+    pub fn session(&self) -> Session
+        ensures { result ≡ self.now.session }
+    {
+        self.session
+    }
+
+    /// The number of rows.
+    pub fn len(&self) -> u16
+        ensures count { result ≡ length self.now.rows }
+        ensures rules { KeepsRows self.now.rows }
+    {
+        self.rows.len() as u16
+    }
+
+    /// The row at a place, counted from 0, in order of adding. None exactly where none stands there.
+    pub fn row(&self, place: u16) -> Option<&PairRow>
+        ensures row { option_copied result ≡ slice_get self.now.rows place }
+        ensures rules { IfSome result (λ row. IsTrue (keeps_rules row.now)) }
+    {
+        let (_, row) = self.rows.get_index(place as usize)?;
+        Some(row)
+    }
+
+    /// The device's row. None exactly where it has none.
+    pub fn row_of(&self, device: u16) -> Option<&PairRow>
+        ensures row { option_copied result ≡ row_of device self.now.rows }
+        ensures found { IsSome result ↔ HasRow device self.now.rows }
+        ensures rules { IfSome result (λ row. IsTrue (keeps_rules row.now)) }
+    {
+        self.rows.get(&device)
+    }
+
+    /// Starts the session.
+    pub fn start(&mut self)
+        ensures { self.new ≡ record self.old { is_started = true } }
+    {
+        self.started = true;
+    }
+
+    /// Gives the device's row another state.
+    pub fn set_state(&mut self, device: u16, state: PairState)
+        requires { HasRow device self.old.rows }
+        ensures { self.new ≡ with_rows self.old (with_state device state self.old.rows) }
+    {
+        let _valid = state.is_suspended();
+        if let Some(row) = self.rows.get_mut(&device) {
+            row.state = state;
+        }
+    }
+
+    /// Whether a row may be put: it is in its ranges, no row of another device has its primary or its control and volume, and with
+    /// it there are at most 64 rows.
+    pub fn may_put(&self, row: &PairRow) -> bool
+        ensures { IsTrue result ↔ MayPut row.now self.now.rows }
+    {
+        row.keeps_rules() && self.has_place(row) && !self.clashes(row)
+    }
+
+    /// Whether there are at most 64 rows with this one.
+    fn has_place(&self, row: &PairRow) -> bool
+        ensures { result ≡ nat_le (length (with_row row.now self.now.rows)) most_rows }
+    {
+        self.rows.contains_key(&row.device) || self.rows.len() < MOST_ROWS
+    }
+
+    /// Whether a row of another device clashes with this one.
+    fn clashes(&self, row: &PairRow) -> bool
+        ensures found { result ≡ list_any (clashes_apart row.now) self.now.rows }
+        ensures rules { KeepsRows self.now.rows }
+    {
+        self.rows
+            .values()
+            .any(|other| other.device != row.device && row.clashes(other))
+    }
+
+    /// Puts a row in the place of its device's row, or behind all rows where the device has none. After an error the table is as
+    /// before.
+    pub fn put_row(&mut self, _alloc: Global, row: PairRow) -> Result<(), NoMemory>
+        requires { MayPut row self.old.rows }
+        ensures ok { OnOk result (self.new ≡ with_rows self.old (with_row row self.old.rows)) }
+        ensures err { OnErr result (self.new ≡ self.old) }
+    {
+        let _valid = row.keeps_rules();
+        self.rows.insert(row.device, row)?;
+        Ok(())
+    }
+
+    /// Takes out the device's row, if it has one. The others close up in their order.
+    pub fn remove(&mut self, device: u16)
+        ensures { self.new ≡ with_rows self.old (without_row device self.old.rows) }
+    {
+        self.rows.shift_remove(&device);
+    }
+}

@@ -1,0 +1,7 @@
+pub mod Again
+pub mod Behind
+pub mod Fields
+pub mod RowsAt
+pub mod Spelled
+pub mod SpelledSo
+pub mod Windows

@@ -1,0 +1,5 @@
+use Rattle.state_set.proofs.Again.{states_back}
+use Rattle.state_set.proofs.laws.states_read_back.Goals as goal
+
+pub returns : goal.returns
+returns c = states_back

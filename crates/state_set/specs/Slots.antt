@@ -1,0 +1,113 @@
+-- The state device: two slots of 8,192 bytes. Each begins with the level and the rows of a session.
+use Rattle.std.specs.Prelude.{◌≡◌, ◌≢◌, ℕ, zero, suc, ◌+◌, ◌*◌, ◌≤◌, ◌==◌, ◌&&◌, List, [], ◌∷◌, ◌++◌, length, take, drop, Bool, true, Option, Some, None, Result, ok_or, nat_lt, nat_le, if◌then◌else◌, slice_index, slice_range, bytes_eq, codes}
+use Rattle.std.specs.List.{flat_map, list_all}
+use Rattle.std.specs.Int.{w16, to_be_bytes, from_be_bytes}
+use Rattle.tod_stamp.specs.Names.{session_field}
+use Rattle.crash_plant.specs.Bytes.{Torn}
+use Rattle.pair_table.specs.declared.level.Level.{Level}
+use Rattle.pair_table.specs.declared.level.Level.TheVariants.{Volume, Session}
+use Rattle.pair_table.specs.declared.row.PairRow.{PairRow}
+use Rattle.pair_table.specs.Rows.{◌>>=◌, row_spelling, row_at}
+use Rattle.pair_table.specs.Tables.{Table, most_rows, none_clash}
+
+-- what a slot holds of a session
+pub record Stored : Type 0 where
+  pub level : Level
+  pub rows : List PairRow
+
+-- the place of a slot, 0 or 1
+abbrev pub slot_place : (slot : ℕ) → ℕ
+slot_place slot = 8192 * slot
+
+-- ---- the spelling
+
+-- the first 12 bytes
+abbrev pub title : (session : List ℕ) → List ℕ
+title session = codes "XST1" ++ session_field session
+
+abbrev pub level_number : Level → ℕ
+level_number Volume = 0
+level_number Session = 1
+
+-- the 15 bytes before the rows
+abbrev pub head_spelling : (session : List ℕ) → Level → (count : ℕ) → List ℕ
+head_spelling session level count = title session ++ level_number level ∷ to_be_bytes w16 count
+
+-- the rows, of 30 bytes each
+abbrev pub rows_spelling : List PairRow → List ℕ
+rows_spelling rows = flat_map row_spelling rows
+
+-- the bytes that a slot begins with
+abbrev pub state_spelling : (session : List ℕ) → Level → List PairRow → List ℕ
+state_spelling session level rows = head_spelling session level (length rows) ++ rows_spelling rows
+
+-- how many they are
+abbrev pub state_length : List PairRow → ℕ
+state_length rows = 15 + 30 * length rows
+
+-- ---- the rules over several rows and over the plant
+
+-- devices of the plant
+abbrev pub are_below : (volumes : ℕ) → List PairRow → Bool
+are_below volumes rows = list_all (λ r. nat_lt r.device volumes) rows
+
+-- at most 64 rows, none of which clash, of devices of the plant
+abbrev pub are_rows : (volumes : ℕ) → List PairRow → Bool
+are_rows volumes rows = nat_le (length rows) most_rows && none_clash rows && are_below volumes rows
+
+-- ---- reading it
+
+abbrev pub level_of : (number : ℕ) → Option Level
+level_of n = if n == 0 then Some Volume else if n == 1 then Some Session else None
+
+-- so many rows of 30 bytes, each by itself
+abbrev pub rows_at : (count : ℕ) → List ℕ → Option (List PairRow)
+rows_at zero bytes = Some []
+rows_at (suc count) bytes = do
+  first ← row_at (take 30 bytes)
+  others ← rows_at count (drop 30 bytes)
+  Some (first ∷ others)
+
+-- the rows, where together they keep the rules
+abbrev pub kept : (volumes : ℕ) → Option (List PairRow) → Option (List PairRow)
+kept volumes None = None
+kept volumes (Some rows) = if are_rows volumes rows then Some rows else None
+
+abbrev pub rows_in : (volumes count : ℕ) → List ℕ → Option (List PairRow)
+rows_in volumes count bytes = kept volumes (rows_at count bytes)
+
+-- whether the bytes reach to the rows, and begin as those of this session
+abbrev pub has_title : (session : List ℕ) → List ℕ → Bool
+has_title session bytes = nat_le 15 (length bytes) && bytes_eq (title session) (take 12 bytes)
+
+-- the level and the rows of these bytes, of which the first 15 are there
+abbrev pub fields_of : (volumes : ℕ) → List ℕ → Option Stored
+fields_of volumes bytes = do
+  level ← level_of (slice_index bytes 12)
+  rows ← rows_in volumes (from_be_bytes w16 (slice_range bytes 13 15)) (drop 15 bytes)
+  Some (record { level = level; rows = rows })
+
+-- What the bytes hold of this session, if they begin with it. The volumes are those of the plant.
+abbrev pub state_at : (volumes : ℕ) → (session : List ℕ) → List ℕ → Option Stored
+state_at volumes session bytes = if has_title session bytes then fields_of volumes bytes else None
+
+-- What a slot of these bytes of the device holds of this session. A slot that breaks a rule is damaged at its first byte.
+abbrev pub state_of : (volumes : ℕ) → (session : List ℕ) → (slot : ℕ) → (state : List ℕ) → Result Stored ℕ
+state_of volumes session slot state = ok_or (state_at volumes session (drop (slot_place slot) state)) (slot_place slot)
+
+-- ---- writing it
+
+-- While n bytes are written into a slot, all else is as it was, and the other slot holds what it held.
+pub record OneSlot (slot n : ℕ) (old new : List ℕ) : Type 0 where
+  pub torn : Torn (slot_place slot) n old new
+  pub others : (volumes : ℕ) (session : List ℕ) (other : ℕ) → other ≤ 1 → other ≢ slot → state_of volumes session other new ≡ state_of volumes session other old
+
+-- ---- tables
+
+-- the table of a session that is started
+abbrev pub started_table : (session : List ℕ) → List PairRow → Table
+started_table session rows = record { session = session; is_started = true; rows = rows }
+
+-- the level and the table of what a slot holds
+abbrev pub with_table : (session : List ℕ) → Stored → Level × Table
+with_table session s = (s.level, started_table session s.rows)

@@ -1,0 +1,84 @@
+//! The bytes of a state.
+
+ghost use Rattle.std.specs.Prelude.{◌≡◌, ◌≤◌, ◌<◌, ◌+◌, ◌*◌, length, take, drop, slice_get, Some, IsTrue};
+ghost use Rattle.tod_stamp.specs.Names.{is_session};
+ghost use Rattle.pair_table.specs.Rows.{row_spelling};
+ghost use Rattle.pair_table.specs.Tables.{KeepsRows};
+ghost use Rattle.state_set.specs.Slots.{title, level_number, head_spelling, rows_spelling, state_spelling, state_length};
+
+use byteorder::{BigEndian, ByteOrder};
+use pair_table::{Level, PairTable, encode_row};
+use tod_stamp::Session;
+
+/// The bytes before the rows.
+pub(crate) const HEAD: usize = 15;
+
+/// The bytes of a row.
+pub(crate) const ROW: usize = 30;
+
+/// The most bytes of a state: those of 64 rows.
+pub(crate) const LONGEST: usize = 1_935;
+
+/// What the bytes of a session begin with.
+pub(crate) fn title(session: Session) -> [u8; 12]
+    ensures title { result ≡ title session }
+    ensures valid { IsTrue (is_session session) }
+{
+    let mut bytes = [0; 12];
+    bytes[4..].copy_from_slice(&session.field());
+    bytes[..4].copy_from_slice(b"XST1");
+    bytes
+}
+
+fn level_number(level: Level) -> u8
+    ensures { result ≡ level_number level }
+{
+    match level {
+        Level::Volume => 0,
+        Level::Session => 1,
+    }
+}
+
+fn head(session: Session, level: Level, count: u16) -> [u8; HEAD]
+    ensures head { result ≡ head_spelling session level count }
+    ensures valid { IsTrue (is_session session) }
+{
+    let mut bytes = [0; HEAD];
+    BigEndian::write_u16(&mut bytes[13..], count);
+    bytes[12] = level_number(level);
+    bytes[..12].copy_from_slice(&title(session));
+    bytes
+}
+
+/// The bytes of the row at a place.
+fn row_bytes(table: &PairTable, place: u16) -> [u8; ROW]
+    requires { place < length table.now.rows }
+    ensures { (r : _) → slice_get table.now.rows place ≡ Some r → result ≡ row_spelling r }
+{
+    encode_row(table.row(place).unwrap())
+}
+
+/// Writes all rows.
+fn put_rows(table: &PairTable, out: &mut [u8])
+    requires { length out.old ≡ 30 * length table.now.rows }
+    ensures { out.new ≡ rows_spelling table.now.rows }
+{
+    for place in 0..table.len() {
+        let from = ROW * usize::from(place);
+        out[from..from + ROW].copy_from_slice(&row_bytes(table, place));
+    }
+}
+
+/// Writes the state to the front of a buffer, and gives its length.
+pub(crate) fn encode(level: Level, table: &PairTable, out: &mut [u8; LONGEST]) -> usize
+    ensures spelled { take (state_length table.now.rows) out.new ≡ state_spelling table.now.session level table.now.rows }
+    ensures length { result ≡ state_length table.now.rows }
+    ensures rules { KeepsRows table.now.rows }
+    ensures valid { IsTrue (is_session table.now.session) }
+{
+    let count = table.len();
+    let end = HEAD + ROW * usize::from(count);
+    out[..HEAD].copy_from_slice(&head(table.session(), level, count));
+    put_rows(table, &mut out[HEAD..end]);
+    end
+}

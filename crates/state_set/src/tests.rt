@@ -1,0 +1,408 @@
+//! The worked states with each of their bytes changed, rows that break a rule together, and each call failing in turn.
+
+ghost use Rattle.std.specs.Prelude.{◌<◌, IsTrue};
+ghost use Rattle.state_set.specs.Slots.{are_below};
+
+use crate::{StateError, get, put};
+use crash_plant::{Device, Fail, FailList, MemoryPlant, PlainPlant, Plant};
+use pair_table::{Level, PairRow, PairState, PairTable};
+use std::alloc::Global;
+use std::process::Abort;
+use tod_stamp::{Serial, Session};
+use xrc_edge::{Bytes, NoMemory};
+
+/// Slot 0 after the session ABC was started at level VOLUME.
+const STARTED: [u8; 15] = [
+    0x58, 0x53, 0x54, 0x31, 0x41, 0x42, 0x43, 0x20, 0x20, 0x20, 0x20, 0x20, 0, 0, 0,
+];
+
+/// The same with the row of PRIM01 and SEC001, control 0, volume 0, device 0, one cylinder, duplex.
+const PAIRED: [u8; 45] = [
+    0x58, 0x53, 0x54, 0x31, 0x41, 0x42, 0x43, 0x20, 0x20, 0x20, 0x20, 0x20, 0, 0, 1, 0x50, 0x52,
+    0x49, 0x4D, 0x30, 0x31, 0x53, 0x45, 0x43, 0x30, 0x30, 0x31, 0, 0, 0, 0, 0, 0, 0, 1, 2, 0, 0, 0,
+    0, 0, 0, 0, 0, 0,
+];
+
+/// The volumes of the plants here.
+const VOLUMES: u16 = 64;
+
+/// What was read of a slot: level, session, number of rows, and the first row.
+#[derive(Clone, Copy, Debug, PartialEq, Eq)]
+struct Seen {
+    level: Level,
+    session: Session,
+    count: u16,
+    first: Option<PairRow>,
+}
+
+fn session(rt: &impl Abort) -> Session {
+    Session::read(b"ABC").expect(rt, "a name")
+}
+
+fn serial(rt: &impl Abort, bytes: &[u8]) -> Serial {
+    Serial::read(bytes).expect(rt, "a name")
+}
+
+/// The worked row in a state.
+fn worked(rt: &impl Abort, state: PairState) -> PairRow {
+    PairRow {
+        primary: serial(rt, b"PRIM01"),
+        secondary: serial(rt, b"SEC001"),
+        control: 0,
+        volume: 0,
+        device: 0,
+        cylinders: 1,
+        state,
+    }
+}
+
+/// A row that clashes with none of another number.
+fn numbered(rt: &impl Abort, number: u8) -> PairRow {
+    PairRow {
+        primary: serial(rt, &[b'P', b'A' + number / 16 % 16, b'A' + number % 16]),
+        control: u16::from(number / 16 % 16),
+        volume: u16::from(number % 16),
+        device: u16::from(number),
+        ..worked(rt, PairState::Pending)
+    }
+}
+
+/// A plant whose call of this number on the state fails.
+fn made(alloc: Global, call: u64) -> Result<MemoryPlant, NoMemory> {
+    let mut fails = FailList::make(alloc);
+    let fail = Fail {
+        at: Some(Device::State),
+        said: 0,
+        call,
+        stop: false,
+    };
+    fails.push(alloc, fail)?;
+    let plain = PlainPlant::make(alloc, 2, 100, VOLUMES, 0, Bytes::make(alloc))?;
+    MemoryPlant::make(alloc, plain, fails)
+}
+
+/// A call that no test comes to.
+const NEVER: u64 = 1000;
+
+/// Whether the devices of the rows are below this number.
+fn are_devices_below(table: &PairTable, volumes: u16) -> bool
+    ensures { IsTrue result → IsTrue (are_below volumes table.now.rows) }
+{
+    for place in 0..table.len() {
+        let row = table.row(place).unwrap();
+        if row.device >= volumes {
+            return false;
+        }
+    }
+    true
+}
+
+/// Puts a table into a slot.
+fn put_table(
+    rt: &impl Abort,
+    alloc: Global,
+    plant: &mut MemoryPlant,
+    slot: u8,
+    level: Level,
+    table: &PairTable,
+) -> Result<(), StateError> {
+    assert!(rt; slot <= 1 && plant.length(Device::State) >= 16_384);
+    assert!(rt; are_devices_below(table, plant.volumes()));
+    put(alloc, plant, slot, level, table)
+}
+
+/// Puts a state of ABC with one row, or none, into a slot.
+fn put_state(
+    rt: &impl Abort,
+    alloc: Global,
+    plant: &mut MemoryPlant,
+    slot: u8,
+    level: Level,
+    first: Option<&PairRow>,
+) -> Result<(), StateError> {
+    let mut table = PairTable::make(alloc, session(rt)).expect(rt, "memory");
+    if let Some(row) = first {
+        assert!(rt; table.may_put(row));
+        table.put_row(alloc, *row).expect(rt, "memory");
+    }
+    put_table(rt, alloc, plant, slot, level, &table)
+}
+
+/// Gets what a slot holds of a session.
+fn get_state_of(
+    rt: &impl Abort,
+    alloc: Global,
+    plant: &mut MemoryPlant,
+    slot: u8,
+    session: Session,
+) -> Result<Seen, StateError> {
+    assert!(rt; slot <= 1 && plant.length(Device::State) >= 16_384);
+    let (level, table) = get(alloc, plant, slot, session)?;
+    Ok(Seen {
+        level,
+        session: table.session(),
+        count: table.len(),
+        first: table.row(0).copied(),
+    })
+}
+
+/// Gets what a slot holds of ABC.
+fn get_state(
+    rt: &impl Abort,
+    alloc: Global,
+    plant: &mut MemoryPlant,
+    slot: u8,
+) -> Result<Seen, StateError> {
+    get_state_of(rt, alloc, plant, slot, session(rt))
+}
+
+/// The state of ABC with one row, or none.
+fn held(rt: &impl Abort, level: Level, first: Option<&PairRow>) -> Seen {
+    Seen {
+        level,
+        session: session(rt),
+        count: u16::from(first.is_some()),
+        first: first.copied(),
+    }
+}
+
+/// Puts a state, and gets it again.
+fn goes_through(
+    rt: &impl Abort,
+    alloc: Global,
+    plant: &mut MemoryPlant,
+    slot: u8,
+    level: Level,
+    first: Option<&PairRow>,
+) {
+    assert_eq!(rt; put_state(rt, alloc, plant, slot, level, first), Ok(()));
+    assert_eq!(rt;
+        get_state(rt, alloc, plant, slot),
+        Ok(held(rt, level, first))
+    );
+}
+
+/// Writes bytes at a place of the state.
+fn write(rt: &impl Abort, plant: &mut MemoryPlant, place: u64, bytes: &[u8]) {
+    assert!(rt; place <= 9_000 && bytes.len() <= 100 && plant.length(Device::State) >= 16_384);
+    assert!(rt; plant.write(Device::State, place, bytes).is_ok());
+}
+
+/// The bytes from a place of the state on.
+fn content(rt: &impl Abort, plant: &mut MemoryPlant, place: u64) -> [u8; 46] {
+    let mut bytes = [9; 46];
+    assert!(rt; place <= 8_192 && plant.length(Device::State) >= 16_384);
+    assert!(rt; plant.read(Device::State, place, &mut bytes).is_ok());
+    bytes
+}
+
+#[test]
+fn the_worked_states_are_written_and_read(rt: HostRuntime) {
+    let alloc = rt.alloc();
+    let row = worked(&rt, PairState::Duplex);
+    for (slot, place, next, other) in [(0, 0, 1, 8_192), (1, 8_192, 0, 0)] {
+        let mut plant = made(alloc, NEVER).expect(&rt, "memory");
+        goes_through(&rt, alloc, &mut plant, slot, Level::Volume, None);
+        assert!(rt; content(&rt, &mut plant, place).starts_with(&STARTED));
+        assert!(rt; content(&rt, &mut plant, place).ends_with(&[0; 31]));
+        goes_through(&rt, alloc, &mut plant, slot, Level::Volume, Some(&row));
+        assert!(rt; content(&rt, &mut plant, place).starts_with(&PAIRED));
+        assert_eq!(rt; content(&rt, &mut plant, other), [0; 46]);
+        goes_through(&rt, alloc, &mut plant, next, Level::Session, None);
+        assert!(rt; content(&rt, &mut plant, other).starts_with(b"XST1ABC     \x01\0\0\0"));
+        assert!(rt; content(&rt, &mut plant, place).starts_with(&PAIRED));
+    }
+}
+
+/// What is read where one byte of the worked state with a row is another. No such value is a character of a name.
+fn answer(rt: &impl Abort, offset: usize, value: u8) -> Option<Seen> {
+    let mut row = worked(rt, PairState::Duplex);
+    let number = u16::from(value);
+    let keeps = match offset {
+        12 if value == 1 => return Some(held(rt, Level::Session, Some(&row))),
+        14 if value == 0 => return Some(held(rt, Level::Volume, None)),
+        28 => {
+            row.control = number;
+            number <= 15
+        }
+        30 => {
+            row.volume = number;
+            number <= 31
+        }
+        32 => {
+            row.device = number;
+            number < VOLUMES
+        }
+        33 => {
+            row.cylinders = 256 * u32::from(value) + 1;
+            row.cylinders <= 65_520
+        }
+        34 => {
+            row.cylinders = u32::from(value);
+            value >= 1
+        }
+        35 => {
+            row.state = if value == 0 {
+                PairState::Pending
+            } else {
+                PairState::Copy
+            };
+            value <= 1
+        }
+        _ => false,
+    };
+    if keeps {
+        Some(held(rt, Level::Volume, Some(&row)))
+    } else {
+        None
+    }
+}
+
+/// Changes one byte of the worked state with a row, in both slots.
+fn change_byte(rt: &impl Abort, alloc: Global, plant: &mut MemoryPlant, offset: usize, value: u8)
+    requires { offset < 45 }
+{
+    let mut bytes = PAIRED;
+    bytes[offset] = value;
+    write(rt, plant, 0, &bytes);
+    write(rt, plant, 8_192, &bytes);
+    let first = answer(rt, offset, value).ok_or(StateError::Damaged(0));
+    let second = answer(rt, offset, value).ok_or(StateError::Damaged(8_192));
+    assert_eq!(rt;
+        get_state(rt, alloc, plant, 0),
+        first,
+        "at {offset}, {value}"
+    );
+    assert_eq!(rt;
+        get_state(rt, alloc, plant, 1),
+        second,
+        "at {offset}, {value}"
+    );
+}
+
+#[test]
+fn each_byte_counts(rt: HostRuntime) {
+    let alloc = rt.alloc();
+    let mut plant = made(alloc, NEVER).expect(&rt, "memory");
+    for offset in 0..45 {
+        for value in [0, 1, 2, 63, 255] {
+            if value != PAIRED[offset] {
+                change_byte(&rt, alloc, &mut plant, offset, value);
+            }
+        }
+    }
+}
+
+#[test]
+fn another_session_is_not_read(rt: HostRuntime) {
+    let alloc = rt.alloc();
+    let mut plant = made(alloc, NEVER).expect(&rt, "memory");
+    write(&rt, &mut plant, 8_192, &PAIRED);
+    let names: [&[u8]; 4] = [b"ABD", b"AB", b"ABCD", b"XST1ABC"];
+    for name in names {
+        let other = Session::read(name).expect(&rt, "a name");
+        let found = get_state_of(&rt, alloc, &mut plant, 1, other);
+        assert_eq!(rt; found, Err(StateError::Damaged(8_192)));
+    }
+    assert!(rt; get_state(&rt, alloc, &mut plant, 1).is_ok());
+}
+
+/// The table of ABC with 64 rows, the last device's first.
+fn full_table(rt: &impl Abort, alloc: Global) -> PairTable {
+    let mut table = PairTable::make(alloc, session(rt)).expect(rt, "memory");
+    for number in 0..64 {
+        let row = numbered(rt, 63 - number);
+        assert!(rt; table.may_put(&row));
+        table.put_row(alloc, row).expect(rt, "memory");
+    }
+    table
+}
+
+#[test]
+fn sixty_four_rows_are_the_most(rt: HostRuntime) {
+    let alloc = rt.alloc();
+    let mut plant = made(alloc, NEVER).expect(&rt, "memory");
+    let full = full_table(&rt, alloc);
+    assert!(rt; put_table(&rt, alloc, &mut plant, 0, Level::Volume, &full).is_ok());
+    assert!(rt; plant.length(Device::State) >= 16_384);
+    let (_, found) = get(alloc, &mut plant, 0, session(&rt)).expect(&rt, "a state");
+    assert!(rt; found.len() == 64);
+    for place in 0..64 {
+        assert!(rt; found.row(place) == full.row(place), "at {place}");
+    }
+    for count in [65, 66, 255] {
+        write(&rt, &mut plant, 14, &[count]);
+        let found = get_state(&rt, alloc, &mut plant, 0);
+        assert_eq!(rt; found, Err(StateError::Damaged(0)), "{count}");
+    }
+}
+
+/// The number of rows that is read where these two stand in slot 1.
+fn count_of_two(
+    rt: &impl Abort,
+    alloc: Global,
+    first: &PairRow,
+    second: &PairRow,
+) -> Result<u16, StateError> {
+    let mut plant = made(alloc, NEVER).expect(rt, "memory");
+    put_state(rt, alloc, &mut plant, 0, Level::Volume, Some(second))?;
+    let copied = content(rt, &mut plant, 0);
+    put_state(rt, alloc, &mut plant, 1, Level::Volume, Some(first))?;
+    write(rt, &mut plant, 8_192 + 14, &[2]);
+    write(rt, &mut plant, 8_192 + 45, &copied[15..45]);
+    Ok(get_state(rt, alloc, &mut plant, 1)?.count)
+}
+
+#[test]
+fn rows_that_clash_are_damaged(rt: HostRuntime) {
+    let alloc = rt.alloc();
+    let first = numbered(&rt, 1);
+    let second = numbered(&rt, 2);
+    let damaged = Err(StateError::Damaged(8_192));
+    assert_eq!(rt; count_of_two(&rt, alloc, &first, &second), Ok(2));
+    let mut row = second;
+    row.primary = first.primary;
+    assert_eq!(rt;
+        count_of_two(&rt, alloc, &first, &row),
+        damaged,
+        "one primary"
+    );
+    row = second;
+    row.device = first.device;
+    assert_eq!(rt;
+        count_of_two(&rt, alloc, &first, &row),
+        damaged,
+        "one device"
+    );
+    row = second;
+    row.volume = first.volume;
+    assert_eq!(rt;
+        count_of_two(&rt, alloc, &first, &row),
+        damaged,
+        "one volume of a control"
+    );
+    row.control = 1;
+    assert_eq!(rt;
+        count_of_two(&rt, alloc, &first, &row),
+        Ok(2),
+        "that volume of another control"
+    );
+}
+
+// The write, its sync, and the read.
+#[test]
+fn a_call_that_fails_is_a_fault(rt: HostRuntime) {
+    let alloc = rt.alloc();
+    for call in 0..3 {
+        let mut plant = made(alloc, call).expect(&rt, "memory");
+        let put = put_state(&rt, alloc, &mut plant, 0, Level::Session, None);
+        let found = get_state(&rt, alloc, &mut plant, 0);
+        let is_fault = if call < 2 {
+            put == Err(StateError::Fault)
+        } else {
+            put.is_ok() && found == Err(StateError::Fault)
+        };
+        assert!(rt; is_fault, "at call {call}");
+        goes_through(&rt, alloc, &mut plant, 0, Level::Session, None);
+    }
+}
