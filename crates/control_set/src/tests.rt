@@ -1,4 +1,4 @@
-//! The worked slot and what is beside it, marks one after another, and each call failing in turn.
+//! The worked slot and what is beside it, marks one after another, each call failing in turn, and a crash at each call.
 
 ghost use Rattle.std.specs.Prelude.{◌<◌, ◌≤◌, IfOk, OnOk};
 ghost use Rattle.crash_plant.specs.declared.device.Device.TheVariants.{Control};
@@ -52,24 +52,38 @@ fn numbered(rt: &impl Abort, number: u8) -> Mark {
     }
 }
 
-/// A plant of two journals, whose call of this number on the control fails.
-fn made(alloc: Global, call: u64) -> Result<MemoryPlant, NoMemory> {
+/// A plant of two journals.
+fn plain(alloc: Global) -> Result<PlainPlant, NoMemory> {
+    PlainPlant::make(alloc, 2, JOURNAL, 0, 0, Bytes::make(alloc))
+}
+
+/// The plant, whose call of this number on the control fails.
+fn failing(
+    alloc: Global,
+    plain: PlainPlant,
+    call: u64,
+    stop: bool,
+) -> Result<MemoryPlant, NoMemory> {
     let mut fails = FailList::make(alloc);
     let fail = Fail {
         at: Some(Device::Control),
         said: 0,
         call,
-        stop: false,
+        stop,
     };
     fails.push(alloc, fail)?;
-    let plain = PlainPlant::make(alloc, 2, JOURNAL, 0, 0, Bytes::make(alloc))?;
     MemoryPlant::make(alloc, plain, fails)
+}
+
+/// A plant of two journals, whose call of this number on the control fails.
+fn made(alloc: Global, call: u64) -> Result<MemoryPlant, NoMemory> {
+    failing(alloc, plain(alloc)?, call, false)
 }
 
 /// A call that no test comes to.
 const NEVER: u64 = 1000;
 
-fn chosen(rt: &impl Abort, plant: &mut MemoryPlant) -> Result<Option<Mark>, ChooseError> {
+fn chosen<P: Plant>(rt: &impl Abort, plant: &mut P) -> Result<Option<Mark>, ChooseError> {
     assert!(rt; plant.length(Device::Control) >= 1024);
     choose(plant)
 }
@@ -374,5 +388,178 @@ fn the_old_mark_or_the_new_one_counts(rt: HostRuntime) {
             expected,
             "at call {call}"
         );
+    }
+}
+
+/// What a crash leaves in a range that is open.
+const CHOICES: [&[u8]; 3] = [&[], &[1], &[0xff]];
+
+/// A control before a mark. The bytes of which a slot has no need are all the same.
+#[derive(Clone, Copy)]
+struct Case {
+    filler: u8,
+    // The last byte of the number of the mark in each slot; None where its gate isn't open.
+    first: Option<u8>,
+    second: Option<u8>,
+}
+
+impl Case {
+    /// The place of the next mark's slot.
+    fn free_place(&self) -> u64 {
+        if self.first > self.second { 512 } else { 0 }
+    }
+
+    /// How many calls the next mark has: two reads, a write and a sync where the gate is open, and a write and a sync of the body
+    /// and of the gate.
+    fn all_calls(&self) -> u64
+        ensures { result ≤ 8 }
+    {
+        if self.first.is_some() && self.second.is_some() {
+            8
+        } else {
+            6
+        }
+    }
+
+    /// The bytes of a slot: a mark behind an open gate, or a gate that isn't open.
+    fn slot(&self, number: Option<u8>) -> [u8; 49] {
+        let mut bytes = [self.filler; 49];
+        let Some(number) = number else {
+            bytes[0] = if self.filler == 1 { 0 } else { self.filler };
+            return bytes;
+        };
+        bytes[0] = 1;
+        bytes[1..5].copy_from_slice(b"XCTL");
+        bytes[12] = number;
+        bytes[13..21].copy_from_slice(b"ABC     ");
+        bytes[22] = 0;
+        bytes[24..31].fill(0);
+        bytes[39] = 1;
+        bytes[47] = 1;
+        bytes
+    }
+
+    /// A plant with this control.
+    fn plant(&self, rt: &impl Abort, alloc: Global) -> PlainPlant {
+        let mut plant = plain(alloc).expect(rt, "memory");
+        for part in 0..16 {
+            write(rt, &mut plant, 64 * part, &[self.filler; 64]);
+        }
+        write(rt, &mut plant, 0, &self.slot(self.first));
+        write(rt, &mut plant, 512, &self.slot(self.second));
+        plant
+    }
+
+    /// The mark that counts.
+    fn old(&self, rt: &impl Abort, alloc: Global) -> Option<Mark> {
+        let old = chosen(rt, &mut self.plant(rt, alloc)).expect(rt, "not damaged");
+        let number = old.as_ref().map_or(0, |mark| mark.number % 256);
+        assert_eq!(rt; number, u64::from(self.first.max(self.second).unwrap_or(0)));
+        old
+    }
+
+    /// Stops after so many calls of the mark, crashes in each way, and looks at which mark counts.
+    fn stop_after(&self, rt: &impl Abort, alloc: Global, calls: u64)
+        requires { calls ≤ 8 }
+    {
+        let all = self.all_calls();
+        let old = self.old(rt, alloc);
+        let new = next(rt, old.as_ref());
+        let before = self.plant(rt, alloc);
+        let mut plant = failing(alloc, before, BEFORE + calls, true).expect(rt, "memory");
+        assert_eq!(rt; put(rt, &mut plant, &new).is_ok(), calls == all);
+        for choice in CHOICES {
+            let mut left = left(rt, alloc, &plant, choice);
+            // The gate's write and its sync come last.
+            let is_new = calls == all || calls + 2 >= all && choice == [1].as_slice();
+            let expected = if is_new { Some(&new) } else { old.as_ref() };
+            let found = chosen(rt, &mut left).expect(rt, "not damaged");
+            assert_eq!(rt; found.as_ref(), expected, "{calls} of {all}, {choice:?}");
+            assert_elsewhere(rt, &mut left, &mut self.plant(rt, alloc), self.free_place());
+        }
+    }
+}
+
+/// The mark behind another one, or the first.
+fn next(rt: &impl Abort, old: Option<&Mark>) -> Mark {
+    let last = old.map_or(0, |mark| mark.number);
+    assert!(rt; last < u64::MAX);
+    Mark {
+        number: last + 1,
+        ..worked(rt)
+    }
+}
+
+/// Controls without a mark, with one, and with two of which either is the later one. 1 would be an open gate.
+const CASES: [(u8, Option<u8>, Option<u8>); 12] = [
+    (0, None, None),
+    (1, None, None),
+    (2, None, None),
+    (0xff, None, None),
+    (0, Some(7), None),
+    (1, Some(7), None),
+    (0, None, Some(7)),
+    (1, None, Some(7)),
+    (0, Some(7), Some(6)),
+    (1, Some(7), Some(6)),
+    (0, Some(6), Some(7)),
+    (1, Some(6), Some(7)),
+];
+
+/// The calls before those of the mark: two reads of `choose` and a sync.
+const BEFORE: u64 = 3;
+
+fn write(rt: &impl Abort, plant: &mut PlainPlant, place: u64, bytes: &[u8]) {
+    assert!(rt; plant.length(Device::Control) >= 1024 && place <= 960 && bytes.len() <= 64);
+    assert!(rt; plant.write(Device::Control, place, bytes).is_ok());
+}
+
+/// The 15 bytes behind those of a slot at a place.
+fn behind_slot(rt: &impl Abort, plant: &mut PlainPlant, place: u64) -> [u8; 15] {
+    let mut bytes = [9; 15];
+    assert!(rt; plant.length(Device::Control) >= 1024 && place <= 960);
+    assert!(rt; plant.read(Device::Control, place + 49, &mut bytes).is_ok());
+    bytes
+}
+
+/// 64 bytes of the control.
+fn part_of(rt: &impl Abort, plant: &mut PlainPlant, place: u64) -> [u8; 64] {
+    let mut bytes = [9; 64];
+    assert!(rt; plant.length(Device::Control) >= 1024 && place <= 960);
+    assert!(rt; plant.read(Device::Control, place, &mut bytes).is_ok());
+    bytes
+}
+
+/// What a crash leaves.
+fn left(rt: &impl Abort, alloc: Global, plant: &MemoryPlant, choice: &[u8]) -> PlainPlant {
+    assert!(rt; plant.volumes() == 0);
+    plant.crash(alloc, choice).expect(rt, "memory")
+}
+
+/// Only the 49 bytes of the free slot are others.
+fn assert_elsewhere(rt: &impl Abort, left: &mut PlainPlant, old: &mut PlainPlant, free: u64) {
+    for part in 0..16 {
+        let place = 64 * part;
+        if place == free {
+            let found = behind_slot(rt, left, place);
+            assert_eq!(rt; found, behind_slot(rt, old, place), "behind {place}");
+        } else {
+            let found = part_of(rt, left, place);
+            assert_eq!(rt; found, part_of(rt, old, place), "at {place}");
+        }
+    }
+}
+
+#[test]
+fn a_crash_leaves_the_old_mark_or_the_new_one(rt: HostRuntime) {
+    for (filler, first, second) in CASES {
+        let case = Case {
+            filler,
+            first,
+            second,
+        };
+        for calls in 0..=case.all_calls() {
+            case.stop_after(&rt, rt.alloc(), calls);
+        }
     }
 }

@@ -1,5 +1,5 @@
 -- What one crash leaves of a plant in memory.
-use Rattle.std.proofs.Common.{◌≡◌, inl, inr, ◌⊎◌, ℕ, zero, suc, ◌<◌, ◌≤◌, true, false, List, [], ◌∷◌, length, take, drop, refl, sym, ◌∙◌, ap, subst, arith, Result, Ok, Err, IfOk}
+use Rattle.std.proofs.Common.{◌≡◌, ℕ, zero, suc, ◌<◌, ◌≤◌, true, false, List, [], ◌∷◌, length, take, drop, refl, sym, ◌∙◌, ap, subst, arith, Result, Ok, Err, IfOk}
 use Rattle.crash_plant.specs.declared.device.Device.{Device}
 use Rattle.crash_plant.specs.declared.device.Device.TheVariants.{Control, State, Journal, Volume}
 use Rattle.crash_plant.specs.declared.memory_disk.MemoryDisk.{MemoryDisk}
@@ -10,11 +10,10 @@ use Rattle.crash_plant.specs.declared.shelf.Shelf.{Shelf}
 use Rattle.crash_plant.specs.declared.shelf.Shelf.TheVariants.{Here, Lent, Away}
 use Rattle.crash_plant.specs.declared.memory_plant.MemoryPlant.{MemoryPlant}
 use Rattle.crash_plant.specs.declared.plain_plant.PlainPlant.{PlainPlant}
-use Rattle.crash_plant.specs.Calls.{IsThere, NoneLent, SameSite}
+use Rattle.crash_plant.specs.Calls.{IsPart, NoneLent, SameSite}
 use Rattle.crash_plant.specs.Choices.{IsChoice}
 use Rattle.crash_plant.specs.Clock.{clock_of}
 use Rattle.crash_plant.specs.Devices.{seen_at, seen_of}
-use Rattle.crash_plant.specs.FailPlans.{faults_of}
 use Rattle.crash_plant.specs.Made.{IsSilent}
 use Rattle.crash_plant.proofs.Counts.{plain_faults}
 use Rattle.crash_plant.specs.Left.{left_of, open_writes}
@@ -24,9 +23,8 @@ use Rattle.crash_plant.specs.MemoryPlant.{memory_state}
 use Rattle.crash_plant.specs.PlainPlant.{place_is_lent, plain_state}
 use Rattle.crash_plant.specs.Remains.{Remains, disk_remains, left_at, nothing, place_remains, remains_here, remains_of}
 use Rattle.crash_plant.specs.Shelves.{last_done, shelf_bytes, shelf_images, shelf_is_lent, shelf_past}
-use Rattle.std.proofs.lemmas.Bool.{cases_lt}
 use Rattle.crash_plant.proofs.Beginnings.{seen_of_through}
-use Rattle.crash_plant.proofs.Memories.{home_of, lent_at_home}
+use Rattle.crash_plant.proofs.Memories.{lent_at_home}
 use Rattle.crash_plant.proofs.Views.{is_home}
 use Rattle.crash_plant.proofs.Lefts.{left_is_image, length-all_filled, open_writes_fit}
 use Rattle.crash_plant.proofs.Records.{reach_of}
@@ -69,12 +67,6 @@ pub if_left : {E : Type 0} (result : Result PlainDisk E) (choice : List ℕ) (di
 if_left (Ok left) choice disk is = remains_left choice disk left is
 if_left (Err e) choice disk is = tt
 
--- A device is lent, or it isn't, or there is none.
-none_at : {A : Type 0} (see : A → Shelf) (xs : List A) (i : ℕ) → length xs ≤ i → seen_at see (Away 0) xs i ≡ Away 0
-none_at see [] i past = refl
-none_at see (x ∷ xs) zero past = absurd (omega (arith, past))
-none_at see (x ∷ xs) (suc i) past = none_at see xs i (omega (arith, past))
-
 module _ (m : MemoryPlant) (plant : PlainPlant) (choice : List ℕ) (remains : (d : Device) → seen_of disk_remains place_remains nothing plant.control plant.state plant.journals.items plant.volumes.items d ≡ remains_of choice (view m.disks d)) (none : NoneLent (memory_state m)) where
   seen : {C : Type 0} (h : Remains → C) (d : Device) → seen_of (λ x. h (disk_remains x)) (λ y. h (place_remains y)) (h nothing) plant.control plant.state plant.journals.items plant.volumes.items d ≡ h (remains_of choice (view m.disks d))
   seen h d = sym (seen_of_through h disk_remains place_remains nothing plant.control plant.state plant.journals.items plant.volumes.items d) ∙ ap h (remains d)
@@ -85,26 +77,17 @@ module _ (m : MemoryPlant) (plant : PlainPlant) (choice : List ℕ) (remains : (
   volume_here : (v : ℕ) → v < volumes_of m.disks → shelf_is_lent (view m.disks (Volume v)) ≡ false
   volume_here v there = sym (lent_at_home m.disks.volumes.items v there) ∙ none v there
 
-  here_or_none : (d : Device) → (shelf_is_lent (view m.disks d) ≡ false) ⊎ (view m.disks d ≡ Away 0)
-  here_or_none Control = inl refl
-  here_or_none State = inl refl
-  here_or_none (Journal j) = elim (cases_lt j (journals_of m.disks)) [
-    | inl there ↦ inl (is_home m.disks (Journal j) there)
-    | inr past ↦ inr (none_at Here m.disks.journals.items j past)
-  ]
-  here_or_none (Volume v) = elim (cases_lt v (volumes_of m.disks)) [
-    | inl there ↦ inl (volume_here v there)
-    | inr past ↦ inr (none_at (λ (s : Shelf). s) m.disks.volumes.items v past)
-  ]
+  part_here : (d : Device) → IsPart (memory_state m) d → shelf_is_lent (view m.disks d) ≡ false
+  part_here Control part = refl
+  part_here State part = refl
+  part_here (Journal j) part = is_home m.disks (Journal j) part
+  part_here (Volume v) part = volume_here v part
 
   pub crash_images : IsChoice (memory_state m) (memory_state m).clock (plain_state plant).bytes
-  crash_images d = subst (λ (l : List ℕ). shelf_images (view m.disks d) (clock_of m.ticks) l) (sym (bytes_left d)) (elim (here_or_none d) [
-    | inl here ↦ left_image choice (view m.disks d) (clock_of m.ticks) here (m.done d)
-    | inr gone ↦ subst (λ (s : Shelf). shelf_images s (clock_of m.ticks) (left_at choice s)) (sym gone) refl
-  ])
+  crash_images d part = subst (λ (l : List ℕ). shelf_images (view m.disks d) (clock_of m.ticks) l) (sym (bytes_left d)) (left_image choice (view m.disks d) (clock_of m.ticks) (part_here d part) (m.done d))
 
-  pub crash_chosen : (d : Device) → IsThere (memory_state m) d → (plain_state plant).bytes d ≡ left_of choice (shelf_past (view m.disks d)) (shelf_bytes (view m.disks d))
-  crash_chosen d there = bytes_left d ∙ left_chosen choice (view m.disks d) (is_home m.disks d (home_of m.disks m.console (clock_of m.ticks) (faults_of m.plans) m.plans.console.faults d there))
+  pub crash_chosen : (d : Device) → IsPart (memory_state m) d → (plain_state plant).bytes d ≡ left_of choice (shelf_past (view m.disks d)) (shelf_bytes (view m.disks d))
+  crash_chosen d part = bytes_left d ∙ left_chosen choice (view m.disks d) (part_here d part)
 
   pub crash_site : length plant.journals.items ≡ journals_of m.disks → length plant.volumes.items ≡ volumes_of m.disks → SameSite (memory_state m) (plain_state plant)
   crash_site journals volumes = record { journals = journals; volumes = volumes; lengths = λ d. seen (λ (r : Remains). r.length_is) d }

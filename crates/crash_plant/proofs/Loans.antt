@@ -37,6 +37,7 @@ module _ (a b : MemoryDisks) (x : MemoryConsole) (f g : Device → ℕ) (p q v :
     clock = ap (λ (s : Shelf). (shelf_lent s).clock) is;
     length_is = sym (ap shelf_length here);
     faults = count;
+    keeps_past = λ told begun. omega arith;
     same_faults = counts (Volume v);
     bytes = λ t. sym (ap shelf_bytes here);
     images = λ t c left. subst (λ (s : Shelf). shelf_images s (clock_of ticks) c) (sym here) left;

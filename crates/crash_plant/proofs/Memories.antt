@@ -93,6 +93,7 @@ module _ (a b : MemoryDisks) (x y : MemoryConsole) (clock now : ℕ) (f g : Devi
   stays_same d same count = record {
     bytes = ap shelf_bytes same;
     images = λ t from to c left. (c, images_later (view a d) t clock c (omega (arith, done d, from)) (done d) (subst (λ (s : Shelf). shelf_images s t c) same left), refl);
+    all = λ t from to c was. subst (λ (s : Shelf). shelf_images s t c) (sym same) (images_later (view a d) clock t c (done d) (omega (arith, done d, from)) was);
     faults = count;
   }
 

@@ -7,7 +7,7 @@ use Rattle.crash_plant.specs.declared.shelf.Shelf.{Shelf}
 use Rattle.crash_plant.specs.declared.shelf.Shelf.TheVariants.{Here, Lent, Away}
 use Rattle.crash_plant.specs.Bytes.{patched}
 use Rattle.crash_plant.specs.Moments.{Kept, Follows}
-use Rattle.crash_plant.specs.Passes.{IsSynced, Passes, ShelfOpens, step_of}
+use Rattle.crash_plant.specs.Passes.{IsSynced, Passes, ShelfOpens, ShelfStands, step_of}
 use Rattle.crash_plant.specs.Pasts.{Note, Step, Reach, Through, Does, Chains, InTime, last_till}
 use Rattle.crash_plant.specs.Shelves.{ShelfNotes, ShelfAlike, last_done, lent_at, shelf_base, shelf_bytes, shelf_images, shelf_is_lent, shelf_length, shelf_past}
 use Rattle.crash_plant.proofs.Records.{chains_through, in_time_push, last_push, reach_before, reach_still, reach_later, reach_of, push_through, through_of, through_push}
@@ -73,6 +73,15 @@ passes_alike done clock now old new here still later alike = record {
   where
     back : (t : ℕ) (c : List ℕ) → shelf_images new t c → shelf_images old t c
     back t c left = subst (λ (l : List ℕ). Reach t (shelf_past old) l c) alike.base (subst (λ (l : List Note). Reach t l (shelf_base new) c) alike.past left)
+
+pub stands_alike : (clock now : ℕ) (old new : Shelf) → last_done old ≤ clock → ShelfAlike old new → ShelfStands clock now old new
+stands_alike clock now old new still alike = λ t from to c was.
+    let then_too = images_later old clock t c still (omega (arith, still, from)) was in
+    subst (λ (l : List ℕ). Reach t (shelf_past new) l c) (sym alike.base) (subst (λ (l : List Note). Reach t l (shelf_base old) c) (sym alike.past) then_too)
+
+-- Where no call is made all stands.
+pub stands_still : (clock now : ℕ) (shelf : Shelf) → last_done shelf ≤ clock → ShelfStands clock now shelf shelf
+stands_still clock now shelf done = λ t from to c was. images_later shelf clock t c done (omega (arith, done, from)) was
 
 -- A call came to the record.
 module _ (done : Done) (place clock now : ℕ) (bytes : List ℕ) (old new : Shelf) (here : shelf_is_lent old ≡ false) (still : last_done old ≤ clock) (later : clock < now) (does : Does done (shelf_bytes old) (patched place bytes (shelf_bytes old))) (notes : ShelfNotes now done place bytes old new) where

@@ -42,13 +42,17 @@ follows_then a b c so_far step all le f k s first then t from to z left = elim (
 
 -- No call leaves a device alone.
 pub stays_here : (a : Standing) → Stays a a
-stays_here a = record { bytes = refl; images = follows_here a Same (λ b now. refl); faults = refl }
+stays_here a = record { bytes = refl; images = follows_here a Same (λ b now. refl); all = λ t from to c was. let here : t ≡ a.clock = omega arith in subst (λ (s : ℕ). a.images s c) (sym here) was; faults = refl }
 
 -- Two calls leave a device alone that each of them leaves alone.
 pub stays_trans : (a b c : Standing) → Stays a b → Kept a b → Kept b c → Stays b c → Stays a c
 stays_trans a b c x past k y = record {
   bytes = y.bytes ∙ x.bytes;
   images = follows_then a b c Same Same Same past.later x.images k y.images (λ p q here e. e) (λ p q r here there e e2. e2 ∙ e);
+  all = λ t from to e was. elim (cases_lt t b.clock) [
+    | inl early ↦ k.all t (omega (arith, early)) (omega (arith, early)) e (x.all t from (omega (arith, early)) e was)
+    | inr late ↦ y.all t late to e (x.all b.clock past.later (omega arith) e was)
+  ];
   faults = y.faults ∙ x.faults;
 }
 

@@ -13,7 +13,7 @@ kept_still a b d = record { later = omega arith; still = λ none. refl; same = �
 
 -- a device whose bytes and count are as before
 pub stays_still : (a b : Contents) (d : Device) → b.bytes d ≡ a.bytes d → b.faults d ≡ a.faults d → Stays (on (still a) d) (on (still b) d)
-stays_still a b d bytes faults = record { bytes = bytes; images = λ t from to c now. (a.bytes d, refl, now ∙ bytes); faults = faults }
+stays_still a b d bytes faults = record { bytes = bytes; images = λ t from to c now. (a.bytes d, refl, now ∙ bytes); all = λ t from to c was. was ∙ sym bytes; faults = faults }
 
 site_still : (among : Device → Type 0) (a b : Contents) → AgreesBut among a b → SameSite (still a) (still b)
 site_still among a b agrees = record { journals = agrees.journals; volumes = agrees.volumes; lengths = agrees.lengths }
@@ -67,6 +67,7 @@ lends_still tells v a b bytes length_is faults agrees lent is_lent kept size cou
   clock = refl;
   length_is = size;
   faults = count;
+  keeps_past = λ told begun. absurd (omega (arith, begun));
   same_faults = kept;
   bytes = same;
   images = λ told c now. now ∙ same told;

@@ -12,6 +12,12 @@ IsThere plant (Journal j) = j < plant.journals
 IsThere plant (Volume v) = (v < plant.volumes) × (plant.is_lent v ≡ false)
 IsThere plant d = Unit {0}
 
+-- a device of the plant, also a volume that is lent
+abbrev pub IsPart : PlantState → Device → Type 0
+IsPart plant (Journal j) = j < plant.journals
+IsPart plant (Volume v) = v < plant.volumes
+IsPart plant d = Unit {0}
+
 abbrev pub NoneLent : PlantState → Type 0
 NoneLent plant = (v : ℕ) → v < plant.volumes → plant.is_lent v ≡ false
 
@@ -101,6 +107,8 @@ pub record Lends (tells : Type 0) (v : ℕ) (old new : PlantState) (volume : Sta
   pub since : new.lent_since v ≡ old.clock + 1
   pub lent : Kept (new.lent v) volume
   pub clock : (new.lent v).clock ≡ volume.clock
+  -- The volume of a plant that keeps its past keeps its own.
+  pub keeps_past : tells → 0 < old.clock → 0 < volume.clock
   pub length_is : volume.length_is ≡ old.lengths (Volume v)
   pub faults : volume.faults ≡ old.faults (Volume v)
   pub same_faults : new.faults (Volume v) ≡ old.faults (Volume v)

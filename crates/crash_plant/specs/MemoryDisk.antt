@@ -1,5 +1,5 @@
 -- A disk in memory that keeps its past.
-use Rattle.std.specs.Prelude.{◌≡◌, ◌++◌, ℕ, List, [], ◌∷◌, map}
+use Rattle.std.specs.Prelude.{◌≡◌, ◌++◌, ◌<◌, ℕ, List, [], ◌∷◌, map, vec_len, vec_capacity}
 use Rattle.crash_plant.specs.declared.entry.Done.{Done}
 use Rattle.crash_plant.specs.declared.memory_disk.MemoryDisk.{MemoryDisk}
 use Rattle.crash_plant.specs.Bytes.{patched}
@@ -15,6 +15,10 @@ first_held disk = disk.base.value.bytes.items
 
 abbrev pub past_of : MemoryDisk → List Note
 past_of disk = map note_of disk.log.items
+
+-- The record has room for one more call.
+abbrev pub HasRoom : MemoryDisk → Type 0
+HasRoom disk = vec_len disk.log < vec_capacity disk.log
 
 -- A call is noted that wrote these bytes.
 pub record Notes (now : ℕ) (done : Done) (place : ℕ) (bytes : List ℕ) (old new : MemoryDisk) : Type 0 where

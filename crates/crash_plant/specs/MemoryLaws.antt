@@ -1,7 +1,8 @@
--- What a read gives is an image, and as long as its device.
+-- What a read gives is an image, and as long as its device. At each moment a crash leaves something.
 use Rattle.std.specs.Prelude.{◌≡◌, ◌≤◌, ℕ, zero, suc, false, List, [], ◌∷◌, length, refl}
-use mathlib.Core.Logic.{inr}
+use mathlib.Core.Logic.{inl, inr}
 use Rattle.std.proofs.Math.Nat.{le_refl, le_trans}
+use Rattle.std.proofs.lemmas.Bool.{cases_lt}
 use Rattle.crash_plant.specs.declared.device.Device.{Device}
 use Rattle.crash_plant.specs.declared.device.Device.TheVariants.{Control, State, Journal, Volume}
 use Rattle.crash_plant.specs.declared.entry.Done.{Done}
@@ -55,6 +56,38 @@ plant_read_is_image plant Control there = disk_image plant.disks.control (clock_
 plant_read_is_image plant State there = disk_image plant.disks.state (clock_of plant.ticks) (plant.done State)
 plant_read_is_image plant (Journal j) there = journal_image plant.disks.journals.items j (clock_of plant.ticks) (plant.done (Journal j))
 plant_read_is_image plant (Volume v) there = shelf_image plant.disks.volumes.items v (clock_of plant.ticks) there.1 (plant.done (Volume v))
+
+-- Each call is done by a moment, or isn't.
+reaches : (t since till : ℕ) (past : List Note) (b now : List ℕ) → InTime since till past → Chains b past now → (c : List ℕ) × Reach t past b c
+reaches t since till [] b now times chains = (b, refl)
+reaches t since till (n ∷ past) b now times chains = elim (cases_lt t n.till) [
+  | inl early ↦ (b, inl (early, refl))
+  | inr late ↦
+      let rest = reaches t n.since n.till past n.after now times.4 chains.1 in
+      (rest.0, inr (n.after, le_trans times.3 late, does_step n.done b n.after chains.0, rest.1))
+]
+
+disk_has_image : (disk : MemoryDisk) (t : ℕ) → (c : List ℕ) × Reach t (past_of disk) (first_held disk) c
+disk_has_image disk t = reaches t 0 0 (past_of disk) (first_held disk) (held disk) disk.in_time disk.chained
+
+journal_has_image : (disks : List MemoryDisk) (j t : ℕ) → (c : List ℕ) × shelf_images (seen_at Here (Away 0) disks j) t c
+journal_has_image [] j t = ([], refl)
+journal_has_image (disk ∷ disks) zero t = disk_has_image disk t
+journal_has_image (disk ∷ disks) (suc j) t = journal_has_image disks j t
+
+-- A volume that is lent has the images that it had then.
+shelf_has_image : (shelves : List Shelf) (v t : ℕ) → (c : List ℕ) × shelf_images (seen_at (λ shelf. shelf) (Away 0) shelves v) t c
+shelf_has_image [] v t = ([], refl)
+shelf_has_image ((Here disk) ∷ shelves) zero t = disk_has_image disk t
+shelf_has_image ((Lent n at was) ∷ shelves) zero t = disk_has_image was.value t
+shelf_has_image ((Away n) ∷ shelves) zero t = ([], refl)
+shelf_has_image (shelf ∷ shelves) (suc v) t = shelf_has_image shelves v t
+
+pub plant_has_image : (plant : MemoryPlant) (d : Device) (t : ℕ) → (c : List ℕ) × (memory_state plant).images t d c
+plant_has_image plant Control t = disk_has_image plant.disks.control t
+plant_has_image plant State t = disk_has_image plant.disks.state t
+plant_has_image plant (Journal j) t = journal_has_image plant.disks.journals.items j t
+plant_has_image plant (Volume v) t = shelf_has_image plant.disks.volumes.items v t
 
 journal_length : (disks : List MemoryDisk) (j : ℕ) → length (shelf_bytes (seen_at Here (Away 0) disks j)) ≡ shelf_length (seen_at Here (Away 0) disks j)
 journal_length [] j = refl

@@ -62,10 +62,15 @@ Follows step old new = (t : ℕ) → old.clock ≤ t → t ≤ new.clock → (c 
 abbrev pub Same : List ℕ → List ℕ → Type 0
 Same b c = c ≡ b
 
+-- At every moment from the one on at which calls began, a crash may leave whatever it could leave then.
+abbrev pub Stands : Standing → Standing → Type 0
+Stands old new = (t : ℕ) → old.clock ≤ t → t ≤ new.clock → (c : List ℕ) → old.images old.clock c → new.images t c
+
 -- a device that a call leaves alone
 pub record Stays (old new : Standing) : Type 0 where
   pub bytes : new.bytes ≡ old.bytes
   pub images : Follows Same old new
+  pub all : Stands old new
   pub faults : new.faults ≡ old.faults
 
 -- a crash now leaves what a read gives

@@ -8,7 +8,7 @@ use Rattle.crash_plant.specs.declared.shelf.Shelf.TheVariants.{Here}
 use Rattle.crash_plant.specs.Bytes.{Torn}
 use Rattle.crash_plant.specs.Clock.{clock_of, last_tick}
 use Rattle.crash_plant.specs.MemoryDisk.{Moves}
-use Rattle.crash_plant.specs.Moments.{Same, Standing}
+use Rattle.crash_plant.specs.Moments.{Same, Standing, Stands}
 use Rattle.crash_plant.specs.Shelves.{shelf_bytes, shelf_images, shelf_is_lent, shelf_length}
 
 -- what a call that does this may change
@@ -29,17 +29,24 @@ pub record Passes (step : List ℕ → List ℕ → Type 0) (clock now : ℕ) (o
 abbrev pub DiskPasses : (List ℕ → List ℕ → Type 0) → ℕ → ℕ → MemoryDisk → MemoryDisk → Type 0
 DiskPasses step clock now old new = Passes step clock now (Here old) (Here new)
 
+-- A crash may leave whatever it could leave when the call began: what was open stays open.
+abbrev pub ShelfStands : (clock now : ℕ) → Shelf → Shelf → Type 0
+ShelfStands clock now old new = (t : ℕ) → clock ≤ t → t ≤ now → (c : List ℕ) → shelf_images old clock c → shelf_images new t c
+
 -- A write opens its range: a crash may leave any bytes there, over each image that it could leave before.
 abbrev pub Opens : (place count : ℕ) → Standing → Standing → Type 0
 Opens place count old new = (b c : List ℕ) → old.images old.clock b → Torn place count b c → new.images new.clock c
 
--- A write that failed has opened its range, or changed nothing.
+-- A write that failed has opened its range, or changed nothing: neither the bytes, nor what a crash may leave.
 abbrev pub OpensOrNot : (place count : ℕ) → Standing → Standing → Type 0
-OpensOrNot place count old new = (new.bytes ≡ old.bytes) ⊎ Opens place count old new
+OpensOrNot place count old new = ((new.bytes ≡ old.bytes) × Stands old new) ⊎ Opens place count old new
 
 abbrev pub ShelfOpens : Done → (clock now : ℕ) → Shelf → Shelf → Type 0
 ShelfOpens (Write place count) clock now old new = (b c : List ℕ) → shelf_images old clock b → Torn place count b c → shelf_images new now c
 ShelfOpens Sync clock now old new = Unit {0}
+
+abbrev pub DiskStands : (clock now : ℕ) → MemoryDisk → MemoryDisk → Type 0
+DiskStands clock now old new = ShelfStands clock now (Here old) (Here new)
 
 abbrev pub DiskOpens : Done → (clock now : ℕ) → MemoryDisk → MemoryDisk → Type 0
 DiskOpens done clock now old new = ShelfOpens done clock now (Here old) (Here new)

@@ -6,7 +6,7 @@ use Rattle.crash_plant.specs.declared.shelf.Shelf.{Shelf}
 use Rattle.crash_plant.specs.declared.shelf.Shelf.TheVariants.{Here, Lent, Away}
 use Rattle.crash_plant.specs.Bytes.{patched}
 use Rattle.crash_plant.specs.Clock.{clock_of}
-use Rattle.crash_plant.specs.MemoryDisk.{held, first_held, past_of}
+use Rattle.crash_plant.specs.MemoryDisk.{HasRoom, held, first_held, past_of}
 use Rattle.crash_plant.specs.Moments.{Standing}
 use Rattle.crash_plant.specs.Pasts.{Note, Reach, last_till}
 use Rattle.crash_plant.specs.Still.{unknown}
@@ -85,3 +85,9 @@ pub record ShelfAlike (old new : Shelf) : Type 0 where
   pub base : shelf_base new ≡ shelf_base old
   pub past : shelf_past new ≡ shelf_past old
   pub here : shelf_is_lent new ≡ false
+
+-- The record of a device that is here has room for one more call.
+abbrev pub ShelfRoom : Shelf → Type 0
+ShelfRoom (Here disk) = HasRoom disk
+ShelfRoom (Lent n at was) = ⊥
+ShelfRoom (Away n) = ⊥

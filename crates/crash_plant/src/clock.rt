@@ -34,6 +34,7 @@ pub(crate) fn back(ticks: u64, lent: u64) -> u64
     ensures later { ticks ≤ result }
     ensures behind { lent + 1 ≤ result }
     ensures within { result ≤ last_tick }
+    ensures by_one { lent ≤ ticks → result ≤ ticks + 1 }
 {
     if ticks < LAST {
         (ticks + 1).max(lent + 1)

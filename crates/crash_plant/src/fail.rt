@@ -1,12 +1,13 @@
 use crate::Device;
 use xrc_edge::List;
 
-/// A call that fails in a `MemoryPlant`.
+/// A call that fails in a `MemoryPlant`. One at a device that isn't there is never met.
 #[derive(Clone, Copy, Debug, PartialEq, Eq)]
 pub struct Fail {
     /// The device; None stands for the console.
     pub at: Option<Device>,
-    /// From so many bytes said on, the calls of `read`, `write`, `sync`, `hear` and `say` on it are counted.
+    /// From so many bytes said on, the calls of `read`, `write`, `sync`, `hear` and `say` on it are counted. A volume that is
+    /// lent goes by what was said when it was lent.
     pub said: u64,
     /// The number of the call that fails, counted from 0.
     pub call: u64,

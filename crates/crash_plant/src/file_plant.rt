@@ -103,6 +103,8 @@ impl<R: Read + Drop, W: Write + Drop> Plant for FilePlant<R, W> {
 
     ghost read_is_image = { λ plant d none. absurd none };
 
+    ghost has_image = { λ plant d t none. absurd none };
+
     ghost length_told = { λ plant d none. absurd none };
 
     fn journals(&self) -> u16 {

@@ -1,4 +1,4 @@
-ghost use Rattle.std.specs.Prelude.{◌≡◌, ◌≤◌, ◌++◌, [], ◌∷◌, length, IfOk, OnErr, OnOk};
+ghost use Rattle.std.specs.Prelude.{◌≡◌, ◌≤◌, ◌++◌, [], ◌∷◌, length, IfOk, IsOk, OnErr, OnOk};
 ghost use Rattle.crash_plant.specs.Turns.{InTurn, InTurn-prop, last_turn};
 
 use crate::Heard;
@@ -84,6 +84,7 @@ impl MemoryConsole {
     pub(crate) fn hear(&mut self, now: u64) -> Result<Heard, NoMemory>
         requires { last_told self.old ≤ now }
         ensures ok { IfOk result (λ heard. IsNext now self.old self.new heard) }
+        ensures end { left_to_hear self.old ≡ [] → IsOk result }
         ensures err { OnErr result (SameConsole self.old self.new) }
     {
         let script = self.script.as_slice();

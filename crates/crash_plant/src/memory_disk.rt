@@ -1,4 +1,4 @@
-ghost use Rattle.std.specs.Prelude.{◌≡◌, ◌<◌, ◌≤◌, ◌+◌, ◌++◌, [], ◌∷◌, length, map, slice_range, IfOk, OnErr, OnOk};
+ghost use Rattle.std.specs.Prelude.{◌≡◌, ◌<◌, ◌≤◌, ◌+◌, ◌++◌, [], ◌∷◌, length, map, slice_range, vec_len, vec_capacity, IfOk, IsOk, OnErr, OnOk};
 ghost use Rattle.crash_plant.specs.Bytes.{patched};
 ghost use Rattle.crash_plant.specs.Left.{left_of};
 ghost use Rattle.crash_plant.specs.Pasts.{Chains, Chains-prop, Does, InTime, InTime-prop, last_till, moved, moved_entry, note_of};
@@ -35,6 +35,7 @@ fn note(
     ensures noted { OnOk result (map note_of log.new.items ≡ map note_of log.old.items ++ record { since = now; till = now; done = done; after = disk.new.bytes.items } ∷ []) }
     ensures same { OnErr result (disk.new.bytes.items ≡ disk.old.bytes.items) }
     ensures same_log { OnErr result (map note_of log.new.items ≡ map note_of log.old.items) }
+    ensures room { vec_len log.old < vec_capacity log.old → IsOk result }
 {
     log.reserve(1)?;
     patch(&mut disk.bytes, place as usize, bytes);
@@ -74,7 +75,7 @@ fn copied(alloc: Global, bytes: &[u8]) -> Result<Vec<u8>, NoMemory>
 }
 
 impl MemoryDisk {
-    ghost use Rattle.crash_plant.specs.MemoryDisk.{Alike, Moves, Notes, first_held, held, past_of};
+    ghost use Rattle.crash_plant.specs.MemoryDisk.{Alike, HasRoom, Moves, Notes, first_held, held, past_of};
 
     /// A disk without a past.
     pub(crate) fn new(alloc: Global, disk: PlainDisk) -> MemoryDisk
@@ -115,6 +116,7 @@ impl MemoryDisk {
         requires does { Does done (held self.old) (patched place bytes.now (held self.old)) }
         ensures ok { OnOk result (Notes now done place bytes.now self.old self.new) }
         ensures err { OnErr result (Alike self.old self.new) }
+        ensures room { HasRoom self.old → IsOk result }
     {
         note(&mut self.disk, &mut self.log, now, done, place, bytes)
     }

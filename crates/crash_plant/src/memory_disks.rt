@@ -1,10 +1,10 @@
-ghost use Rattle.std.specs.Prelude.{◌≡◌, ◌≢◌, ◌<◌, ◌≤◌, ◌+◌, ℕ, [], length, slice_range, OnErr, OnOk, IfOk};
+ghost use Rattle.std.specs.Prelude.{◌≡◌, ◌≢◌, ◌<◌, ◌≤◌, ◌+◌, ℕ, [], length, slice_range, OnErr, OnOk, IfOk, IsOk};
 ghost use Rattle.crash_plant.specs.Bytes.{patched};
 ghost use Rattle.crash_plant.specs.Pasts.{Does};
 ghost use Rattle.crash_plant.specs.Devices.{seen_at, seen_of};
 ghost use Rattle.crash_plant.specs.Fresh.{absent, fresh_disk, fresh_of, fresh_place};
 ghost use Rattle.crash_plant.specs.Remains.{disk_remains, nothing, place_remains, remains_here, remains_of};
-ghost use Rattle.crash_plant.specs.Shelves.{IsLentAs, IsNow, ShelfAlike, ShelfNotes, last_done, lent_at, shelf_bytes, shelf_length};
+ghost use Rattle.crash_plant.specs.Shelves.{IsLentAs, IsNow, ShelfAlike, ShelfNotes, ShelfRoom, last_done, lent_at, shelf_bytes, shelf_length};
 ghost use Rattle.crash_plant.specs.declared.device.Device.{Device};
 ghost use Rattle.crash_plant.specs.declared.device.Device.TheVariants.{Volume};
 ghost use Rattle.crash_plant.specs.declared.shelf.Shelf.TheVariants.{Here};
@@ -183,6 +183,7 @@ impl MemoryDisks {
         requires does { Does done (shelf_bytes (view self.old device)) (patched place bytes.now (shelf_bytes (view self.old device))) }
         ensures ok { OnOk result (ShelfNotes now done place bytes.now (view self.old device) (view self.new device)) }
         ensures err { OnErr result (ShelfAlike (view self.old device) (view self.new device)) }
+        ensures room { ShelfRoom (view self.old device) → IsOk result }
         ensures others { (d : Device) → d ≢ device → view self.new d ≡ view self.old d }
         ensures journals { journals_of self.new ≡ journals_of self.old }
         ensures volumes { volumes_of self.new ≡ volumes_of self.old }

@@ -1,18 +1,18 @@
-ghost use Rattle.std.specs.Prelude.{◌≡◌, ◌≢◌, ◌↔◌, ◌≤◌, ◌<◌, ◌+◌, ◌++◌, ◌^◌, ◌||◌, [], length, slice_range, IfOk, IsErr, IsTrue, OnErr, OnOk};
+ghost use Rattle.std.specs.Prelude.{false, ◌≡◌, ◌≢◌, ◌↔◌, ◌≤◌, ◌<◌, ◌+◌, ◌++◌, ◌^◌, ◌||◌, [], length, slice_range, IfOk, IsErr, IsTrue, OnErr, OnOk};
 ghost use Rattle.xrc_edge.specs.Causes.{HasCause};
 ghost use Rattle.crash_plant.specs.Bytes.{patched, Torn};
 ghost use Rattle.crash_plant.specs.Choices.{IsChoice};
 ghost use Rattle.crash_plant.specs.Clock.{clock_of, is_at_end, last_tick};
-ghost use Rattle.crash_plant.specs.MemoryConsole.{IsNext, SameConsole as SameRecord, Utters, last_told};
+ghost use Rattle.crash_plant.specs.MemoryConsole.{IsNext, SameConsole as SameRecord, Utters, last_told, left_to_hear};
 ghost use Rattle.crash_plant.specs.MemoryDisks.{IsHome, SameSizes, journals_of, view, volumes_of};
-ghost use Rattle.crash_plant.specs.Moments.{Follows, IsDurable, Raises, Same, on};
-ghost use Rattle.crash_plant.specs.Calls.{Hears, HearsNothing, IsLentOne, IsThere, Lends, Listens, NoneLent, SameSite, Says, TakesBack, WorksOn, WorksOnConsole};
+ghost use Rattle.crash_plant.specs.Moments.{Follows, IsDurable, Raises, Same, Stands, on};
+ghost use Rattle.crash_plant.specs.Calls.{Hears, HearsNothing, IsLentOne, IsPart, IsThere, Lends, Listens, NoneLent, SameSite, Says, TakesBack, WorksOn, WorksOnConsole};
 ghost use Rattle.crash_plant.specs.Left.{left_of};
 ghost use Rattle.crash_plant.specs.Made.{IsSilent, SameConsole, SameDevices};
-ghost use Rattle.crash_plant.specs.Passes.{IsSynced, Opens, OpensOrNot, Passes, ShelfOpens, step_of};
+ghost use Rattle.crash_plant.specs.Passes.{IsSynced, Opens, OpensOrNot, Passes, ShelfOpens, ShelfStands, step_of};
 ghost use Rattle.crash_plant.specs.Pasts.{Does};
 ghost use Rattle.crash_plant.specs.PlainPlant.{plain_state};
-ghost use Rattle.crash_plant.specs.Shelves.{last_done, lent_at, shelf_bytes, shelf_length, shelf_past};
+ghost use Rattle.crash_plant.specs.Shelves.{ShelfRoom, last_done, lent_at, shelf_bytes, shelf_length, shelf_past};
 ghost use Rattle.crash_plant.specs.declared.device.Device.{Device};
 ghost use Rattle.crash_plant.specs.declared.device.Device.TheVariants.{Volume};
 
@@ -109,7 +109,7 @@ impl MemoryPlant {
         requires { NoneLent (memory_state self.now) }
         ensures site { IfOk result (λ plant. SameSite (memory_state self.now) (plain_state plant)) }
         ensures images { IfOk result (λ plant. IsChoice (memory_state self.now) (memory_state self.now).clock (plain_state plant).bytes) }
-        ensures chosen { IfOk result (λ plant. (d : Device) → IsThere (memory_state self.now) d → (plain_state plant).bytes d ≡ left_of choice.now (shelf_past (view self.now.disks d)) ((memory_state self.now).bytes d)) }
+        ensures chosen { IfOk result (λ plant. (d : Device) → IsPart (memory_state self.now) d → (plain_state plant).bytes d ≡ left_of choice.now (shelf_past (view self.now.disks d)) ((memory_state self.now).bytes d)) }
         ensures none_lent { IfOk result (λ plant. NoneLent (plain_state plant)) }
         ensures console { IfOk result (λ plant. IsSilent (plain_state plant)) }
     {
@@ -133,7 +133,10 @@ impl MemoryPlant {
         ensures durable { OnOk result (IsSynced done (clock_of self.new.ticks) (view self.new.disks device)) }
         ensures opens { OnOk result (ShelfOpens done (clock_of self.old.ticks) (clock_of self.new.ticks) (view self.old.disks device) (view self.new.disks device)) }
         ensures same { OnErr result (shelf_bytes (view self.new.disks device) ≡ shelf_bytes (view self.old.disks device)) }
+        ensures stands { OnErr result (ShelfStands (clock_of self.old.ticks) (clock_of self.new.ticks) (view self.old.disks device) (view self.new.disks device)) }
         ensures clock { OnOk result (self.new.ticks ≡ self.old.ticks + 1) }
+        ensures by_one { self.new.ticks ≤ self.old.ticks + 1 }
+        ensures room { ShelfRoom (view self.old.disks device) → IsErr result → IsTrue (is_at_end self.old.ticks) }
         ensures others { (d : Device) → d ≢ device → view self.new.disks d ≡ view self.old.disks d }
         ensures sizes { SameSizes self.old.disks self.new.disks }
         ensures console { self.new.console ≡ self.old.console }
@@ -159,6 +162,7 @@ impl MemoryPlant {
         requires done { last_till 0 (past_of disk) ≤ clock_of ticks }
         ensures here { Shelves ticks (lent_at (view self.old.disks (Volume device))) self.old.ticks self.new.ticks disk (view self.new.disks (Volume device)) }
         ensures others { (d : Device) → d ≢ Volume device → view self.new.disks d ≡ view self.old.disks d }
+        ensures by_one { self.new.ticks ≤ self.old.ticks + 1 }
         ensures later { self.old.ticks ≤ self.new.ticks }
         ensures sizes { SameSizes self.old.disks self.new.disks }
         ensures console { self.new.console ≡ self.old.console }
@@ -180,6 +184,7 @@ impl MemoryPlant {
         ensures ok { OnOk result (Utters (clock_of self.new.ticks) bytes.now self.old.console self.new.console) }
         ensures err { OnErr result (SameRecord self.old.console self.new.console) }
         ensures clock { OnOk result (self.new.ticks ≡ self.old.ticks + 1) }
+        ensures by_one { self.new.ticks ≤ self.old.ticks + 1 }
         ensures later { self.old.ticks ≤ self.new.ticks }
         ensures disks { self.new.disks ≡ self.old.disks }
         ensures plans { self.new.plans ≡ self.old.plans }
@@ -196,8 +201,10 @@ impl MemoryPlant {
     // Hears and raises the clock. Where it can't, nothing is heard.
     fn attend(&mut self) -> Result<Heard, Failed>
         ensures ok { IfOk result (λ heard. IsNext (clock_of self.new.ticks) self.old.console self.new.console heard) }
+        ensures end { left_to_hear self.old.console ≡ [] → IsErr result → IsTrue (is_at_end self.old.ticks) }
         ensures err { OnErr result (SameRecord self.old.console self.new.console) }
         ensures clock { OnOk result (self.new.ticks ≡ self.old.ticks + 1) }
+        ensures by_one { self.new.ticks ≤ self.old.ticks + 1 }
         ensures later { self.old.ticks ≤ self.new.ticks }
         ensures disks { self.new.disks ≡ self.old.disks }
         ensures plans { self.new.plans ≡ self.old.plans }
@@ -215,7 +222,7 @@ impl MemoryPlant {
 #[tactic(auto, using(crate::proofs::Memories::home_of))]
 impl Plant for MemoryPlant {
     ghost use Rattle.crash_plant.specs.MemoryPlant.{CountsCall, CountsConsoleCall, LendsPlan, TakesPlanBack, console_fails_by_plan, fails_by_plan, memory_state};
-    ghost use Rattle.crash_plant.specs.MemoryLaws.{plant_length_told, plant_read_is_image};
+    ghost use Rattle.crash_plant.specs.MemoryLaws.{plant_has_image, plant_length_told, plant_read_is_image};
     ghost use Rattle.crash_plant.specs.MemoryVolume.{volume_standing};
 
     type Volume = MemoryVolume;
@@ -225,6 +232,8 @@ impl Plant for MemoryPlant {
     ghost tells = { Unit {0} };
 
     ghost read_is_image = { λ plant d told there. plant_read_is_image plant d there };
+
+    ghost has_image = { λ plant d t told part up. plant_has_image plant d t };
 
     ghost length_told = { λ plant d told there. plant_length_told plant d there };
 
@@ -246,11 +255,13 @@ impl Plant for MemoryPlant {
         ensures bytes { OnOk result (into.new ≡ slice_range ((memory_state self.old).bytes device) place (place + length into.old)) }
         ensures same { (memory_state self.new).bytes device ≡ (memory_state self.old).bytes device }
         ensures moments { Follows Same (on (memory_state self.old) device) (on (memory_state self.new) device) }
+        ensures stands { Stands (on (memory_state self.old) device) (on (memory_state self.new) device) }
         ensures clock { OnOk result (Raises (memory_state self.old).clock (memory_state self.new).clock) }
         ensures only { WorksOn (Unit {0}) (λ d. d ≡ device) (memory_state self.old) (memory_state self.new) }
         ensures cause { HasCause ((memory_state self.old).faults device) ((memory_state self.new).faults device) result }
         ensures planned { IsErr result ↔ IsTrue (fails_by_plan self.old device || is_at_end self.old.ticks) }
         ensures counted { CountsCall device self.old self.new }
+        ensures by_one { self.new.ticks ≤ self.old.ticks + 1 }
     {
         let said = self.said_so_far();
         self.plans.meet(device, said)?;
@@ -274,6 +285,9 @@ impl Plant for MemoryPlant {
         ensures cause { HasCause ((memory_state self.old).faults device) ((memory_state self.new).faults device) result }
         ensures planned { IsTrue (fails_by_plan self.old device) → IsErr result }
         ensures counted { CountsCall device self.old self.new }
+        ensures room { ShelfRoom (view self.old.disks device) → IsErr result → IsTrue (fails_by_plan self.old device || is_at_end self.old.ticks) }
+        ensures room_opens { ShelfRoom (view self.old.disks device) → is_at_end self.old.ticks ≡ false → Opens place (length bytes.now) (on (memory_state self.old) device) (on (memory_state self.new) device) }
+        ensures by_one { self.new.ticks ≤ self.old.ticks + 1 }
     {
         let said = self.said_so_far();
         let done = Done::Write {
@@ -298,11 +312,14 @@ impl Plant for MemoryPlant {
         ensures durable { OnOk result (IsDurable (on (memory_state self.new) device)) }
         ensures same { (memory_state self.new).bytes device ≡ (memory_state self.old).bytes device }
         ensures moments { Follows Same (on (memory_state self.old) device) (on (memory_state self.new) device) }
+        ensures stands { OnErr result (Stands (on (memory_state self.old) device) (on (memory_state self.new) device)) }
         ensures clock { OnOk result (Raises (memory_state self.old).clock (memory_state self.new).clock) }
         ensures only { WorksOn (Unit {0}) (λ d. d ≡ device) (memory_state self.old) (memory_state self.new) }
         ensures cause { HasCause ((memory_state self.old).faults device) ((memory_state self.new).faults device) result }
         ensures planned { IsTrue (fails_by_plan self.old device) → IsErr result }
         ensures counted { CountsCall device self.old self.new }
+        ensures room { ShelfRoom (view self.old.disks device) → IsErr result → IsTrue (fails_by_plan self.old device || is_at_end self.old.ticks) }
+        ensures by_one { self.new.ticks ≤ self.old.ticks + 1 }
     {
         let said = self.said_so_far();
         self.plans.meet(device, said)?;
@@ -319,8 +336,10 @@ impl Plant for MemoryPlant {
         ensures clock { OnOk result (Raises (memory_state self.old).clock (memory_state self.new).clock) }
         ensures only { WorksOnConsole (Unit {0}) (memory_state self.old) (memory_state self.new) }
         ensures cause { HasCause (memory_state self.old).console_faults (memory_state self.new).console_faults result }
+        ensures end { (memory_state self.old).script ≡ [] → IsErr result → IsTrue (console_fails_by_plan self.old || is_at_end self.old.ticks) }
         ensures planned { IsTrue (console_fails_by_plan self.old) → IsErr result }
         ensures counted { CountsConsoleCall self.old self.new }
+        ensures by_one { self.new.ticks ≤ self.old.ticks + 1 }
     {
         let said = self.said_so_far();
         self.plans.meet_console(said)?;
@@ -341,6 +360,7 @@ impl Plant for MemoryPlant {
         ensures cause { HasCause (memory_state self.old).console_faults (memory_state self.new).console_faults result }
         ensures planned { IsTrue (console_fails_by_plan self.old) → IsErr result }
         ensures counted { CountsConsoleCall self.old self.new }
+        ensures by_one { self.new.ticks ≤ self.old.ticks + 1 }
     {
         let said = self.said_so_far();
         match self.plans.meet_console(said) {
@@ -361,6 +381,7 @@ impl Plant for MemoryPlant {
         ensures tells { Unit {0} }
         ensures lent { Lends (Unit {0}) device (memory_state self.old) (memory_state self.new) (volume_standing result) }
         ensures planned { LendsPlan device self.old self.new result }
+        ensures by_one { self.new.ticks ≤ self.old.ticks + 1 }
     {
         let said = self.said_so_far();
         MemoryVolume {
@@ -376,6 +397,7 @@ impl Plant for MemoryPlant {
         requires { IsLentOne (Unit {0}) device (memory_state self.old) (volume_standing volume) }
         ensures back { TakesBack (Unit {0}) device (memory_state self.old) (memory_state self.new) (volume_standing volume) }
         ensures planned { TakesPlanBack device self.old self.new volume }
+        ensures by_one { self.new.ticks ≤ self.old.ticks + 1 }
     {
         let MemoryVolume {
             disk,

@@ -1,9 +1,9 @@
-ghost use Rattle.std.specs.Prelude.{◌≡◌, ◌↔◌, ◌≤◌, ◌+◌, ◌/◌, ◌||◌, length, slice_range, take, IsErr, IsTrue, OnErr, OnOk};
+ghost use Rattle.std.specs.Prelude.{false, ◌≡◌, ◌↔◌, ◌≤◌, ◌+◌, ◌/◌, ◌||◌, length, slice_range, take, IsErr, IsTrue, OnErr, OnOk};
 ghost use Rattle.xrc_edge.specs.Causes.{HasCause};
 ghost use Rattle.crash_plant.specs.Bytes.{patched, Torn};
 ghost use Rattle.crash_plant.specs.Clock.{clock_of, is_at_end, last_tick};
-ghost use Rattle.crash_plant.specs.MemoryDisk.{held, past_of};
-ghost use Rattle.crash_plant.specs.Moments.{Follows, IsDurable, Kept, Raises, Same};
+ghost use Rattle.crash_plant.specs.MemoryDisk.{HasRoom, held, past_of};
+ghost use Rattle.crash_plant.specs.Moments.{Follows, IsDurable, Kept, Raises, Same, Stands};
 ghost use Rattle.crash_plant.specs.Pasts.{Does, last_till};
 
 use crate::Disk;
@@ -36,7 +36,7 @@ pub(crate) fn front(bytes: &[u8]) -> &[u8]
 }
 
 impl MemoryVolume {
-    ghost use Rattle.crash_plant.specs.Passes.{DiskOpens, DiskPasses, IsSyncDone, step_of};
+    ghost use Rattle.crash_plant.specs.Passes.{DiskOpens, DiskPasses, DiskStands, IsSyncDone, step_of};
 
     // Does a call and raises the clock. Where it can't, nothing is done.
     fn note(&mut self, done: Done, place: u64, bytes: &[u8]) -> Result<(), Failed>
@@ -48,6 +48,9 @@ impl MemoryVolume {
         ensures durable { OnOk result (IsSyncDone done (clock_of self.new.ticks) self.new.disk) }
         ensures opens { OnOk result (DiskOpens done (clock_of self.old.ticks) (clock_of self.new.ticks) self.old.disk self.new.disk) }
         ensures same { OnErr result (held self.new.disk ≡ held self.old.disk) }
+        ensures stands { OnErr result (DiskStands (clock_of self.old.ticks) (clock_of self.new.ticks) self.old.disk self.new.disk) }
+        ensures by_one { self.new.ticks ≤ self.old.ticks + 1 }
+        ensures room { HasRoom self.old.disk → IsErr result → IsTrue (is_at_end self.old.ticks) }
         ensures plan { self.new.plan ≡ self.old.plan }
         ensures said { self.new.said ≡ self.old.said }
         ensures stopped { self.new.is_stopped ≡ self.old.is_stopped }
@@ -87,11 +90,13 @@ impl Disk for MemoryVolume {
         ensures same { (volume_standing self.new).bytes ≡ (volume_standing self.old).bytes }
         ensures past { Kept (volume_standing self.old) (volume_standing self.new) }
         ensures moments { Follows Same (volume_standing self.old) (volume_standing self.new) }
+        ensures stands { Stands (volume_standing self.old) (volume_standing self.new) }
         ensures clock { OnOk result (Raises (volume_standing self.old).clock (volume_standing self.new).clock) }
         ensures length { (volume_standing self.new).length_is ≡ (volume_standing self.old).length_is }
         ensures cause { HasCause (volume_standing self.old).faults (volume_standing self.new).faults result }
         ensures planned { IsErr result ↔ IsTrue (volume_fails_by_plan self.old || is_at_end self.old.ticks) }
         ensures counted { CountsOwnCall self.old self.new }
+        ensures by_one { self.new.ticks ≤ self.old.ticks + 1 }
     {
         self.plan.meet(self.said, &mut self.is_stopped)?;
         if !raise(&mut self.ticks) {
@@ -115,6 +120,9 @@ impl Disk for MemoryVolume {
         ensures cause { HasCause (volume_standing self.old).faults (volume_standing self.new).faults result }
         ensures planned { IsTrue (volume_fails_by_plan self.old) → IsErr result }
         ensures counted { CountsOwnCall self.old self.new }
+        ensures room { HasRoom self.old.disk → IsErr result → IsTrue (volume_fails_by_plan self.old || is_at_end self.old.ticks) }
+        ensures room_opens { HasRoom self.old.disk → is_at_end self.old.ticks ≡ false → Opens place (length bytes.now) (volume_standing self.old) (volume_standing self.new) }
+        ensures by_one { self.new.ticks ≤ self.old.ticks + 1 }
     {
         let done = Done::Write {
             place,
@@ -138,11 +146,14 @@ impl Disk for MemoryVolume {
         ensures same { (volume_standing self.new).bytes ≡ (volume_standing self.old).bytes }
         ensures past { Kept (volume_standing self.old) (volume_standing self.new) }
         ensures moments { Follows Same (volume_standing self.old) (volume_standing self.new) }
+        ensures stands { OnErr result (Stands (volume_standing self.old) (volume_standing self.new)) }
         ensures clock { OnOk result (Raises (volume_standing self.old).clock (volume_standing self.new).clock) }
         ensures length { (volume_standing self.new).length_is ≡ (volume_standing self.old).length_is }
         ensures cause { HasCause (volume_standing self.old).faults (volume_standing self.new).faults result }
         ensures planned { IsTrue (volume_fails_by_plan self.old) → IsErr result }
         ensures counted { CountsOwnCall self.old self.new }
+        ensures room { HasRoom self.old.disk → IsErr result → IsTrue (volume_fails_by_plan self.old || is_at_end self.old.ticks) }
+        ensures by_one { self.new.ticks ≤ self.old.ticks + 1 }
     {
         self.plan.meet(self.said, &mut self.is_stopped)?;
         match self.note(Done::Sync, 0, &[]) {

@@ -144,6 +144,8 @@ impl Plant for PlainPlant {
 
     ghost read_is_image = { λ plant d told there. refl };
 
+    ghost has_image = { λ plant d t told part up. ((plain_state plant).bytes d, refl) };
+
     ghost length_told = { λ plant d told there. plain_length_told plant d there };
 
     fn journals(&self) -> u16 {

@@ -1,7 +1,7 @@
 ghost use Rattle.std.specs.Prelude.{◌≡◌, ◌≤◌, ◌<◌, ◌+◌, false, true, List, ℕ, length, slice_range, ◌++◌, OnOk, OnErr, IfOk, IsErr, IsOk};
 ghost use Rattle.crash_plant.specs.Bytes.{patched, Torn};
 ghost use Rattle.crash_plant.specs.Moments.{Standing, PlantState, on, Kept, Follows, Same, IsDurable, Raises};
-ghost use Rattle.crash_plant.specs.Calls.{IsThere, NoneLent, WorksOn, WorksOnConsole, Hears, HearsNothing, Listens, Says, Lends, TakesBack, IsLentOne};
+ghost use Rattle.crash_plant.specs.Calls.{IsPart, IsThere, NoneLent, WorksOn, WorksOnConsole, Hears, HearsNothing, Listens, Says, Lends, TakesBack, IsLentOne};
 ghost use Rattle.xrc_edge.specs.Causes.{HasCause};
 ghost use Rattle.crash_plant.specs.declared.device.Device.{Device};
 ghost use Rattle.crash_plant.specs.declared.device.Device.TheVariants.{Volume};
@@ -95,6 +95,9 @@ pub trait Plant {
 
     /// What a read gives is an image.
     ghost read_is_image: { (plant : Self) (d : Device) → tells → IsThere (state plant) d → (state plant).images (state plant).clock d ((state plant).bytes d) };
+
+    /// At each moment up to now a crash leaves something on each device, also on a volume that is lent.
+    ghost has_image: { (plant : Self) (d : Device) (t : ℕ) → tells → IsPart (state plant) d → t ≤ (state plant).clock → (c : List ℕ) × (state plant).images t d c };
 
     /// A device has a fixed length.
     ghost length_told: { (plant : Self) (d : Device) → tells → IsThere (state plant) d → length ((state plant).bytes d) ≡ (state plant).lengths d };

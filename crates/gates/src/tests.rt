@@ -1,4 +1,6 @@
-//! Bodies that are written one over the other, and each call failing in turn.
+//! Bodies that are written one over the other, each call failing in turn, and a crash at each call.
+
+ghost use Rattle.std.specs.Prelude.{◌≤◌};
 
 use crate::put_behind_gate;
 use crash_plant::{Device, Fail, FailList, MemoryPlant, PlainPlant, Plant};
@@ -10,18 +12,22 @@ const JOURNAL: Device = Device::Journal(0);
 
 const PLACE: u64 = 5;
 
-/// A plant of one journal of 16 zeros, whose calls fail so.
-fn made(alloc: Global, fails: &[Fail]) -> Result<MemoryPlant, NoMemory> {
+fn listed(alloc: Global, fails: &[Fail]) -> Result<FailList, NoMemory> {
     let mut list = FailList::make(alloc);
     for fail in fails {
         list.push(alloc, *fail)?;
     }
+    Ok(list)
+}
+
+/// A plant of one journal of 16 zeros, whose calls fail so.
+fn made(alloc: Global, fails: &[Fail]) -> Result<MemoryPlant, NoMemory> {
     let plain = PlainPlant::make(alloc, 1, 16, 0, 0, Bytes::make(alloc))?;
-    MemoryPlant::make(alloc, plain, list)
+    MemoryPlant::make(alloc, plain, listed(alloc, fails)?)
 }
 
 /// The journal's bytes.
-fn content(rt: &impl Abort, plant: &mut MemoryPlant) -> [u8; 16] {
+fn content<P: Plant>(rt: &impl Abort, plant: &mut P) -> [u8; 16] {
     let mut bytes = [9; 16];
     assert!(rt; plant.journals() > 0 && plant.length(JOURNAL) == 16);
     assert!(rt; plant.read(JOURNAL, 0, &mut bytes).is_ok());
@@ -81,5 +87,109 @@ fn a_gate_is_open_before_a_whole_body_alone(rt: HostRuntime) {
     ];
     for (call, bytes) in rows {
         assert_eq!(rt; after_fault(&rt, rt.alloc(), call), bytes, "at call {call}");
+    }
+}
+
+/// A journal with an open gate before the body `abcd`.
+const OLD: [u8; 16] = *b"\0\0\0\0\0\x01abcd\0\0\0\0\0\0";
+
+/// Journals with a gate that is open, and with one that isn't.
+const JOURNALS: [[u8; 16]; 6] = [
+    [0; 16],
+    [1; 16],
+    [2; 16],
+    [0xff; 16],
+    OLD,
+    *b"\0\0\0\0\0\0abcd\x01\x01\x01\x01\x01\x01",
+];
+
+const BODY: [u8; 4] = *b"efgh";
+
+/// What a crash leaves in a range that is open.
+const CHOICES: [&[u8]; 3] = [&[], &[1], &[0xff]];
+
+/// The calls before those that put a body: a read and a sync.
+const BEFORE: u64 = 2;
+
+/// A plant with a journal of these bytes, which stops at the call of that number.
+fn stopping(rt: &impl Abort, alloc: Global, journal: &[u8; 16], call: u64) -> MemoryPlant {
+    let stop = Fail {
+        at: Some(JOURNAL),
+        said: 0,
+        call,
+        stop: true,
+    };
+    let script = Bytes::make(alloc);
+    let mut plain = PlainPlant::make(alloc, 1, 16, 0, 0, script).expect(rt, "memory");
+    assert!(rt; plain.journals() > 0 && plain.length(JOURNAL) == 16);
+    assert!(rt; plain.write(JOURNAL, 0, journal).is_ok());
+    let stops = listed(alloc, &[stop]).expect(rt, "memory");
+    MemoryPlant::make(alloc, plain, stops).expect(rt, "memory")
+}
+
+/// The journal's bytes after a crash.
+fn left(rt: &impl Abort, alloc: Global, plant: &MemoryPlant, choice: &[u8]) -> [u8; 16] {
+    assert!(rt; plant.volumes() == 0);
+    let mut left = plant.crash(alloc, choice).expect(rt, "memory");
+    content(rt, &mut left)
+}
+
+/// What a crash leaves where so many calls that put the body were done and the next one stopped: each write is followed by its
+/// sync, and up to that its range may hold anything.
+fn torn(old: &[u8; 16], calls: u64, filler: u8) -> [u8; 16] {
+    let is_open = old[5] == 1;
+    let writes = if is_open { calls / 2 } else { calls / 2 + 1 };
+    let mut bytes = *old;
+    if writes == 0 {
+        bytes[5] = filler;
+        return bytes;
+    }
+    if is_open {
+        bytes[5] = 0;
+    }
+    if writes == 1 {
+        bytes[6..10].fill(filler);
+        return bytes;
+    }
+    bytes[6..10].copy_from_slice(&BODY);
+    bytes[5] = if writes == 2 { filler } else { 1 };
+    bytes
+}
+
+/// How many calls put the body. An open gate is closed by a write and a sync. The body and the gate have a write and a sync each.
+fn all_calls(old: &[u8; 16]) -> u64
+    ensures { result ≤ 6 }
+{
+    if old[5] == 1 { 6 } else { 4 }
+}
+
+/// Stops after so many calls that put the body, crashes in each way, and looks at what is left.
+fn stop_after(rt: &impl Abort, alloc: Global, old: &[u8; 16], calls: u64)
+    requires { calls ≤ 6 }
+{
+    let is_done = calls == all_calls(old);
+    let mut plant = stopping(rt, alloc, old, BEFORE + calls);
+    assert_eq!(rt;
+        put(rt, &mut plant, &BODY).is_ok(),
+        is_done,
+        "{old:?}, {calls}"
+    );
+    let new = torn(old, 6, 0);
+    for choice in CHOICES {
+        let found = left(rt, alloc, &plant, choice);
+        let filler = choice.first().copied().unwrap_or(0);
+        assert_eq!(rt; found, torn(old, calls, filler), "{old:?}, {calls}");
+        // A body counts whole or not at all.
+        let is_whole = found[5] != 1 || found == new || !is_done && found == *old;
+        assert!(rt; is_whole, "{old:?}, {calls}, {choice:?}");
+    }
+}
+
+#[test]
+fn a_crash_leaves_a_whole_body_or_none(rt: HostRuntime) {
+    for old in JOURNALS {
+        for calls in 0..=all_calls(&old) {
+            stop_after(&rt, rt.alloc(), &old, calls);
+        }
     }
 }

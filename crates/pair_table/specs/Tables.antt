@@ -1,5 +1,5 @@
 -- Tables of pairs: what a table is to its callers, how its rows change, and the rules over several rows.
-use Rattle.std.specs.Prelude.{ℕ, ◌≤◌, ◌==◌, ◌&&◌, ◌||◌, not, List, [], ◌∷◌, length, map, filter, find, Bool, true, false, Option, if◌then◌else◌, IsTrue, bytes_eq}
+use Rattle.std.specs.Prelude.{ℕ, ◌≤◌, ◌==◌, ◌&&◌, ◌||◌, not, List, [], ◌∷◌, length, map, filter, find, Bool, true, false, Option, if◌then◌else◌, IsTrue, bytes_eq, nat_lt}
 use Rattle.std.specs.List.{list_any, list_all}
 use Rattle.pair_table.specs.declared.row.PairState.{PairState}
 use Rattle.pair_table.specs.declared.row.PairRow.{PairRow}
@@ -31,6 +31,10 @@ row_of device rows = find (is_of device) rows
 
 abbrev pub HasRow : (device : ℕ) → List PairRow → Type 0
 HasRow device rows = IsTrue (list_any (is_of device) rows)
+
+-- the devices of the rows are below a number of devices
+abbrev pub are_below : (devices : ℕ) → List PairRow → Bool
+are_below devices rows = list_all (λ r. nat_lt r.device devices) rows
 
 -- the rows with one more: it takes the place of its device's row, or goes last
 abbrev pub with_row : PairRow → List PairRow → List PairRow

@@ -3,6 +3,7 @@
 //! A table keeps its rows in a map from devices that holds them in order of adding.
 #![tactic(auto)]
 
+mod command;
 mod format;
 mod laws;
 mod level;
@@ -10,6 +11,7 @@ mod row;
 mod table;
 pub mod vectors;
 
+pub use command::{Change, Choice, Command, CommandError, DeviceList, Refusal};
 pub use format::{decode_row, encode_row};
 pub use laws::{
     places_stay, put_rows_are_found, removed_rows_are_gone, rows_are_spelled, rows_keep_rules,

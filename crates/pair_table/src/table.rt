@@ -4,7 +4,7 @@ ghost use Rattle.std.specs.Prelude.{◌≡◌, ◌≤◌, ◌↔◌, length, nat
 ghost use Rattle.std.specs.List.{list_any};
 ghost use Rattle.std.specs.Option.{option_copied};
 ghost use Rattle.pair_table.specs.Rows.{keeps_rules};
-ghost use Rattle.pair_table.specs.Tables.{most_rows, new_table, with_rows, row_of, HasRow, with_row, without_row, with_state, clashes_apart, KeepsRows, MayPut};
+ghost use Rattle.pair_table.specs.Tables.{most_rows, new_table, with_rows, row_of, HasRow, with_row, without_row, with_state, clashes_apart, KeepsRows, MayPut, are_below};
 
 use crate::row::{PairRow, PairState};
 use indexmap::IndexMap;
@@ -48,6 +48,7 @@ impl PairTable {
         })
     }
 
+    /// The session whose pairs these are.
     pub fn session(&self) -> Session
         ensures { result ≡ self.now.session }
     {
@@ -78,6 +79,13 @@ impl PairTable {
         ensures rules { IfSome result (λ row. IsTrue (keeps_rules row.now)) }
     {
         self.rows.get(&device)
+    }
+
+    /// Whether each row's device is below this number of devices, as those of a plant with so many volumes are.
+    pub fn are_devices_below(&self, count: u16) -> bool
+        ensures { result ≡ are_below count self.now.rows }
+    {
+        self.rows.values().all(|row| row.device < count)
     }
 
     /// Starts the session.

@@ -5,8 +5,8 @@ use Rattle.std.specs.List.{list_any}
 use Rattle.std.proofs.lemmas.Bool.{and_parts, and_from, or_parts, or_from, not_from_false, not_from_true, false_from_ne_true, eqb-true, eq-eqb, leb-true, le-leb, lt-ltb, le-ltb}
 use Rattle.pair_table.specs.declared.row.PairRow.{PairRow}
 use Rattle.pair_table.specs.Rows.{keeps_rules}
-use Rattle.pair_table.specs.Tables.{is_of, HasRow, with_row, clashes, none_clash, most_rows, MayPut}
-use Rattle.state_set.specs.Slots.{are_below, are_rows}
+use Rattle.pair_table.specs.Tables.{is_of, HasRow, with_row, clashes, none_clash, most_rows, MayPut, are_below}
+use Rattle.state_set.specs.Slots.{are_rows}
 
 not_true : (b : Bool) → not b ≡ true → b ≡ false
 not_true false e = refl

@@ -13,10 +13,10 @@ use Rattle.pair_table.specs.declared.level.Level.{Level}
 use Rattle.pair_table.specs.declared.level.Level.TheVariants.{Volume, Session}
 use Rattle.pair_table.specs.declared.row.PairRow.{PairRow}
 use Rattle.pair_table.specs.Rows.{◌>>=◌, is_row, row_spelling, row_at}
-use Rattle.pair_table.specs.Tables.{KeepsRows}
+use Rattle.pair_table.specs.Tables.{KeepsRows, are_below}
 use Rattle.pair_table.proofs.FieldPlaces.{field_and_rest, number_spelled}
 use Rattle.pair_table.proofs.RowReads.{rows_keep, rows_spelled}
-use Rattle.state_set.specs.Slots.{Stored, title, level_number, rows_spelling, state_spelling, state_length, are_below, are_rows, level_of, rows_at, kept, rows_in, has_title, fields_of}
+use Rattle.state_set.specs.Slots.{Stored, title, level_number, rows_spelling, state_spelling, state_length, are_rows, level_of, rows_at, kept, rows_in, has_title, fields_of}
 use Rattle.state_set.specs.Laws.{StatesAreSpelled}
 use Rattle.state_set.proofs.Behind.{rows_parts}
 use Rattle.state_set.proofs.RowsAt.{bind_some, rows_count}

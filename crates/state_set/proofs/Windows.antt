@@ -10,8 +10,8 @@ use Rattle.tod_stamp.specs.Names.{is_session}
 use Rattle.crash_plant.specs.Bytes.{patched, Torn}
 use Rattle.pair_table.specs.declared.level.Level.{Level}
 use Rattle.pair_table.specs.declared.row.PairRow.{PairRow}
-use Rattle.pair_table.specs.Tables.{Table, KeepsRows}
-use Rattle.state_set.specs.Slots.{Stored, slot_place, title, state_spelling, are_below, kept, rows_in, state_at, state_of, OneSlot, with_table}
+use Rattle.pair_table.specs.Tables.{Table, KeepsRows, are_below}
+use Rattle.state_set.specs.Slots.{Stored, slot_place, title, state_spelling, kept, rows_in, state_at, state_of, OneSlot, with_table}
 use Rattle.state_set.specs.Laws.{ZerosHoldNone}
 use Rattle.state_set.proofs.Behind.{same_bool}
 use Rattle.state_set.proofs.RowsAt.{rows_window}

@@ -4,8 +4,8 @@ use Rattle.tod_stamp.specs.Fields.{IsBytes}
 use Rattle.tod_stamp.specs.Names.{is_session}
 use Rattle.pair_table.specs.declared.level.Level.{Level}
 use Rattle.pair_table.specs.declared.row.PairRow.{PairRow}
-use Rattle.pair_table.specs.Tables.{KeepsRows}
-use Rattle.state_set.specs.Slots.{Stored, slot_place, state_spelling, state_length, are_below, state_at, state_of}
+use Rattle.pair_table.specs.Tables.{KeepsRows, are_below}
+use Rattle.state_set.specs.Slots.{Stored, slot_place, state_spelling, state_length, state_at, state_of}
 
 -- What rows that keep the rules spell is read again, whatever follows.
 abbrev pub StatesReadBack : Type 0

@@ -1,6 +1,6 @@
 -- The state device: two slots of 8,192 bytes. Each begins with the level and the rows of a session.
-use Rattle.std.specs.Prelude.{◌≡◌, ◌≢◌, ℕ, zero, suc, ◌+◌, ◌*◌, ◌≤◌, ◌==◌, ◌&&◌, List, [], ◌∷◌, ◌++◌, length, take, drop, Bool, true, Option, Some, None, Result, ok_or, nat_lt, nat_le, if◌then◌else◌, slice_index, slice_range, bytes_eq, codes}
-use Rattle.std.specs.List.{flat_map, list_all}
+use Rattle.std.specs.Prelude.{◌≡◌, ◌≢◌, ℕ, zero, suc, ◌+◌, ◌*◌, ◌≤◌, ◌==◌, ◌&&◌, List, [], ◌∷◌, ◌++◌, length, take, drop, Bool, true, Option, Some, None, Result, ok_or, nat_le, if◌then◌else◌, slice_index, slice_range, bytes_eq, codes}
+use Rattle.std.specs.List.{flat_map}
 use Rattle.std.specs.Int.{w16, to_be_bytes, from_be_bytes}
 use Rattle.tod_stamp.specs.Names.{session_field}
 use Rattle.crash_plant.specs.Bytes.{Torn}
@@ -8,7 +8,7 @@ use Rattle.pair_table.specs.declared.level.Level.{Level}
 use Rattle.pair_table.specs.declared.level.Level.TheVariants.{Volume, Session}
 use Rattle.pair_table.specs.declared.row.PairRow.{PairRow}
 use Rattle.pair_table.specs.Rows.{◌>>=◌, row_spelling, row_at}
-use Rattle.pair_table.specs.Tables.{Table, most_rows, none_clash}
+use Rattle.pair_table.specs.Tables.{Table, are_below, most_rows, none_clash}
 
 -- what a slot holds of a session
 pub record Stored : Type 0 where
@@ -46,10 +46,6 @@ abbrev pub state_length : List PairRow → ℕ
 state_length rows = 15 + 30 * length rows
 
 -- ---- the rules over several rows and over the plant
-
--- devices of the plant
-abbrev pub are_below : (volumes : ℕ) → List PairRow → Bool
-are_below volumes rows = list_all (λ r. nat_lt r.device volumes) rows
 
 -- at most 64 rows, none of which clash, of devices of the plant
 abbrev pub are_rows : (volumes : ℕ) → List PairRow → Bool

@@ -8,7 +8,8 @@ ghost use Rattle.crash_plant.specs.Moments.{on, Follows, IsDurable, Same};
 ghost use Rattle.crash_plant.specs.Calls.{WorksOn};
 ghost use Rattle.state_set.specs.declared.state_error.StateError.{StateError};
 ghost use Rattle.state_set.specs.declared.state_error.StateError.TheVariants.{Damaged, Fault, NoMemory};
-ghost use Rattle.state_set.specs.Slots.{OneSlot, are_below, slot_place, started_table, state_length, state_of, state_spelling};
+ghost use Rattle.pair_table.specs.Tables.{are_below};
+ghost use Rattle.state_set.specs.Slots.{OneSlot, slot_place, started_table, state_length, state_of, state_spelling};
 
 use crate::StateError;
 use crate::reading::decode;

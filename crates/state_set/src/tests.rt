@@ -1,7 +1,12 @@
-//! The worked states with each of their bytes changed, rows that break a rule together, and each call failing in turn.
+//! The worked states with each of their bytes changed, rows that break a rule together, each call failing in turn, and a crash
+//! at each call.
 
-ghost use Rattle.std.specs.Prelude.{◌<◌, IsTrue};
-ghost use Rattle.state_set.specs.Slots.{are_below};
+ghost use Rattle.std.specs.Prelude.{◌≡◌, ◌≤◌, ◌<◌, IfOk};
+ghost use Rattle.crash_plant.specs.declared.device.Device.TheVariants.{State};
+ghost use Rattle.crash_plant.specs.Calls.{NoneLent, WorksOn};
+ghost use Rattle.crash_plant.specs.Made.{SameDevices};
+ghost use Rattle.crash_plant.specs.MemoryPlant.{memory_state};
+ghost use Rattle.crash_plant.specs.PlainPlant.{plain_state};
 
 use crate::{StateError, get, put};
 use crash_plant::{Device, Fail, FailList, MemoryPlant, PlainPlant, Plant};
@@ -67,59 +72,62 @@ fn numbered(rt: &impl Abort, number: u8) -> PairRow {
     }
 }
 
-/// A plant whose call of this number on the state fails.
-fn made(alloc: Global, call: u64) -> Result<MemoryPlant, NoMemory> {
+fn plain(alloc: Global) -> Result<PlainPlant, NoMemory>
+    ensures { IfOk result (λ plant. NoneLent (plain_state plant)) }
+{
+    PlainPlant::make(alloc, 2, 100, VOLUMES, 0, Bytes::make(alloc))
+}
+
+/// The plant, whose call of this number on the state fails.
+fn failing(alloc: Global, plain: PlainPlant, call: u64, stop: bool) -> Result<MemoryPlant, NoMemory>
+    ensures { IfOk result (λ plant. SameDevices (plain_state plain) (memory_state plant)) }
+{
     let mut fails = FailList::make(alloc);
     let fail = Fail {
         at: Some(Device::State),
         said: 0,
         call,
-        stop: false,
+        stop,
     };
     fails.push(alloc, fail)?;
-    let plain = PlainPlant::make(alloc, 2, 100, VOLUMES, 0, Bytes::make(alloc))?;
     MemoryPlant::make(alloc, plain, fails)
+}
+
+/// A plant whose call of this number on the state fails.
+fn made(alloc: Global, call: u64) -> Result<MemoryPlant, NoMemory> {
+    failing(alloc, plain(alloc)?, call, false)
 }
 
 /// A call that no test comes to.
 const NEVER: u64 = 1000;
 
-/// Whether the devices of the rows are below this number.
-fn are_devices_below(table: &PairTable, volumes: u16) -> bool
-    ensures { IsTrue result → IsTrue (are_below volumes table.now.rows) }
-{
-    for place in 0..table.len() {
-        let row = table.row(place).unwrap();
-        if row.device >= volumes {
-            return false;
-        }
-    }
-    true
-}
-
 /// Puts a table into a slot.
-fn put_table(
+fn put_table<P: Plant>(
     rt: &impl Abort,
     alloc: Global,
-    plant: &mut MemoryPlant,
+    plant: &mut P,
     slot: u8,
     level: Level,
     table: &PairTable,
-) -> Result<(), StateError> {
+) -> Result<(), StateError>
+    ensures { WorksOn P.tells (λ d. d ≡ State) (P.state plant.old) (P.state plant.new) }
+{
     assert!(rt; slot <= 1 && plant.length(Device::State) >= 16_384);
-    assert!(rt; are_devices_below(table, plant.volumes()));
+    assert!(rt; table.are_devices_below(plant.volumes()));
     put(alloc, plant, slot, level, table)
 }
 
 /// Puts a state of ABC with one row, or none, into a slot.
-fn put_state(
+fn put_state<P: Plant>(
     rt: &impl Abort,
     alloc: Global,
-    plant: &mut MemoryPlant,
+    plant: &mut P,
     slot: u8,
     level: Level,
     first: Option<&PairRow>,
-) -> Result<(), StateError> {
+) -> Result<(), StateError>
+    ensures { WorksOn P.tells (λ d. d ≡ State) (P.state plant.old) (P.state plant.new) }
+{
     let mut table = PairTable::make(alloc, session(rt)).expect(rt, "memory");
     if let Some(row) = first {
         assert!(rt; table.may_put(row));
@@ -129,10 +137,10 @@ fn put_state(
 }
 
 /// Gets what a slot holds of a session.
-fn get_state_of(
+fn get_state_of<P: Plant>(
     rt: &impl Abort,
     alloc: Global,
-    plant: &mut MemoryPlant,
+    plant: &mut P,
     slot: u8,
     session: Session,
 ) -> Result<Seen, StateError> {
@@ -147,10 +155,10 @@ fn get_state_of(
 }
 
 /// Gets what a slot holds of ABC.
-fn get_state(
+fn get_state<P: Plant>(
     rt: &impl Abort,
     alloc: Global,
-    plant: &mut MemoryPlant,
+    plant: &mut P,
     slot: u8,
 ) -> Result<Seen, StateError> {
     get_state_of(rt, alloc, plant, slot, session(rt))
@@ -189,9 +197,9 @@ fn write(rt: &impl Abort, plant: &mut MemoryPlant, place: u64, bytes: &[u8]) {
 }
 
 /// The bytes from a place of the state on.
-fn content(rt: &impl Abort, plant: &mut MemoryPlant, place: u64) -> [u8; 46] {
+fn content<P: Plant>(rt: &impl Abort, plant: &mut P, place: u64) -> [u8; 46] {
     let mut bytes = [9; 46];
-    assert!(rt; place <= 8_192 && plant.length(Device::State) >= 16_384);
+    assert!(rt; place <= 9_000 && plant.length(Device::State) >= 16_384);
     assert!(rt; plant.read(Device::State, place, &mut bytes).is_ok());
     bytes
 }
@@ -404,5 +412,155 @@ fn a_call_that_fails_is_a_fault(rt: HostRuntime) {
         };
         assert!(rt; is_fault, "at call {call}");
         goes_through(&rt, alloc, &mut plant, 0, Level::Session, None);
+    }
+}
+
+/// What a crash leaves in a range that is open.
+const CHOICES: [&[u8]; 3] = [&[], &[1], &[0xff]];
+
+/// A `put` of a state with a row, or with none.
+#[derive(Clone, Copy)]
+struct Case {
+    // The other bytes of the device.
+    filler: u8,
+    // Whether each slot holds a state before.
+    is_held: bool,
+    is_second: bool,
+    has_row: bool,
+}
+
+impl Case {
+    fn slot(&self) -> u8 {
+        u8::from(self.is_second)
+    }
+
+    fn other_slot(&self) -> u8 {
+        u8::from(!self.is_second)
+    }
+
+    /// The place of the slot.
+    fn place(&self) -> u64
+        ensures { result ≤ 8192 }
+    {
+        if self.is_second { 8_192 } else { 0 }
+    }
+
+    /// The number of bytes that are put.
+    fn length(&self) -> u64
+        ensures { result ≤ 45 }
+    {
+        if self.has_row { 45 } else { 15 }
+    }
+
+    /// The row that is put.
+    fn first(&self, rt: &impl Abort) -> Option<PairRow> {
+        if self.has_row {
+            Some(numbered(rt, 5))
+        } else {
+            None
+        }
+    }
+
+    /// The plant before.
+    #[tactic(auto, using(crash_plant::proofs::Steps::none_lent_then))]
+    fn plant(&self, rt: &impl Abort, alloc: Global) -> PlainPlant
+        ensures { NoneLent (plain_state result) }
+    {
+        let mut plant = filled(rt, alloc, self.filler);
+        if self.is_held {
+            let row = worked(rt, PairState::Duplex);
+            let level = Level::Volume;
+            assert!(rt; put_state(rt, alloc, &mut plant, 0, level, Some(&row)).is_ok());
+            assert!(rt; put_state(rt, alloc, &mut plant, 1, level, Some(&row)).is_ok());
+        }
+        plant
+    }
+
+    /// What a crash leaves of the slot that isn't written, and of the bytes behind those that are.
+    fn assert_elsewhere(&self, rt: &impl Abort, alloc: Global, left: &mut PlainPlant) {
+        let mut old = self.plant(rt, alloc);
+        let other = self.other_slot();
+        let before = get_state(rt, alloc, &mut old, other);
+        assert_eq!(rt; before.is_ok(), self.is_held);
+        assert_eq!(rt; get_state(rt, alloc, left, other), before);
+        let behind = self.place() + self.length();
+        for place in [8_192 - self.place(), behind] {
+            let bytes = content(rt, left, place);
+            assert_eq!(rt; bytes, content(rt, &mut old, place), "at {place}");
+        }
+    }
+}
+
+/// A plant whose state has such bytes alone.
+#[tactic(auto, using(crash_plant::proofs::Steps::none_lent_then))]
+fn filled(rt: &impl Abort, alloc: Global, filler: u8) -> PlainPlant
+    ensures { NoneLent (plain_state result) }
+{
+    let mut plant = plain(alloc).expect(rt, "memory");
+    assert!(rt; plant.length(Device::State) >= 16_384);
+    assert!(rt; plant.write(Device::State, 0, &[filler; 16_384]).is_ok());
+    plant
+}
+
+/// What a crash leaves.
+fn left(rt: &impl Abort, alloc: Global, plant: &MemoryPlant, choice: &[u8]) -> PlainPlant
+    requires { NoneLent (memory_state plant.now) }
+{
+    plant.crash(alloc, choice).expect(rt, "memory")
+}
+
+/// The plant on which a `put` was stopped after so many calls.
+fn stopped(rt: &impl Abort, alloc: Global, case: &Case, calls: u64) -> MemoryPlant
+    ensures { NoneLent (memory_state result) }
+{
+    let old = case.plant(rt, alloc);
+    let mut plant = failing(alloc, old, calls, true).expect(rt, "memory");
+    let (slot, first) = (case.slot(), case.first(rt));
+    let put = put_state(rt, alloc, &mut plant, slot, Level::Session, first.as_ref());
+    let answer = if calls == 2 {
+        Ok(())
+    } else {
+        Err(StateError::Fault)
+    };
+    assert_eq!(rt; put, answer, "{calls}");
+    plant
+}
+
+/// Stops after so many calls of the `put`, crashes in each way, and looks at both slots.
+fn stop_after(rt: &impl Abort, alloc: Global, case: &Case, calls: u64) {
+    let plant = stopped(rt, alloc, case, calls);
+    for choice in CHOICES {
+        let mut left = left(rt, alloc, &plant, choice);
+        let found = get_state(rt, alloc, &mut left, case.slot());
+        let expected = if calls == 2 {
+            Ok(held(rt, Level::Session, case.first(rt).as_ref()))
+        } else {
+            Err(StateError::Damaged(case.place()))
+        };
+        assert_eq!(rt; found, expected, "{calls}, {choice:?}");
+        case.assert_elsewhere(rt, alloc, &mut left);
+    }
+}
+
+/// Stops at each call of a `put` into each slot. It has a write and a sync.
+fn stop_at_each(rt: &impl Abort, alloc: Global, filler: u8, is_held: bool) {
+    for (is_second, has_row) in [(false, false), (true, false), (false, true), (true, true)] {
+        let case = Case {
+            filler,
+            is_held,
+            is_second,
+            has_row,
+        };
+        for calls in 0..=2 {
+            stop_after(rt, alloc, &case, calls);
+        }
+    }
+}
+
+#[test]
+fn a_crash_leaves_the_other_slot(rt: HostRuntime) {
+    for filler in [0, 1, 0xff] {
+        stop_at_each(&rt, rt.alloc(), filler, false);
+        stop_at_each(&rt, rt.alloc(), filler, true);
     }
 }

@@ -1,10 +1,13 @@
 -- How what calls leave as it was adds up.
-use Rattle.std.proofs.Common.{Result, Ok, Err, OnOk, [], sym, ◌≡◌, ◌≤◌, ℕ, ◌∙◌, arith, inl, inr}
+use Rattle.std.proofs.Common.{Result, Ok, Err, OnOk, [], refl, subst, sym, ◌≡◌, ◌≤◌, ℕ, ◌∙◌, arith, inl, inr}
+use Rattle.crash_plant.specs.declared.device.Device.{Device}
 use Rattle.crash_plant.specs.declared.device.Device.TheVariants.{Volume}
-use Rattle.crash_plant.specs.Moments.{PlantState, on, IsDurable}
+use Rattle.crash_plant.specs.Moments.{Standing, PlantState, on, Follows, Same, IsDurable}
 use Rattle.crash_plant.specs.Calls.{WorksOn, WorksOnConsole}
 use Rattle.xrc_edge.specs.Causes.{Rose}
-use Rattle.xrc_cli.specs.Frames.{LeavesOthers}
+use Rattle.crash_plant.proofs.Choices.{device_cases}
+use Rattle.crash_plant.proofs.Steps.{kept_here, kept_trans, stays_here, follows_then}
+use Rattle.xrc_cli.specs.Frames.{LeavesOthers, Unwritten, WritesNone}
 use Rattle.xrc_cli.specs.Hearing.{HearsText}
 
 pub leaves_then : (tells : Type 0) (a b c : PlantState) → LeavesOthers tells a b → LeavesOthers tells b c → LeavesOthers tells a c
@@ -53,6 +56,35 @@ durable_on_console tells a b w told was c left =
     let stays = w.devices told (Volume 0) in
     let before = stays.images b.clock ((w.elapses told).kept (Volume 0)).later (omega arith) c left in
     before.2 ∙ was before.0 before.1 ∙ sym stays.bytes
+
+-- ---- devices that are not written
+
+unwritten_then : (a b c : Standing) → Unwritten a b → Unwritten b c → Unwritten a c
+unwritten_then a b c x y = record {
+  bytes = y.bytes ∙ x.bytes;
+  past = kept_trans a b c x.past y.past;
+  images = follows_then a b c Same Same Same x.past.later x.images y.past y.images (λ p q here e. e) (λ p q r here there e f. f ∙ e);
+}
+
+pub writes_none_here : (tells : Type 0) (a : PlantState) → WritesNone tells a a
+writes_none_here tells a told d = record { bytes = refl; past = kept_here (on a d); images = (stays_here (on a d)).images }
+
+pub writes_none_then : (tells : Type 0) (a b c : PlantState) → WritesNone tells a b → WritesNone tells b c → WritesNone tells a c
+writes_none_then tells a b c x y told d = unwritten_then (on a d) (on b d) (on c d) (x told d) (y told d)
+
+-- a call on the console
+pub writes_none_on_console : (tells : Type 0) (a b : PlantState) → WorksOnConsole tells a b → WritesNone tells a b
+writes_none_on_console tells a b w told d =
+    let stays = w.devices told d in
+    record { bytes = stays.bytes; past = (w.elapses told).kept d; images = stays.images }
+
+-- a read of volume 0
+pub writes_none_on_volume : (tells : Type 0) (a b : PlantState) → WorksOn tells (λ d. d ≡ Volume 0) a b → (tells → b.bytes (Volume 0) ≡ a.bytes (Volume 0))
+    → (tells → Follows Same (on a (Volume 0)) (on b (Volume 0))) → WritesNone tells a b
+writes_none_on_volume tells a b w same images told d = elim (device_cases d (Volume 0)) [
+  | inl is ↦ subst (λ (e : Device). Unwritten (on a e) (on b e)) (sym is) (record { bytes = same told; past = (w.elapses told).kept (Volume 0); images = images told })
+  | inr other ↦ (let stays = w.others told d other in record { bytes = stays.bytes; past = (w.elapses told).kept d; images = stays.images })
+]
 
 -- a count that rose has risen over calls before and after, too
 pub rose_before : (a b c : ℕ) → a ≤ b → Rose b c → Rose a c

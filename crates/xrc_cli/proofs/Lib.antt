@@ -8,6 +8,8 @@ pub mod HandLaws
 pub mod TakenLaws
 pub mod StartLaws
 pub mod FrameLaws
+pub mod LineLaws
+pub mod HearLaws
 pub mod LabelLaws
 pub mod MarkLaws
 pub mod SlotLaws

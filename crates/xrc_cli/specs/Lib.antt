@@ -1,5 +1,6 @@
 pub mod Words
 pub mod Scripts
+pub mod Lines
 pub mod Reading
 pub mod Replies
 pub mod Stops

@@ -1,5 +1,5 @@
 -- How a command that was not done ends: the number of its status and the last line that it says.
-use Rattle.std.specs.Prelude.{ℕ, ◌==◌, ◌||◌, List, [], Bool, Result, Ok, Err}
+use Rattle.std.specs.Prelude.{ℕ, ◌==◌, ◌||◌, List, [], Bool, Result, Ok, Err, IsTrue}
 use Rattle.xrc_cli.specs.declared.stop.Stop.{Stop}
 use Rattle.xrc_cli.specs.declared.stop.Stop.TheVariants.{NoMemory, BadWords, ConsoleFault, BadHeader, HeaderFault, NotBuilt, EarlyBreak, EarlyVolume}
 use Rattle.xrc_cli.specs.Replies.{status_line, bad_header_line, header_fault_line}
@@ -31,7 +31,11 @@ last_line EarlyVolume = status_line (status_of EarlyVolume)
 abbrev pub hears_nothing : (status : ℕ) → Bool
 hears_nothing status = status == 2 || status == 8 || status == 9
 
--- whether no device has changed
+-- whether hearing a script was done, where it was begun
+abbrev pub hears_script : (status : ℕ) → Bool
+hears_script status = status == 0 || status == 17 || status == 18 || status == 19
+
+-- whether no device was written
 abbrev pub changes_nothing : (status : ℕ) → Bool
 changes_nothing status = status == 2 || status == 8 || status == 9 || status == 17
 
@@ -56,3 +60,10 @@ IsOfHeader EarlyVolume = ⊥
 abbrev pub EndsThere : {A : Type 0} → Result A Stop → Type 0
 EndsThere (Ok x) = ⊥
 EndsThere (Err stop) = IsOfHeader stop
+
+-- ---- scripts
+
+-- Hearing a script was done, where it was begun.
+abbrev pub DoneHearing : {A : Type 0} → Result A Stop → Type 0
+DoneHearing (Ok x) = Unit {0}
+DoneHearing (Err stop) = IsTrue (hears_script (status_of stop))

@@ -2,11 +2,12 @@ ghost use Rattle.std.specs.Prelude.{◌≡◌, ◌≢◌, ◌≤◌, ◌⊎◌, 
 ghost use Rattle.xrc_edge.specs.Causes.{Rose};
 ghost use Rattle.crash_plant.specs.Calls.{NoneLent, WorksOnConsole};
 ghost use Rattle.crash_plant.specs.declared.device.Device.TheVariants.{Volume};
-ghost use Rattle.xrc_cli.specs.Frames.{LeavesOthers, SameVolume, SaysNothing, HearsNone};
+ghost use Rattle.xrc_cli.specs.Frames.{LeavesOthers, WritesNone, SaysNothing, HearsNone};
+ghost use Rattle.xrc_cli.specs.Hearing.{HearsScript};
 ghost use Rattle.xrc_cli.specs.Replies.{status_line, bad_header_line, header_fault_line};
 ghost use Rattle.xrc_cli.specs.Runs.{IsRefused, EndsInHeader, AnswersScript, BreaksEarly, FailsEarly, CopiesVolume, ChangesSlots, RepliesInPart, SaidLine, StopsInHearing};
 ghost use Rattle.xrc_cli.specs.Sources.{HoldsOnly, FirstRose, FirstCountStays, IsFirstSite};
-ghost use Rattle.xrc_cli.specs.Stops.{status_of, last_line, hears_nothing, changes_nothing, says_status, EndsThere};
+ghost use Rattle.xrc_cli.specs.Stops.{status_of, last_line, hears_nothing, hears_script, changes_nothing, says_status, EndsThere, DoneHearing};
 ghost use Rattle.xrc_cli.specs.Words.{run_session};
 
 use crate::run::copy_volume;
@@ -103,7 +104,8 @@ fn run_command<S: Source, P: Plant>(
     ensures cut { (all left : List ℕ) → HoldsOnly S.left traces.old.items all → HoldsOnly S.left traces.new.items left → result ≡ Err Stop.HeaderFault → (given : List ℕ) × EndsInHeader all left given }
     ensures broken { P.tells → (given : List ℕ) → HoldsOnly S.left traces.old.items given → result ≡ Err Stop.EarlyBreak → IfSome (run_session (map string_bytes words.now)) (λ session. (FirstRose S.faults traces.old.items traces.new.items × FailsEarly (HoldsOnly S.left traces.new.items) session given (P.state plant.old)) ⊎ (FirstCountStays S.faults traces.old.items traces.new.items × BreaksEarly session given (P.state plant.old))) }
     ensures slots { P.tells → IfSome (run_session (map string_bytes words.now)) (λ session. ChangesSlots (HoldsOnly S.left traces.old.items) session (P.state plant.old) (P.state plant.new)) }
-    ensures unchanged { IfErr result (λ stop. IsTrue (changes_nothing (status_of stop)) → SameVolume P.tells (P.state plant.old) (P.state plant.new)) }
+    ensures unchanged { IfErr result (λ stop. IsTrue (changes_nothing (status_of stop)) → WritesNone P.tells (P.state plant.old) (P.state plant.new)) }
+    ensures script { P.tells → IsFirstSite (length traces.old.items) (P.state plant.old) → HearsScript (DoneHearing result) (P.state plant.old) (P.state plant.new) }
     ensures unheard { IfErr result (λ stop. IsTrue (hears_nothing (status_of stop)) → HearsNone P.tells (P.state plant.old) (P.state plant.new)) }
     ensures silent { IfErr result (λ stop. stop ≢ Stop.ConsoleFault → SaysNothing P.tells (P.state plant.old) (P.state plant.new)) }
     ensures stopped { P.tells → (given : List ℕ) → HoldsOnly S.left traces.old.items given → result ≡ Err Stop.ConsoleFault → IfSome (run_session (map string_bytes words.now)) (λ session. StopsInHearing (P.state plant.old) (P.state plant.new) ⊎ RepliesInPart session given (P.state plant.old) (P.state plant.new)) }
@@ -159,6 +161,9 @@ pub fn xrc<R: Threads + Wait + Sync, S: Source + Send, P: Plant>(
     ensures fault_line { P.tells → result ≡ 9 → SaidLine header_fault_line (P.state plant.old) (P.state plant.new) }
     ensures unheard { IsTrue (hears_nothing result) → HearsNone P.tells (P.state plant.old) (P.state plant.new) }
 
+    // Then the script: it is heard no further than to the first byte too many.
+    ensures script { P.tells → IsFirstSite (length traces.old.items) (P.state plant.old) → HearsScript (IsTrue (hears_script result)) (P.state plant.old) (P.state plant.new) }
+
     // The trace broke below the end's time: by a fault where its count rose, and else by the bytes that it held.
     ensures broken { P.tells → (given : List ℕ) → HoldsOnly S.left traces.old.items given → result ≡ 18 → IfSome (run_session (map string_bytes words.now)) (λ session. (FirstRose S.faults traces.old.items traces.new.items × FailsEarly (HoldsOnly S.left traces.new.items) session given (P.state plant.old)) ⊎ (FirstCountStays S.faults traces.old.items traces.new.items × BreaksEarly session given (P.state plant.old))) }
 
@@ -169,7 +174,7 @@ pub fn xrc<R: Threads + Wait + Sync, S: Source + Send, P: Plant>(
     ensures volume_count { result ≢ 19 → (P.state plant.new).faults (Volume 0) ≡ (P.state plant.old).faults (Volume 0) }
 
     // Of the devices only slots of volume 0 change, and of these only those that the script asks to copy to.
-    ensures unchanged { IsTrue (changes_nothing result) → SameVolume P.tells (P.state plant.old) (P.state plant.new) }
+    ensures unchanged { IsTrue (changes_nothing result) → WritesNone P.tells (P.state plant.old) (P.state plant.new) }
     ensures slots { P.tells → IfSome (run_session (map string_bytes words.now)) (λ session. ChangesSlots (HoldsOnly S.left traces.old.items) session (P.state plant.old) (P.state plant.new)) }
     ensures others { LeavesOthers P.tells (P.state plant.old) (P.state plant.new) }
 

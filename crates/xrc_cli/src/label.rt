@@ -3,7 +3,7 @@ ghost use Rattle.std.specs.Int.{w32, to_be_bytes};
 ghost use Rattle.xrc_edge.specs.Causes.{Rose};
 ghost use Rattle.crash_plant.specs.Calls.{IsThere, WorksOn};
 ghost use Rattle.crash_plant.specs.declared.device.Device.TheVariants.{Volume};
-ghost use Rattle.xrc_cli.specs.Frames.{SameVolume, SaysNothing};
+ghost use Rattle.xrc_cli.specs.Frames.{SameVolume, SaysNothing, WritesNone};
 ghost use Rattle.xrc_cli.specs.Labels.{IsLabelled, HasLabel, HasRoom};
 
 use crash_plant::{Device, Plant};
@@ -68,6 +68,7 @@ pub fn read_label<P: Plant>(plant: &mut P) -> Result<Option<Label>, Failed>
     ensures label { P.tells → IfOk result (λ label. IfSome label (HasLabel ((P.state plant.old).bytes (Volume 0)))) }
     ensures room { IfOk result (λ label. IfSome label (HasRoom ((P.state plant.old).lengths (Volume 0)))) }
     ensures said { SaysNothing P.tells (P.state plant.old) (P.state plant.new) }
+    ensures unwritten { WritesNone P.tells (P.state plant.old) (P.state plant.new) }
     ensures same { SameVolume P.tells (P.state plant.old) (P.state plant.new) }
     ensures only { WorksOn P.tells (λ d. d ≡ Volume 0) (P.state plant.old) (P.state plant.new) }
     ensures count { IsOk result → (P.state plant.new).faults (Volume 0) ≡ (P.state plant.old).faults (Volume 0) }

@@ -4,11 +4,12 @@ ghost use Rattle.crash_plant.specs.Calls.{IsThere};
 ghost use Rattle.crash_plant.specs.declared.device.Device.TheVariants.{Volume};
 ghost use Rattle.trace_grammar.specs.Headers.{is_header_of, are_volumes};
 ghost use Rattle.write_trace.specs.Starts.{ReadsHeader};
-ghost use Rattle.xrc_cli.specs.Frames.{LeavesOthers, SameVolume, SaysNothing, HearsNone};
+ghost use Rattle.xrc_cli.specs.Frames.{LeavesOthers, SameVolume, WritesNone, SaysNothing, HearsNone};
+ghost use Rattle.xrc_cli.specs.Hearing.{HearsScript};
 ghost use Rattle.xrc_cli.specs.Plans.{CanBeCopied};
 ghost use Rattle.xrc_cli.specs.Slots.{DiffersInSlots};
 ghost use Rattle.xrc_cli.specs.Saying.{SaysText, SaysFront};
-ghost use Rattle.xrc_cli.specs.Stops.{IsOfHeader, EndsThere, status_of, hears_nothing, changes_nothing};
+ghost use Rattle.xrc_cli.specs.Stops.{IsOfHeader, EndsThere, DoneHearing, status_of, hears_nothing, changes_nothing};
 ghost use Rattle.xrc_cli.specs.Runs.{IsRefused, EndsInHeader, StopsInHearing, RepliesInPart, ChangesSlots, replies_of, FindsPlan, AnswersScript, CarriesOut, BreaksBefore, FailsBefore, BreaksEarly, FailsEarly, CopiesVolume};
 
 use crate::bring::copy_tracks;
@@ -54,6 +55,8 @@ fn find_plan<P: Plant>(
     requires rules { IsTrue (are_volumes 1 [] volumes.now) }
     ensures plan { IfOk result (FindsPlan P.tells session volumes.now (P.state plant.old) (P.state plant.new)) }
     ensures leaves { LeavesOthers P.tells (P.state plant.old) (P.state plant.new) }
+    ensures script { P.tells → HearsScript (DoneHearing result) (P.state plant.old) (P.state plant.new) }
+    ensures unwritten { WritesNone P.tells (P.state plant.old) (P.state plant.new) }
     ensures volume { SameVolume P.tells (P.state plant.old) (P.state plant.new) }
     ensures said { SaysNothing P.tells (P.state plant.old) (P.state plant.new) }
     ensures console_fault { result ≡ Err Stop.ConsoleFault → Rose (P.state plant.old).console_faults (P.state plant.new).console_faults }
@@ -134,7 +137,8 @@ pub fn copy_volume<S: Source, P: Plant>(
     ensures answered { P.tells → OnOk result (AnswersScript session (P.state plant.old) (P.state plant.new)) }
     ensures copied { P.tells → (given : List ℕ) → S.left source.old ≡ Some given → OnOk result (CopiesVolume session given (P.state plant.old) (P.state plant.new)) }
     ensures slots { P.tells → ChangesSlots (λ given. S.left source.old ≡ Some given) session (P.state plant.old) (P.state plant.new) }
-    ensures unchanged { IfErr result (λ stop. IsTrue (changes_nothing (status_of stop)) → SameVolume P.tells (P.state plant.old) (P.state plant.new)) }
+    ensures unchanged { IfErr result (λ stop. IsTrue (changes_nothing (status_of stop)) → WritesNone P.tells (P.state plant.old) (P.state plant.new)) }
+    ensures script { P.tells → HearsScript (DoneHearing result) (P.state plant.old) (P.state plant.new) }
     ensures unheard { IfErr result (λ stop. IsTrue (hears_nothing (status_of stop)) → HearsNone P.tells (P.state plant.old) (P.state plant.new)) }
     ensures silent { IfErr result (λ stop. stop ≢ Stop.ConsoleFault → SaysNothing P.tells (P.state plant.old) (P.state plant.new)) }
     ensures stopped { P.tells → (given : List ℕ) → S.left source.old ≡ Some given → result ≡ Err Stop.ConsoleFault → StopsInHearing (P.state plant.old) (P.state plant.new) ⊎ RepliesInPart session given (P.state plant.old) (P.state plant.new) }

@@ -4,7 +4,7 @@ ghost use Rattle.std.specs.Prelude.{◌≡◌, ◌<◌, IfOk};
 ghost use Rattle.crash_plant.specs.Calls.{NoneLent};
 
 use crate::xrc;
-use crash_plant::{Device, Fail as Failure, FailList, MemoryPlant, PlainPlant, Plant};
+use crash_plant::{Device, Fail as Failure, FailList, Heard, MemoryPlant, PlainPlant, Plant};
 use std::alloc::Global;
 use std::sync::Wait;
 use std::test::Fail;
@@ -38,12 +38,13 @@ const REPLIES: &[u8] =
 const VOLUMES: [u8; 60] =
     *b"XTR1\x00\x03PRIM01\x00\x01PRIM02\x00\x01PRIM03\x00\x01\x00\x00\x00\x02\x00\x01\x00\x00\x00\x02\x00\x01\x05\x00\x00\x01B\x00\x02\x00\x00\x00\x00\x00\x01\x07\x00\x00\x01C";
 
-/// How a run ended: its status, what was said, and the front of each slot.
+/// How a run ended: its status, what was said, the front of each slot, and what is left to hear.
 #[derive(Drop)]
 struct Outcome {
     status: u8,
     said: Vec<u8>,
     slots: Vec<[u8; 8]>,
+    left: Vec<u8>,
 }
 
 fn bytes(alloc: Global, parts: &[&[u8]]) -> Result<Bytes, NoMemory> {
@@ -113,11 +114,25 @@ fn run<R: Threads + Wait + Sync>(
     let status = xrc(rt, alloc, &words, &mut traces, &mut plant);
     let said = Vec::from_slice(alloc, plant.said())?;
     let slots = slots(alloc, &mut plant)?;
+    let left = left_to_hear(alloc, &mut plant)?;
     Ok(Outcome {
         status,
         said,
         slots,
+        left,
     })
+}
+
+/// What a console has left to hear.
+fn left_to_hear<P: Plant>(alloc: Global, plant: &mut P) -> Result<Vec<u8>, NoMemory> {
+    let mut left = Vec::new(alloc);
+    for _ in 0..4_096 {
+        let Ok(Heard::Byte(byte)) = plant.hear() else {
+            break;
+        };
+        left.push(byte)?;
+    }
+    Ok(left)
 }
 
 /// The front of a slot of volume 0; twos where it cannot be read.
@@ -411,6 +426,57 @@ fn other_input_changes_nothing(rt: HostRuntime) -> Result<(), Fail> {
         assert_eq!(rt; outcome.status, 17);
         assert_eq!(rt; outcome.said.as_slice(), b"STATUS 17\n".as_slice());
         assert!(rt; outcome.slots.iter().all(|slot| *slot == [0; 8]));
+    }
+    Ok(())
+}
+
+#[test]
+fn a_script_is_heard_to_its_end_or_the_first_byte_too_many(rt: HostRuntime) -> Result<(), Fail> {
+    let alloc = rt.alloc();
+    let bytes_257: &[u8] = &[b'X'; 257];
+    let full = &bytes_257[..256];
+    // The script, the status, and what is left to hear of it.
+    let rows: [(&[&[u8]], u8, &[u8]); 13] = [
+        (&[START, PAIR, END], 0, &[]),
+        (&[START, PAIR, &END[..25]], 0, &[]),
+        (&[], 17, &[]),
+        (&[START, PAIR], 17, &[]),
+        // A fourth line, of which the first byte is too many.
+        (&[START, PAIR, END, b"\n"], 17, &[]),
+        (&[START, PAIR, END, b"\n\n"], 17, b"\n"),
+        (&[START, PAIR, END, START], 17, &START[1..]),
+        (&[b"\n\n\nAB"], 17, b"B"),
+        // Lines of 256 bytes, and of which the 257th is too many.
+        (&[full, b"\n", full, b"\n", full, b"\n"], 17, &[]),
+        (&[full, b"\n", full, b"\n", full, b"\nAB"], 17, b"B"),
+        (&[bytes_257], 17, &[]),
+        (&[bytes_257, START], 17, START),
+        (&[START, PAIR, bytes_257, b"\nAB"], 17, b"\nAB"),
+    ];
+    for (place, (script, status, left)) in rows.iter().enumerate() {
+        let trace = source(alloc, &[&TRACE], 64, &[])?;
+        let outcome = run(&rt, alloc, &RUN, trace, site(alloc, *script, &[])?)?;
+        assert_eq!(rt; outcome.status, *status, "script {place}");
+        assert_eq!(rt; outcome.left.as_slice(), *left, "script {place}");
+    }
+    Ok(())
+}
+
+#[test]
+fn where_the_script_comes_later_nothing_is_heard(rt: HostRuntime) -> Result<(), Fail> {
+    let alloc = rt.alloc();
+    // The words, the trace, the volumes, and the status.
+    let rows: [(&[&str], &[u8], u16, u8); 3] = [
+        (&["run", "ABC"], &TRACE, 1, 2),
+        (&RUN, &TRACE[..12], 1, 8),
+        (&RUN, &TRACE, 0, 17),
+    ];
+    for (command, given, volumes, status) in rows {
+        let trace = source(alloc, &[given], 64, &[])?;
+        let plant = site_of(alloc, 2, volumes, &[START], &[])?;
+        let outcome = run(&rt, alloc, command, trace, plant)?;
+        assert_eq!(rt; outcome.status, status);
+        assert_eq!(rt; outcome.left.as_slice(), START);
     }
     Ok(())
 }

@@ -1,7 +1,8 @@
-use Rattle.std.proofs.Common.{[], ◌∷◌, ℕ, Contains, map, string_bytes, sym, ap, ◌∙◌, subst}
+use Rattle.std.proofs.Common.{[], ◌∷◌, ℕ, Contains, map, string_bytes, sym, ap, ◌∙◌, subst, IsTrue}
 use Rattle.xrc_cli.specs.Sources.{HoldsOnly}
-use Rattle.xrc_cli.specs.Stops.{last_line, EndsThere}
+use Rattle.xrc_cli.specs.Stops.{last_line, changes_nothing, EndsThere}
 use Rattle.xrc_cli.specs.Words.{run_session}
+use Rattle.xrc_cli.proofs.FrameLaws.{writes_none_then, writes_none_on_console}
 use Rattle.xrc_cli.proofs.PlanLaws.{slots_still}
 use Rattle.xrc_cli.proofs.StopLaws.{known_status, is_console_fault, is_bad_header, header_status, place_said, says_no_line, some_still}
 use Rattle.xrc_cli.proofs.command.xrc.Goals as goal
@@ -36,3 +37,11 @@ pub returns-in-Err-clause-slots : goal.returns-in-Err-clause-slots
 returns-in-Err-clause-slots g c = λ told.
     slots_still g.P.Plant.tells (HoldsOnly g.S.Source.left c.args.traces.now.items) (run_session (map string_bytes c.args.words.now)) (g.P.Plant.state c.args.plant.now) (g.P.Plant.state c.run_command.new.plant) (g.P.Plant.state c.finish.new.plant)
     told c.finish.ensures.only (c.finish.ensures.heard told) (c.run_command.ensures.slots told)
+
+pub returns-in-Err-clause-unchanged : goal.returns-in-Err-clause-unchanged
+returns-in-Err-clause-unchanged g c = λ small.
+    let state = g.P.Plant.state in
+    let tells = g.P.Plant.tells in
+    writes_none_then tells (state c.args.plant.now) (state c.run_command.new.plant) (state c.finish.new.plant)
+    (c.in-Err.ensures.unchanged (subst (λ (n : ℕ). IsTrue (changes_nothing n)) c.finish.ensures.status small))
+    (writes_none_on_console tells (state c.run_command.new.plant) (state c.finish.new.plant) c.finish.ensures.only)

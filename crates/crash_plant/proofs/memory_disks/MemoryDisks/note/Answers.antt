@@ -3,7 +3,7 @@ use Rattle.crash_plant.specs.declared.device.Device.TheVariants.{Journal, Volume
 use Rattle.crash_plant.specs.declared.shelf.Shelf.{Shelf}
 use Rattle.crash_plant.specs.declared.shelf.Shelf.TheVariants.{Here, Away}
 use Rattle.crash_plant.specs.Bytes.{patched}
-use Rattle.crash_plant.specs.Shelves.{last_done, shelf_bytes, shelf_length}
+use Rattle.crash_plant.specs.Shelves.{ShelfRoom, last_done, shelf_bytes, shelf_length}
 use Rattle.crash_plant.specs.Pasts.{Does}
 use Rattle.crash_plant.proofs.Seen.{journal_is, volume_is, seen_of_journal, seen_of_volume}
 use Rattle.crash_plant.proofs.Views.{journal_before, journal_within, volume_before, volume_home, volume_within, noted_shelf, alike_shelf}
@@ -66,3 +66,9 @@ pub returns-in-Here-clause-others : goal.returns-in-Here-clause-others
 returns-in-Here-clause-others c d other =
     let p = c.args.self.now in
     seen_of_volume Here (λ (s : Shelf). s) (Away 0) p.control p.state p.journals.items p.volumes.items c.from-in-Volume.result (Here c.note-in-Here.new.self) d (λ same. other (same ∙ ap Volume c.from-in-Volume.ensures ∙ sym c.in-Volume.is))
+
+pub returns-in-Journal-clause-room : goal.returns-in-Journal-clause-room
+returns-in-Journal-clause-room c room = c.note-in-Journal.ensures.room (subst (λ (s : Shelf). ShelfRoom s) (journal_before c.args.self.now c.args.device _ _ c.from.ensures _ c.in-Journal.is c.requires.there c.index_mut.ensures.value) room)
+
+pub returns-in-Here-clause-room : goal.returns-in-Here-clause-room
+returns-in-Here-clause-room c room = c.note-in-Here.ensures.room (subst (λ (s : Shelf). ShelfRoom s) (volume_before c.args.self.now c.args.device _ _ c.from-in-Volume.ensures _ c.in-Volume.is c.requires.there c.index_mut-in-Volume.ensures.value ∙ c.in-Here.is) room)

@@ -2,7 +2,7 @@ use Rattle.std.proofs.Common.{rules, ◌≡◌, ◌<◌, ◌≤◌, ◌+◌, ℕ
 use Rattle.crash_plant.specs.Clock.{clock_of}
 use Rattle.crash_plant.specs.MemoryDisks.{view}
 use Rattle.crash_plant.specs.Shelves.{ShelfNotes, last_done, lent_at}
-use Rattle.crash_plant.proofs.Passing.{home_tried, last_tried, never_lent, passes_alike, passes_none, passes_noted, opened, synced}
+use Rattle.crash_plant.proofs.Passing.{home_tried, last_tried, never_lent, passes_alike, stands_alike, passes_none, passes_noted, opened, synced}
 use Rattle.crash_plant.proofs.Views.{at_each, is_home}
 use Rattle.crash_plant.proofs.memory_plant.MemoryPlant.note.Goals as goal
 
@@ -59,3 +59,6 @@ returns-in-Err-clause-passes c =
     let d = c.args.device in
     let up : c.raise.new.ticks ≡ m.ticks + 1 = search rules in
     passes_alike c.args.done (clock_of m.ticks) (clock_of c.raise.new.ticks) (view m.disks d) (view c.note.new.self d) (is_home m.disks d c.requires.there) (m.done d) (omega (arith, up)) c.in-Err.ensures.err
+
+pub returns-in-Err-clause-stands : goal.returns-in-Err-clause-stands
+returns-in-Err-clause-stands c = stands_alike (clock_of c.args.self.now.ticks) (clock_of c.raise.new.ticks) (view c.args.self.now.disks c.args.device) (view c.note.new.self c.args.device) (c.args.self.now.done c.args.device) c.in-Err.ensures.err

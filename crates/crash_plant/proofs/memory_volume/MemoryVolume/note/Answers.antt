@@ -1,7 +1,7 @@
 use Rattle.std.proofs.Common.{rules, ◌≡◌, ◌<◌, ◌+◌, refl, arith, ap}
 use Rattle.crash_plant.specs.Clock.{clock_of}
 use Rattle.crash_plant.specs.declared.shelf.Shelf.TheVariants.{Here}
-use Rattle.crash_plant.proofs.Passing.{last_tried, passes_alike, passes_none, passes_noted, opened, synced}
+use Rattle.crash_plant.proofs.Passing.{last_tried, stands_alike, passes_alike, passes_none, passes_noted, opened, synced}
 use Rattle.crash_plant.proofs.Views.{alike_here, alike_shelf, noted_here, noted_shelf}
 use Rattle.crash_plant.proofs.memory_volume.MemoryVolume.note.Goals as goal
 
@@ -43,3 +43,8 @@ returns-in-Err-clause-passes c =
     let volume = c.args.self.now in
     let up : c.raise.new.ticks ≡ volume.ticks + 1 = search rules in
     passes_alike c.args.done (clock_of volume.ticks) (clock_of c.raise.new.ticks) (Here volume.disk) (Here c.note.new.self) refl volume.done (omega (arith, up)) (alike_here volume.disk c.note.new.self c.in-Err.ensures.err)
+
+pub returns-in-Err-clause-stands : goal.returns-in-Err-clause-stands
+returns-in-Err-clause-stands c =
+    let volume = c.args.self.now in
+    stands_alike (clock_of volume.ticks) (clock_of c.raise.new.ticks) (Here volume.disk) (Here c.note.new.self) volume.done (alike_here volume.disk c.note.new.self c.in-Err.ensures.err)

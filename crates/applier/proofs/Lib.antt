@@ -1,0 +1,8 @@
+pub mod Local
+pub mod Ranges
+pub mod InSlots
+pub mod Writing
+pub mod Contents
+pub mod Going
+pub mod Volumes
+pub mod Low

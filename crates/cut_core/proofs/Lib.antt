@@ -1,0 +1,17 @@
+pub mod Filters
+pub mod Legality
+pub mod Ends
+pub mod Rising
+pub mod Kept
+pub mod Late
+pub mod Copies
+pub mod Complete
+pub mod Least
+pub mod Once
+pub mod Waits
+pub mod Shares
+pub mod Plain
+pub mod Maps
+pub mod Steps
+pub mod Stands
+pub mod Rows

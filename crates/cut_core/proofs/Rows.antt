@@ -1,0 +1,24 @@
+-- Rows of events that are legal one after another.
+use Rattle.std.proofs.Common.{◌≡◌, ℕ, zero, suc, ◌+◌, ◌<◌, true, List, [], ◌∷◌, ◌++◌, length, get_or, take, map, sym, ap, subst, ◌∙◌, append_assoc, append-nil, arith}
+use Rattle.std.proofs.lemmas.Bool.{and_parts}
+use Rattle.std.proofs.lemmas.List.{take_more, map-append}
+use Rattle.cut_core.specs.declared.event.Event.{Event as Told}
+use Rattle.cut_core.specs.Events.{Event}
+use Rattle.cut_core.specs.Legal.{is_legal_next, are_legal}
+use Rattle.cut_core.specs.Seen.{seen}
+
+-- each event is legal after those before it
+pub legal_at : (n : ℕ) (past : List Event) (events : List Told) (i : ℕ) (e : Told) → i < length events → e ≡ get_or events i e → are_legal n past (map seen events) ≡ true → is_legal_next n (past ++ map seen (take i events)) (seen e) ≡ true
+legal_at n past [] i e lt is legal = absurd (omega arith)
+legal_at n past (x ∷ events) zero e lt is legal =
+    subst (λ p. is_legal_next n p (seen e) ≡ true) (sym (append-nil past))
+    (subst (λ y. is_legal_next n past (seen y) ≡ true) (sym is) (and_parts (is_legal_next n past (seen x)) (are_legal n (past ++ seen x ∷ []) (map seen events)) legal).0)
+legal_at n past (x ∷ events) (suc i) e lt is legal =
+    let parts = and_parts (is_legal_next n past (seen x)) (are_legal n (past ++ seen x ∷ []) (map seen events)) legal in
+    subst (λ p. is_legal_next n p (seen e) ≡ true) (append_assoc past (seen x ∷ []) (map seen (take i events)))
+    (legal_at n (past ++ seen x ∷ []) events i e (omega (arith, lt)) is parts.1)
+
+pub seen_more : (events : List Told) (i : ℕ) (e : Told) → i < length events → e ≡ get_or events i e → map seen (take (i + 1) events) ≡ map seen (take i events) ++ seen e ∷ []
+seen_more events i e lt is =
+    ap (map seen) (take_more events i e lt) ∙ map-append seen (take i events) (get_or events i e ∷ [])
+    ∙ ap (λ y. map seen (take i events) ++ seen y ∷ []) (sym is)

@@ -1,0 +1,12 @@
+pub mod Events
+pub mod Shares
+pub mod Groups
+pub mod Legal
+pub mod Cuts
+pub mod Least
+pub mod Waiting
+pub mod Maps
+pub mod Once
+pub mod Seen
+pub mod Standing
+pub mod Vectors

@@ -1,0 +1,46 @@
+//! What is kept of one control.
+
+ghost use Rattle.std.specs.Prelude.{◌≡◌};
+ghost use Rattle.cut_core.specs.Standing.{formed, lesser_floor};
+
+use tod_stamp::Stamp;
+
+/// Whether a control still tells, has broken, or has broken and counts no longer.
+#[derive(Clone, Copy, Debug, PartialEq, Eq)]
+pub enum Phase {
+    Telling,
+    Broken,
+    Done,
+}
+
+/// The time up to which a control has told, and its phase.
+#[derive(Clone, Copy, Debug, PartialEq, Eq)]
+pub struct Told {
+    pub floor: Stamp,
+    pub phase: Phase,
+}
+
+impl Told {
+    /// A broken control whose break time is the cut counts no longer.
+    pub fn after_form(self, cut: Stamp) -> Told
+        ensures { result ≡ formed cut.0 self }
+    {
+        match self.phase {
+            Phase::Broken if cut.0 == self.floor.0 => Told {
+                floor: self.floor,
+                phase: Phase::Done,
+            },
+            _ => self,
+        }
+    }
+
+    /// The lesser of a cut and this floor, where the floor counts.
+    pub fn lesser(self, cut: u64) -> u64
+        ensures { result ≡ lesser_floor self cut }
+    {
+        match self.phase {
+            Phase::Telling | Phase::Broken => cut.min(self.floor.0),
+            Phase::Done => cut,
+        }
+    }
+}

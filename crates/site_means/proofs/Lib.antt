@@ -1,0 +1,16 @@
+pub mod ReadAll
+pub mod Shorts
+pub mod RowRules
+pub mod Taking
+pub mod Marks
+pub mod Long
+pub mod Found
+pub mod Goes
+pub mod Finishing
+pub mod Meanings
+pub mod Agreeing
+pub mod Contents
+pub mod Reaching
+pub mod OneSet
+pub mod Appending
+pub mod Marked

@@ -1,0 +1,71 @@
+-- The lengths of the journals one after another.
+use Rattle.std.proofs.Common.{◌≡◌, ℕ, zero, suc, ◌+◌, ◌-◌, ◌<◌, ◌≤◌, Bool, true, false, cond, Option, Some, None, refl, ap, subst, ◌∙◌, arith}
+use Rattle.std.specs.Prelude.{find}
+use Rattle.std.proofs.lemmas.Bool.{ltb-false}
+use Rattle.crash_plant.specs.declared.device.Device.{Device}
+use Rattle.crash_plant.specs.declared.device.Device.TheVariants.{Control, State, Journal}
+use Rattle.crash_plant.specs.Moments.{PlantState}
+use Rattle.site_means.specs.Answers.{first_short, is_short, journals_from}
+
+module _ (plant : PlantState) where
+  -- the first short one of the journals from a number on
+  abbrev pub short_from : ℕ → Option Device
+  short_from n = find (is_short plant) (journals_from n (plant.journals - n))
+
+  one_more : (n : ℕ) → n < plant.journals → short_from n ≡ cond (is_short plant (Journal n)) (Some (Journal n)) (short_from (suc n))
+  one_more n lt = ap (λ (k : ℕ). find (is_short plant) (journals_from n k)) left
+    where
+      left : plant.journals - n ≡ suc (plant.journals - suc n)
+      left = omega (arith, lt)
+
+  pub next_short : (n : ℕ) → n < plant.journals → is_short plant (Journal n) ≡ true → short_from n ≡ Some (Journal n)
+  next_short n lt is = one_more n lt ∙ ap (λ (b : Bool). cond b (Some (Journal n)) (short_from (suc n))) is
+
+  pub next_long : (n : ℕ) → n < plant.journals → is_short plant (Journal n) ≡ false → short_from n ≡ short_from (n + 1)
+  next_long n lt is = one_more n lt ∙ ap (λ (b : Bool). cond b (Some (Journal n)) (short_from (suc n))) is ∙ ap short_from (omega arith)
+
+  pub none_left : (n : ℕ) → plant.journals ≤ n → short_from n ≡ None
+  none_left n past = let none : plant.journals - n ≡ 0 = omega (arith, past) in ap (λ (k : ℕ). find (is_short plant) (journals_from n k)) none
+
+  pub past_both : is_short plant Control ≡ false → is_short plant State ≡ false → first_short plant ≡ short_from 0
+  past_both control state =
+      ap (λ (b : Bool). cond b (Some Control) (cond (is_short plant State) (Some State) (find (is_short plant) (journals_from 0 plant.journals)))) control
+      ∙ ap (λ (b : Bool). cond b (Some State) (find (is_short plant) (journals_from 0 plant.journals))) state
+      ∙ ap (λ (k : ℕ). find (is_short plant) (journals_from 0 k)) (omega arith)
+
+  pub control_short : is_short plant Control ≡ true → first_short plant ≡ Some Control
+  control_short control = ap (λ (b : Bool). cond b (Some Control) (cond (is_short plant State) (Some State) (find (is_short plant) (journals_from 0 plant.journals)))) control
+
+  pub state_short : is_short plant Control ≡ false → is_short plant State ≡ true → first_short plant ≡ Some State
+  state_short control state =
+      ap (λ (b : Bool). cond b (Some Control) (cond (is_short plant State) (Some State) (find (is_short plant) (journals_from 0 plant.journals)))) control
+      ∙ ap (λ (b : Bool). cond b (Some State) (find (is_short plant) (journals_from 0 plant.journals))) state
+
+  -- ---- no device is short
+
+  none_first : (b : Bool) (d : Device) (rest : Option Device) → cond b (Some d) rest ≡ None → (b ≡ false) × (rest ≡ None)
+  none_first true d rest e = absurd cc
+  none_first false d rest e = (refl, e)
+
+  none_among : (first count k : ℕ) → find (is_short plant) (journals_from first count) ≡ None → k < count → is_short plant (Journal (first + k)) ≡ false
+  none_among first zero k none lt = absurd (omega (arith, lt))
+  none_among first (suc count) zero none lt = ap (λ (j : ℕ). is_short plant (Journal j)) (omega arith) ∙ (none_first (is_short plant (Journal first)) (Journal first) _ none).0
+  none_among first (suc count) (suc k) none lt =
+      ap (λ (j : ℕ). is_short plant (Journal j)) (omega arith)
+      ∙ none_among (suc first) count k (none_first (is_short plant (Journal first)) (Journal first) _ none).1 (omega (arith, lt))
+
+-- what the devices have where none is short
+pub record AreLong (plant : PlantState) : Type 0 where
+  pub control : 1024 ≤ plant.lengths Control
+  pub state : 16384 ≤ plant.lengths State
+  pub journals : (j : ℕ) → j < plant.journals → 1826816 ≤ plant.lengths (Journal j)
+
+pub are_long : (plant : PlantState) → first_short plant ≡ None → AreLong plant
+are_long plant none =
+    let first = none_first plant (is_short plant Control) Control _ none in
+    let second = none_first plant (is_short plant State) State _ first.1 in
+    record {
+      control = ltb-false (plant.lengths Control) 1024 first.0;
+      state = ltb-false (plant.lengths State) 16384 second.0;
+      journals = λ j lt. ltb-false (plant.lengths (Journal j)) 1826816 (subst (λ (k : ℕ). is_short plant (Journal k) ≡ false) (omega arith) (none_among plant 0 plant.journals j second.1 lt));
+    }

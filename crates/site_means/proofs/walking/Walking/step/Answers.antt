@@ -1,0 +1,103 @@
+use Rattle.site_means.specs.Answers.{Fails}
+use Rattle.site_means.specs.declared.site_error.SiteError.{SiteError}
+use Rattle.site_means.specs.declared.site_error.SiteError.TheVariants.{Fault}
+use Rattle.std.proofs.Common.{◌≡◌, ℕ, Bool, Result, List, Ok, Err, sym, ap, subst, ◌∙◌, arith}
+use Rattle.crash_plant.specs.declared.device.Device.TheVariants.{Journal}
+use Rattle.crash_plant.specs.declared.spot.Spot.{Spot}
+use Rattle.pair_table.specs.Tables.{are_below}
+use Rattle.xrc_journal.specs.Items.{Item, form_of}
+use Rattle.xrc_journal.specs.Bodies.{Held}
+use Rattle.xrc_journal.specs.Records.{Found, walk_one}
+use Rattle.xrc_journal.specs.Records.Found.{Group, Damaged}
+use Rattle.xrc_journal.specs.Answers.{items_found}
+use Rattle.std.specs.Prelude.{unwrap_or}
+use Rattle.site_means.specs.Images.{shape_of}
+use Rattle.site_means.specs.Walk.{Step, body_place, first_unfit, group_step, step_by}
+use Rattle.site_means.specs.Walk.Step.{Breaks}
+use Rattle.site_means.specs.Steps.{HavePlaces, Passes, standing_of}
+use Rattle.site_means.proofs.ReadAll.{reads_journal, fails_one}
+use Rattle.site_means.proofs.Found.{told_group, told_switch, told_damaged, group_ends, found_places, switch_leads}
+use Rattle.site_means.proofs.walking.Walking.step.Goals as goal
+
+pub returns-in-Ok-End-clause-reads : goal.returns-in-Ok-End-clause-reads
+returns-in-Ok-End-clause-reads g c = reads_journal g.P.Plant.tells c.args.self.now.at.set _ _ c.walk.ensures.only
+
+pub returns-in-Ok-Group-clause-reads : goal.returns-in-Ok-Group-clause-reads
+returns-in-Ok-Group-clause-reads g c = reads_journal g.P.Plant.tells c.args.self.now.at.set _ _ c.walk.ensures.only
+
+pub returns-in-Ok-Switch-clause-reads : goal.returns-in-Ok-Switch-clause-reads
+returns-in-Ok-Switch-clause-reads g c = reads_journal g.P.Plant.tells c.args.self.now.at.set _ _ c.walk.ensures.only
+
+pub returns-in-Err-Damaged-clause-reads : goal.returns-in-Err-Damaged-clause-reads
+returns-in-Err-Damaged-clause-reads g c = reads_journal g.P.Plant.tells c.args.self.now.at.set _ _ c.walk.ensures.only
+
+pub returns-in-Err-Fault-clause-reads : goal.returns-in-Err-Fault-clause-reads
+returns-in-Err-Fault-clause-reads g c = reads_journal g.P.Plant.tells c.args.self.now.at.set _ _ c.walk.ensures.only
+
+pub returns-in-Err-Fault-clause-fails : goal.returns-in-Err-Fault-clause-fails
+returns-in-Err-Fault-clause-fails g c =
+    let old = g.P.Plant.state c.args.plant.now in
+    let new = g.P.Plant.state c.walk.new.plant in
+    let cause = c.in-Err-Fault.ensures.cause.fault c.in-Err-Fault.set (ap Err c.in-Err-Fault.field-0-is) in
+    subst (λ (j : ℕ). Fails old.faults new.faults (let r : Result Bool SiteError = Err (Fault (Journal j)) in r)) (sym cause.0)
+    (fails_one {X = Bool} g.P.Plant.tells (Journal c.args.self.now.at.set) old new cause.1 c.walk.ensures.only.only)
+
+pub returns-in-Ok-Group-clause-passes : goal.returns-in-Ok-Group-clause-passes
+returns-in-Ok-Group-clause-passes g c = λ told stands.
+    let old = g.P.Plant.state c.args.plant.now in
+    let self = c.args.self.now in
+    let journal = old.bytes (Journal self.at.set) in
+    let found = walk_one (form_of old) old.journals journal self.at self.last.0 in
+    let time = c.in-Ok-Group.time in
+    let after = c.in-Ok-Group.after in
+    let finds = c.in-Ok-Group.ensures.finds told (λ j e. absurd cc) in
+    let items = c.walk.new.into.items in
+    let items_are : items ≡ items_found found = ap (λ (h : Held). h.items) finds.held in
+    let first = told_group self.at.set found time after (sym finds.told ∙ ap Ok c.in-Ok-Group.field-0-is) in
+    let is : found ≡ Group time.0 items after = first ∙ ap (λ (l : List Item). Group time.0 l after) (sym items_are) in
+    let ends = group_ends (form_of old) old.journals journal self.at self.last.0 time.0 items after is in
+    let there = c.has_place.ensures.there.0 c.if-not-has_place.false in
+    let size = g.met.P.Plant.length_told c.args.plant.now (Journal self.at.set) told there.0 in
+    let short = c.has_place.ensures.short c.if-not-has_place.false in
+    let places = subst (λ (l : List Item). HavePlaces self.at l) (sym items_are) (found_places (form_of old) old.journals journal self.at self.last.0 (omega (arith, size, short))) in
+    let volumes = c.volumes-volumes.ensures in
+    let below = ap (λ (n : ℕ). are_below n self.table.rows) volumes ∙ stands.below in
+    let passes = c.pass_group.ensures.passes (omega (arith, ends.number)) below places in
+    subst (λ (s : Step). Passes s self c.pass_group.new.self c.pass_group.result)
+    (ap (λ (n : ℕ). group_step (standing_of self) time.0 items after (first_unfit n (body_place self.at) self.table.rows items)) volumes ∙ sym (ap (λ (f : Found). step_by (shape_of old) (standing_of self) f) is)) passes
+
+pub returns-in-Ok-Switch-clause-passes : goal.returns-in-Ok-Switch-clause-passes
+returns-in-Ok-Switch-clause-passes g c = λ told stands.
+    let old = g.P.Plant.state c.args.plant.now in
+    let self = c.args.self.now in
+    let journal = old.bytes (Journal self.at.set) in
+    let found = walk_one (form_of old) old.journals journal self.at self.last.0 in
+    let time = c.in-Ok-Switch.time in
+    let after = c.in-Ok-Switch.after in
+    let finds = c.in-Ok-Switch.ensures.finds told (λ j e. absurd cc) in
+    let is = told_switch self.at.set found time after (sym finds.told ∙ ap Ok c.in-Ok-Switch.field-0-is) in
+    let leads = switch_leads (form_of old) old.journals journal self.at self.last.0 time.0 after is in
+    let passes = c.enter.ensures.passes (omega (arith, ap (λ (s : Spot). s.number) leads)) in
+    subst (λ (s : Step). Passes s self c.enter.new.self c.enter.result) (sym (ap (λ (f : Found). step_by (shape_of old) (standing_of self) f) is)) passes
+
+pub returns-in-Err-Damaged-clause-passes : goal.returns-in-Err-Damaged-clause-passes
+returns-in-Err-Damaged-clause-passes g c = λ told stands.
+    let old = g.P.Plant.state c.args.plant.now in
+    let self = c.args.self.now in
+    let journal = old.bytes (Journal self.at.set) in
+    let found = walk_one (form_of old) old.journals journal self.at self.last.0 in
+    let place = c.in-Err-Damaged.place in
+    let finds = c.in-Err-Damaged.ensures.finds told (λ j e. absurd cc) in
+    let items = c.walk.new.into.items in
+    let items_are : items ≡ items_found found = ap (λ (h : Held). h.items) finds.held in
+    let first = told_damaged self.at.set found _ place (sym finds.told ∙ ap Err c.in-Err-Damaged.field-0-is) in
+    let is : found ≡ Damaged place items = first ∙ ap (λ (l : List Item). Damaged place l) (sym items_are) in
+    let there = c.has_place.ensures.there.0 c.if-not-has_place.false in
+    let size = g.met.P.Plant.length_told c.args.plant.now (Journal self.at.set) told there.0 in
+    let short = c.has_place.ensures.short c.if-not-has_place.false in
+    let places = subst (λ (l : List Item). HavePlaces self.at l) (sym items_are) (found_places (form_of old) old.journals journal self.at self.last.0 (omega (arith, size, short))) in
+    let volumes = c.volumes-volumes.ensures in
+    let below = ap (λ (n : ℕ). are_below n self.table.rows) volumes ∙ stands.below in
+    let passes = c.break_at.ensures.passes below places in
+    subst (λ (s : Step). Passes s self c.break_at.new.self (Err c.break_at.result))
+    (ap (λ (n : ℕ). Breaks (unwrap_or (first_unfit n (body_place self.at) self.table.rows items) place)) volumes ∙ sym (ap (λ (f : Found). step_by (shape_of old) (standing_of self) f) is)) passes

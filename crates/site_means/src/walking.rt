@@ -1,0 +1,267 @@
+//! The walk over a site's journals.
+
+ghost use Rattle.std.specs.Prelude.{◌≡◌, ◌<◌, ◌^◌, ◌↔◌, ℕ, unwrap_or, IfOk, OnOk, IsErrOf, IsTrue, Ok, Err, true};
+ghost use Rattle.crash_plant.specs.declared.device.Device.{Device as AnyDevice};
+ghost use Rattle.crash_plant.specs.declared.device.Device.TheVariants.{Journal};
+ghost use Rattle.crash_plant.specs.Calls.{NoneLent};
+ghost use Rattle.pair_table.specs.Tables.{are_below};
+ghost use Rattle.site_means.specs.declared.site_error.SiteError.TheVariants.{Damaged, Fault, TooSmall};
+ghost use Rattle.site_means.specs.Images.{shape_of};
+ghost use Rattle.site_means.specs.Walk.Step.{Breaks};
+ghost use Rattle.site_means.specs.Walk.{body_place, first_unfit, group_step, step, switch_step};
+ghost use Rattle.site_means.specs.Answers.{Fails, IsExamined, ReadsAll};
+ghost use Rattle.site_means.specs.Steps.{BeginsAt, HasRoom, HavePlaces, IsDamage, OnlyDamage, Passes, Reports, Stands, TakesRows, moved_on, standing_of, walk_of};
+
+use crate::rows::take_rows;
+use crate::{Means, SiteError};
+use ckd_track::Slot;
+use control_set::Mark;
+use crash_plant::{Device, Plant, Spot};
+use pair_table::{Level, PairTable};
+use std::alloc::Global;
+use tod_stamp::Stamp;
+use xrc_edge::NoMemory;
+use xrc_journal::{Body, WalkError, Walked, walk};
+
+/// The length of a record's gate and header.
+const FRONT: u64 = 22;
+
+/// Where a walk stands.
+#[derive(Drop)]
+pub(crate) struct Walking {
+    pub(crate) table: PairTable,
+    /// The data sets that it has entered, in order.
+    pub(crate) entered: Vec<u16>,
+    pub(crate) at: Spot,
+    /// The time of the record before.
+    pub(crate) last: Stamp,
+    /// The time of the last group, or of the mark.
+    pub(crate) time: Stamp,
+}
+
+/// What records are read into.
+#[derive(Drop)]
+pub(crate) struct Buffers {
+    body: Body,
+    slot: Slot,
+}
+
+impl Buffers {
+    /// Buffers for records whose bodies have at most that many bytes.
+    pub(crate) fn make(alloc: Global, longest: u32) -> Result<Buffers, NoMemory>
+        ensures { IfOk result (λ buffers. buffers.body.room ≡ longest) }
+    {
+        let body = Body::make(alloc, longest)?;
+        let slot = Slot::make(alloc)?;
+        Ok(Buffers { body, slot })
+    }
+}
+
+/// The damage at a place of a journal.
+fn damaged(set: u16, place: u64) -> SiteError
+    ensures { result ≡ Damaged (Journal set) place }
+{
+    SiteError::Damaged(Device::Journal(set), place)
+}
+
+/// Whether a record may stand there.
+fn has_place<P: Plant>(plant: &P, at: Spot) -> bool
+    ensures short { IsTrue result → (P.state plant.now).lengths (Journal at.set) < 2 ^ 64 }
+    ensures number { at.number < 2 ^ 64 }
+    ensures there { IsTrue result ↔ ((at.set < (P.state plant.now).journals) × (at.place < (P.state plant.now).lengths (Journal at.set))) }
+{
+    at.set < plant.journals() && at.place < plant.length(Device::Journal(at.set))
+}
+
+impl Walking {
+    /// The start of the walk from a mark, with the rows of its state slot.
+    pub(crate) fn begin(alloc: Global, mark: &Mark, table: PairTable) -> Result<Walking, NoMemory>
+        ensures { IfOk result (λ walking. BeginsAt mark.now table walking) }
+    {
+        let mut entered = Vec::new(alloc);
+        entered.push(mark.at.set)?;
+        Ok(Walking {
+            table,
+            entered,
+            at: mark.at,
+            last: mark.time,
+            time: mark.time,
+        })
+    }
+
+    /// Stands behind a record of this time. The damage where that spot isn't a later one, which no plant that tells its bytes gives.
+    fn move_on(&mut self, time: Stamp, after: Spot) -> Result<bool, SiteError>
+        ensures moved { self.old.at.number < after.number → (result ≡ Ok true) × (self.new ≡ moved_on time after self.old) }
+        ensures forth { OnOk result (self.old.at.number < self.new.at.number) }
+        ensures others { OnlyDamage result }
+    {
+        if after.number <= self.at.number {
+            return Err(damaged(self.at.set, self.at.place));
+        }
+        self.at = after;
+        self.last = time;
+        Ok(true)
+    }
+
+    /// Goes on behind a switch, where the next data set wasn't entered before.
+    fn enter(&mut self, time: Stamp, after: Spot) -> Result<bool, SiteError>
+        ensures passes { self.old.at.number < after.number → Passes (switch_step (standing_of self.old) time.0 after) self.old self.new result }
+        ensures forth { OnOk result (self.old.at.number < self.new.at.number) }
+        ensures others { OnlyDamage result }
+    {
+        if self.entered.contains(&after.set) {
+            return Err(damaged(self.at.set, self.at.place));
+        }
+        match self.entered.push(after.set) {
+            Ok(()) => self.move_on(time, after),
+            Err(_) => Err(SiteError::NoMemory),
+        }
+    }
+
+    /// Changes the rows by the items of a body, and gives the place of the first that doesn't fit them.
+    fn take_rows(
+        &mut self,
+        alloc: Global,
+        volumes: u16,
+        buffers: &mut Buffers,
+    ) -> Result<Option<u64>, NoMemory>
+        ensures rows { IsTrue (are_below volumes self.old.table.rows) → HavePlaces self.old.at buffers.old.body.items → IfOk result (λ bad. TakesRows volumes (body_place self.old.at) buffers.old.body.items bad self.old.table self.new.table) }
+        ensures rest { self.new ≡ record self.old { table = self.new.table } }
+        ensures body { buffers.new.body ≡ buffers.old.body }
+    {
+        match take_rows(
+            alloc,
+            volumes,
+            &mut self.table,
+            &mut buffers.slot,
+            &buffers.body,
+        )? {
+            None => Ok(None),
+            Some(offset) => Ok(Some(
+                self.at
+                    .place
+                    .saturating_add(FRONT)
+                    .saturating_add(offset as u64),
+            )),
+        }
+    }
+
+    /// Goes on behind the group whose items were read.
+    fn pass_group(
+        &mut self,
+        alloc: Global,
+        volumes: u16,
+        buffers: &mut Buffers,
+        time: Stamp,
+        after: Spot,
+    ) -> Result<bool, SiteError>
+        ensures passes { self.old.at.number < after.number → IsTrue (are_below volumes self.old.table.rows) → HavePlaces self.old.at buffers.old.body.items
+            → Passes (group_step (standing_of self.old) time.0 buffers.old.body.items after (first_unfit volumes (body_place self.old.at) self.old.table.rows buffers.old.body.items)) self.old self.new result }
+        ensures forth { OnOk result (self.old.at.number < self.new.at.number) }
+        ensures others { OnlyDamage result }
+        ensures body { buffers.new.body ≡ buffers.old.body }
+    {
+        match self.take_rows(alloc, volumes, buffers) {
+            Ok(None) => {
+                self.time = time;
+                self.move_on(time, after)
+            }
+            Ok(Some(place)) => Err(damaged(self.at.set, place)),
+            Err(NoMemory) => Err(SiteError::NoMemory),
+        }
+    }
+
+    /// The first place at which a record breaks a rule, where an item at this place does, and the items before it were read.
+    fn break_at(
+        &mut self,
+        alloc: Global,
+        volumes: u16,
+        buffers: &mut Buffers,
+        place: u64,
+    ) -> SiteError
+        ensures passes { IsTrue (are_below volumes self.old.table.rows) → HavePlaces self.old.at buffers.old.body.items
+            → Passes (Breaks (unwrap_or (first_unfit volumes (body_place self.old.at) self.old.table.rows buffers.old.body.items) place)) self.old self.new (Err result) }
+        ensures others { IsDamage result }
+        ensures body { buffers.new.body ≡ buffers.old.body }
+    {
+        match self.take_rows(alloc, volumes, buffers) {
+            Ok(None) => damaged(self.at.set, place),
+            Ok(Some(before)) => damaged(self.at.set, before),
+            Err(NoMemory) => SiteError::NoMemory,
+        }
+    }
+
+    /// Reads the record at the spot, and goes on behind it. False where there is none.
+    fn step<P: Plant>(
+        &mut self,
+        alloc: Global,
+        plant: &mut P,
+        buffers: &mut Buffers,
+    ) -> Result<bool, SiteError>
+        requires home { NoneLent (P.state plant.old) }
+        requires room { HasRoom (P.state plant.old) buffers.old.body.room }
+        ensures passes { P.tells → Stands (P.state plant.old) self.old → Passes (step (shape_of (P.state plant.old)) (P.state plant.old).bytes (standing_of self.old)) self.old self.new result }
+        ensures number { self.old.at.number < 2 ^ 64 }
+        ensures forth { IfOk result (λ more. more ≡ true → self.old.at.number < self.new.at.number) }
+        ensures room { buffers.new.body.room ≡ buffers.old.body.room }
+        ensures short { (d : AnyDevice) (needed : ℕ) → ¬ IsErrOf result (TooSmall d needed) }
+        ensures examined { (d : AnyDevice) → IsErrOf result (Fault d) → IsExamined d }
+        ensures fails { Fails (P.state plant.old).faults (P.state plant.new).faults result }
+        ensures reads { ReadsAll P.tells (P.state plant.old) (P.state plant.new) }
+    {
+        let at = self.at;
+        if !has_place(plant, at) {
+            return Err(damaged(at.set, at.place));
+        }
+        let volumes = plant.volumes();
+        match walk(plant, at, self.last, &mut buffers.body) {
+            Ok(Walked::End) => Ok(false),
+            Ok(Walked::Group { time, after }) => {
+                self.pass_group(alloc, volumes, buffers, time, after)
+            }
+            Ok(Walked::Switch { time, after }) => self.enter(time, after),
+            Err(WalkError::Damaged(_, place)) => {
+                Err(self.break_at(alloc, volumes, buffers, place))
+            }
+            Err(WalkError::Fault(set)) => Err(SiteError::Fault(Device::Journal(set))),
+        }
+    }
+
+    /// Goes on to the end of the walk.
+    pub(crate) fn finish<P: Plant>(
+        &mut self,
+        alloc: Global,
+        plant: &mut P,
+        buffers: &mut Buffers,
+    ) -> Result<(), SiteError>
+        requires home { NoneLent (P.state plant.old) }
+        requires room { HasRoom (P.state plant.old) buffers.old.body.room }
+        ensures reports { P.tells → Stands (P.state plant.old) self.old → Reports (walk_of (shape_of (P.state plant.old)) (P.state plant.old).bytes self.old) self.old self.new result }
+        ensures short { (d : AnyDevice) (needed : ℕ) → ¬ IsErrOf result (TooSmall d needed) }
+        ensures examined { (d : AnyDevice) → IsErrOf result (Fault d) → IsExamined d }
+        ensures fails { Fails (P.state plant.old).faults (P.state plant.new).faults result }
+        ensures reads { ReadsAll P.tells (P.state plant.old) (P.state plant.new) }
+    {
+        loop {
+            match self.step(alloc, plant, buffers) {
+                Ok(true) => {}
+                Ok(false) => return Ok(()),
+                Err(error) => return Err(error),
+            }
+        }
+    }
+
+    /// What a walk that has ended means, from a mark and with the level of its state slot.
+    pub(crate) fn means(self, mark: &Mark, level: Level) -> Means
+        ensures { result ≡ record { session = mark.now.session; level = level; time = self.time; table = self.table; from = mark.now.at; ended = mark.now.ended } }
+    {
+        Means {
+            session: mark.session,
+            level,
+            time: self.time,
+            table: self.table,
+            from: mark.at,
+            ended: mark.ended,
+        }
+    }
+}

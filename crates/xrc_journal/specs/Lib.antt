@@ -1,0 +1,10 @@
+pub mod Items
+pub mod Deltas
+pub mod Reading
+pub mod Records
+pub mod Bodies
+pub mod Answers
+pub mod Walks
+pub mod Laws
+pub mod Vectors
+pub mod Views

@@ -1,0 +1,154 @@
+//! Records put at the journal's end.
+
+ghost use Rattle.std.specs.Prelude.{◌≡◌, ◌≤◌, ◌<◌, ◌+◌, ◌-◌, ◌^◌, ◌∷◌, ◌++◌, [], ℕ, length, OnOk, OnErr, IsErr, IsErrOf, IsTrue};
+ghost use Rattle.std.specs.Int.{w32, w64, to_be_bytes};
+ghost use Rattle.xrc_edge.specs.Causes.{HasCause, Rose};
+ghost use Rattle.crash_plant.specs.declared.device.Device.TheVariants.{Journal as JournalDevice};
+ghost use Rattle.crash_plant.specs.Bytes.{patched, Torn};
+ghost use Rattle.crash_plant.specs.Moments.{on, Follows, IsDurable, Stays};
+ghost use Rattle.crash_plant.specs.Calls.{IsThere, WorksOn};
+ghost use Rattle.crash_plant.specs.declared.spot.Spot.{Spot as SpotValue};
+ghost use Rattle.xrc_journal.specs.declared.journal.AppendError.TheVariants.{NoRoom, Fault};
+ghost use Rattle.xrc_journal.specs.Items.{AreItems, body_spelling, form_of};
+ghost use Rattle.xrc_journal.specs.Records.{group_spelling, header_spelling, most_body, spot_after};
+ghost use Rattle.xrc_journal.specs.Walks.{Adds, AllEnd, Appends, Logged};
+
+use crate::Body;
+use crate::header::{AROUND, FRONT, HEADER};
+use byteorder::{BigEndian, ByteOrder};
+use crash_plant::{Device, Plant, Spot};
+use gates::put_down;
+use tod_stamp::Stamp;
+use xrc_edge::Failed;
+
+/// Where the journal stands: the spot of the next record, and the spot from which the records count.
+#[derive(Clone, Copy, Debug, PartialEq, Eq)]
+pub struct Journal {
+    pub at: Spot,
+    pub marked: Spot,
+}
+
+/// Why a record was not put at the end.
+#[derive(Clone, Copy, Debug, PartialEq, Eq)]
+pub enum AppendError {
+    /// It needs more bytes than are left in the data set, with those for a switch behind it.
+    NoRoom { needed: u64, free: u64 },
+    /// The journal with this number has failed.
+    Fault(u16),
+}
+
+/// What stands between the gate and the body of a group.
+fn header(number: u64, time: Stamp, length: u32) -> [u8; HEADER]
+    ensures spelled { result ≡ header_spelling 1 number time.0 length }
+    ensures stamp { time.0 < 2 ^ 64 }
+{
+    let mut bytes = [1; HEADER];
+    BigEndian::write_u64(&mut bytes[1..9], number);
+    BigEndian::write_u64(&mut bytes[9..17], time.0);
+    BigEndian::write_u32(&mut bytes[17..21], length);
+    bytes
+}
+
+/// Writes two parts one behind the other, and syncs them. Where it fails, their range may hold any bytes.
+fn put_both<P: Plant>(
+    plant: &mut P,
+    device: Device,
+    place: u64,
+    front: &[u8],
+    back: &[u8],
+) -> Result<(), Failed>
+    requires there { IsThere (P.state plant.old) device }
+    requires range { place + length front.now + length back.now ≤ (P.state plant.old).lengths device }
+    requires fits { (P.state plant.old).lengths device < 2 ^ 64 }
+    ensures written { P.tells → OnOk result ((P.state plant.new).bytes device ≡ patched place (front.now ++ back.now) ((P.state plant.old).bytes device)) }
+    ensures durable { P.tells → OnOk result (IsDurable (on (P.state plant.new) device)) }
+    ensures moments { P.tells → Follows (Torn place (length front.now + length back.now)) (on (P.state plant.old) device) (on (P.state plant.new) device) }
+    ensures only { WorksOn P.tells (λ d. d ≡ device) (P.state plant.old) (P.state plant.new) }
+    ensures cause { HasCause ((P.state plant.old).faults device) ((P.state plant.new).faults device) result }
+{
+    plant.write(device, place, front)?;
+    put_down(plant, device, place + front.len() as u64, back)
+}
+
+/// Puts a group at a spot, with a closed gate behind it.
+fn put_group<P: Plant>(plant: &mut P, at: Spot, cut: Stamp, body: &Body) -> Result<(), Failed>
+    requires there { IsThere (P.state plant.old) (JournalDevice at.set) }
+    requires fits { (P.state plant.old).lengths (JournalDevice at.set) < 2 ^ 64 }
+    requires keep { AreItems (form_of (P.state plant.old)) body.now.items }
+    requires short { length (body_spelling body.now.items) ≤ most_body }
+    requires room { at.place + 22 + length (body_spelling body.now.items) + 24 ≤ (P.state plant.old).lengths (JournalDevice at.set) }
+    requires number { at.number < 2 ^ 64 - 1 }
+    ensures moments { let g : Logged = record { time = cut.0; items = body.now.items } in
+        P.tells → (from : SpotValue) → Follows (Appends (form_of (P.state plant.old)) (P.state plant.old).journals from at g) (on (P.state plant.old) (JournalDevice at.set)) (on (P.state plant.new) (JournalDevice at.set)) }
+    ensures added { let g : Logged = record { time = cut.0; items = body.now.items } in
+        P.tells → (from : SpotValue) → OnOk result (Adds (form_of (P.state plant.old)) (P.state plant.old).journals from at g ((P.state plant.old).bytes (JournalDevice at.set)) ((P.state plant.new).bytes (JournalDevice at.set))) }
+    ensures written { P.tells → OnOk result ((P.state plant.new).bytes (JournalDevice at.set) ≡ patched at.place (1 ∷ (group_spelling at.number cut.0 body.now.items ++ 0 ∷ [])) ((P.state plant.old).bytes (JournalDevice at.set))) }
+    ensures durable { P.tells → OnOk result (IsDurable (on (P.state plant.new) (JournalDevice at.set))) }
+    ensures only { WorksOn P.tells (λ d. d ≡ JournalDevice at.set) (P.state plant.old) (P.state plant.new) }
+    ensures cause { HasCause ((P.state plant.old).faults (JournalDevice at.set)) ((P.state plant.new).faults (JournalDevice at.set)) result }
+{
+    let device = Device::Journal(at.set);
+    let header = header(at.number, cut, body.bytes().len() as u32);
+    put_both(plant, device, at.place + 1, &header, body.shut_bytes())?;
+    put_down(plant, device, at.place, &[1])
+}
+
+impl Journal {
+    /// Puts a group with this time and these items at the end. It takes no memory. After a `Fault` the journal may not be used
+    /// again.
+    pub fn append<P: Plant>(
+        &mut self,
+        plant: &mut P,
+        cut: Stamp,
+        body: &Body,
+    ) -> Result<(), AppendError>
+        requires there { IsThere (P.state plant.old) (JournalDevice self.old.at.set) }
+        requires room { self.old.at.place + 24 ≤ (P.state plant.old).lengths (JournalDevice self.old.at.set) }
+        requires number { self.old.at.number ≤ 2 ^ 64 - 2 }
+        // The body keeps the rules on one record.
+        requires keep { AreItems (form_of (P.state plant.old)) body.now.items }
+        requires short { length (body_spelling body.now.items) ≤ most_body }
+        // In every image the walk from the mark is defined, and ends at the spot with no time above the cut.
+        requires ends { P.tells → AllEnd (P.state plant.old) self.old.marked self.old.at cut.0 }
+        // At every moment of the call the walk is the old one or has the group at its end, and nothing else has changed.
+        ensures moments { let g : Logged = record { time = cut.0; items = body.now.items } in
+            P.tells → Follows (Appends (form_of (P.state plant.old)) (P.state plant.old).journals self.old.marked self.old.at g) (on (P.state plant.old) (JournalDevice self.old.at.set)) (on (P.state plant.new) (JournalDevice self.old.at.set)) }
+        // After Ok it has, in every image.
+        ensures added { let g : Logged = record { time = cut.0; items = body.now.items } in
+            P.tells → OnOk result (Adds (form_of (P.state plant.old)) (P.state plant.old).journals self.old.marked self.old.at g ((P.state plant.old).bytes (JournalDevice self.old.at.set)) ((P.state plant.new).bytes (JournalDevice self.old.at.set))) }
+        // The record stands there spelled, with the byte 0 behind it.
+        ensures written { P.tells → OnOk result ((P.state plant.new).bytes (JournalDevice self.old.at.set) ≡ patched self.old.at.place (1 ∷ (group_spelling self.old.at.number cut.0 body.now.items ++ 0 ∷ [])) ((P.state plant.old).bytes (JournalDevice self.old.at.set))) }
+        ensures durable { P.tells → OnOk result (IsDurable (on (P.state plant.new) (JournalDevice self.old.at.set))) }
+        ensures ends { P.tells → OnOk result (AllEnd (P.state plant.new) self.new.marked self.new.at cut.0) }
+        ensures at { OnOk result (self.new.at ≡ spot_after self.old.at (length (body_spelling body.now.items))) }
+        ensures marked { self.new.marked ≡ self.old.marked }
+        ensures err { OnErr result (self.new ≡ self.old) }
+        // All else is as before, on all devices and the console.
+        ensures only { WorksOn P.tells (λ d. d ≡ JournalDevice self.old.at.set) (P.state plant.old) (P.state plant.new) }
+        // Why it fails.
+        ensures fault { (j : ℕ) → IsErrOf result (Fault j) → (j ≡ self.old.at.set) × Rose ((P.state plant.old).faults (JournalDevice j)) ((P.state plant.new).faults (JournalDevice j)) }
+        ensures ok_without_fault { OnOk result ((P.state plant.new).faults (JournalDevice self.old.at.set) ≡ (P.state plant.old).faults (JournalDevice self.old.at.set)) }
+        ensures no_room { (needed free : ℕ) → IsErrOf result (NoRoom needed free) → (needed ≡ 22 + length (body_spelling body.now.items) + 24) × (free ≡ (P.state plant.old).lengths (JournalDevice self.old.at.set) - self.old.at.place) × (free < needed) }
+        ensures no_room_without_fault { (needed free : ℕ) → IsErrOf result (NoRoom needed free) → (P.state plant.new).faults (JournalDevice self.old.at.set) ≡ (P.state plant.old).faults (JournalDevice self.old.at.set) }
+        ensures untouched { P.tells → (needed free : ℕ) → IsErrOf result (NoRoom needed free) → Stays (on (P.state plant.old) (JournalDevice self.old.at.set)) (on (P.state plant.new) (JournalDevice self.old.at.set)) }
+        ensures refuses { let needed = 22 + length (body_spelling body.now.items) + 24 in
+            (P.state plant.old).lengths (JournalDevice self.old.at.set) < self.old.at.place + needed → IsErrOf result (NoRoom needed ((P.state plant.old).lengths (JournalDevice self.old.at.set) - self.old.at.place)) }
+        ensures has_room { self.old.at.place + 22 + length (body_spelling body.now.items) + 24 ≤ (P.state plant.old).lengths (JournalDevice self.old.at.set) → (needed free : ℕ) → ¬ IsErrOf result (NoRoom needed free) }
+    {
+        let device = Device::Journal(self.at.set);
+        let length = body.bytes().len() as u64;
+        let needed = AROUND + length;
+        let free = plant.length(device) - self.at.place;
+        if free < needed {
+            return Err(AppendError::NoRoom { needed, free });
+        }
+        match put_group(plant, self.at, cut, body) {
+            Ok(()) => {
+                self.at.place += FRONT + length;
+                self.at.number += 1;
+                Ok(())
+            }
+            Err(Failed) => Err(AppendError::Fault(self.at.set)),
+        }
+    }
+}

@@ -1,0 +1,33 @@
+//! The journal: records behind gates, one after another in data sets, and the walk over them.
+#![tactic(auto)]
+
+mod body;
+mod buffer;
+mod filling;
+mod header;
+mod item;
+mod job;
+mod journal;
+mod laws;
+mod reading;
+mod spot;
+pub mod vectors;
+
+pub use body::Body;
+pub use crash_plant::Spot;
+pub use job::VolumeJob;
+pub use journal::{AppendError, Journal};
+pub use laws::{
+    bodies_are_spelled, bodies_read_back, ends_are_shut, groups_are_spelled, groups_are_walked,
+    items_are_spelled, items_read_back, switches_are_spelled, switches_are_walked, walks_are_one,
+    walks_end_at_gates, walks_go_on,
+};
+pub use reading::{BodyItem, first_item};
+pub use spot::{WalkError, Walked, walk};
+
+#[cfg(test)]
+mod append_tests;
+#[cfg(test)]
+mod reading_tests;
+#[cfg(test)]
+mod tests;

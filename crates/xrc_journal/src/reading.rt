@@ -1,0 +1,89 @@
+//! The items of a body one after another, for those who go over them.
+
+ghost use Rattle.std.specs.Prelude.{◌≡◌, ◌≢◌, ℕ, List, slice_index, IsTrue};
+ghost use Rattle.xrc_journal.specs.Items.{Item, Earlier, anywhere, are_items_behind, body_spelling};
+ghost use Rattle.pair_table.specs.declared.row.PairRow.{PairRow as RowValue};
+ghost use Rattle.xrc_journal.specs.Items.Item.{Gone, Pair};
+ghost use Rattle.xrc_journal.specs.Bodies.{BeginsWith, BeginsWithItem};
+ghost use Rattle.xrc_journal.specs.Views.{AreItemBytes, Tells, first_told, first_track};
+
+use byteorder::{BigEndian, ByteOrder};
+use ckd_track::Slot;
+use pair_table::{PairRow, decode_row};
+
+/// The bytes of an image's item before the image.
+const IMAGE_FRONT: usize = 7;
+
+/// The bytes of a row.
+const ROW: usize = 30;
+
+/// An item of a body. The track of an image is read into a slot.
+#[derive(Clone, Copy, Debug, PartialEq, Eq)]
+pub enum BodyItem {
+    /// A whole track of a device.
+    Image { device: u16, track: u32 },
+    /// A pair's row.
+    Pair(PairRow),
+    /// A device whose row goes.
+    Gone { device: u16 },
+}
+
+/// The image that the bytes begin with.
+fn image(slot: &mut Slot, bytes: &[u8]) -> (BodyItem, usize)
+    requires item { BeginsWithItem bytes.now }
+    requires tag { slice_index bytes.now 0 ≡ 1 }
+    ensures { (item : Item) → BeginsWith bytes.now item → Tells item result slot.old slot.new }
+{
+    let device = BigEndian::read_u16(&bytes[1..3]);
+    let track = BigEndian::read_u32(&bytes[3..7]);
+    match slot.load(&bytes[IMAGE_FRONT..]) {
+        Ok(length) => (BodyItem::Image { device, track }, IMAGE_FRONT + length),
+        Err(_) => unreachable!(),
+    }
+}
+
+/// The pair that the bytes begin with.
+fn pair(bytes: &[u8]) -> PairRow
+    requires item { BeginsWithItem bytes.now }
+    requires tag { slice_index bytes.now 0 ≡ 3 }
+    ensures { (row : RowValue) → BeginsWith bytes.now (Pair row) → result ≡ row }
+{
+    let mut row = [0; ROW];
+    row.copy_from_slice(&bytes[1..1 + ROW]);
+    match decode_row(&row) {
+        Some(row) => row,
+        None => unreachable!(),
+    }
+}
+
+/// The device of the item that the bytes begin with, whose row goes.
+fn gone(bytes: &[u8]) -> u16
+    requires item { BeginsWithItem bytes.now }
+    requires image { slice_index bytes.now 0 ≢ 1 }
+    requires pair { slice_index bytes.now 0 ≢ 3 }
+    ensures { (device : ℕ) → BeginsWith bytes.now (Gone device) → result ≡ device }
+{
+    BigEndian::read_u16(&bytes[1..3])
+}
+
+/// The item that bytes of a body begin with, and its length. None exactly where there are no bytes. The track of an image is in
+/// the slot afterwards, which any other item leaves as it is.
+pub fn first_item(slot: &mut Slot, bytes: &[u8]) -> Option<(BodyItem, usize)>
+    requires { AreItemBytes bytes.now }
+    ensures item { (earlier : Earlier) (items : List Item) → IsTrue (are_items_behind anywhere earlier items) → bytes.now ≡ body_spelling items → result ≡ first_told items }
+    ensures track { (earlier : Earlier) (items : List Item) → IsTrue (are_items_behind anywhere earlier items) → bytes.now ≡ body_spelling items → slot.new ≡ first_track items slot.old }
+{
+    if bytes.is_empty() {
+        return None;
+    }
+    match bytes[0] {
+        1 => Some(image(slot, bytes)),
+        3 => Some((BodyItem::Pair(pair(bytes)), 1 + ROW)),
+        _ => Some((
+            BodyItem::Gone {
+                device: gone(bytes),
+            },
+            3,
+        )),
+    }
+}
