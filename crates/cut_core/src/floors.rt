@@ -1,7 +1,8 @@
 //! How far each control has come, the last cut, and the cut that a form takes.
 
-ghost use Rattle.std.specs.Prelude.{◌≡◌, ◌<◌, ◌≤◌, ◌∷◌, ◌++◌, [], List, IsTrue, map, slice_set};
+ghost use Rattle.std.specs.Prelude.{◌≡◌, ◌<◌, ◌≤◌, ◌∷◌, ◌++◌, [], List, ℕ, IsTrue, false, map, slice_set};
 ghost use Rattle.cut_core.specs.Events.{last_cut, Event as Happening};
+ghost use Rattle.cut_core.specs.Events.Event.{Drop};
 ghost use Rattle.cut_core.specs.Legal.{is_legal_next, least_floor};
 ghost use Rattle.cut_core.specs.Seen.{seen};
 ghost use Rattle.cut_core.specs.Standing.{StandsAfter, told_to, formed};
@@ -56,6 +57,8 @@ impl Floors {
         requires legal { (past : List Happening) × StandsAfter self.old past × IsTrue (is_legal_next self.old.controls past (seen event.now)) }
         ensures controls { self.new.controls ≡ self.old.controls }
         ensures stands { (past : List Happening) → StandsAfter self.old past → IsTrue (is_legal_next self.old.controls past (seen event.now)) → StandsAfter self.new (past ++ seen event.now ∷ []) }
+        // A drop changes nothing, whatever the history says of its map.
+        ensures dropped { (control volume : ℕ) → seen event.now ≡ Drop control volume false → self.new ≡ self.old }
     {
         match event {
             Event::Join { batch } => self.tell(batch.control, batch.upto, Phase::Telling),

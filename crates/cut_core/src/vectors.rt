@@ -105,3 +105,14 @@ pub fn carried_again()
     ensures forgotten_in_carrying { (share 0 0 0 (two_controls ++ Forget 0 0 ∷ Carry 0 0 [] ∷ Drop 0 0 false ∷ [])).is_mapped ≡ true }
     ensures both_wanted { (share 0 0 5 (Carry 0 0 (5 ∷ []) ∷ Carry 0 0 (6 ∷ []) ∷ [])).is_wanted ≡ true }
 {}
+
+/// A volume is carried and its tracks are wanted by a carry and a resume alone, and just those that they name.
+pub fn carried_and_wanted()
+    ensures given { (share 0 0 5 (Carry 0 0 (5 ∷ []) ∷ [])).is_wanted ≡ true }
+    ensures not_given { (share 0 0 6 (Carry 0 0 (5 ∷ []) ∷ [])).is_wanted ≡ false }
+    ensures other_track { (share 0 0 6 (Carry 0 0 (5 ∷ 6 ∷ []) ∷ Copied 0 0 5 0 ∷ [])).is_wanted ≡ true }
+    ensures mapped_alone { (share 0 0 2 (two_controls ++ Drop 0 0 false ∷ Resume 0 0 ∷ [])).is_wanted ≡ false }
+    ensures wanted_no_more { (share 0 0 5 (Carry 0 0 (5 ∷ []) ∷ Forget 0 0 ∷ [])).is_wanted ≡ false }
+    ensures never_carried { group (join 0 (whole_on 0 0x10 ∷ []) 0x10 ∷ []) 0x10 ≡ [] }
+    ensures forgotten { group (Carry 0 0 [] ∷ Forget 0 0 ∷ join 0 (whole_on 0 0x10 ∷ []) 0x10 ∷ []) 0x10 ≡ [] }
+{}
