@@ -8,7 +8,7 @@ use Rattle.control_set.specs.declared.value.Mark.{Mark}
 use Rattle.control_set.specs.declared.slot.Slot.{Slot}
 use Rattle.control_set.specs.declared.slot.Slot.TheVariants.{Closed, Holds, Damaged}
 use Rattle.control_set.specs.declared.slot.Slots.{Slots}
-use Rattle.control_set.specs.Marks.{mark_at}
+use Rattle.control_set.specs.Marks.{IsMark, mark_at}
 
 -- ---- one slot
 
@@ -23,6 +23,12 @@ held (Err bad) = Damaged
 -- A slot is closed, holds the mark of the 48 bytes behind its open gate, or is damaged.
 abbrev pub slot_of : (lengths : List ℕ) → List ℕ → Slot
 slot_of lengths bytes = if is_open bytes then held (mark_at lengths (record { place = 1; bytes = slice_range bytes 1 49 })) else Closed
+
+-- A slot's mark, if it holds one, keeps the table.
+abbrev pub HoldsMark : (lengths : List ℕ) → Slot → Type 0
+HoldsMark lengths (Holds m) = IsMark lengths m
+HoldsMark lengths Closed = Unit {0}
+HoldsMark lengths Damaged = Unit {0}
 
 -- ---- the chosen mark
 

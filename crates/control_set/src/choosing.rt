@@ -1,12 +1,13 @@
 //! The mark that counts.
 
-ghost use Rattle.std.specs.Prelude.{◌≡◌, ◌≤◌, ◌+◌, ◌↔◌, ℕ, drop, IfOk, OnOk, IsErrOf, Ok, Err, None};
+ghost use Rattle.std.specs.Prelude.{◌≡◌, ◌≤◌, ◌+◌, ◌↔◌, ℕ, drop, IfOk, IfSome, OnOk, IsErrOf, Ok, Err, None};
 ghost use Rattle.xrc_edge.specs.Causes.{HasCause, Rose};
 ghost use Rattle.crash_plant.specs.declared.device.Device.TheVariants.{Control};
 ghost use Rattle.crash_plant.specs.Moments.{on, Follows, Same};
 ghost use Rattle.crash_plant.specs.Calls.{WorksOn};
 ghost use Rattle.control_set.specs.declared.choosing.ChooseError.TheVariants.{Damaged, Fault};
-ghost use Rattle.control_set.specs.Slots.{AreSlots, NoGateOpen, chosen_mark, chosen_of, lengths_of, slot_of};
+ghost use Rattle.control_set.specs.Marks.{IsMark};
+ghost use Rattle.control_set.specs.Slots.{AreSlots, HoldsMark, NoGateOpen, chosen_mark, chosen_of, lengths_of, slot_of};
 
 use crate::Mark;
 use crate::slot::{SLOT, Slot, Slots, decode};
@@ -32,6 +33,7 @@ pub(crate) const SECOND: u64 = 512;
 pub(crate) fn read_slot<P: Plant>(plant: &mut P, place: u64) -> Result<Slot, Failed>
     requires { place + 49 ≤ (P.state plant.old).lengths Control }
     ensures slot { P.tells → IfOk result (λ slot. slot ≡ slot_of (lengths_of (P.state plant.old)) (drop place ((P.state plant.old).bytes Control))) }
+    ensures keeps { IfOk result (λ slot. HoldsMark (lengths_of (P.state plant.old)) slot) }
     ensures same { P.tells → (P.state plant.new).bytes Control ≡ (P.state plant.old).bytes Control }
     ensures moments { P.tells → Follows Same (on (P.state plant.old) Control) (on (P.state plant.new) Control) }
     ensures only { WorksOn P.tells (λ d. d ≡ Control) (P.state plant.old) (P.state plant.new) }
@@ -79,8 +81,10 @@ fn chosen(first: Slot, second: Slot) -> Result<Option<Mark>, u64>
 
 /// Chooses beside a first slot that has been read and isn't damaged.
 fn choose_beside<P: Plant>(plant: &mut P, first: Slot) -> Result<Option<Mark>, ChooseError>
-    requires { 1024 ≤ (P.state plant.old).lengths Control }
+    requires long { 1024 ≤ (P.state plant.old).lengths Control }
+    requires keeps { HoldsMark (lengths_of (P.state plant.old)) first }
     ensures chosen { P.tells → IfOk result (λ found. chosen_of first (slot_of (lengths_of (P.state plant.old)) (drop 512 ((P.state plant.old).bytes Control))) ≡ Ok found) }
+    ensures keeps { IfOk result (λ found. IfSome found (IsMark (lengths_of (P.state plant.old)))) }
     ensures damaged { P.tells → (place : ℕ) → IsErrOf result (Damaged place) → chosen_of first (slot_of (lengths_of (P.state plant.old)) (drop 512 ((P.state plant.old).bytes Control))) ≡ Err place }
     ensures fault { IsErrOf result Fault → Rose ((P.state plant.old).faults Control) ((P.state plant.new).faults Control) }
     ensures ok_without_fault { OnOk result ((P.state plant.new).faults Control ≡ (P.state plant.old).faults Control) }
@@ -106,11 +110,13 @@ pub fn choose<P: Plant>(plant: &mut P) -> Result<Option<Mark>, ChooseError>
     ensures chosen { P.tells → IfOk result (λ found. chosen_mark (lengths_of (P.state plant.old)) ((P.state plant.old).bytes Control) ≡ Ok found) }
     ensures damaged { P.tells → (place : ℕ) → IsErrOf result (Damaged place) → chosen_mark (lengths_of (P.state plant.old)) ((P.state plant.old).bytes Control) ≡ Err place }
     ensures none { P.tells → IfOk result (λ found. (found ≡ None) ↔ NoGateOpen ((P.state plant.old).bytes Control)) }
+    // Whatever a read gave, a mark that is answered keeps the format's table.
+    ensures keeps { IfOk result (λ found. IfSome found (IsMark (lengths_of (P.state plant.old)))) }
     // Why it fails.
     ensures fault { IsErrOf result Fault → Rose ((P.state plant.old).faults Control) ((P.state plant.new).faults Control) }
     ensures ok_without_fault { OnOk result ((P.state plant.new).faults Control ≡ (P.state plant.old).faults Control) }
     ensures damaged_without_fault { (place : ℕ) → IsErrOf result (Damaged place) → (P.state plant.new).faults Control ≡ (P.state plant.old).faults Control }
-    // Nothing changes, on any device.
+    // What a read of the control gives stays, and a crash leaves nothing there that it couldn't leave before; all else is as before.
     ensures same { P.tells → (P.state plant.new).bytes Control ≡ (P.state plant.old).bytes Control }
     ensures moments { P.tells → Follows Same (on (P.state plant.old) Control) (on (P.state plant.new) Control) }
     ensures only { WorksOn P.tells (λ d. d ≡ Control) (P.state plant.old) (P.state plant.new) }

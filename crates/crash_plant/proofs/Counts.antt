@@ -19,7 +19,7 @@ cause_along old now was is result from to cause = subst (λ (n : ℕ). HasCause 
 
 -- A call whose own counts can't rise succeeds.
 pub cause_sure : {T E : Type 0} (none after before now : ℕ) (result : Result T E) → none ≡ 0 → after ≡ 0 → HasCause none after result → now ≡ before → HasCause before now result
-cause_sure none after before now (Ok x) is still cause same = record { later = omega (arith, same); ok = same; failed = tt }
+cause_sure none after before now (Ok x) is still cause same = record { later = omega (arith, same); by_one = omega (arith, same); ok = same; failed = tt }
 cause_sure none after before now (Err e) is still cause same = elim cause.failed [ inl rose ↦ absurd (omega (arith, rose, is, still)) | inr ended ↦ absurd (omega (arith, ended, still)) ]
 
 -- No count falls.

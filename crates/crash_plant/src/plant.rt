@@ -12,7 +12,7 @@ use xrc_edge::Failed;
 /// The devices and the console of a site. It counts the faults of each device, and those of the console.
 pub trait Plant {
     /// A volume while it is lent.
-    type Volume: Disk + Send;
+    type Volume: Disk + Drop + Send;
 
     /// The devices, the console and their past.
     ghost state: { Self → PlantState };

@@ -6,8 +6,10 @@ use Rattle.std.proofs.lemmas.Bool.{cases_Bool, and_parts, and_from, and_cases, a
 use Rattle.std.proofs.lemmas.List.{length-map, append-nil, take_more, map-append}
 use Rattle.std.proofs.lemmas.List.Sums.{sum_by-cons, sum_by-append, length-filter, count_by-le-length}
 use Rattle.tod_stamp.specs.declared.stamp.Stamp.{Stamp}
+use Rattle.ckd_track.specs.declared.write.Kind.{Kind}
 use Rattle.ckd_track.specs.declared.write.Write.{Write}
-use Rattle.pending_queue.specs.Entries.{WaitingEntry, entry_of, entries_of, stamp_of, last_stamp_from, never_fall, writes_never_fall, is_due, is_later, due, left, stands_before}
+use Rattle.pending_queue.specs.declared.head.EntryHead.{EntryHead}
+use Rattle.pending_queue.specs.Entries.{IsOfWrite, IsSpelled, WaitingEntry, write_of, entry_of, entries_of, stamp_of, last_stamp_from, never_fall, writes_never_fall, is_due, is_later, due, left, stands_before}
 use Rattle.pending_queue.specs.Rooms.{blocks_of, blocks_needed, blocks_taken}
 use Rattle.xrc_edge.specs.Order.{in_order, is_in_order}
 use Rattle.pending_queue.specs.Laws.{stands_at}
@@ -75,7 +77,7 @@ never_fall_lower low last (x ∷ entries) le e =
     let parts = and_parts (nat_le last (stamp_of x)) (never_fall (stamp_of x) entries) e in
     and_from (nat_le low (stamp_of x)) (never_fall (stamp_of x) entries) (le-leb low (stamp_of x) (omega (arith, leb-true last (stamp_of x) parts.0))) parts.1
 
-never_fall_filter : (test : WaitingEntry → Bool) (last : ℕ) (entries : List WaitingEntry) → never_fall last entries ≡ true → never_fall last (filter test entries) ≡ true
+pub never_fall_filter : (test : WaitingEntry → Bool) (last : ℕ) (entries : List WaitingEntry) → never_fall last entries ≡ true → never_fall last (filter test entries) ≡ true
 never_fall_filter test last [] e = refl
 never_fall_filter test last (x ∷ entries) e =
     let parts = and_parts (nat_le last (stamp_of x)) (never_fall (stamp_of x) entries) e in
@@ -229,3 +231,12 @@ last_stamp_pushed last (x ∷ entries) entry = last_stamp_pushed (stamp_of x) en
 
 pub due_within : (cut : Stamp) (entries : List WaitingEntry) → length (due cut entries) ≤ length entries
 due_within cut entries = omega (arith, length-filter (is_due cut) entries, count_by-le-length (is_due cut) entries)
+
+-- ---- the write of an entry
+
+pub entry_has_write : (head : EntryHead) (kind : Kind) (form : List ℕ) (copied : Bool) → IsSpelled head kind form → IsOfWrite (record { head = head; form = form; is_copy = copied })
+entry_has_write head kind form copied s = record {
+  write = write_of head kind;
+  keeps = s.keeps;
+  is = λ i. record { head = record { control = head.control; volume = head.volume; track = head.track; stamp = head.stamp; whole = s.whole i }; form = s.spelled i; is_copy = copied };
+}

@@ -1,18 +1,22 @@
 -- Entries: what waits in a queue for each write, which of them a cut takes, and how they stand in a group.
-use Rattle.std.specs.Prelude.{ℕ, ◌==◌, ◌&&◌, ◌||◌, List, [], ◌∷◌, map, filter, Bool, true, false, nat_lt, nat_le}
+use Rattle.std.specs.Prelude.{◌≡◌, ℕ, ◌==◌, ◌&&◌, ◌||◌, not, List, [], ◌∷◌, map, filter, Bool, true, false, nat_lt, nat_le, IsTrue}
 use Rattle.tod_stamp.specs.declared.stamp.Stamp.{Stamp}
+use Rattle.ckd_track.specs.declared.rec.Rec.{Rec}
 use Rattle.ckd_track.specs.declared.write.Kind.{Kind}
 use Rattle.ckd_track.specs.declared.write.Kind.TheVariants.{Update, Format, Whole}
 use Rattle.ckd_track.specs.declared.write.Write.{Write}
-use Rattle.ckd_track.specs.Effects.{keeps_rules}
+use Rattle.ckd_track.specs.Effects.{is_kind, keeps_rules}
 use Rattle.ckd_track.specs.Entries.{queue_form}
 use Rattle.std.specs.List.{list_all}
+use Rattle.pending_queue.specs.declared.entry.Effect.{Effect}
+use Rattle.pending_queue.specs.declared.entry.Effect.TheVariants.{Write as WriteEffect, Copy as CopyEffect}
 use Rattle.pending_queue.specs.declared.head.EntryHead.{EntryHead}
 
--- A waiting entry: what its write names, and the write's queue form.
+-- A waiting entry: what its write names, the write's queue form, and whether it is a copied track.
 pub record WaitingEntry : Type 0 where
   pub head : EntryHead
   pub form : List ℕ
+  pub is_copy : Bool
 
 abbrev pub is_whole : Kind → Bool
 is_whole (Update number bytes) = false
@@ -23,10 +27,42 @@ abbrev pub head_of : (control : ℕ) → Write → EntryHead
 head_of k write = record { control = k; volume = write.volume; track = write.track; stamp = write.stamp; whole = is_whole write.kind }
 
 abbrev pub entry_of : (control : ℕ) → Write → WaitingEntry
-entry_of k write = record { head = head_of k write; form = queue_form write }
+entry_of k write = record { head = head_of k write; form = queue_form write; is_copy = false }
+
+-- the write of a head that does this to its track
+abbrev pub write_of : EntryHead → Kind → Write
+write_of head kind = record { volume = head.volume; track = head.track; stamp = head.stamp; kind = kind }
+
+-- what an entry does to its track: what a write does, or what a copied track does, which replaces it
+abbrev pub effect_kind : Effect → Kind
+effect_kind (WriteEffect kind) = kind.value
+effect_kind (CopyEffect slot) = Whole slot.value
+
+abbrev pub is_copied : Effect → Bool
+is_copied (WriteEffect kind) = false
+is_copied (CopyEffect slot) = true
+
+-- A form is spelled by the write of a head that does this to its track, and keeps the rules.
+pub record IsSpelled (head : EntryHead) (kind : Kind) (form : List ℕ) : Type 0 where
+  pub keeps : IsTrue (is_kind kind)
+  pub whole : head.whole ≡ is_whole kind
+  pub spelled : form ≡ queue_form (write_of head kind)
+
+-- The entry is of a write that keeps the rules: it has the write's queue form, and its head names what the write names.
+pub record IsOfWrite (entry : WaitingEntry) : Type 0 where
+  pub write : Write
+  pub keeps : IsTrue (is_kind write.kind)
+  pub is : entry ≡ record { head = head_of entry.head.control write; form = queue_form write; is_copy = entry.is_copy }
 
 abbrev pub entries_of : (control : ℕ) → List Write → List WaitingEntry
 entries_of k writes = map (entry_of k) writes
+
+-- A copied track waits as a write of the whole track, with its control's floor as stamp.
+abbrev pub copy_head : (control volume track : ℕ) → (stamp : Stamp) → EntryHead
+copy_head k volume track stamp = record { control = k; volume = volume; track = track; stamp = stamp; whole = true }
+
+abbrev pub copy_of : EntryHead → List Rec → WaitingEntry
+copy_of head recs = record { head = head; form = queue_form (record { volume = head.volume; track = head.track; stamp = head.stamp; kind = Whole recs }); is_copy = true }
 
 -- the rules that each write keeps by itself
 abbrev pub all_keep_rules : List Write → Bool
@@ -55,6 +91,31 @@ never_fall last (entry ∷ entries) = nat_le last (stamp_of entry) && never_fall
 abbrev pub writes_never_fall : (last : ℕ) → List Write → Bool
 writes_never_fall last [] = true
 writes_never_fall last (write ∷ writes) = nat_le last write.stamp.0 && writes_never_fall write.stamp.0 writes
+
+-- ---- volumes
+
+abbrev pub is_of_volume : (volume : ℕ) → WaitingEntry → Bool
+is_of_volume v entry = entry.head.volume == v
+
+-- the entries of other volumes
+abbrev pub without_volume : (volume : ℕ) → List WaitingEntry → List WaitingEntry
+without_volume v entries = filter (λ entry. not (is_of_volume v entry)) entries
+
+-- the tracks of a volume's entries, in order
+abbrev pub tracks_of : (volume : ℕ) → List WaitingEntry → List ℕ
+tracks_of v entries = map (λ entry. entry.head.track) (filter (is_of_volume v) entries)
+
+-- whether an entry is on track x of the volume
+abbrev pub is_on : (volume x : ℕ) → WaitingEntry → Bool
+is_on v x entry = is_of_volume v entry && entry.head.track == x
+
+-- whether an entry is a copied track of the volume
+abbrev pub is_copy_of : (volume : ℕ) → WaitingEntry → Bool
+is_copy_of v entry = is_of_volume v entry && entry.is_copy
+
+-- the copied tracks among entries
+abbrev pub copies : List WaitingEntry → List WaitingEntry
+copies entries = filter (λ entry. entry.is_copy) entries
 
 -- ---- cuts
 

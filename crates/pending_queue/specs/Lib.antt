@@ -1,5 +1,6 @@
 pub mod Entries
 pub mod Rooms
+pub mod Maps
 pub mod Queues
 pub mod Groups
 pub mod Laws

@@ -1,6 +1,8 @@
 -- Room: the records and the blocks of 512 bytes that entries take, and those that are free.
 use Rattle.std.specs.Prelude.{ℕ, ◌+◌, ◌/◌, ◌&&◌, List, length, sum_by, Bool, nat_le}
+use Rattle.ckd_track.specs.declared.rec.Rec.{Rec}
 use Rattle.ckd_track.specs.declared.write.Write.{Write}
+use Rattle.ckd_track.specs.Images.{image}
 use Rattle.ckd_track.specs.Entries.{queue_form}
 use Rattle.pending_queue.specs.declared.room.Room.{Room}
 use Rattle.pending_queue.specs.Entries.{WaitingEntry}
@@ -20,3 +22,11 @@ blocks_taken entries = sum_by (λ entry. blocks_of (length entry.form)) entries
 -- whether there are records and blocks enough for the writes
 abbrev pub has_room : Room → List Write → Bool
 has_room room writes = nat_le (length writes) room.records && nat_le (blocks_needed writes) room.blocks
+
+-- the blocks that a copied track needs as an entry, whose fields before the track's image have 15 bytes
+abbrev pub track_blocks : List Rec → ℕ
+track_blocks recs = blocks_of (15 + length (image recs))
+
+-- whether there are a record and blocks enough for a copied track
+abbrev pub has_room_for_track : Room → List Rec → Bool
+has_room_for_track room recs = nat_le 1 room.records && nat_le (track_blocks recs) room.blocks

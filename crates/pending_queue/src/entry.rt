@@ -1,37 +1,72 @@
 //! Entries: a write's head and queue form.
 
-ghost use Rattle.std.specs.Prelude.{◌≡◌, ◌≤◌, length, IfOk, IsTrue};
+ghost use Rattle.std.specs.Prelude.{◌≡◌, ◌≤◌, ◌+◌, length, IfOk, IsTrue};
 ghost use Rattle.ckd_track.specs.Effects.{keeps_rules};
 ghost use Rattle.ckd_track.specs.Entries.{longest_entry};
-ghost use Rattle.pending_queue.specs.Entries.{entry_of, is_whole, head_of};
+ghost use Rattle.ckd_track.specs.Images.{image};
+ghost use Rattle.pending_queue.specs.Entries.{IsOfWrite, entry_of, copy_of, is_copied, is_whole, head_of};
 ghost use Rattle.pending_queue.specs.Rooms.{blocks_of};
 
 use crate::head::EntryHead;
-use ckd_track::{Kind, Write, entry_len, put_entry};
+use ckd_track::{Kind, Slot, Write, entry_len, put_entry};
 use std::alloc::Global;
+use std::fmt;
 use std::marker::Model;
+use std::snapshot::Snapshot;
 use xrc_edge::NoMemory;
 
 /// The bytes of a block.
 const BLOCK: u32 = 512;
 
-/// An entry. Contracts see its head and the bytes of its queue form.
-#[derive(Debug, Drop)]
+/// The bytes of a queue form before its track's image: tag, stamp, volume and track.
+const BEFORE_IMAGE: u32 = 15;
+
+/// The tag of a whole track.
+const WHOLE: u8 = 4;
+
+/// What an entry does to its track, remembered for contracts alone.
+#[derive(Drop)]
+pub enum Effect {
+    Write(Snapshot<Kind>),
+    Copy(Snapshot<Slot>),
+}
+
+impl Effect {
+    /// Whether a copied track replaces it.
+    fn is_copy(&self) -> bool
+        ensures { result ≡ is_copied self.now }
+    {
+        matches!(self, Effect::Copy(_))
+    }
+}
+
+/// An entry. Contracts see its head, the bytes of its queue form, and whether it is a copied track.
+#[derive(Drop)]
 pub struct Entry {
     head: EntryHead,
     form: Vec<u8>,
+    effect: Effect,
 }
 
 impl Model for Entry {
     ghost use Rattle.std.specs.Prelude.{◌≤◌, vec_len};
     ghost use Rattle.ckd_track.specs.Entries.{longest_entry};
-    ghost use Rattle.pending_queue.specs.Entries.{WaitingEntry};
+    ghost use Rattle.pending_queue.specs.Entries.{WaitingEntry, IsSpelled, effect_kind, is_copied};
 
     ghost Value = { WaitingEntry };
 
-    ghost view = { λ entry. record { head = entry.head; form = entry.form.items } };
+    ghost view = { λ entry. record { head = entry.head; form = entry.form.items; is_copy = is_copied entry.effect } };
 
-    ghost invariant = { λ entry. vec_len entry.form ≤ longest_entry };
+    ghost invariant = { λ entry. (vec_len entry.form ≤ longest_entry) × IsSpelled entry.head (effect_kind entry.effect) entry.form.items };
+}
+
+impl fmt::Debug for Entry {
+    fn fmt<W: fmt::Write>(&self, f: &mut fmt::Formatter<W>) -> fmt::Result {
+        f.debug_struct("Entry")
+            .field("head", &self.head)
+            .field("form", &self.form)
+            .finish()
+    }
 }
 
 impl Entry {
@@ -45,6 +80,25 @@ impl Entry {
         Ok(Entry {
             head: head_of(control, write),
             form,
+            effect: Effect::Write(Snapshot::of(&write.kind)),
+        })
+    }
+
+    /// The entry of a copied track: a write of the whole track.
+    pub fn of_track(alloc: Global, head: EntryHead, slot: &Slot) -> Result<Entry, NoMemory>
+        requires whole { IsTrue head.whole }
+        ensures { IfOk result (λ entry. entry ≡ copy_of head slot.now) }
+    {
+        let mut form = Vec::with_capacity(alloc, copy_len(slot) as usize)?;
+        form.push(WHOLE)?;
+        form.extend_from_slice(&head.stamp.0.to_be_bytes())?;
+        form.extend_from_slice(&head.volume.to_be_bytes())?;
+        form.extend_from_slice(&head.track.to_be_bytes())?;
+        form.extend_from_slice(slot.bytes())?;
+        Ok(Entry {
+            head,
+            form,
+            effect: Effect::Copy(Snapshot::of(slot)),
         })
     }
 
@@ -56,9 +110,17 @@ impl Entry {
 
     /// The queue form.
     pub fn form(&self) -> &[u8]
-        ensures { result.now ≡ self.now.form }
+        ensures form { result.now ≡ self.now.form }
+        ensures write { IsOfWrite self.now }
     {
         self.form.as_slice()
+    }
+
+    /// Whether it is a copied track.
+    pub fn is_copy(&self) -> bool
+        ensures { result ≡ self.now.is_copy }
+    {
+        self.effect.is_copy()
     }
 
     /// The blocks that the form takes.
@@ -93,4 +155,13 @@ pub fn blocks_of(len: u32) -> u32
     ensures { result ≡ blocks_of len }
 {
     len.div_ceil(BLOCK)
+}
+
+/// The length of the queue form of a copied track.
+pub fn copy_len(slot: &Slot) -> u32
+    ensures image { result ≡ 15 + length (image slot.now) }
+    ensures length { (head : EntryHead) → result ≡ length (copy_of head slot.now).form }
+    ensures short { result ≤ longest_entry }
+{
+    BEFORE_IMAGE + slot.bytes().len() as u32
 }

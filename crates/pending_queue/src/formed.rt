@@ -1,7 +1,7 @@
 //! Formed groups.
 
-ghost use Rattle.std.specs.Prelude.{◌≡◌, ◌<◌, ◌≤◌, length, slice_get, Some, IfOk, OnOk, OnErr, IsTrue};
-ghost use Rattle.pending_queue.specs.Entries.{never_fall, due, left};
+ghost use Rattle.std.specs.Prelude.{◌≡◌, ◌<◌, ◌≤◌, length, slice_get, Some, IfOk, IfSome, OnOk, OnErr, IsTrue};
+ghost use Rattle.pending_queue.specs.Entries.{IsOfWrite, never_fall, due, left};
 ghost use Rattle.pending_queue.specs.Groups.{empty_group, with_entries, with_break, with_done, HasRoomFor, heads, forms};
 
 use crate::entry::Entry;
@@ -121,7 +121,9 @@ impl Formed {
     /// The queue form of the entry at a place, counted from 0.
     pub fn entry(&self, place: u32) -> &[u8]
         requires { place < length self.now.entries }
-        ensures { slice_get (forms self.now) place ≡ Some result.now }
+        ensures form { slice_get (forms self.now) place ≡ Some result.now }
+        // It is that of a write, which the head speaks of.
+        ensures write { IfSome (slice_get self.now.entries place) IsOfWrite }
     {
         self.entries[place as usize].form()
     }

@@ -1,14 +1,17 @@
 //! Writes of a control that wait in a queue until a group is formed, and the groups that are formed of them.
 #![tactic(auto)]
 
+mod carrier;
 mod entry;
 mod formed;
 mod head;
 mod laws;
 mod moving;
+mod pushing;
 mod queue;
 mod room;
 
+pub use carrier::{Carrier, Everything};
 pub use formed::Formed;
 pub use head::EntryHead;
 pub use laws::{

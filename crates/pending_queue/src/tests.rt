@@ -5,7 +5,7 @@ ghost use Rattle.ckd_track.specs.Effects.{keeps_rules};
 ghost use Rattle.pending_queue.specs.Entries.{last_stamp};
 
 use super::*;
-use ckd_track::{Batch, Cause, Kind, Rec, RecList, Track, Write, WriteList};
+use ckd_track::{Batch, Cause, Kind, Rec, RecList, Slot, Track, Write, WriteList};
 use std::alloc::Global;
 use std::process::Abort;
 use std::test::Fail;
@@ -356,5 +356,56 @@ fn a_group_of_sixteen_controls_shows_all_its_breaks(rt: HostRuntime) -> Result<(
     }
     assert_eq!(rt; out.break_at(16), None);
     assert_eq!(rt; out.done_at(16), None);
+    Ok(())
+}
+
+/// A slot with a track of one record of so many bytes.
+fn slot_of(rt: &impl Abort, alloc: Global, count: usize) -> Result<Slot, NoMemory> {
+    let mut track = Track::make(alloc);
+    let rec = Rec {
+        number: 1,
+        key: Bytes::make(alloc),
+        content: filled(alloc, count)?,
+    };
+    assert!(rt; track.fits(&rec));
+    track.push(alloc, rec)?;
+    let mut slot = Slot::make(alloc)?;
+    slot.set(&track);
+    Ok(slot)
+}
+
+#[test]
+fn a_copied_track_waits_as_a_whole_write(rt: HostRuntime) -> Result<(), Fail> {
+    let alloc = rt.alloc();
+    let mut queue = Queue::make(alloc, 3, 1, 1)?;
+    // 15 bytes before the image, 2 of its count, and 4 before the record's content
+    let slot = slot_of(&rt, alloc, 492)?;
+    let room = queue.free();
+    assert_eq!(rt;
+        queue.push_track(alloc, 5, 7, Stamp(9), &slot),
+        Err(PushError::Full(room))
+    );
+    let slot = slot_of(&rt, alloc, 491)?;
+    assert_eq!(rt; queue.push_track(alloc, 5, 7, Stamp(9), &slot), Ok(()));
+    let none = Room {
+        records: 0,
+        blocks: 0,
+    };
+    assert_eq!(rt;
+        queue.push_track(alloc, 5, 8, Stamp(9), &slot),
+        Err(PushError::Full(none))
+    );
+    assert!(rt; queue.has_copies_left(5, Stamp(8)));
+    assert!(rt; !queue.has_copies_left(5, Stamp(9)));
+    let mut out = Formed::make(alloc, 2)?;
+    pop(&rt, alloc, &mut queue, 9, &mut out)?;
+    assert!(rt; 0 < out.count());
+    let head = out.head(0);
+    assert!(rt; head.whole);
+    assert_eq!(rt; (head.control, head.volume, head.track), (3, 5, 7));
+    let before = [4, 0, 0, 0, 0, 0, 0, 0, 9, 0, 5, 0, 0, 0, 7];
+    assert!(rt; out.entry(0).len() == 512);
+    assert_eq!(rt; &out.entry(0)[..15], before.as_slice());
+    assert_eq!(rt; &out.entry(0)[15..], slot.bytes());
     Ok(())
 }

@@ -1,21 +1,22 @@
 -- The walk in the code, from step to step.
-use Rattle.std.proofs.Common.{◌≡◌, inl, inr, ℕ, ◌^◌, ◌<◌, true, List, [], ◌∷◌, ◌++◌, length, Some, Err, refl, sym, ap, subst, ◌∙◌, arith}
+use Rattle.std.proofs.Common.{◌≡◌, ℕ, ◌^◌, ◌<◌, true, List, [], ◌∷◌, ◌++◌, Option, Some, None, Result, Ok, Err, OnOk, refl, sym, ap, subst, ◌∙◌, arith}
 use Rattle.crash_plant.specs.declared.device.Device.TheVariants.{Journal}
 use Rattle.crash_plant.specs.declared.spot.Spot.{Spot}
 use Rattle.crash_plant.specs.Moments.{PlantState}
 use Rattle.crash_plant.specs.Calls.{SameSite}
+use Rattle.pair_table.specs.declared.row.PairRow.{PairRow}
 use Rattle.pair_table.specs.Tables.{Table, with_rows, are_below}
-use Rattle.xrc_journal.specs.Records.{next_set, spot_in}
+use Rattle.tod_stamp.specs.declared.stamp.Stamp.{Stamp}
+use Rattle.xrc_journal.specs.Items.{Item}
 use Rattle.xrc_journal.specs.Walks.{Logged}
 use Rattle.site_means.specs.declared.site_error.SiteError.{SiteError}
 use Rattle.site_means.specs.declared.site_error.SiteError.TheVariants.{NoSession, Damaged, Fault, TooSmall, NoMemory}
 use Rattle.site_means.specs.declared.walking.Walking.{Walking}
-use Rattle.site_means.specs.Images.{Images, Shape, shape_of}
-use Rattle.site_means.specs.Walk.{Standing, Walk, body_place, has_entered, last_time, step, with_before}
+use Rattle.site_means.specs.Images.{Images, Shape}
+use Rattle.site_means.specs.Walk.{Walk, body_place, first_unfit, group_step, has_entered, last_time, rows_through, step, with_before}
 use Rattle.site_means.specs.Walk.Step.{Ends, GoesOn, Breaks}
-use Rattle.site_means.specs.Steps.{Finishes, Moves, Passes, Reports, Stands, standing_of, walk_of}
-use Rattle.site_means.proofs.Found.{group_ends, next_within, switch_leads}
-use Rattle.site_means.proofs.Goes.{before_both, below_through, entered_here, entered_stays, goes_by, rest_breaks, rest_ends, rest_goes}
+use Rattle.site_means.specs.Steps.{Finishes, Moves, Passes, Reports, Stands, StandsBehind, TakesRows, moved_on, standing_of, walk_of}
+use Rattle.site_means.proofs.Goes.{before_both, entered_stays, rest_breaks, rest_ends, rest_goes}
 
 -- how far the walk has come
 pub record Going (shape : Shape) (images : Images) (first now : Walking) : Type 0 where
@@ -39,6 +40,11 @@ going_next shape images first now next lt g m = record {
   table = m.table ∙ ap (λ (t : Table). with_rows t next.table.rows) g.table;
 }
 
+-- two facts of a good answer
+pub on_ok_two : {X E : Type 0} {A B C : Type 0} (r : Result X E) → (A → B → C) → OnOk r A → OnOk r B → OnOk r C
+on_ok_two (Ok x) f a b = f a b
+on_ok_two (Err e) f a b = tt
+
 -- ---- where it stands
 
 pub stands_later : (old new : PlantState) (w : Walking) → SameSite old new → Stands old w → Stands new w
@@ -50,35 +56,18 @@ stands_later old new w site s = record {
   here = s.here;
 }
 
-pub stands_next : (plant : PlantState) (now next : Walking) (groups : List Logged) → length (plant.bytes (Journal now.at.set)) ≡ plant.lengths (Journal now.at.set) → Stands plant now → step (shape_of plant) plant.bytes (standing_of now) ≡ GoesOn groups (standing_of next) → Stands plant next
-stands_next plant now next groups size s e =
-    let shape = shape_of plant in
-    let here = entered_here shape plant.bytes (standing_of now) (standing_of next) groups e s.here in
-    let journal = plant.bytes (Journal now.at.set) in
-    elim (goes_by shape plant.bytes (standing_of now) groups (standing_of next) e) [
-      | inl g ↦
-          let ends = group_ends shape.form shape.sets journal now.at now.last.0 g.time g.items g.after g.found in
-          let at : next.at ≡ g.after = ap (λ (k : Standing). k.at) g.next_is in
-          let set : next.at.set ≡ now.at.set = ap (λ (k : Spot). k.set) at ∙ ends.set in
-          record {
-            set = omega (arith, set, s.set);
-            place = omega (arith, ends.room, size, ap (λ (k : Spot). k.place) at, ap (λ (k : ℕ). plant.lengths (Journal k)) set);
-            below = ap (λ (k : Standing). are_below plant.volumes k.rows) g.next_is ∙ below_through plant.volumes (body_place now.at) now.table.rows g.items s.below g.fits;
-            long = s.long;
-            here = here;
-          }
-      | inr w ↦
-          let leads = switch_leads shape.form shape.sets journal now.at now.last.0 w.time w.after w.found in
-          let at : next.at ≡ spot_in (next_set plant.journals now.at.set) now.at = ap (λ (k : Standing). k.at) w.next_is ∙ leads in
-          let set : next.at.set < plant.journals = omega (arith, ap (λ (k : Spot). k.set) at, next_within plant.journals now.at.set s.set) in
-          record {
-            set = set;
-            place = omega (arith, ap (λ (k : Spot). k.place) at, s.long next.at.set set);
-            below = ap (λ (k : Standing). are_below plant.volumes k.rows) w.next_is ∙ s.below;
-            long = s.long;
-            here = here;
-          }
-    ]
+-- behind a record
+pub stands_behind : (plant : PlantState) (now next : Walking) (after : Spot) (rows : List PairRow) → Stands plant now → StandsBehind after rows next → after.set < plant.journals → after.place < plant.lengths (Journal after.set) → are_below plant.volumes rows ≡ true → Stands plant next
+stands_behind plant now next after rows s b set place below = record {
+  set = subst (λ (k : Spot). k.set < plant.journals) (sym b.at) set;
+  place = subst (λ (k : Spot). k.place < plant.lengths (Journal k.set)) (sym b.at) place;
+  below = ap (λ (l : List PairRow). are_below plant.volumes l) b.rows_are ∙ below;
+  long = s.long;
+  here = ap (λ (k : Spot). has_entered k.set next.entered.items) b.at ∙ b.here;
+}
+
+pub stands_as : (plant : PlantState) (now next : Walking) → next ≡ now → Stands plant now → Stands plant next
+stands_as plant now next same s = subst (λ (w : Walking). Stands plant w) (sym same) s
 
 -- ---- how it ends
 
@@ -104,3 +93,18 @@ going_fails shape images first now new (Fault d) lt g here p = (now.at.set, p, g
 going_fails shape images first now new NoMemory lt g here p = tt
 going_fails shape images first now new NoSession lt g here p = p
 going_fails shape images first now new (TooSmall d needed) lt g here p = p
+
+-- ---- a group
+
+-- The rows took the items, and the walk stands behind them.
+pub group_moves : (volumes : ℕ) (time : Stamp) (after : Spot) (items : List Item) (old mid new : Walking) → mid ≡ record old { table = mid.table } → TakesRows volumes (body_place old.at) items None old.table mid.table
+    → new ≡ moved_on time after (record mid { time = time }) → Moves (group_step (standing_of old) time.0 items after (first_unfit volumes (body_place old.at) old.table.rows items)) old new
+group_moves volumes time after items old mid new rest taken is = record {
+  groups = record { time = time.0; items = items } ∷ [];
+  is = ap (λ (b : Option ℕ). group_step (standing_of old) time.0 items after b) (sym taken.0)
+      ∙ (let rows : new.table.rows ≡ rows_through items old.table.rows = ap (λ (w : Walking). w.table.rows) is ∙ ap (λ (t : Table). t.rows) (taken.1 refl) in
+      let entered : new.entered ≡ old.entered = ap (λ (w : Walking). w.entered) is ∙ ap (λ (w : Walking). w.entered) rest in
+      λ i. GoesOn (record { time = time.0; items = items } ∷ []) (record { rows = sym rows i; entered = (sym entered i).items; at = (sym (ap (λ (w : Walking). w.at) is)) i; last = (sym (ap (λ (w : Walking). w.last.0) is)) i }));
+  time = ap (λ (w : Walking). w.time.0) is;
+  table = ap (λ (w : Walking). w.table) is ∙ taken.1 refl ∙ ap (λ (l : List PairRow). with_rows old.table l) (sym (ap (λ (w : Walking). w.table.rows) is ∙ ap (λ (t : Table). t.rows) (taken.1 refl)));
+}

@@ -16,7 +16,7 @@ use Rattle.xrc_journal.specs.Answers.{items_found, told_of}
 use Rattle.xrc_journal.proofs.Fields.{given_is}
 use Rattle.xrc_journal.proofs.RecordsRead.{group_fits, group_found}
 use Rattle.site_means.specs.Steps.{HavePlaces}
-use Rattle.site_means.proofs.Marks.{number_kept}
+use Rattle.control_set.proofs.Keeps.{number_kept}
 use Rattle.site_means.proofs.Long.{items_long}
 
 -- ---- the answer of a walk

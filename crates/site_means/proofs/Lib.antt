@@ -2,7 +2,6 @@ pub mod ReadAll
 pub mod Shorts
 pub mod RowRules
 pub mod Taking
-pub mod Marks
 pub mod Long
 pub mod Found
 pub mod Goes

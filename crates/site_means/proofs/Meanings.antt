@@ -4,9 +4,10 @@ use Rattle.std.specs.Prelude.{ok_or, drop, slice_range}
 use Rattle.std.specs.Int.{w16, from_be_bytes}
 use Rattle.std.proofs.lemmas.Option.{same_Some}
 use Rattle.crash_plant.specs.declared.device.Device.{Device}
-use Rattle.crash_plant.specs.declared.device.Device.TheVariants.{Control, Journal, State}
+use Rattle.crash_plant.specs.declared.device.Device.TheVariants.{Journal, State}
 use Rattle.crash_plant.specs.declared.spot.Spot.{Spot}
 use Rattle.tod_stamp.specs.declared.stamp.Stamp.{Stamp}
+use Rattle.crash_plant.specs.Calls.{SameSite}
 use Rattle.crash_plant.specs.Moments.{PlantState}
 use Rattle.control_set.specs.declared.value.Mark.{Mark}
 use Rattle.control_set.specs.Slots.{lengths_of}
@@ -28,7 +29,8 @@ use Rattle.site_means.specs.Meaning.Meaning.{DamagedAt, Meant}
 use Rattle.site_means.specs.Answers.{IsReached, Mean, ReadsAll, Says}
 use Rattle.site_means.specs.Steps.{BeginsAt, Finishes, Reports, Stands, standing_of, walk_of}
 use Rattle.site_means.proofs.Goes.{entered_last, rest_of, rows_of_walk, shape_same}
-use Rattle.site_means.proofs.Marks.{chosen_placed}
+use Rattle.control_set.specs.Marks.{IsMark}
+use Rattle.site_means.specs.Answers.{HasSpot}
 
 -- ---- rows of a state slot
 
@@ -68,21 +70,26 @@ rows_below shape images m s e = (rows_parts shape.volumes s.rows (stored_rows sh
 
 -- ---- where a walk begins
 
-pub stands_first : (plant : PlantState) (m : Mark) (s : Stored) (table : Table) (w : Walking) → ((j : ℕ) → j < plant.journals → 1 ≤ plant.lengths (Journal j)) → chosen_in (shape_of plant) plant.bytes ≡ Ok (Some m)
-    → stored_in (shape_of plant) plant.bytes m ≡ Ok s → table.rows ≡ s.rows → BeginsAt m table w → Stands plant w
-stands_first plant m s table w long chosen stored rows b =
-    let placed = chosen_placed (lengths_of plant) (plant.bytes Control) m chosen in
-    let count = count_is (λ j. plant.lengths (Journal j)) 0 plant.journals in
-    let set : m.at.set < plant.journals = omega (arith, placed.set, count) in
-    let size : slice_index (lengths_of plant) m.at.set ≡ plant.lengths (Journal m.at.set) = at_is (λ j. plant.lengths (Journal j)) 0 plant.journals m.at.set set ∙ ap (λ (k : ℕ). plant.lengths (Journal k)) (omega arith) in
+pub stands_first : (plant : PlantState) (m : Mark) (table : Table) (w : Walking) → ((j : ℕ) → j < plant.journals → 1 ≤ plant.lengths (Journal j)) → HasSpot plant m.at → are_below plant.volumes table.rows ≡ true → BeginsAt m table w → Stands plant w
+stands_first plant m table w long spot below b =
     let at : w.at ≡ m.at = ap (λ (k : Standing). k.at) b.standing in
     record {
-      set = subst (λ (k : Spot). k.set < plant.journals) (sym at) set;
-      place = subst (λ (k : Spot). k.place < plant.lengths (Journal k.set)) (sym at) (omega (arith, placed.room, size));
-      below = ap (λ (k : Standing). are_below plant.volumes k.rows) b.standing ∙ ap (λ (l : List PairRow). are_below plant.volumes l) rows ∙ rows_below (shape_of plant) plant.bytes m s stored;
+      set = subst (λ (k : Spot). k.set < plant.journals) (sym at) spot.set;
+      place = subst (λ (k : Spot). k.place < plant.lengths (Journal k.set)) (sym at) (omega (arith, spot.room));
+      below = ap (λ (k : Standing). are_below plant.volumes k.rows) b.standing ∙ below;
       long = long;
       here = ap (λ (k : Standing). has_entered k.at.set k.entered) b.standing ∙ entered_last m.at.set [];
     }
+
+pub spot_later : (old new : PlantState) (at : Spot) → SameSite old new → HasSpot old at → HasSpot new at
+spot_later old new at site spot = record { set = omega (arith, spot.set, site.journals); room = omega (arith, spot.room, site.lengths (Journal at.set)) }
+
+-- a mark that keeps the table has its spot in a journal
+pub has_spot : (plant : PlantState) (m : Mark) → IsMark (lengths_of plant) m → HasSpot plant m.at
+has_spot plant m is =
+    let set : m.at.set < plant.journals = omega (arith, is.set, count_is (λ j. plant.lengths (Journal j)) 0 plant.journals) in
+    let size : slice_index (lengths_of plant) m.at.set ≡ plant.lengths (Journal m.at.set) = at_is (λ j. plant.lengths (Journal j)) 0 plant.journals m.at.set set ∙ ap (λ (k : ℕ). plant.lengths (Journal k)) (omega arith) in
+    record { set = set; room = omega (arith, is.room, size) }
 
 -- ---- the meaning
 

@@ -26,7 +26,7 @@ use Rattle.site_means.proofs.Agreeing.{mark_here}
 use Rattle.site_means.proofs.Contents.{items_last}
 use Rattle.site_means.proofs.Found.{group_ends}
 use Rattle.site_means.proofs.Goes.{before_both, entered_here, entered_next, goes_by, next_number, rows_append, rows_of_walk}
-use Rattle.site_means.proofs.Marks.{number_kept}
+use Rattle.control_set.proofs.Keeps.{number_kept}
 use Rattle.site_means.proofs.Meanings.{by_walk}
 use Rattle.site_means.proofs.Taking.{shifted, unfit_shifted}
 

@@ -1,8 +1,9 @@
 -- What the examination of a site answers: lengths, the meaning, and faults.
-use Rattle.std.specs.Prelude.{◌≡◌, ℕ, suc, zero, true, List, [], ◌∷◌, find, nat_lt, Bool, Option, Some, Result, Ok, Err, IsErrOf}
+use Rattle.std.specs.Prelude.{◌≡◌, ◌+◌, ◌<◌, ◌≤◌, ℕ, suc, zero, true, List, [], ◌∷◌, find, nat_lt, Bool, Option, Some, Result, Ok, Err, IsErrOf}
 use Rattle.xrc_edge.specs.Causes.{Rose}
 use Rattle.crash_plant.specs.declared.device.Device.{Device}
 use Rattle.crash_plant.specs.declared.device.Device.TheVariants.{Control, State, Journal, Volume}
+use Rattle.crash_plant.specs.declared.spot.Spot.{Spot}
 use Rattle.crash_plant.specs.Moments.{PlantState, on, Follows, Same}
 use Rattle.crash_plant.specs.Calls.{WorksOn}
 use Rattle.control_set.specs.declared.value.Mark.{Mark}
@@ -40,6 +41,13 @@ is_short plant d = nat_lt (plant.lengths d) (need d)
 -- the first device that has fewer bytes than it needs
 abbrev pub first_short : PlantState → Option Device
 first_short plant = find (is_short plant) (examined plant)
+
+-- ---- spots
+
+-- A spot lies in a journal, with 24 bytes left.
+pub record HasSpot (plant : PlantState) (at : Spot) : Type 0 where
+  pub set : at.set < plant.journals
+  pub room : at.place + 24 ≤ plant.lengths (Journal at.set)
 
 -- ---- the meaning
 

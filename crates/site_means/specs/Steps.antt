@@ -5,6 +5,7 @@ use Rattle.crash_plant.specs.declared.spot.Spot.{Spot}
 use Rattle.tod_stamp.specs.declared.stamp.Stamp.{Stamp}
 use Rattle.crash_plant.specs.Moments.{PlantState}
 use Rattle.control_set.specs.declared.value.Mark.{Mark}
+use Rattle.pair_table.specs.declared.row.PairRow.{PairRow}
 use Rattle.pair_table.specs.Tables.{Table, with_rows, are_below}
 use Rattle.xrc_journal.specs.Records.{most_body}
 use Rattle.xrc_journal.specs.Walks.{Logged}
@@ -62,6 +63,12 @@ pub record Stands (plant : PlantState) (w : Walking) : Type 0 where
   pub below : are_below plant.volumes w.table.rows ≡ true
   pub long : (j : ℕ) → j < plant.journals → 1 ≤ plant.lengths (Journal j)
   pub here : has_entered w.at.set w.entered.items ≡ true
+
+-- A walk stands at this spot, whose data set was entered, with these rows.
+pub record StandsBehind (after : Spot) (rows : List PairRow) (w : Walking) : Type 0 where
+  pub at : w.at ≡ after
+  pub rows_are : w.table.rows ≡ rows
+  pub here : has_entered after.set w.entered.items ≡ true
 
 -- The walk went on, with these groups.
 pub record Moves (step : Step) (old new : Walking) : Type 0 where

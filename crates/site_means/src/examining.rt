@@ -1,14 +1,15 @@
 //! The examination of a site.
 
-ghost use Rattle.std.specs.Prelude.{◌≡◌, ◌≤◌, ◌<◌, ℕ, IfOk, IsErrOf, OnOk, Err, None, Some};
+ghost use Rattle.std.specs.Prelude.{◌≡◌, ◌≤◌, ◌<◌, ℕ, IfOk, IsErrOf, IsTrue, OnOk, Err, None, Some};
 ghost use Rattle.crash_plant.specs.declared.device.Device.{Device as AnyDevice};
 ghost use Rattle.crash_plant.specs.declared.device.Device.TheVariants.{Control, Journal, State};
 ghost use Rattle.crash_plant.specs.Calls.{NoneLent};
+ghost use Rattle.pair_table.specs.Tables.{are_below};
 ghost use Rattle.state_set.specs.Slots.{started_table};
 ghost use Rattle.site_means.specs.declared.site_error.SiteError.{SiteError as SiteErrorValue};
 ghost use Rattle.site_means.specs.declared.site_error.SiteError.TheVariants.{Fault, TooSmall};
 ghost use Rattle.site_means.specs.Meaning.{meaning};
-ghost use Rattle.site_means.specs.Answers.{Fails, IsChosen, IsExamined, IsInTurn, IsStored, ReadsAll, Says, Tells, first_short, need};
+ghost use Rattle.site_means.specs.Answers.{Fails, HasSpot, IsChosen, IsExamined, IsInTurn, IsStored, ReadsAll, Says, Tells, first_short, need};
 
 use crate::lengths::{first_short, longest_body, need};
 use crate::walking::{Buffers, Walking};
@@ -19,8 +20,9 @@ use pair_table::{Level, PairTable};
 use state_set::{StateError, get};
 use std::alloc::Global;
 
-/// That the control, the state and the journals have the bytes that they need.
-pub(crate) fn check_lengths<P: Plant>(plant: &P) -> Result<(), SiteError>
+/// That the control, the state and each journal have the 1,024, 16,384 and 1,826,816 bytes that they need, before any of them is
+/// read. The first that has fewer is answered TooSmall, with its need.
+pub fn check_lengths<P: Plant>(plant: &P) -> Result<(), SiteError>
     ensures ok { OnOk result (first_short (P.state plant.now) ≡ None) }
     ensures error { (e : SiteErrorValue) → IsErrOf result e → (d : AnyDevice) × (first_short (P.state plant.now) ≡ Some d) × (e ≡ TooSmall d (need d)) }
 {
@@ -30,10 +32,14 @@ pub(crate) fn check_lengths<P: Plant>(plant: &P) -> Result<(), SiteError>
     }
 }
 
-/// The mark that counts.
-pub(crate) fn choose_mark<P: Plant>(plant: &mut P) -> Result<Mark, SiteError>
+/// The mark that counts: the first step of an examination behind that of the lengths. NoSession is answered exactly where no gate of
+/// the control is open, and Damaged at the first byte of the first slot that breaks a rule.
+pub fn read_mark<P: Plant>(plant: &mut P) -> Result<Mark, SiteError>
     requires { 1024 ≤ (P.state plant.old).lengths Control }
     ensures says { P.tells → Says (λ mark. IsChosen (P.state plant.old) mark) (meaning (P.state plant.old) (P.state plant.old).bytes) result }
+    // Whatever a read gave, the mark names state slot 0 or 1, and its spot lies in a journal.
+    ensures slot { IfOk result (λ mark. mark.state_slot ≤ 1) }
+    ensures spot { IfOk result (λ mark. HasSpot (P.state plant.old) mark.at) }
     ensures reached { (d : AnyDevice) → IsErrOf result (Fault d) → d ≡ Control }
     ensures short { (d : AnyDevice) (needed : ℕ) → ¬ IsErrOf result (TooSmall d needed) }
     ensures fails { Fails (P.state plant.old).faults (P.state plant.new).faults result }
@@ -47,25 +53,25 @@ pub(crate) fn choose_mark<P: Plant>(plant: &mut P) -> Result<Mark, SiteError>
     }
 }
 
-/// The level and the started table of the state slot of a mark.
-pub(crate) fn read_state<P: Plant>(
+/// The level and the started table of the state slot of a mark: the second step of an examination. Damaged is answered at the first
+/// byte of the slot, where it breaks a rule.
+pub fn read_state<P: Plant>(
     alloc: Global,
     plant: &mut P,
     mark: &Mark,
 ) -> Result<(Level, PairTable), SiteError>
-    requires { 16384 ≤ (P.state plant.old).lengths State }
+    requires long { 16384 ≤ (P.state plant.old).lengths State }
+    requires slot { mark.now.state_slot ≤ 1 }
     ensures says { P.tells → IsChosen (P.state plant.old) mark.now
         → Says (λ found. IsStored (P.state plant.old) mark.now found.0 found.1.rows) (meaning (P.state plant.old) (P.state plant.old).bytes) result }
     ensures started { IfOk result (λ found. found.1 ≡ started_table mark.now.session found.1.rows) }
+    // Whatever a read gave, the devices of the rows are the plant's.
+    ensures below { IfOk result (λ found. IsTrue (are_below (P.state plant.old).volumes found.1.rows)) }
     ensures reached { (d : AnyDevice) → IsErrOf result (Fault d) → d ≡ State }
     ensures short { (d : AnyDevice) (needed : ℕ) → ¬ IsErrOf result (TooSmall d needed) }
     ensures fails { Fails (P.state plant.old).faults (P.state plant.new).faults result }
     ensures reads { ReadsAll P.tells (P.state plant.old) (P.state plant.new) }
 {
-    // A mark that was read names slot 0 or 1.
-    if mark.state_slot > 1 {
-        return Err(SiteError::Damaged(Device::Control, 0));
-    }
     match get(alloc, plant, mark.state_slot, mark.session) {
         Ok(found) => Ok(found),
         Err(StateError::Damaged(place)) => Err(SiteError::Damaged(Device::State, place)),
@@ -74,8 +80,9 @@ pub(crate) fn read_state<P: Plant>(
     }
 }
 
-/// What the devices mean by the walk from a mark, with the level and the table of its state slot.
-pub(crate) fn walk_all<P: Plant>(
+/// What the devices mean by the walk over the journals from a mark, with the level and the table of its state slot: the last step of an
+/// examination. Damaged is answered at the first place at which a record, or an item, breaks a rule.
+pub fn read_journals<P: Plant>(
     alloc: Global,
     plant: &mut P,
     mark: &Mark,
@@ -84,10 +91,15 @@ pub(crate) fn walk_all<P: Plant>(
 ) -> Result<Means, SiteError>
     requires home { NoneLent (P.state plant.old) }
     requires long { (j : ℕ) → j < (P.state plant.old).journals → 1 ≤ (P.state plant.old).lengths (Journal j) }
+    requires spot { HasSpot (P.state plant.old) mark.now.at }
     requires started { table ≡ started_table mark.now.session table.rows }
+    requires below { IsTrue (are_below (P.state plant.old).volumes table.rows) }
     ensures says { P.tells → IsChosen (P.state plant.old) mark.now
         → IsStored (P.state plant.old) mark.now level table.rows
         → Tells (P.state plant.old) result }
+    // Whatever reads gave, the devices of the rows are the plant's; the spot is the mark's.
+    ensures below { IfOk result (λ means. IsTrue (are_below (P.state plant.old).volumes means.table.rows)) }
+    ensures from { IfOk result (λ means. means.from ≡ mark.now.at) }
     ensures reached { P.tells → IsChosen (P.state plant.old) mark.now
         → IsStored (P.state plant.old) mark.now level table.rows
         → (d : AnyDevice) → IsErrOf result (Fault d) → IsInTurn (P.state plant.old) d }
@@ -114,6 +126,9 @@ pub fn examine<P: Plant>(alloc: Global, plant: &mut P) -> Result<Means, SiteErro
     // A device that is too small is answered before anything is read.
     ensures short { (d : AnyDevice) → first_short (P.state plant.old) ≡ Some d → result ≡ Err (TooSmall d (need d)) }
     ensures too_small { (d : AnyDevice) (needed : ℕ) → IsErrOf result (TooSmall d needed) → (first_short (P.state plant.old) ≡ Some d) × (needed ≡ need d) }
+    // Whatever reads gave, the devices of the rows are the plant's, and the spot lies in a journal.
+    ensures below { IfOk result (λ means. IsTrue (are_below (P.state plant.old).volumes means.table.rows)) }
+    ensures from { IfOk result (λ means. HasSpot (P.state plant.old) means.from) }
     // Why it fails, and in which order.
     ensures fails { Fails (P.state plant.old).faults (P.state plant.new).faults result }
     ensures examined { (d : AnyDevice) → IsErrOf result (Fault d) → IsExamined d }
@@ -122,7 +137,7 @@ pub fn examine<P: Plant>(alloc: Global, plant: &mut P) -> Result<Means, SiteErro
     ensures reads { ReadsAll P.tells (P.state plant.old) (P.state plant.new) }
 {
     check_lengths(plant)?;
-    let mark = choose_mark(plant)?;
+    let mark = read_mark(plant)?;
     let (level, table) = read_state(alloc, plant, &mark)?;
-    walk_all(alloc, plant, &mark, level, table)
+    read_journals(alloc, plant, &mark, level, table)
 }

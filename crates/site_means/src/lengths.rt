@@ -49,8 +49,8 @@ pub(crate) fn first_short<P: Plant>(plant: &P) -> Option<Device>
     None
 }
 
-/// The most bytes that a record's body can have in a journal.
-pub(crate) fn longest_body<P: Plant>(plant: &P) -> u32
+/// The most bytes that a record's body can have in one of the plant's journals: a buffer for bodies of these needs no more.
+pub fn longest_body<P: Plant>(plant: &P) -> u32
     ensures { HasRoom (P.state plant.now) result }
 {
     let mut longest = 0;

@@ -1,6 +1,6 @@
 //! The walk over a site's journals.
 
-ghost use Rattle.std.specs.Prelude.{◌≡◌, ◌<◌, ◌^◌, ◌↔◌, ℕ, unwrap_or, IfOk, OnOk, IsErrOf, IsTrue, Ok, Err, true};
+ghost use Rattle.std.specs.Prelude.{◌≡◌, ◌<◌, ◌^◌, ◌↔◌, ℕ, unwrap_or, IfOk, OnOk, IsErrOf, IsTrue, Ok, Err, None, true};
 ghost use Rattle.crash_plant.specs.declared.device.Device.{Device as AnyDevice};
 ghost use Rattle.crash_plant.specs.declared.device.Device.TheVariants.{Journal};
 ghost use Rattle.crash_plant.specs.Calls.{NoneLent};
@@ -8,9 +8,9 @@ ghost use Rattle.pair_table.specs.Tables.{are_below};
 ghost use Rattle.site_means.specs.declared.site_error.SiteError.TheVariants.{Damaged, Fault, TooSmall};
 ghost use Rattle.site_means.specs.Images.{shape_of};
 ghost use Rattle.site_means.specs.Walk.Step.{Breaks};
-ghost use Rattle.site_means.specs.Walk.{body_place, first_unfit, group_step, step, switch_step};
+ghost use Rattle.site_means.specs.Walk.{body_place, first_unfit, group_step, has_entered, step, switch_step};
 ghost use Rattle.site_means.specs.Answers.{Fails, IsExamined, ReadsAll};
-ghost use Rattle.site_means.specs.Steps.{BeginsAt, HasRoom, HavePlaces, IsDamage, OnlyDamage, Passes, Reports, Stands, TakesRows, moved_on, standing_of, walk_of};
+ghost use Rattle.site_means.specs.Steps.{BeginsAt, HasRoom, HavePlaces, IsDamage, OnlyDamage, Passes, Reports, Stands, StandsBehind, TakesRows, moved_on, standing_of, walk_of};
 
 use crate::rows::take_rows;
 use crate::{Means, SiteError};
@@ -64,15 +64,6 @@ fn damaged(set: u16, place: u64) -> SiteError
     SiteError::Damaged(Device::Journal(set), place)
 }
 
-/// Whether a record may stand there.
-fn has_place<P: Plant>(plant: &P, at: Spot) -> bool
-    ensures short { IsTrue result → (P.state plant.now).lengths (Journal at.set) < 2 ^ 64 }
-    ensures number { at.number < 2 ^ 64 }
-    ensures there { IsTrue result ↔ ((at.set < (P.state plant.now).journals) × (at.place < (P.state plant.now).lengths (Journal at.set))) }
-{
-    at.set < plant.journals() && at.place < plant.length(Device::Journal(at.set))
-}
-
 impl Walking {
     /// The start of the walk from a mark, with the rows of its state slot.
     pub(crate) fn begin(alloc: Global, mark: &Mark, table: PairTable) -> Result<Walking, NoMemory>
@@ -89,31 +80,28 @@ impl Walking {
         })
     }
 
-    /// Stands behind a record of this time. The damage where that spot isn't a later one, which no plant that tells its bytes gives.
-    fn move_on(&mut self, time: Stamp, after: Spot) -> Result<bool, SiteError>
-        ensures moved { self.old.at.number < after.number → (result ≡ Ok true) × (self.new ≡ moved_on time after self.old) }
-        ensures forth { OnOk result (self.old.at.number < self.new.at.number) }
-        ensures others { OnlyDamage result }
+    /// Stands behind a record of this time.
+    fn move_on(&mut self, time: Stamp, after: Spot)
+        ensures { self.new ≡ moved_on time after self.old }
     {
-        if after.number <= self.at.number {
-            return Err(damaged(self.at.set, self.at.place));
-        }
         self.at = after;
         self.last = time;
-        Ok(true)
     }
 
     /// Goes on behind a switch, where the next data set wasn't entered before.
     fn enter(&mut self, time: Stamp, after: Spot) -> Result<bool, SiteError>
-        ensures passes { self.old.at.number < after.number → Passes (switch_step (standing_of self.old) time.0 after) self.old self.new result }
-        ensures forth { OnOk result (self.old.at.number < self.new.at.number) }
+        ensures passes { Passes (switch_step (standing_of self.old) time.0 after) self.old self.new result }
+        ensures behind { OnOk result (StandsBehind after self.old.table.rows self.new) }
         ensures others { OnlyDamage result }
     {
         if self.entered.contains(&after.set) {
             return Err(damaged(self.at.set, self.at.place));
         }
         match self.entered.push(after.set) {
-            Ok(()) => self.move_on(time, after),
+            Ok(()) => {
+                self.move_on(time, after);
+                Ok(true)
+            }
             Err(_) => Err(SiteError::NoMemory),
         }
     }
@@ -126,6 +114,7 @@ impl Walking {
         buffers: &mut Buffers,
     ) -> Result<Option<u64>, NoMemory>
         ensures rows { IsTrue (are_below volumes self.old.table.rows) → HavePlaces self.old.at buffers.old.body.items → IfOk result (λ bad. TakesRows volumes (body_place self.old.at) buffers.old.body.items bad self.old.table self.new.table) }
+        ensures below { IsTrue (are_below volumes self.old.table.rows) → IfOk result (λ bad. bad ≡ None → IsTrue (are_below volumes self.new.table.rows)) }
         ensures rest { self.new ≡ record self.old { table = self.new.table } }
         ensures body { buffers.new.body ≡ buffers.old.body }
     {
@@ -155,16 +144,21 @@ impl Walking {
         time: Stamp,
         after: Spot,
     ) -> Result<bool, SiteError>
-        ensures passes { self.old.at.number < after.number → IsTrue (are_below volumes self.old.table.rows) → HavePlaces self.old.at buffers.old.body.items
+        requires below { IsTrue (are_below volumes self.old.table.rows) }
+        requires same_set { after.set ≡ self.old.at.set }
+        requires here { has_entered self.old.at.set self.old.entered.items ≡ true }
+        ensures passes { HavePlaces self.old.at buffers.old.body.items
             → Passes (group_step (standing_of self.old) time.0 buffers.old.body.items after (first_unfit volumes (body_place self.old.at) self.old.table.rows buffers.old.body.items)) self.old self.new result }
-        ensures forth { OnOk result (self.old.at.number < self.new.at.number) }
+        ensures behind { OnOk result (StandsBehind after self.new.table.rows self.new) }
+        ensures below { OnOk result (IsTrue (are_below volumes self.new.table.rows)) }
         ensures others { OnlyDamage result }
         ensures body { buffers.new.body ≡ buffers.old.body }
     {
         match self.take_rows(alloc, volumes, buffers) {
             Ok(None) => {
                 self.time = time;
-                self.move_on(time, after)
+                self.move_on(time, after);
+                Ok(true)
             }
             Ok(Some(place)) => Err(damaged(self.at.set, place)),
             Err(NoMemory) => Err(SiteError::NoMemory),
@@ -200,9 +194,11 @@ impl Walking {
     ) -> Result<bool, SiteError>
         requires home { NoneLent (P.state plant.old) }
         requires room { HasRoom (P.state plant.old) buffers.old.body.room }
-        ensures passes { P.tells → Stands (P.state plant.old) self.old → Passes (step (shape_of (P.state plant.old)) (P.state plant.old).bytes (standing_of self.old)) self.old self.new result }
+        requires stands { Stands (P.state plant.old) self.old }
+        ensures passes { P.tells → Passes (step (shape_of (P.state plant.old)) (P.state plant.old).bytes (standing_of self.old)) self.old self.new result }
         ensures number { self.old.at.number < 2 ^ 64 }
         ensures forth { IfOk result (λ more. more ≡ true → self.old.at.number < self.new.at.number) }
+        ensures stands { OnOk result (Stands (P.state plant.new) self.new) }
         ensures room { buffers.new.body.room ≡ buffers.old.body.room }
         ensures short { (d : AnyDevice) (needed : ℕ) → ¬ IsErrOf result (TooSmall d needed) }
         ensures examined { (d : AnyDevice) → IsErrOf result (Fault d) → IsExamined d }
@@ -210,9 +206,9 @@ impl Walking {
         ensures reads { ReadsAll P.tells (P.state plant.old) (P.state plant.new) }
     {
         let at = self.at;
-        if !has_place(plant, at) {
-            return Err(damaged(at.set, at.place));
-        }
+        // Places and record numbers are numbers of 64 bits.
+        let _valid = plant.length(Device::Journal(at.set));
+        let _number = self.at.number;
         let volumes = plant.volumes();
         match walk(plant, at, self.last, &mut buffers.body) {
             Ok(Walked::End) => Ok(false),
@@ -236,7 +232,9 @@ impl Walking {
     ) -> Result<(), SiteError>
         requires home { NoneLent (P.state plant.old) }
         requires room { HasRoom (P.state plant.old) buffers.old.body.room }
-        ensures reports { P.tells → Stands (P.state plant.old) self.old → Reports (walk_of (shape_of (P.state plant.old)) (P.state plant.old).bytes self.old) self.old self.new result }
+        requires stands { Stands (P.state plant.old) self.old }
+        ensures below { OnOk result (IsTrue (are_below (P.state plant.old).volumes self.new.table.rows)) }
+        ensures reports { P.tells → Reports (walk_of (shape_of (P.state plant.old)) (P.state plant.old).bytes self.old) self.old self.new result }
         ensures short { (d : AnyDevice) (needed : ℕ) → ¬ IsErrOf result (TooSmall d needed) }
         ensures examined { (d : AnyDevice) → IsErrOf result (Fault d) → IsExamined d }
         ensures fails { Fails (P.state plant.old).faults (P.state plant.new).faults result }

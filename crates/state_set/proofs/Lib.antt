@@ -1,5 +1,6 @@
 pub mod Again
 pub mod Behind
+pub mod Below
 pub mod Fields
 pub mod RowsAt
 pub mod Spelled

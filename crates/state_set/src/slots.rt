@@ -91,11 +91,13 @@ pub fn get<P: Plant>(
     ensures started { IfOk result (λ found. found.1 ≡ started_table session found.1.rows) }
     ensures damaged { P.tells → (place : ℕ) → IsErrOf result (Damaged place) → state_of (P.state plant.old).volumes session slot ((P.state plant.old).bytes State) ≡ Err place }
     ensures place { (place : ℕ) → IsErrOf result (Damaged place) → place ≡ slot_place slot }
+    // Whatever a read gave, the devices of the rows are the plant's.
+    ensures below { IfOk result (λ found. IsTrue (are_below (P.state plant.old).volumes found.1.rows)) }
     // Why it fails.
     ensures fault { IsErrOf result Fault → Rose ((P.state plant.old).faults State) ((P.state plant.new).faults State) }
     ensures ok_without_fault { OnOk result ((P.state plant.new).faults State ≡ (P.state plant.old).faults State) }
     ensures other_without_fault { (e : StateError) → IsErrOf result e → e ≢ Fault → (P.state plant.new).faults State ≡ (P.state plant.old).faults State }
-    // Nothing changes, on any device.
+    // What a read of the state gives stays, and a crash leaves nothing there that it couldn't leave before; all else is as before.
     ensures same { P.tells → (P.state plant.new).bytes State ≡ (P.state plant.old).bytes State }
     ensures moments { P.tells → Follows Same (on (P.state plant.old) State) (on (P.state plant.new) State) }
     ensures only { WorksOn P.tells (λ d. d ≡ State) (P.state plant.old) (P.state plant.new) }

@@ -1,5 +1,5 @@
 -- What a buffer holds once bytes were read into its front.
-use Rattle.std.proofs.Common.{◌≡◌, ℕ, ◌+◌, ◌-◌, ◌<◌, ◌≤◌, false, cond, nat_eq, List, [], ◌++◌, length, take, slice_set, Some, None, refl, sym, ap, ◌∙◌, arith, length-append}
+use Rattle.std.proofs.Common.{◌≡◌, ℕ, ◌+◌, ◌-◌, ◌<◌, ◌≤◌, true, false, cond, nat_eq, List, [], ◌++◌, length, take, slice_set, Some, None, refl, sym, ap, ◌∙◌, arith, length-append}
 use Rattle.std.proofs.lemmas.List.{take-set, get_or-set_same, length-set, take-take, take_at}
 use Rattle.xrc_journal.specs.Items.{Form, none_earlier, are_items_behind, anywhere, body_spelling}
 use Rattle.xrc_journal.specs.Reading.{items_from, items_at}
@@ -28,6 +28,9 @@ module _ (form : Form) (no_deltas : form.deltas ≡ false) (bytes rest given : L
     spelled = same ∙ front.spelled ∙ ap (λ (l : List ℕ). body_spelling (items_of l)) (sym same);
   }
 
+  pub fill_keeps : are_items_behind form none_earlier (items_of (take n (slice_set (bytes ++ rest) n 0))) ≡ true
+  fill_keeps = ap (λ (l : List ℕ). are_items_behind form none_earlier (items_of l)) same ∙ front.keep
+
   pub fill_within : n ≤ count
   fill_within = omega (arith, n_le, size)
 
@@ -50,3 +53,7 @@ shut_first buffer some = record {
 pub none_held : (buffer : List ℕ) → held_in 0 buffer ≡ record { items = []; room = length buffer - 1 }
 unfolding items_from
 none_held buffer = refl
+
+pub none_keeps : (form : Form) → are_items_behind form none_earlier (items_of []) ≡ true
+unfolding items_from
+none_keeps form = refl

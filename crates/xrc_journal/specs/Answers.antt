@@ -1,5 +1,5 @@
 -- What the walk's parts answer.
-use Rattle.std.specs.Prelude.{◌≡◌, ◌+◌, IsErrOf, ℕ, Bool, ◌-◌, ◌^◌, ◌==◌, ◌&&◌, List, [], take, drop, slice_index, nat_lt, nat_le, Option, Some, None, Result, Ok, Err, length, if◌then◌else◌}
+use Rattle.std.specs.Prelude.{◌≡◌, ◌≤◌, ◌<◌, ◌+◌, IsErrOf, ℕ, Bool, ◌-◌, ◌^◌, ◌==◌, ◌&&◌, List, [], take, drop, slice_index, nat_lt, nat_le, Option, Some, None, Result, Ok, Err, length, if◌then◌else◌}
 use Rattle.std.specs.Int.{w16, w32, w64, from_be_bytes}
 use Rattle.tod_stamp.specs.Fields.{Left, Bad, number_at, within}
 use Rattle.crash_plant.specs.declared.spot.Spot.{Spot}
@@ -7,6 +7,7 @@ use Rattle.xrc_journal.specs.declared.header.Header.{Header}
 use Rattle.xrc_journal.specs.declared.header.Header.TheVariants.{Group as GroupHeader, Switch as SwitchHeader}
 use Rattle.xrc_edge.specs.Causes.{Rose}
 use Rattle.crash_plant.specs.declared.device.Device.{Device}
+use Rattle.crash_plant.specs.declared.device.Device.TheVariants.{Journal}
 use Rattle.crash_plant.specs.Moments.{PlantState, on, Follows, Same}
 use Rattle.crash_plant.specs.Calls.{WorksOn}
 use Rattle.xrc_journal.specs.declared.spot.Walked.{Walked}
@@ -79,7 +80,14 @@ pub record WalkCause (set before now : ℕ) (result : Result Walked WalkError) :
   pub fault : (j : ℕ) → IsErrOf result (WalkFault j) → (j ≡ set) × Rose before now
   pub others : NoFault result → now ≡ before
 
--- Nothing changes, on any device.
+-- Behind a group the walk goes on in the same data set, which has 24 bytes left there, and behind a switch at the start of a data
+-- set of the plant. The number is one more.
+abbrev pub GoesOn : PlantState → (at : Spot) → Walked → Type 0
+GoesOn plant at WalkedEnd = Unit {0}
+GoesOn plant at (WalkedGroup time after) = (after.set ≡ at.set) × (after.place + 24 ≤ plant.lengths (Journal at.set)) × (after.number ≡ at.number + 1)
+GoesOn plant at (WalkedSwitch time after) = (after.set < plant.journals) × (after.place ≡ 0) × (after.number ≡ at.number + 1)
+
+-- What a read of one device gives stays, and a crash leaves nothing there that it couldn't leave before. Nothing else changes.
 pub record ReadsOnly (tells : Type 0) (device : Device) (old new : PlantState) : Type 0 where
   pub same : tells → new.bytes device ≡ old.bytes device
   pub moments : tells → Follows Same (on old device) (on new device)

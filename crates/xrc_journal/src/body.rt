@@ -176,6 +176,7 @@ impl Body {
         requires fits { place + count < 2 ^ 64 }
         requires room { count ≤ self.old.room }
         ensures items { P.tells → IfOk result (λ bad. Takes (items_at (form_of (P.state plant.old)) place (stretch place count ((P.state plant.old).bytes device))) bad self.old self.new) }
+        ensures keep { AreItems (form_of (P.state plant.old)) self.new.items }
         ensures err { OnErr result (self.new ≡ without_items self.old) }
         ensures room { self.new.room ≡ self.old.room }
         ensures same { P.tells → (P.state plant.new).bytes device ≡ (P.state plant.old).bytes device }

@@ -4,7 +4,7 @@ ghost use Rattle.std.specs.Prelude.{◌≡◌, ◌≤◌, ◌+◌, ◌==◌, ℕ
 ghost use Rattle.xrc_edge.specs.Causes.{HasCause};
 ghost use Rattle.crash_plant.specs.Moments.{on, Follows, Same};
 ghost use Rattle.crash_plant.specs.Calls.{IsThere, NoneLent, WorksOn};
-ghost use Rattle.xrc_journal.specs.Items.{form_of};
+ghost use Rattle.xrc_journal.specs.Items.{AreItems, form_of};
 ghost use Rattle.xrc_journal.specs.Reading.{items_at};
 ghost use Rattle.xrc_journal.specs.Records.{stretch};
 ghost use Rattle.xrc_journal.specs.Bodies.{HoldsItems, items_of};
@@ -29,6 +29,7 @@ pub(crate) fn fill<P: Plant>(
     requires range { place + count ≤ (P.state plant.old).lengths device }
     requires room { count + 1 ≤ length buffer.old }
     ensures holds { IfOk result (λ good. HoldsItems good buffer.new) }
+    ensures keep { IfOk result (λ good. AreItems (form_of (P.state plant.old)) (items_of (take good buffer.new))) }
     ensures within { IfOk result (λ good. good ≤ count) }
     ensures items { P.tells → IfOk result (λ good. items_at (form_of (P.state plant.old)) place (stretch place count ((P.state plant.old).bytes device)) ≡ record { good = items_of (take good buffer.new); bad = if good == count then None else Some (place + good) }) }
     ensures err { OnErr result (HoldsItems 0 buffer.new) }

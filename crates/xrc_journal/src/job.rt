@@ -7,6 +7,7 @@ use std::alloc::Global;
 use xrc_edge::NoMemory;
 
 /// One volume of a site, on which the items of groups are done. `D` is the volume as it is lent.
+#[derive(Drop)]
 pub struct VolumeJob<D> {
     /// The volume's number.
     pub device: u16,

@@ -6,8 +6,8 @@ ghost use Rattle.crash_plant.specs.declared.device.Device.TheVariants.{Journal a
 ghost use Rattle.crash_plant.specs.Moments.{on, Follows, Same};
 ghost use Rattle.crash_plant.specs.Calls.{IsThere, NoneLent, WorksOn};
 ghost use Rattle.xrc_journal.specs.Records.{head_at, most_body, next_set, stretch, walk_one};
-ghost use Rattle.xrc_journal.specs.Answers.{Finds, NoFault, ReadsOnly, WalkCause, group_at, header_of, switch_at, told_of};
-ghost use Rattle.xrc_journal.specs.Items.{form_of};
+ghost use Rattle.xrc_journal.specs.Answers.{Finds, GoesOn, NoFault, ReadsOnly, WalkCause, group_at, header_of, switch_at, told_of};
+ghost use Rattle.xrc_journal.specs.Items.{AreItems, form_of};
 ghost use Rattle.xrc_journal.specs.declared.spot.WalkError.TheVariants.{Fault as FaultError};
 ghost use Rattle.tod_stamp.specs.declared.stamp.Stamp.{Stamp as StampValue};
 ghost use Rattle.xrc_journal.specs.declared.header.Header.TheVariants.{Group as GroupHeader};
@@ -82,12 +82,14 @@ fn walk_group<P: Plant>(
 ) -> Result<Walked, WalkError>
     requires there { IsThere (P.state plant.old) (JournalDevice at.set) }
     requires home { NoneLent (P.state plant.old) }
-    requires range { at.place + 22 + length ≤ (P.state plant.old).lengths (JournalDevice at.set) }
+    requires range { at.place + 22 + length + 24 ≤ (P.state plant.old).lengths (JournalDevice at.set) }
     requires fits { at.place + 22 + length < 2 ^ 64 }
     requires number { at.number < 2 ^ 64 - 1 }
     requires room { length ≤ into.old.room }
     ensures finds { P.tells → NoFault result → Finds at.set (group_at (form_of (P.state plant.old)) ((P.state plant.old).bytes (JournalDevice at.set)) at time.0 length) result into.old into.new }
     ensures room { into.new.room ≡ into.old.room }
+    ensures goes_on { IfOk result (GoesOn (P.state plant.old) at) }
+    ensures keep { AreItems (form_of (P.state plant.old)) into.new.items }
     ensures empty { (j : ℕ) → IsErrOf result (FaultError j) → into.new.items ≡ [] }
     ensures cause { WalkCause at.set ((P.state plant.old).faults (JournalDevice at.set)) ((P.state plant.new).faults (JournalDevice at.set)) result }
     ensures only { ReadsOnly P.tells (JournalDevice at.set) (P.state plant.old) (P.state plant.new) }
@@ -121,6 +123,7 @@ fn walk_switch<P: Plant>(plant: &mut P, at: Spot, time: Stamp) -> Result<Walked,
     requires range { at.place + 22 ≤ (P.state plant.old).lengths (JournalDevice at.set) }
     requires fits { at.place + 22 < 2 ^ 64 }
     requires number { at.number < 2 ^ 64 - 1 }
+    ensures goes_on { IfOk result (GoesOn (P.state plant.old) at) }
     ensures told { P.tells → NoFault result → result ≡ told_of at.set (switch_at (P.state plant.old).journals ((P.state plant.old).bytes (JournalDevice at.set)) at time.0) }
     ensures cause { WalkCause at.set ((P.state plant.old).faults (JournalDevice at.set)) ((P.state plant.new).faults (JournalDevice at.set)) result }
     ensures only { ReadsOnly P.tells (JournalDevice at.set) (P.state plant.old) (P.state plant.new) }
@@ -163,6 +166,8 @@ fn walk_open<P: Plant>(
     requires gate { P.tells → slice_index ((P.state plant.old).bytes (JournalDevice at.set)) at.place ≡ 1 }
     ensures finds { P.tells → NoFault result → Finds at.set (walk_one (form_of (P.state plant.old)) (P.state plant.old).journals ((P.state plant.old).bytes (JournalDevice at.set)) at last.0) result into.old into.new }
     ensures room { into.new.room ≡ into.old.room }
+    ensures goes_on { IfOk result (GoesOn (P.state plant.old) at) }
+    ensures keep { AreItems (form_of (P.state plant.old)) into.new.items }
     ensures empty { (j : ℕ) → IsErrOf result (FaultError j) → into.new.items ≡ [] }
     ensures cause { WalkCause at.set ((P.state plant.old).faults (JournalDevice at.set)) ((P.state plant.new).faults (JournalDevice at.set)) result }
     ensures only { ReadsOnly P.tells (JournalDevice at.set) (P.state plant.old) (P.state plant.new) }
@@ -193,11 +198,14 @@ pub fn walk<P: Plant>(
     // What a read gives is walked by the rules on one record.
     ensures finds { P.tells → NoFault result → Finds at.set (walk_one (form_of (P.state plant.old)) (P.state plant.old).journals ((P.state plant.old).bytes (JournalDevice at.set)) at last.0) result into.old into.new }
     ensures room { into.new.room ≡ into.old.room }
+    // Whatever a read gave, the spot behind a record lies in a journal, and the items keep the rules of the plant.
+    ensures goes_on { IfOk result (GoesOn (P.state plant.old) at) }
+    ensures keep { AreItems (form_of (P.state plant.old)) into.new.items }
     // After a fault no items are held.
     ensures empty { (j : ℕ) → IsErrOf result (FaultError j) → into.new.items ≡ [] }
     // Why it fails.
     ensures cause { WalkCause at.set ((P.state plant.old).faults (JournalDevice at.set)) ((P.state plant.new).faults (JournalDevice at.set)) result }
-    // Nothing changes, on any device.
+    // What reads give stays, and a crash leaves nothing on this journal that it couldn't leave before.
     ensures only { ReadsOnly P.tells (JournalDevice at.set) (P.state plant.old) (P.state plant.new) }
 {
     into.clear();

@@ -1,4 +1,4 @@
-use Rattle.std.proofs.Common.{◌≡◌, ℕ, drop, Option, Result, Ok, IfOk, sym, subst, ◌∙◌}
+use Rattle.std.proofs.Common.{◌≡◌, ℕ, List, drop, Option, Result, Ok, IfOk, IfSome, sym, subst, ◌∙◌}
 use Rattle.std.proofs.lemmas.Result.{on_ok_weaker}
 use Rattle.xrc_edge.specs.Causes.{Rose}
 use Rattle.crash_plant.specs.declared.device.Device.TheVariants.{Control}
@@ -6,7 +6,8 @@ use Rattle.crash_plant.specs.Moments.{on, Same}
 use Rattle.crash_plant.proofs.Steps.{works_on_trans}
 use Rattle.gates.proofs.Behind.{same_after}
 use Rattle.control_set.specs.declared.value.Mark.{Mark}
-use Rattle.control_set.specs.Slots.{chosen_mark, chosen_of, lengths_of, slot_of}
+use Rattle.control_set.specs.Marks.{IsMark}
+use Rattle.control_set.specs.Slots.{HoldsMark, chosen_mark, chosen_of, lengths_of, slot_of}
 use Rattle.control_set.proofs.Lengths.{same_lengths}
 use Rattle.control_set.proofs.Stands.{none_of, beside_is}
 use Rattle.control_set.proofs.choosing.choose.Goals as goal
@@ -24,6 +25,7 @@ returns-in-Ok g c =
     λ told. subst (λ (r : Result (Option Mark) ℕ). IfOk c.choose_beside.result (λ found. r ≡ Ok found)) (sym (whole told)) (rest.chosen told) in
     record {
       chosen = chosen;
+      keeps = subst (λ (ls : List ℕ). IfOk c.choose_beside.result (λ found. IfSome found (IsMark ls))) lens rest.keeps;
       damaged = λ told place is. whole told ∙ rest.damaged told place is;
       none = λ told. none_of (lengths_of old) (old.bytes Control) c.choose_beside.result (chosen told);
       fault = λ is. subst (λ (n : ℕ). Rose n (new.faults Control)) c.in-Ok.ensures.cause.ok (rest.fault is);
@@ -33,3 +35,9 @@ returns-in-Ok g c =
       moments = λ told. same_after (on old Control) (on mid Control) (on new Control) Same ((c.read_slot.ensures.only.elapses told).kept Control) (c.read_slot.ensures.moments told) ((rest.only.elapses told).kept Control) (rest.moments told);
       only = works_on_trans g.P.Plant.tells _ _ _ _ c.read_slot.ensures.only rest.only;
     }
+
+pub choose_beside-requires-clause-keeps : goal.choose_beside-requires-clause-keeps
+choose_beside-requires-clause-keeps g c _ _ =
+    let old = g.P.Plant.state c.args.plant.now in
+    let mid = g.P.Plant.state c.read_slot.new.plant in
+    subst (λ (ls : List ℕ). HoldsMark ls c.in-Ok.first) (sym (same_lengths old mid c.read_slot.ensures.only.site)) c.in-Ok.ensures.keeps

@@ -2,6 +2,8 @@ use Rattle.std.proofs.Common.{◌≡◌, ℕ, Option, sym, ap, ◌∙◌}
 use Rattle.std.specs.Prelude.{ok_or, Err}
 use Rattle.crash_plant.specs.declared.device.Device.TheVariants.{State}
 use Rattle.state_set.specs.Slots.{Stored, slot_place, state_at, state_of}
+use Rattle.pair_table.specs.Tables.{are_below}
+use Rattle.state_set.proofs.Below.{found_below}
 use Rattle.state_set.proofs.Windows.{read_is, some_state, no_state}
 use Rattle.state_set.proofs.slots.get.Goals as goal
 
@@ -24,3 +26,8 @@ returns-in-Ok-None-clause-damaged g c told place is =
     ∙ read_is c.volumes.result c.args.slot c.args.session (old.bytes State) c.in-Ok.bytes (c.in-Ok.ensures.bytes told)
     ∙ ap (λ (o : Option Stored). ok_or o (slot_place c.args.slot)) none
     ∙ ap (λ (p : ℕ). Err p) (sym c.slot_place.ensures ∙ same)
+
+pub returns-in-Ok-Some-clause-below : goal.returns-in-Ok-Some-clause-below
+returns-in-Ok-Some-clause-below g c =
+    let volumes = c.volumes.ensures ∙ c.read_slot.ensures.only.site.volumes in
+    ap (λ (v : ℕ). are_below v c.in-Ok-Some.found.1.rows) (sym volumes) ∙ found_below c.volumes.result c.args.session c.in-Ok.bytes c.in-Ok-Some.found (sym c.in-Ok-Some.field-0-is ∙ c.in-Ok-Some.ensures)

@@ -1,26 +1,8 @@
-use Rattle.std.proofs.Common.{◌++◌, length, ap, ◌∙◌, arith, refl}
-use Rattle.pending_queue.specs.Entries.{entries_of, never_fall, last_stamp, writes_never_fall}
-use Rattle.pending_queue.specs.Rooms.{blocks_taken, blocks_needed}
-use Rattle.pending_queue.specs.Queues.{QueueState}
-use Rattle.pending_queue.proofs.EntryLaws.{pushed_records, pushed_blocks, pushed_never_fall}
+use Rattle.pending_queue.proofs.VolumeLaws.{all_carried}
 use Rattle.pending_queue.proofs.queue.Queue.push_all.Goals as goal
 
-pub invariant_of-self-2 : goal.invariant_of-self-2
-invariant_of-self-2 c =
-    let control = c.self.inside.control in
-    let waiting = c.self.inside.waiting.items in
-    let writes = c.args.batch.now.writes in
-    let given = c.as_slice-writes.ensures in
-    let pushed = c.in_ok-push_entries.ensures.ok ∙ ap (λ ws. waiting ++ entries_of control ws) given in
-    let same_count = ap (λ (queue : QueueState). length queue.waiting) c.self.view_is in
-    let same_records = ap (λ (queue : QueueState). queue.records) c.self.view_is in
-    let same_taken = ap (λ (queue : QueueState). blocks_taken queue.waiting) c.self.view_is in
-    let same_blocks = ap (λ (queue : QueueState). queue.blocks) c.self.view_is in
-    let stamps = ap (λ (queue : QueueState). writes_never_fall (last_stamp queue.waiting) writes) c.self.view_is ∙ c.requires.stamps in (
-      record {
-        within_records = omega (arith, ap length pushed, pushed_records control waiting writes, ap length given, c.in-Some.ensures.records refl, c.free-free.ensures.records, same_count, same_records);
-        within_blocks = omega (arith, ap blocks_taken pushed, pushed_blocks control waiting writes, ap blocks_needed given, c.in-Some.ensures.some, c.in-Some.ensures.blocks, c.free-free.ensures.blocks, same_taken, same_blocks);
-        rising = ap (never_fall 0) pushed ∙ pushed_never_fall control 0 waiting writes c.self.invariant.0.rising stamps;
-      },
-      omega (arith, ap blocks_taken pushed, pushed_blocks control waiting writes, ap blocks_needed given, c.in-Some.ensures.some, c.self.invariant.1),
-    )
+pub returns-clause-pushed : goal.returns-clause-pushed
+returns-clause-pushed c = rw (all_carried c.args.batch.now.writes) at c.push_carried.ensures.pushed
+
+pub returns-clause-full : goal.returns-clause-full
+returns-clause-full c = rw (all_carried c.args.batch.now.writes) at c.push_carried.ensures.full

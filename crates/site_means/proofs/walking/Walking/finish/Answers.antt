@@ -1,5 +1,4 @@
 use Rattle.std.proofs.Common.{Bool, true, false, Result, Ok, Err, ◌∙◌, subst, arith}
-use Rattle.crash_plant.specs.declared.device.Device.TheVariants.{Journal}
 use Rattle.crash_plant.specs.Moments.{PlantState}
 use Rattle.site_means.specs.declared.site_error.SiteError.{SiteError}
 use Rattle.site_means.specs.declared.walking.Walking.{Walking}
@@ -9,7 +8,7 @@ use Rattle.site_means.specs.Walk.{Step, step}
 use Rattle.site_means.specs.Steps.{Passes, standing_of}
 use Rattle.site_means.proofs.ReadAll.{reads_then, fails_then, fails_as}
 use Rattle.site_means.proofs.Goes.{shape_same}
-use Rattle.site_means.proofs.Finishing.{going_next, going_ends, going_fails, stands_later, stands_next}
+use Rattle.site_means.proofs.Finishing.{going_next, going_ends, going_fails}
 use Rattle.site_means.proofs.walking.Walking.finish.Goals as goal
 
 -- what a step does is the same by the plant as it was
@@ -28,23 +27,23 @@ pub returns-in-Err-clause-fails : goal.returns-in-Err-clause-fails
 returns-in-Err-clause-fails g c = fails_as {X = Bool} {Y = Unit {0}} _ _ c.in-Err.error (fails_then {X = Bool} _ _ _ _ c.loop-error.invariant.faults c.in-Err.ensures.fails)
 
 pub returns-in-Err-clause-reports : goal.returns-in-Err-clause-reports
-returns-in-Err-clause-reports g c = λ told stands.
+returns-in-Err-clause-reports g c = λ told.
     let old = g.P.Plant.state c.args.plant.now in
     let mid = g.P.Plant.state c.loop-error.plant in
     let now = c.loop-error.self in
-    let inv = c.loop-error.invariant.going told stands in
-    let p = passes_as g.P.Plant.tells old mid now c.step.new.self (Err c.in-Err.error) c.loop-error.invariant.reads told (c.in-Err.ensures.passes told (stands_later old mid now c.loop-error.invariant.reads.only.site inv.0)) in
-    going_fails (shape_of old) old.bytes c.args.self.now now c.step.new.self c.in-Err.error c.step.ensures.number inv.1 inv.0.here p
+    let inv = c.loop-error.invariant.going told in
+    let p = passes_as g.P.Plant.tells old mid now c.step.new.self (Err c.in-Err.error) c.loop-error.invariant.reads told (c.in-Err.ensures.passes told) in
+    going_fails (shape_of old) old.bytes c.args.self.now now c.step.new.self c.in-Err.error c.step.ensures.number inv c.loop-error.invariant.stands.here p
 
 pub returns-in-Ok-false-clause-reports : goal.returns-in-Ok-false-clause-reports
-returns-in-Ok-false-clause-reports g c = λ told stands.
+returns-in-Ok-false-clause-reports g c = λ told.
     let old = g.P.Plant.state c.args.plant.now in
     let mid = g.P.Plant.state c.loop-error.plant in
     let now = c.loop-error.self in
-    let inv = c.loop-error.invariant.going told stands in
-    let passes = c.in-Ok-false.ensures.passes told (stands_later old mid now c.loop-error.invariant.reads.only.site inv.0) in
+    let inv = c.loop-error.invariant.going told in
+    let passes = c.in-Ok-false.ensures.passes told in
     let p = passes_as g.P.Plant.tells old mid now c.step.new.self (Ok false) c.loop-error.invariant.reads told (subst (λ (b : Bool). Passes (step (shape_of mid) mid.bytes (standing_of now)) now c.step.new.self (Ok b)) c.in-Ok-false.field-0-test passes) in
-    going_ends (shape_of old) old.bytes c.args.self.now now c.step.new.self c.step.ensures.number inv.1 p.0 p.1
+    going_ends (shape_of old) old.bytes c.args.self.now now c.step.new.self c.step.ensures.number inv p.0 p.1
 
 pub loop-error-smaller : goal.loop-error-smaller
 loop-error-smaller g c = omega (arith, c.step.ensures.number, c.in-Ok-true.ensures.forth c.in-Ok-true.field-0-test)
@@ -58,10 +57,9 @@ loop-error-preserved g c =
       reads = reads_then g.P.Plant.tells _ _ _ c.loop-error.invariant.reads c.step.ensures.reads;
       faults = λ d. c.in-Ok-true.ensures.fails.others d (λ e. absurd cc) ∙ c.loop-error.invariant.faults d;
       room = c.step.ensures.room ∙ c.loop-error.invariant.room;
-      going = λ told stands.
-          let inv = c.loop-error.invariant.going told stands in
-          let passes = c.in-Ok-true.ensures.passes told (stands_later old mid now c.loop-error.invariant.reads.only.site inv.0) in
+      stands = c.in-Ok-true.ensures.stands;
+      going = λ told.
+          let passes = c.in-Ok-true.ensures.passes told in
           let m = passes_as g.P.Plant.tells old mid now c.step.new.self (Ok true) c.loop-error.invariant.reads told (subst (λ (b : Bool). Passes (step (shape_of mid) mid.bytes (standing_of now)) now c.step.new.self (Ok b)) c.in-Ok-true.field-0-test passes) in
-          let size = g.met.P.Plant.length_told c.args.plant.now (Journal now.at.set) told inv.0.set in
-          (stands_next old now c.step.new.self m.groups size inv.0 m.is, going_next (shape_of old) old.bytes c.args.self.now now c.step.new.self c.step.ensures.number inv.1 m);
+          going_next (shape_of old) old.bytes c.args.self.now now c.step.new.self c.step.ensures.number (c.loop-error.invariant.going told) m;
     }

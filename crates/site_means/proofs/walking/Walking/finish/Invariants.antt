@@ -12,7 +12,8 @@ invariant-loop-error g l = record {
   reads : ReadsAll g.P.Plant.tells (g.P.Plant.state l.fn.plant) (g.P.Plant.state l.plant);
   faults : (d : Device) → (g.P.Plant.state l.plant).faults d ≡ (g.P.Plant.state l.fn.plant).faults d;
   room : l.buffers.body.room ≡ l.fn.buffers.body.room;
-  going : g.P.Plant.tells → Stands (g.P.Plant.state l.fn.plant) l.fn.self → Stands (g.P.Plant.state l.fn.plant) l.self × Going (shape_of (g.P.Plant.state l.fn.plant)) (g.P.Plant.state l.fn.plant).bytes l.fn.self l.self;
+  stands : Stands (g.P.Plant.state l.plant) l.self;
+  going : g.P.Plant.tells → Going (shape_of (g.P.Plant.state l.fn.plant)) (g.P.Plant.state l.fn.plant).bytes l.fn.self l.self;
 }
 
 abbrev pub decreases-loop-error : goal.decreases-loop-error

@@ -1,22 +1,24 @@
 use Rattle.site_means.specs.Answers.{Fails}
 use Rattle.site_means.specs.declared.site_error.SiteError.{SiteError}
 use Rattle.site_means.specs.declared.site_error.SiteError.TheVariants.{Fault}
-use Rattle.std.proofs.Common.{◌≡◌, ℕ, Bool, Result, List, Ok, Err, sym, ap, subst, ◌∙◌, arith}
+use Rattle.std.proofs.Common.{◌≡◌, ◌<◌, ℕ, Bool, Result, List, Ok, Err, sym, ap, subst, ◌∙◌, arith}
 use Rattle.crash_plant.specs.declared.device.Device.TheVariants.{Journal}
-use Rattle.crash_plant.specs.declared.spot.Spot.{Spot}
 use Rattle.pair_table.specs.Tables.{are_below}
 use Rattle.xrc_journal.specs.Items.{Item, form_of}
 use Rattle.xrc_journal.specs.Bodies.{Held}
 use Rattle.xrc_journal.specs.Records.{Found, walk_one}
 use Rattle.xrc_journal.specs.Records.Found.{Group, Damaged}
-use Rattle.xrc_journal.specs.Answers.{items_found}
+use Rattle.xrc_journal.specs.declared.spot.Walked.{Walked}
+use Rattle.xrc_journal.specs.Answers.{GoesOn, items_found}
 use Rattle.std.specs.Prelude.{unwrap_or}
 use Rattle.site_means.specs.Images.{shape_of}
 use Rattle.site_means.specs.Walk.{Step, body_place, first_unfit, group_step, step_by}
 use Rattle.site_means.specs.Walk.Step.{Breaks}
 use Rattle.site_means.specs.Steps.{HavePlaces, Passes, standing_of}
+use Rattle.std.proofs.lemmas.Result.{on_ok_weaker}
+use Rattle.site_means.proofs.Finishing.{on_ok_two, stands_behind, stands_later}
 use Rattle.site_means.proofs.ReadAll.{reads_journal, fails_one}
-use Rattle.site_means.proofs.Found.{told_group, told_switch, told_damaged, group_ends, found_places, switch_leads}
+use Rattle.site_means.proofs.Found.{told_group, told_switch, told_damaged, found_places}
 use Rattle.site_means.proofs.walking.Walking.step.Goals as goal
 
 pub returns-in-Ok-End-clause-reads : goal.returns-in-Ok-End-clause-reads
@@ -43,7 +45,8 @@ returns-in-Err-Fault-clause-fails g c =
     (fails_one {X = Bool} g.P.Plant.tells (Journal c.args.self.now.at.set) old new cause.1 c.walk.ensures.only.only)
 
 pub returns-in-Ok-Group-clause-passes : goal.returns-in-Ok-Group-clause-passes
-returns-in-Ok-Group-clause-passes g c = λ told stands.
+returns-in-Ok-Group-clause-passes g c = λ told.
+    let stands = c.requires.stands in
     let old = g.P.Plant.state c.args.plant.now in
     let self = c.args.self.now in
     let journal = old.bytes (Journal self.at.set) in
@@ -55,19 +58,17 @@ returns-in-Ok-Group-clause-passes g c = λ told stands.
     let items_are : items ≡ items_found found = ap (λ (h : Held). h.items) finds.held in
     let first = told_group self.at.set found time after (sym finds.told ∙ ap Ok c.in-Ok-Group.field-0-is) in
     let is : found ≡ Group time.0 items after = first ∙ ap (λ (l : List Item). Group time.0 l after) (sym items_are) in
-    let ends = group_ends (form_of old) old.journals journal self.at self.last.0 time.0 items after is in
-    let there = c.has_place.ensures.there.0 c.if-not-has_place.false in
-    let size = g.met.P.Plant.length_told c.args.plant.now (Journal self.at.set) told there.0 in
-    let short = c.has_place.ensures.short c.if-not-has_place.false in
-    let places = subst (λ (l : List Item). HavePlaces self.at l) (sym items_are) (found_places (form_of old) old.journals journal self.at self.last.0 (omega (arith, size, short))) in
+    let size = g.met.P.Plant.length_told c.args.plant.now (Journal self.at.set) told stands.set in
+    let places = subst (λ (l : List Item). HavePlaces self.at l) (sym items_are) (found_places (form_of old) old.journals journal self.at self.last.0 (omega (arith, size, c.length-valid.ensures))) in
     let volumes = c.volumes-volumes.ensures in
     let below = ap (λ (n : ℕ). are_below n self.table.rows) volumes ∙ stands.below in
-    let passes = c.pass_group.ensures.passes (omega (arith, ends.number)) below places in
+    let passes = c.pass_group.ensures.passes places in
     subst (λ (s : Step). Passes s self c.pass_group.new.self c.pass_group.result)
     (ap (λ (n : ℕ). group_step (standing_of self) time.0 items after (first_unfit n (body_place self.at) self.table.rows items)) volumes ∙ sym (ap (λ (f : Found). step_by (shape_of old) (standing_of self) f) is)) passes
 
 pub returns-in-Ok-Switch-clause-passes : goal.returns-in-Ok-Switch-clause-passes
-returns-in-Ok-Switch-clause-passes g c = λ told stands.
+returns-in-Ok-Switch-clause-passes g c = λ told.
+    let stands = c.requires.stands in
     let old = g.P.Plant.state c.args.plant.now in
     let self = c.args.self.now in
     let journal = old.bytes (Journal self.at.set) in
@@ -76,12 +77,12 @@ returns-in-Ok-Switch-clause-passes g c = λ told stands.
     let after = c.in-Ok-Switch.after in
     let finds = c.in-Ok-Switch.ensures.finds told (λ j e. absurd cc) in
     let is = told_switch self.at.set found time after (sym finds.told ∙ ap Ok c.in-Ok-Switch.field-0-is) in
-    let leads = switch_leads (form_of old) old.journals journal self.at self.last.0 time.0 after is in
-    let passes = c.enter.ensures.passes (omega (arith, ap (λ (s : Spot). s.number) leads)) in
+    let passes = c.enter.ensures.passes in
     subst (λ (s : Step). Passes s self c.enter.new.self c.enter.result) (sym (ap (λ (f : Found). step_by (shape_of old) (standing_of self) f) is)) passes
 
 pub returns-in-Err-Damaged-clause-passes : goal.returns-in-Err-Damaged-clause-passes
-returns-in-Err-Damaged-clause-passes g c = λ told stands.
+returns-in-Err-Damaged-clause-passes g c = λ told.
+    let stands = c.requires.stands in
     let old = g.P.Plant.state c.args.plant.now in
     let self = c.args.self.now in
     let journal = old.bytes (Journal self.at.set) in
@@ -92,12 +93,44 @@ returns-in-Err-Damaged-clause-passes g c = λ told stands.
     let items_are : items ≡ items_found found = ap (λ (h : Held). h.items) finds.held in
     let first = told_damaged self.at.set found _ place (sym finds.told ∙ ap Err c.in-Err-Damaged.field-0-is) in
     let is : found ≡ Damaged place items = first ∙ ap (λ (l : List Item). Damaged place l) (sym items_are) in
-    let there = c.has_place.ensures.there.0 c.if-not-has_place.false in
-    let size = g.met.P.Plant.length_told c.args.plant.now (Journal self.at.set) told there.0 in
-    let short = c.has_place.ensures.short c.if-not-has_place.false in
-    let places = subst (λ (l : List Item). HavePlaces self.at l) (sym items_are) (found_places (form_of old) old.journals journal self.at self.last.0 (omega (arith, size, short))) in
+    let size = g.met.P.Plant.length_told c.args.plant.now (Journal self.at.set) told stands.set in
+    let places = subst (λ (l : List Item). HavePlaces self.at l) (sym items_are) (found_places (form_of old) old.journals journal self.at self.last.0 (omega (arith, size, c.length-valid.ensures))) in
     let volumes = c.volumes-volumes.ensures in
     let below = ap (λ (n : ℕ). are_below n self.table.rows) volumes ∙ stands.below in
     let passes = c.break_at.ensures.passes below places in
     subst (λ (s : Step). Passes s self c.break_at.new.self (Err c.break_at.result))
     (ap (λ (n : ℕ). Breaks (unwrap_or (first_unfit n (body_place self.at) self.table.rows items) place)) volumes ∙ sym (ap (λ (f : Found). step_by (shape_of old) (standing_of self) f) is)) passes
+
+pub pass_group-requires-clause-below : goal.pass_group-requires-clause-below
+pass_group-requires-clause-below g c = ap (λ (n : ℕ). are_below n c.args.self.now.table.rows) c.volumes-volumes.ensures ∙ c.requires.stands.below
+
+pub pass_group-requires-clause-same_set : goal.pass_group-requires-clause-same_set
+pass_group-requires-clause-same_set g c = (subst (λ (w : Walked). GoesOn (g.P.Plant.state c.args.plant.now) c.args.self.now.at w) c.in-Ok-Group.field-0-is c.in-Ok-Group.ensures.goes_on).0
+
+pub returns-in-Ok-Group-clause-stands : goal.returns-in-Ok-Group-clause-stands
+returns-in-Ok-Group-clause-stands g c =
+    let old = g.P.Plant.state c.args.plant.now in
+    let new = g.P.Plant.state c.walk.new.plant in
+    let now = c.args.self.now in
+    let next = c.pass_group.new.self in
+    let on = subst (λ (w : Walked). GoesOn old now.at w) c.in-Ok-Group.field-0-is c.in-Ok-Group.ensures.goes_on in
+    let stands = c.requires.stands in
+    let set : c.in-Ok-Group.after.set < old.journals = omega (arith, on.0, stands.set) in
+    let place : c.in-Ok-Group.after.place < old.lengths (Journal c.in-Ok-Group.after.set) = omega (arith, on.1, ap (λ (k : ℕ). old.lengths (Journal k)) on.0) in
+    on_ok_two c.pass_group.result
+    (λ behind below. stands_later old new next c.walk.ensures.only.only.site (stands_behind old now next c.in-Ok-Group.after next.table.rows stands behind set place (ap (λ (n : ℕ). are_below n next.table.rows) (sym c.volumes-volumes.ensures) ∙ below)))
+    c.pass_group.ensures.behind c.pass_group.ensures.below
+
+pub returns-in-Ok-Switch-clause-stands : goal.returns-in-Ok-Switch-clause-stands
+returns-in-Ok-Switch-clause-stands g c =
+    let old = g.P.Plant.state c.args.plant.now in
+    let new = g.P.Plant.state c.walk.new.plant in
+    let now = c.args.self.now in
+    let next = c.enter.new.self in
+    let on = subst (λ (w : Walked). GoesOn old now.at w) c.in-Ok-Switch.field-0-is c.in-Ok-Switch.ensures.goes_on in
+    let stands = c.requires.stands in
+    let place : c.in-Ok-Switch.after.place < old.lengths (Journal c.in-Ok-Switch.after.set) = omega (arith, on.1, stands.long c.in-Ok-Switch.after.set on.0) in
+    on_ok_weaker c.enter.result (λ behind. stands_later old new next c.walk.ensures.only.only.site (stands_behind old now next c.in-Ok-Switch.after now.table.rows stands behind on.0 place stands.below)) c.enter.ensures.behind
+
+pub returns-in-Ok-End-clause-stands : goal.returns-in-Ok-End-clause-stands
+returns-in-Ok-End-clause-stands g c = stands_later (g.P.Plant.state c.args.plant.now) (g.P.Plant.state c.walk.new.plant) c.args.self.now c.walk.ensures.only.only.site c.requires.stands

@@ -1,0 +1,10 @@
+pub mod BlockLaws
+pub mod RunLaws
+pub mod Copying
+pub mod Views
+pub mod Taking
+pub mod Giving
+pub mod Gives
+pub mod Takes
+pub mod Making
+pub mod ChainLaws

@@ -1,0 +1,4 @@
+pub mod Blocks
+pub mod Regions
+pub mod Runs
+pub mod Laws

@@ -1,0 +1,5 @@
+pub mod InSets
+pub mod InWords
+pub mod Bits
+pub mod Counts
+pub mod Lanes8

@@ -1,0 +1,96 @@
+-- What an accepted command does to the rows, and the answer to a command.
+use Rattle.std.specs.Prelude.{ℕ, ◌&&◌, not, List, [], ◌∷◌, ◌++◌, map, filter, Bool, true, false, Option, Some, None, Result, Ok, Err, is_none, if◌then◌else◌}
+use Rattle.pair_table.specs.declared.command.Change.{Change}
+use Rattle.pair_table.specs.declared.command.Change.TheVariants.{Nothing, Started, Added, Resumed, Gone, Suspended as SuspendedRows, Ended as EndedSession}
+use Rattle.pair_table.specs.declared.command.Choice.{Choice}
+use Rattle.pair_table.specs.declared.command.Choice.TheVariants.{One, All}
+use Rattle.pair_table.specs.declared.command.Command.{Command}
+use Rattle.pair_table.specs.declared.command.Command.TheVariants.{Start, AddPair, DelPair, Suspend, Query, End}
+use Rattle.pair_table.specs.declared.command.Refusal.{Refusal}
+use Rattle.pair_table.specs.declared.row.PairRow.{PairRow}
+use Rattle.pair_table.specs.declared.row.PairState.TheVariants.{Pending, Suspended}
+use Rattle.pair_table.specs.declared.row.SuspendCause.TheVariants.{Command as ByCommand}
+use Rattle.pair_table.specs.Naming.{NamedDevice, NamedVolume, Naming, label_of, primary_of}
+use Rattle.pair_table.specs.Refusals.{Pairs, is_of_primary, is_pair, refusal, row_of_primary}
+use Rattle.pair_table.specs.Rows.{is_suspended}
+use Rattle.pair_table.specs.Tables.{in_state}
+
+-- ---- the rows
+
+abbrev pub is_chosen : Choice → PairRow → Bool
+is_chosen (One primary secondary) r = is_pair primary secondary r
+is_chosen All r = true
+
+abbrev pub is_to_suspend : Choice → PairRow → Bool
+is_to_suspend choice r = is_chosen choice r && not (is_suspended r.state)
+
+abbrev pub new_row : (secondary : List ℕ) → NamedVolume → NamedDevice → PairRow
+new_row secondary v l = record { primary = v.serial; secondary = secondary; control = v.control; volume = v.volume; device = l.device; cylinders = v.cylinders; state = Pending }
+
+-- a row of that primary, or else none
+abbrev pub add_to : List PairRow → Option PairRow → Option PairRow → List PairRow
+add_to rows (Some r) new = map (λ o. if is_of_primary r.primary o then in_state Pending o else o) rows
+add_to rows None (Some new) = rows ++ new ∷ []
+add_to rows None None = rows
+
+abbrev pub new_row_for : (secondary : List ℕ) → Option NamedVolume → Option NamedDevice → Option PairRow
+new_row_for secondary (Some v) (Some l) = Some (new_row secondary v l)
+new_row_for secondary None l = None
+new_row_for secondary (Some v) None = None
+
+abbrev pub suspended_since : Choice → (time : ℕ) → PairRow → PairRow
+suspended_since choice time r = if is_to_suspend choice r then in_state (Suspended ByCommand (record { 0 = time })) r else r
+
+-- The rows after an accepted command at a time. A new row goes last, pending; a suspended one becomes pending in its place. The
+-- chosen rows go. Those of the chosen that aren't suspended become so by the command, since the time.
+abbrev pub rows_after : Naming → (time : ℕ) → Command → List PairRow → List PairRow
+rows_after names time (AddPair primary secondary) rows = add_to rows (row_of_primary primary rows) (new_row_for secondary (primary_of primary names) (label_of secondary names))
+rows_after names time (DelPair choice) rows = filter (λ r. not (is_chosen choice r)) rows
+rows_after names time (Suspend choice) rows = map (suspended_since choice time) rows
+rows_after names time (Start level) rows = []
+rows_after names time Query rows = rows
+rows_after names time End rows = rows
+
+-- ---- the answer
+
+abbrev pub devices_of : List PairRow → List ℕ
+devices_of rows = map (λ r. r.device) rows
+
+abbrev pub added : Option PairRow → Option NamedDevice → Change
+added (Some r) l = Resumed r.device
+added None (Some l) = Added l.device
+added None None = Nothing
+
+-- What a command changes: the devices of rows that go, and of rows that become suspended.
+abbrev pub change_of : Naming → Command → List PairRow → Change
+change_of names (AddPair primary secondary) rows = added (row_of_primary primary rows) (label_of secondary names)
+change_of names (DelPair choice) rows = Gone (devices_of (filter (is_chosen choice) rows))
+change_of names (Suspend choice) rows = SuspendedRows (devices_of (filter (is_to_suspend choice) rows))
+change_of names (Start level) rows = Started
+change_of names Query rows = Nothing
+change_of names End rows = EndedSession
+
+abbrev pub answer_by : Option Refusal → Change → Result Change Refusal
+answer_by (Some why) change = Err why
+answer_by None change = Ok change
+
+abbrev pub answer : Naming → Pairs → (session : List ℕ) → Command → Result Change Refusal
+answer names pairs session command = answer_by (refusal names pairs session command) (change_of names command pairs.table.rows)
+
+abbrev pub is_end : Command → Bool
+is_end End = true
+is_end (Start level) = false
+is_end (AddPair primary secondary) = false
+is_end (DelPair choice) = false
+is_end (Suspend choice) = false
+is_end Query = false
+
+abbrev pub accepted : Naming → (time : ℕ) → Command → Pairs → Pairs
+accepted names time command pairs = record {
+  table = record { session = pairs.table.session; is_started = true; rows = rows_after names time command pairs.table.rows };
+  is_ended = is_end command;
+}
+
+-- The table after a command at a time. A refusal changes nothing.
+abbrev pub pairs_after : Naming → Pairs → (session : List ℕ) → Command → (time : ℕ) → Pairs
+pairs_after names pairs session command time = if is_none (refusal names pairs session command) then accepted names time command pairs else pairs
