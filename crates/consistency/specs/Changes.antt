@@ -1,0 +1,133 @@
+-- How the rows of a session change between two commands.
+use Rattle.std.specs.Prelude.{ℕ, zero, suc, ◌==◌, ◌&&◌, ◌||◌, not, List, [], ◌∷◌, length, map, Bool, true, false, Option, Some, None, nat_le, if◌then◌else◌}
+use Rattle.std.specs.List.{list_any, list_all}
+use Rattle.pair_table.specs.declared.level.Level.{Level}
+use Rattle.pair_table.specs.declared.level.Level.TheVariants.{Volume as VolumeLevel, Session as SessionLevel}
+use Rattle.pair_table.specs.declared.row.PairRow.{PairRow}
+use Rattle.pair_table.specs.declared.row.PairState.{PairState}
+use Rattle.pair_table.specs.declared.row.PairState.TheVariants.{Pending, Copy, Duplex, Suspended}
+use Rattle.pair_table.specs.declared.row.SuspendCause.{SuspendCause}
+use Rattle.pair_table.specs.declared.row.SuspendCause.TheVariants.{Device as ByDevice, Session as BySession, Control as ByControl}
+use Rattle.pair_table.specs.Rows.{is_suspended}
+use Rattle.pair_table.specs.Tables.{changed_row as row_in_state, in_state, is_of, row_of}
+
+-- A change of rows. Rows are named by their devices.
+--   Mature: a pending row becomes copying or duplex, or a copying row duplex.
+--   Break: every row of the control that isn't suspended is suspended by the control.
+--   Hit: volumes failed at one time. Their rows, suspended or not, are suspended by the device; under level SESSION every other row
+--     that isn't suspended is suspended by the session.
+--   MarkedHit: the same of a hit that stands in a mark which logging makes before its record, where the other rows still wait.
+--   Reached: after such a hit, with the record: every row that isn't suspended is suspended by the session.
+pub data RowChange : Type 0 where
+  Mature : (device : ℕ) → (state : PairState) → RowChange
+  Break : (control : ℕ) → RowChange
+  Hit : (devices : List ℕ) → RowChange
+  MarkedHit : (devices : List ℕ) → RowChange
+  Reached : RowChange
+
+-- a change at a time
+pub record Timed : Type 0 where
+  pub time : ℕ
+  pub change : RowChange
+
+-- ---- what each does to a row
+
+abbrev pub is_among : (device : ℕ) → List ℕ → Bool
+is_among device devices = list_any (λ d. d == device) devices
+
+abbrev pub since : SuspendCause → (time : ℕ) → PairState
+since cause time = Suspended cause (record { 0 = time })
+
+-- a row that isn't suspended is suspended
+abbrev pub suspended_by : SuspendCause → (time : ℕ) → PairRow → PairRow
+suspended_by cause time r = if is_suspended r.state then r else in_state (since cause time) r
+
+abbrev pub broken_row : (control time : ℕ) → PairRow → PairRow
+broken_row control time r = if r.control == control then suspended_by ByControl time r else r
+
+-- a row is suspended, whether it was or not
+abbrev pub hit_row : (devices : List ℕ) → (time : ℕ) → PairRow → PairRow
+hit_row devices time r = if is_among r.device devices then in_state (since ByDevice time) r else r
+
+-- The others that a hit reaches: none under level VOLUME, all under level SESSION.
+abbrev pub reached_row : Level → (time : ℕ) → PairRow → PairRow
+reached_row VolumeLevel time r = r
+reached_row SessionLevel time r = suspended_by BySession time r
+
+abbrev pub changed_row : Level → Timed → PairRow → PairRow
+changed_row level t r = elim t.change [
+  | Mature device state ↦ row_in_state device state r
+  | Break control ↦ broken_row control t.time r
+  | Hit devices ↦ reached_row level t.time (hit_row devices t.time r)
+  | MarkedHit devices ↦ hit_row devices t.time r
+  | Reached ↦ reached_row level t.time r
+]
+
+abbrev pub after_change : Level → Timed → List PairRow → List PairRow
+after_change level t rows = map (changed_row level t) rows
+
+abbrev pub after_changes : Level → List Timed → List PairRow → List PairRow
+after_changes level [] rows = rows
+after_changes level (t ∷ changes) rows = after_changes level changes (after_change level t rows)
+
+-- ---- when each may come
+
+abbrev pub may_mature : PairState → PairState → Bool
+may_mature Pending Copy = true
+may_mature Pending Duplex = true
+may_mature Copy Duplex = true
+may_mature Pending Pending = false
+may_mature Pending (Suspended cause time) = false
+may_mature Copy Pending = false
+may_mature Copy Copy = false
+may_mature Copy (Suspended cause time) = false
+may_mature Duplex state = false
+may_mature (Suspended cause time) state = false
+
+-- The break times of the controls, in order. A control without one never breaks.
+abbrev pub break_time_of : (control : ℕ) → List (Option ℕ) → Option ℕ
+break_time_of k [] = None
+break_time_of zero (b ∷ breaks) = b
+break_time_of (suc k) (b ∷ breaks) = break_time_of k breaks
+
+abbrev pub is_at : (time : ℕ) → Option ℕ → Bool
+is_at time None = false
+is_at time (Some b) = b == time
+
+abbrev pub row_may_mature : PairState → Option PairRow → Bool
+row_may_mature state None = false
+row_may_mature state (Some r) = may_mature r.state state
+
+-- Devices that are hit have rows, and there is one at least.
+abbrev pub are_hit : (devices : List ℕ) → List PairRow → Bool
+are_hit devices rows = nat_le 1 (length devices) && list_all (λ d. list_any (is_of d) rows) devices
+
+abbrev pub is_session_level : Level → Bool
+is_session_level VolumeLevel = false
+is_session_level SessionLevel = true
+
+-- A control breaks at its break time. Others are reached on their own only after a marked hit.
+abbrev pub may_come : (breaks : List (Option ℕ)) → (is_due : Bool) → List PairRow → Timed → Bool
+may_come breaks is_due rows t = elim t.change [
+  | Mature device state ↦ row_may_mature state (row_of device rows)
+  | Break control ↦ is_at t.time (break_time_of control breaks)
+  | Hit devices ↦ are_hit devices rows
+  | MarkedHit devices ↦ are_hit devices rows
+  | Reached ↦ is_due
+]
+
+-- whether others are still to be reached after a change
+abbrev pub due_after : Level → Bool → RowChange → Bool
+due_after level is_due (Mature device state) = is_due
+due_after level is_due (Break control) = is_due
+due_after level is_due (Hit devices) = false
+due_after level is_due (MarkedHit devices) = is_session_level level
+due_after level is_due Reached = false
+
+-- Each change may come where it comes, and times don't fall and lie from `from` to `to`. At the end others are still to be reached only
+-- where that may be.
+abbrev pub may_all_come : Level → (breaks : List (Option ℕ)) → (may_end_due is_due : Bool) → (from to : ℕ) → List PairRow → List Timed → Bool
+may_all_come level breaks may_end_due is_due from to rows [] = may_end_due || not is_due
+may_all_come level breaks may_end_due is_due from to rows (t ∷ changes) =
+    nat_le from t.time && nat_le t.time to && may_come breaks is_due rows t
+    && may_all_come level breaks may_end_due (due_after level is_due t.change) t.time to (after_change level t rows) changes

@@ -1,0 +1,94 @@
+-- What one line does to a session's table, with the changes before and after its command.
+use Rattle.std.specs.Prelude.{◌≡◌, ℕ, ◌+◌, ◌==◌, ◌&&◌, not, List, [], ◌∷◌, map, nat_le, nat_lt, ◌||◌, Bool, true, false, Option, Some, None, IsTrue, if◌then◌else◌}
+use Rattle.std.specs.List.{list_all}
+use Rattle.sidefile.specs.Breaks.{is_below}
+use Rattle.pair_table.specs.declared.command.Command.{Command}
+use Rattle.pair_table.specs.declared.level.Level.{Level}
+use Rattle.pair_table.specs.declared.row.PairRow.{PairRow}
+use Rattle.pair_table.specs.declared.row.PairState.{PairState}
+use Rattle.pair_table.specs.declared.row.PairState.TheVariants.{Pending, Copy, Duplex, Suspended}
+use Rattle.pair_table.specs.declared.row.SuspendCause.TheVariants.{Control as ByControl}
+use Rattle.pair_table.specs.Commands.{pairs_after}
+use Rattle.pair_table.specs.Naming.{Naming}
+use Rattle.pair_table.specs.Refusals.{Pairs}
+use Rattle.pair_table.specs.Rows.{is_suspended}
+use Rattle.pair_table.specs.Tables.{Table, in_state, with_rows}
+use Rattle.consistency.specs.Changes.{RowChange, Timed, break_time_of, may_all_come, after_changes, since}
+use Rattle.consistency.specs.Changes.RowChange.{Hit, MarkedHit, Reached, Mature, Break}
+use Rattle.consistency.specs.Toward.{Toward, is_break, is_maturing}
+
+-- a line of a script: its time, the session that it names, and its command
+pub record TimedCommand : Type 0 where
+  pub time : ℕ
+  pub session : List ℕ
+  pub command : Command
+
+-- the controls, from this one on, that have broken at a time: those with a break time below it
+abbrev pub broken_at : (time control : ℕ) → (breaks : List (Option ℕ)) → List ℕ
+broken_at time k [] = []
+broken_at time k (b ∷ breaks) = if is_below b time then k ∷ broken_at time (k + 1) breaks else broken_at time (k + 1) breaks
+
+-- the names as a command at a time sees them
+abbrev pub names_at : (time : ℕ) → (breaks : List (Option ℕ)) → Naming → Naming
+names_at time breaks names = record names { broken = broken_at time 0 breaks }
+
+-- the pairs after a line's command alone
+abbrev pub commanded : (breaks : List (Option ℕ)) → Naming → Pairs → TimedCommand → Pairs
+commanded breaks names pairs line = pairs_after (names_at line.time breaks names) pairs line.session line.command line.time
+
+abbrev pub with_pair_rows : List PairRow → Pairs → Pairs
+with_pair_rows rows pairs = record pairs { table = with_rows pairs.table rows }
+
+-- A row that is neither pending nor copying.
+abbrev pub is_settled : PairState → Bool
+is_settled Pending = false
+is_settled Copy = false
+is_settled Duplex = true
+is_settled (Suspended cause time) = true
+
+-- Only a session that has started and not ended changes by itself.
+abbrev pub is_active : Pairs → Bool
+is_active pairs = pairs.table.is_started && not pairs.is_ended
+
+-- a hit at a time
+abbrev pub is_hit_at : (time : ℕ) → Timed → Bool
+is_hit_at time t = t.time == time && elim t.change [ Hit devices ↦ true | MarkedHit devices ↦ true | Reached ↦ true | Mature device state ↦ false | Break control ↦ false ]
+
+-- The rows go toward the line's time, where no control with that break time has broken and no row is pending or copying; then the
+-- command is run; then volumes may be hit at that time. `may_end_due` says whether other rows may be due at the end.
+pub record IsCommanded (level : Level) (breaks : List (Option ℕ)) (names : Naming) (from : ℕ) (may_end_due : Bool) (old : Pairs) (line : TimedCommand) (rows : List PairRow) : Type 0 where
+  pub mid : List PairRow
+  pub toward : Toward level breaks false from line.time old.table.rows mid
+  pub not_broken_yet : IsTrue (list_all (λ t. not (is_break t && t.time == line.time)) toward.changes)
+  pub settled : IsTrue (list_all (λ r. is_settled r.state) mid)
+  pub hits : List Timed
+  pub are_hits : IsTrue (list_all (is_hit_at line.time) hits)
+  pub may_come : IsTrue (may_all_come level breaks may_end_due false line.time line.time (commanded breaks names (with_pair_rows mid old) line).table.rows hits)
+  pub made : rows ≡ after_changes level hits (commanded breaks names (with_pair_rows mid old) line).table.rows
+
+-- A step of an active session from a line with the stamp `from` to the next.
+pub record ActiveStep (level : Level) (breaks : List (Option ℕ)) (names : Naming) (from : ℕ) (old : Pairs) (line : TimedCommand) (new : Pairs) : Type 0 where
+  pub rows : IsCommanded level breaks names from false old line new.table.rows
+  pub made : new ≡ with_pair_rows new.table.rows (commanded breaks names old line)
+
+-- A step from a line with the stamp `from` to the next. Before a session starts, and after it has ended, it is the command alone.
+abbrev pub Step : Level → (breaks : List (Option ℕ)) → Naming → (from : ℕ) → Pairs → TimedCommand → Pairs → Type 0
+Step level breaks names from old line new =
+    elim (is_active old) [
+      | true ↦ ActiveStep level breaks names from old line new
+      | false ↦ new ≡ commanded breaks names old line
+    ]
+
+-- ---- the law
+
+abbrev pub has_no_hit : List Timed → Bool
+has_no_hit changes = list_all (λ t. is_break t || is_maturing t) changes
+
+-- The state of a row that isn't suspended when the next line takes effect: suspended since its control's break time, where that lies
+-- between, or else duplex.
+abbrev pub next_state : (from to : ℕ) → Option ℕ → PairState
+next_state from to None = Duplex
+next_state from to (Some b) = if nat_le from b && nat_lt b to then since ByControl b else Duplex
+
+abbrev pub next_row : (breaks : List (Option ℕ)) → (from to : ℕ) → PairRow → PairRow
+next_row breaks from to r = if is_suspended r.state then r else in_state (next_state from to (break_time_of r.control breaks)) r

@@ -1,0 +1,7 @@
+//! What a site must bear at each moment: how rows change between two lines, what one line does, and what a crash's images mean then.
+#![tactic(auto)]
+
+mod laws;
+pub mod vectors;
+
+pub use laws::{one_time, times_are_not_earlier};

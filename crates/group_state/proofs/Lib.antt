@@ -1,0 +1,5 @@
+pub mod VolumeLaws
+pub mod SoundLaws
+pub mod FormLaws
+pub mod GroupLaws
+pub mod NothingLaws

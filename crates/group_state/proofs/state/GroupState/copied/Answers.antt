@@ -1,0 +1,11 @@
+use Rattle.std.proofs.Common.{length, ap, arith, refl}
+use Rattle.group_state.specs.Controls.{copied}
+use Rattle.group_state.specs.Groups.{Group}
+use Rattle.group_state.proofs.GroupLaws.{same_result, kept_change}
+use Rattle.group_state.proofs.state.GroupState.copied.Goals as goal
+
+pub invariant_of-self : goal.invariant_of-self
+invariant_of-self c =
+    let old = c.index_mut.result.now in
+    kept_change c.self.inside.controls.items c.args.control c.copied.new.self old c.self.invariant (omega (arith, ap (λ (g : Group). length g.controls) c.self.view_is, c.requires.control)) c.index_mut.ensures.value
+    (same_result c.copied.result c.copied.new.self (copied c.args.volume c.args.track c.args.at c.args.slot.now old) old c.copied.ensures.joined c.copied.ensures.refused (record { control = refl; records = refl }))

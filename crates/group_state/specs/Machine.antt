@@ -1,0 +1,83 @@
+-- The machine: what each call on a group state replies, and the state after it.
+use Rattle.std.specs.Prelude.{◌≡◌, ℕ, ◌&&◌, List, Bool, true, false, Option, if◌then◌else◌, IsTrue}
+use Rattle.tod_stamp.specs.declared.stamp.Stamp.{Stamp}
+use Rattle.ckd_track.specs.declared.rec.Rec.{Rec}
+use Rattle.ckd_track.specs.declared.write.Batch.{Batch}
+use Rattle.ckd_track.specs.declared.write.Cause.{Cause}
+use Rattle.copy_plan.specs.Plans.{PlanState}
+use Rattle.pending_queue.specs.declared.room.Room.{Room}
+use Rattle.group_state.specs.Volumes.{next_wanted, is_wanted, owed}
+use Rattle.group_state.specs.Controls.{fits, fits_track, room_of, joined, copied, raised, broke, begun_volume, dropped, resumed, forgotten}
+use Rattle.group_state.specs.Groups.{Group, Shown, control_at, with_control, cut_of, gives_nothing, formed_at, shown_at}
+
+-- the calls, with their arguments; a copied track comes with what is in its slot
+pub data Call : Type 0 where
+  Join : (batch : Batch) → Call
+  NextWanted : (control : ℕ) → Call
+  Copied : (control volume track : ℕ) → (at : Stamp) → (slot : List Rec) → Call
+  Raise : (control : ℕ) → (upto : Stamp) → Call
+  Break : (control : ℕ) → (upto : Stamp) → (cause : Cause) → Call
+  Form : (limit : Stamp) → Call
+  Carry : (control volume : ℕ) → (plan : PlanState) → Call
+  Drop : (control volume : ℕ) → (all : Bool) → Call
+  Resume : (control volume : ℕ) → Call
+  Forget : (control volume : ℕ) → Call
+
+-- the replies; a form replies what the group then shows
+pub data Reply : Type 0 where
+  Made : Reply
+  Joined : Reply
+  Held : (room : Room) → Reply
+  Stale : Reply
+  Wanted : Option (ℕ × ℕ) → Reply
+  Formed : Shown → Reply
+  Nothing : Shown → Reply
+  Owed : (tracks : ℕ) → Reply
+  NoMemory : Reply
+
+-- the reply to a copied track
+abbrev pub copy_reply : (wanted fitting : Bool) → Room → Reply
+copy_reply wanted fitting room = if wanted then (if fitting then Joined else Held room) else Stale
+
+abbrev pub reply_to : Group → Call → Reply
+reply_to s (Join b) = if fits (control_at s b.control) b then Joined else Held (room_of (control_at s b.control))
+reply_to s (NextWanted k) = Wanted (next_wanted (control_at s k).volumes)
+reply_to s (Copied k v x at recs) = copy_reply (is_wanted v x (control_at s k).volumes) (fits_track (control_at s k) recs) (room_of (control_at s k))
+reply_to s (Raise k upto) = Made
+reply_to s (Break k upto cause) = Made
+reply_to s (Form limit) = if gives_nothing s limit then Nothing (shown_at (cut_of s limit) s) else Formed (shown_at (cut_of s limit) s)
+reply_to s (Carry k v plan) = Made
+reply_to s (Drop k v all) = Made
+reply_to s (Resume k v) = Owed (owed v (control_at s k).volumes)
+reply_to s (Forget k v) = Made
+
+abbrev pub after : Group → Call → Group
+after s (Join b) = if fits (control_at s b.control) b then with_control b.control (joined b) s else s
+after s (NextWanted k) = s
+after s (Copied k v x at recs) = if is_wanted v x (control_at s k).volumes && fits_track (control_at s k) recs then with_control k (copied v x at recs) s else s
+after s (Raise k upto) = with_control k (raised upto) s
+after s (Break k upto cause) = with_control k (broke upto cause) s
+after s (Form limit) = formed_at (cut_of s limit) s
+after s (Carry k v plan) = with_control k (begun_volume v plan) s
+after s (Drop k v all) = with_control k (dropped v all) s
+after s (Resume k v) = with_control k (resumed v) s
+after s (Forget k v) = with_control k (forgotten v) s
+
+-- the calls that can lack memory
+abbrev pub takes_memory : Call → Bool
+takes_memory (Join b) = true
+takes_memory (Copied k v x at recs) = true
+takes_memory (Form limit) = true
+takes_memory (Carry k v plan) = true
+takes_memory (NextWanted k) = false
+takes_memory (Raise k upto) = false
+takes_memory (Break k upto cause) = false
+takes_memory (Drop k v all) = false
+takes_memory (Resume k v) = false
+takes_memory (Forget k v) = false
+
+-- A step of the machine. Want of memory leaves the state as it was. Else the call replies as the machine does, and the state is
+-- the machine's.
+abbrev pub steps : Group → Call → Reply → Group → Type 0
+steps old call NoMemory new = IsTrue (takes_memory call) × (new ≡ old)
+steps old call reply new = (reply ≡ reply_to old call) × (new ≡ after old call)

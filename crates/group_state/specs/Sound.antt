@@ -1,0 +1,91 @@
+-- What every control keeps, and when a call may be made.
+use Rattle.std.specs.Prelude.{◌≡◌, ℕ, ◌≤◌, ◌==◌, ◌&&◌, ◌||◌, not, List, [], ◌∷◌, length, Bool, true, false, Option, Some, None, nat_lt, nat_le, IsTrue, count_by}
+use Rattle.std.specs.List.{list_all}
+use Rattle.tod_stamp.specs.declared.stamp.Stamp.{Stamp}
+use Rattle.ckd_track.specs.declared.write.Batch.{Batch}
+use Rattle.ckd_track.specs.declared.write.Write.{Write}
+use Rattle.xrc_edge.specs.Order.{is_in_order}
+use Rattle.cut_core.specs.Legal.{is_earlier, are_in}
+use Rattle.change_map.specs.Sets.{has_track}
+use Rattle.copy_plan.specs.Plans.{PlanState}
+use Rattle.pending_queue.specs.Entries.{WaitingEntry, stamp_of, is_copy_of}
+use Rattle.group_state.specs.declared.volume.Volume.{Volume}
+use Rattle.group_state.specs.Volumes.{volume_of, has_volume, passes}
+use Rattle.group_state.specs.Controls.{ControlState, is_telling}
+
+abbrev pub passes_or_none : (Volume → Bool) → Option Volume → Bool
+passes_or_none test None = true
+passes_or_none test (Some u) = test u
+
+-- ---- what is kept
+
+-- a volume's map has as many tracks as its plan
+abbrev pub has_sizes : Volume → Bool
+has_sizes u = length u.map == length u.plan.wanted
+
+-- no two volumes have one number
+abbrev pub are_distinct : List Volume → Bool
+are_distinct [] = true
+are_distinct (u ∷ volumes) = not (has_volume u.number volumes) && are_distinct volumes
+
+-- an entry may wait on a volume that is carried and has its track, which isn't wanted where the entry is a copied track
+abbrev pub may_wait : WaitingEntry → Volume → Bool
+may_wait e u = u.carried && (nat_lt e.head.track (length u.map) && not (e.is_copy && has_track u.plan.wanted e.head.track))
+
+abbrev pub is_entry_of : List Volume → WaitingEntry → Bool
+is_entry_of volumes e = passes (may_wait e) (volume_of e.head.volume volumes)
+
+-- a copied track of the volume may be formed
+abbrev pub may_form : (track : ℕ) → Volume → Bool
+may_form x u = not (has_track u.plan.wanted x) && nat_lt 0 u.plan.joined
+
+-- a carried volume's plan has joined so many tracks
+abbrev pub has_joined : (count : ℕ) → Volume → Bool
+has_joined count u = not u.carried || u.plan.joined == count
+
+-- the copied tracks of a carried volume that wait are as many as its plan has joined
+abbrev pub AreCounted : List WaitingEntry → List Volume → Type 0
+AreCounted waiting volumes = (v : ℕ) → IsTrue (passes_or_none (has_joined (count_by (is_copy_of v) waiting)) (volume_of v volumes))
+
+-- stamps are at most a time
+abbrev pub are_up_to : (time : Stamp) → List WaitingEntry → Bool
+are_up_to time entries = list_all (λ e. nat_le (stamp_of e) time.0) entries
+
+pub record Sound (c : ControlState) : Type 0 where
+  -- no entry is above the floor
+  pub stamps : IsTrue (are_up_to c.floor c.queue.waiting)
+  pub sizes : IsTrue (list_all has_sizes c.volumes)
+  pub distinct : IsTrue (are_distinct c.volumes)
+  pub entries : IsTrue (list_all (is_entry_of c.volumes) c.queue.waiting)
+  pub counts : AreCounted c.queue.waiting c.volumes
+
+-- ---- when a call may be made
+
+-- the track is below the tracks of the volume, where that was carried and isn't forgotten
+abbrev pub is_track_within : List Volume → (volume track : ℕ) → Bool
+is_track_within volumes v x = passes_or_none (λ u. nat_lt x (length u.map)) (volume_of v volumes)
+
+abbrev pub are_within : List Volume → List Write → Bool
+are_within volumes writes = list_all (λ w. is_track_within volumes w.volume w.track) writes
+
+-- a control still tells, and no earlier time than before
+pub record MayTell (c : ControlState) (upto : Stamp) : Type 0 where
+  pub telling : IsTrue (is_telling c.phase)
+  pub up : c.floor.0 ≤ upto.0
+
+-- A batch may be joined where its control still tells, each write's stamp is above the floor and at most `upto`, and stamps
+-- don't fall.
+pub record MayJoin (c : ControlState) (b : Batch) : Type 0 where
+  pub tells : MayTell c b.upto
+  pub within : IsTrue (are_in c.floor.0 b.upto.0 b.writes)
+  pub order : IsTrue (is_in_order is_earlier b.writes)
+  pub tracks : IsTrue (are_within c.volumes b.writes)
+
+-- the volume was carried, is dropped and isn't forgotten
+abbrev pub is_dropped : (volume : ℕ) → List Volume → Bool
+is_dropped v volumes = passes (λ u. not u.carried) (volume_of v volumes)
+
+-- A volume may begin to be carried where it was never carried or was forgotten since, with a plan of which nothing is joined.
+pub record MayCarry (c : ControlState) (volume : ℕ) (plan : PlanState) : Type 0 where
+  pub unknown : has_volume volume c.volumes ≡ false
+  pub fresh : plan.joined ≡ 0

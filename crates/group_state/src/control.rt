@@ -1,0 +1,241 @@
+//! A control of a group state.
+
+ghost use Rattle.std.specs.Prelude.{◌≡◌, ◌↔◌, ◌≤◌, ◌++◌, ◌∷◌, [], length, true, false, Err, Ok, OnOk, OnErr, IfOk, IsTrue};
+ghost use Rattle.pending_queue.specs.Entries.{all_keep_rules, due};
+ghost use Rattle.pending_queue.specs.Groups.{HasRoomFor, with_entries};
+ghost use Rattle.pending_queue.specs.declared.room.PushError.TheVariants as pushing;
+ghost use Rattle.pending_queue.specs.declared.room.Room.{Room};
+ghost use Rattle.group_state.specs.Volumes.{volume_of, has_volume, is_wanted, next_wanted, owed};
+ghost use Rattle.group_state.specs.Controls.{new_control, fits, fits_track, room_of, joined, copied, raised, broke, begun_volume, dropped, resumed, forgotten, formed, lesser, has_news, due_of, reported};
+ghost use Rattle.group_state.specs.Groups.{with_news};
+ghost use Rattle.group_state.specs.Sound.{MayTell, MayJoin, MayCarry, is_track_within, is_dropped};
+
+use crate::phase::Phase;
+use crate::volume::Volume;
+use crate::volumes::{
+    Carried, drop_volume, form_copies, join_copy, next_wanted, note_writes, place_of, resume,
+    show_done, wants,
+};
+use change_map::ChangeMap;
+use ckd_track::{Batch, Cause, Slot};
+use copy_plan::CopyPlan;
+use pending_queue::{Formed, PushError, Queue};
+use std::alloc::Global;
+use std::marker::Model;
+use tod_stamp::Stamp;
+use xrc_edge::NoMemory;
+
+/// What is kept of a control: its queue, the time up to which it has told, whether it still tells, and its volumes.
+#[derive(Debug, Drop)]
+pub struct Control {
+    queue: Queue,
+    floor: Stamp,
+    phase: Phase,
+    volumes: Vec<Volume>,
+}
+
+impl Model for Control {
+    ghost use Rattle.group_state.specs.Controls.{ControlState};
+    ghost use Rattle.group_state.specs.Sound.{Sound};
+
+    ghost Value = { ControlState };
+
+    ghost view = { λ c. record { queue = c.queue; floor = c.floor; phase = c.phase; volumes = c.volumes.items } };
+
+    ghost invariant = { λ c. Sound (record { queue = c.queue; floor = c.floor; phase = c.phase; volumes = c.volumes.items }) };
+}
+
+impl Control {
+    /// A control that has told nothing, with room for so many entries and blocks.
+    pub fn make(alloc: Global, control: u16, records: u32, blocks: u32) -> Result<Control, NoMemory>
+        ensures { IfOk result (λ c. c ≡ new_control control records blocks) }
+    {
+        Ok(Control {
+            queue: Queue::make(alloc, control, records, blocks)?,
+            floor: Stamp(0),
+            phase: Phase::Telling,
+            volumes: Vec::new(alloc),
+        })
+    }
+
+    /// Joins a batch, or refuses it as a whole.
+    pub fn join(&mut self, alloc: Global, batch: &Batch) -> Result<(), PushError>
+        requires control { batch.now.control ≡ self.old.queue.control }
+        requires rules { IsTrue (all_keep_rules batch.now.writes) }
+        requires legal { MayJoin self.old batch.now }
+        ensures joined { OnOk result (self.new ≡ joined batch.now self.old) }
+        ensures refused { OnErr result (self.new ≡ self.old) }
+        ensures full { (result ≡ Err (pushing.Full (room_of self.old))) ↔ (fits self.old batch.now ≡ false) }
+        ensures room { (room : Room) → result ≡ Err (pushing.Full room) → room ≡ room_of self.old }
+    {
+        let carried = Carried {
+            volumes: self.volumes.as_slice(),
+        };
+        let pushed = self.queue.push_carried(alloc, batch, &carried);
+        if pushed.is_err() {
+            return pushed;
+        }
+        note_writes(self.volumes.as_mut_slice(), batch.writes.as_slice());
+        self.floor = batch.upto;
+        pushed
+    }
+
+    /// The least wanted track of the first volume that wants one.
+    pub fn next_wanted(&self) -> Option<(u16, u32)>
+        ensures { result ≡ next_wanted self.now.volumes }
+    {
+        next_wanted(self.volumes.as_slice())
+    }
+
+    /// The control has no further write up to a time.
+    pub fn raise(&mut self, upto: Stamp)
+        requires legal { MayTell self.old upto }
+        ensures { self.new ≡ raised upto self.old }
+    {
+        self.floor = upto;
+    }
+
+    /// The control breaks at a time.
+    pub fn broken(&mut self, upto: Stamp, cause: Cause)
+        requires legal { MayTell self.old upto }
+        ensures { self.new ≡ broke upto cause self.old }
+    {
+        self.floor = upto;
+        self.phase = Phase::Broken(cause);
+    }
+
+    /// Whether a copy still has to read a track of a volume.
+    pub fn wants(&self, number: u16, track: u32) -> bool
+        ensures { result ≡ is_wanted number track self.now.volumes }
+    {
+        wants(self.volumes.as_slice(), number, track)
+    }
+
+    /// Joins a wanted track that was copied, or refuses it.
+    pub fn copied(
+        &mut self,
+        alloc: Global,
+        number: u16,
+        track: u32,
+        at: Stamp,
+        slot: &Slot,
+    ) -> Result<(), PushError>
+        requires floor { at ≡ self.old.floor }
+        requires wanted { is_wanted number track self.old.volumes ≡ true }
+        requires track { IsTrue (is_track_within self.old.volumes number track) }
+        ensures joined { OnOk result (self.new ≡ copied number track at slot.now self.old) }
+        ensures refused { OnErr result (self.new ≡ self.old) }
+        ensures full { (result ≡ Err (pushing.Full (room_of self.old))) ↔ (fits_track self.old slot.now ≡ false) }
+        ensures room { (room : Room) → result ≡ Err (pushing.Full room) → room ≡ room_of self.old }
+    {
+        let pushed = self.queue.push_track(alloc, number, track, at, slot);
+        if pushed.is_err() {
+            return pushed;
+        }
+        join_copy(self.volumes.as_mut_slice(), number, track);
+        pushed
+    }
+
+    /// A volume begins to be carried.
+    pub fn carry(&mut self, number: u16, plan: CopyPlan, map: ChangeMap) -> Result<(), NoMemory>
+        requires may { MayCarry self.old number plan }
+        requires sizes { length map ≡ length plan.wanted }
+        ensures ok { OnOk result (self.new ≡ begun_volume number plan self.old) }
+        ensures err { OnErr result (self.new ≡ self.old) }
+    {
+        let mut map = map;
+        map.clear_all();
+        self.volumes.push(Volume {
+            number,
+            carried: true,
+            plan,
+            map,
+        })?;
+        Ok(())
+    }
+
+    /// A volume is dropped, and its entries are taken out.
+    pub fn drop_volume(&mut self, number: u16, all: bool)
+        ensures { self.new ≡ dropped number all self.old }
+    {
+        drop_volume(self.volumes.as_mut_slice(), &mut self.queue, number, all);
+    }
+
+    /// The tracks of a dropped volume's map are wanted again. Tells how many.
+    pub fn resume(&mut self, number: u16) -> u32
+        requires dropped { IsTrue (is_dropped number self.old.volumes) }
+        ensures owed { result ≡ owed number self.old.volumes }
+        ensures volume { self.new ≡ resumed number self.old }
+    {
+        resume(self.volumes.as_mut_slice(), number)
+    }
+
+    /// A dropped volume is forgotten.
+    pub fn forget(&mut self, number: u16)
+        requires dropped { IsTrue (is_dropped number self.old.volumes) }
+        ensures { self.new ≡ forgotten number self.old }
+    {
+        let Some(place) = place_of(self.volumes.as_slice(), number) else {
+            return;
+        };
+        self.volumes.remove(place);
+    }
+
+    /// A form with this cut takes what is due into the group, and reports a break at it.
+    pub fn form(&mut self, alloc: Global, cut: Stamp, out: &mut Formed)
+        requires few { self.old.queue.records ≤ 32 }
+        requires room { HasRoomFor out.old 32 }
+        ensures group { out.new ≡ with_entries out.old (due_of cut self.old) }
+        ensures few { length (due_of cut self.old) ≤ 32 }
+        ensures control { self.new ≡ formed cut self.old }
+    {
+        let _waiting = self.queue.len();
+        form_copies(&self.queue, cut, self.volumes.as_mut_slice());
+        let _taken = self.queue.pop_upto(alloc, cut, out);
+        self.phase = self.phase.after(cut, self.floor);
+    }
+
+    /// Whether a form with this cut takes an entry or reports a break.
+    pub fn has_news(&self, cut: Stamp) -> bool
+        ensures { result ≡ has_news cut self.now }
+    {
+        self.queue.has_due(cut) || self.phase.cause_at(cut, self.floor).is_some()
+    }
+
+    /// The lesser of a cut and the floor, where the control counts.
+    pub fn lesser(&self, cut: u64) -> u64
+        ensures { result ≡ lesser cut self.now }
+    {
+        match self.phase {
+            Phase::Telling | Phase::Broken(_) => cut.min(self.floor.0),
+            Phase::Reported => cut,
+        }
+    }
+
+    /// Shows the break that a form with this cut reports, and the volumes whose plans are done after it.
+    pub fn announce(&self, alloc: Global, cut: Stamp, out: &mut Formed) -> Result<(), NoMemory>
+        ensures ok { OnOk result (out.new ≡ with_news cut (self.now ∷ []) out.old) }
+        ensures room { out.new.controls ≡ out.old.controls }
+    {
+        let cause = self.phase.cause_at(cut, self.floor);
+        show_break(self.queue.control(), self.floor, cause, alloc, out)?;
+        show_done(self.volumes.as_slice(), &self.queue, cut, alloc, out)
+    }
+}
+
+/// Shows a break, where there is one.
+fn show_break(
+    control: u16,
+    floor: Stamp,
+    cause: Option<Cause>,
+    alloc: Global,
+    out: &mut Formed,
+) -> Result<(), NoMemory>
+    ensures ok { OnOk result (out.new ≡ record out.old { breaks = out.old.breaks ++ reported control floor cause }) }
+    ensures room { out.new.controls ≡ out.old.controls }
+{
+    match cause {
+        Some(cause) => out.add_break(alloc, control, floor, cause),
+        None => Ok(()),
+    }
+}

@@ -1,0 +1,5 @@
+pub mod Entries
+pub mod Changes
+pub mod Jobs
+pub mod Forms
+pub mod Steps

@@ -1,0 +1,95 @@
+//! One track, read where need be and changed by its entries.
+
+ghost use Rattle.std.specs.Prelude.{◌≡◌, ◌<◌, ◌≤◌, ℕ, List, [], Option, Some, false, true, unwrap_or, length, slice_get, OnOk, OnErr};
+ghost use Rattle.ckd_track.specs.declared.rec.Rec.{Rec};
+ghost use Rattle.site_means.specs.Content.{slot_place, slot_track};
+ghost use Rattle.applier.specs.Slots.{slot_end};
+ghost use Rattle.pending_queue.specs.Groups.{heads};
+ghost use Rattle.image_former.specs.Steps.{BeginsWith, DoesEntries, Goes, HoldsSlot, OfBytes, Reads};
+
+use crate::places::is_same_track;
+use ckd_track::Slot;
+use crash_plant::Disk;
+use pending_queue::{EntryHead, Formed};
+use xrc_edge::Failed;
+use xrc_journal::VolumeJob;
+
+/// The length of a slot.
+const SLOT: usize = 57_344;
+
+/// The place of a track's slot.
+fn slot_place(track: u32) -> u64
+    ensures { result ≡ slot_place track }
+{
+    512 + u64::from(track) * 57_344
+}
+
+/// Reads the track that its slot on the volume holds. One that holds none gives the empty track.
+fn read_track<D: Disk>(disk: &mut D, track: u32, slot: &mut Slot) -> Result<(), Failed>
+    requires { slot_end track ≤ (D.state disk.old).length_is }
+    ensures track { D.tells → OnOk result (slot.new ≡ unwrap_or (slot_track (D.state disk.old).bytes track) []) }
+    ensures reads { Reads D.state D.tells disk.old disk.new result }
+{
+    let mut bytes = [0; SLOT];
+    disk.read(slot_place(track), &mut bytes)?;
+    let _ = slot.load(&bytes);
+    Ok(())
+}
+
+/// Reads a track of the job's volume into its slot. Where that fails the job is marked failed.
+fn read_job<D: Disk>(job: &mut VolumeJob<D>, track: u32) -> Result<(), Failed>
+    requires sound { job.old.failed ≡ false }
+    requires slot { HoldsSlot D.state track job.old.disk }
+    ensures goes { Goes D.state D.tells job.old job.new }
+    ensures track { D.tells → OnOk result (OfBytes D.state (λ bytes. job.new.slot ≡ unwrap_or (slot_track bytes track) []) job.old.disk) }
+    ensures ok { OnOk result (job.new.failed ≡ false) }
+    ensures err { OnErr result (job.new.failed ≡ true) }
+{
+    let read = match &mut job.disk {
+        Some(disk) => read_track(disk, track, &mut job.slot),
+        None => unreachable!(),
+    };
+    job.failed = read.is_err();
+    read
+}
+
+/// Does to a track what the entry of this head at this place does, and those behind it on the same track.
+fn apply_entries(formed: &Formed, head: EntryHead, place: u32, slot: &mut Slot)
+    requires within { place < length formed.now.entries }
+    requires head { slice_get (heads formed.now) place ≡ Some head }
+    ensures { (old : Option (List Rec)) → BeginsWith head old slot.old → DoesEntries head place formed.now.entries old slot.new }
+{
+    let count = formed.count();
+    slot.apply_entry(formed.entry(place));
+    for later in place + 1..count {
+        if is_same_track(head, formed.head(later)) {
+            slot.apply_entry(formed.entry(later));
+        }
+    }
+}
+
+/// Makes the job's slot the track of the entry of this head at this place, as that entry and those behind it leave it. The
+/// track is read unless the entry replaces it.
+pub(crate) fn form_track<D: Disk>(
+    formed: &Formed,
+    head: EntryHead,
+    place: u32,
+    job: &mut VolumeJob<D>,
+) -> Result<(), Failed>
+    requires within { place < length formed.now.entries }
+    requires head { slice_get (heads formed.now) place ≡ Some head }
+    requires sound { job.old.failed ≡ false }
+    requires slot { HoldsSlot D.state head.track job.old.disk }
+    ensures goes { Goes D.state D.tells job.old job.new }
+    ensures whole { head.whole ≡ true → job.new.disk ≡ job.old.disk }
+    ensures content { D.tells → OnOk result (OfBytes D.state (λ bytes. DoesEntries head place formed.now.entries (slot_track bytes head.track) job.new.slot) job.old.disk) }
+    ensures ok { OnOk result (job.new.failed ≡ false) }
+    ensures err { OnErr result (job.new.failed ≡ true) }
+    ensures read { OnErr result (head.whole ≡ false) }
+{
+    if !head.whole {
+        read_job(job, head.track)?;
+    }
+    apply_entries(formed, head, place, &mut job.slot);
+    Ok(())
+}

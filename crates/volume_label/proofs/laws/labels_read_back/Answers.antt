@@ -1,0 +1,5 @@
+use Rattle.volume_label.proofs.Labels.{back}
+use Rattle.volume_label.proofs.laws.labels_read_back.Goals as goal
+
+pub returns : goal.returns
+returns c = back
