@@ -1,0 +1,13 @@
+//! A site: groups are journaled first, then applied to the volumes, then marked, so that at every moment a crash leaves one
+//! meaning.
+#![tactic(auto)]
+
+mod applying;
+mod changing;
+mod formatting;
+mod site;
+mod store_error;
+mod writing;
+
+pub use site::Site;
+pub use store_error::StoreError;
