@@ -1,0 +1,34 @@
+//! Calls with ample memory.
+
+use super::*;
+use pending_queue::Formed;
+use std::test::Fail;
+use tod_stamp::Stamp;
+
+/// The second control holds the cut back.
+#[test]
+fn a_form_takes_the_least_floor(rt: HostRuntime) -> Result<(), Fail> {
+    let alloc = rt.alloc();
+    let mut state = GroupState::make(alloc, 2, 32, 3_552)?;
+    let mut out = Formed::make(alloc, 2)?;
+    state.raise(0, Stamp(0x40));
+    state.raise(1, Stamp(0x15));
+    assert_eq!(rt; state.next_wanted(1), None);
+    assert_eq!(rt; state.form(alloc, Stamp(0x40), &mut out), Forming::Formed);
+    assert_eq!(rt; out.cut(), Stamp(0x15));
+    assert_eq!(rt; out.count(), 0);
+    assert_eq!(rt; out.break_at(0), None);
+    assert_eq!(rt; out.done_at(0), None);
+    Ok(())
+}
+
+/// A form at the first cut has nothing.
+#[test]
+fn a_form_without_news_gives_nothing(rt: HostRuntime) -> Result<(), Fail> {
+    let alloc = rt.alloc();
+    let mut state = GroupState::make(alloc, 1, 32, 3_552)?;
+    let mut out = Formed::make(alloc, 1)?;
+    assert_eq!(rt; state.form(alloc, Stamp(0x40), &mut out), Forming::Nothing);
+    assert_eq!(rt; out.cut(), Stamp(0));
+    Ok(())
+}
