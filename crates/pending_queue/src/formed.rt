@@ -1,8 +1,8 @@
 //! Formed groups.
 
-ghost use Rattle.std.specs.Prelude.{◌≡◌, ◌<◌, ◌≤◌, length, slice_get, Some, IfOk, IfSome, OnOk, OnErr, IsTrue};
+ghost use Rattle.std.specs.Prelude.{◌≡◌, ◌<◌, ◌≤◌, ◌*◌, length, slice_get, Some, IfOk, IfSome, OnOk, OnErr, IsTrue};
 ghost use Rattle.pending_queue.specs.Entries.{IsOfWrite, never_fall, due, left};
-ghost use Rattle.pending_queue.specs.Groups.{empty_group, with_entries, with_break, with_done, HasRoomFor, heads, forms};
+ghost use Rattle.pending_queue.specs.Groups.{empty_group, with_entries, with_break, with_done, HasRoomFor, heads, forms, most_of_control};
 
 use crate::entry::Entry;
 use crate::head::EntryHead;
@@ -97,6 +97,14 @@ impl Formed {
         move_due(waiting, cut, &mut self.entries);
     }
 
+    /// The number of controls that it was made for. It has at most 32 entries of each.
+    pub fn controls(&self) -> u16
+        ensures controls { result ≡ self.now.controls }
+        ensures few { length self.now.entries ≤ most_of_control * self.now.controls }
+    {
+        self.controls
+    }
+
     pub fn cut(&self) -> Stamp
         ensures { result ≡ self.now.cut }
     {
@@ -126,6 +134,20 @@ impl Formed {
         ensures write { IfSome (slice_get self.now.entries place) IsOfWrite }
     {
         self.entries[place as usize].form()
+    }
+
+    /// Control, time and cause of each break, in order of adding.
+    pub fn breaks(&self) -> &[(u16, Stamp, Cause)]
+        ensures { result.now ≡ self.now.breaks }
+    {
+        self.breaks.as_slice()
+    }
+
+    /// Control and volume of each done plan, in order of adding.
+    pub fn done(&self) -> &[(u16, u16)]
+        ensures { result.now ≡ self.now.done }
+    {
+        self.done.as_slice()
     }
 
     /// Control, time and cause of the break at a place, counted from 0; None exactly where none stands there.
