@@ -1,5 +1,6 @@
--- What the images that a crash leaves must mean, at each moment of a run from the reply to its start on.
-use Rattle.std.specs.Prelude.{◌≡◌, ◌⊎◌, ℕ, ◌≤◌, ◌<◌, ◌*◌, not, List, map, Bool, true, false, Option, Some, None, is_none, slice_get, IsTrue}
+-- What the images that a crash leaves must mean, where a run stands between two lines.
+use Rattle.std.specs.Prelude.{◌≡◌, ◌⊎◌, ℕ, ◌+◌, ◌≤◌, ◌<◌, ◌*◌, not, List, [], ◌∷◌, ◌++◌, map, Bool, true, false, Option, Some, None, is_none, slice_get, IsTrue}
+use Rattle.trace_grammar.specs.declared.header.VolumeHead.{VolumeHead}
 use Rattle.trace_grammar.specs.declared.trace.Trace.{Trace}
 use Rattle.sidefile.specs.Breaks.{break_time}
 use Rattle.primary_ctl.specs.Primaries.{primary}
@@ -7,39 +8,61 @@ use Rattle.pair_table.specs.declared.level.Level.{Level}
 use Rattle.pair_table.specs.declared.row.PairRow.{PairRow}
 use Rattle.pair_table.specs.declared.row.PairState.TheVariants.{Duplex}
 use Rattle.pair_table.specs.Commands.{is_end}
-use Rattle.pair_table.specs.Naming.{Naming}
+use Rattle.pair_table.specs.Naming.{NamedDevice, NamedVolume, Naming}
 use Rattle.pair_table.specs.Refusals.{Pairs, refusal}
 use Rattle.site_means.specs.declared.means.Means.{Means}
 use Rattle.site_means.specs.Images.{Images, Shape}
 use Rattle.site_means.specs.Sight.{content_in, means_in}
-use Rattle.consistency.specs.Steps.{IsCommanded, TimedCommand, names_at}
-use Rattle.consistency.specs.Toward.{Toward}
+use Rattle.consistency.specs.Changes.{Timed, after_changes}
+use Rattle.consistency.specs.Steps.{IsCommanded, TimedCommand, names_at, pairs_after_line}
+use Rattle.consistency.specs.Toward.{AreCounted, Toward}
 
--- What stays over a run: the traces, the names of volumes and labels, and the level.
+-- What stays over a run: the session's name, the traces, the labels as the session's start read them, the level of that start, and by
+-- how much the count of faults of each volume rises over the run.
 pub record Run : Type 0 where
+  pub session : List ℕ
   pub traces : List Trace
-  pub names : Naming
+  pub labels : List NamedDevice
   pub level : Level
-
--- Where a run stands after some lines were answered: the pairs as the devices had them when the last reply had just been said whole,
--- the stamp after `T=` in that reply, and the next line, where it was heard whole.
-pub record Stage : Type 0 where
-  pub pairs : Pairs
-  pub replied : ℕ
-  pub next : Option TimedCommand
+  pub rises : (device : ℕ) → ℕ
 
 abbrev pub breaks_of : Run → List (Option ℕ)
 breaks_of run = map break_time run.traces
 
+-- ---- the names
+
+-- the volumes that a control's header names, from this one on
+abbrev pub volumes_named : (control volume : ℕ) → List VolumeHead → List NamedVolume
+volumes_named control volume [] = []
+volumes_named control volume (head ∷ heads) = record { serial = head.serial; control = control; volume = volume; cylinders = head.cylinders } ∷ volumes_named control (volume + 1) heads
+
+-- the volumes that the headers of the traces name, from this control on
+abbrev pub primaries_named : (control : ℕ) → List Trace → List NamedVolume
+primaries_named control [] = []
+primaries_named control (t ∷ traces) = volumes_named control 0 t.header.volumes ++ primaries_named (control + 1) traces
+
+abbrev pub names_of : Run → Naming
+names_of run = record { primaries = primaries_named 0 run.traces; labels = run.labels; broken = [] }
+
+-- ---- where a run stands
+
+-- Where a run stands after some lines were answered: the pairs as the devices had them when the last reply had just been said whole,
+-- the stamp after `T=` in that reply, all changes of rows in the steps up to there, and the next line, where it was heard whole.
+pub record Stage : Type 0 where
+  pub pairs : Pairs
+  pub replied : ℕ
+  pub past : List Timed
+  pub next : Option TimedCommand
+
 -- ---- the ended flag
+
+abbrev pub accepts : Run → Pairs → TimedCommand → Bool
+accepts run pairs line = is_none (refusal (names_at line.time (breaks_of run) (names_of run)) pairs line.session line.command)
 
 -- whether the next line is an end that the command table accepts
 abbrev pub accepts_end : Run → Pairs → Option TimedCommand → Bool
 accepts_end run pairs None = false
-accepts_end run pairs (Some line) = is_end_accepted run pairs line
-  where
-    is_end_accepted : Run → Pairs → TimedCommand → Bool
-    is_end_accepted r p l = elim (is_end l.command) [ true ↦ is_none (refusal (names_at l.time (breaks_of r) r.names) p l.session l.command) | false ↦ false ]
+accepts_end run pairs (Some line) = elim (is_end line.command) [ true ↦ accepts run pairs line | false ↦ false ]
 
 -- The ended flag is 1 after an accepted end was answered, free from when one was heard whole to its reply, and else 0.
 abbrev pub IsFlag : Run → Stage → Bool → Type 0
@@ -57,16 +80,29 @@ IsTime s time = (s.replied ≤ time) × elim s.next [
 
 -- ---- the rows
 
--- The rows are on their way: from those at the last reply by changes up to the time.
-abbrev pub AreOnTheWay : Run → Stage → ℕ → List PairRow → Type 0
-AreOnTheWay run s time rows = Toward run.level (breaks_of run) (not (is_none s.next)) s.replied time s.pairs.table.rows rows
+-- The rows are on their way: they come from those at the last reply by changes up to the time.
+pub record AreOnTheWay (run : Run) (s : Stage) (time : ℕ) (rows : List PairRow) : Type 0 where
+  pub changes : List Timed
+  pub toward : Toward run.level (breaks_of run) (not (is_none s.next)) s.replied time s.pairs.table.rows changes
+  pub counted : AreCounted run.rises (s.past ++ changes)
+  pub made : rows ≡ after_changes run.level changes s.pairs.table.rows
 
--- After the session has ended there are no changes. Else the rows are on their way; or, at the time of the next line, they are those
--- after its command, or after hits that follow it.
+-- At the time of the next line they are those after its command, or after hits that follow it.
+pub record AreAfterLine (run : Run) (s : Stage) (time : ℕ) (rows : List PairRow) : Type 0 where
+  pub line : TimedCommand
+  pub heard : s.next ≡ Some line
+  pub at : time ≡ line.time
+  pub changes : List Timed
+  pub hits : List Timed
+  pub commanded : IsCommanded run.level (breaks_of run) (names_of run) s.replied s.pairs line changes hits
+  pub counted : AreCounted run.rises (s.past ++ changes ++ hits)
+  pub made : rows ≡ (pairs_after_line run.level (breaks_of run) (names_of run) s.pairs line changes hits).table.rows
+
+-- After the session has ended there are no changes.
 abbrev pub AreRows : Run → Stage → ℕ → List PairRow → Type 0
 AreRows run s time rows = elim s.pairs.is_ended [
   | true ↦ rows ≡ s.pairs.table.rows
-  | false ↦ AreOnTheWay run s time rows ⊎ ((line : TimedCommand) × (s.next ≡ Some line) × (time ≡ line.time) × IsCommanded run.level (breaks_of run) run.names s.replied true s.pairs line rows)
+  | false ↦ AreOnTheWay run s time rows ⊎ AreAfterLine run s time rows
 ]
 
 -- ---- the tracks
@@ -82,12 +118,11 @@ HoldsPrimaries run shape images rows time = (place : ℕ) (r : PairRow) → slic
 
 -- ---- a choice bears a time
 
--- A choice of images of a plant of this shape bears a time. (That no byte of a line after the next was heard, and none of the next before the last reply was said
--- whole, is said of the moment's bytes heard and said, and not of its images.)
+-- A choice of images of a plant of this shape bears a time.
 pub record Bears (run : Run) (s : Stage) (shape : Shape) (images : Images) (time : ℕ) : Type 0 where
   pub means : Means
   pub defined : means_in shape images ≡ Some means
-  pub session : means.session ≡ s.pairs.table.session
+  pub session : means.session ≡ run.session
   pub level : means.level ≡ run.level
   pub at : means.time.0 ≡ time
   pub ended : IsFlag run s means.ended

@@ -106,28 +106,72 @@ abbrev pub is_session_level : Level → Bool
 is_session_level VolumeLevel = false
 is_session_level SessionLevel = true
 
--- A control breaks at its break time. Others are reached on their own only after a marked hit.
-abbrev pub may_come : (breaks : List (Option ℕ)) → (is_due : Bool) → List PairRow → Timed → Bool
-may_come breaks is_due rows t = elim t.change [
-  | Mature device state ↦ row_may_mature state (row_of device rows)
-  | Break control ↦ is_at t.time (break_time_of control breaks)
-  | Hit devices ↦ are_hit devices rows
-  | MarkedHit devices ↦ are_hit devices rows
-  | Reached ↦ is_due
+-- ---- what a hit in a mark leaves due
+
+-- After a hit that stands in a mark the others are due: they come with the record for which the mark was made.
+--   NoneDue: none is due.
+--   DueSince: the others are, since a mark at this time.
+--   DueIn: the others are, with the record of this cut, of which other changes have come already.
+pub data Due : Type 0 where
+  NoneDue : Due
+  DueSince : (mark : ℕ) → Due
+  DueIn : (cut : ℕ) → Due
+
+-- Changes of one record come at its cut.
+abbrev pub is_of_record : Due → (time : ℕ) → Bool
+is_of_record NoneDue time = true
+is_of_record (DueSince mark) time = true
+is_of_record (DueIn cut) time = time == cut
+
+-- The hits of one mark come at its time, and none of a mark comes while a record's changes do.
+abbrev pub is_of_mark : Due → (time : ℕ) → Bool
+is_of_mark NoneDue time = true
+is_of_mark (DueSince mark) time = time == mark
+is_of_mark (DueIn cut) time = false
+
+abbrev pub is_due : Due → Bool
+is_due NoneDue = false
+is_due (DueSince mark) = true
+is_due (DueIn cut) = true
+
+-- what is due once a record's changes come at a time
+abbrev pub due_in_record : Due → (time : ℕ) → Due
+due_in_record NoneDue time = NoneDue
+due_in_record (DueSince mark) time = DueIn time
+due_in_record (DueIn cut) time = DueIn cut
+
+abbrev pub due_after_mark : Level → (time : ℕ) → Due
+due_after_mark level time = if is_session_level level then DueSince time else NoneDue
+
+-- what is due after a change
+abbrev pub due_after : Level → Due → Timed → Due
+due_after level due t = elim t.change [
+  | Mature device state ↦ due_in_record due t.time
+  | Break control ↦ due_in_record due t.time
+  | Hit devices ↦ NoneDue
+  | MarkedHit devices ↦ due_after_mark level t.time
+  | Reached ↦ NoneDue
 ]
 
--- whether others are still to be reached after a change
-abbrev pub due_after : Level → Bool → RowChange → Bool
-due_after level is_due (Mature device state) = is_due
-due_after level is_due (Break control) = is_due
-due_after level is_due (Hit devices) = false
-due_after level is_due (MarkedHit devices) = is_session_level level
-due_after level is_due Reached = false
+-- A control breaks at its break time. Others are reached on their own only where they are due.
+abbrev pub may_come : (breaks : List (Option ℕ)) → Due → List PairRow → Timed → Bool
+may_come breaks due rows t = elim t.change [
+  | Mature device state ↦ is_of_record due t.time && row_may_mature state (row_of device rows)
+  | Break control ↦ is_of_record due t.time && is_at t.time (break_time_of control breaks)
+  | Hit devices ↦ is_of_record due t.time && are_hit devices rows
+  | MarkedHit devices ↦ is_of_mark due t.time && are_hit devices rows
+  | Reached ↦ is_due due && is_of_record due t.time
+]
 
--- Each change may come where it comes, and times don't fall and lie from `from` to `to`. At the end others are still to be reached only
--- where that may be.
-abbrev pub may_all_come : Level → (breaks : List (Option ℕ)) → (may_end_due is_due : Bool) → (from to : ℕ) → List PairRow → List Timed → Bool
-may_all_come level breaks may_end_due is_due from to rows [] = may_end_due || not is_due
-may_all_come level breaks may_end_due is_due from to rows (t ∷ changes) =
-    nat_le from t.time && nat_le t.time to && may_come breaks is_due rows t
-    && may_all_come level breaks may_end_due (due_after level is_due t.change) t.time to (after_change level t rows) changes
+-- At the end none is due, or others are since a mark at the very end, where that may be: its record hasn't come.
+abbrev pub may_end : (may_be_due : Bool) → (end : ℕ) → Due → Bool
+may_end may_be_due end NoneDue = true
+may_end may_be_due end (DueSince mark) = may_be_due && mark == end
+may_end may_be_due end (DueIn cut) = false
+
+-- Each change may come where it comes, and times don't fall and lie from `from` to `to`.
+abbrev pub may_all_come : Level → (breaks : List (Option ℕ)) → (may_be_due : Bool) → Due → (from to : ℕ) → List PairRow → List Timed → Bool
+may_all_come level breaks may_be_due due from to rows [] = may_end may_be_due to due
+may_all_come level breaks may_be_due due from to rows (t ∷ changes) =
+    nat_le from t.time && nat_le t.time to && may_come breaks due rows t
+    && may_all_come level breaks may_be_due (due_after level due t) t.time to (after_change level t rows) changes

@@ -1,7 +1,13 @@
 -- The laws of times that are borne. Each is the contract of a public function without parameters.
-use Rattle.std.specs.Prelude.{◌≡◌, ◌≤◌, ℕ}
+use Rattle.std.specs.Prelude.{◌≡◌, ◌≤◌, ◌∷◌, [], ℕ, List, map, Option, IsTrue}
+use Rattle.pair_table.specs.declared.level.Level.{Level}
+use Rattle.pair_table.specs.Naming.{Naming}
+use Rattle.pair_table.specs.Refusals.{Pairs}
+use Rattle.pair_table.specs.Tables.{none_clash}
 use Rattle.site_means.specs.Images.{Images, Shape}
 use Rattle.consistency.specs.Bears.{Bears, Run, Stage}
+use Rattle.consistency.specs.Changes.{Timed, after_changes}
+use Rattle.consistency.specs.Steps.{IsCommanded, TimedCommand, has_no_hit, next_row}
 
 -- A choice of images bears one time at most.
 abbrev pub OneTime : Type 0
@@ -10,3 +16,10 @@ OneTime = (run : Run) (s : Stage) (shape : Shape) (images : Images) (a b : ℕ) 
 -- It bears no time before the one that was replied last.
 abbrev pub TimesAreNotEarlier : Type 0
 TimesAreNotEarlier = (run : Run) (s : Stage) (shape : Shape) (images : Images) (time : ℕ) → Bears run s shape images time → s.replied ≤ time
+
+-- Without a hit the rows before a line's command are determined: each row that wasn't suspended is duplex, or suspended since its
+-- control's break time where that lies between.
+abbrev pub StepsAreFunctions : Type 0
+StepsAreFunctions = (level : Level) (breaks : List (Option ℕ)) (names : Naming) (from : ℕ) (old : Pairs) (line : TimedCommand) (changes hits : List Timed) → IsTrue (none_clash old.table.rows)
+    → IsCommanded level breaks names from old line changes hits → IsTrue (has_no_hit changes)
+    → after_changes level changes old.table.rows ≡ map (next_row breaks from line.time) old.table.rows

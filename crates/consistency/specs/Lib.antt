@@ -2,5 +2,8 @@ pub mod Changes
 pub mod Toward
 pub mod Steps
 pub mod Bears
+pub mod Times
+pub mod Courses
+pub mod Moments
 pub mod Laws
 pub mod Vectors

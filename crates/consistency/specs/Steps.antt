@@ -13,7 +13,8 @@ use Rattle.pair_table.specs.Naming.{Naming}
 use Rattle.pair_table.specs.Refusals.{Pairs}
 use Rattle.pair_table.specs.Rows.{is_suspended}
 use Rattle.pair_table.specs.Tables.{Table, in_state, with_rows}
-use Rattle.consistency.specs.Changes.{RowChange, Timed, break_time_of, may_all_come, after_changes, since}
+use Rattle.consistency.specs.Changes.{Timed, break_time_of, may_all_come, after_changes, since}
+use Rattle.consistency.specs.Changes.Due.{NoneDue}
 use Rattle.consistency.specs.Changes.RowChange.{Hit, MarkedHit, Reached, Mature, Break}
 use Rattle.consistency.specs.Toward.{Toward, is_break, is_maturing}
 
@@ -52,32 +53,31 @@ is_active pairs = pairs.table.is_started && not pairs.is_ended
 
 -- a hit at a time
 abbrev pub is_hit_at : (time : ℕ) → Timed → Bool
-is_hit_at time t = t.time == time && elim t.change [ Hit devices ↦ true | MarkedHit devices ↦ true | Reached ↦ true | Mature device state ↦ false | Break control ↦ false ]
+is_hit_at time t = t.time == time && elim t.change [ Hit devices ↦ true | MarkedHit devices ↦ false | Reached ↦ false | Mature device state ↦ false | Break control ↦ false ]
 
--- The rows go toward the line's time, where no control with that break time has broken and no row is pending or copying; then the
--- command is run; then volumes may be hit at that time. `may_end_due` says whether other rows may be due at the end.
-pub record IsCommanded (level : Level) (breaks : List (Option ℕ)) (names : Naming) (from : ℕ) (may_end_due : Bool) (old : Pairs) (line : TimedCommand) (rows : List PairRow) : Type 0 where
-  pub mid : List PairRow
-  pub toward : Toward level breaks false from line.time old.table.rows mid
-  pub not_broken_yet : IsTrue (list_all (λ t. not (is_break t && t.time == line.time)) toward.changes)
-  pub settled : IsTrue (list_all (λ r. is_settled r.state) mid)
-  pub hits : List Timed
+-- the pairs on the way, after these changes
+abbrev pub pairs_on_the_way : Level → List Timed → Pairs → Pairs
+pairs_on_the_way level changes pairs = with_pair_rows (after_changes level changes pairs.table.rows) pairs
+
+-- The pairs after a line: after changes on the way to its time, its command, and hits that follow it.
+abbrev pub pairs_after_line : Level → (breaks : List (Option ℕ)) → Naming → Pairs → TimedCommand → (changes hits : List Timed) → Pairs
+pairs_after_line level breaks names old line changes hits = pairs_on_the_way level hits (commanded breaks names (pairs_on_the_way level changes old) line)
+
+-- The changes lead to the line's time, where no control with that break time has broken and no row is pending or copying. After
+-- the command volumes may be hit at that time.
+pub record IsCommanded (level : Level) (breaks : List (Option ℕ)) (names : Naming) (from : ℕ) (old : Pairs) (line : TimedCommand) (changes hits : List Timed) : Type 0 where
+  pub toward : Toward level breaks false from line.time old.table.rows changes
+  pub not_broken_yet : IsTrue (list_all (λ t. not (is_break t && t.time == line.time)) changes)
+  pub settled : IsTrue (list_all (λ r. is_settled r.state) (pairs_on_the_way level changes old).table.rows)
   pub are_hits : IsTrue (list_all (is_hit_at line.time) hits)
-  pub may_come : IsTrue (may_all_come level breaks may_end_due false line.time line.time (commanded breaks names (with_pair_rows mid old) line).table.rows hits)
-  pub made : rows ≡ after_changes level hits (commanded breaks names (with_pair_rows mid old) line).table.rows
+  pub may_come : IsTrue (may_all_come level breaks false NoneDue line.time line.time (commanded breaks names (pairs_on_the_way level changes old) line).table.rows hits)
 
--- A step of an active session from a line with the stamp `from` to the next.
-pub record ActiveStep (level : Level) (breaks : List (Option ℕ)) (names : Naming) (from : ℕ) (old : Pairs) (line : TimedCommand) (new : Pairs) : Type 0 where
-  pub rows : IsCommanded level breaks names from false old line new.table.rows
-  pub made : new ≡ with_pair_rows new.table.rows (commanded breaks names old line)
-
--- A step from a line with the stamp `from` to the next. Before a session starts, and after it has ended, it is the command alone.
-abbrev pub Step : Level → (breaks : List (Option ℕ)) → Naming → (from : ℕ) → Pairs → TimedCommand → Pairs → Type 0
-Step level breaks names from old line new =
-    elim (is_active old) [
-      | true ↦ ActiveStep level breaks names from old line new
-      | false ↦ new ≡ commanded breaks names old line
-    ]
+-- A step from a line with the stamp `from` to the next, by these changes before its command and these hits after it. Before a
+-- session starts, and after it has ended, it is the command alone.
+pub record Step (level : Level) (breaks : List (Option ℕ)) (names : Naming) (from : ℕ) (old : Pairs) (line : TimedCommand) (changes hits : List Timed) (new : Pairs) : Type 0 where
+  pub active : IsTrue (is_active old) → IsCommanded level breaks names from old line changes hits
+  pub still : is_active old ≡ false → (changes ≡ []) × (hits ≡ [])
+  pub made : new ≡ pairs_after_line level breaks names old line changes hits
 
 -- ---- the law
 

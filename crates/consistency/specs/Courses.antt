@@ -1,0 +1,109 @@
+-- The course of a run: the lines that it answers one after another, and where it stands once so much was heard and said.
+use Rattle.std.specs.Prelude.{◌≡◌, ℕ, zero, suc, ◌+◌, ◌<◌, ◌≤◌, ◌==◌, ◌&&◌, ◌||◌, List, [], ◌∷◌, ◌++◌, length, take, slice_get, fold, Bool, true, false, Option, Some, None, nat_le, nat_lt, IsTrue, if◌then◌else◌}
+use Rattle.std.specs.List.{flat_map, list_any}
+use Rattle.pair_table.specs.declared.command.Command.TheVariants.{Start}
+use Rattle.pair_table.specs.declared.level.Level.{Level}
+use Rattle.pair_table.specs.Refusals.{Pairs}
+use Rattle.consistency.specs.Bears.{Run, Stage, accepts, breaks_of, names_of}
+use Rattle.consistency.specs.Changes.{Timed}
+use Rattle.consistency.specs.Steps.{Step, TimedCommand}
+use Rattle.consistency.specs.Toward.{AreCounted}
+
+-- A line that was answered: its text as it was heard, what it asks, the reply as it was said, the changes of rows before its command
+-- and the hits after it, and the pairs then.
+pub record Answered : Type 0 where
+  pub text : List ℕ
+  pub line : TimedCommand
+  pub reply : List ℕ
+  pub changes : List Timed
+  pub hits : List Timed
+  pub pairs : Pairs
+
+-- ---- stages
+
+-- the pairs before a session starts
+abbrev pub unstarted : (session : List ℕ) → Pairs
+unstarted session = record { table = record { session = session; is_started = false; rows = [] }; is_ended = false }
+
+abbrev pub first_stage : Run → Stage
+first_stage run = record { pairs = unstarted run.session; replied = 0; past = []; next = None }
+
+-- The stamp of a reply is its line's time, or that of the end of the session in later ones.
+abbrev pub replied_after : Stage → TimedCommand → ℕ
+replied_after s line = if s.pairs.is_ended then s.replied else line.time
+
+abbrev pub stage_after : Stage → Answered → Stage
+stage_after s a = record { pairs = a.pairs; replied = replied_after s a.line; past = s.past ++ a.changes ++ a.hits; next = None }
+
+-- the stage after so many lines
+abbrev pub stage_at : Run → List Answered → (answered : ℕ) → Stage
+stage_at run lines n = fold stage_after (first_stage run) (take n lines)
+
+-- ---- courses
+
+-- A line is answered at a stage: its pairs come by a step, a device is hit at most as often as it failed, and the start that the
+-- command table accepts gives the session its level.
+pub record IsAnswered (run : Run) (s : Stage) (a : Answered) : Type 0 where
+  pub step : Step run.level (breaks_of run) (names_of run) s.replied s.pairs a.line a.changes a.hits a.pairs
+  pub counted : AreCounted run.rises (s.past ++ a.changes ++ a.hits)
+  pub level : (level : Level) → a.line.command ≡ Start level → IsTrue (accepts run s.pairs a.line) → level ≡ run.level
+
+-- Each line is answered at the stage after those before it.
+abbrev pub IsCourse : Run → List Answered → Type 0
+IsCourse run lines = (n : ℕ) (a : Answered) → slice_get lines n ≡ Some a → IsAnswered run (stage_at run lines n) a
+
+-- ---- what is heard and said
+
+abbrev pub texts_of : List Answered → List ℕ
+texts_of lines = flat_map (λ a. a.text) lines
+
+abbrev pub replies_of : List Answered → List ℕ
+replies_of lines = flat_map (λ a. a.reply) lines
+
+-- how many lines begin in a text, where a line begins at its front
+abbrev pub lines_begun : (text : List ℕ) → ℕ
+lines_begun text = begun false text
+  where
+    begun : (is_inside : Bool) → List ℕ → ℕ
+    begun is_inside [] = 0
+    begun is_inside (b ∷ bytes) = (if is_inside then 0 else 1) + begun (if b == 10 then false else true) bytes
+
+-- what stands before the first line feed
+abbrev pub first_line : (text : List ℕ) → List ℕ
+first_line [] = []
+first_line (b ∷ text) = if b == 10 then [] else b ∷ first_line text
+
+-- A line is whole with its line feed, or with the end of the script.
+abbrev pub is_whole : (at_end : Bool) → (text : List ℕ) → Bool
+is_whole at_end text = list_any (λ b. b == 10) text || (at_end && nat_lt 0 (length text))
+
+-- the most lines of a script
+abbrev pub most_lines : ℕ
+most_lines = 100000
+
+-- a line behind so many others counts where it isn't one too many and its time doesn't fall
+abbrev pub later_line : (lines before : ℕ) → Option TimedCommand → Option TimedCommand
+later_line lines before None = None
+later_line lines before (Some line) = if nat_lt lines most_lines && nat_le before line.time then Some line else None
+
+-- the line that was heard whole behind the answered ones, if one was and keeps the grammar of lines, which gives what a text asks
+abbrev pub next_line : (grammar : List ℕ → Option TimedCommand) → (answered before : ℕ) → (at_end : Bool) → (text : List ℕ) → Option TimedCommand
+next_line grammar answered before at_end text = if is_whole at_end text then later_line answered before (grammar (first_line text)) else None
+
+-- Where a run stands once so much was heard of its script and so much was said: so many lines are answered, part of the next reply
+-- or of a last line was said, and no byte of a line behind the next was heard.
+pub record StandsAt (lines : List Answered) (heard said : List ℕ) : Type 0 where
+  pub answered : ℕ
+  pub within : answered ≤ length lines
+  pub text : List ℕ
+  pub heard_is : heard ≡ texts_of (take answered lines) ++ text
+  pub part : List ℕ
+  pub said_is : said ≡ replies_of (take answered lines) ++ part
+  pub not_whole : (a : Answered) → slice_get lines answered ≡ Some a → length part < length a.reply
+  pub one_line : lines_begun text ≤ 1
+
+-- the stage there; the script's end is heard with its last byte
+abbrev pub stage_there : {lines : List Answered} {heard said : List ℕ} → Run → (grammar : List ℕ → Option TimedCommand) → (script : List ℕ) → StandsAt lines heard said → Stage
+stage_there {lines} {heard} {said} run grammar script at = record (stage_at run lines at.answered) {
+  next = next_line grammar at.answered (stage_at run lines at.answered).replied (length heard == length script) at.text;
+}
