@@ -1,0 +1,10 @@
+pub mod Seen
+pub mod Shares
+pub mod ByControl
+pub mod Told
+pub mod Elsewhere
+pub mod Controls
+pub mod Stands
+pub mod Forms
+pub mod Steps
+pub mod RunLaws

@@ -1,0 +1,86 @@
+-- Runs are histories, their forms give the groups, and no batch joins late.
+use Rattle.std.proofs.Common.{inl, inr, ◌≡◌, ℕ, Bool, true, false, cond, ◌&&◌, ◌⊎◌, List, [], ◌∷◌, ◌++◌, length, Option, Some, None, refl, sym, ap, subst, ◌∙◌, append_assoc, append-nil}
+use Rattle.std.specs.Prelude.{IsTrue}
+use Rattle.std.specs.List.{list_all, cons_option}
+use Rattle.std.specs.Option.{option_map}
+use Rattle.std.proofs.lemmas.Bool.{and_parts}
+use Rattle.std.proofs.lemmas.List.Elements.{filter_map-append}
+use Rattle.std.proofs.lemmas.List.Folds.{list_all-append}
+use Rattle.tod_stamp.specs.declared.stamp.Stamp.{Stamp}
+use Rattle.cut_core.specs.Events.{Event}
+use Rattle.cut_core.specs.Cuts.{joins_above}
+use Rattle.cut_core.specs.Legal.{are_legal}
+use Rattle.cut_core.specs.Events.Event.{Join as Joins, Form as Forms}
+use Rattle.cut_core.proofs.Late.{no_late}
+use Rattle.group_state.specs.Groups.{Group, Shown, new_group, cut_of, gives_nothing, shown_at}
+use Rattle.group_state.specs.Machine.{Reply, steps}
+use Rattle.group_state.specs.Machine.Call.{Form}
+use Rattle.group_state.specs.Machine.Reply.{Formed, Nothing, NoMemory}
+use Rattle.group_history.specs.Runs.{Answer, event_by, event_of, history, shown_by, Runs}
+use Rattle.group_history.specs.Follows.{Follows}
+use Rattle.group_history.specs.Laws.{RunsAreHistories, answered, joined, IsGroupOf, FormsGiveGroups, NoLateJoin}
+use Rattle.group_history.proofs.Stands.{Stands, stands_first}
+use Rattle.group_history.proofs.Forms.{shows_group}
+use Rattle.group_history.proofs.Steps.{with_event, either_step, step}
+
+event_first : (past : List Event) (x : Option Event) (rest : List Event) → with_event past x ++ rest ≡ past ++ cons_option x rest
+event_first past None rest = refl
+event_first past (Some x) rest = append_assoc past (x ∷ []) rest
+
+pub stands_after : (n : ℕ) (past : List Event) (s : Group) (run : List Answer) (end : Group) → Stands n past s → Runs s run end → Stands n (past ++ history run) end
+stands_after n past s [] end h runs = subst (λ p. Stands n p end) (sym (append-nil past)) (subst (Stands n past) (sym runs) h)
+stands_after n past s (a ∷ run) end h runs =
+    let next = runs.0 in
+    let one = step n past s a.call a.reply next h runs.1 runs.2 in
+    subst (λ p. Stands n p end) (event_first past (event_of a) (history run)) (stands_after n (with_event past (event_of a)) next run end one runs.3)
+
+pub runs_are_histories : RunsAreHistories
+runs_are_histories n records blocks run s runs = (stands_after n [] (new_group n records blocks) run s (stands_first n records blocks) runs).follows
+
+-- ---- what forms show
+
+-- a run in two parts
+record IsSplit (s : Group) (before rest : List Answer) (end : Group) : Type 0 where
+  middle : Group
+  first : Runs s before middle
+  second : Runs middle rest end
+
+split : (s : Group) (before rest : List Answer) (end : Group) → Runs s (before ++ rest) end → IsSplit s before rest end
+split s [] rest end runs = record { middle = s; first = refl; second = runs }
+split s (a ∷ before) rest end runs =
+    let later = split runs.0 before rest end runs.3 in
+    record { middle = later.middle; first = (runs.0, runs.1, runs.2, later.first); second = later.second }
+
+form_shows : (s : Group) (limit : Stamp) (reply : Reply) (shown : Shown) (next : Group) → shown_by reply ≡ Some shown → steps s (Form limit) reply next → shown_at (cut_of s limit) s ≡ shown
+form_shows s limit reply shown next is made = elim (either_step s (Form limit) reply next made) [
+  | inl lacks ↦ let none : None ≡ Some shown = sym (ap shown_by lacks.0) ∙ is in absurd cc
+  | inr answers ↦ by_reply (gives_nothing s limit) (sym (ap shown_by answers.0) ∙ is)
+]
+  where
+    by_reply : (t : Bool) → shown_by (cond t (Nothing (shown_at (cut_of s limit) s)) (Formed (shown_at (cut_of s limit) s))) ≡ Some shown → shown_at (cut_of s limit) s ≡ shown
+    by_reply true e = cc
+    by_reply false e = cc
+
+pub forms_give_groups : FormsGiveGroups
+forms_give_groups n records blocks before later limit reply shown s is runs =
+    let parts = split (new_group n records blocks) before (answered limit reply ∷ later) s runs in
+    let h = stands_after n [] (new_group n records blocks) before parts.middle (stands_first n records blocks) parts.first in
+    subst (IsGroupOf n limit (history before)) (form_shows parts.middle limit reply shown parts.second.0 is parts.second.2) (shows_group n (history before) parts.middle limit h)
+
+-- ---- no late join
+
+-- a form, and a joined batch, in the history of a run
+form_in : (before later : List Answer) (limit : Stamp) (reply : Reply) (shown : Shown) → shown_by reply ≡ Some shown → history (before ++ answered limit reply ∷ later) ≡ history before ++ Forms shown.cut.0 ∷ history later
+form_in before later limit reply shown is =
+    filter_map-append event_of before (answered limit reply ∷ later)
+    ∙ ap (λ (o : Option Shown). history before ++ cons_option (option_map (λ shown. Forms shown.cut.0) o) (history later)) is
+
+pub no_late_join : NoLateJoin
+no_late_join n records blocks before between later limit reply shown b s is runs =
+    let rest = between ++ joined b ∷ later in
+    let cut = shown.cut.0 in
+    let legal = (runs_are_histories n records blocks (before ++ answered limit reply ∷ rest) s runs).legal in
+    let above : list_all (joins_above cut) (history rest) ≡ true = no_late n (history before) (history rest) cut (subst (λ events. are_legal n [] events ≡ true) (form_in before rest limit reply shown is) legal) in
+    let parts = sym (ap (list_all (joins_above cut)) (filter_map-append event_of between (joined b ∷ later)) ∙ list_all-append (joins_above cut) (history between) (Joins b ∷ history later)) ∙ above in
+    let second = and_parts (list_all (joins_above cut) (history between)) (list_all (joins_above cut) (Joins b ∷ history later)) parts in
+    (and_parts (joins_above cut (Joins b)) (list_all (joins_above cut) (history later)) second.1).0

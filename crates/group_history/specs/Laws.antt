@@ -1,0 +1,58 @@
+-- The laws of runs. Each is the contract of a public function without parameters.
+use Rattle.std.specs.Prelude.{◌≡◌, ℕ, ◌&&◌, not, List, [], ◌∷◌, ◌++◌, map, filter, Bool, Some, nat_lt, IsTrue}
+use Rattle.std.specs.List.{list_all, range_with_len}
+use Rattle.tod_stamp.specs.declared.stamp.Stamp.{Stamp}
+use Rattle.ckd_track.specs.declared.write.Batch.{Batch}
+use Rattle.ckd_track.specs.declared.write.Cause.{Cause}
+use Rattle.cut_core.specs.Events.{Event, floor, is_live}
+use Rattle.cut_core.specs.Events.Event.{Form as Forms}
+use Rattle.cut_core.specs.Groups.{group}
+use Rattle.cut_core.specs.Legal.{least_floor}
+use Rattle.group_state.specs.Groups.{Group, Shown, new_group}
+use Rattle.group_state.specs.Machine.{Reply}
+use Rattle.group_state.specs.Machine.Call.{Join, Form}
+use Rattle.group_state.specs.Machine.Reply.{Joined}
+use Rattle.group_history.specs.Runs.{Answer, Runs, history, shown_by}
+use Rattle.group_history.specs.Follows.{AreSeen, Follows}
+
+-- ---- what is kept
+
+abbrev pub RunsAreHistories : Type 0
+RunsAreHistories = (controls records blocks : ℕ) (run : List Answer) (s : Group) → Runs (new_group controls records blocks) run s → Follows controls (history run) s
+
+-- ---- what forms show
+
+-- a control that is live, and after a form with this cut no longer
+abbrev pub ends_at : (cut : ℕ) → List Event → (control : ℕ) → Bool
+ends_at cut past k = is_live k past && not (is_live k (past ++ Forms cut ∷ []))
+
+-- control and time of a break that is shown, and of one in a history
+abbrev pub named : ℕ × Stamp × Cause → ℕ × ℕ
+named shown = (shown.0, shown.1.0)
+
+abbrev pub break_in : List Event → (control : ℕ) → ℕ × ℕ
+break_in past k = (k, floor k past)
+
+-- What a form shows is the history's: the cut is the least of the limit and all live floors, the entries are the group, one for
+-- one and in order, and the breaks are those of the controls that this form ends, each once, at their floors.
+pub record IsGroupOf (controls : ℕ) (limit : Stamp) (past : List Event) (shown : Shown) : Type 0 where
+  pub cut : shown.cut.0 ≡ least_floor controls limit.0 past
+  pub entries : AreSeen shown.entries (group past shown.cut.0)
+  pub breaks : map named shown.breaks ≡ map (break_in past) (filter (ends_at shown.cut.0 past) (range_with_len 0 controls))
+
+abbrev pub answered : (limit : Stamp) → Reply → Answer
+answered limit reply = record { call = Form limit; reply = reply }
+
+abbrev pub FormsGiveGroups : Type 0
+FormsGiveGroups = (controls records blocks : ℕ) (before later : List Answer) (limit : Stamp) (reply : Reply) (shown : Shown) (s : Group) → shown_by reply ≡ Some shown
+    → Runs (new_group controls records blocks) (before ++ answered limit reply ∷ later) s → IsGroupOf controls limit (history before) shown
+
+-- ---- no late join
+
+abbrev pub joined : Batch → Answer
+joined b = record { call = Join b; reply = Joined }
+
+-- After a form no batch joins with a write whose stamp is at most the form's cut.
+abbrev pub NoLateJoin : Type 0
+NoLateJoin = (controls records blocks : ℕ) (before between later : List Answer) (limit : Stamp) (reply : Reply) (shown : Shown) (b : Batch) (s : Group) → shown_by reply ≡ Some shown
+    → Runs (new_group controls records blocks) (before ++ answered limit reply ∷ (between ++ joined b ∷ later)) s → IsTrue (list_all (λ w. nat_lt shown.cut.0 w.stamp.0) b.writes)
