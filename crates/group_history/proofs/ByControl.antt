@@ -103,8 +103,9 @@ pub due_seen : (cut : Stamp) (entries : List Entry) (first : ℕ) (controls : Li
     → AreSeen (flat_map (due_of cut) controls) (by_control first (length controls) (filter (λ e. nat_le e.stamp cut.0) entries))
 due_seen cut entries first [] d seen = tt
 due_seen cut entries first (c ∷ controls) d seen =
-    let mine = subst (λ k. AreSeen c.queue.waiting (filter (is_of k) entries)) (omega arith) (seen 0 (omega arith)) in
-    let due = seen_filter (is_of first) (is_due cut) (λ e. nat_le e.stamp cut.0) (λ w e s is. rw s.stamp refl) c.queue.waiting (filter (is_of first) entries) (all_kept (is_of first) entries) mine in
+    let mine : AreSeen c.queue.waiting (filter (is_of first) entries) = subst (λ k. AreSeen c.queue.waiting (filter (is_of k) entries)) (omega arith) (seen 0 (omega arith)) in
+    let due : AreSeen (due_of cut c) (filter (λ e. nat_le e.stamp cut.0) (filter (is_of first) entries)) =
+    seen_filter (is_of first) (is_due cut) (λ e. nat_le e.stamp cut.0) (λ w e s is. rw s.stamp refl) c.queue.waiting (filter (is_of first) entries) (all_kept (is_of first) entries) mine in
     seen_append (due_of cut c) (flat_map (due_of cut) controls) (filter (is_of first) (filter (λ e. nat_le e.stamp cut.0) entries)) (by_control (first + 1) (length controls) (filter (λ e. nat_le e.stamp cut.0) entries))
     (subst (AreSeen (due_of cut c)) (filter_swap (λ e. nat_le e.stamp cut.0) (is_of first) entries) due)
     (due_seen cut entries (first + 1) controls d (λ i lt. subst (λ k. AreSeen (get_or controls i d).queue.waiting (filter (is_of k) entries)) (omega arith) (seen (suc i) (omega arith))))

@@ -8,3 +8,6 @@ pub mod Stands
 pub mod Forms
 pub mod Steps
 pub mod RunLaws
+pub mod CutLaws
+pub mod Causes
+pub mod WorkedRuns

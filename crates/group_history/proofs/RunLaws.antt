@@ -40,18 +40,18 @@ runs_are_histories n records blocks run s runs = (stands_after n [] (new_group n
 -- ---- what forms show
 
 -- a run in two parts
-record IsSplit (s : Group) (before rest : List Answer) (end : Group) : Type 0 where
-  middle : Group
-  first : Runs s before middle
-  second : Runs middle rest end
+pub record IsSplit (s : Group) (before rest : List Answer) (end : Group) : Type 0 where
+  pub middle : Group
+  pub first : Runs s before middle
+  pub second : Runs middle rest end
 
-split : (s : Group) (before rest : List Answer) (end : Group) → Runs s (before ++ rest) end → IsSplit s before rest end
+pub split : (s : Group) (before rest : List Answer) (end : Group) → Runs s (before ++ rest) end → IsSplit s before rest end
 split s [] rest end runs = record { middle = s; first = refl; second = runs }
 split s (a ∷ before) rest end runs =
     let later = split runs.0 before rest end runs.3 in
     record { middle = later.middle; first = (runs.0, runs.1, runs.2, later.first); second = later.second }
 
-form_shows : (s : Group) (limit : Stamp) (reply : Reply) (shown : Shown) (next : Group) → shown_by reply ≡ Some shown → steps s (Form limit) reply next → shown_at (cut_of s limit) s ≡ shown
+pub form_shows : (s : Group) (limit : Stamp) (reply : Reply) (shown : Shown) (next : Group) → shown_by reply ≡ Some shown → steps s (Form limit) reply next → shown_at (cut_of s limit) s ≡ shown
 form_shows s limit reply shown next is made = elim (either_step s (Form limit) reply next made) [
   | inl lacks ↦ let none : None ≡ Some shown = sym (ap shown_by lacks.0) ∙ is in absurd cc
   | inr answers ↦ by_reply (gives_nothing s limit) (sym (ap shown_by answers.0) ∙ is)
@@ -70,7 +70,7 @@ forms_give_groups n records blocks before later limit reply shown s is runs =
 -- ---- no late join
 
 -- a form, and a joined batch, in the history of a run
-form_in : (before later : List Answer) (limit : Stamp) (reply : Reply) (shown : Shown) → shown_by reply ≡ Some shown → history (before ++ answered limit reply ∷ later) ≡ history before ++ Forms shown.cut.0 ∷ history later
+pub form_in : (before later : List Answer) (limit : Stamp) (reply : Reply) (shown : Shown) → shown_by reply ≡ Some shown → history (before ++ answered limit reply ∷ later) ≡ history before ++ Forms shown.cut.0 ∷ history later
 form_in before later limit reply shown is =
     filter_map-append event_of before (answered limit reply ∷ later)
     ∙ ap (λ (o : Option Shown). history before ++ cons_option (option_map (λ shown. Forms shown.cut.0) o) (history later)) is

@@ -41,7 +41,7 @@ written_below n k (w ∷ writes) lt = and_from (nat_lt k n) (are_below n (map (e
 -- ---- a call on one control
 
 -- what holds of the changed control and of the others
-at_each : (P : ℕ → ControlState → Type 0) (s : Group) (j : ℕ) (change : ControlState → ControlState) → j < length s.controls → P j (change (control_at s j)) → ((k : ℕ) → nat_eq j k ≡ false → P k (control_at s k))
+pub at_each : (P : ℕ → ControlState → Type 0) (s : Group) (j : ℕ) (change : ControlState → ControlState) → j < length s.controls → P j (change (control_at s j)) → ((k : ℕ) → nat_eq j k ≡ false → P k (control_at s k))
     → (k : ℕ) → P k (control_at (with_control j change s) k)
 at_each P s j change lt here there k = elim (cases_Bool (nat_eq j k)) [
   | inl same ↦ subst (λ i. P i (control_at (with_control j change s) i)) (eqb-true j k same)

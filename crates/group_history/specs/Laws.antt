@@ -1,17 +1,20 @@
 -- The laws of runs. Each is the contract of a public function without parameters.
-use Rattle.std.specs.Prelude.{◌≡◌, ℕ, ◌&&◌, not, List, [], ◌∷◌, ◌++◌, map, filter, Bool, Some, nat_lt, IsTrue}
-use Rattle.std.specs.List.{list_all, range_with_len}
+use Rattle.std.specs.Prelude.{◌≡◌, ℕ, ◌&&◌, not, List, [], ◌∷◌, ◌++◌, map, filter, Bool, Some, nat_lt, nat_le, IsTrue}
+use Rattle.std.specs.List.{list_all, range_with_len, All, Contains}
 use Rattle.tod_stamp.specs.declared.stamp.Stamp.{Stamp}
 use Rattle.ckd_track.specs.declared.write.Batch.{Batch}
 use Rattle.ckd_track.specs.declared.write.Cause.{Cause}
-use Rattle.cut_core.specs.Events.{Event, floor, is_live}
+use Rattle.xrc_edge.specs.Order.{in_order}
+use Rattle.pending_queue.specs.Entries.{WaitingEntry, stamp_of}
+use Rattle.cut_core.specs.Events.{Event, floor, is_live, last_cut}
 use Rattle.cut_core.specs.Events.Event.{Form as Forms}
-use Rattle.cut_core.specs.Groups.{group}
+use Rattle.cut_core.specs.Groups.{Entry, stands_before, group}
 use Rattle.cut_core.specs.Legal.{least_floor}
+use Rattle.cut_core.specs.Cuts.{kept_writes}
 use Rattle.group_state.specs.Groups.{Group, Shown, new_group}
 use Rattle.group_state.specs.Machine.{Reply}
-use Rattle.group_state.specs.Machine.Call.{Join, Form}
-use Rattle.group_state.specs.Machine.Reply.{Joined}
+use Rattle.group_state.specs.Machine.Call.{Join, Break, Form}
+use Rattle.group_state.specs.Machine.Reply.{Made, Joined}
 use Rattle.group_history.specs.Runs.{Answer, Runs, history, shown_by}
 use Rattle.group_history.specs.Follows.{AreSeen, Follows}
 
@@ -56,3 +59,33 @@ joined b = record { call = Join b; reply = Joined }
 abbrev pub NoLateJoin : Type 0
 NoLateJoin = (controls records blocks : ℕ) (before between later : List Answer) (limit : Stamp) (reply : Reply) (shown : Shown) (b : Batch) (s : Group) → shown_by reply ≡ Some shown
     → Runs (new_group controls records blocks) (before ++ answered limit reply ∷ (between ++ joined b ∷ later)) s → IsTrue (list_all (λ w. nat_lt shown.cut.0 w.stamp.0) b.writes)
+
+-- ---- the theorem on cuts
+
+-- after the last cut and up to this one, and from it on
+abbrev pub is_after : (last cut : ℕ) → Entry → Bool
+is_after last cut e = nat_lt last e.stamp && nat_le e.stamp cut
+
+abbrev pub is_from : (last cut : ℕ) → WaitingEntry → Bool
+is_from last cut w = nat_le last (stamp_of w) && nat_le (stamp_of w) cut
+
+-- The writes that a form shows are exactly all carried writes, joined anywhere in the run, that no drop took out and that have a
+-- stamp above the cut before and at most this one, in order. Copied tracks that it shows have a stamp from the cut before to this
+-- one.
+pub record IsComplete (before run : List Event) (shown : Shown) : Type 0 where
+  pub writes : AreSeen (filter (λ w. not w.is_copy) shown.entries) (in_order stands_before (filter (is_after (last_cut before) shown.cut.0) (kept_writes [] run)))
+  pub copies : IsTrue (list_all (is_from (last_cut before) shown.cut.0) (filter (λ w. w.is_copy) shown.entries))
+
+abbrev pub FormsAreComplete : Type 0
+FormsAreComplete = (controls records blocks : ℕ) (before later : List Answer) (limit : Stamp) (reply : Reply) (shown : Shown) (s : Group) → shown_by reply ≡ Some shown
+    → Runs (new_group controls records blocks) (before ++ answered limit reply ∷ later) s → IsComplete (history before) (history (before ++ answered limit reply ∷ later)) shown
+
+-- ---- breaks
+
+abbrev pub broke : ℕ × Stamp × Cause → Answer
+broke shown = record { call = Break shown.0 shown.1 shown.2; reply = Made }
+
+-- Each break that a form shows was told so by a call before.
+abbrev pub BreaksWereTold : Type 0
+BreaksWereTold = (controls records blocks : ℕ) (before later : List Answer) (limit : Stamp) (reply : Reply) (shown : Shown) (s : Group) → shown_by reply ≡ Some shown
+    → Runs (new_group controls records blocks) (before ++ answered limit reply ∷ later) s → All (λ b. Contains before (broke b)) shown.breaks

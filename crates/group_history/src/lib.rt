@@ -3,5 +3,9 @@
 #![tactic(auto)]
 
 mod laws;
+pub mod vectors;
 
-pub use laws::{forms_give_groups, no_batch_joins_late, runs_are_histories};
+pub use laws::{forms_give_groups, runs_are_histories, runs_keep_to_cuts};
+
+#[cfg(test)]
+mod tests;

@@ -1,5 +1,9 @@
 use Rattle.group_history.proofs.RunLaws.{forms_give_groups}
+use Rattle.group_history.proofs.Causes.{breaks_were_told}
 use Rattle.group_history.proofs.laws.forms_give_groups.Goals as goal
 
-pub returns : goal.returns
-returns c = forms_give_groups
+pub returns-clause-groups : goal.returns-clause-groups
+returns-clause-groups c = forms_give_groups
+
+pub returns-clause-breaks : goal.returns-clause-breaks
+returns-clause-breaks c = breaks_were_told
