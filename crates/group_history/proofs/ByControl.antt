@@ -1,20 +1,20 @@
 -- A history's entries control by control, put in order, are its entries put in order.
-use Rattle.std.proofs.Common.{◌≡◌, ℕ, zero, suc, ◌+◌, ◌<◌, ◌≤◌, Bool, true, false, not, cond, nat_eq, nat_lt, ◌&&◌, ◌||◌, List, [], ◌∷◌, ◌++◌, length, get_or, inl, inr, refl, sym, ap, subst, ◌∙◌, append-nil, arith}
+use Rattle.std.proofs.Common.{◌≡◌, ℕ, zero, suc, ◌+◌, ◌<◌, ◌≤◌, Bool, true, false, cond, nat_eq, nat_lt, ◌&&◌, List, [], ◌∷◌, ◌++◌, length, get_or, inl, inr, refl, sym, ap, subst, ◌∙◌, append-nil, arith}
 use Rattle.std.specs.Prelude.{◌==◌, nat_le, filter}
 use Rattle.std.specs.List.{list_all, flat_map}
-use Rattle.std.proofs.lemmas.Bool.{cases_Bool, cases_lt, and_parts, and_from, and_cases, or_parts, or_right, eqb-true, eqb-false, eq-eqb, ltb-true, ltb-false, lt-ltb, ne_eqb}
+use Rattle.std.proofs.lemmas.Bool.{cases_Bool, cases_lt, and_parts, and_from, or_parts, or_right, eqb-true, eqb-false, eq-eqb, ltb-true, ltb-false, lt-ltb, ne_eqb}
 use Rattle.std.proofs.lemmas.List.Elements.{filter-append}
 use Rattle.tod_stamp.specs.declared.stamp.Stamp.{Stamp}
 use Rattle.xrc_edge.specs.Order.{in_order}
 use Rattle.xrc_edge.proofs.Apart.{order_apart}
-use Rattle.pending_queue.specs.Entries.{WaitingEntry, is_due}
+use Rattle.pending_queue.specs.Entries.{is_due}
 use Rattle.cut_core.specs.Groups.{Entry, stands_before}
 use Rattle.cut_core.specs.Once.{is_of}
 use Rattle.cut_core.proofs.Complete.{before_order}
 use Rattle.cut_core.proofs.Filters.{filter_both, filter_none, filter_swap}
 use Rattle.group_state.specs.Controls.{ControlState, due_of}
 use Rattle.group_state.proofs.SoundLaws.{all_kept}
-use Rattle.group_history.specs.Follows.{IsSeen, AreSeen}
+use Rattle.group_history.specs.Follows.{AreSeen}
 use Rattle.group_history.proofs.Seen.{seen_append, seen_filter}
 
 -- Of two entries of different controls one stands before the other.

@@ -1,5 +1,5 @@
 -- Each control that has broken was told so by a call of the run, with its cause.
-use Rattle.std.proofs.Common.{inl, inr, ◌≡◌, ℕ, zero, suc, ◌+◌, ◌<◌, ◌≤◌, Bool, true, false, cond, nat_eq, ◌&&◌, List, [], ◌∷◌, ◌++◌, length, get_or, map, Option, Some, None, refl, sym, ap, subst, ◌∙◌, arith, append_assoc, append-nil, true≢false}
+use Rattle.std.proofs.Common.{inl, inr, ◌≡◌, ℕ, zero, suc, ◌+◌, ◌<◌, Bool, true, false, cond, ◌&&◌, List, [], ◌∷◌, ◌++◌, length, get_or, map, Some, None, refl, sym, ap, subst, ◌∙◌, arith, append_assoc, append-nil, true≢false}
 use Rattle.std.specs.Prelude.{◌==◌}
 use Rattle.std.specs.List.{All, Contains, flat_map}
 use Rattle.std.proofs.lemmas.Bool.{cases_lt}
@@ -10,16 +10,16 @@ use Rattle.ckd_track.specs.declared.write.Cause.{Cause}
 use Rattle.group_state.specs.declared.phase.Phase.{Phase}
 use Rattle.group_state.specs.declared.phase.Phase.TheVariants.{Telling, Broken, Reported}
 use Rattle.group_state.specs.Volumes.{is_wanted}
-use Rattle.group_state.specs.Controls.{ControlState, new_control, is_telling, fits, fits_track, room_of, joined, copied, raised, broke as broken_control, begun_volume, dropped, resumed, forgotten, cause_at, reported, break_of, phase_after, formed}
-use Rattle.group_state.specs.Groups.{Group, Shown, new_controls, new_group, control_at, with_control, cut_of, gives_nothing, formed_at, shown_at}
-use Rattle.group_state.specs.Machine.{Call, Reply, after, reply_to, steps}
+use Rattle.group_state.specs.Controls.{ControlState, new_control, is_telling, fits, fits_track, joined, copied, raised, broke as broken_control, begun_volume, dropped, resumed, forgotten, cause_at, reported, break_of, phase_after, formed}
+use Rattle.group_state.specs.Groups.{Group, Shown, new_controls, new_group, control_at, with_control, cut_of, formed_at}
+use Rattle.group_state.specs.Machine.{Call, after, reply_to, steps}
 use Rattle.group_state.specs.Machine.Call.{Join, NextWanted, Copied, Raise, Break, Form, Carry, Drop, Resume, Forget}
 use Rattle.group_state.specs.Machine.Reply.{Made}
-use Rattle.group_history.specs.Runs.{Answer, May, Runs, shown_by}
+use Rattle.group_history.specs.Runs.{Answer, May, Runs}
 use Rattle.group_history.specs.Laws.{answered, broke, BreaksWereTold}
 use Rattle.group_history.proofs.Stands.{at_each, stands_first}
 use Rattle.group_history.proofs.Steps.{either_step}
-use Rattle.group_history.proofs.RunLaws.{IsSplit, split, stands_after, form_shows}
+use Rattle.group_history.proofs.RunLaws.{split, stands_after, form_shows}
 
 -- a control that has broken was told so
 abbrev WasTold : List Answer → (control : ℕ) → ControlState → Type 0

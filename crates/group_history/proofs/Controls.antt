@@ -1,7 +1,7 @@
 -- After each call on a control, and each form, what is kept of it is what the longer history says.
-use Rattle.std.proofs.Common.{inl, inr, ◌≡◌, ℕ, ◌≤◌, Bool, true, false, not, cond, nat_eq, nat_lt, nat_le, ◌&&◌, ◌||◌, List, [], ◌∷◌, ◌++◌, length, map, Option, Some, None, refl, sym, ap, subst, ◌∙◌, arith}
+use Rattle.std.proofs.Common.{◌≡◌, ℕ, Bool, true, false, not, cond, nat_eq, nat_lt, nat_le, ◌&&◌, ◌||◌, List, [], ◌∷◌, ◌++◌, length, map, Option, Some, None, refl, sym, ap, subst, ◌∙◌}
 use Rattle.std.specs.Prelude.{◌==◌, filter}
-use Rattle.std.specs.List.{list_all, list_any}
+use Rattle.std.specs.List.{list_any}
 use Rattle.std.proofs.Math.Bool.{and-true}
 use Rattle.std.proofs.lemmas.Bool.{and_parts, eqb-true, eq-eqb}
 use Rattle.tod_stamp.specs.declared.stamp.Stamp.{Stamp}
@@ -11,11 +11,11 @@ use Rattle.ckd_track.specs.declared.write.Cause.{Cause}
 use Rattle.ckd_track.specs.declared.write.Write.{Write}
 use Rattle.change_map.specs.Sets.{has_track}
 use Rattle.copy_plan.specs.Plans.{PlanState}
-use Rattle.pending_queue.specs.Entries.{WaitingEntry, entry_of as waiting_of, entries_of, copy_of as waiting_copy, copy_head, is_of_volume, tracks_of, without_volume, is_later, left, copies}
+use Rattle.pending_queue.specs.Entries.{WaitingEntry, entries_of, copy_of as waiting_copy, copy_head, is_of_volume, tracks_of, without_volume, is_later, left, copies}
 use Rattle.cut_core.specs.Events.{Event, floor}
 use Rattle.cut_core.specs.Events.Event.{Join, Copied, Break, Raise, Form, Drop, Carry, Resume, Forget}
 use Rattle.cut_core.specs.Shares.{Share, share_by, share}
-use Rattle.cut_core.specs.Groups.{Entry, entry_of, copy_of, is_write_carried, carried_by, waiting_in}
+use Rattle.cut_core.specs.Groups.{entry_of, copy_of, is_write_carried, waiting_in}
 use Rattle.cut_core.specs.Waiting.{is_on}
 use Rattle.cut_core.specs.Once.{is_of}
 use Rattle.cut_core.proofs.Ends.{stays, breaks_at}
@@ -30,7 +30,7 @@ use Rattle.group_state.specs.Sound.{passes_or_none, are_distinct, is_track_withi
 use Rattle.group_state.proofs.SoundLaws.{all_kept}
 use Rattle.group_state.proofs.FormLaws.{later_not}
 use Rattle.group_history.specs.Runs.{tracks_in}
-use Rattle.group_history.specs.Follows.{IsSeen, AreSeen, is_within, IsShareOf, IsControlOf}
+use Rattle.group_history.specs.Follows.{AreSeen, is_within, IsShareOf, IsControlOf}
 use Rattle.group_history.proofs.Seen.{seen_filter, seen_any}
 use Rattle.group_history.proofs.Shares.{turned, same_share, all_written, all_copied, all_begun, all_dropped, all_resumed, all_forgotten, all_formed}
 use Rattle.group_history.proofs.Told.{IsQuiet, told_quiet, told_next, told_formed, waiting_next, waiting_less, all_stay}

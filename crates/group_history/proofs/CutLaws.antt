@@ -1,25 +1,21 @@
 -- The theorem on cuts, of what forms show in a run.
-use Rattle.std.proofs.Common.{◌≡◌, ℕ, Bool, true, false, not, nat_le, ◌&&◌, List, [], ◌∷◌, ◌++◌, Option, Some, None, refl, sym, ap, subst, ◌∙◌}
-use Rattle.std.specs.Prelude.{filter, is_none, IsTrue}
+use Rattle.std.proofs.Common.{◌≡◌, Bool, true, not, nat_le, ◌&&◌, List, [], ◌∷◌, ◌++◌, Option, Some, None, refl, sym, ap, subst, ◌∙◌}
+use Rattle.std.specs.Prelude.{filter, is_none}
 use Rattle.std.specs.List.{list_all}
 use Rattle.std.proofs.lemmas.Bool.{and_parts, and_from}
-use Rattle.tod_stamp.specs.declared.stamp.Stamp.{Stamp}
 use Rattle.xrc_edge.specs.Order.{in_order}
 use Rattle.ckd_track.specs.declared.write.Kind.{Kind}
-use Rattle.pending_queue.specs.Entries.{WaitingEntry, stamp_of}
-use Rattle.cut_core.specs.Events.{Event, last_cut}
-use Rattle.cut_core.specs.Events.Event.{Form as Forms}
+use Rattle.pending_queue.specs.Entries.{WaitingEntry}
+use Rattle.cut_core.specs.Events.{last_cut}
 use Rattle.cut_core.specs.Groups.{Entry, is_copy, stands_before, group}
 use Rattle.cut_core.specs.Legal.{are_legal}
 use Rattle.cut_core.specs.Cuts.{kept_writes}
 use Rattle.cut_core.proofs.Complete.{complete}
 use Rattle.cut_core.proofs.Copies.{copies_are_between}
-use Rattle.group_state.specs.Groups.{Group, Shown}
-use Rattle.group_state.specs.Machine.{Reply}
 use Rattle.group_state.proofs.SoundLaws.{all_true}
-use Rattle.group_history.specs.Runs.{Answer, history, shown_by, Runs}
+use Rattle.group_history.specs.Runs.{history}
 use Rattle.group_history.specs.Follows.{HasContent, IsSeen, AreSeen}
-use Rattle.group_history.specs.Laws.{answered, is_after, is_from, IsComplete, FormsAreComplete}
+use Rattle.group_history.specs.Laws.{answered, is_after, is_from, FormsAreComplete}
 use Rattle.group_history.proofs.Seen.{seen_filter}
 use Rattle.group_history.proofs.RunLaws.{runs_are_histories, forms_give_groups, form_in}
 

@@ -1,14 +1,13 @@
 -- A form: its cut is the least of its limit and all live floors, the state then follows the longer history, and what it shows is
 -- the history's group.
-use Rattle.std.proofs.Common.{inl, inr, ◌≡◌, ℕ, zero, suc, ◌+◌, ◌<◌, ◌≤◌, min, Bool, true, false, not, cond, nat_eq, nat_lt, nat_le, ◌&&◌, ◌||◌, List, [], ◌∷◌, ◌++◌, length, get_or, take, map, Some, None, refl, sym, ap, subst, ◌∙◌, arith, add-one}
+use Rattle.std.proofs.Common.{inl, inr, ◌≡◌, ℕ, zero, suc, ◌+◌, ◌<◌, ◌≤◌, min, Bool, true, false, not, cond, nat_eq, nat_lt, nat_le, ◌&&◌, ◌||◌, List, [], ◌∷◌, ◌++◌, length, get_or, take, map, Some, None, refl, sym, ap, subst, ◌∙◌, arith}
 use Rattle.std.specs.Prelude.{◌==◌, filter, fold}
-use Rattle.std.specs.List.{list_all, flat_map, range_with_len}
+use Rattle.std.specs.List.{flat_map, range_with_len}
 use Rattle.std.proofs.lemmas.Bool.{cases_Bool, eqb-true, eq-eqb, ne_eqb, eqb-false}
 use Rattle.std.proofs.lemmas.List.{take_more, take_all, get_or-map, map-append}
 use Rattle.std.proofs.lemmas.List.Sums.{fold_push}
 use Rattle.tod_stamp.specs.declared.stamp.Stamp.{Stamp}
-use Rattle.ckd_track.specs.declared.write.Cause.{Cause}
-use Rattle.cut_core.specs.Events.{Event, floor, has_broken, is_done, is_live, last_cut}
+use Rattle.cut_core.specs.Events.{Event, floor, has_broken, is_done, is_live}
 use Rattle.cut_core.specs.Events.Event.{Form}
 use Rattle.cut_core.specs.Groups.{Entry, waiting_in, group}
 use Rattle.cut_core.specs.Legal.{is_legal_next, least_floor}
@@ -20,11 +19,11 @@ use Rattle.cut_core.proofs.Least.{least_is_legal}
 use Rattle.group_state.specs.declared.phase.Phase.{Phase}
 use Rattle.group_state.specs.declared.phase.Phase.TheVariants.{Telling, Broken, Reported}
 use Rattle.group_state.specs.Controls.{ControlState, new_control, counts, is_telling, lesser, formed, due_of, cause_at, reported, break_of}
-use Rattle.group_state.specs.Groups.{Group, Shown, control_at, cut_of, formed_at, shown_at}
+use Rattle.group_state.specs.Groups.{Group, control_at, cut_of, formed_at, shown_at}
 use Rattle.group_state.specs.Sound.{Sound}
 use Rattle.group_state.proofs.FormLaws.{sound_formed}
 use Rattle.cut_core.specs.Once.{is_of}
-use Rattle.group_history.specs.Follows.{AreSeen, IsControlOf, Follows}
+use Rattle.group_history.specs.Follows.{AreSeen, IsControlOf}
 use Rattle.group_history.specs.Laws.{ends_at, named, break_in, IsGroupOf}
 use Rattle.group_history.proofs.Seen.{seen_order}
 use Rattle.group_history.proofs.ByControl.{by_control, order_by_control, due_seen}

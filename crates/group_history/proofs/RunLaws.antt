@@ -1,6 +1,5 @@
 -- Runs are histories, their forms give the groups, and no batch joins late.
-use Rattle.std.proofs.Common.{inl, inr, ◌≡◌, ℕ, Bool, true, false, cond, ◌&&◌, ◌⊎◌, List, [], ◌∷◌, ◌++◌, length, Option, Some, None, refl, sym, ap, subst, ◌∙◌, append_assoc, append-nil}
-use Rattle.std.specs.Prelude.{IsTrue}
+use Rattle.std.proofs.Common.{inl, inr, ◌≡◌, ℕ, Bool, true, false, cond, List, [], ◌∷◌, ◌++◌, Option, Some, None, refl, sym, ap, subst, ◌∙◌, append_assoc, append-nil}
 use Rattle.std.specs.List.{list_all, cons_option}
 use Rattle.std.specs.Option.{option_map}
 use Rattle.std.proofs.lemmas.Bool.{and_parts}
@@ -15,9 +14,8 @@ use Rattle.cut_core.proofs.Late.{no_late}
 use Rattle.group_state.specs.Groups.{Group, Shown, new_group, cut_of, gives_nothing, shown_at}
 use Rattle.group_state.specs.Machine.{Reply, steps}
 use Rattle.group_state.specs.Machine.Call.{Form}
-use Rattle.group_state.specs.Machine.Reply.{Formed, Nothing, NoMemory}
-use Rattle.group_history.specs.Runs.{Answer, event_by, event_of, history, shown_by, Runs}
-use Rattle.group_history.specs.Follows.{Follows}
+use Rattle.group_state.specs.Machine.Reply.{Formed, Nothing}
+use Rattle.group_history.specs.Runs.{Answer, event_of, history, shown_by, Runs}
 use Rattle.group_history.specs.Laws.{RunsAreHistories, answered, joined, IsGroupOf, FormsGiveGroups, NoLateJoin}
 use Rattle.group_history.proofs.Stands.{Stands, stands_first}
 use Rattle.group_history.proofs.Forms.{shows_group}

@@ -1,7 +1,7 @@
 -- Entries that wait, seen one for one in a history: more of them, some of them, and in order.
-use Rattle.std.proofs.Common.{◌≡◌, ℕ, Bool, true, false, cond, nat_eq, nat_lt, ◌&&◌, ◌||◌, List, [], ◌∷◌, ◌++◌, refl}
+use Rattle.std.proofs.Common.{◌≡◌, Bool, true, false, cond, List, [], ◌∷◌, ◌++◌, refl}
 use Rattle.std.specs.Prelude.{filter}
-use Rattle.std.specs.List.{list_all, list_any, AllZip}
+use Rattle.std.specs.List.{list_all, list_any}
 use Rattle.std.proofs.lemmas.Bool.{and_parts}
 use Rattle.xrc_edge.specs.Order.{put_in_order, in_order}
 use Rattle.pending_queue.specs.Entries.{WaitingEntry, stands_before as waits_before}

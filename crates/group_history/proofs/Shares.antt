@@ -1,26 +1,25 @@
 -- What one call makes of a volume that is kept, and what its event makes of the history's share of one track.
 use Rattle.std.proofs.Common.{◌≡◌, ℕ, zero, suc, ◌+◌, ◌<◌, ◌≤◌, Bool, true, false, not, cond, nat_eq, nat_lt, nat_le, ◌&&◌, ◌||◌, List, [], ◌∷◌, ◌++◌, length, Option, Some, None, inl, inr, refl, sym, ap, subst, ◌∙◌, arith, length-set}
-use Rattle.std.specs.Prelude.{◌==◌, filter, fold, IsTrue}
+use Rattle.std.specs.Prelude.{◌==◌, filter}
 use Rattle.std.specs.Option.{option_map}
 use Rattle.std.specs.List.{list_any, range_with_len}
 use Rattle.std.proofs.Math.Bool.{or-false, and-false}
 use Rattle.std.proofs.lemmas.Bool.{cases_Bool, cases_lt, eqb-true, eqb-false, eq-eqb, ltb-true, lt-ltb, le-ltb, le-leb, lt-leb, ne_eqb}
 use Rattle.std.proofs.lemmas.List.{length-replicate, get_or-set_other}
-use Rattle.tod_stamp.specs.declared.stamp.Stamp.{Stamp}
 use Rattle.ckd_track.specs.declared.write.Write.{Write}
-use Rattle.change_map.specs.Sets.{has_track, with_track, no_track, every_track}
+use Rattle.change_map.specs.Sets.{has_track, with_track}
 use Rattle.change_map.proofs.InSets.{had_within, has_none, has_every, has_with, has_without}
 use Rattle.copy_plan.specs.Plans.{PlanState}
 use Rattle.pending_queue.specs.Entries.{WaitingEntry}
 use Rattle.pending_queue.specs.Maps.{with_tracks}
 use Rattle.cut_core.specs.Shares.{Share, no_share, share_write, share_writes, share_copied, share_drop, share_carry, share_resume}
 use Rattle.group_state.specs.declared.volume.Volume.{Volume}
-use Rattle.group_state.specs.Volumes.{is_numbered, volume_of, has_volume, with_volume, without_number, passes, wants, begun, written, with_write, with_writes, copied_track, formed_track, with_formed_copies, dropped_map, dropped_volume, resumed_volume}
-use Rattle.group_state.specs.Sound.{passes_or_none, are_distinct, is_dropped}
+use Rattle.group_state.specs.Volumes.{volume_of, has_volume, with_volume, without_number, passes, begun, written, with_write, with_writes, copied_track, formed_track, with_formed_copies, dropped_map, dropped_volume, resumed_volume}
+use Rattle.group_state.specs.Sound.{are_distinct, is_dropped}
 use Rattle.group_state.proofs.SoundLaws.{length_dropped}
 use Rattle.group_state.proofs.VolumeLaws.{Keeps, found_with, found_behind, found_without, none_found}
 use Rattle.group_history.specs.Runs.{tracks_in}
-use Rattle.group_history.specs.Follows.{IsShareOf, has_mapped, is_within}
+use Rattle.group_history.specs.Follows.{IsShareOf}
 
 -- what waits is no part of it
 abbrev pub with_stamps : List ℕ → Share → Share

@@ -1,5 +1,5 @@
 -- Each call, made when it may be made and answered as the machine answers, keeps what is kept.
-use Rattle.std.proofs.Common.{inl, inr, ◌≡◌, ℕ, ◌<◌, ◌≤◌, Bool, true, false, not, cond, nat_eq, nat_lt, nat_le, ◌&&◌, ◌⊎◌, List, [], ◌∷◌, ◌++◌, length, Option, Some, None, refl, sym, ap, subst, ◌∙◌, arith}
+use Rattle.std.proofs.Common.{inl, inr, ◌≡◌, ℕ, ◌<◌, Bool, true, false, not, cond, nat_lt, nat_le, ◌&&◌, ◌⊎◌, List, [], ◌∷◌, ◌++◌, Option, Some, None, refl, sym, ap, subst, ◌∙◌, arith}
 use Rattle.std.specs.Prelude.{◌==◌, filter}
 use Rattle.std.proofs.lemmas.Bool.{and_from, eq-eqb, lt-ltb, le-leb}
 use Rattle.tod_stamp.specs.declared.stamp.Stamp.{Stamp}
@@ -9,22 +9,21 @@ use Rattle.ckd_track.specs.declared.write.Cause.{Cause}
 use Rattle.xrc_edge.specs.Order.{is_in_order}
 use Rattle.copy_plan.specs.Plans.{PlanState}
 use Rattle.cut_core.specs.Events.{Event, floor, has_broken}
-use Rattle.cut_core.specs.Events.Event.{Join as Joins, Copied as Copies, Break as Breaks, Raise as Raises, Form as Forms, Drop as Drops, Carry as Carries, Resume as Resumes, Forget as Forgets}
+use Rattle.cut_core.specs.Events.Event.{Join as Joins, Copied as Copies, Break as Breaks, Raise as Raises, Drop as Drops, Carry as Carries, Resume as Resumes, Forget as Forgets}
 use Rattle.cut_core.specs.Groups.{is_write_carried}
 use Rattle.cut_core.specs.Shares.{share}
 use Rattle.cut_core.specs.Legal.{is_earlier, are_in, may_tell, is_legal_next}
-use Rattle.group_state.specs.Volumes.{volume_of, is_wanted}
+use Rattle.group_state.specs.Volumes.{is_wanted}
 use Rattle.group_state.specs.Controls.{ControlState, is_telling, fits, fits_track, room_of, joined, copied, raised, broke, begun_volume, dropped, resumed, forgotten}
 use Rattle.group_state.specs.Groups.{Group, control_at, with_control, cut_of, gives_nothing, formed_at, shown_at}
-use Rattle.group_state.specs.Sound.{MayTell, is_dropped}
+use Rattle.group_state.specs.Sound.{MayTell}
 use Rattle.group_state.specs.Machine.{Call, Reply, reply_to, after, steps}
 use Rattle.group_state.specs.Machine.Call.{Join, NextWanted, Copied, Raise, Break, Form, Carry, Drop, Resume, Forget}
 use Rattle.group_state.specs.Machine.Reply.{Made, Joined, Held, Stale, Wanted, Formed, Nothing, Owed, NoMemory}
 use Rattle.group_state.proofs.SoundLaws.{sound_joined, sound_raised, sound_broke, sound_copied, sound_begun, sound_dropped, sound_resumed, sound_forgotten}
 use Rattle.group_history.specs.Runs.{tracks_in, event_by, May}
 use Rattle.group_history.specs.Follows.{IsControlOf}
-use Rattle.group_history.proofs.Told.{unbroken}
-use Rattle.group_history.proofs.Elsewhere.{told_of, join_elsewhere, copied_elsewhere, raise_elsewhere, break_elsewhere, drop_elsewhere, carry_elsewhere, resume_elsewhere, forget_elsewhere}
+use Rattle.group_history.proofs.Elsewhere.{join_elsewhere, copied_elsewhere, raise_elsewhere, break_elsewhere, drop_elsewhere, carry_elsewhere, resume_elsewhere, forget_elsewhere}
 use Rattle.group_history.proofs.Controls.{control_joined, control_raised, control_broke, control_copied, control_begun, control_resumed, control_forgotten, control_dropped}
 use Rattle.group_history.proofs.Stands.{Stands, stands_next, written_below}
 use Rattle.group_history.proofs.Forms.{stands_formed}

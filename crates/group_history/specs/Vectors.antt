@@ -1,5 +1,5 @@
 -- A worked run.
-use Rattle.std.specs.Prelude.{ℕ, List, [], ◌∷◌, false}
+use Rattle.std.specs.Prelude.{List, [], ◌∷◌, false}
 use Rattle.ckd_track.specs.declared.write.Cause.TheVariants.{ReadFault}
 use Rattle.group_state.specs.Groups.{Group, new_group}
 use Rattle.group_state.specs.Machine.{Call, reply_to, after}
