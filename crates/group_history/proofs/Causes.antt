@@ -140,13 +140,13 @@ breaks_told run cut first (c ∷ controls) d numbers told =
     (λ i lt. subst (λ k. WasTold run k (get_or controls i d)) (omega arith) (told (suc i) (omega arith))))
 
 pub breaks_were_told : BreaksWereTold
-breaks_were_told n records blocks before later limit reply shown s is runs =
-    let first = new_group n records blocks in
-    let parts = split first before (answered limit reply ∷ later) s runs in
+breaks_were_told n before later limit shown f =
+    let first = new_group n f.records f.blocks in
+    let parts = split first before (answered limit f.reply ∷ later) f.last f.runs in
     let middle = parts.middle in
-    let stands = stands_after n [] first before middle (stands_first n records blocks) parts.first in
-    let told = told_after [] before first middle (first_told n records blocks) parts.first in
-    subst (λ (shown : Shown). All (λ b. Contains before (broke b)) shown.breaks) (form_shows middle limit reply shown parts.second.0 is parts.second.2)
+    let stands = stands_after n [] first before middle (stands_first n f.records f.blocks) parts.first in
+    let told = told_after [] before first middle (first_told n f.records f.blocks) parts.first in
+    subst (λ (shown : Shown). All (λ b. Contains before (broke b)) shown.breaks) (form_shows middle limit f.reply shown parts.second.0 f.shows parts.second.2)
     (breaks_told before (cut_of middle limit) 0 middle.controls (new_control 0 0 0)
     (λ i lt. stands.numbers i (omega (arith, lt, stands.follows.count)) ∙ omega arith)
     (λ i lt. subst (λ k. WasTold before k (control_at middle i)) (omega arith) (told i)))

@@ -16,7 +16,7 @@ use Rattle.group_state.specs.Machine.{Reply, steps}
 use Rattle.group_state.specs.Machine.Call.{Form}
 use Rattle.group_state.specs.Machine.Reply.{Formed, Nothing}
 use Rattle.group_history.specs.Runs.{Answer, event_of, history, shown_by, Runs}
-use Rattle.group_history.specs.Laws.{RunsAreHistories, answered, joined, IsGroupOf, FormsGiveGroups, NoLateJoin}
+use Rattle.group_history.specs.Laws.{RunsAreHistories, answered, joined, HasForm, IsGroupOf, FormsGiveGroups, NoLateJoin}
 use Rattle.group_history.proofs.Stands.{Stands, stands_first}
 use Rattle.group_history.proofs.Forms.{shows_group}
 use Rattle.group_history.proofs.Steps.{with_event, either_step, step}
@@ -60,25 +60,29 @@ form_shows s limit reply shown next is made = elim (either_step s (Form limit) r
     by_reply false e = cc
 
 pub forms_give_groups : FormsGiveGroups
-forms_give_groups n records blocks before later limit reply shown s is runs =
-    let parts = split (new_group n records blocks) before (answered limit reply ∷ later) s runs in
-    let h = stands_after n [] (new_group n records blocks) before parts.middle (stands_first n records blocks) parts.first in
-    subst (IsGroupOf n limit (history before)) (form_shows parts.middle limit reply shown parts.second.0 is parts.second.2) (shows_group n (history before) parts.middle limit h)
+forms_give_groups n before later limit shown f =
+    let first = new_group n f.records f.blocks in
+    let parts = split first before (answered limit f.reply ∷ later) f.last f.runs in
+    let h = stands_after n [] first before parts.middle (stands_first n f.records f.blocks) parts.first in
+    subst (IsGroupOf n limit (history before)) (form_shows parts.middle limit f.reply shown parts.second.0 f.shows parts.second.2) (shows_group n (history before) parts.middle limit h)
 
 -- ---- no late join
 
--- a form, and a joined batch, in the history of a run
-pub form_in : (before later : List Answer) (limit : Stamp) (reply : Reply) (shown : Shown) → shown_by reply ≡ Some shown → history (before ++ answered limit reply ∷ later) ≡ history before ++ Forms shown.cut.0 ∷ history later
+-- a form in the history of a run
+form_in : (before later : List Answer) (limit : Stamp) (reply : Reply) (shown : Shown) → shown_by reply ≡ Some shown → history (before ++ answered limit reply ∷ later) ≡ history before ++ Forms shown.cut.0 ∷ history later
 form_in before later limit reply shown is =
     filter_map-append event_of before (answered limit reply ∷ later)
     ∙ ap (λ (o : Option Shown). history before ++ cons_option (option_map (λ shown. Forms shown.cut.0) o) (history later)) is
 
+pub form_legal : (n : ℕ) (before later : List Answer) (limit : Stamp) (shown : Shown) → HasForm n before later limit shown → are_legal n [] (history before ++ Forms shown.cut.0 ∷ history later) ≡ true
+form_legal n before later limit shown f =
+    subst (λ events. are_legal n [] events ≡ true) (form_in before later limit f.reply shown f.shows) (runs_are_histories n f.records f.blocks (before ++ answered limit f.reply ∷ later) f.last f.runs).legal
+
 pub no_late_join : NoLateJoin
-no_late_join n records blocks before between later limit reply shown b s is runs =
+no_late_join n before between later limit shown b f =
     let rest = between ++ joined b ∷ later in
     let cut = shown.cut.0 in
-    let legal = (runs_are_histories n records blocks (before ++ answered limit reply ∷ rest) s runs).legal in
-    let above : list_all (joins_above cut) (history rest) ≡ true = no_late n (history before) (history rest) cut (subst (λ events. are_legal n [] events ≡ true) (form_in before rest limit reply shown is) legal) in
+    let above : list_all (joins_above cut) (history rest) ≡ true = no_late n (history before) (history rest) cut (form_legal n before rest limit shown f) in
     let parts = sym (ap (list_all (joins_above cut)) (filter_map-append event_of between (joined b ∷ later)) ∙ list_all-append (joins_above cut) (history between) (Joins b ∷ history later)) ∙ above in
     let second = and_parts (list_all (joins_above cut) (history between)) (list_all (joins_above cut) (Joins b ∷ history later)) parts in
     (and_parts (joins_above cut (Joins b)) (list_all (joins_above cut) (history later)) second.1).0

@@ -25,6 +25,18 @@ RunsAreHistories = (controls records blocks : ℕ) (run : List Answer) (s : Grou
 
 -- ---- what forms show
 
+abbrev pub answered : (limit : Stamp) → Reply → Answer
+answered limit reply = record { call = Form limit; reply = reply }
+
+-- A run from a first state has a form with this limit that shows this, with these answers before it and behind it.
+pub record HasForm (controls : ℕ) (before later : List Answer) (limit : Stamp) (shown : Shown) : Type 0 where
+  pub records : ℕ
+  pub blocks : ℕ
+  pub reply : Reply
+  pub shows : shown_by reply ≡ Some shown
+  pub last : Group
+  pub runs : Runs (new_group controls records blocks) (before ++ answered limit reply ∷ later) last
+
 -- a control that is live, and after a form with this cut no longer
 abbrev pub ends_at : (cut : ℕ) → List Event → (control : ℕ) → Bool
 ends_at cut past k = is_live k past && not (is_live k (past ++ Forms cut ∷ []))
@@ -43,12 +55,8 @@ pub record IsGroupOf (controls : ℕ) (limit : Stamp) (past : List Event) (shown
   pub entries : AreSeen shown.entries (group past shown.cut.0)
   pub breaks : map named shown.breaks ≡ map (break_in past) (filter (ends_at shown.cut.0 past) (range_with_len 0 controls))
 
-abbrev pub answered : (limit : Stamp) → Reply → Answer
-answered limit reply = record { call = Form limit; reply = reply }
-
 abbrev pub FormsGiveGroups : Type 0
-FormsGiveGroups = (controls records blocks : ℕ) (before later : List Answer) (limit : Stamp) (reply : Reply) (shown : Shown) (s : Group) → shown_by reply ≡ Some shown
-    → Runs (new_group controls records blocks) (before ++ answered limit reply ∷ later) s → IsGroupOf controls limit (history before) shown
+FormsGiveGroups = (controls : ℕ) (before later : List Answer) (limit : Stamp) (shown : Shown) → HasForm controls before later limit shown → IsGroupOf controls limit (history before) shown
 
 -- ---- no late join
 
@@ -57,8 +65,8 @@ joined b = record { call = Join b; reply = Joined }
 
 -- After a form no batch joins with a write whose stamp is at most the form's cut.
 abbrev pub NoLateJoin : Type 0
-NoLateJoin = (controls records blocks : ℕ) (before between later : List Answer) (limit : Stamp) (reply : Reply) (shown : Shown) (b : Batch) (s : Group) → shown_by reply ≡ Some shown
-    → Runs (new_group controls records blocks) (before ++ answered limit reply ∷ (between ++ joined b ∷ later)) s → IsTrue (list_all (λ w. nat_lt shown.cut.0 w.stamp.0) b.writes)
+NoLateJoin = (controls : ℕ) (before between later : List Answer) (limit : Stamp) (shown : Shown) (b : Batch) → HasForm controls before (between ++ joined b ∷ later) limit shown
+    → IsTrue (list_all (λ w. nat_lt shown.cut.0 w.stamp.0) b.writes)
 
 -- ---- the theorem on cuts
 
@@ -77,8 +85,8 @@ pub record IsComplete (before run : List Event) (shown : Shown) : Type 0 where
   pub copies : IsTrue (list_all (is_from (last_cut before) shown.cut.0) (filter (λ w. w.is_copy) shown.entries))
 
 abbrev pub FormsAreComplete : Type 0
-FormsAreComplete = (controls records blocks : ℕ) (before later : List Answer) (limit : Stamp) (reply : Reply) (shown : Shown) (s : Group) → shown_by reply ≡ Some shown
-    → Runs (new_group controls records blocks) (before ++ answered limit reply ∷ later) s → IsComplete (history before) (history (before ++ answered limit reply ∷ later)) shown
+FormsAreComplete = (controls : ℕ) (before later : List Answer) (limit : Stamp) (shown : Shown) → HasForm controls before later limit shown
+    → IsComplete (history before) (history before ++ Forms shown.cut.0 ∷ history later) shown
 
 -- ---- breaks
 
@@ -87,5 +95,4 @@ broke shown = record { call = Break shown.0 shown.1 shown.2; reply = Made }
 
 -- Each break that a form shows was told so by a call before.
 abbrev pub BreaksWereTold : Type 0
-BreaksWereTold = (controls records blocks : ℕ) (before later : List Answer) (limit : Stamp) (reply : Reply) (shown : Shown) (s : Group) → shown_by reply ≡ Some shown
-    → Runs (new_group controls records blocks) (before ++ answered limit reply ∷ later) s → All (λ b. Contains before (broke b)) shown.breaks
+BreaksWereTold = (controls : ℕ) (before later : List Answer) (limit : Stamp) (shown : Shown) → HasForm controls before later limit shown → All (λ b. Contains before (broke b)) shown.breaks
