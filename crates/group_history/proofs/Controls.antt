@@ -172,7 +172,7 @@ any_mapped {A} p f q (a ∷ items) = choose (q a) (any_mapped p f q items)
     choose true h = ap (λ b. p (f a) || b) h
     choose false h = h
 
-any_of : {A : Type 0} (ok q : A → Bool) (items : List A) → ((a : A) → ok a ≡ false → q a ≡ false) → list_any q (filter ok items) ≡ list_any q items
+pub any_of : {A : Type 0} (ok q : A → Bool) (items : List A) → ((a : A) → ok a ≡ false → q a ≡ false) → list_any q (filter ok items) ≡ list_any q items
 any_of ok q [] none = refl
 any_of {A} ok q (a ∷ items) none = choose (ok a) refl (any_of ok q items none)
   where

@@ -17,7 +17,7 @@ use Rattle.group_history.proofs.Seen.{seen_filter}
 use Rattle.group_history.proofs.RunLaws.{forms_give_groups, form_legal}
 
 -- a copied track is seen as one
-same_copy : (w : WaitingEntry) (kind : Option Kind) → HasContent w kind → w.is_copy ≡ is_none kind
+pub same_copy : (w : WaitingEntry) (kind : Option Kind) → HasContent w kind → w.is_copy ≡ is_none kind
 same_copy w None is = is
 same_copy w (Some kind) is = ap (λ (w : WaitingEntry). w.is_copy) is
 

@@ -11,3 +11,5 @@ pub mod RunLaws
 pub mod CutLaws
 pub mod Causes
 pub mod WorkedRuns
+pub mod Tracks
+pub mod DonePlans

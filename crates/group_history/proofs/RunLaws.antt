@@ -21,7 +21,7 @@ use Rattle.group_history.proofs.Stands.{Stands, stands_first}
 use Rattle.group_history.proofs.Forms.{shows_group}
 use Rattle.group_history.proofs.Steps.{with_event, either_step, step}
 
-event_first : (past : List Event) (x : Option Event) (rest : List Event) → with_event past x ++ rest ≡ past ++ cons_option x rest
+pub event_first : (past : List Event) (x : Option Event) (rest : List Event) → with_event past x ++ rest ≡ past ++ cons_option x rest
 event_first past None rest = refl
 event_first past (Some x) rest = append_assoc past (x ∷ []) rest
 

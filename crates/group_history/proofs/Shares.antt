@@ -129,7 +129,7 @@ has_in set x = in_range (has_track set) x 0 (length set) ∙ choose (has_track s
 
 -- ---- a joined batch
 
-written_number : (x : ℕ) → Keeps (written x)
+pub written_number : (x : ℕ) → Keeps (written x)
 written_number x u = choose u.carried
   where
     choose : (t : Bool) → (let v : Volume = cond t u (record u { map = with_track u.map x }) in v.number) ≡ u.number
