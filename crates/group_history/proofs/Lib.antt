@@ -1,0 +1,15 @@
+pub mod Seen
+pub mod Shares
+pub mod ByControl
+pub mod Told
+pub mod Elsewhere
+pub mod Controls
+pub mod Stands
+pub mod Forms
+pub mod Steps
+pub mod RunLaws
+pub mod CutLaws
+pub mod Causes
+pub mod WorkedRuns
+pub mod Tracks
+pub mod DonePlans

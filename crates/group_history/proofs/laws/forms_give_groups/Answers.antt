@@ -1,0 +1,13 @@
+use Rattle.group_history.proofs.RunLaws.{forms_give_groups}
+use Rattle.group_history.proofs.Causes.{breaks_were_told}
+use Rattle.group_history.proofs.DonePlans.{done_plans_are_shown}
+use Rattle.group_history.proofs.laws.forms_give_groups.Goals as goal
+
+pub returns-clause-groups : goal.returns-clause-groups
+returns-clause-groups c = forms_give_groups
+
+pub returns-clause-breaks : goal.returns-clause-breaks
+returns-clause-breaks c = breaks_were_told
+
+pub returns-clause-done : goal.returns-clause-done
+returns-clause-done c = done_plans_are_shown
