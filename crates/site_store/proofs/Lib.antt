@@ -17,3 +17,4 @@ pub mod MarkedSites
 pub mod Marks
 pub mod Puts
 pub mod Syncs
+pub mod MarkExits
