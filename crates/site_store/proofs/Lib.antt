@@ -11,7 +11,6 @@ pub mod Group
 pub mod Calls
 pub mod MarkEnds
 pub mod Firsts
-pub mod MarkFitting
 pub mod MarkJobs
 pub mod MarkedSites
 pub mod Marks

@@ -1,27 +1,25 @@
 -- What a mark has left at each of its exits, over plain states.
-use Rattle.std.proofs.Common.{◌≡◌, inl, inr, ℕ, ◌+◌, ◌-◌, ◌^◌, ◌≤◌, ◌<◌, Bool, true, false, List, length, replicate, [], Result, Some, Ok, Err, refl, sym, ap, subst, ◌∙◌}
+use Rattle.std.proofs.Common.{◌≡◌, inl, ℕ, ◌+◌, ◌-◌, ◌^◌, ◌≤◌, ◌<◌, Bool, true, false, List, length, [], Result, Some, Ok, Err, refl, sym, ap, subst, ◌∙◌}
 use Rattle.std.specs.Prelude.{OnOk, IsErrOf}
 use Rattle.std.proofs.lemmas.List.{length-replicate}
-use Rattle.crash_plant.specs.declared.device.Device.{Device}
 use Rattle.crash_plant.specs.declared.device.Device.TheVariants.{Control, State, Journal, Volume}
-use Rattle.crash_plant.specs.Calls.{NoneLent, WorksOn}
+use Rattle.crash_plant.specs.Calls.{WorksOn}
 use Rattle.crash_plant.specs.Choices.{AllFollow, IsChoice}
 use Rattle.crash_plant.specs.Moments.{PlantState, on, IsDurable}
 use Rattle.crash_plant.proofs.Steps.{none_lent_then, site_trans, works_on_more}
 use Rattle.control_set.specs.declared.value.Mark.{Mark}
-use Rattle.control_set.specs.Marks.{IsMark}
 use Rattle.control_set.specs.Slots.{IsNext, chosen_mark, lengths_of}
 use Rattle.control_set.proofs.Lengths.{same_lengths}
 use Rattle.state_set.specs.Slots.{Stored, state_of}
 use Rattle.site_store.specs.declared.store_error.StoreError.{StoreError}
 use Rattle.site_store.specs.declared.store_error.StoreError.TheVariants.{Spent}
-use Rattle.site_store.specs.Marking.{IsAmong, IsFirstFailed, IsMarked, IsTouched, NoneFailed, PutsMark, Syncs}
+use Rattle.site_store.specs.Marking.{IsAmong, IsMarked, IsTouched, NoneFailed, PutsMark, Syncs}
 use Rattle.site_store.specs.Sees.{SeesMark, SeesSameOr}
 use Rattle.site_store.specs.Sites.{SiteState, is_written, marked, next_mark}
 use Rattle.site_store.specs.Standing.{Fits, Stands}
 use Rattle.site_store.proofs.Calls.{all_same, durable_still}
 use Rattle.site_store.proofs.MarkedSites.{fits_marked, next_is_mark, others_same, sees_marked, stands_marked}
-use Rattle.site_store.proofs.MarkFitting.{fits_still}
+use Rattle.site_store.proofs.Fitting.{fits_still}
 use Rattle.site_store.proofs.Marks.{sees_same_choice}
 use Rattle.site_store.proofs.Syncs.{durable_synced, touches}
 

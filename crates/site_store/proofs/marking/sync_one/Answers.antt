@@ -1,6 +1,6 @@
 use Rattle.std.proofs.Common.{refl}
 use Rattle.crash_plant.specs.declared.device.Device.TheVariants.{Volume}
-use Rattle.site_store.proofs.Syncs.{syncs_here, syncs_one}
+use Rattle.site_store.proofs.Syncs.{syncs_one}
 use Rattle.site_store.proofs.marking.sync_one.Goals as goal
 
 pub returns-then-is_written-clause-syncs : goal.returns-then-is_written-clause-syncs

@@ -1,4 +1,4 @@
-use Rattle.std.proofs.Common.{◌≡◌, ◌-◌, ℕ, List, replicate, length, false, Some, Ok, sym, ap, subst, ◌∙◌}
+use Rattle.std.proofs.Common.{◌≡◌, List, replicate, length, false, Some, Ok, sym, ap, subst, ◌∙◌}
 use Rattle.crash_plant.specs.declared.device.Device.TheVariants.{Control, State}
 use Rattle.crash_plant.specs.Choices.{AllFollow}
 use Rattle.control_set.specs.declared.value.Mark.{Mark}
@@ -8,7 +8,7 @@ use Rattle.pair_table.specs.declared.row.PairRow.{PairRow}
 use Rattle.pair_table.specs.Tables.{are_below}
 use Rattle.state_set.specs.Slots.{state_of}
 use Rattle.site_store.specs.Marking.{IsAmong, PutsMark}
-use Rattle.site_store.specs.Sites.{SiteState, marked, next_mark}
+use Rattle.site_store.specs.Sites.{SiteState, marked}
 use Rattle.site_store.specs.Standing.{Fits, Stands}
 use Rattle.site_store.proofs.Fitting.{reads_choice}
 use Rattle.site_store.proofs.MarkExits.{durable_put, fits_mid, fits_put, is_next, sees_put, sees_synced, stands_put}
