@@ -12,20 +12,23 @@ use Rattle.xrc_journal.proofs.Appends.{same_form}
 use Rattle.site_means.specs.Images.{Shape}
 use Rattle.site_means.proofs.Goes.{shape_same}
 use Rattle.site_store.specs.Sites.{SiteState}
-use Rattle.site_store.specs.Standing.{Fits}
+use Rattle.site_store.specs.Standing.{Fits, HasLengths}
+
+pub lengths_still : (controls : ℕ) (old new : PlantState) → SameSite old new → HasLengths controls old → HasLengths controls new
+lengths_still controls old new same lengths = record {
+  control = omega (arith, lengths.control, same.lengths Control);
+  state = omega (arith, lengths.state, same.lengths State);
+  journals = (omega (arith, lengths.journals.0, same.journals), omega (arith, lengths.journals.1, same.journals));
+  journal = λ j there. omega (arith, lengths.journal j (omega (arith, there, same.journals)), same.lengths (Journal j));
+  volumes = omega (arith, lengths.volumes, same.volumes);
+}
 
 -- The numbers and lengths stay, and so the fit.
 pub fits_still : (site : SiteState) (old new : PlantState) → SameSite old new → NoneLent new → Fits site old → Fits site new
 fits_still site old new same home fits = record {
   home = home;
   controls = fits.controls;
-  lengths = record {
-    control = omega (arith, fits.lengths.control, same.lengths Control);
-    state = omega (arith, fits.lengths.state, same.lengths State);
-    journals = (omega (arith, fits.lengths.journals.0, same.journals), omega (arith, fits.lengths.journals.1, same.journals));
-    journal = λ j there. omega (arith, fits.lengths.journal j (omega (arith, there, same.journals)), same.lengths (Journal j));
-    volumes = omega (arith, fits.lengths.volumes, same.volumes);
-  };
+  lengths = lengths_still site.controls old new same fits.lengths;
   rows = subst (λ (x : Type 0). x) (λ i. IsTrue (list_all (λ row. nat_lt row.device (sym same.volumes i) && nat_le (512 + row.cylinders * 860160) (sym (same.lengths (Volume row.device)) i)) site.table.rows)) fits.rows;
   mark = subst (λ (l : List ℕ). IsMark l site.mark) (sym (ap (λ (s : Shape). s.lengths) (shape_same old new same))) fits.mark;
   session = fits.session;

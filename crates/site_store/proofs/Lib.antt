@@ -11,9 +11,9 @@ pub mod Group
 pub mod Calls
 pub mod MarkEnds
 pub mod Firsts
-pub mod MarkFitting
 pub mod MarkJobs
 pub mod MarkedSites
 pub mod Marks
 pub mod Puts
 pub mod Syncs
+pub mod MarkExits

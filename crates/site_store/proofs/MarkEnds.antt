@@ -8,9 +8,9 @@ use Rattle.crash_plant.specs.declared.device.Device.TheVariants.{Journal}
 use Rattle.crash_plant.specs.declared.spot.Spot.{Spot}
 use Rattle.control_set.specs.declared.value.Mark.{Mark}
 use Rattle.state_set.specs.Slots.{Stored}
-use Rattle.xrc_journal.specs.Items.{Form, Item}
+use Rattle.xrc_journal.specs.Items.{Item}
 use Rattle.xrc_journal.specs.Items.Item.{Image, Delta, Pair, Gone}
-use Rattle.xrc_journal.specs.Walks.{Logged, Walks}
+use Rattle.xrc_journal.specs.Walks.{Walks}
 use Rattle.xrc_journal.proofs.Walking.{walk_shut}
 use Rattle.site_means.specs.declared.means.Means.{Means}
 use Rattle.site_means.specs.Content.{content_by, content_through}
@@ -18,16 +18,11 @@ use Rattle.site_means.specs.Images.{Images, Shape}
 use Rattle.site_means.specs.Meaning.{chosen_in, meaning_in, means_by, stored_in}
 use Rattle.site_means.specs.Meaning.Meaning.{Meant}
 use Rattle.site_means.specs.Walk.{Walk, ends_at, start, turns_at, walk_in}
-use Rattle.site_means.proofs.Found.{group_ends}
 use Rattle.site_means.proofs.Meanings.{by_walk}
 use Rattle.site_means.proofs.OneSet.{walk_alone}
 use Rattle.site_means.proofs.Reaching.{ends_here, meant_by, shut_ends}
 use Rattle.applier.specs.Slots.{HasItem, is_of_track}
-
--- A walk stays in its data set.
-pub walk_set : (form : Form) (sets : ℕ) (b : List ℕ) (from to : Spot) (last time : ℕ) (groups : List Logged) → Walks form sets b from last groups to time → to.set ≡ from.set
-walk_set form sets b from to last time [] w = ap (λ (s : Spot). s.set) w.1
-walk_set form sets b from to last time (g ∷ groups) w = walk_set form sets b w.0 to g.time time groups w.2 ∙ (group_ends form sets b from last g.time g.items w.0 w.1).set
+use Rattle.site_store.proofs.Ends.{walk_stays}
 
 -- The gate at the end of a walk over one data set isn't 1.
 pub end_shut : (shape : Shape) (b : Images) (means : Means) (w : Walk) → meaning_in shape b ≡ Meant means w → w.entered ≡ means.from.set ∷ [] → means.from.number < 2 ^ 64 → slice_index (b (Journal w.at.set)) w.at.place ≢ 1
@@ -38,7 +33,7 @@ end_shut shape b means w meant one lt =
     let good = ap (λ (k : Walk). k.bad) by.walk_is ∙ by.good in
     let alone = ap (λ (k : Walk). k.entered) by.walk_is ∙ one ∙ ap (λ (k : Spot). k.set ∷ []) (sym from) in
     let walks = subst (λ (k : Walk). Walks shape.form shape.sets (b (Journal by.mark.at.set)) by.mark.at by.mark.time.0 k.groups k.at k.last) by.walk_is (walk_alone shape b by.mark by.stored.rows number good alone).0 in
-    let set : w.at.set ≡ by.mark.at.set = walk_set shape.form shape.sets (b (Journal by.mark.at.set)) by.mark.at w.at by.mark.time.0 w.last w.groups walks in
+    let set : w.at.set ≡ by.mark.at.set = walk_stays shape.form shape.sets (b (Journal by.mark.at.set)) by.mark.at w.at by.mark.time.0 w.last w.groups walks in
     subst (λ (k : ℕ). slice_index (b (Journal k)) w.at.place ≢ 1) (sym set) (walk_shut shape.form shape.sets (b (Journal by.mark.at.set)) by.mark.at w.at by.mark.time.0 w.last w.groups walks)
 
 -- A mark before a gate that isn't 1 means what its state slot holds, by a walk without a group.

@@ -1,7 +1,7 @@
 -- Jobs that are at home, and which of them has failed.
-use Rattle.std.proofs.Common.{◌≡◌, inl, inr, ℕ, zero, suc, ◌+◌, ◌≤◌, ◌<◌, Bool, true, false, ◌&&◌, nat_eq, List, [], ◌∷◌, ◌++◌, length, map, replicate, slice_set, slice_index_or, refl, sym, ap, ◌∙◌, arith}
+use Rattle.std.proofs.Common.{◌≡◌, ℕ, zero, suc, ◌+◌, ◌<◌, Bool, true, false, ◌&&◌, nat_eq, List, [], ◌∷◌, ◌++◌, length, map, replicate, slice_set, slice_index_or, refl, sym, ap, ◌∙◌, arith}
 use Rattle.std.specs.Prelude.{is_none}
-use Rattle.std.proofs.lemmas.Bool.{and_parts, cases_lt, eq-eqb, eqb-true}
+use Rattle.std.proofs.lemmas.Bool.{and_parts, eq-eqb, eqb-true}
 use Rattle.xrc_journal.specs.declared.job.VolumeJob.{VolumeJob}
 use Rattle.site_store.specs.Jobs.{are_home_from, has_job_failed}
 use Rattle.site_store.specs.Marking.{IsFirstTrue, NoneTrue}
@@ -14,22 +14,6 @@ true_false b is not = let e : true ≡ false = sym is ∙ not in absurd (cc e)
 pub first_or_none : (bools : List Bool) (place : ℕ) → IsFirstTrue bools place → NoneTrue bools → ⊥
 first_or_none bools place first none = true_false (slice_index_or bools place false) first.is (none place)
 
--- There is one first.
-pub first_is_one : (bools : List Bool) (i j : ℕ) → IsFirstTrue bools i → IsFirstTrue bools j → i ≡ j
-first_is_one bools i j a b = elim (cases_lt i j) [
-  | inl before ↦ absurd (true_false (slice_index_or bools i false) a.is (b.none_before i before))
-  | inr late ↦ elim (cases_lt j i) [
-    | inl behind ↦ absurd (true_false (slice_index_or bools j false) b.is (a.none_before j behind))
-    | inr early ↦ omega (arith, late, early)
-  ]
-]
-
--- behind the end nothing is true
-pub none_behind : (bools : List Bool) (i : ℕ) → length bools ≤ i → slice_index_or bools i false ≡ false
-none_behind [] i le = refl
-none_behind (b ∷ bools) zero le = absurd (omega (arith, le))
-none_behind (b ∷ bools) (suc i) le = none_behind bools i (omega (arith, le))
-
 pub false_more : (n : ℕ) → replicate n false ++ false ∷ [] ≡ replicate (n + 1) false
 false_more zero = refl
 false_more (suc n) = ap (λ (l : List Bool). false ∷ l) (false_more n) ∙ ap (λ (k : ℕ). replicate k false) next
@@ -40,40 +24,8 @@ false_more (suc n) = ap (λ (l : List Bool). false ∷ l) (false_more n) ∙ ap 
 -- ---- jobs
 
 module _ {V : Type 0} where
-  pub failed_at : (jobs : List (VolumeJob V)) (i : ℕ) (d : VolumeJob V) → i < length jobs → slice_index_or (map has_job_failed jobs) i false ≡ (slice_index_or jobs i d).failed
-  failed_at [] i d lt = absurd (omega (arith, lt))
-  failed_at (j ∷ jobs) zero d lt = refl
-  failed_at (j ∷ jobs) (suc i) d lt = failed_at jobs i d (omega (arith, lt))
-
-  pub as_many : (jobs : List (VolumeJob V)) → length (map has_job_failed jobs) ≡ length jobs
-  as_many [] = refl
-  as_many (j ∷ jobs) = ap suc (as_many jobs)
-
-  -- The job at a place is that of the volume with this number, which isn't lent.
-  pub home_at : (first : ℕ) (jobs : List (VolumeJob V)) (i : ℕ) (d : VolumeJob V) → are_home_from first jobs ≡ true → i < length jobs → ((slice_index_or jobs i d).device ≡ first + i) × (is_none (slice_index_or jobs i d).disk ≡ true)
-  home_at first [] i d home lt = absurd (omega (arith, lt))
-  home_at first (j ∷ jobs) zero d home lt =
-      let parts = and_parts (nat_eq j.device first && is_none j.disk) (are_home_from (suc first) jobs) home in
-      let own = and_parts (nat_eq j.device first) (is_none j.disk) parts.0 in
-      (eqb-true j.device first own.0 ∙ omega arith, own.1)
-  home_at first (j ∷ jobs) (suc i) d home lt =
-      let parts = and_parts (nat_eq j.device first && is_none j.disk) (are_home_from (suc first) jobs) home in
-      let more = home_at (suc first) jobs i d parts.1 (omega (arith, lt)) in
-      (more.0 ∙ omega arith, more.1)
-
   is_home : (first : ℕ) (job : VolumeJob V) (jobs : List (VolumeJob V)) → job.device ≡ first → is_none job.disk ≡ true → are_home_from (suc first) jobs ≡ true → are_home_from first (job ∷ jobs) ≡ true
   is_home first job jobs device disk more = (λ i. (eq-eqb job.device first device i && disk i) && more i)
-
-  -- Another job of the volume takes its place.
-  pub home_set : (first : ℕ) (jobs : List (VolumeJob V)) (i : ℕ) (job : VolumeJob V) → are_home_from first jobs ≡ true → job.device ≡ first + i → is_none job.disk ≡ true → are_home_from first (slice_set jobs i job) ≡ true
-  home_set first [] i job home device disk = home
-  home_set first (j ∷ jobs) zero job home device disk =
-      let parts = and_parts (nat_eq j.device first && is_none j.disk) (are_home_from (suc first) jobs) home in
-      is_home first job jobs (device ∙ omega arith) disk parts.1
-  home_set first (j ∷ jobs) (suc i) job home device disk =
-      let parts = and_parts (nat_eq j.device first && is_none j.disk) (are_home_from (suc first) jobs) home in
-      let own = and_parts (nat_eq j.device first) (is_none j.disk) parts.0 in
-      is_home first j (slice_set jobs i job) (eqb-true j.device first own.0) own.1 (home_set (suc first) jobs i job parts.1 (device ∙ omega arith) disk)
 
   -- One more goes behind them.
   pub home_push : (first : ℕ) (jobs : List (VolumeJob V)) (job : VolumeJob V) → are_home_from first jobs ≡ true → job.device ≡ first + length jobs → is_none job.disk ≡ true → are_home_from first (jobs ++ job ∷ []) ≡ true

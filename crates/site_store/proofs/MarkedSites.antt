@@ -4,7 +4,7 @@ use Rattle.std.specs.List.{list_all}
 use Rattle.std.proofs.lemmas.Bool.{and_parts}
 use Rattle.crash_plant.specs.declared.device.Device.{Device}
 use Rattle.crash_plant.specs.declared.device.Device.TheVariants.{Control, State, Journal, Volume}
-use Rattle.crash_plant.specs.Calls.{Elapses, IsPart, IsThere, NoneLent, SameSite}
+use Rattle.crash_plant.specs.Calls.{Elapses, SameSite}
 use Rattle.crash_plant.specs.Choices.{Choice, IsChoice, AllFollow}
 use Rattle.crash_plant.specs.Moments.{PlantState, on, IsDurable}
 use Rattle.crash_plant.proofs.Choices.{choices_then}
@@ -32,13 +32,6 @@ pub in_list : (bools : List Bool) (d : ℕ) → slice_index_or bools d false ≡
 in_list [] d is = absurd cc
 in_list (b ∷ bools) zero is = omega arith
 in_list (b ∷ bools) (suc d) is = let more = in_list bools d is in omega (arith, more)
-
--- Where no volume is lent, calls may name each device.
-pub part_there : (plant : PlantState) (d : Device) → NoneLent plant → IsPart plant d → IsThere plant d
-part_there plant Control home part = tt
-part_there plant State home part = tt
-part_there plant (Journal j) home part = part
-part_there plant (Volume v) home part = (part, home v part)
 
 -- The rows' devices are the plant's.
 pub rows_below : (plant : PlantState) (rows : List PairRow) → list_all (has_volume plant) rows ≡ true → are_below plant.volumes rows ≡ true
@@ -85,12 +78,6 @@ module _ (site : SiteState) (ended : Bool) (plant : PlantState) (f : Fits site p
 
 module _ (old mid new : PlantState) (site : SiteState) (ended : Bool) (stands : Stands site.table.rows site old) (low : site.mark.state_slot ≤ 1) (lt : site.mark.at.number < 2 ^ 64) (same : SameSite old mid) (later : old.clock ≤ mid.clock)
     (synced : AllFollow (λ b c. (d : Device) → c d ≡ b d) old mid) where
-  -- While the volumes are synced all is seen as before.
-  pub sees_synced : AllFollow (SeesSameOr old (SeesMark old site.at ended)) old mid
-  sees_synced t from to c is =
-      let start = synced t from to c is in
-      (start.0, start.1, inl (sees_same_choice old start.0 c start.2))
-
   module _ (still : SameSite mid new) (elapses : Elapses mid new) (puts : AllFollow (PutsMark (lengths_of mid) mid.volumes (next_mark site ended) (record { level = site.level; rows = site.table.rows })) mid new) where
     pub others_same : AllFollow (λ b c. (d : Device) → ¬ IsMarked d → c d ≡ b d) old new
     others_same = choices_then old mid new _ _ _ later synced still elapses puts (λ x y here one d not. one d) (λ x y z here there one two d not. two.others d not ∙ one d)

@@ -1,5 +1,5 @@
 -- What is written where a session starts and where a mark is made, and why that fails.
-use Rattle.std.specs.Prelude.{◌≡◌, ◌≢◌, ◌≤◌, ◌<◌, ◌⊎◌, ℕ, List, Bool, true, false, Some, Ok, slice_index_or}
+use Rattle.std.specs.Prelude.{◌≡◌, ◌≢◌, ◌≤◌, ◌<◌, ◌-◌, ◌^◌, ◌⊎◌, ℕ, List, Bool, true, false, Some, Ok, slice_index_or}
 use Rattle.crash_plant.specs.declared.device.Device.{Device}
 use Rattle.crash_plant.specs.declared.device.Device.TheVariants.{Control, State, Journal, Volume}
 use Rattle.crash_plant.specs.Calls.{WorksOn}
@@ -10,7 +10,9 @@ use Rattle.control_set.specs.Slots.{chosen_mark}
 use Rattle.state_set.specs.Slots.{Stored, state_of}
 use Rattle.site_store.specs.declared.store_error.StoreError.{StoreError}
 use Rattle.site_store.specs.declared.store_error.StoreError.TheVariants as errors
-use Rattle.site_store.specs.Sites.{SiteState}
+use Rattle.xrc_edge.specs.Causes.{Rose}
+use Rattle.site_store.specs.declared.store_error.StoreError.TheVariants.{Fault, Volume as FailedVolume, JournalEnd, Spent, NoMemory}
+use Rattle.site_store.specs.Sites.{SiteState, has_failed, is_written}
 
 -- ---- devices
 
@@ -80,3 +82,14 @@ pub record Syncs (tells : Type 0) (among : Device → Type 0) (old new : PlantSt
   pub same : tells → (d : Device) → new.bytes d ≡ old.bytes d
   pub moments : tells → (d : Device) → Follows Same (on old d) (on new d)
   pub only : WorksOn tells among old new
+
+-- ---- why a mark fails
+
+-- The control or the state fails by its count. A volume fails whose job has failed by then: where none had before, one that was written,
+-- by its count. The numbers are spent where the mark that counts has the last one. Before the last two nothing is written.
+abbrev pub FailsMark : (tells : Type 0) → (site next : SiteState) → (old new : PlantState) → StoreError → Type 0
+FailsMark tells site next old new (Fault d) = IsMarked d × Rose (old.faults d) (new.faults d)
+FailsMark tells site next old new (FailedVolume v) = (has_failed next v ≡ true) × (NoneFailed site → (is_written site v ≡ true) × Rose (old.faults (Volume v)) (new.faults (Volume v))) × WorksOn tells (IsAmong site.written) old new
+FailsMark tells site next old new Spent = (site.mark.number ≡ 2 ^ 64 - 2) × WorksOn tells (IsAmong site.written) old new
+FailsMark tells site next old new JournalEnd = ⊥
+FailsMark tells site next old new NoMemory = ⊥

@@ -5,6 +5,7 @@
 mod applying;
 mod changing;
 mod formatting;
+mod marking;
 mod site;
 mod store_error;
 mod writing;

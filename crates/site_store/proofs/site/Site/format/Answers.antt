@@ -12,7 +12,7 @@ use Rattle.site_store.specs.Sites.{SiteState, new_site}
 use Rattle.site_store.specs.Standing.{Fits, Stands}
 use Rattle.site_store.proofs.Calls.{durable_still}
 use Rattle.site_store.proofs.Firsts.{chosen_first, first_fits, first_is_mark, first_is_next, first_means, first_stands, holds_first, marked_formatted}
-use Rattle.site_store.proofs.MarkFitting.{lengths_still}
+use Rattle.site_store.proofs.Fitting.{lengths_still}
 use Rattle.site_store.proofs.site.Site.format.Goals as goal
 
 pub returns-in_err-shut_all-clause-only : goal.returns-in_err-shut_all-clause-only
