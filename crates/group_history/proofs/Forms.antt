@@ -1,10 +1,9 @@
 -- A form: its cut is the least of its limit and all live floors, the state then follows the longer history, and what it shows is
 -- the history's group.
-use Rattle.std.proofs.Common.{inl, inr, ◌≡◌, ℕ, zero, suc, ◌+◌, ◌<◌, ◌≤◌, min, Bool, true, false, not, cond, nat_eq, nat_lt, nat_le, ◌&&◌, ◌||◌, List, [], ◌∷◌, ◌++◌, length, get_or, take, map, Some, None, refl, sym, ap, subst, ◌∙◌, arith}
+use Rattle.std.proofs.Common.{◌≡◌, ℕ, zero, suc, ◌+◌, ◌<◌, ◌≤◌, min, Bool, true, false, not, cond, nat_lt, nat_le, ◌&&◌, ◌||◌, List, [], ◌∷◌, ◌++◌, length, get_or, take, map, Some, None, refl, sym, ap, subst, ◌∙◌, arith}
 use Rattle.std.specs.Prelude.{◌==◌, filter, fold}
 use Rattle.std.specs.List.{flat_map, range_with_len}
-use Rattle.std.proofs.lemmas.Bool.{cases_Bool, eqb-true, eq-eqb, ne_eqb, eqb-false}
-use Rattle.std.proofs.lemmas.List.{take_more, take_all, get_or-map, map-append}
+use Rattle.std.proofs.lemmas.List.{take_more, take_all, get_or-map, length-map, map-append}
 use Rattle.std.proofs.lemmas.List.Sums.{fold_push}
 use Rattle.tod_stamp.specs.declared.stamp.Stamp.{Stamp}
 use Rattle.cut_core.specs.Events.{Event, floor, has_broken, is_done, is_live}
@@ -27,6 +26,7 @@ use Rattle.group_history.specs.Follows.{AreSeen, IsControlOf}
 use Rattle.group_history.specs.Laws.{ends_at, named, break_in, IsGroupOf}
 use Rattle.group_history.proofs.Seen.{seen_order}
 use Rattle.group_history.proofs.ByControl.{by_control, order_by_control, due_seen}
+use Rattle.group_history.proofs.Told.{at_cut}
 use Rattle.group_history.proofs.Controls.{control_formed}
 use Rattle.group_history.proofs.Stands.{are_below, Stands, below_next}
 
@@ -53,10 +53,6 @@ cut_is n past s limit h = ap (fold lesser limit.0) (sym (take_all n s.controls (
 
 -- ---- the state after it
 
-length_formed : (cut : Stamp) (controls : List ControlState) → length (map (formed cut) controls) ≡ length controls
-length_formed cut [] = refl
-length_formed cut (c ∷ controls) = omega (arith, length_formed cut controls)
-
 formed_control : (n : ℕ) (past : List Event) (s : Group) (cut : Stamp) (k : ℕ) → Stands n past s → k < n → control_at (formed_at cut s) k ≡ formed cut (control_at s k)
 formed_control n past s cut k h lt = get_or-map (formed cut) s.controls k (new_control 0 0 0) (new_control 0 0 0) (omega (arith, lt, h.follows.count))
 
@@ -69,7 +65,7 @@ stands_formed n past s limit h le =
     record {
       follows = record {
         legal = legal_snoc n [] past x h.follows.legal legal;
-        count = length_formed cut s.controls ∙ h.follows.count;
+        count = length-map s.controls (formed cut) ∙ h.follows.count;
         last = sym (cut_snoc past x);
         each = λ k lt. subst (IsControlOf k (past ++ x ∷ [])) (sym (formed_control n past s cut k h lt)) (control_formed k past cut (control_at s k) (kept.breaks k) (h.follows.each k lt));
       };
@@ -94,14 +90,8 @@ entries_shown n past s cut h =
 break_is : (k : ℕ) (past : List Event) (cut : Stamp) (c : ControlState) → c.queue.control ≡ k → breaks_at k (floor k past) past ≡ true → IsControlOf k past c
     → map named (break_of cut c) ≡ map (break_in past) (filter (ends_at cut.0 past) (k ∷ []))
 break_is k past cut c number breaks h =
-    rw (done_form k (floor k past) cut.0 past breaks) (by_phase c.phase (is_done k past) (has_broken k past) (cut.0 == floor k past) (c.floor.0 == cut.0) (sames c.floor.0 cut.0 (floor k past) h.told) refl h.telling h.live)
+    rw (done_form k (floor k past) cut.0 past breaks) (by_phase c.phase (is_done k past) (has_broken k past) (cut.0 == floor k past) (c.floor.0 == cut.0) (at_cut c.floor.0 cut.0 (floor k past) h.told) refl h.telling h.live)
   where
-    sames : (a c f : ℕ) → a ≡ f → (a == c) ≡ (c == f)
-    sames a c f is = elim (cases_Bool (nat_eq a c)) [
-      | inl same ↦ same ∙ sym (eq-eqb c f (sym (eqb-true a c same) ∙ is))
-      | inr other ↦ other ∙ sym (ne_eqb c f (λ e. eqb-false a c other (is ∙ sym e)))
-    ]
-
     by_phase : (phase : Phase) (d b same at : Bool) → at ≡ same → (c.floor.0 == cut.0) ≡ at → is_telling phase ≡ not b → counts phase ≡ not d
         → map named (reported c.queue.control c.floor (cause_at cut c.floor phase)) ≡ map (break_in past) (cond (not d && not (not (d || (b && same)))) (k ∷ []) [])
     by_phase Telling d b same at is here telling live = none d b telling live

@@ -13,3 +13,4 @@ pub mod Causes
 pub mod WorkedRuns
 pub mod Tracks
 pub mod DonePlans
+pub mod CopiedTracks

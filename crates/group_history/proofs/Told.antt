@@ -57,13 +57,20 @@ told_next k past x before upto old new b form break told t tells le telling live
       live = live ∙ sym (ap not (done_stays k past x form ∙ not_done k past none));
     }
 
+-- a time that is a floor is at a cut where the cut is at the floor
+pub at_cut : (a c f : ℕ) → a ≡ f → (a == c) ≡ (c == f)
+at_cut a c f is = elim (cases_Bool (nat_eq a c)) [
+  | inl same ↦ same ∙ sym (eq-eqb c f (sym (eqb-true a c same) ∙ is))
+  | inr other ↦ other ∙ sym (ne_eqb c f (λ e. eqb-false a c other (is ∙ sym e)))
+]
+
 -- a form
 pub told_formed : (k : ℕ) (past : List Event) (cut time : Stamp) (phase : Phase) → breaks_at k (floor k past) past ≡ true → IsTold k past time phase
     → IsTold k (past ++ Form cut.0 ∷ []) time (phase_after cut time phase)
 told_formed k past cut time phase breaks t = record {
   told = omega (arith, t.told, floor_snoc k past (Form cut.0));
   telling = telling_after phase ∙ t.telling ∙ sym (ap not (broken_snoc k past (Form cut.0) ∙ or-false (has_broken k past)));
-  live = live_after phase (is_done k past) (has_broken k past) (cut.0 == floor k past) (sames time.0 cut.0 (floor k past) t.told) t.telling t.live ∙ sym (ap not (done_form k (floor k past) cut.0 past breaks));
+  live = live_after phase (is_done k past) (has_broken k past) (cut.0 == floor k past) (at_cut time.0 cut.0 (floor k past) t.told) t.telling t.live ∙ sym (ap not (done_form k (floor k past) cut.0 past breaks));
 }
   where
     either : (p : Phase → Bool) (same : Bool) (one two : Phase) → p one ≡ p two → p (cond same one two) ≡ p two
@@ -74,12 +81,6 @@ told_formed k past cut time phase breaks t = record {
     telling_after Telling = refl
     telling_after (Broken cause) = either is_telling (time.0 == cut.0) Reported (Broken cause) refl
     telling_after Reported = refl
-
-    sames : (a c f : ℕ) → a ≡ f → (a == c) ≡ (c == f)
-    sames a c f is = elim (cases_Bool (nat_eq a c)) [
-      | inl same ↦ same ∙ sym (eq-eqb c f (sym (eqb-true a c same) ∙ is))
-      | inr other ↦ other ∙ sym (ne_eqb c f (λ e. eqb-false a c other (is ∙ sym e)))
-    ]
 
     live_after : (phase : Phase) (d b same : Bool) → (time.0 == cut.0) ≡ same → is_telling phase ≡ not b → counts phase ≡ not d → counts (phase_after cut time phase) ≡ not (d || (b && same))
     live_after Telling d b same is telling live = telling_live b d telling live

@@ -139,7 +139,7 @@ step_tracks run a s next h may sound made k v =
 
 -- ---- runs
 
-event_last : (done : List Answer) (a : Answer) → with_event (history done) (event_of a) ≡ history (done ++ a ∷ [])
+pub event_last : (done : List Answer) (a : Answer) → with_event (history done) (event_of a) ≡ history (done ++ a ∷ [])
 event_last done a = sym (append-nil (with_event (history done) (event_of a))) ∙ event_first (history done) (event_of a) [] ∙ sym (filter_map-append event_of done (a ∷ []))
 
 pub tracks_after : (n : ℕ) (done run : List Answer) (s end : Group) → HaveTracks done s → Stands n (history done) s → Runs s run end → HaveTracks (done ++ run) end

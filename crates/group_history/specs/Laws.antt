@@ -2,10 +2,11 @@
 use Rattle.std.specs.Prelude.{◌≡◌, ℕ, ◌<◌, ◌&&◌, not, List, [], ◌∷◌, ◌++◌, length, map, filter, fold, count_by, Bool, Some, nat_lt, nat_le, if◌then◌else◌, IsTrue}
 use Rattle.std.specs.List.{list_all, list_any, range_with_len, All, Contains}
 use Rattle.tod_stamp.specs.declared.stamp.Stamp.{Stamp}
+use Rattle.ckd_track.specs.declared.rec.Rec.{Rec}
 use Rattle.ckd_track.specs.declared.write.Batch.{Batch}
 use Rattle.ckd_track.specs.declared.write.Cause.{Cause}
 use Rattle.xrc_edge.specs.Order.{in_order}
-use Rattle.pending_queue.specs.Entries.{WaitingEntry, stamp_of}
+use Rattle.pending_queue.specs.Entries.{WaitingEntry, copy_head, copy_of, stamp_of}
 use Rattle.cut_core.specs.Events.{Event, floor, is_live, last_cut}
 use Rattle.cut_core.specs.Events.Event.{Form as Forms}
 use Rattle.cut_core.specs.Shares.{names_volume, share}
@@ -14,7 +15,7 @@ use Rattle.cut_core.specs.Legal.{least_floor}
 use Rattle.cut_core.specs.Cuts.{kept_writes}
 use Rattle.group_state.specs.Groups.{Group, Shown, new_group}
 use Rattle.group_state.specs.Machine.{Call, Reply}
-use Rattle.group_state.specs.Machine.Call.{Join, Break, Form, Carry}
+use Rattle.group_state.specs.Machine.Call.{Join, Copied, Break, Form, Carry}
 use Rattle.group_state.specs.Machine.Reply.{Made, Joined}
 use Rattle.group_history.specs.Runs.{Answer, Runs, history, shown_by}
 use Rattle.group_history.specs.Follows.{AreSeen, Follows}
@@ -59,6 +60,56 @@ pub record IsGroupOf (controls : ℕ) (limit : Stamp) (past : List Event) (shown
 abbrev pub FormsGiveGroups : Type 0
 FormsGiveGroups = (controls : ℕ) (before later : List Answer) (limit : Stamp) (shown : Shown) → HasForm controls before later limit shown → IsGroupOf controls limit (history before) shown
 
+-- ---- breaks
+
+abbrev pub broke : ℕ × Stamp × Cause → Answer
+broke shown = record { call = Break shown.0 shown.1 shown.2; reply = Made }
+
+-- Each break that a form shows was told so by a call before.
+abbrev pub BreaksWereTold : Type 0
+BreaksWereTold = (controls : ℕ) (before later : List Answer) (limit : Stamp) (shown : Shown) → HasForm controls before later limit shown → All (λ b. Contains before (broke b)) shown.breaks
+
+-- ---- copied tracks
+
+abbrev pub copied : WaitingEntry → (slot : List Rec) → Answer
+copied w slot = record { call = Copied w.head.control w.head.volume w.head.track w.head.stamp slot; reply = Joined }
+
+-- A call before joined the copied track: the entry is a write of the whole track that was in its slot.
+pub record WasCopied (run : List Answer) (w : WaitingEntry) : Type 0 where
+  pub slot : List Rec
+  pub is : w ≡ copy_of (copy_head w.head.control w.head.volume w.head.track w.head.stamp) slot
+  pub told : Contains run (copied w slot)
+
+abbrev pub CopiesWereTold : Type 0
+CopiesWereTold = (controls : ℕ) (before later : List Answer) (limit : Stamp) (shown : Shown) → HasForm controls before later limit shown → All (λ w. IsTrue w.is_copy → WasCopied before w) shown.entries
+
+-- ---- done plans
+
+-- how many tracks a volume of a control has: those of the plan with which it began to be carried last
+abbrev pub tracks_by : (k v : ℕ) → (tracks : ℕ) → Call → Reply → ℕ
+tracks_by k v n (Carry j u plan) Made = if names_volume j u k v then length plan.wanted else n
+tracks_by k v n call reply = n
+
+abbrev pub tracks_told : (k v : ℕ) → List Answer → ℕ
+tracks_told k v run = fold (λ n answer. tracks_by k v n answer.call answer.reply) 0 run
+
+-- whether an entry is a copied track of control k's volume v
+abbrev pub is_copy_on : (k v : ℕ) → Entry → Bool
+is_copy_on k v e = names_volume e.control e.volume k v && is_copy e
+
+-- A volume of so many tracks is carried, none of its tracks is wanted, and no copied track of it waits.
+abbrev pub is_plan_done : (k v tracks : ℕ) → List Event → Bool
+is_plan_done k v tracks past =
+    (share k v 0 past).is_carried && list_all (λ x. not (share k v x past).is_wanted) (range_with_len 0 tracks) && not (list_any (is_copy_on k v) (waiting_in [] past))
+
+abbrev pub is_named : (k v : ℕ) → ℕ × ℕ → Bool
+is_named k v shown = names_volume shown.0 shown.1 k v
+
+-- A form shows exactly the volumes whose plans are done after it, each once.
+abbrev pub DonePlansAreShown : Type 0
+DonePlansAreShown = (controls : ℕ) (before later : List Answer) (limit : Stamp) (shown : Shown) (k v : ℕ) → k < controls → HasForm controls before later limit shown
+    → count_by (is_named k v) shown.done ≡ (if is_plan_done k v (tracks_told k v before) (history before ++ Forms shown.cut.0 ∷ []) then 1 else 0)
+
 -- ---- no late join
 
 abbrev pub joined : Batch → Answer
@@ -88,39 +139,3 @@ pub record IsComplete (before run : List Event) (shown : Shown) : Type 0 where
 abbrev pub FormsAreComplete : Type 0
 FormsAreComplete = (controls : ℕ) (before later : List Answer) (limit : Stamp) (shown : Shown) → HasForm controls before later limit shown
     → IsComplete (history before) (history before ++ Forms shown.cut.0 ∷ history later) shown
-
--- ---- breaks
-
-abbrev pub broke : ℕ × Stamp × Cause → Answer
-broke shown = record { call = Break shown.0 shown.1 shown.2; reply = Made }
-
--- Each break that a form shows was told so by a call before.
-abbrev pub BreaksWereTold : Type 0
-BreaksWereTold = (controls : ℕ) (before later : List Answer) (limit : Stamp) (shown : Shown) → HasForm controls before later limit shown → All (λ b. Contains before (broke b)) shown.breaks
-
--- ---- done plans
-
--- how many tracks a volume of a control has: those of the plan with which it began to be carried last
-abbrev pub tracks_by : (k v : ℕ) → (tracks : ℕ) → Call → Reply → ℕ
-tracks_by k v n (Carry j u plan) Made = if names_volume j u k v then length plan.wanted else n
-tracks_by k v n call reply = n
-
-abbrev pub tracks_told : (k v : ℕ) → List Answer → ℕ
-tracks_told k v run = fold (λ n answer. tracks_by k v n answer.call answer.reply) 0 run
-
--- whether an entry is a copied track of control k's volume v
-abbrev pub is_copy_on : (k v : ℕ) → Entry → Bool
-is_copy_on k v e = names_volume e.control e.volume k v && is_copy e
-
--- A volume of so many tracks is carried, none of its tracks is wanted, and no copied track of it waits.
-abbrev pub is_plan_done : (k v tracks : ℕ) → List Event → Bool
-is_plan_done k v tracks past =
-    (share k v 0 past).is_carried && list_all (λ x. not (share k v x past).is_wanted) (range_with_len 0 tracks) && not (list_any (is_copy_on k v) (waiting_in [] past))
-
-abbrev pub is_named : (k v : ℕ) → ℕ × ℕ → Bool
-is_named k v shown = names_volume shown.0 shown.1 k v
-
--- A form shows exactly the volumes whose plans are done after it, each once.
-abbrev pub DonePlansAreShown : Type 0
-DonePlansAreShown = (controls : ℕ) (before later : List Answer) (limit : Stamp) (shown : Shown) (k v : ℕ) → k < controls → HasForm controls before later limit shown
-    → count_by (is_named k v) shown.done ≡ (if is_plan_done k v (tracks_told k v before) (history before ++ Forms shown.cut.0 ∷ []) then 1 else 0)

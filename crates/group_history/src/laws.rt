@@ -1,6 +1,6 @@
 //! The laws of runs.
 
-ghost use Rattle.group_history.specs.Laws.{RunsAreHistories, FormsGiveGroups, BreaksWereTold, DonePlansAreShown, NoLateJoin, FormsAreComplete};
+ghost use Rattle.group_history.specs.Laws.{RunsAreHistories, FormsGiveGroups, BreaksWereTold, CopiesWereTold, DonePlansAreShown, NoLateJoin, FormsAreComplete};
 
 /// A run of calls is a legal history, and what the state keeps after it is the history's: floors, breaks, the last cut, what is
 /// carried, wanted and mapped, and what waits. So the theorem on cuts speaks of this state.
@@ -9,10 +9,12 @@ pub fn runs_are_histories()
 {}
 
 /// What a form shows is the history's group at the least of its limit and all live floors, with each break whose time is that
-/// cut and which no form has had as cut before, as a call told it, and each volume whose plan is done after it, once.
+/// cut and which no form has had as cut before, as a call told it, with the
+/// content of each copied track that a call gave, and each volume whose plan is done after it, once.
 pub fn forms_give_groups()
     ensures groups { FormsGiveGroups }
     ensures breaks { BreaksWereTold }
+    ensures copies { CopiesWereTold }
     ensures done { DonePlansAreShown }
 {}
 

@@ -1,5 +1,6 @@
 use Rattle.group_history.proofs.RunLaws.{forms_give_groups}
 use Rattle.group_history.proofs.Causes.{breaks_were_told}
+use Rattle.group_history.proofs.CopiedTracks.{copies_were_told}
 use Rattle.group_history.proofs.DonePlans.{done_plans_are_shown}
 use Rattle.group_history.proofs.laws.forms_give_groups.Goals as goal
 
@@ -11,3 +12,6 @@ returns-clause-breaks c = breaks_were_told
 
 pub returns-clause-done : goal.returns-clause-done
 returns-clause-done c = done_plans_are_shown
+
+pub returns-clause-copies : goal.returns-clause-copies
+returns-clause-copies c = copies_were_told
