@@ -58,7 +58,7 @@ fn give_back_own<P: Plant>(plant: &mut P, job: &mut VolumeJob<P::Volume>)
     }
 }
 
-/// Gives back each job's disk, in order of the jobs.
+/// Gives back each job's disk.
 pub fn give_back_all<P: Plant>(plant: &mut P, jobs: &mut [VolumeJob<P::Volume>])
     requires out { (start : P) × (lent : List (VolumeJob P.Volume)) × AreOut P.tells P.Volume.tells P.Volume.state (P.state start) (P.state plant.old) lent jobs.old }
     ensures jobs { jobs.new ≡ map without_disk jobs.old }

@@ -4,13 +4,15 @@ use Rattle.xrc_edge.specs.Causes.{Rose}
 use Rattle.crash_plant.specs.declared.device.Device.{Device}
 use Rattle.crash_plant.specs.declared.device.Device.TheVariants.{Journal}
 use Rattle.crash_plant.specs.declared.spot.Spot.{Spot}
+use Rattle.crash_plant.specs.Bytes.{Torn}
 use Rattle.crash_plant.specs.Calls.{WorksOn}
 use Rattle.crash_plant.specs.Choices.{AllFollow, Choice}
 use Rattle.crash_plant.specs.Moments.{Follows, IsDurable, PlantState, Stays, on}
 use Rattle.crash_plant.proofs.Choices.{choices_here, device_cases}
-use Rattle.crash_plant.proofs.Steps.{none_lent_then}
+use Rattle.crash_plant.proofs.Steps.{follows_here, none_lent_then}
+use Rattle.gates.proofs.Behind.{torn_here}
 use Rattle.pair_table.specs.declared.row.PairRow.{PairRow}
-use Rattle.xrc_journal.specs.Items.{Item, body_spelling, form_of}
+use Rattle.xrc_journal.specs.Items.{Form, Item, body_spelling, form_of}
 use Rattle.xrc_journal.specs.Records.{spot_after}
 use Rattle.xrc_journal.specs.Walks.{Adds, Appends, Logged}
 use Rattle.site_store.specs.declared.store_error.StoreError.TheVariants.{Fault, JournalEnd}
@@ -108,3 +110,15 @@ fault_cause set j before now is rose = record {
   volume = λ v e. absurd (cc e);
   memory = λ e. absurd (cc e);
 }
+
+-- ---- what is left of the journal
+
+pub nothing_torn : (plant : PlantState) (at : Spot) (n : ℕ) → Follows (Torn at.place n) (on plant (Journal at.set)) (on plant (Journal at.set))
+nothing_torn plant at n = follows_here (on plant (Journal at.set)) (Torn at.place n) (λ b left. torn_here at.place n b)
+
+-- All but the record's bytes and those of both gates is as it was.
+pub elsewhere : (form : Form) (sets cut : ℕ) (marked at spot : Spot) (held items : List Item) (old new : PlantState) → at ≡ spot → held ≡ items → Follows (Appends form sets marked at (record { time = cut; items = held })) (on old (Journal at.set)) (on new (Journal at.set))
+    → Follows (Torn spot.place (length (body_spelling items) + 23)) (on old (Journal spot.set)) (on new (Journal spot.set))
+elsewhere form sets cut marked at spot held items old new at_is held_is appends =
+    subst (λ (x : Type 0). x) (λ i. Follows (Torn (at_is i).place (length (body_spelling (held_is i)) + 23)) (on old (Journal (at_is i).set)) (on new (Journal (at_is i).set)))
+    (λ t from to c left. let start = appends t from to c left in (start.0, start.1, start.2.elsewhere))

@@ -1,3 +1,4 @@
+pub mod Formats
 pub mod Jobs
 pub mod Sites
 pub mod Standing
@@ -5,3 +6,5 @@ pub mod Sees
 pub mod Changes
 pub mod Applies
 pub mod Marking
+pub mod GroupRows
+pub mod Groups

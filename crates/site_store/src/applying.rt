@@ -118,6 +118,9 @@ impl<V> Site<V> {
         ensures stands { P.tells → Stands self.new.table.rows self.new (P.state plant.new) }
         // At every moment the same is seen.
         ensures moments { P.tells → AllFollow (SeesSame (P.state plant.old)) (P.state plant.old) (P.state plant.new) }
+        // Outside the slots of the waiting items' tracks each volume is as before, at every moment.
+        ensures slots { P.tells → (d : ℕ) → d < (P.state plant.old).volumes → DiffersInSlots d self.old.waiting ((P.state plant.old).bytes (VolumeDevice d)) ((P.state plant.new).bytes (VolumeDevice d)) }
+        ensures slot_moments { P.tells → (d : ℕ) → d < (P.state plant.old).volumes → Follows (DiffersInSlots d self.old.waiting) (on (P.state plant.old) (VolumeDevice d)) (on (P.state plant.new) (VolumeDevice d)) }
         // All but volumes is as before.
         ensures only { WorksWithin P.tells IsVolume (P.state plant.old) (P.state plant.new) }
     {

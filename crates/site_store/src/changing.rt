@@ -5,6 +5,7 @@ ghost use Rattle.xrc_edge.specs.Causes.{Rose};
 ghost use Rattle.crash_plant.specs.declared.device.Device.{Device as DeviceValue};
 ghost use Rattle.crash_plant.specs.declared.device.Device.TheVariants.{Journal as JournalDevice};
 ghost use Rattle.crash_plant.specs.declared.spot.Spot.{Spot as SpotValue};
+ghost use Rattle.crash_plant.specs.Bytes.{Torn};
 ghost use Rattle.crash_plant.specs.Calls.{IsThere, WorksOn};
 ghost use Rattle.crash_plant.specs.Choices.{AllFollow};
 ghost use Rattle.crash_plant.specs.Moments.{on, Follows, IsDurable, Stays};
@@ -87,6 +88,8 @@ impl<V> Site<V> {
         ensures stands { P.tells → OnOk result (Stands self.new.table.rows self.new (P.state plant.new)) }
         // At every moment the old is seen, or the cut with the table's rows and the content as it was.
         ensures moments { P.tells → AllFollow (SeesSameOr (P.state plant.old) (SeesRows (P.state plant.old) cut.0 self.old.table.rows)) (P.state plant.old) (P.state plant.new) }
+        // Of the journal nothing changes before the spot, or behind the gate that follows the record.
+        ensures elsewhere { P.tells → Follows (Torn self.old.at.place (length (body_spelling (changed_items change.now self.old.table.rows)) + 23)) (on (P.state plant.old) (JournalDevice self.old.at.set)) (on (P.state plant.new) (JournalDevice self.old.at.set)) }
         // A change that alters no row calls nothing.
         ensures nothing { changed_items change.now self.old.table.rows ≡ [] → IsOk result × (plant.new ≡ plant.old) }
         // All else is as before, on all devices and the console.

@@ -5,14 +5,16 @@ ghost use Rattle.xrc_edge.specs.Causes.{HasCause, Rose};
 ghost use Rattle.crash_plant.specs.declared.device.Device.{Device as AnyDevice};
 ghost use Rattle.crash_plant.specs.declared.device.Device.TheVariants.{Control, State, Journal as JournalDevice};
 ghost use Rattle.crash_plant.specs.Bytes.{Torn};
-ghost use Rattle.crash_plant.specs.Choices.{Choice, IsChoice};
-ghost use Rattle.crash_plant.specs.Moments.{on, IsDurable};
+ghost use Rattle.crash_plant.specs.Choices.{AllFollow, Choice, IsChoice};
+ghost use Rattle.crash_plant.specs.Moments.{on, Follows, IsDurable};
 ghost use Rattle.crash_plant.specs.Calls.{NoneLent, WorksOn};
-ghost use Rattle.control_set.specs.Slots.{NoGateOpen};
+ghost use Rattle.gates.specs.Gates.{Shuts};
+ghost use Rattle.control_set.specs.Slots.{NoGateOpen, lengths_of};
 ghost use Rattle.state_set.specs.Slots.{started_table};
 ghost use Rattle.site_means.specs.Sight.{means_of};
 ghost use Rattle.site_store.specs.declared.store_error.StoreError.{StoreError as AnyError};
 ghost use Rattle.site_store.specs.declared.store_error.StoreError.TheVariants.{Fault, NoMemory as Memory};
+ghost use Rattle.site_store.specs.Formats.{IsSettledAt, ShutsOrMeans, ShutsSlots, started_means};
 ghost use Rattle.site_store.specs.Jobs.{are_home_from, body_room, has_job_failed};
 ghost use Rattle.site_store.specs.Marking.{IsFormatted, error_of};
 ghost use Rattle.site_store.specs.Sites.{first_mark, first_spot, new_site};
@@ -46,6 +48,7 @@ fn shut_gate<P: Plant>(plant: &mut P, place: u64) -> Result<(), Failed>
     requires { place + 1 ≤ (P.state plant.old).lengths Control }
     ensures shut { P.tells → OnOk result (slice_index ((P.state plant.new).bytes Control) place ≢ 1) }
     ensures torn { P.tells → Torn place 1 ((P.state plant.old).bytes Control) ((P.state plant.new).bytes Control) }
+    ensures moments { P.tells → IsSettledAt place (on (P.state plant.old) Control) → Follows (Shuts place) (on (P.state plant.old) Control) (on (P.state plant.new) Control) }
     ensures only { WorksOn P.tells (λ d. d ≡ Control) (P.state plant.old) (P.state plant.new) }
     ensures cause { HasCause ((P.state plant.old).faults Control) ((P.state plant.new).faults Control) result }
 {
@@ -62,6 +65,7 @@ fn shut_gates<P: Plant>(plant: &mut P) -> Result<(), Failed>
     requires { 1024 ≤ (P.state plant.old).lengths Control }
     ensures shut { P.tells → OnOk result (NoGateOpen ((P.state plant.new).bytes Control)) }
     ensures durable { P.tells → OnOk result (IsDurable (on (P.state plant.new) Control)) }
+    ensures moments { P.tells → IsDurable (on (P.state plant.old) Control) → Follows (ShutsSlots (lengths_of (P.state plant.old))) (on (P.state plant.old) Control) (on (P.state plant.new) Control) }
     ensures only { WorksOn P.tells (λ d. d ≡ Control) (P.state plant.old) (P.state plant.new) }
     ensures cause { HasCause ((P.state plant.old).faults Control) ((P.state plant.new).faults Control) result }
 {
@@ -79,6 +83,7 @@ fn shut_all<P: Plant>(plant: &mut P) -> Result<(), StoreError>
     ensures first { P.tells → OnOk result (slice_index ((P.state plant.new).bytes (JournalDevice 0)) 0 ≢ 1) }
     ensures durable_control { P.tells → OnOk result (IsDurable (on (P.state plant.new) Control)) }
     ensures durable_journal { P.tells → OnOk result (IsDurable (on (P.state plant.new) (JournalDevice 0))) }
+    ensures moments { P.tells → IsDurable (on (P.state plant.old) Control) → Follows (ShutsSlots (lengths_of (P.state plant.old))) (on (P.state plant.old) Control) (on (P.state plant.new) Control) }
     ensures only { WorksOn P.tells IsFormatted (P.state plant.old) (P.state plant.new) }
     ensures error { (e : AnyError) → IsErrOf result e → (d : AnyDevice) × (e ≡ Fault d) × IsFormatted d × Rose ((P.state plant.old).faults d) ((P.state plant.new).faults d) }
     ensures others { (d : AnyDevice) → ¬ IsErrOf result (error_of d) → (P.state plant.new).faults d ≡ (P.state plant.old).faults d }
@@ -174,6 +179,9 @@ impl<V: Drop> Site<V> {
         ensures means { P.tells → OnOk result ((c : Choice) → IsChoice (P.state plant.new) (P.state plant.new).clock c →
             means_of (P.state plant.new) c ≡ Some (record { session = session; level = level; time = at; table = started_table session []; from = first_spot; ended = false })) }
         ensures stands { P.tells → IfOk result (λ site. Stands [] site (P.state plant.new)) }
+        // At every moment, also of a start that fails, each slot of the control is as it was, or closed, until whatever a crash leaves
+        // means the new session.
+        ensures moments { P.tells → IsDurable (on (P.state plant.old) Control) → AllFollow (ShutsOrMeans (P.state plant.old) (started_means session level at)) (P.state plant.old) (P.state plant.new) }
         ensures only { WorksOn P.tells IsFormatted (P.state plant.old) (P.state plant.new) }
         // Why it fails.
         ensures errors { (e : AnyError) → IsErrOf result e → e ≢ Memory → (d : AnyDevice) × (e ≡ Fault d) × IsFormatted d × Rose ((P.state plant.old).faults d) ((P.state plant.new).faults d) }

@@ -5,7 +5,10 @@
 mod applying;
 mod changing;
 mod formatting;
+mod group_rows;
+mod logging;
 mod marking;
+mod recording;
 mod site;
 mod store_error;
 mod writing;

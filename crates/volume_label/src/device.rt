@@ -1,6 +1,6 @@
 //! The label on a device.
 
-ghost use Rattle.std.specs.Prelude.{◌≡◌, ◌≤◌, ◌<◌, ◌^◌, take, IfOk, IfSome, IsTrue, OnOk, Some};
+ghost use Rattle.std.specs.Prelude.{◌≡◌, ◌≤◌, ◌<◌, ◌^◌, take, IfOk, IfSome, IsTrue, None, Ok, OnOk, Some};
 ghost use Rattle.xrc_edge.specs.Causes.{HasCause};
 ghost use Rattle.crash_plant.specs.declared.device.Device.TheVariants.{Volume};
 ghost use Rattle.crash_plant.specs.Bytes.{patched, Torn};
@@ -17,6 +17,8 @@ pub fn read_label<P: Plant>(plant: &mut P, device: u16) -> Result<Option<Label>,
     requires { IsThere (P.state plant.old) (Volume device) }
     // What the first bytes that a read gives are.
     ensures label { P.tells → IfOk result (λ label. label ≡ label_of ((P.state plant.old).lengths (Volume device)) (take 14 ((P.state plant.old).bytes (Volume device)))) }
+    // One of fewer than 14 bytes has none, and isn't called.
+    ensures short { (P.state plant.old).lengths (Volume device) < 14 → (result ≡ Ok None) × (plant.new ≡ plant.old) }
     // Whatever a read gave, the device has room for the label's cylinders.
     ensures room { IfOk result (λ label. IfSome label (λ l. IsTrue (has_room ((P.state plant.old).lengths (Volume device)) l.cylinders))) }
     // What a read gives stays, and a crash leaves nothing that it couldn't leave before; all else is as before.

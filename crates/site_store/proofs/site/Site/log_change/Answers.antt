@@ -15,7 +15,7 @@ use Rattle.site_store.specs.Changes.{HasRecordCause, RefusesRecord, SeesRows, ch
 use Rattle.site_store.specs.Sites.{SiteState}
 use Rattle.site_store.specs.Standing.{Fits, Stands}
 use Rattle.site_store.proofs.Ends.{all_end, alone}
-use Rattle.site_store.proofs.Exits.{all_stay, fault_cause, fits, only_there, refuses_end, refuses_fault, refuses_ok, seen, sees, sees_here, stands, stands_here}
+use Rattle.site_store.proofs.Exits.{all_stay, elsewhere, fault_cause, fits, only_there, nothing_torn, refuses_end, refuses_fault, refuses_ok, seen, sees, sees_here, stands, stands_here}
 use Rattle.site_store.proofs.Fitting.{reads_choice}
 use Rattle.site_store.proofs.RowItems.{AreRowItems, changes_rows, keep_anywhere}
 use Rattle.site_store.proofs.site.Site.log_change.Goals as goal
@@ -233,3 +233,35 @@ returns-in-Err-Fault-clause-cause g c =
     let held : c.take_change.new.body.items ≡ items = ap (λ (h : Held). h.items) c.take_change.ensures ∙ ap (λ (s : SiteState). changed_items c.args.change.now s.table.rows) c.self.view_is in
     let why = c.in-Err-Fault.ensures.fault c.in-Err-Fault.set (ap (λ (e : AppendError). Err e) c.in-Err-Fault.field-0-is) in
     subst (λ (j : ℕ). HasRecordCause site.at.set old.faults new.faults (Err (Fault (Journal j)))) (sym c.in-Err-Fault.set-is) (fault_cause site.at.set c.in-Err-Fault.set old.faults new.faults (why.0 ∙ ap (λ (s : Spot). s.set) at) why.1)
+
+-- ---- what is left of the journal
+
+pub returns-then-is_empty-clause-elsewhere : goal.returns-then-is_empty-clause-elsewhere
+returns-then-is_empty-clause-elsewhere g c told = nothing_torn (g.P.Plant.state c.args.plant.now) c.args.self.now.at (length (body_spelling (changed_items c.args.change.now c.args.self.now.table.rows)) + 23)
+
+pub returns-then-self-clause-elsewhere : goal.returns-then-self-clause-elsewhere
+returns-then-self-clause-elsewhere g c told = nothing_torn (g.P.Plant.state c.args.plant.now) c.args.self.now.at (length (body_spelling (changed_items c.args.change.now c.args.self.now.table.rows)) + 23)
+
+pub returns-in-Ok-clause-elsewhere : goal.returns-in-Ok-clause-elsewhere
+returns-in-Ok-clause-elsewhere g c told =
+    let old = g.P.Plant.state c.args.plant.now in
+    let new = g.P.Plant.state c.append.new.plant in
+    let held = ap (λ (h : Held). h.items) c.take_change.ensures ∙ ap (λ (s : SiteState). changed_items c.args.change.now s.table.rows) c.self.view_is in
+    elsewhere (form_of old) old.journals c.args.cut.0 c.self.inside.journal.marked c.self.inside.journal.at c.args.self.now.at c.take_change.new.body.items (changed_items c.args.change.now c.args.self.now.table.rows) old new
+    (ap (λ (s : SiteState). s.at) c.self.view_is) held (c.append.ensures.moments told)
+
+pub returns-in-Err-NoRoom-clause-elsewhere : goal.returns-in-Err-NoRoom-clause-elsewhere
+returns-in-Err-NoRoom-clause-elsewhere g c told =
+    let old = g.P.Plant.state c.args.plant.now in
+    let new = g.P.Plant.state c.append.new.plant in
+    let held = ap (λ (h : Held). h.items) c.take_change.ensures ∙ ap (λ (s : SiteState). changed_items c.args.change.now s.table.rows) c.self.view_is in
+    elsewhere (form_of old) old.journals c.args.cut.0 c.self.inside.journal.marked c.self.inside.journal.at c.args.self.now.at c.take_change.new.body.items (changed_items c.args.change.now c.args.self.now.table.rows) old new
+    (ap (λ (s : SiteState). s.at) c.self.view_is) held (c.append.ensures.moments told)
+
+pub returns-in-Err-Fault-clause-elsewhere : goal.returns-in-Err-Fault-clause-elsewhere
+returns-in-Err-Fault-clause-elsewhere g c told =
+    let old = g.P.Plant.state c.args.plant.now in
+    let new = g.P.Plant.state c.append.new.plant in
+    let held = ap (λ (h : Held). h.items) c.take_change.ensures ∙ ap (λ (s : SiteState). changed_items c.args.change.now s.table.rows) c.self.view_is in
+    elsewhere (form_of old) old.journals c.args.cut.0 c.self.inside.journal.marked c.self.inside.journal.at c.args.self.now.at c.take_change.new.body.items (changed_items c.args.change.now c.args.self.now.table.rows) old new
+    (ap (λ (s : SiteState). s.at) c.self.view_is) held (c.append.ensures.moments told)

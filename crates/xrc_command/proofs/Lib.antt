@@ -1,0 +1,5 @@
+pub mod CommandReading
+pub mod LineReading
+pub mod OperandReading
+pub mod PartReading
+pub mod ShortLines

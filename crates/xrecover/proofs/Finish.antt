@@ -1,0 +1,98 @@
+-- A recovery by its steps: what was read first, and the pairs that were redone then.
+use Rattle.std.proofs.Common.{◌≡◌, ◌⊎◌, ◌≤◌, inl, inr, ℕ, List, Result, Ok, Err, None, refl, sym, ap, subst, ◌∙◌, arith}
+use Rattle.std.specs.Prelude.{All, Contains, IsErrOf, slice_index_or}
+use Rattle.xrc_edge.specs.Causes.{Rose}
+use Rattle.crash_plant.specs.declared.device.Device.{Device}
+use Rattle.crash_plant.specs.declared.device.Device.TheVariants.{Control, State, Journal, Volume}
+use Rattle.crash_plant.specs.Moments.{PlantState}
+use Rattle.control_set.specs.declared.value.Mark.{Mark}
+use Rattle.pair_table.specs.declared.row.PairRow.{PairRow}
+use Rattle.site_means.specs.declared.means.Means.{Means}
+use Rattle.site_means.specs.declared.site_error.SiteError.{SiteError}
+use Rattle.site_means.specs.declared.site_error.SiteError.TheVariants.{NoSession, Damaged, Fault, TooSmall, NoMemory}
+use Rattle.site_means.specs.Answers.{ReadsAll}
+use Rattle.site_means.specs.Meaning.{Meaning}
+use Rattle.site_means.specs.Sight.{meant_by, walked, walked_by}
+use Rattle.site_means.proofs.Meanings.{same_seen, seen_meaning, seen_reached}
+use Rattle.xrc_journal.specs.Items.{Item}
+use Rattle.xrecover.specs.declared.recover_error.RecoverError.{RecoverError}
+use Rattle.xrecover.specs.declared.recover_error.RecoverError.TheVariants.{Site, Other}
+use Rattle.xrecover.specs.Answers.{EndsLate, HasWalk, IsEarly, IsLate, IsOf, IsRecoverable, Says}
+use Rattle.xrecover.specs.Pairs.{AreFaulty, HasFailure, is_duplex}
+use Rattle.xrecover.specs.Redone.{Draws, IsRedone, Recovers, Redone, meant_rows, rows_of}
+use Rattle.xrecover.specs.Works.{Nothing, Works}
+use Rattle.xrecover.proofs.Later.{walk_later}
+use Rattle.xrecover.proofs.Relations.{recovers_same}
+use Rattle.xrecover.proofs.Works.{works_more, works_reads, works_trans}
+
+-- ---- errors
+
+-- An error says the same whatever would have been good.
+pub says_as : {X Y : Type 0} (plant : PlantState) (session : List ℕ) (good : X → Type 0) (other : Y → Type 0) (e : RecoverError) → (let r : Result X RecoverError = Err e in Says plant session good r) → (let r : Result Y RecoverError = Err e in Says plant session other r)
+says_as plant session good other (Other name) s = s
+says_as plant session good other (Site NoSession) s = s
+says_as plant session good other (Site (Damaged d place)) s = s
+says_as plant session good other (Site (Fault d)) s = s
+says_as plant session good other (Site (TooSmall d needed)) s = s
+says_as plant session good other (Site NoMemory) s = s
+
+pub ends_late : (plant : PlantState) (e : RecoverError) → IsLate plant e → EndsLate e
+ends_late plant e (inl is) = subst (λ (k : RecoverError). EndsLate k) (sym is) tt
+ends_late plant e (inr fault) = subst (λ (k : RecoverError). EndsLate k) (sym fault.1) tt
+
+-- Nothing was written where that is told of no plant.
+pub no_writes : (tells : Type 0) (step : Device → List ℕ → List ℕ → Type 0) (old new : PlantState) → ¬ tells → Works tells step old new → Works tells Nothing old new
+no_writes tells step old new none works = works_more tells step Nothing old new (λ told d x y p. absurd (none told)) works
+
+module _ (tells : Type 0) (old one : PlantState) (reads : ReadsAll tells old one) where
+  -- only reads so far
+  pub read_works : (rows : List PairRow) (items : List Item) → Works tells (Recovers rows items) old one
+  read_works rows items = works_more tells Nothing (Recovers rows items) old one (λ told d x y e. recovers_same rows items d x y e) (works_reads tells old one reads)
+
+  pub walk_now : (m : Mark) → tells → HasWalk old m → HasWalk one m
+  walk_now m told walk = (walk_later old one m reads.only.site (reads.same told Control) (reads.same told State) (λ j. reads.same told (Journal j)) walk).has
+
+  -- a late error, after the mark was the session's
+  pub late_says : {X : Type 0} (session : List ℕ) (good : X → Type 0) → tells → IsOf old session → (e : RecoverError) → IsLate one e → (let r : Result X RecoverError = Err e in Says old session good r)
+  late_says {X = X} session good told of e (inl is) = subst (λ (k : RecoverError). let r : Result X RecoverError = Err k in Says old session good r) (sym is) of
+  late_says {X = X} session good told of e (inr fault) = subst (λ (k : RecoverError). let r : Result X RecoverError = Err k in Says old session good r) (sym fault.1) (of, seen_reached old one (same_seen tells old one reads told) (Journal fault.0) fault.2)
+
+  module _ (session : List ℕ) (means : Means) (recoverable : tells → IsRecoverable old session means) (new : PlantState) where
+    rows_are : tells → meant_rows old old.bytes ≡ means.table.rows
+    rows_are told = ap (λ (k : Meaning). rows_of (meant_by k)) (recoverable told).mean.1
+
+    items_are : tells → walked one one.bytes ≡ walked old old.bytes
+    items_are told = ap walked_by (seen_meaning old one (same_seen tells old one reads told))
+
+    as_meant : (told : tells) (d : Device) (x y : List ℕ) → Recovers means.table.rows (walked one one.bytes) d x y → Recovers (meant_rows old old.bytes) (walked old old.bytes) d x y
+    as_meant told d x y p = subst (λ (r : List PairRow). Recovers r (walked old old.bytes) d x y) (sym (rows_are told)) (subst (λ (l : List Item). Recovers means.table.rows l d x y) (items_are told) p)
+
+    pub all_works : Works tells (Recovers means.table.rows (walked one one.bytes)) one new → Works tells (Recovers (meant_rows old old.bytes) (walked old old.bytes)) old new
+    all_works works = works_trans tells Nothing (Recovers (meant_rows old old.bytes) (walked old old.bytes)) (Recovers (meant_rows old old.bytes) (walked old old.bytes)) old one new
+        (λ d x y z e q. subst (λ (l : List ℕ). Recovers (meant_rows old old.bytes) (walked old old.bytes) d l z) e q) (λ d x y e. recovers_same (meant_rows old old.bytes) (walked old old.bytes) d x y e)
+        (works_reads tells old one reads) (works_more tells (Recovers means.table.rows (walked one one.bytes)) (Recovers (meant_rows old old.bytes) (walked old old.bytes)) one new as_meant works)
+
+    pub all_redone : (told : tells) (failed : List ℕ) → Redone means.table.rows (walked one one.bytes) failed one new → Redone (meant_rows old old.bytes) (walked old old.bytes) failed old new
+    all_redone told failed redone =
+        subst (λ (r : List PairRow). Redone r (walked old old.bytes) failed old new) (sym (rows_are told))
+        (λ k d lt duplex good.
+        let row = slice_index_or means.table.rows k d in
+        let done = redone k d lt duplex good in
+        record {
+          draws = subst (λ (l : List ℕ). Draws row.device (walked old old.bytes) l (new.bytes (Volume row.device))) (reads.same told (Volume row.device))
+              (subst (λ (l : List Item). Draws row.device l (one.bytes (Volume row.device)) (new.bytes (Volume row.device))) (items_are told) done.draws);
+          label = done.label;
+          durable = done.durable;
+        })
+
+-- ---- counts, where none rose while it was read
+
+module _ (old one new : Device → ℕ) (same : (d : Device) → one d ≡ old d) where
+  pub rose_since : (d : Device) → Rose (one d) (new d) → Rose (old d) (new d)
+  rose_since d rose = subst (λ (n : ℕ). Rose n (new d)) (same d) rose
+
+  pub failure_since : HasFailure one new → HasFailure old new
+  failure_since f = (f.0, rose_since (Volume f.0) f.1)
+
+  pub faulty_since : (rows : List PairRow) (failed : List ℕ) → AreFaulty rows one new failed → AreFaulty rows old new failed
+  faulty_since rows failed f = record { has_failed = f.has_failed; listed = f.listed; rose = λ v is. ((f.rose v is).0, rose_since (Volume v) (f.rose v is).1) }

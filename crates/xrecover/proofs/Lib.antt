@@ -1,0 +1,13 @@
+pub mod Relations
+pub mod Works
+pub mod Again
+pub mod Later
+pub mod Rows
+pub mod Deltas
+pub mod Contents
+pub mod Seen
+pub mod Fails
+pub mod Meant
+pub mod Going
+pub mod Stepping
+pub mod Finish

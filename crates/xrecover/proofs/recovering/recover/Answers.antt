@@ -1,0 +1,91 @@
+use Rattle.std.proofs.Common.{◌≡◌, ◌≤◌, ◌<◌, inl, inr, ℕ, List, [], Result, Ok, Err, refl, sym, ap, subst, ◌∙◌, arith, rules}
+use Rattle.crash_plant.specs.declared.device.Device.TheVariants.{Journal}
+use Rattle.site_means.specs.Sight.{walked}
+use Rattle.site_means.specs.declared.site_error.SiteError.TheVariants.{NoMemory}
+use Rattle.site_means.proofs.Shorts.{are_long}
+use Rattle.xrecover.specs.declared.outcome.Outcome.{Outcome}
+use Rattle.xrecover.specs.declared.recover_error.RecoverError.{RecoverError}
+use Rattle.xrecover.specs.declared.recover_error.RecoverError.TheVariants.{Site}
+use Rattle.xrecover.specs.Answers.{EndsLate, IsRecoverable, Says}
+use Rattle.xrecover.specs.Redone.{Recovers, meant_rows}
+use Rattle.xrecover.proofs.Fails.{so_good}
+use Rattle.xrecover.proofs.Finish.{all_redone, all_works, ends_late, failure_since, late_says, no_writes, read_works, walk_now}
+use Rattle.xrecover.proofs.Seen.{sees_moments}
+use Rattle.xrecover.proofs.recovering.recover.Goals as goal
+
+pub returns-in_err-meant-clause-moments : goal.returns-in_err-meant-clause-moments
+returns-in_err-meant-clause-moments g c = λ told settled.
+    let old = g.P.Plant.state c.args.plant.now in
+    let one = g.P.Plant.state c.read_meant.new.plant in
+    sees_moments g.P.Plant.tells told [] old one (read_works g.P.Plant.tells old one c.read_meant.ensures.reads [] (walked old old.bytes)) settled
+
+pub returns-in_err-tools-clause-moments : goal.returns-in_err-tools-clause-moments
+returns-in_err-tools-clause-moments g c = λ told settled.
+    let old = g.P.Plant.state c.args.plant.now in
+    let one = g.P.Plant.state c.read_meant.new.plant in
+    sees_moments g.P.Plant.tells told [] old one (read_works g.P.Plant.tells old one c.read_meant.ensures.reads [] (walked old old.bytes)) settled
+
+pub redo_pairs-requires-clause-long : goal.redo_pairs-requires-clause-long
+redo_pairs-requires-clause-long g c κs within = λ j lt.
+    let long = are_long (g.P.Plant.state c.args.plant.now) c.in_ok-meant.ensures.lengths in
+    let site = c.read_meant.ensures.reads.only.site in
+    omega (arith, long.journals j (omega (arith, lt, site.journals)), site.lengths (Journal j))
+
+pub redo_pairs-requires-clause-walk : goal.redo_pairs-requires-clause-walk
+redo_pairs-requires-clause-walk g c κs within = λ told.
+    walk_now g.P.Plant.tells (g.P.Plant.state c.args.plant.now) (g.P.Plant.state c.read_meant.new.plant) c.read_meant.ensures.reads c.in_ok-meant.meant.mark told (c.in_ok-meant.ensures.says told).1
+
+pub returns-in_err-failed-clause-says : goal.returns-in_err-failed-clause-says
+returns-in_err-failed-clause-says g c = λ told.
+    let old = g.P.Plant.state c.args.plant.now in
+    let one = g.P.Plant.state c.read_meant.new.plant in
+    let e = c.in_err-failed.field-0.0 in
+    let is : c.from_residual-in_err-failed.result ≡ Err e = search rules in
+    subst (λ (r : Result Outcome RecoverError). Says old c.args.session (λ o. IsRecoverable old c.args.session o.means) r) (sym is)
+    (late_says g.P.Plant.tells old one c.read_meant.ensures.reads {X = Outcome} c.args.session (λ o. IsRecoverable old c.args.session o.means) told (c.in_ok-meant.ensures.says told).0.of e (c.in_err-failed.ensures.late told e refl))
+
+pub returns-in_err-failed-clause-works : goal.returns-in_err-failed-clause-works
+returns-in_err-failed-clause-works g c =
+    all_works g.P.Plant.tells (g.P.Plant.state c.args.plant.now) (g.P.Plant.state c.read_meant.new.plant) c.read_meant.ensures.reads c.args.session c.in_ok-meant.meant.means (λ told. (c.in_ok-meant.ensures.says told).0) (g.P.Plant.state c.redo_pairs.new.plant) c.redo_pairs.ensures.works
+
+pub returns-in_err-failed-clause-moments : goal.returns-in_err-failed-clause-moments
+returns-in_err-failed-clause-moments g c = λ told settled.
+    let old = g.P.Plant.state c.args.plant.now in
+    let new = g.P.Plant.state c.redo_pairs.new.plant in
+    sees_moments g.P.Plant.tells told (meant_rows old old.bytes) old new
+    (all_works g.P.Plant.tells old (g.P.Plant.state c.read_meant.new.plant) c.read_meant.ensures.reads c.args.session c.in_ok-meant.meant.means (λ told. (c.in_ok-meant.ensures.says told).0) new c.redo_pairs.ensures.works) settled
+
+pub returns-in_err-failed-clause-unwritten : goal.returns-in_err-failed-clause-unwritten
+returns-in_err-failed-clause-unwritten g c = λ e is early.
+    let old = g.P.Plant.state c.args.plant.now in
+    let one = g.P.Plant.state c.read_meant.new.plant in
+    let new = g.P.Plant.state c.redo_pairs.new.plant in
+    let k = c.in_err-failed.field-0.0 in
+    let same : e ≡ k = search rules in
+    no_writes g.P.Plant.tells (Recovers (meant_rows old old.bytes) (walked old old.bytes)) old new
+    (λ told. early (subst (λ (x : RecoverError). EndsLate x) (sym same) (ends_late one k (c.in_err-failed.ensures.late told k refl))))
+    (all_works g.P.Plant.tells old one c.read_meant.ensures.reads c.args.session c.in_ok-meant.meant.means (λ told. (c.in_ok-meant.ensures.says told).0) new c.redo_pairs.ensures.works)
+
+pub returns-in_err-failed-clause-memory : goal.returns-in_err-failed-clause-memory
+returns-in_err-failed-clause-memory g c = λ is.
+    let old = g.P.Plant.state c.args.plant.now in
+    let one = g.P.Plant.state c.read_meant.new.plant in
+    let new = g.P.Plant.state c.redo_pairs.new.plant in
+    let same : c.in_err-failed.field-0.0 ≡ Site NoMemory = search rules in
+    inr (failure_since old.faults one.faults new.faults (so_good old.faults one.faults c.in_ok-meant.meant c.in_ok-meant.ensures.fails) (c.in_err-failed.ensures.memory (ap Err same)))
+
+pub returns-clause-redone : goal.returns-clause-redone
+returns-clause-redone g c = λ told.
+    all_redone g.P.Plant.tells (g.P.Plant.state c.args.plant.now) (g.P.Plant.state c.read_meant.new.plant) c.read_meant.ensures.reads c.args.session c.in_ok-meant.meant.means (λ told. (c.in_ok-meant.ensures.says told).0) (g.P.Plant.state c.redo_pairs.new.plant) told
+    c.in_ok-failed.failed (c.in_ok-failed.ensures.redone told)
+
+pub returns-clause-works : goal.returns-clause-works
+returns-clause-works g c =
+    all_works g.P.Plant.tells (g.P.Plant.state c.args.plant.now) (g.P.Plant.state c.read_meant.new.plant) c.read_meant.ensures.reads c.args.session c.in_ok-meant.meant.means (λ told. (c.in_ok-meant.ensures.says told).0) (g.P.Plant.state c.redo_pairs.new.plant) c.redo_pairs.ensures.works
+
+pub returns-clause-moments : goal.returns-clause-moments
+returns-clause-moments g c = λ told settled.
+    let old = g.P.Plant.state c.args.plant.now in
+    let new = g.P.Plant.state c.redo_pairs.new.plant in
+    sees_moments g.P.Plant.tells told (meant_rows old old.bytes) old new
+    (all_works g.P.Plant.tells old (g.P.Plant.state c.read_meant.new.plant) c.read_meant.ensures.reads c.args.session c.in_ok-meant.meant.means (λ told. (c.in_ok-meant.ensures.says told).0) new c.redo_pairs.ensures.works) settled

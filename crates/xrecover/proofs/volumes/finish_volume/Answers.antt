@@ -1,0 +1,30 @@
+use Rattle.std.proofs.Common.{List, ℕ, [], subst, sym, ◌∙◌}
+use Rattle.crash_plant.specs.declared.device.Device.TheVariants.{Volume}
+use Rattle.crash_plant.specs.Moments.{Same}
+use Rattle.xrecover.specs.Works.{OnVolume}
+use Rattle.xrecover.specs.Redone.{Redoes}
+use Rattle.xrecover.proofs.Relations.{label_redoes, one_then, redoes_same, redoes_then}
+use Rattle.xrecover.proofs.Works.{works_one, works_trans}
+use Rattle.xrecover.proofs.volumes.finish_volume.Goals as goal
+
+pub returns-in-Err-clause-works : goal.returns-in-Err-clause-works
+returns-in-Err-clause-works g c =
+    let v = c.args.row.now.device in
+    works_one g.P.Plant.tells v (Redoes v []) _ _ c.sync.ensures.only (λ told. redoes_same v [] _ _ (c.sync.ensures.same told))
+    (λ told t from to z left. let start = c.sync.ensures.moments told t from to z left in (start.0, start.1, redoes_same v [] start.0 z start.2))
+
+pub returns-in-Ok-clause-works : goal.returns-in-Ok-clause-works
+returns-in-Ok-clause-works g c =
+    let v = c.args.row.now.device in
+    let step = Redoes v [] in
+    works_trans g.P.Plant.tells (OnVolume v step) (OnVolume v step) (OnVolume v step) _ _ _ (λ d x y z p q. one_then v step step step (λ x y z p q. redoes_then v [] x y z p q) d x y z p q) (λ d x y p. p)
+    (works_one g.P.Plant.tells v step _ _ c.sync.ensures.only (λ told. redoes_same v [] _ _ (c.sync.ensures.same told))
+    (λ told t from to z left. let start = c.sync.ensures.moments told t from to z left in (start.0, start.1, redoes_same v [] start.0 z start.2)))
+    (works_one g.P.Plant.tells v step _ _ c.write_label.ensures.only (λ told. label_redoes v _ _ (c.write_label.ensures.torn told))
+    (λ told t from to z left. let start = c.write_label.ensures.moments told t from to z left in (start.0, start.1, label_redoes v start.0 z start.2)))
+
+pub returns-in-Err-clause-counts : goal.returns-in-Err-clause-counts
+returns-in-Err-clause-counts g c = λ v differ. c.sync.ensures.only.others_faults (Volume v) (λ is. differ cc)
+
+pub returns-in-Ok-clause-counts : goal.returns-in-Ok-clause-counts
+returns-in-Ok-clause-counts g c = λ v differ. c.write_label.ensures.only.others_faults (Volume v) (λ is. differ cc) ∙ c.sync.ensures.only.others_faults (Volume v) (λ is. differ cc)

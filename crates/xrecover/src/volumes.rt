@@ -1,0 +1,109 @@
+//! One volume of a duplex pair.
+
+ghost use Rattle.std.specs.Prelude.{◌≡◌, ◌≢◌, ◌≤◌, ◌<◌, ℕ, [], take, true, false, IfOk};
+ghost use Rattle.xrc_edge.specs.Causes.{Rose};
+ghost use Rattle.crash_plant.specs.declared.device.Device.TheVariants.{Volume};
+ghost use Rattle.crash_plant.specs.Moments.{Follows, IsDurable, Kept, on};
+ghost use Rattle.crash_plant.specs.Calls.{NoneLent};
+ghost use Rattle.xrc_journal.specs.Items.{AreItems, form_of};
+ghost use Rattle.applier.specs.Slots.{DiffersInSlots, HasItem, HoldsContent, slot_end};
+ghost use Rattle.applier.specs.Jobs.{FailsByCount};
+ghost use Rattle.volume_label.specs.Labels.{label_spelling};
+ghost use Rattle.xrecover.specs.Works.{OnVolume, Works};
+ghost use Rattle.xrecover.specs.Redone.{Redoes};
+
+use applier::{VolumeJob, apply_volume};
+use ckd_track::Slot;
+use crash_plant::{Device, Disk, Plant};
+use pair_table::PairRow;
+use std::alloc::Global;
+use volume_label::{Label, write_label};
+use xrc_edge::NoMemory;
+use xrc_journal::Body;
+
+/// What the items of bodies are read into.
+#[derive(Drop)]
+pub(crate) struct Tools {
+    pub(crate) body: Body,
+    pub(crate) slot: Slot,
+}
+
+impl Tools {
+    /// Tools for records whose bodies have at most that many bytes.
+    pub(crate) fn make(alloc: Global, longest: u32) -> Result<Tools, NoMemory>
+        ensures { IfOk result (λ tools. tools.body.room ≡ longest) }
+    {
+        let body = Body::make(alloc, longest)?;
+        let slot = Slot::make(alloc)?;
+        Ok(Tools { body, slot })
+    }
+}
+
+/// Applies the items of the body to a volume that is lent. True where a write failed.
+fn apply_lent<D: Disk>(device: u16, volume: D, tools: Tools) -> (D, Tools, bool)
+    requires { (x : ℕ) → HasItem device x tools.body.items → slot_end x ≤ (D.state volume).length_is }
+    ensures body { result.1.body ≡ tools.body }
+    ensures length { (D.state result.0).length_is ≡ (D.state volume).length_is }
+    ensures cause { FailsByCount result.2 (D.state volume).faults (D.state result.0).faults }
+    ensures past { D.tells → Kept (D.state volume) (D.state result.0) }
+    ensures moments { D.tells → Follows (DiffersInSlots device tools.body.items) (D.state volume) (D.state result.0) }
+    ensures bytes { D.tells → DiffersInSlots device tools.body.items (D.state volume).bytes (D.state result.0).bytes }
+    ensures content { D.tells → result.2 ≡ false → HoldsContent device tools.body.items (D.state volume).bytes (D.state result.0).bytes }
+{
+    let Tools { body, slot } = tools;
+    let mut job = VolumeJob {
+        device,
+        disk: Some(volume),
+        slot,
+        failed: false,
+    };
+    apply_volume(&body, &mut job);
+    let VolumeJob {
+        device: _,
+        disk,
+        slot,
+        failed,
+    } = job;
+    match disk {
+        Some(volume) => (volume, Tools { body, slot }, failed),
+        None => unreachable!(),
+    }
+}
+
+/// Applies the items of the body to a volume, which is lent meanwhile. True where a write failed.
+pub(crate) fn apply_body<P: Plant>(plant: &mut P, device: u16, tools: Tools) -> (Tools, bool)
+    requires home { NoneLent (P.state plant.old) }
+    requires there { device < (P.state plant.old).volumes }
+    requires items { AreItems (form_of (P.state plant.old)) tools.body.items }
+    ensures body { result.0.body ≡ tools.body }
+    ensures works { Works P.tells (OnVolume device (DiffersInSlots device tools.body.items)) (P.state plant.old) (P.state plant.new) }
+    ensures fails { FailsByCount result.1 ((P.state plant.old).faults (Volume device)) ((P.state plant.new).faults (Volume device)) }
+    ensures counts { (v : ℕ) → v ≢ device → (P.state plant.new).faults (Volume v) ≡ (P.state plant.old).faults (Volume v) }
+    ensures content { P.tells → result.1 ≡ false → HoldsContent device tools.body.items ((P.state plant.old).bytes (Volume device)) ((P.state plant.new).bytes (Volume device)) }
+{
+    let volume = plant.lend(device);
+    let (volume, tools, failed) = apply_lent(device, volume, tools);
+    plant.give_back(device, volume);
+    (tools, failed)
+}
+
+/// Syncs the volume of a pair, and labels it as the primary. True where a call failed.
+pub(crate) fn finish_volume<P: Plant>(plant: &mut P, row: &PairRow) -> bool
+    requires home { NoneLent (P.state plant.old) }
+    requires there { row.now.device < (P.state plant.old).volumes }
+    requires long { 14 ≤ (P.state plant.old).lengths (Volume row.now.device) }
+    ensures works { Works P.tells (OnVolume row.now.device (Redoes row.now.device [])) (P.state plant.old) (P.state plant.new) }
+    ensures fails { result ≡ true → Rose ((P.state plant.old).faults (Volume row.now.device)) ((P.state plant.new).faults (Volume row.now.device)) }
+    ensures counts { (v : ℕ) → v ≢ row.now.device → (P.state plant.new).faults (Volume v) ≡ (P.state plant.old).faults (Volume v) }
+    ensures label { P.tells → result ≡ false → take 14 ((P.state plant.new).bytes (Volume row.now.device)) ≡ label_spelling (record { serial = row.now.primary; cylinders = row.now.cylinders }) }
+    ensures durable { P.tells → result ≡ false → IsDurable (on (P.state plant.new) (Volume row.now.device)) }
+{
+    let label = Label {
+        serial: row.primary,
+        cylinders: row.cylinders,
+    };
+    match plant.sync(Device::Volume(row.device)) {
+        Ok(()) => write_label(plant, row.device, &label).is_err(),
+        Err(_) => true,
+    }
+}
