@@ -3,6 +3,7 @@ pub mod Toward
 pub mod Steps
 pub mod Bears
 pub mod Times
+pub mod Replies
 pub mod Courses
 pub mod Moments
 pub mod Laws
