@@ -6,5 +6,6 @@ pub mod Times
 pub mod Replies
 pub mod Courses
 pub mod Moments
+pub mod Keeping
 pub mod Laws
 pub mod Vectors
