@@ -1,6 +1,7 @@
 mod Functions
 pub mod Pieces
 pub mod Replies
+pub mod Spelled
 pub mod Counting
 pub mod Lines
 pub mod Standing

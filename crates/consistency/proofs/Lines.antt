@@ -2,7 +2,7 @@
 use Rattle.std.proofs.Common.{◌≡◌, ◌⊎◌, inl, inr, ℕ, zero, suc, ◌+◌, ◌<◌, ◌≤◌, Bool, true, false, cond, nat_eq, List, [], ◌∷◌, ◌++◌, length, take, Option, Some, None, refl, sym, ap, subst, ◌∙◌, append-nil, arith, length-append, slice_get}
 use Rattle.std.specs.Prelude.{◌==◌, ◌||◌, ◌&&◌, fold, nat_le, nat_lt}
 use Rattle.std.specs.List.{list_any}
-use Rattle.std.proofs.lemmas.Bool.{and_parts, eq-eqb, leb-true, ne_eqb, or_parts}
+use Rattle.std.proofs.lemmas.Bool.{and_from, and_left, and_parts, and_right, cond-false, cond-true, eq-eqb, le-leb, le-ltb, leb-true, lt-leb, lt-ltb, ne_eqb, or_left, or_parts, or_right}
 use Rattle.std.proofs.lemmas.List.{length_push, take-append-le, take_all}
 use Rattle.std.proofs.lemmas.List.Concat.{flat_map-append}
 use Rattle.std.proofs.lemmas.Option.{slice_get_within}
@@ -134,6 +134,51 @@ next_not_before grammar answered before at_end text line is = whole (is_whole at
 -- Nothing is heard of a line before its first byte, and no line before it is whole.
 pub none_heard : (grammar : List ℕ → Option TimedCommand) (answered before : ℕ) (at_end : Bool) (text : List ℕ) → is_whole at_end text ≡ false → next_line grammar answered before at_end text ≡ None
 none_heard grammar answered before at_end text is = rw is refl
+
+-- A line of the grammar that was heard whole, is none too many and doesn't fall is the next one. Any other line counts as never heard.
+pub next_heard : (grammar : List ℕ → Option TimedCommand) (answered before : ℕ) (at_end : Bool) (text : List ℕ) (line : TimedCommand) → is_whole at_end text ≡ true → grammar (first_line text) ≡ Some line → answered < most_lines → before ≤ line.time
+    → next_line grammar answered before at_end text ≡ Some line
+next_heard grammar answered before at_end text line whole asks few later =
+    rw whole (ap (later_line answered before) asks ∙ cond-true (nat_lt answered most_lines && nat_le before line.time) (Some line) None (and_from (nat_lt answered most_lines) (nat_le before line.time) (lt-ltb answered most_lines few) (le-leb before line.time later)))
+
+never_heard : (b : Bool) (o : Option TimedCommand) → o ≡ None → cond b o None ≡ None
+never_heard true o is = is
+never_heard false o is = refl
+
+pub outside_grammar : (grammar : List ℕ → Option TimedCommand) (answered before : ℕ) (at_end : Bool) (text : List ℕ) → grammar (first_line text) ≡ None → next_line grammar answered before at_end text ≡ None
+outside_grammar grammar answered before at_end text none = never_heard (is_whole at_end text) (later_line answered before (grammar (first_line text))) (ap (later_line answered before) none)
+
+pub time_falls : (grammar : List ℕ → Option TimedCommand) (answered before : ℕ) (at_end : Bool) (text : List ℕ) (line : TimedCommand) → grammar (first_line text) ≡ Some line → line.time < before → next_line grammar answered before at_end text ≡ None
+time_falls grammar answered before at_end text line asks falls =
+    never_heard (is_whole at_end text) (later_line answered before (grammar (first_line text)))
+    (ap (later_line answered before) asks ∙ cond-false (nat_lt answered most_lines && nat_le before line.time) (Some line) None (and_right (nat_lt answered most_lines) (nat_le before line.time) (lt-leb before line.time falls)))
+
+pub too_many : (grammar : List ℕ → Option TimedCommand) (answered before : ℕ) (at_end : Bool) (text : List ℕ) → most_lines ≤ answered → next_line grammar answered before at_end text ≡ None
+too_many grammar answered before at_end text many = never_heard (is_whole at_end text) (later_line answered before (grammar (first_line text))) (none (grammar (first_line text)))
+  where
+    none : (o : Option TimedCommand) → later_line answered before o ≡ None
+    none None = refl
+    none (Some line) = cond-false (nat_lt answered most_lines && nat_le before line.time) (Some line) None (and_left (nat_lt answered most_lines) (nat_le before line.time) (le-ltb answered most_lines many))
+
+-- A line is whole with its line feed, which doesn't belong to what it asks.
+pub whole_with_feed : (at_end : Bool) (line : List ℕ) → list_any (λ x. nat_eq x 10) line ≡ false → (is_whole at_end (line ++ 10 ∷ []) ≡ true) × (first_line (line ++ 10 ∷ []) ≡ line)
+whole_with_feed at_end line none = (or_left (list_any (λ x. nat_eq x 10) (line ++ 10 ∷ [])) (at_end && nat_lt 0 (length (line ++ 10 ∷ []))) (has_feed line), before_feed line none)
+  where
+    has_feed : (l : List ℕ) → list_any (λ x. nat_eq x 10) (l ++ 10 ∷ []) ≡ true
+    has_feed [] = refl
+    has_feed (x ∷ l) = or_right (nat_eq x 10) (list_any (λ x. nat_eq x 10) (l ++ 10 ∷ [])) (has_feed l)
+
+    before_feed : (l : List ℕ) → list_any (λ x. nat_eq x 10) l ≡ false → first_line (l ++ 10 ∷ []) ≡ l
+    before_feed [] none = refl
+    before_feed (x ∷ l) none = let parts = or_parts (nat_eq x 10) (list_any (λ x. nat_eq x 10) l) none in rw parts.0 (ap (λ (r : List ℕ). x ∷ r) (before_feed l parts.1))
+
+-- The last line is whole with the script's end.
+pub whole_at_end : (line : List ℕ) → 0 < length line → list_any (λ x. nat_eq x 10) line ≡ false → (is_whole true line ≡ true) × (first_line line ≡ line)
+whole_at_end line some none = (or_right (list_any (λ x. nat_eq x 10) line) (nat_lt 0 (length line)) (lt-ltb 0 (length line) some), whole_text line none)
+  where
+    whole_text : (l : List ℕ) → list_any (λ x. nat_eq x 10) l ≡ false → first_line l ≡ l
+    whole_text [] none = refl
+    whole_text (x ∷ l) none = let parts = or_parts (nat_eq x 10) (list_any (λ x. nat_eq x 10) l) none in rw parts.0 (ap (λ (r : List ℕ). x ∷ r) (whole_text l parts.1))
 
 -- Two lines begin where a byte follows a line feed.
 feed_then : (is_inside : Bool) (text : List ℕ) (b : ℕ) → list_any (λ x. nat_eq x 10) text ≡ true → 2 ≤ cond is_inside 1 0 + begun is_inside (text ++ b ∷ [])
