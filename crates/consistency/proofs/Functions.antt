@@ -1,19 +1,17 @@
 -- Without a hit the rows before a line's command are determined, row by row.
-use Rattle.std.proofs.Common.{◌≡◌, ℕ, zero, suc, ◌+◌, ◌≤◌, ◌<◌, Bool, true, false, not, cond, nat_eq, ◌==◌, ◌&&◌, ◌||◌, List, [], ◌∷◌, map, Option, Some, None, refl, sym, ap, subst, ◌∙◌, arith, true≢false, slice_get}
+use Rattle.std.proofs.Common.{◌≡◌, ℕ, zero, suc, ◌+◌, ◌≤◌, ◌<◌, Bool, true, false, not, cond, nat_eq, ◌&&◌, ◌||◌, List, [], ◌∷◌, map, Option, Some, None, refl, sym, ap, subst, ◌∙◌, arith, true≢false, slice_get}
 use Rattle.std.specs.Prelude.{bytes_eq, nat_le, nat_lt}
 use Rattle.std.specs.List.{list_all, list_any}
 use Rattle.std.proofs.lemmas.Bool.{and_parts, or_parts, eqb-true, eqb-false, not-true, eq-eqb, leb-true, le-leb, lt-ltb, and_from}
 use Rattle.std.proofs.lemmas.List.{map-id}
 use Rattle.std.proofs.lemmas.Simd.{map-map}
-use Rattle.tod_stamp.specs.declared.stamp.Stamp.{Stamp}
 use Rattle.pair_table.specs.declared.level.Level.{Level}
 use Rattle.pair_table.specs.declared.row.PairRow.{PairRow}
 use Rattle.pair_table.specs.declared.row.PairState.{PairState}
 use Rattle.pair_table.specs.declared.row.PairState.TheVariants.{Pending, Copy, Duplex, Suspended}
-use Rattle.pair_table.specs.declared.row.SuspendCause.{SuspendCause}
 use Rattle.pair_table.specs.declared.row.SuspendCause.TheVariants.{Control as ByControl}
 use Rattle.pair_table.specs.Rows.{is_suspended}
-use Rattle.pair_table.specs.Tables.{clashes, in_state, is_of, none_clash, row_of}
+use Rattle.pair_table.specs.Tables.{clashes, in_state, none_clash, row_of}
 use Rattle.consistency.specs.Changes.{RowChange, Timed, after_change, after_changes, break_time_of, changed_row, due_after, is_at, may_all_come, may_come, may_mature, row_may_mature, since}
 use Rattle.consistency.specs.Changes.RowChange.{Break, Hit, MarkedHit, Mature, Reached}
 use Rattle.consistency.specs.Changes.Due.{NoneDue}

@@ -1,1 +1,11 @@
 mod Functions
+pub mod Pieces
+pub mod Replies
+pub mod Spelled
+pub mod Counting
+pub mod Lines
+pub mod Standing
+pub mod Joined
+pub mod Sayings
+pub mod Resting
+pub mod Keeping

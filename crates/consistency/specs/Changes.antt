@@ -1,5 +1,5 @@
 -- How the rows of a session change between two commands.
-use Rattle.std.specs.Prelude.{ℕ, zero, suc, ◌==◌, ◌&&◌, ◌||◌, not, List, [], ◌∷◌, length, map, Bool, true, false, Option, Some, None, nat_le, if◌then◌else◌}
+use Rattle.std.specs.Prelude.{ℕ, zero, suc, ◌==◌, ◌&&◌, List, [], ◌∷◌, length, map, Bool, true, false, Option, Some, None, nat_le, if◌then◌else◌}
 use Rattle.std.specs.List.{list_any, list_all}
 use Rattle.pair_table.specs.declared.level.Level.{Level}
 use Rattle.pair_table.specs.declared.level.Level.TheVariants.{Volume as VolumeLevel, Session as SessionLevel}

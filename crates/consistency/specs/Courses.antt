@@ -1,12 +1,13 @@
 -- The course of a run: the lines that it answers one after another, and where it stands once so much was heard and said.
-use Rattle.std.specs.Prelude.{◌≡◌, ℕ, zero, suc, ◌+◌, ◌<◌, ◌≤◌, ◌==◌, ◌&&◌, ◌||◌, List, [], ◌∷◌, ◌++◌, length, take, slice_get, fold, Bool, true, false, Option, Some, None, nat_le, nat_lt, IsTrue, if◌then◌else◌}
+use Rattle.std.specs.Prelude.{◌≡◌, ℕ, suc, ◌+◌, ◌<◌, ◌≤◌, ◌==◌, ◌&&◌, ◌||◌, List, [], ◌∷◌, ◌++◌, length, take, slice_get, fold, Bool, true, false, Option, Some, None, nat_le, nat_lt, IsTrue, if◌then◌else◌}
 use Rattle.std.specs.List.{flat_map, list_any}
 use Rattle.pair_table.specs.declared.command.Command.TheVariants.{Start}
 use Rattle.pair_table.specs.declared.level.Level.{Level}
 use Rattle.pair_table.specs.Refusals.{Pairs}
 use Rattle.consistency.specs.Bears.{Run, Stage, accepts, breaks_of, names_of}
 use Rattle.consistency.specs.Changes.{Timed}
-use Rattle.consistency.specs.Steps.{Step, TimedCommand}
+use Rattle.consistency.specs.Replies.{IsReply, has_reply}
+use Rattle.consistency.specs.Steps.{Step, TimedCommand, pairs_on_the_way}
 use Rattle.consistency.specs.Toward.{AreCounted}
 
 -- A line that was answered: its text as it was heard, what it asks, the reply as it was said, the changes of rows before its command
@@ -41,12 +42,13 @@ stage_at run lines n = fold stage_after (first_stage run) (take n lines)
 
 -- ---- courses
 
--- A line is answered at a stage: its pairs come by a step, a device is hit at most as often as it failed, and the start that the
--- command table accepts gives the session its level.
+-- A line is answered at a stage: its pairs come by a step, a device is hit at most as often as it failed, the start that the command
+-- table accepts gives the session its level, and what was said is one reply, by which the command is accepted where the table accepts it.
 pub record IsAnswered (run : Run) (s : Stage) (a : Answered) : Type 0 where
   pub step : Step run.level (breaks_of run) (names_of run) s.replied s.pairs a.line a.changes a.hits a.pairs
   pub counted : AreCounted run.rises (s.past ++ a.changes ++ a.hits)
   pub level : (level : Level) → a.line.command ≡ Start level → IsTrue (accepts run s.pairs a.line) → level ≡ run.level
+  pub is_reply : IsReply (accepts run (pairs_on_the_way run.level a.changes s.pairs) a.line) a.line a.reply
 
 -- Each line is answered at the stage after those before it.
 abbrev pub IsCourse : Run → List Answered → Type 0
@@ -60,13 +62,13 @@ texts_of lines = flat_map (λ a. a.text) lines
 abbrev pub replies_of : List Answered → List ℕ
 replies_of lines = flat_map (λ a. a.reply) lines
 
--- how many lines begin in a text, where a line begins at its front
+-- how many lines begin in a text, where its first byte stands inside a line or begins one
+abbrev pub begun : (is_inside : Bool) → (text : List ℕ) → ℕ
+begun is_inside [] = 0
+begun is_inside (b ∷ text) = (if is_inside then 0 else 1) + begun (if b == 10 then false else true) text
+
 abbrev pub lines_begun : (text : List ℕ) → ℕ
 lines_begun text = begun false text
-  where
-    begun : (is_inside : Bool) → List ℕ → ℕ
-    begun is_inside [] = 0
-    begun is_inside (b ∷ bytes) = (if is_inside then 0 else 1) + begun (if b == 10 then false else true) bytes
 
 -- what stands before the first line feed
 abbrev pub first_line : (text : List ℕ) → List ℕ
@@ -90,8 +92,18 @@ later_line lines before (Some line) = if nat_lt lines most_lines && nat_le befor
 abbrev pub next_line : (grammar : List ℕ → Option TimedCommand) → (answered before : ℕ) → (at_end : Bool) → (text : List ℕ) → Option TimedCommand
 next_line grammar answered before at_end text = if is_whole at_end text then later_line answered before (grammar (first_line text)) else None
 
+-- A line was answered as what its text asks: one line that was heard whole.
+pub record IsAsked (grammar : List ℕ → Option TimedCommand) (answered before : ℕ) (at_end : Bool) (a : Answered) : Type 0 where
+  pub asks : next_line grammar answered before at_end a.text ≡ Some a.line
+  pub one_line : lines_begun a.text ≤ 1
+
+-- Each line was, behind those before it. The script's end is heard with its last byte.
+abbrev pub AreAsked : Run → (grammar : List ℕ → Option TimedCommand) → (script : List ℕ) → List Answered → Type 0
+AreAsked run grammar script lines = (n : ℕ) (a : Answered) → slice_get lines n ≡ Some a
+    → IsAsked grammar n (stage_at run lines n).replied (length (texts_of (take (suc n) lines)) == length script) a
+
 -- Where a run stands once so much was heard of its script and so much was said: so many lines are answered, part of the next reply
--- or of a last line was said, and no byte of a line behind the next was heard.
+-- or of a last line was said, in which no whole reply stands, and no byte of a line behind the next was heard.
 pub record StandsAt (lines : List Answered) (heard said : List ℕ) : Type 0 where
   pub answered : ℕ
   pub within : answered ≤ length lines
@@ -100,6 +112,7 @@ pub record StandsAt (lines : List Answered) (heard said : List ℕ) : Type 0 whe
   pub part : List ℕ
   pub said_is : said ≡ replies_of (take answered lines) ++ part
   pub not_whole : (a : Answered) → slice_get lines answered ≡ Some a → length part < length a.reply
+  pub none_more : has_reply part ≡ false
   pub one_line : lines_begun text ≤ 1
 
 -- the stage there; the script's end is heard with its last byte

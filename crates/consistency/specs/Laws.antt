@@ -1,5 +1,5 @@
 -- The laws of times that are borne. Each is the contract of a public function without parameters.
-use Rattle.std.specs.Prelude.{◌≡◌, ◌≤◌, ◌∷◌, [], ℕ, List, map, Option, IsTrue}
+use Rattle.std.specs.Prelude.{◌≡◌, ◌≤◌, ◌<◌, ◌^◌, ℕ, List, map, Option, Some, IsTrue, slice_get}
 use Rattle.pair_table.specs.declared.level.Level.{Level}
 use Rattle.pair_table.specs.Naming.{Naming}
 use Rattle.pair_table.specs.Refusals.{Pairs}
@@ -7,6 +7,8 @@ use Rattle.pair_table.specs.Tables.{none_clash}
 use Rattle.site_means.specs.Images.{Images, Shape}
 use Rattle.consistency.specs.Bears.{Bears, Run, Stage}
 use Rattle.consistency.specs.Changes.{Timed, after_changes}
+use Rattle.consistency.specs.Courses.{Answered, IsCourse, StandsAt}
+use Rattle.consistency.specs.Replies.{reply_count}
 use Rattle.consistency.specs.Steps.{IsCommanded, TimedCommand, has_no_hit, next_row}
 
 -- A choice of images bears one time at most.
@@ -23,3 +25,7 @@ abbrev pub StepsAreFunctions : Type 0
 StepsAreFunctions = (level : Level) (breaks : List (Option ℕ)) (names : Naming) (from : ℕ) (old : Pairs) (line : TimedCommand) (changes hits : List Timed) → IsTrue (none_clash old.table.rows)
     → IsCommanded level breaks names from old line changes hits → IsTrue (has_no_hit changes)
     → after_changes level changes old.table.rows ≡ map (next_row breaks from line.time) old.table.rows
+
+-- Where a run stands as many lines are answered as replies were said: the lines of its course are all that it replied to.
+abbrev pub RepliesAreAnswers : Type 0
+RepliesAreAnswers = (run : Run) (lines : List Answered) (heard said : List ℕ) → ((n : ℕ) (a : Answered) → slice_get lines n ≡ Some a → a.line.time < 2 ^ 64) → IsCourse run lines → (at : StandsAt lines heard said) → reply_count said ≡ at.answered

@@ -3,7 +3,9 @@ pub mod Toward
 pub mod Steps
 pub mod Bears
 pub mod Times
+pub mod Replies
 pub mod Courses
 pub mod Moments
+pub mod Keeping
 pub mod Laws
 pub mod Vectors

@@ -1,12 +1,12 @@
 -- What every moment of a run must bear, from the one on at which its session has started.
-use Rattle.std.specs.Prelude.{◌≡◌, ℕ, ◌<◌, ◌≤◌, ◌++◌, List, [], All, Option, Some, IsTrue}
+use Rattle.std.specs.Prelude.{◌≡◌, ℕ, ◌<◌, ◌≤◌, ◌++◌, List, All, Option, Some, IsTrue}
 use Rattle.crash_plant.specs.Choices.{Choice, IsChoice}
 use Rattle.crash_plant.specs.Moments.{PlantState}
 use Rattle.site_means.specs.declared.means.Means.{Means}
 use Rattle.site_means.specs.Images.{shape_of}
 use Rattle.site_means.specs.Sight.{means_of}
 use Rattle.consistency.specs.Bears.{Bears, Run, Stage}
-use Rattle.consistency.specs.Courses.{Answered, IsCourse, StandsAt, stage_there}
+use Rattle.consistency.specs.Courses.{Answered, AreAsked, IsCourse, StandsAt, stage_there}
 use Rattle.consistency.specs.Steps.{TimedCommand}
 use Rattle.consistency.specs.Times.{times_said}
 
@@ -36,11 +36,22 @@ pub record MomentBears (run : Run) (grammar : List ℕ → Option TimedCommand) 
   pub at : StandsAt lines heard said
   pub bears : IsTrue (stage_there run grammar old.script at).pairs.table.is_started → (c : Choice) → IsChoice new t c → BearsTime run (stage_there run grammar old.script at) said new c
 
+-- All choices of this moment mean the pairs after the last answered line, where the session has started.
+abbrev pub AllMeanPairs : (run : Run) → (grammar : List ℕ → Option TimedCommand) → (lines : List Answered) → (old new : PlantState) → (t : ℕ) → MomentBears run grammar lines old new t → Type 0
+AllMeanPairs run grammar lines old new t moment =
+    IsTrue (stage_there run grammar old.script moment.at).pairs.table.is_started → (c : Choice) → IsChoice new t c
+    → (means : Means) × (means_of new c ≡ Some means) × MeansPairs (stage_there run grammar old.script moment.at) means
+
+-- They do at the first moment at which a reply was said whole.
+abbrev pub FirstMeans : (run : Run) → (grammar : List ℕ → Option TimedCommand) → (lines : List Answered) → (old new : PlantState)
+    → ((t : ℕ) → old.clock ≤ t → t ≤ new.clock → MomentBears run grammar lines old new t) → Type 0
+FirstMeans run grammar lines old new each = (t : ℕ) (from : old.clock ≤ t) (to : t ≤ new.clock)
+    → ((r : ℕ) (since : old.clock ≤ r) (within : r ≤ new.clock) → r < t → (each r since within).at.answered < (each t from to).at.answered)
+    → AllMeanPairs run grammar lines old new t (each t from to)
+
 -- The call answers these lines, and each of its moments bears.
 pub record BearsThroughout (run : Run) (grammar : List ℕ → Option TimedCommand) (lines : List Answered) (old new : PlantState) : Type 0 where
   pub course : IsCourse run lines
+  pub asked : AreAsked run grammar old.script lines
   pub each : (t : ℕ) → old.clock ≤ t → t ≤ new.clock → MomentBears run grammar lines old new t
-  -- At the first moment at which a reply was said whole all choices mean the pairs after its line.
-  pub replies : (t : ℕ) (from : old.clock ≤ t) (to : t ≤ new.clock) → ((r : ℕ) (since : old.clock ≤ r) (within : r ≤ new.clock) → r < t → (each r since within).at.answered < (each t from to).at.answered)
-      → IsTrue (stage_there run grammar old.script (each t from to).at).pairs.table.is_started → (c : Choice) → IsChoice new t c
-      → (means : Means) × (means_of new c ≡ Some means) × MeansPairs (stage_there run grammar old.script (each t from to).at) means
+  pub replies : FirstMeans run grammar lines old new each

@@ -1,5 +1,5 @@
 -- What one line does to a session's table, with the changes before and after its command.
-use Rattle.std.specs.Prelude.{◌≡◌, ℕ, ◌+◌, ◌==◌, ◌&&◌, not, List, [], ◌∷◌, map, nat_le, nat_lt, ◌||◌, Bool, true, false, Option, Some, None, IsTrue, if◌then◌else◌}
+use Rattle.std.specs.Prelude.{◌≡◌, ℕ, ◌+◌, ◌==◌, ◌&&◌, not, List, [], ◌∷◌, nat_le, nat_lt, ◌||◌, Bool, true, false, Option, Some, None, IsTrue, if◌then◌else◌}
 use Rattle.std.specs.List.{list_all}
 use Rattle.sidefile.specs.Breaks.{is_below}
 use Rattle.pair_table.specs.declared.command.Command.{Command}
@@ -12,7 +12,7 @@ use Rattle.pair_table.specs.Commands.{pairs_after}
 use Rattle.pair_table.specs.Naming.{Naming}
 use Rattle.pair_table.specs.Refusals.{Pairs}
 use Rattle.pair_table.specs.Rows.{is_suspended}
-use Rattle.pair_table.specs.Tables.{Table, in_state, with_rows}
+use Rattle.pair_table.specs.Tables.{in_state, with_rows}
 use Rattle.consistency.specs.Changes.{Timed, break_time_of, may_all_come, after_changes, since}
 use Rattle.consistency.specs.Changes.Due.{NoneDue}
 use Rattle.consistency.specs.Changes.RowChange.{Hit, MarkedHit, Reached, Mature, Break}

@@ -1,5 +1,5 @@
 -- The times that were said: the stamps behind `T=` and `JOURNALED` in whole lines.
-use Rattle.std.specs.Prelude.{ℕ, ◌==◌, List, [], ◌∷◌, ◌++◌, length, take, drop, codes, Bool, Result, Ok, Err, bytes_eq, if◌then◌else◌}
+use Rattle.std.specs.Prelude.{◌≡◌, ℕ, ◌==◌, List, [], ◌∷◌, ◌++◌, take, drop, codes, Result, Ok, Err, bytes_eq, if◌then◌else◌}
 use Rattle.std.specs.List.{flat_map}
 use Rattle.tod_stamp.specs.declared.stamp.Stamp.{Stamp}
 use Rattle.tod_stamp.specs.declared.stamp.StampError.{StampError}
@@ -10,9 +10,18 @@ abbrev pub ended_pieces : (separator : ℕ) → (read : List ℕ) → (text : Li
 ended_pieces separator read [] = []
 ended_pieces separator read (b ∷ text) = if b == separator then read ∷ ended_pieces separator [] text else ended_pieces separator (read ++ b ∷ []) text
 
+-- what follows the last separator, where this was read before the first one
+abbrev pub unended : (separator : ℕ) → (read : List ℕ) → (text : List ℕ) → List ℕ
+unended separator read [] = read
+unended separator read (b ∷ text) = if b == separator then unended separator [] text else unended separator (read ++ b ∷ []) text
+
 -- A line ends with a line feed.
 abbrev pub whole_lines : (text : List ℕ) → List (List ℕ)
 whole_lines text = ended_pieces 10 [] text
+
+-- Lines are whole where nothing follows the last line feed.
+abbrev pub AreWhole : (text : List ℕ) → Type 0
+AreWhole text = unended 10 [] text ≡ []
 
 -- Words stand between spaces.
 abbrev pub words : (line : List ℕ) → List (List ℕ)

@@ -48,6 +48,18 @@ query_at time = record { time = time; session = codes "ABC"; command = Query }
 abbrev pub line_feed : List ℕ
 line_feed = 10 ∷ []
 
+abbrev pub start_reply : List ℕ
+start_reply = codes "0000000000000050 XSTART OK T=0000000000000050" ++ line_feed
+
+abbrev pub query_report : List ℕ
+query_report = codes "SESSION ABC LEVEL VOLUME JOURNALED 0000000000000080 PAIRS 1" ++ line_feed ++ codes "CONTROL 0 OK" ++ line_feed ++ codes "PAIR PRIM01 SEC001 DUPLEX" ++ line_feed
+
+abbrev pub query_reply : List ℕ
+query_reply = query_report ++ codes "0000000000000080 XQUERY OK T=0000000000000080" ++ line_feed
+
+abbrev pub status_18 : List ℕ
+status_18 = codes "STATUS 18" ++ line_feed
+
 -- a reply with a report, of which the last line isn't whole
 abbrev pub worked_replies : List ℕ
 worked_replies = codes "0000000000000050 XSTART OK T=0000000000000050" ++ line_feed ++ codes "SESSION ABC LEVEL VOLUME JOURNALED 0000000000000080 PAIRS 1" ++ line_feed ++ codes "0000000000000080 XQUERY OK T=0000000000000080"

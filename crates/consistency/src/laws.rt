@@ -2,7 +2,7 @@
 
 ghost use Rattle.std.specs.Prelude.{[], ℕ, List, Option};
 ghost use Rattle.consistency.specs.Bears.{Run};
-ghost use Rattle.consistency.specs.Laws.{OneTime, StepsAreFunctions, TimesAreNotEarlier};
+ghost use Rattle.consistency.specs.Laws.{OneTime, RepliesAreAnswers, StepsAreFunctions, TimesAreNotEarlier};
 ghost use Rattle.consistency.specs.Moments.{BearsThroughout};
 ghost use Rattle.consistency.specs.Steps.{TimedCommand};
 
@@ -21,6 +21,11 @@ pub fn times_are_not_earlier()
 /// Without a hit the rows before a line's command are determined.
 pub fn steps_are_functions()
     ensures { StepsAreFunctions }
+{}
+
+/// Where a run stands as many lines are answered as replies were said.
+pub fn replies_are_answers()
+    ensures { RepliesAreAnswers }
 {}
 
 /// A run that has done nothing yet answers no line, and each of its moments bears.

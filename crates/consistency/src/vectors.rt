@@ -1,6 +1,6 @@
 //! Worked changes of rows, times and images: what the definitions give for them.
 
-ghost use Rattle.std.specs.Prelude.{◌≡◌, ◌∷◌, ◌++◌, [], ℕ, codes, slice_set, true, false, Some, None};
+ghost use Rattle.std.specs.Prelude.{◌≡◌, ◌∷◌, ◌++◌, [], ℕ, codes, slice_set, Bool, List, true, false, Option, Some, None};
 ghost use Rattle.pair_table.specs.declared.level.Level.TheVariants.{Session, Volume};
 ghost use Rattle.pair_table.specs.declared.row.PairState.TheVariants.{Duplex, Pending};
 ghost use Rattle.pair_table.specs.declared.row.SuspendCause.TheVariants.{Control as ByControl, Device as ByDevice, Session as BySession};
@@ -8,11 +8,12 @@ ghost use Rattle.consistency.specs.Changes.RowChange.{Break, Hit, MarkedHit, Mat
 ghost use Rattle.consistency.specs.Changes.Due.{NoneDue};
 ghost use Rattle.consistency.specs.Changes.{after_changes, may_all_come, since};
 ghost use Rattle.consistency.specs.Bears.{Bears};
-ghost use Rattle.consistency.specs.Courses.{first_line, is_whole, later_line, lines_begun};
-ghost use Rattle.consistency.specs.Steps.{is_hit_at};
+ghost use Rattle.consistency.specs.Courses.{Answered, IsAsked, StandsAt, first_line, is_whole, later_line, lines_begun};
+ghost use Rattle.consistency.specs.Replies.{IsReply, has_reply};
+ghost use Rattle.consistency.specs.Steps.{TimedCommand, is_hit_at};
 ghost use Rattle.consistency.specs.Times.{times_said};
 ghost use Rattle.consistency.specs.Toward.{AreCounted, all_broke};
-ghost use Rattle.consistency.specs.Vectors.{at_time, begun_stage, line_feed, no_breaks, no_rises, query_at, run_of_none, two_rows, worked_replies};
+ghost use Rattle.consistency.specs.Vectors.{at_time, begun_stage, line_feed, no_breaks, no_rises, query_at, query_reply, query_report, run_of_none, start_reply, status_18, two_rows, worked_replies};
 ghost use Rattle.site_means.specs.Vectors.{site, small};
 ghost use Rattle.xrc_journal.specs.Vectors.{group_bytes};
 
@@ -75,6 +76,26 @@ pub fn lines()
     ensures nothing { is_whole true [] ≡ false }
     ensures falls { later_line 1 0x50 (Some (query_at 0x4F)) ≡ None }
     ensures many { later_line 100000 0x50 (Some (query_at 0x60)) ≡ None }
+{}
+
+/// A whole line with a reply's words is a reply. The lines of a report and of a status are none.
+pub fn replies()
+    ensures start { has_reply start_reply ≡ true }
+    ensures cut { has_reply (codes "0000000000000050 XSTART OK T=0000000000000050") ≡ false }
+    ensures refused { has_reply (codes "0000000000000010 XQUERY REFUSED 1 NOSESSION" ++ line_feed) ≡ true }
+    ensures report { has_reply query_report ≡ false }
+    ensures status { has_reply status_18 ≡ false }
+    ensures query { IsReply true (query_at 0x80) query_reply }
+    ensures other_time { IsReply true (query_at 0x81) query_reply → ⊥ }
+    ensures other_answer { IsReply false (query_at 0x80) query_reply → ⊥ }
+    ensures nothing { (accepted : Bool) (line : TimedCommand) → IsReply accepted line [] → ⊥ }
+{}
+
+/// Behind the replies to a run's lines a status may be said, but no reply to another line. Nothing asks nothing.
+pub fn standing()
+    ensures status { StandsAt [] [] status_18 }
+    ensures reply { StandsAt [] [] start_reply → ⊥ }
+    ensures nothing { (grammar : List ℕ → Option TimedCommand) (answered before : ℕ) (at_end : Bool) (a : Answered) → a.text ≡ [] → IsAsked grammar answered before at_end a → ⊥ }
 {}
 
 /// A session that was begun at 50 bears this time until a line is heard; then a group up to the line's time may stand in the journal.

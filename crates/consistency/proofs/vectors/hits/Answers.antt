@@ -1,4 +1,4 @@
-use Rattle.std.proofs.Common.{◌≤◌, ℕ, arith}
+use Rattle.std.proofs.Common.{◌≤◌, arith}
 use Rattle.consistency.proofs.vectors.hits.Goals as goal
 
 pub returns-clause-without_fault : goal.returns-clause-without_fault

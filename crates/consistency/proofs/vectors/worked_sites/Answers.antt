@@ -1,4 +1,4 @@
-use Rattle.std.proofs.Common.{◌≡◌, ◌≤◌, ℕ, [], ap, refl, inl, inr, arith}
+use Rattle.std.proofs.Common.{◌≤◌, [], ap, refl, inl, inr, arith}
 use Rattle.site_means.specs.Sight.{meant_by}
 use Rattle.consistency.proofs.vectors.worked_sites.Goals as goal
 

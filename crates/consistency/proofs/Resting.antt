@@ -1,0 +1,183 @@
+-- What choices bear where nothing changed since the last reply, and when a line was heard.
+use Rattle.std.proofs.Common.{◌≡◌, ◌⊎◌, inl, inr, ℕ, ◌+◌, ◌≤◌, Bool, true, false, not, List, [], ◌∷◌, ◌++◌, length, Option, Some, None, refl, sym, ap, subst, append-nil, arith}
+use Rattle.std.specs.Prelude.{◌==◌, ◌&&◌, ◌||◌, is_none, nat_le, nat_lt}
+use Rattle.std.specs.List.{list_any}
+use Rattle.std.proofs.lemmas.Bool.{and_from, and_left, and_parts, and_right, cases_lt, le-ltb, lt-leb, or_left, not_from_false}
+use Rattle.pair_table.specs.declared.level.Level.{Level}
+use Rattle.pair_table.specs.declared.row.PairRow.{PairRow}
+use Rattle.crash_plant.specs.Choices.{Choice}
+use Rattle.crash_plant.specs.Moments.{PlantState}
+use Rattle.site_means.specs.declared.means.Means.{Means}
+use Rattle.site_means.specs.Images.{Images, Shape, shape_of}
+use Rattle.site_means.specs.Sight.{means_in, means_of}
+use Rattle.consistency.specs.Bears.{AreAfterLine, AreOnTheWay, Bears, HoldsPrimaries, IsFlag, IsTime, Run, Stage, breaks_of}
+use Rattle.consistency.specs.Changes.{Due, Timed, after_change, due_after, may_all_come, may_come, may_end}
+use Rattle.consistency.specs.Changes.Due.{NoneDue, DueSince, DueIn}
+use Rattle.consistency.specs.Courses.{Answered, IsAnswered, IsCourse, replied_after, stage_after, stage_at, texts_of}
+use Rattle.consistency.specs.Keeping.{stage_now}
+use Rattle.consistency.specs.Moments.{AreUpTo, BearsTime, MeansPairs}
+use Rattle.consistency.specs.Steps.{TimedCommand}
+use Rattle.consistency.specs.Times.{times_said}
+use Rattle.consistency.specs.Toward.{AreCounted, Toward, all_broke, is_break_of, lies_in}
+use Rattle.consistency.proofs.Joined.{itself}
+use Rattle.consistency.proofs.Lines.{next_not_before, past_counted}
+
+-- ---- changes
+
+-- What may come where nothing may be due at the end may come where others may be.
+due_wider : (level : Level) (breaks : List (Option ℕ)) (may_be_due : Bool) (due : Due) (from to : ℕ) (rows : List PairRow) (changes : List Timed) → may_all_come level breaks false due from to rows changes ≡ true → may_all_come level breaks may_be_due due from to rows changes ≡ true
+due_wider level breaks may_be_due due from to rows [] may = end_wider due may
+  where
+    end_wider : (d : Due) → may_end false to d ≡ true → may_end may_be_due to d ≡ true
+    end_wider NoneDue e = refl
+    end_wider (DueSince mark) e = absurd cc
+    end_wider (DueIn cut) e = absurd cc
+due_wider level breaks may_be_due due from to rows (t ∷ changes) may =
+    let here = nat_le from t.time && nat_le t.time to && may_come breaks due rows t in
+    let next = after_change level t rows in
+    let parts = and_parts here (may_all_come level breaks false (due_after level due t) t.time to next changes) may in
+    and_from here (may_all_come level breaks may_be_due (due_after level due t) t.time to next changes) parts.0 (due_wider level breaks may_be_due (due_after level due t) t.time to next changes parts.1)
+
+-- No break time lies from a time on and below it.
+none_between : (time : ℕ) (b : Option ℕ) → lies_in time time b ≡ false
+none_between time None = refl
+none_between time (Some b) = elim (cases_lt b time) [
+  | inl below ↦ and_left (nat_le time b) (nat_lt b time) (lt-leb time b below)
+  | inr above ↦ and_right (nat_le time b) (nat_lt b time) (le-ltb b time above)
+]
+
+none_broke : (time control : ℕ) (breaks : List (Option ℕ)) → all_broke time time control breaks [] ≡ true
+none_broke time control [] = refl
+none_broke time control (b ∷ breaks) =
+    let here : (not (lies_in time time b) || list_any (is_break_of control) []) ≡ true = or_left (not (lies_in time time b)) (list_any (is_break_of control) []) (not_from_false (lies_in time time b) (none_between time b)) in
+    and_from (not (lies_in time time b) || list_any (is_break_of control) []) (all_broke time time (control + 1) breaks []) here (none_broke time (control + 1) breaks)
+
+-- Rows lead to themselves from a time to the same.
+pub toward_itself : (level : Level) (breaks : List (Option ℕ)) (may_be_due : Bool) (time : ℕ) (rows : List PairRow) → Toward level breaks may_be_due time time rows []
+toward_itself level breaks may_be_due time rows = record { may_come = refl; broken = none_broke time 0 breaks }
+
+-- ---- without a change
+
+-- Images that mean exactly the pairs of a stage, at the time that was replied, and hold the primaries at that time bear it, whether
+-- the next line was heard or not.
+pub rests : (run : Run) (s : Stage) (shape : Shape) (images : Images) (means : Means) → means_in shape images ≡ Some means → means.session ≡ run.session → means.level ≡ run.level → MeansPairs s means → HoldsPrimaries run shape images means.table.rows s.replied
+    → AreCounted run.rises s.past → ((line : TimedCommand) → s.next ≡ Some line → s.replied ≤ line.time) → Bears run s shape images s.replied
+rests run s shape images means defined session level pairs holds counted later = record {
+  means = means;
+  defined = defined;
+  session = session;
+  level = level;
+  at = pairs.time;
+  ended = inr pairs.ended;
+  in_time = (omega arith, timed s.next later);
+  rows = rested s.pairs.is_ended;
+  tracks = holds;
+}
+  where
+    timed : (n : Option TimedCommand) → ((line : TimedCommand) → n ≡ Some line → s.replied ≤ line.time) → (let T : Type 0 = elim n [ None ↦ s.replied ≡ s.replied | Some line ↦ elim s.pairs.is_ended [ true ↦ s.replied ≡ s.replied | false ↦ s.replied ≤ line.time ] ] in T)
+    timed None later = refl
+    timed (Some line) later = by_end s.pairs.is_ended
+      where
+        by_end : (e : Bool) → (let T : Type 0 = elim e [ true ↦ s.replied ≡ s.replied | false ↦ s.replied ≤ line.time ] in T)
+        by_end true = refl
+        by_end false = later line refl
+
+    rested : (e : Bool) → (let T : Type 0 = elim e [ true ↦ means.table.rows ≡ s.pairs.table.rows | false ↦ AreOnTheWay run s s.replied means.table.rows ⊎ AreAfterLine run s s.replied means.table.rows ] in T)
+    rested true = pairs.rows
+    rested false = inl (record { changes = []; toward = toward_itself run.level (breaks_of run) (not (is_none s.next)) s.replied s.pairs.table.rows; counted = counted_none; made = pairs.rows })
+      where
+        counted_none : AreCounted run.rises (s.past ++ [])
+        counted_none = subst (λ (l : List Timed). AreCounted run.rises l) (sym (append-nil s.past)) counted
+
+-- So they do right behind a reply.
+pub rests_after : (run : Run) (s : Stage) (a : Answered) → IsAnswered run s a → (said : List ℕ) (plant : PlantState) (c : Choice) (means : Means) → means_of plant c ≡ Some means → means.session ≡ run.session → means.level ≡ run.level
+    → MeansPairs (stage_after s a) means → HoldsPrimaries run (shape_of plant) c means.table.rows (replied_after s a.line) → AreUpTo (replied_after s a.line) (times_said said) → BearsTime run (stage_after s a) said plant c
+rests_after run s a answered said plant c means defined session level pairs holds up_to = record {
+  time = replied_after s a.line;
+  bears = rests run (stage_after s a) (shape_of plant) c means defined session level pairs holds answered.counted (λ line heard. absurd cc);
+  not_earlier = up_to;
+}
+
+-- And they do while the next line is heard.
+pub rests_now : (run : Run) (grammar : List ℕ → Option TimedCommand) (script : List ℕ) (lines : List Answered) (text : List ℕ) → IsCourse run lines → (said : List ℕ) (plant : PlantState) (c : Choice) (means : Means) → means_of plant c ≡ Some means → means.session ≡ run.session
+    → means.level ≡ run.level → MeansPairs (stage_now run grammar script lines text) means → let replied = (stage_at run lines (length lines)).replied in HoldsPrimaries run (shape_of plant) c means.table.rows replied → AreUpTo replied (times_said said)
+    → BearsTime run (stage_now run grammar script lines text) said plant c
+rests_now run grammar script lines text course said plant c means defined session level pairs holds up_to =
+    let s = stage_at run lines (length lines) in
+    record {
+      time = s.replied;
+      bears = rests run (stage_now run grammar script lines text) (shape_of plant) c means defined session level pairs holds (past_counted run lines course (length lines) (itself (length lines)))
+          (λ line heard. next_not_before grammar (length lines) s.replied (length (texts_of lines ++ text) == length script) text line heard);
+      not_earlier = up_to;
+    }
+
+-- ---- a line is heard
+
+-- Where no line was heard the time is the one that was replied.
+pub exact_time : (run : Run) (s : Stage) (shape : Shape) (images : Images) (time : ℕ) → s.next ≡ None → Bears run s shape images time → time ≡ s.replied
+exact_time run s shape images time none b = exact s.next none b.in_time
+  where
+    exact : (n : Option TimedCommand) → n ≡ None → IsTime (record s { next = n }) time → time ≡ s.replied
+    exact None is t = t.1
+    exact (Some line) is t = absurd cc
+
+-- So no time that was said is later.
+pub said_up_to : (run : Run) (s : Stage) (said : List ℕ) (plant : PlantState) (c : Choice) → s.next ≡ None → BearsTime run s said plant c → AreUpTo s.replied (times_said said)
+said_up_to run s said plant c none b = subst (λ (z : ℕ). AreUpTo z (times_said said)) (exact_time run s (shape_of plant) c b.time none b.bears) b.not_earlier
+
+-- What is borne where no line was heard is borne with any line that isn't before the last reply.
+pub bears_heard : (run : Run) (s : Stage) (heard : Option TimedCommand) (shape : Shape) (images : Images) (time : ℕ) → s.next ≡ None → ((line : TimedCommand) → heard ≡ Some line → s.replied ≤ line.time) → Bears run s shape images time
+    → Bears run (record s { next = heard }) shape images time
+bears_heard run s heard shape images time none later b = record {
+  means = b.means;
+  defined = b.defined;
+  session = b.session;
+  level = b.level;
+  at = b.at;
+  ended = inr (flagged s.next none b.ended);
+  in_time = (b.in_time.0, timed heard later);
+  rows = rested s.pairs.is_ended b.rows;
+  tracks = b.tracks;
+}
+  where
+    exactly : time ≡ s.replied
+    exactly = exact_time run s shape images time none b
+
+    flagged : (n : Option TimedCommand) → n ≡ None → IsFlag run (record s { next = n }) b.means.ended → b.means.ended ≡ s.pairs.is_ended
+    flagged None is (inl accepted) = absurd cc
+    flagged None is (inr same) = same
+    flagged (Some line) is flag = absurd cc
+
+    timed : (n : Option TimedCommand) → ((line : TimedCommand) → n ≡ Some line → s.replied ≤ line.time) → (let T : Type 0 = elim n [ None ↦ time ≡ s.replied | Some line ↦ elim s.pairs.is_ended [ true ↦ time ≡ s.replied | false ↦ time ≤ line.time ] ] in T)
+    timed None later = exactly
+    timed (Some line) later = by_end s.pairs.is_ended
+      where
+        by_end : (e : Bool) → (let T : Type 0 = elim e [ true ↦ time ≡ s.replied | false ↦ time ≤ line.time ] in T)
+        by_end true = exactly
+        by_end false = omega (arith, exactly, later line refl)
+
+    none_due : not (is_none s.next) ≡ false
+    none_due = ap (λ (n : Option TimedCommand). not (is_none n)) none
+
+    rested : (e : Bool) → (let T : Type 0 = elim e [ true ↦ b.means.table.rows ≡ s.pairs.table.rows | false ↦ AreOnTheWay run s time b.means.table.rows ⊎ AreAfterLine run s time b.means.table.rows ] in T)
+        → (let T : Type 0 = elim e [ true ↦ b.means.table.rows ≡ s.pairs.table.rows | false ↦ AreOnTheWay run (record s { next = heard }) time b.means.table.rows ⊎ AreAfterLine run (record s { next = heard }) time b.means.table.rows ] in T)
+    rested true same = same
+    rested false (inl way) = inl (record {
+      changes = way.changes;
+      toward = record {
+        may_come = due_wider run.level (breaks_of run) (not (is_none heard)) NoneDue s.replied time s.pairs.table.rows way.changes
+            (subst (λ (d : Bool). may_all_come run.level (breaks_of run) d NoneDue s.replied time s.pairs.table.rows way.changes ≡ true) none_due way.toward.may_come);
+        broken = way.toward.broken;
+      };
+      counted = way.counted;
+      made = way.made;
+    })
+    rested false (inr after) = absurd (differ s.next after.line none after.heard)
+      where
+        differ : (n : Option TimedCommand) (line : TimedCommand) → n ≡ None → n ≡ Some line → ⊥
+        differ None line is heard = cc
+        differ (Some l) line is heard = cc
+
+pub bears_time_heard : (run : Run) (s : Stage) (heard : Option TimedCommand) (said : List ℕ) (plant : PlantState) (c : Choice) → s.next ≡ None → ((line : TimedCommand) → heard ≡ Some line → s.replied ≤ line.time) → BearsTime run s said plant c
+    → BearsTime run (record s { next = heard }) said plant c
+bears_time_heard run s heard said plant c none later b = record { time = b.time; bears = bears_heard run s heard (shape_of plant) c b.time none later b.bears; not_earlier = b.not_earlier }
