@@ -2,6 +2,7 @@ mod Functions
 pub mod Pieces
 pub mod Replies
 pub mod Spelled
+pub mod Stamped
 pub mod Counting
 pub mod Lines
 pub mod Standing

@@ -1,6 +1,6 @@
 -- What choices bear where nothing changed since the last reply, and when a line was heard.
-use Rattle.std.proofs.Common.{◌≡◌, ◌⊎◌, inl, inr, ℕ, ◌+◌, ◌≤◌, Bool, true, false, not, List, [], ◌∷◌, ◌++◌, length, Option, Some, None, refl, sym, ap, subst, append-nil, arith}
-use Rattle.std.specs.Prelude.{◌==◌, ◌&&◌, ◌||◌, is_none, nat_le, nat_lt}
+use Rattle.std.proofs.Common.{◌≡◌, ◌⊎◌, inl, inr, ℕ, ◌+◌, ◌≤◌, Bool, true, false, not, List, [], ◌∷◌, ◌++◌, length, Option, Some, None, refl, sym, ap, subst, append-nil, arith, ◌∙◌}
+use Rattle.std.specs.Prelude.{◌==◌, ◌&&◌, ◌||◌, is_none, nat_le, nat_lt, unwrap_or}
 use Rattle.std.specs.List.{list_any}
 use Rattle.std.proofs.lemmas.Bool.{and_from, and_left, and_parts, and_right, cases_lt, le-ltb, lt-leb, or_left, not_from_false}
 use Rattle.pair_table.specs.declared.level.Level.{Level}
@@ -124,6 +124,10 @@ exact_time run s shape images time none b = exact s.next none b.in_time
 -- So no time that was said is later.
 pub said_up_to : (run : Run) (s : Stage) (said : List ℕ) (plant : PlantState) (c : Choice) → s.next ≡ None → BearsTime run s said plant c → AreUpTo s.replied (times_said said)
 said_up_to run s said plant c none b = subst (λ (z : ℕ). AreUpTo z (times_said said)) (exact_time run s (shape_of plant) c b.time none b.bears) b.not_earlier
+
+-- Nor is one later than the time that was replied where the choice means exactly the stage's pairs.
+pub said_replied : (run : Run) (s : Stage) (said : List ℕ) (plant : PlantState) (c : Choice) (means : Means) → means_of plant c ≡ Some means → MeansPairs s means → BearsTime run s said plant c → AreUpTo s.replied (times_said said)
+said_replied run s said plant c means is pairs b = subst (λ (z : ℕ). AreUpTo z (times_said said)) (sym b.bears.at ∙ ap (λ (o : Option Means). (unwrap_or o means).time.0) (sym b.bears.defined ∙ is) ∙ pairs.time) b.not_earlier
 
 -- What is borne where no line was heard is borne with any line that isn't before the last reply.
 pub bears_heard : (run : Run) (s : Stage) (heard : Option TimedCommand) (shape : Shape) (images : Images) (time : ℕ) → s.next ≡ None → ((line : TimedCommand) → heard ≡ Some line → s.replied ≤ line.time) → Bears run s shape images time

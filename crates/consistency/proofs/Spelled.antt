@@ -28,7 +28,7 @@ pub data AreWords : List (List ℕ) → Type 0 where
 abbrev pub spelled : (word : List ℕ) → (others : List (List ℕ)) → List ℕ
 spelled word others = word ++ flat_map (λ w. 32 ∷ w) others
 
-has_no_both : (byte : ℕ) (a b : List ℕ) → HasNo byte a → HasNo byte b → HasNo byte (a ++ b)
+pub has_no_both : (byte : ℕ) (a b : List ℕ) → HasNo byte a → HasNo byte b → HasNo byte (a ++ b)
 has_no_both byte a b first second = list_any-append (λ x. nat_eq x byte) a b ∙ or_from (list_any (λ x. nat_eq x byte) a) (list_any (λ x. nat_eq x byte) b) first second
 
 -- ---- words of a line

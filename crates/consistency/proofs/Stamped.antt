@@ -1,0 +1,68 @@
+-- The times that replies say: the one behind `T=` in the reply line.
+use Rattle.std.proofs.Common.{◌≡◌, ℕ, zero, suc, ◌^◌, ◌/◌, ◌%◌, ◌<◌, Bool, true, false, nat_eq, List, [], ◌∷◌, ◌++◌, refl, ap, ◌∙◌, append-nil, arith}
+use Rattle.std.specs.Prelude.{codes}
+use Rattle.std.specs.List.{flat_map, list_any}
+use Rattle.std.proofs.lemmas.Bool.{ne_eqb, or_from, or_parts}
+use Rattle.std.proofs.lemmas.Bool.Decides.{nat_tests}
+use Rattle.pair_table.specs.declared.command.Command.{Command}
+use Rattle.pair_table.specs.declared.command.Command.TheVariants.{Start, AddPair, DelPair, Suspend, Query, End}
+use Rattle.tod_stamp.specs.Stamps.{hex_digit, hex_digits, stamp_text}
+use Rattle.tod_stamp.proofs.TextLaws.{texts_back}
+use Rattle.consistency.specs.Replies.{answer_word, command_word}
+use Rattle.consistency.specs.Times.{time_behind, time_in_word, times_in_line, times_in_words, times_of, times_said}
+use Rattle.consistency.proofs.Pieces.{line_ended}
+use Rattle.consistency.proofs.Spelled.{AreWords, HasNo, IsWord, has_no_both, no_feed_spelled, spelled, words_spelled}
+
+-- The times of a line of words are those in the words.
+pub times_spelled : (word : List ℕ) (others : List (List ℕ)) → IsWord word → AreWords others → times_said (spelled word others ++ 10 ∷ []) ≡ times_in_words [] (word ∷ others)
+times_spelled word others is are =
+    ap (flat_map times_in_line) (line_ended [] (spelled word others) refl (no_feed_spelled word others is are)) ∙ append-nil (times_in_line (spelled word others)) ∙ ap (times_in_words []) (words_spelled word others is are)
+
+-- ---- words without a time
+
+-- A word that doesn't begin with T tells none, and behind one that doesn't begin with J none is told.
+no_time_in : (word : List ℕ) → HasNo 84 word → time_in_word word ≡ []
+no_time_in [] none = refl
+no_time_in (x ∷ word) none = rw (or_parts (nat_eq x 84) (list_any (λ b. nat_eq b 84) word) none).0 refl
+
+no_time_behind : (before word : List ℕ) → HasNo 74 before → time_behind before word ≡ []
+no_time_behind [] word none = refl
+no_time_behind (x ∷ before) word none = rw (or_parts (nat_eq x 74) (list_any (λ b. nat_eq b 74) before) none).0 refl
+
+-- Neither T nor J is a hexadecimal digit.
+high_digit_not : (d byte : ℕ) → d < 16 → 70 < byte → nat_eq (hex_digit d) byte ≡ false
+high_digit_not d byte low high = ne_eqb (hex_digit d) byte (grind (arith, nat_tests))
+
+digits_lie_below : (count n byte : ℕ) → 70 < byte → HasNo byte (hex_digits count n)
+digits_lie_below zero n byte high = refl
+digits_lie_below (suc count) n byte high = has_no_both byte (hex_digits count (n / 16)) (hex_digit (n % 16) ∷ []) (digits_lie_below count (n / 16) byte high) (or_from (nat_eq (hex_digit (n % 16)) byte) false (high_digit_not (n % 16) byte (omega arith) high) refl)
+
+-- The words of commands and answers tell none.
+command_tells_none : (command : Command) → (time_in_word (command_word command) ≡ []) × HasNo 74 (command_word command)
+command_tells_none (Start level) = (refl, refl)
+command_tells_none (AddPair primary secondary) = (refl, refl)
+command_tells_none (DelPair choice) = (refl, refl)
+command_tells_none (Suspend choice) = (refl, refl)
+command_tells_none Query = (refl, refl)
+command_tells_none End = (refl, refl)
+
+pub answer_tells_none : (is_accepted : Bool) → (time_in_word (answer_word is_accepted) ≡ []) × HasNo 74 (answer_word is_accepted)
+answer_tells_none true = (refl, refl)
+answer_tells_none false = (refl, refl)
+
+-- One word on, where the word and the one before it tell none.
+word_on : (before word : List ℕ) (words : List (List ℕ)) → time_in_word word ≡ [] → HasNo 74 before → times_in_words before (word ∷ words) ≡ times_in_words word words
+word_on before word words none behind = rw (none, no_time_behind before word behind) refl
+
+-- The times of a reply line are those behind its answer.
+pub times_behind_answer : (is_accepted : Bool) (time : ℕ) (command : Command) (others : List (List ℕ)) → times_in_words [] (stamp_text time ∷ command_word command ∷ answer_word is_accepted ∷ others) ≡ times_in_words (answer_word is_accepted) others
+times_behind_answer is_accepted time command others =
+    let told = command_tells_none command in
+    word_on [] (stamp_text time) (command_word command ∷ answer_word is_accepted ∷ others) (no_time_in (stamp_text time) (digits_lie_below 16 time 84 (omega arith))) refl
+    ∙ word_on (stamp_text time) (command_word command) (answer_word is_accepted ∷ others) told.0 (digits_lie_below 16 time 74 (omega arith)) ∙ word_on (command_word command) (answer_word is_accepted) others (answer_tells_none is_accepted).0 told.1
+
+-- Behind `T=` stands its stamp.
+pub time_of_stamp : (before : List ℕ) (time : ℕ) → HasNo 74 before → time < 2 ^ 64 → times_in_words before ((codes "T=" ++ stamp_text time) ∷ []) ≡ time ∷ []
+time_of_stamp before time none below =
+    let own = time_in_word (codes "T=" ++ stamp_text time) in
+    ap (λ (l : List ℕ). own ++ l ++ []) (no_time_behind before (codes "T=" ++ stamp_text time) none) ∙ append-nil (own ++ []) ∙ append-nil own ∙ ap times_of (texts_back (record { 0 = time }) below)
