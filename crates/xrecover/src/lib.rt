@@ -13,3 +13,6 @@ pub use device_list::DeviceList;
 pub use outcome::Outcome;
 pub use recover_error::RecoverError;
 pub use recovering::recover;
+
+#[cfg(test)]
+mod tests;
