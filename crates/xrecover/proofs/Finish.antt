@@ -1,5 +1,5 @@
 -- A recovery by its steps: what was read first, and the pairs that were redone then.
-use Rattle.std.proofs.Common.{◌≡◌, ◌⊎◌, ◌≤◌, inl, inr, ℕ, List, Result, Ok, Err, None, refl, sym, ap, subst, ◌∙◌, arith}
+use Rattle.std.proofs.Common.{◌≡◌, ℕ, List, Result, Ok, Err, None, refl, sym, ap, subst, ◌∙◌, arith}
 use Rattle.std.specs.Prelude.{All, Contains, IsErrOf, slice_index_or}
 use Rattle.xrc_edge.specs.Causes.{Rose}
 use Rattle.crash_plant.specs.declared.device.Device.{Device}
@@ -18,7 +18,7 @@ use Rattle.xrc_journal.specs.Items.{Item}
 use Rattle.xrecover.specs.declared.recover_error.RecoverError.{RecoverError}
 use Rattle.xrecover.specs.declared.recover_error.RecoverError.TheVariants.{Site, Other}
 use Rattle.xrecover.specs.Answers.{EndsLate, HasWalk, IsEarly, IsLate, IsOf, IsRecoverable, Says}
-use Rattle.xrecover.specs.Pairs.{AreFaulty, HasFailure, is_duplex}
+use Rattle.xrecover.specs.Pairs.{AreFaulty, is_duplex}
 use Rattle.xrecover.specs.Redone.{Draws, IsRedone, Recovers, Redone, meant_rows, rows_of}
 use Rattle.xrecover.specs.Works.{Nothing, Works}
 use Rattle.xrecover.proofs.Later.{walk_later}
@@ -37,8 +37,7 @@ says_as plant session good other (Site (TooSmall d needed)) s = s
 says_as plant session good other (Site NoMemory) s = s
 
 pub ends_late : (plant : PlantState) (e : RecoverError) → IsLate plant e → EndsLate e
-ends_late plant e (inl is) = subst (λ (k : RecoverError). EndsLate k) (sym is) tt
-ends_late plant e (inr fault) = subst (λ (k : RecoverError). EndsLate k) (sym fault.1) tt
+ends_late plant e fault = subst (λ (k : RecoverError). EndsLate k) (sym fault.1) tt
 
 -- Nothing was written where that is told of no plant.
 pub no_writes : (tells : Type 0) (step : Device → List ℕ → List ℕ → Type 0) (old new : PlantState) → ¬ tells → Works tells step old new → Works tells Nothing old new
@@ -54,8 +53,7 @@ module _ (tells : Type 0) (old one : PlantState) (reads : ReadsAll tells old one
 
   -- a late error, after the mark was the session's
   pub late_says : {X : Type 0} (session : List ℕ) (good : X → Type 0) → tells → IsOf old session → (e : RecoverError) → IsLate one e → (let r : Result X RecoverError = Err e in Says old session good r)
-  late_says {X = X} session good told of e (inl is) = subst (λ (k : RecoverError). let r : Result X RecoverError = Err k in Says old session good r) (sym is) of
-  late_says {X = X} session good told of e (inr fault) = subst (λ (k : RecoverError). let r : Result X RecoverError = Err k in Says old session good r) (sym fault.1) (of, seen_reached old one (same_seen tells old one reads told) (Journal fault.0) fault.2)
+  late_says {X = X} session good told of e fault = subst (λ (k : RecoverError). let r : Result X RecoverError = Err k in Says old session good r) (sym fault.1) (of, seen_reached old one (same_seen tells old one reads told) (Journal fault.0) fault.2)
 
   module _ (session : List ℕ) (means : Means) (recoverable : tells → IsRecoverable old session means) (new : PlantState) where
     rows_are : tells → meant_rows old old.bytes ≡ means.table.rows
@@ -90,9 +88,6 @@ module _ (tells : Type 0) (old one : PlantState) (reads : ReadsAll tells old one
 module _ (old one new : Device → ℕ) (same : (d : Device) → one d ≡ old d) where
   pub rose_since : (d : Device) → Rose (one d) (new d) → Rose (old d) (new d)
   rose_since d rose = subst (λ (n : ℕ). Rose n (new d)) (same d) rose
-
-  pub failure_since : HasFailure one new → HasFailure old new
-  failure_since f = (f.0, rose_since (Volume f.0) f.1)
 
   pub faulty_since : (rows : List PairRow) (failed : List ℕ) → AreFaulty rows one new failed → AreFaulty rows old new failed
   faulty_since rows failed f = record { has_failed = f.has_failed; listed = f.listed; rose = λ v is. ((f.rose v is).0, rose_since (Volume v) (f.rose v is).1) }

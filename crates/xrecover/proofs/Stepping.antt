@@ -1,5 +1,5 @@
 -- A duplex pair redone behind others: what its call needs, and what stands afterwards.
-use Rattle.std.proofs.Common.{◌≡◌, ◌≢◌, ◌≤◌, ◌<◌, ◌+◌, ◌++◌, ◌∷◌, inl, inr, ℕ, Bool, true, false, cond, List, [], min, take, drop, None, Some, refl, sym, ◌∙◌, ap, subst, arith}
+use Rattle.std.proofs.Common.{◌≡◌, ◌≢◌, ◌≤◌, ◌<◌, ◌+◌, ◌++◌, ◌∷◌, ℕ, Bool, true, false, cond, List, [], min, take, drop, None, Some, refl, sym, ◌∙◌, ap, subst, arith}
 use Rattle.std.specs.Prelude.{slice_get}
 use Rattle.std.proofs.lemmas.List.{take-append-drop}
 use Rattle.xrc_edge.specs.Causes.{Rose}
@@ -63,7 +63,7 @@ module _ (tells : Type 0) (rows : List PairRow) (i : ℕ) (failed : List ℕ) (o
 
     -- A fault is of a journal that the walk enters.
     pub late_before : (told : tells) (e : SiteError) → IsWalkFault cur e → IsLate old (Site e)
-    late_before told e fault = inr (fault.0, ap Site fault.1, enters_before old cur going.works.site (going.works.bytes told Control) (going.works.bytes told State) (λ j. going.works.bytes told (Journal j)) fault.0 fault.2)
+    late_before told e fault = (fault.0, ap Site fault.1, enters_before old cur going.works.site (going.works.bytes told Control) (going.works.bytes told State) (λ j. going.works.bytes told (Journal j)) fault.0 fault.2)
 
   -- A pair that isn't duplex was left.
   pub other_going : (r : PairRow) → slice_get rows i ≡ Some r → is_duplex r.state ≡ false → Going tells (walked old old.bytes) (take (i + 1) rows) failed old cur

@@ -79,10 +79,10 @@ pub record FailsSo {X : Type 0} (old new : Device → ℕ) (result : Result X Re
   pub rose : (d : Device) → IsErrOf result (Site (Fault d)) → Rose (old d) (new d)
   pub others : (d : Device) → ¬ IsErrOf result (Site (Fault d)) → new d ≡ old d
 
--- a journal's fault, or want of memory
+-- a journal's fault
 abbrev pub EndsLate : RecoverError → Type 0
 EndsLate (Site (Fault (Journal j))) = Unit {0}
-EndsLate (Site NoMemory) = Unit {0}
+EndsLate (Site NoMemory) = ⊥
 EndsLate (Site (Fault Control)) = ⊥
 EndsLate (Site (Fault State)) = ⊥
 EndsLate (Site (Fault (Volume v))) = ⊥
@@ -91,9 +91,9 @@ EndsLate (Site (Damaged d place)) = ⊥
 EndsLate (Site (TooSmall d needed)) = ⊥
 EndsLate (Other name) = ⊥
 
--- A late answer: a fault of a journal that the walk enters, or want of memory.
+-- A late answer: a fault of a journal that the walk enters.
 abbrev pub IsLate : PlantState → RecoverError → Type 0
-IsLate plant e = (e ≡ Site NoMemory) ⊎ ((j : ℕ) × (e ≡ Site (Fault (Journal j))) × IsInTurn plant (Journal j))
+IsLate plant e = (j : ℕ) × (e ≡ Site (Fault (Journal j))) × IsInTurn plant (Journal j)
 
 -- each other answer
 abbrev pub IsEarly : RecoverError → Type 0

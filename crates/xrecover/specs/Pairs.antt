@@ -42,7 +42,3 @@ pub record AreFaulty (rows : List PairRow) (before now : Device → ℕ) (failed
   pub has_failed : ℕ → Bool
   pub listed : failed ≡ filter has_failed (duplex_devices rows)
   pub rose : (v : ℕ) → IsTrue (has_failed v) → HasDuplex rows v × Rose (before (Volume v)) (now (Volume v))
-
--- The count of some volume rose.
-abbrev pub HasFailure : (before now : Device → ℕ) → Type 0
-HasFailure before now = (v : ℕ) × Rose (before (Volume v)) (now (Volume v))

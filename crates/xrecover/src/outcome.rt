@@ -1,4 +1,4 @@
-use pair_table::DeviceList;
+use crate::DeviceList;
 use site_means::Means;
 
 /// What was recovered.

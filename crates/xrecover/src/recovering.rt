@@ -1,6 +1,6 @@
 //! The recovery of a site.
 
-ghost use Rattle.std.specs.Prelude.{◌≡◌, ◌≤◌, ◌<◌, ◌⊎◌, ℕ, IfOk, IsErrOf, IsTrue, None, Some, Err};
+ghost use Rattle.std.specs.Prelude.{◌≡◌, ◌≤◌, ◌<◌, [], ℕ, length, vec_capacity, IfOk, IsErrOf, IsTrue, None, Some, Err};
 ghost use Rattle.xrc_edge.specs.Causes.{Rose};
 ghost use Rattle.crash_plant.specs.declared.device.Device.{Device as AnyDevice};
 ghost use Rattle.crash_plant.specs.declared.device.Device.TheVariants.{Journal};
@@ -8,13 +8,13 @@ ghost use Rattle.crash_plant.specs.Calls.{NoneLent};
 ghost use Rattle.crash_plant.specs.Choices.{AllFollow};
 ghost use Rattle.pair_table.specs.Tables.{are_below};
 ghost use Rattle.site_means.specs.declared.site_error.SiteError.{SiteError as SiteErrorValue};
-ghost use Rattle.site_means.specs.declared.site_error.SiteError.TheVariants.{Fault, NoMemory, TooSmall};
+ghost use Rattle.site_means.specs.declared.site_error.SiteError.TheVariants.{Fault, TooSmall};
 ghost use Rattle.site_means.specs.Answers.{HasSpot, first_short, need};
 ghost use Rattle.site_means.specs.Sight.{walked};
 ghost use Rattle.site_means.specs.Steps.{HasRoom};
 ghost use Rattle.xrecover.specs.declared.recover_error.RecoverError.{RecoverError as RecoverErrorValue};
 ghost use Rattle.xrecover.specs.declared.recover_error.RecoverError.TheVariants.{Site};
-ghost use Rattle.xrecover.specs.Pairs.{AreFaulty, HasFailure, first_small};
+ghost use Rattle.xrecover.specs.Pairs.{AreFaulty, first_small};
 ghost use Rattle.xrecover.specs.Answers.{HasWalk, IsEarly, IsLate, IsRecoverable, Says};
 ghost use Rattle.xrecover.specs.Works.{Nothing, Works};
 ghost use Rattle.xrecover.specs.Redone.{Recovers, Redone, meant_rows};
@@ -23,20 +23,28 @@ ghost use Rattle.xrecover.specs.Sees.{IsSettled, SeesSame};
 use crate::meaning::{Meant, is_duplex, read_meant};
 use crate::redoing::redo_pair;
 use crate::volumes::Tools;
-use crate::{Outcome, RecoverError};
+use crate::{DeviceList, Outcome, RecoverError};
 use crash_plant::Plant;
-use pair_table::DeviceList;
 use site_means::longest_body;
 use std::alloc::Global;
 use std::thread::Threads;
 use tod_stamp::Session;
+use xrc_edge::NoMemory;
 
-/// Redoes the duplex pairs in the order of their rows, and gives the devices that failed.
+/// A list with no device, and with room for so many.
+fn make_room(alloc: Global, devices: u16) -> Result<Vec<u16>, NoMemory>
+    ensures empty { IfOk result (λ room. room.items ≡ []) }
+    ensures room { IfOk result (λ room. devices ≤ vec_capacity room) }
+{
+    Ok(Vec::with_capacity(alloc, usize::from(devices))?)
+}
+
+/// Redoes the duplex pairs in the order of their rows, and puts the devices that failed into the list. It takes no memory.
 fn redo_pairs<P: Plant>(
-    alloc: Global,
     plant: &mut P,
     meant: &Meant,
     tools: Tools,
+    failed: Vec<u16>,
 ) -> Result<DeviceList, RecoverError>
     requires home { NoneLent (P.state plant.old) }
     requires below { IsTrue (are_below (P.state plant.old).volumes meant.now.means.table.rows) }
@@ -45,14 +53,15 @@ fn redo_pairs<P: Plant>(
     requires long { (j : ℕ) → j < (P.state plant.old).journals → 1 ≤ (P.state plant.old).lengths (Journal j) }
     requires room { HasRoom (P.state plant.old) tools.body.room }
     requires walk { P.tells → HasWalk (P.state plant.old) meant.now.mark }
+    requires empty { failed.items ≡ [] }
+    requires places { length meant.now.means.table.rows ≤ vec_capacity failed }
     ensures works { Works P.tells (Recovers meant.now.means.table.rows (walked (P.state plant.old) (P.state plant.old).bytes)) (P.state plant.old) (P.state plant.new) }
     ensures failed { IfOk result (AreFaulty meant.now.means.table.rows (P.state plant.old).faults (P.state plant.new).faults) }
     ensures redone { P.tells → IfOk result (λ failed. Redone meant.now.means.table.rows (walked (P.state plant.old) (P.state plant.old).bytes) failed (P.state plant.old) (P.state plant.new)) }
     ensures late { P.tells → (e : RecoverErrorValue) → IsErrOf result e → IsLate (P.state plant.old) e }
-    ensures memory { IsErrOf result (Site NoMemory) → HasFailure (P.state plant.old).faults (P.state plant.new).faults }
     ensures fault { (d : AnyDevice) → IsErrOf result (Site (Fault d)) → Rose ((P.state plant.old).faults d) ((P.state plant.new).faults d) }
 {
-    let mut failed = DeviceList::make(alloc);
+    let mut failed = failed;
     let mut tools = tools;
     for place in 0..meant.means.table.len() {
         let row = *meant.means.table.row(place).unwrap();
@@ -60,11 +69,11 @@ fn redo_pairs<P: Plant>(
             let (again, has_failed) = redo_pair(plant, &meant.mark, &row, tools)?;
             tools = again;
             if has_failed {
-                failed.push(alloc, row.device)?;
+                failed.push_reserved(row.device);
             }
         }
     }
-    Ok(failed)
+    Ok(DeviceList::of(failed))
 }
 
 /// Recovers a session's site: on the volume of each duplex pair, in the order of the rows, each track of which the journals' walk has
@@ -72,8 +81,8 @@ fn redo_pairs<P: Plant>(
 /// A volume that fails is left at its first fault, and the other pairs are done.
 ///
 /// Other is answered exactly where the chosen mark names another session, before the state is read. What else the devices don't
-/// mean is answered before anything is written, and so is the first duplex pair's volume that is too small for its cylinders. Only
-/// a journal's fault, where its items are read again, and want of memory for the list of volumes that failed can come later.
+/// mean is answered before anything is written, and so are the first duplex pair's volume that is too small for its cylinders, and
+/// want of memory. Only a journal's fault, where its items are read again, can come later.
 pub fn recover<R: Threads + Sync, P: Plant>(
     _rt: &R,
     alloc: Global,
@@ -94,14 +103,13 @@ pub fn recover<R: Threads + Sync, P: Plant>(
     ensures works { Works P.tells (Recovers (meant_rows (P.state plant.old) (P.state plant.old).bytes) (walked (P.state plant.old) (P.state plant.old).bytes)) (P.state plant.old) (P.state plant.new) }
     // At every moment a crash leaves what means the same, with the same tracks, so that a second recovery gives what the first would.
     ensures moments { P.tells → IsSettled (P.state plant.old) → AllFollow (SeesSame (P.state plant.old)) (P.state plant.old) (P.state plant.new) }
-    // All answers but a journal's fault and want of memory come before anything is written, and so does want of memory where no
-    // volume's count rose.
+    // All answers but a journal's fault come before anything is written, want of memory too.
     ensures unwritten { (e : RecoverErrorValue) → IsErrOf result e → IsEarly e → Works P.tells Nothing (P.state plant.old) (P.state plant.new) }
-    ensures memory { IsErrOf result (Site NoMemory) → Works P.tells Nothing (P.state plant.old) (P.state plant.new) ⊎ HasFailure (P.state plant.old).faults (P.state plant.new).faults }
 {
     let meant = read_meant(alloc, plant, session)?;
     let tools = Tools::make(alloc, longest_body(plant))?;
-    let failed = redo_pairs(alloc, plant, &meant, tools)?;
+    let room = make_room(alloc, meant.means.table.len())?;
+    let failed = redo_pairs(plant, &meant, tools, room)?;
     Ok(Outcome {
         means: meant.means,
         failed,

@@ -1,15 +1,13 @@
-use Rattle.std.proofs.Common.{◌≡◌, ◌≤◌, ◌<◌, inl, inr, ℕ, List, [], Result, Ok, Err, refl, sym, ap, subst, ◌∙◌, arith, rules}
+use Rattle.std.proofs.Common.{◌≡◌, ◌≤◌, ◌<◌, ℕ, List, [], Result, Ok, Err, refl, sym, subst, ◌∙◌, arith, rules}
+use Rattle.std.proofs.lemmas.Result.{err_from_is_err_and}
 use Rattle.crash_plant.specs.declared.device.Device.TheVariants.{Journal}
 use Rattle.site_means.specs.Sight.{walked}
-use Rattle.site_means.specs.declared.site_error.SiteError.TheVariants.{NoMemory}
 use Rattle.site_means.proofs.Shorts.{are_long}
 use Rattle.xrecover.specs.declared.outcome.Outcome.{Outcome}
 use Rattle.xrecover.specs.declared.recover_error.RecoverError.{RecoverError}
-use Rattle.xrecover.specs.declared.recover_error.RecoverError.TheVariants.{Site}
 use Rattle.xrecover.specs.Answers.{EndsLate, IsRecoverable, Says}
 use Rattle.xrecover.specs.Redone.{Recovers, meant_rows}
-use Rattle.xrecover.proofs.Fails.{so_good}
-use Rattle.xrecover.proofs.Finish.{all_redone, all_works, ends_late, failure_since, late_says, no_writes, read_works, walk_now}
+use Rattle.xrecover.proofs.Finish.{all_redone, all_works, ends_late, late_says, no_writes, read_works, walk_now}
 use Rattle.xrecover.proofs.Seen.{sees_moments}
 use Rattle.xrecover.proofs.recovering.recover.Goals as goal
 
@@ -21,6 +19,12 @@ returns-in_err-meant-clause-moments g c = λ told settled.
 
 pub returns-in_err-tools-clause-moments : goal.returns-in_err-tools-clause-moments
 returns-in_err-tools-clause-moments g c = λ told settled.
+    let old = g.P.Plant.state c.args.plant.now in
+    let one = g.P.Plant.state c.read_meant.new.plant in
+    sees_moments g.P.Plant.tells told [] old one (read_works g.P.Plant.tells old one c.read_meant.ensures.reads [] (walked old old.bytes)) settled
+
+pub returns-in_err-room-clause-moments : goal.returns-in_err-room-clause-moments
+returns-in_err-room-clause-moments g c = λ told settled.
     let old = g.P.Plant.state c.args.plant.now in
     let one = g.P.Plant.state c.read_meant.new.plant in
     sees_moments g.P.Plant.tells told [] old one (read_works g.P.Plant.tells old one c.read_meant.ensures.reads [] (walked old old.bytes)) settled
@@ -40,7 +44,8 @@ returns-in_err-failed-clause-says g c = λ told.
     let old = g.P.Plant.state c.args.plant.now in
     let one = g.P.Plant.state c.read_meant.new.plant in
     let e = c.in_err-failed.field-0.0 in
-    let is : c.from_residual-in_err-failed.result ≡ Err e = search rules in
+    let p = err_from_is_err_and c.from_residual-in_err-failed.result c.from_residual-in_err-failed.ensures.1 in
+    let is : c.from_residual-in_err-failed.result ≡ Err e = cc (p.1, p.2) in
     subst (λ (r : Result Outcome RecoverError). Says old c.args.session (λ o. IsRecoverable old c.args.session o.means) r) (sym is)
     (late_says g.P.Plant.tells old one c.read_meant.ensures.reads {X = Outcome} c.args.session (λ o. IsRecoverable old c.args.session o.means) told (c.in_ok-meant.ensures.says told).0.of e (c.in_err-failed.ensures.late told e refl))
 
@@ -65,14 +70,6 @@ returns-in_err-failed-clause-unwritten g c = λ e is early.
     no_writes g.P.Plant.tells (Recovers (meant_rows old old.bytes) (walked old old.bytes)) old new
     (λ told. early (subst (λ (x : RecoverError). EndsLate x) (sym same) (ends_late one k (c.in_err-failed.ensures.late told k refl))))
     (all_works g.P.Plant.tells old one c.read_meant.ensures.reads c.args.session c.in_ok-meant.meant.means (λ told. (c.in_ok-meant.ensures.says told).0) new c.redo_pairs.ensures.works)
-
-pub returns-in_err-failed-clause-memory : goal.returns-in_err-failed-clause-memory
-returns-in_err-failed-clause-memory g c = λ is.
-    let old = g.P.Plant.state c.args.plant.now in
-    let one = g.P.Plant.state c.read_meant.new.plant in
-    let new = g.P.Plant.state c.redo_pairs.new.plant in
-    let same : c.in_err-failed.field-0.0 ≡ Site NoMemory = search rules in
-    inr (failure_since old.faults one.faults new.faults (so_good old.faults one.faults c.in_ok-meant.meant c.in_ok-meant.ensures.fails) (c.in_err-failed.ensures.memory (ap Err same)))
 
 pub returns-clause-redone : goal.returns-clause-redone
 returns-clause-redone g c = λ told.

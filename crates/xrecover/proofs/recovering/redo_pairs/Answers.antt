@@ -1,4 +1,4 @@
-use Rattle.std.proofs.Common.{◌≡◌, ◌++◌, ◌∷◌, ◌+◌, ◌<◌, ◌≤◌, inl, inr, ℕ, List, [], cond, true, false, length, take, Some, None, refl, sym, ap, subst, ◌∙◌, arith, rules}
+use Rattle.std.proofs.Common.{◌≡◌, ◌++◌, ◌∷◌, ◌+◌, ◌<◌, ◌≤◌, inl, inr, ℕ, List, [], cond, true, false, length, take, vec_capacity, vec_len, Some, None, refl, sym, ap, subst, ◌∙◌, arith, rules}
 use Rattle.std.specs.Prelude.{slice_get}
 use Rattle.std.specs.Option.{option_copied}
 use Rattle.xrecover.specs.declared.volumes.Tools.{Tools}
@@ -17,15 +17,22 @@ use Rattle.crash_plant.specs.Moments.{PlantState}
 use Rattle.xrecover.proofs.Going.{Going, going_faulty, going_first, going_redone}
 use Rattle.xrecover.proofs.Stepping.{late_before, other_going, pair_going, pair_long, pair_there, same_walk, stopped_works}
 use Rattle.xrecover.proofs.recovering.redo_pairs.Goals as goal
-use Rattle.xrecover.proofs.recovering.redo_pairs.Goals.{then-is_duplex+in_ok-again+then-has_failed+in_ok-push, then-is_duplex+in_ok-again+else-has_failed, else-is_duplex}
+use Rattle.xrecover.proofs.recovering.redo_pairs.Goals.{then-is_duplex+in_ok-again+then-has_failed, then-is_duplex+in_ok-again+else-has_failed, else-is_duplex}
 
 pub loop-place-init : goal.loop-place-init
 loop-place-init g c =
     let old = g.P.Plant.state c.args.plant.now in
     record {
-      going = subst (λ (l : List ℕ). Going g.P.Plant.tells (walked old old.bytes) [] l old old) (sym c.make-failed.ensures) (going_first g.P.Plant.tells (walked old old.bytes) old);
+      going = subst (λ (l : List ℕ). Going g.P.Plant.tells (walked old old.bytes) [] l old old) (sym c.requires.empty) (going_first g.P.Plant.tells (walked old old.bytes) old);
       room = refl;
+      count = omega (arith, c.args.failed.ok.0, ap length c.requires.empty);
+      places = c.requires.places;
     }
+
+pub push_reserved-requires : goal.push_reserved-requires
+push_reserved-requires g c =
+    let within : c.loop-place.place < length c.args.meant.now.means.table.rows = omega (arith, c.len-place-end.ensures.count, c.loop-place-test.true) in
+    omega (arith, within, c.loop-place.invariant.count, c.loop-place.invariant.places)
 
 pub unwrap-requires : goal.unwrap-requires
 unwrap-requires g c =
@@ -37,33 +44,25 @@ redo_pair-requires-clause-there g c κs within =
     let rows = c.args.meant.now.means.table.rows in
     let r = c.unwrap.result.now in
     let is : slice_get rows c.loop-place.place ≡ Some r = sym c.row.ensures.row ∙ ap option_copied c.unwrap.ensures in
-    pair_there g.P.Plant.tells rows c.loop-place.place c.loop-place.failed (g.P.Plant.state c.args.plant.now) (g.P.Plant.state c.loop-place.plant) c.loop-place.invariant.going r is c.requires.below
+    pair_there g.P.Plant.tells rows c.loop-place.place c.loop-place.failed.items (g.P.Plant.state c.args.plant.now) (g.P.Plant.state c.loop-place.plant) c.loop-place.invariant.going r is c.requires.below
 
 pub redo_pair-requires-clause-label : goal.redo_pair-requires-clause-label
 redo_pair-requires-clause-label g c κs within =
     let rows = c.args.meant.now.means.table.rows in
     let r = c.unwrap.result.now in
     let is : slice_get rows c.loop-place.place ≡ Some r = sym c.row.ensures.row ∙ ap option_copied c.unwrap.ensures in
-    pair_long g.P.Plant.tells rows c.loop-place.place c.loop-place.failed (g.P.Plant.state c.args.plant.now) (g.P.Plant.state c.loop-place.plant) c.loop-place.invariant.going r is c.requires.big (sym c.is_duplex.ensures ∙ c.if-is_duplex.true)
+    pair_long g.P.Plant.tells rows c.loop-place.place c.loop-place.failed.items (g.P.Plant.state c.args.plant.now) (g.P.Plant.state c.loop-place.plant) c.loop-place.invariant.going r is c.requires.big (sym c.is_duplex.ensures ∙ c.if-is_duplex.true)
 
 pub redo_pair-requires-clause-walk : goal.redo_pair-requires-clause-walk
 redo_pair-requires-clause-walk g c κs within = λ told.
-    (same_walk g.P.Plant.tells c.args.meant.now.means.table.rows c.loop-place.place c.loop-place.failed (g.P.Plant.state c.args.plant.now) (g.P.Plant.state c.loop-place.plant) c.loop-place.invariant.going c.args.meant.now.mark c.requires.walk told).has
+    (same_walk g.P.Plant.tells c.args.meant.now.means.table.rows c.loop-place.place c.loop-place.failed.items (g.P.Plant.state c.args.plant.now) (g.P.Plant.state c.loop-place.plant) c.loop-place.invariant.going c.args.meant.now.mark c.requires.walk told).has
 
 pub returns-in_err-again-clause-works : goal.returns-in_err-again-clause-works
 returns-in_err-again-clause-works g c =
     let rows = c.args.meant.now.means.table.rows in
     let r = c.unwrap.result.now in
     let is : slice_get rows c.loop-place.place ≡ Some r = sym c.row.ensures.row ∙ ap option_copied c.unwrap.ensures in
-    stopped_works g.P.Plant.tells rows c.loop-place.place c.loop-place.failed (g.P.Plant.state c.args.plant.now) (g.P.Plant.state c.loop-place.plant) c.loop-place.invariant.going c.args.meant.now.mark c.requires.walk r is
-    (sym c.is_duplex.ensures ∙ c.if-is_duplex.true) (g.P.Plant.state c.redo_pair.new.plant) c.redo_pair.ensures.works
-
-pub returns-in_err-push-clause-works : goal.returns-in_err-push-clause-works
-returns-in_err-push-clause-works g c =
-    let rows = c.args.meant.now.means.table.rows in
-    let r = c.unwrap.result.now in
-    let is : slice_get rows c.loop-place.place ≡ Some r = sym c.row.ensures.row ∙ ap option_copied c.unwrap.ensures in
-    stopped_works g.P.Plant.tells rows c.loop-place.place c.loop-place.failed (g.P.Plant.state c.args.plant.now) (g.P.Plant.state c.loop-place.plant) c.loop-place.invariant.going c.args.meant.now.mark c.requires.walk r is
+    stopped_works g.P.Plant.tells rows c.loop-place.place c.loop-place.failed.items (g.P.Plant.state c.args.plant.now) (g.P.Plant.state c.loop-place.plant) c.loop-place.invariant.going c.args.meant.now.mark c.requires.walk r is
     (sym c.is_duplex.ensures ∙ c.if-is_duplex.true) (g.P.Plant.state c.redo_pair.new.plant) c.redo_pair.ensures.works
 
 pub returns-in_err-again-clause-late : goal.returns-in_err-again-clause-late
@@ -73,7 +72,7 @@ returns-in_err-again-clause-late g c = λ told e is.
     let fault = c.in_err-again.ensures.told told c.in_err-again.field-0.0 refl in
     let same : e ≡ Site c.in_err-again.field-0.0 = search rules in
     subst (λ (k : RecoverError). IsLate old k) (sym same)
-    (late_before g.P.Plant.tells c.args.meant.now.means.table.rows c.loop-place.place c.loop-place.failed old cur c.loop-place.invariant.going c.args.meant.now.mark c.requires.walk told c.in_err-again.field-0.0 fault)
+    (late_before g.P.Plant.tells c.args.meant.now.means.table.rows c.loop-place.place c.loop-place.failed.items old cur c.loop-place.invariant.going c.args.meant.now.mark c.requires.walk told c.in_err-again.field-0.0 fault)
 
 pub loop-place-preserved : goal.loop-place-preserved
 loop-place-preserved g c =
@@ -85,32 +84,38 @@ loop-place-preserved g c =
     let r = c.unwrap.result.now in
     let is : slice_get rows i ≡ Some r = sym c.row.ensures.row ∙ ap option_copied c.unwrap.ensures in
     elim c.if-is_duplex.branch [
-      | then-is_duplex+in_ok-again+then-has_failed+in_ok-push w ↦
+      | then-is_duplex+in_ok-again+then-has_failed w ↦
           let new = g.P.Plant.state w.redo_pair.new.plant in
-          let done = pair_going g.P.Plant.tells rows i c.loop-place.failed old cur going c.args.meant.now.mark c.requires.walk r is (sym c.is_duplex.ensures ∙ w.if-is_duplex.true) new w.redo_pair.ensures.works
+          let done = pair_going g.P.Plant.tells rows i c.loop-place.failed.items old cur going c.args.meant.now.mark c.requires.walk r is (sym c.is_duplex.ensures ∙ w.if-is_duplex.true) new w.redo_pair.ensures.works
           true c.len-place-end.ensures.rules w.redo_pair.ensures.counts (λ flag. w.in_ok-again.ensures.failed w.if-has_failed.true) (λ told flag. absurd cc) in
-          let failed_is : c.if-is_duplex.failed ≡ c.loop-place.failed ++ r.device ∷ [] = w.failed-is ∙ w.in_ok-push.ensures.ok in
+          let failed_is : c.if-is_duplex.failed.items ≡ c.loop-place.failed.items ++ r.device ∷ [] = (λ i. (w.failed-is i).items) ∙ w.push_reserved.ensures.items in
           record {
-            going = subst (λ (p : PlantState). Going g.P.Plant.tells (walked old old.bytes) (take (i + 1) rows) c.if-is_duplex.failed old p) (ap g.P.Plant.state (sym w.plant-is))
+            going = subst (λ (p : PlantState). Going g.P.Plant.tells (walked old old.bytes) (take (i + 1) rows) c.if-is_duplex.failed.items old p) (ap g.P.Plant.state (sym w.plant-is))
                 (subst (λ (l : List ℕ). Going g.P.Plant.tells (walked old old.bytes) (take (i + 1) rows) l old new) (sym failed_is) done);
             room = ap (λ (t : Tools). t.body.room) w.tools-is ∙ w.in_ok-again.ensures.room ∙ c.loop-place.invariant.room;
+            count = omega (arith, ap vec_len w.failed-is, w.push_reserved.ensures.len, c.loop-place.invariant.count);
+            places = omega (arith, ap vec_capacity w.failed-is, w.push_reserved.ensures.capacity, c.loop-place.invariant.places);
           }
       | then-is_duplex+in_ok-again+else-has_failed w ↦
           let new = g.P.Plant.state w.redo_pair.new.plant in
-          let done = pair_going g.P.Plant.tells rows i c.loop-place.failed old cur going c.args.meant.now.mark c.requires.walk r is (sym c.is_duplex.ensures ∙ w.if-is_duplex.true) new w.redo_pair.ensures.works
+          let done = pair_going g.P.Plant.tells rows i c.loop-place.failed.items old cur going c.args.meant.now.mark c.requires.walk r is (sym c.is_duplex.ensures ∙ w.if-is_duplex.true) new w.redo_pair.ensures.works
           false c.len-place-end.ensures.rules w.redo_pair.ensures.counts (λ flag. absurd cc) (λ told flag. w.in_ok-again.ensures.redone told w.if-has_failed.false) in
-          let failed_is : c.if-is_duplex.failed ≡ c.loop-place.failed ++ [] = w.failed-is ∙ sym (append-nil c.loop-place.failed) in
+          let failed_is : c.if-is_duplex.failed.items ≡ c.loop-place.failed.items ++ [] = (λ i. (w.failed-is i).items) ∙ sym (append-nil c.loop-place.failed.items) in
           record {
-            going = subst (λ (p : PlantState). Going g.P.Plant.tells (walked old old.bytes) (take (i + 1) rows) c.if-is_duplex.failed old p) (ap g.P.Plant.state (sym w.plant-is))
+            going = subst (λ (p : PlantState). Going g.P.Plant.tells (walked old old.bytes) (take (i + 1) rows) c.if-is_duplex.failed.items old p) (ap g.P.Plant.state (sym w.plant-is))
                 (subst (λ (l : List ℕ). Going g.P.Plant.tells (walked old old.bytes) (take (i + 1) rows) l old new) (sym failed_is) done);
             room = ap (λ (t : Tools). t.body.room) w.tools-is ∙ w.in_ok-again.ensures.room ∙ c.loop-place.invariant.room;
+            count = omega (arith, ap vec_len w.failed-is, c.loop-place.invariant.count);
+            places = omega (arith, ap vec_capacity w.failed-is, c.loop-place.invariant.places);
           }
       | else-is_duplex w ↦
-          let done = other_going g.P.Plant.tells rows i c.loop-place.failed old cur going r is (sym c.is_duplex.ensures ∙ w.if-is_duplex.false) in
+          let done = other_going g.P.Plant.tells rows i c.loop-place.failed.items old cur going r is (sym c.is_duplex.ensures ∙ w.if-is_duplex.false) in
           record {
-            going = subst (λ (p : PlantState). Going g.P.Plant.tells (walked old old.bytes) (take (i + 1) rows) c.if-is_duplex.failed old p) (ap g.P.Plant.state (sym w.plant-is))
-                (subst (λ (l : List ℕ). Going g.P.Plant.tells (walked old old.bytes) (take (i + 1) rows) l old cur) (sym w.failed-is) done);
+            going = subst (λ (p : PlantState). Going g.P.Plant.tells (walked old old.bytes) (take (i + 1) rows) c.if-is_duplex.failed.items old p) (ap g.P.Plant.state (sym w.plant-is))
+                (subst (λ (l : List ℕ). Going g.P.Plant.tells (walked old old.bytes) (take (i + 1) rows) l old cur) (λ i. (sym w.failed-is i).items) done);
             room = ap (λ (t : Tools). t.body.room) w.tools-is ∙ c.loop-place.invariant.room;
+            count = omega (arith, ap vec_len w.failed-is, c.loop-place.invariant.count);
+            places = omega (arith, ap vec_capacity w.failed-is, c.loop-place.invariant.places);
           }
     ]
 
@@ -126,13 +131,15 @@ returns-clause-failed g c =
     let old = g.P.Plant.state c.args.plant.now in
     let rows = c.args.meant.now.means.table.rows in
     let whole : take c.loop-place.place rows ≡ rows = take_all c.loop-place.place rows (omega (arith, c.len-place-end.ensures.count, c.loop-place-test.false)) in
-    subst (λ (l : List PairRow). AreFaulty l old.faults (g.P.Plant.state c.loop-place.plant).faults c.loop-place.failed) whole
-    (going_faulty g.P.Plant.tells (walked old old.bytes) (take c.loop-place.place rows) c.loop-place.failed old (g.P.Plant.state c.loop-place.plant) c.loop-place.invariant.going)
+    subst (λ (l : List ℕ). AreFaulty rows old.faults (g.P.Plant.state c.loop-place.plant).faults l) (sym c.of.ensures)
+    (subst (λ (l : List PairRow). AreFaulty l old.faults (g.P.Plant.state c.loop-place.plant).faults c.loop-place.failed.items) whole
+    (going_faulty g.P.Plant.tells (walked old old.bytes) (take c.loop-place.place rows) c.loop-place.failed.items old (g.P.Plant.state c.loop-place.plant) c.loop-place.invariant.going))
 
 pub returns-clause-redone : goal.returns-clause-redone
 returns-clause-redone g c = λ told.
     let old = g.P.Plant.state c.args.plant.now in
     let rows = c.args.meant.now.means.table.rows in
     let whole : take c.loop-place.place rows ≡ rows = take_all c.loop-place.place rows (omega (arith, c.len-place-end.ensures.count, c.loop-place-test.false)) in
-    subst (λ (l : List PairRow). Redone l (walked old old.bytes) c.loop-place.failed old (g.P.Plant.state c.loop-place.plant)) whole
-    (going_redone g.P.Plant.tells (walked old old.bytes) (take c.loop-place.place rows) c.loop-place.failed old (g.P.Plant.state c.loop-place.plant) c.loop-place.invariant.going told)
+    subst (λ (l : List ℕ). Redone rows (walked old old.bytes) l old (g.P.Plant.state c.loop-place.plant)) (sym c.of.ensures)
+    (subst (λ (l : List PairRow). Redone l (walked old old.bytes) c.loop-place.failed.items old (g.P.Plant.state c.loop-place.plant)) whole
+    (going_redone g.P.Plant.tells (walked old old.bytes) (take c.loop-place.place rows) c.loop-place.failed.items old (g.P.Plant.state c.loop-place.plant) c.loop-place.invariant.going told))
