@@ -1,0 +1,14 @@
+//! How a command ends that was not done: its stops, their statuses, and the line that is said last.
+#![tactic(auto)]
+
+mod line;
+mod say;
+mod status;
+mod stop;
+#[cfg(test)]
+mod tests;
+
+pub use line::Line;
+pub use say::{say_text, say_three};
+pub use status::say_stop;
+pub use stop::Stop;

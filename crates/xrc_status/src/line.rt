@@ -1,0 +1,63 @@
+ghost use Rattle.std.specs.Prelude.{◌≡◌, ◌≤◌, ◌+◌, ◌++◌, [], ◌∷◌, ℕ, List, length, take, decimal};
+
+use itoa::Buffer;
+use std::marker::Model;
+
+/// The most bytes of a line.
+const MOST: usize = 160;
+
+/// A line that is put together piece by piece. It takes no memory, and has at most 160 bytes. Contracts see the list of its bytes.
+#[derive(Drop)]
+pub struct Line {
+    bytes: [u8; MOST],
+    used: usize,
+}
+
+impl Model for Line {
+    ghost Value = { List ℕ };
+
+    ghost view = { λ line. take line.used line.bytes };
+
+    ghost invariant = { λ line. line.used ≤ 160 };
+}
+
+impl Line {
+    /// The line with no bytes.
+    pub fn make() -> Line
+        ensures { result ≡ [] }
+    {
+        Line {
+            bytes: [0; MOST],
+            used: 0,
+        }
+    }
+
+    /// Puts a text behind what stands in the line.
+    pub fn add(&mut self, text: &[u8])
+        requires { length self.old + length text.now ≤ 160 }
+        ensures text { self.new ≡ self.old ++ text.now }
+        ensures size { length self.new ≡ length self.old + length text.now }
+    {
+        let end = self.used + text.len();
+        self.bytes[self.used..end].copy_from_slice(text);
+        self.used = end;
+    }
+
+    /// Puts a space and a number in decimal digits behind what stands in the line.
+    pub fn add_number(&mut self, number: u64)
+        requires { length self.old ≤ 119 }
+        ensures text { self.new ≡ self.old ++ 32 ∷ decimal number }
+        ensures short { length self.new ≤ length self.old + 41 }
+    {
+        let mut digits = Buffer::new();
+        self.add(b" ");
+        self.add(digits.format(number).as_bytes());
+    }
+
+    /// What stands in the line.
+    pub fn as_bytes(&self) -> &[u8]
+        ensures { result.now ≡ self.now }
+    {
+        &self.bytes[..self.used]
+    }
+}
