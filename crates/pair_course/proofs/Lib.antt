@@ -1,0 +1,9 @@
+pub mod Breaking
+pub mod Commanding
+pub mod Maturing
+pub mod Answering
+pub mod Bearing
+pub mod Waiting
+pub mod Naming
+pub mod Words
+pub mod Saying
