@@ -118,15 +118,15 @@ module _ (run : Run) (t : Trace) (row : PairRow) (paired time : ℕ) (pair : IsP
 -- ---- all three
 
 -- The three lines are a course, where the trace hasn't broken by the end.
-pub three_are_a_course : (run : Run) (t : Trace) (row : PairRow) (from paired time : ℕ) (text reply text2 reply2 text3 reply3 : List ℕ) → IsPairRun run t → IsAdded run row → from ≤ paired → paired ≤ time → has_broken t time ≡ false
-    → IsReply true (start_line run.session from) reply → IsReply true (pair_line run.session paired row) reply2 → IsReply true (end_line run.session time) reply3
-    → IsCourse run (start_answered run.session from text reply ∷ pair_answered run.session paired text2 reply2 row ∷ end_answered run.session paired time text3 reply3 row ∷ [])
-three_are_a_course run t row from paired time text reply text2 reply2 text3 reply3 pair added first then whole one two three zero a at =
+pub three_are_a_course : (run : Run) (t : Trace) (row : PairRow) (from paired time : ℕ) (text reply second_text second_reply third_text third_reply : List ℕ) → IsPairRun run t → IsAdded run row → from ≤ paired → paired ≤ time → has_broken t time ≡ false
+    → IsReply true (start_line run.session from) reply → IsReply true (pair_line run.session paired row) second_reply → IsReply true (end_line run.session time) third_reply
+    → IsCourse run (start_answered run.session from text reply ∷ pair_answered run.session paired second_text second_reply row ∷ end_answered run.session paired time third_text third_reply row ∷ [])
+three_are_a_course run t row from paired time text reply second_text second_reply third_text third_reply pair added first then whole one two three zero a at =
     subst (λ (x : Answered). IsAnswered run (first_stage run) x) (same_some (start_answered run.session from text reply) a at) (start_is_answered run t from text reply pair one)
-three_are_a_course run t row from paired time text reply text2 reply2 text3 reply3 pair added first then whole one two three (suc zero) a at =
-    subst (λ (x : Answered). IsAnswered run (started_stage run.session from) x) (same_some (pair_answered run.session paired text2 reply2 row) a at)
-    (pair_is_answered run t row from paired pair added (whole_before t paired time then whole) text2 reply2 two)
-three_are_a_course run t row from paired time text reply text2 reply2 text3 reply3 pair added first then whole one two three (suc (suc zero)) a at =
-    subst (λ (x : Answered). IsAnswered run (paired_stage run.session paired row) x) (same_some (end_answered run.session paired time text3 reply3 row) a at)
-    (end_is_answered run t row paired time pair (ap (λ (r : PairRow). r.state) added.made) then whole text3 reply3 three)
-three_are_a_course run t row from paired time text reply text2 reply2 text3 reply3 pair added first then whole one two three (suc (suc (suc n))) a at = absurd cc
+three_are_a_course run t row from paired time text reply second_text second_reply third_text third_reply pair added first then whole one two three (suc zero) a at =
+    subst (λ (x : Answered). IsAnswered run (started_stage run.session from) x) (same_some (pair_answered run.session paired second_text second_reply row) a at)
+    (pair_is_answered run t row from paired pair added (whole_before t paired time then whole) second_text second_reply two)
+three_are_a_course run t row from paired time text reply second_text second_reply third_text third_reply pair added first then whole one two three (suc (suc zero)) a at =
+    subst (λ (x : Answered). IsAnswered run (paired_stage run.session paired row) x) (same_some (end_answered run.session paired time third_text third_reply row) a at)
+    (end_is_answered run t row paired time pair (ap (λ (r : PairRow). r.state) added.made) then whole third_text third_reply three)
+three_are_a_course run t row from paired time text reply second_text second_reply third_text third_reply pair added first then whole one two three (suc (suc (suc n))) a at = absurd cc

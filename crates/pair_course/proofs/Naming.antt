@@ -2,7 +2,7 @@
 use Rattle.std.proofs.Common.{◌≡◌, ℕ, zero, suc, ◌+◌, ◌≤◌, Bool, true, false, not, cond, ◌&&◌, ◌||◌, true≢false, List, [], ◌∷◌, ◌++◌, length, Option, Some, None, refl, sym, ap, subst, ◌∙◌, arith, slice_get, append-nil}
 use Rattle.std.specs.Prelude.{bytes_eq, find, nat_eq, IsTrue}
 use Rattle.std.specs.List.{list_any}
-use Rattle.std.proofs.lemmas.Bool.{and_parts, not-true, or_parts}
+use Rattle.std.proofs.lemmas.Bool.{and_parts, le-ltb, not-true, or_parts}
 use Rattle.std.proofs.lemmas.Slice.Eq.{bytes_eq-Decides}
 use Rattle.tod_stamp.specs.Fields.{within}
 use Rattle.tod_stamp.specs.Names.{is_serial}
@@ -75,10 +75,15 @@ row_of_fields : (row : PairRow) (primary : List ℕ) (control volume device cyli
     → row ≡ record { primary = primary; secondary = row.secondary; control = control; volume = volume; device = device; cylinders = cylinders; state = state }
 row_of_fields row primary control volume device cylinders state p c v d n s = λ i. record { primary = p i; secondary = row.secondary; control = c i; volume = v i; device = d i; cylinders = n i; state = s i }
 
-pub row_is_added : (run : Run) (t : Trace) (row : PairRow) (head : VolumeHead) (label_serial : List ℕ) (label_cylinders : ℕ) → IsPairRun run t → IsTrue (is_header_of 1 t.header)
-    → run.labels ≡ record { device = 0; serial = label_serial; cylinders = label_cylinders } ∷ [] → slice_get t.header.volumes row.volume ≡ Some head → row.primary ≡ head.serial → row.secondary ≡ label_serial → row.control ≡ 0 → row.device ≡ 0
+-- No number is below 0.
+lowest : (serial : List ℕ) (cylinders : ℕ) (other : Option NamedDevice) → lower (record { device = 0; serial = serial; cylinders = cylinders }) other ≡ record { device = 0; serial = serial; cylinders = cylinders }
+lowest serial cylinders None = refl
+lowest serial cylinders (Some other) = rw (le-ltb other.device 0 (omega arith)) refl
+
+pub row_is_added : (run : Run) (t : Trace) (row : PairRow) (head : VolumeHead) (label_serial : List ℕ) (label_cylinders : ℕ) (others : List NamedDevice) → IsPairRun run t → IsTrue (is_header_of 1 t.header)
+    → run.labels ≡ record { device = 0; serial = label_serial; cylinders = label_cylinders } ∷ others → slice_get t.header.volumes row.volume ≡ Some head → row.primary ≡ head.serial → row.secondary ≡ label_serial → row.control ≡ 0 → row.device ≡ 0
     → row.cylinders ≡ head.cylinders → row.state ≡ Pending → head.cylinders ≤ label_cylinders → IsAdded run row
-row_is_added run t row head label_serial label_cylinders pair rules labels at primary secondary control device cylinders pending enough =
+row_is_added run t row head label_serial label_cylinders others pair rules labels at primary secondary control device cylinders pending enough =
     let label : NamedDevice = record { device = 0; serial = label_serial; cylinders = label_cylinders } in
     record {
       volume = named_as 0 (0 + row.volume) head;
@@ -90,7 +95,9 @@ row_is_added run t row head label_serial label_cylinders pair rules labels at pr
       control = refl;
       labelled =
           ap (label_in row.secondary) labels
-          ∙ ap (λ (b : Bool). let o : Option NamedDevice = cond b (Some label) None in o) (subst (λ (serial : List ℕ). bytes_eq label_serial serial ≡ true) (sym secondary) (same_name label_serial));
+          ∙ ap (λ (b : Bool). let o : Option NamedDevice = cond b (Some (lower label (label_in row.secondary others))) (label_in row.secondary others) in o)
+          (subst (λ (serial : List ℕ). bytes_eq label_serial serial ≡ true) (sym secondary) (same_name label_serial))
+          ∙ ap (λ (l : NamedDevice). let o : Option NamedDevice = Some l in o) (lowest label_serial label_cylinders (label_in row.secondary others));
       enough = enough;
       made = row_of_fields row head.serial 0 (0 + row.volume) 0 head.cylinders Pending primary control (let e : row.volume ≡ 0 + row.volume = omega arith in e) device cylinders pending;
     }

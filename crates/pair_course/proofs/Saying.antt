@@ -11,14 +11,16 @@ use Rattle.pair_table.specs.declared.row.PairRow.{PairRow}
 use Rattle.xrc_status.specs.declared.stop.Stop.{Stop}
 use Rattle.xrc_status.specs.declared.stop.Stop.TheVariants.{NoMemory, BadWords, ConsoleFault, JournalFault, ControlFault, StateFault, BadHeader, HeaderFault, NoSession, OtherSession, Damaged, VolumeFault, TooSmall, JournalEnd, BadSite, NotBuilt, EarlyBreak, EarlyVolume, Spent}
 use Rattle.xrc_status.specs.Stops.{details, device_text, last_line, status_line, status_of}
+use Rattle.consistency.specs.Courses.{replies_of}
 use Rattle.consistency.specs.Replies.{IsReply, answer_word, are_reply, command_word, has_reply, is_reply_line}
 use Rattle.consistency.specs.Steps.{TimedCommand}
-use Rattle.consistency.specs.Times.{time_behind, time_in_word, times_in_words, times_said, words}
-use Rattle.consistency.proofs.Pieces.{line_ended}
+use Rattle.consistency.specs.Times.{AreWhole, times_in_words, times_said, words}
+use Rattle.consistency.proofs.Pieces.{line_ended, times_append}
+use Rattle.consistency.proofs.Replies.{reply_whole}
 use Rattle.consistency.proofs.Spelled.{AreWords, IsWord, no_feed_spelled, reply_spelled, spelled, stamp_is_word, words_spelled}
 use Rattle.consistency.proofs.Spelled.AreWords.{no_word, one_more}
 use Rattle.consistency.proofs.Stamped.{time_of_stamp, times_behind_answer, times_spelled}
-use Rattle.pair_course.specs.Course.{end_line, end_reply, pair_line, pair_reply, start_line, start_reply, tells_a_session}
+use Rattle.pair_course.specs.Course.{end_answered, end_line, end_reply, pair_answered, pair_line, pair_reply, start_answered, start_line, start_reply, tells_a_session}
 use Rattle.pair_course.proofs.Words.{AreQuiet, TellsNone, decimal_has_no, decimal_is_word, decimal_tells_none, none_in, quiet_words, session_is_word, session_tells_none, times_quiet}
 use Rattle.pair_course.proofs.Words.AreQuiet.{no_more, quiet_then}
 
@@ -90,6 +92,33 @@ pair_says time tracks below =
     sym (ap times_said (pair_is (stamp_text time) (decimal tracks)))
     ∙ times_spelled (stamp_text time) (codes "XADDPAIR" ∷ codes "OK" ∷ codes "TRACKS" ∷ decimal tracks ∷ time_word (stamp_text time) ∷ []) (stamp_is_word time) (one_more (refl, refl) (one_more (refl, refl) (tracks_words time tracks)))
     ∙ times_behind_answer true time (AddPair [] []) (codes "TRACKS" ∷ decimal tracks ∷ time_word (stamp_text time) ∷ []) ∙ tracks_alone time tracks below
+
+-- ---- the replies of a course
+
+-- The times of a whole text, and of what stands behind it.
+times_then : (a b : List ℕ) (time : ℕ) (times : List ℕ) → AreWhole a → times_said a ≡ time ∷ [] → times_said b ≡ times → times_said (a ++ b) ≡ time ∷ times
+times_then a b time times whole first then = times_append a b whole ∙ ap (λ (l : List ℕ). l ++ times_said b) first ∙ ap (λ (l : List ℕ). time ∷ l) then
+
+module _ (session : List ℕ) (from : ℕ) (text : List ℕ) (from_below : from < 2 ^ 64) where
+  start_whole : AreWhole (start_reply from)
+  start_whole = reply_whole true (start_line session from) (start_reply from) (start_is_reply session from)
+
+  pub started_says : times_said (replies_of (start_answered session from text (start_reply from) ∷ [])) ≡ from ∷ []
+  started_says = times_then (start_reply from) [] from [] start_whole (start_says from from_below) refl
+
+  module _ (paired tracks : ℕ) (second_text : List ℕ) (row : PairRow) (paired_below : paired < 2 ^ 64) where
+    pair_whole : AreWhole (pair_reply paired tracks)
+    pair_whole = reply_whole true (pair_line session paired row) (pair_reply paired tracks) (pair_is_reply session paired tracks row)
+
+    pub paired_says : times_said (replies_of (start_answered session from text (start_reply from) ∷ pair_answered session paired second_text (pair_reply paired tracks) row ∷ [])) ≡ from ∷ paired ∷ []
+    paired_says = times_then (start_reply from) (pair_reply paired tracks ++ []) from (paired ∷ []) start_whole (start_says from from_below) (times_then (pair_reply paired tracks) [] paired [] pair_whole (pair_says paired tracks paired_below) refl)
+
+    pub ended_says : (time : ℕ) (third_text : List ℕ) → time < 2 ^ 64
+        → times_said (replies_of (start_answered session from text (start_reply from) ∷ pair_answered session paired second_text (pair_reply paired tracks) row ∷ end_answered session paired time third_text (end_reply time) row ∷ [])) ≡ from ∷ paired ∷ time ∷ []
+    ended_says time third_text below =
+        times_then (start_reply from) (pair_reply paired tracks ++ (end_reply time ++ [])) from (paired ∷ time ∷ []) start_whole (start_says from from_below)
+        (times_then (pair_reply paired tracks) (end_reply time ++ []) paired (time ∷ []) pair_whole (pair_says paired tracks paired_below)
+        (times_then (end_reply time) [] time [] (reply_whole true (end_line session time) (end_reply time) (end_is_reply session time)) (end_says time below) refl))
 
 -- ---- the lines of stops
 

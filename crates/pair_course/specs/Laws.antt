@@ -7,6 +7,7 @@ use Rattle.sidefile.specs.Breaks.{has_broken}
 use Rattle.pair_table.specs.declared.row.PairRow.{PairRow}
 use Rattle.pair_table.specs.declared.row.PairState.{PairState}
 use Rattle.pair_table.specs.declared.row.PairState.TheVariants.{Pending, Duplex}
+use Rattle.pair_table.specs.Naming.{NamedDevice}
 use Rattle.pair_table.specs.Tables.{in_state}
 use Rattle.site_means.specs.declared.means.Means.{Means}
 use Rattle.site_means.specs.Images.{Images, Shape}
@@ -14,7 +15,7 @@ use Rattle.site_means.specs.Sight.{means_in}
 use Rattle.xrc_status.specs.declared.stop.Stop.{Stop}
 use Rattle.xrc_status.specs.Stops.{last_line}
 use Rattle.consistency.specs.Bears.{Bears, HoldsPrimaries, Run, Stage}
-use Rattle.consistency.specs.Courses.{IsAnswered, first_stage, stage_at}
+use Rattle.consistency.specs.Courses.{IsAnswered, IsCourse, first_stage, replies_of, stage_at}
 use Rattle.consistency.specs.Moments.{MeansPairs}
 use Rattle.consistency.specs.Replies.{IsReply, has_reply}
 use Rattle.consistency.specs.Steps.{TimedCommand}
@@ -38,13 +39,19 @@ abbrev pub EndsAreAnswered : Type 0
 EndsAreAnswered = (run : Run) (t : Trace) (row : PairRow) (paired time : ℕ) (text reply : List ℕ) → IsPairRun run t → row.state ≡ Pending → paired ≤ time → has_broken t time ≡ false
     → IsReply true (end_line run.session time) reply → IsAnswered run (paired_stage run.session paired row) (end_answered run.session paired time text reply row)
 
+-- The three lines are a course, where times don't fall and the trace hasn't broken by the end.
+abbrev pub ThreeLinesAreACourse : Type 0
+ThreeLinesAreACourse = (run : Run) (t : Trace) (row : PairRow) (from paired time : ℕ) (text reply second_text second_reply third_text third_reply : List ℕ) → IsPairRun run t → IsAdded run row → from ≤ paired → paired ≤ time → has_broken t time ≡ false
+    → IsReply true (start_line run.session from) reply → IsReply true (pair_line run.session paired row) second_reply → IsReply true (end_line run.session time) third_reply
+    → IsCourse run (start_answered run.session from text reply ∷ pair_answered run.session paired second_text second_reply row ∷ end_answered run.session paired time third_text third_reply row ∷ [])
+
 -- Behind each line the run stands at the next stage.
 pub record StagesFollow : Type 0 where
   pub started : (run : Run) (time : ℕ) (text reply : List ℕ) → stage_at run (start_answered run.session time text reply ∷ []) 1 ≡ started_stage run.session time
-  pub paired : (run : Run) (from time : ℕ) (text reply text2 reply2 : List ℕ) (row : PairRow)
-      → stage_at run (start_answered run.session from text reply ∷ pair_answered run.session time text2 reply2 row ∷ []) 2 ≡ paired_stage run.session time row
-  pub ended : (run : Run) (from paired time : ℕ) (text reply text2 reply2 text3 reply3 : List ℕ) (row : PairRow)
-      → stage_at run (start_answered run.session from text reply ∷ pair_answered run.session paired text2 reply2 row ∷ end_answered run.session paired time text3 reply3 row ∷ []) 3 ≡ ended_stage run.session paired time row
+  pub paired : (run : Run) (from time : ℕ) (text reply second_text second_reply : List ℕ) (row : PairRow)
+      → stage_at run (start_answered run.session from text reply ∷ pair_answered run.session time second_text second_reply row ∷ []) 2 ≡ paired_stage run.session time row
+  pub ended : (run : Run) (from paired time : ℕ) (text reply second_text second_reply third_text third_reply : List ℕ) (row : PairRow)
+      → stage_at run (start_answered run.session from text reply ∷ pair_answered run.session paired second_text second_reply row ∷ end_answered run.session paired time third_text third_reply row ∷ []) 3 ≡ ended_stage run.session paired time row
 
 -- ---- images bear
 
@@ -84,12 +91,12 @@ PairsAreMeant = (run : Run) (s : Stage) (shape : Shape) (images : Images) → Me
 
 -- ---- rows
 
--- A pending row of a volume of the header, and of the label of device 0, is one that a pair adds. The header names its volumes once.
+-- A pending row of a volume of the header, and of the label of device 0, is one that a pair adds. The header names each volume once,
+-- and of several labels the one of the lowest device counts.
 abbrev pub RowsAreAdded : Type 0
-RowsAreAdded = (run : Run) (t : Trace) (row : PairRow) (head : VolumeHead) (label_serial : List ℕ) (label_cylinders : ℕ) → IsPairRun run t → IsTrue (is_header_of 1 t.header)
-    → run.labels ≡ record { device = 0; serial = label_serial; cylinders = label_cylinders } ∷ []
-    → slice_get t.header.volumes row.volume ≡ Some head → row.primary ≡ head.serial → row.secondary ≡ label_serial → row.control ≡ 0 → row.device ≡ 0 → row.cylinders ≡ head.cylinders → row.state ≡ Pending
-    → head.cylinders ≤ label_cylinders → IsAdded run row
+RowsAreAdded = (run : Run) (t : Trace) (row : PairRow) (head : VolumeHead) (label_serial : List ℕ) (label_cylinders : ℕ) (others : List NamedDevice) → IsPairRun run t → IsTrue (is_header_of 1 t.header)
+    → run.labels ≡ record { device = 0; serial = label_serial; cylinders = label_cylinders } ∷ others → slice_get t.header.volumes row.volume ≡ Some head → row.primary ≡ head.serial → row.secondary ≡ label_serial → row.control ≡ 0 → row.device ≡ 0
+    → row.cylinders ≡ head.cylinders → row.state ≡ Pending → head.cylinders ≤ label_cylinders → IsAdded run row
 
 -- ---- what is said
 
@@ -104,6 +111,14 @@ pub record RepliesSayTheirTimes : Type 0 where
   pub started : (time : ℕ) → time < 2 ^ 64 → times_said (start_reply time) ≡ time ∷ []
   pub paired : (time tracks : ℕ) → time < 2 ^ 64 → times_said (pair_reply time tracks) ≡ time ∷ []
   pub ended : (time : ℕ) → time < 2 ^ 64 → times_said (end_reply time) ≡ time ∷ []
+
+-- Behind each line the replies so far say the times of the lines so far.
+pub record CoursesSayTheirTimes : Type 0 where
+  pub started : (session : List ℕ) (from : ℕ) (text : List ℕ) → from < 2 ^ 64 → times_said (replies_of (start_answered session from text (start_reply from) ∷ [])) ≡ from ∷ []
+  pub paired : (session : List ℕ) (from time tracks : ℕ) (text second_text : List ℕ) (row : PairRow) → from < 2 ^ 64 → time < 2 ^ 64
+      → times_said (replies_of (start_answered session from text (start_reply from) ∷ pair_answered session time second_text (pair_reply time tracks) row ∷ [])) ≡ from ∷ time ∷ []
+  pub ended : (session : List ℕ) (from paired time tracks : ℕ) (text second_text third_text : List ℕ) (row : PairRow) → from < 2 ^ 64 → paired < 2 ^ 64 → time < 2 ^ 64
+      → times_said (replies_of (start_answered session from text (start_reply from) ∷ pair_answered session paired second_text (pair_reply paired tracks) row ∷ end_answered session paired time third_text (end_reply time) row ∷ [])) ≡ from ∷ paired ∷ time ∷ []
 
 -- The last line of a stop is no reply and says no time.
 abbrev pub StopsSayNoTime : Type 0

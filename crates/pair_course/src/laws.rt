@@ -1,6 +1,6 @@
 //! The laws of the course of a session with one pair.
 
-ghost use Rattle.pair_course.specs.Laws.{EndedPairsBear, EndsAreAnswered, PairsAreAnswered, PairsAreMeant, PairsBear, PairsHold, RepliesAreSpelled, RepliesSayTheirTimes, RowsAreAdded, StagesFollow, StartsAreAnswered, StopsSayNoTime, WaitsBear, WaitsForPairsBear};
+ghost use Rattle.pair_course.specs.Laws.{CoursesSayTheirTimes, EndedPairsBear, EndsAreAnswered, PairsAreAnswered, PairsAreMeant, PairsBear, PairsHold, RepliesAreSpelled, RepliesSayTheirTimes, RowsAreAdded, StagesFollow, StartsAreAnswered, StopsSayNoTime, ThreeLinesAreACourse, WaitsBear, WaitsForPairsBear};
 
 /// A start is answered before the session has started.
 pub fn starts_are_answered()
@@ -15,6 +15,11 @@ pub fn pairs_are_answered()
 /// An end is answered in a session with a pair, which is duplex by then where its control hasn't broken.
 pub fn ends_are_answered()
     ensures { EndsAreAnswered }
+{}
+
+/// The three lines are a course.
+pub fn three_lines_are_a_course()
+    ensures { ThreeLinesAreACourse }
 {}
 
 /// The stages behind these lines.
@@ -66,6 +71,11 @@ pub fn replies_are_spelled()
 /// Each reply says its line's time, and no other.
 pub fn replies_say_their_times()
     ensures { RepliesSayTheirTimes }
+{}
+
+/// Behind each line the replies so far say the times of the lines so far.
+pub fn courses_say_their_times()
+    ensures { CoursesSayTheirTimes }
 {}
 
 /// The last line of a command that was not done is no reply and says no time.

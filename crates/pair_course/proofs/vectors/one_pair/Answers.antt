@@ -12,7 +12,7 @@ use Rattle.pair_course.proofs.Saying.{end_is_reply, pair_is_reply, start_is_repl
 use Rattle.pair_course.proofs.vectors.one_pair.Goals as goal
 
 pub returns-clause-added : goal.returns-clause-added
-returns-clause-added c = row_is_added (worked_run Ended) (worked_trace Ended) (first_row Pending) (record { serial = codes "PRIM01"; cylinders = 1 }) (codes "SEC001") 1 (record { one = refl; level = refl }) refl refl refl refl refl refl refl refl refl (omega arith)
+returns-clause-added c = row_is_added (worked_run Ended) (worked_trace Ended) (first_row Pending) (record { serial = codes "PRIM01"; cylinders = 1 }) (codes "SEC001") 1 [] (record { one = refl; level = refl }) refl refl refl refl refl refl refl refl refl (omega arith)
 
 pub returns-clause-course : goal.returns-clause-course
 returns-clause-course c =
