@@ -1,12 +1,12 @@
 -- The three lines of a session with one pair are answered.
-use Rattle.std.proofs.Common.{◌≡◌, ℕ, zero, suc, ◌≤◌, Bool, true, false, true≢false, nat_eq, List, [], ◌∷◌, Option, Some, refl, sym, ap, subst, ◌∙◌, arith, slice_get}
+use Rattle.std.proofs.Common.{◌≡◌, ℕ, zero, suc, ◌≤◌, Bool, true, false, true≢false, nat_eq, List, [], ◌∷◌, Option, refl, sym, ap, subst, ◌∙◌, arith}
 use Rattle.std.specs.Prelude.{is_none, nat_lt}
 use Rattle.std.specs.List.{list_all, list_any}
 use Rattle.std.proofs.lemmas.Bool.{le-ltb}
 use Rattle.trace_grammar.specs.declared.trace.Trace.{Trace}
 use Rattle.sidefile.specs.Breaks.{has_broken}
 use Rattle.pair_table.specs.declared.command.Command.{Command}
-use Rattle.pair_table.specs.declared.command.Command.TheVariants.{Start, AddPair, End}
+use Rattle.pair_table.specs.declared.command.Command.TheVariants.{Start}
 use Rattle.pair_table.specs.declared.command.Refusal.{Refusal}
 use Rattle.pair_table.specs.declared.level.Level.{Level}
 use Rattle.pair_table.specs.declared.level.Level.TheVariants.{Volume}
@@ -15,8 +15,8 @@ use Rattle.pair_table.specs.declared.row.PairState.TheVariants.{Pending, Duplex}
 use Rattle.pair_table.specs.Naming.{Naming, is_broken}
 use Rattle.pair_table.specs.Refusals.{Pairs}
 use Rattle.pair_table.specs.Tables.{in_state}
-use Rattle.consistency.specs.Bears.{Run, Stage, accepts, breaks_of, names_of}
-use Rattle.consistency.specs.Courses.{Answered, IsAnswered, IsCourse, first_stage, stage_at, unstarted}
+use Rattle.consistency.specs.Bears.{Run, accepts, breaks_of, names_of}
+use Rattle.consistency.specs.Courses.{Answered, IsAnswered, IsCourse, first_stage, unstarted}
 use Rattle.consistency.specs.Replies.{IsReply}
 use Rattle.consistency.specs.Steps.{IsCommanded, commanded, is_settled, names_at, pairs_after_line, pairs_on_the_way}
 use Rattle.consistency.proofs.Lines.{same_some}

@@ -9,7 +9,7 @@ use Rattle.pair_table.specs.declared.level.Level.TheVariants.{Volume}
 use Rattle.pair_table.specs.declared.row.PairRow.{PairRow}
 use Rattle.pair_table.specs.Commands.{accepted, add_to, new_row, new_row_for, pairs_after, rows_after}
 use Rattle.pair_table.specs.Naming.{NamedDevice, NamedVolume, Naming, is_broken, label_of, primary_of}
-use Rattle.pair_table.specs.Refusals.{Pairs, refusal, refuses_label, refuses_primary}
+use Rattle.pair_table.specs.Refusals.{refusal, refuses_label, refuses_primary}
 use Rattle.consistency.specs.Courses.{unstarted}
 use Rattle.pair_course.specs.Course.{pairs_with}
 

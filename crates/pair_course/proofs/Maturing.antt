@@ -1,5 +1,5 @@
 -- How the one row comes to a state from the time at which it was added.
-use Rattle.std.proofs.Common.{◌≡◌, ◌⊎◌, inl, inr, ℕ, ◌≤◌, Bool, true, false, nat_eq, ◌&&◌, List, [], ◌∷◌, Option, Some, refl, sym, ap, ◌∙◌, arith}
+use Rattle.std.proofs.Common.{◌≡◌, inl, inr, ℕ, ◌≤◌, Bool, true, false, ◌&&◌, List, [], ◌∷◌, Option, Some, refl, sym, ap, ◌∙◌, arith}
 use Rattle.std.specs.Prelude.{nat_le, is_none, not}
 use Rattle.std.proofs.lemmas.Bool.{and_from, eq-eqb, le-leb}
 use Rattle.trace_grammar.specs.declared.trace.Trace.{Trace}
@@ -10,7 +10,7 @@ use Rattle.pair_table.specs.declared.row.PairState.{PairState}
 use Rattle.pair_table.specs.declared.row.PairState.TheVariants.{Pending, Copy, Duplex, Suspended}
 use Rattle.pair_table.specs.Tables.{in_state, row_of}
 use Rattle.consistency.specs.Bears.{AreOnTheWay, Run, breaks_of}
-use Rattle.consistency.specs.Changes.{Timed, after_changes, may_all_come, may_come, may_mature, row_may_mature}
+use Rattle.consistency.specs.Changes.{Timed, after_changes, may_all_come, may_mature, row_may_mature}
 use Rattle.consistency.specs.Changes.Due.{NoneDue}
 use Rattle.consistency.specs.Changes.RowChange.{Mature}
 use Rattle.consistency.specs.Steps.{TimedCommand}

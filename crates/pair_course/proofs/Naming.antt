@@ -1,5 +1,5 @@
 -- A row of a volume that the header names, and of the one label, is one that a pair adds.
-use Rattle.std.proofs.Common.{◌≡◌, ℕ, zero, suc, ◌+◌, ◌≤◌, Bool, true, false, not, cond, ◌&&◌, ◌||◌, true≢false, List, [], ◌∷◌, ◌++◌, length, Option, Some, None, refl, sym, ap, subst, ◌∙◌, arith, slice_get, append-nil}
+use Rattle.std.proofs.Common.{◌≡◌, ℕ, zero, suc, ◌+◌, ◌≤◌, Bool, true, false, not, cond, ◌&&◌, true≢false, List, [], ◌∷◌, ◌++◌, length, Option, Some, None, refl, sym, ap, subst, ◌∙◌, arith, slice_get}
 use Rattle.std.specs.Prelude.{bytes_eq, find, nat_eq, IsTrue}
 use Rattle.std.specs.List.{list_any}
 use Rattle.std.proofs.lemmas.Bool.{and_parts, le-ltb, not-true, or_parts}
@@ -13,8 +13,7 @@ use Rattle.trace_grammar.specs.Headers.{are_bases, are_volumes, is_header_of, mo
 use Rattle.pair_table.specs.declared.row.PairRow.{PairRow}
 use Rattle.pair_table.specs.declared.row.PairState.{PairState}
 use Rattle.pair_table.specs.declared.row.PairState.TheVariants.{Pending}
-use Rattle.pair_table.specs.Commands.{new_row}
-use Rattle.pair_table.specs.Naming.{NamedDevice, NamedVolume, label_in, label_of, lower, primary_of}
+use Rattle.pair_table.specs.Naming.{NamedDevice, NamedVolume, label_in, lower, primary_of}
 use Rattle.consistency.specs.Bears.{Run, names_of, primaries_named, volumes_named}
 use Rattle.pair_course.specs.Course.{IsAdded, IsPairRun}
 use Rattle.pair_course.proofs.Commanding.{same_name}

@@ -1,6 +1,6 @@
 -- The three replies to the lines of a session with one pair, and the last lines of stops.
-use Rattle.std.proofs.Common.{◌≡◌, inl, inr, ℕ, ◌^◌, ◌<◌, ◌||◌, Bool, true, false, List, [], ◌∷◌, ◌++◌, refl, sym, ap, subst, ◌∙◌, append_assoc, append-nil, arith}
-use Rattle.std.specs.Prelude.{codes, decimal, IsTrue}
+use Rattle.std.proofs.Common.{◌≡◌, inr, ℕ, ◌^◌, ◌<◌, ◌||◌, Bool, true, false, List, [], ◌∷◌, ◌++◌, refl, sym, ap, subst, ◌∙◌, append_assoc, append-nil, arith}
+use Rattle.std.specs.Prelude.{codes, decimal}
 use Rattle.std.specs.List.{flat_map, list_any}
 use Rattle.tod_stamp.specs.Stamps.{stamp_text}
 use Rattle.crash_plant.specs.declared.device.Device.{Device}
@@ -12,8 +12,7 @@ use Rattle.xrc_status.specs.declared.stop.Stop.{Stop}
 use Rattle.xrc_status.specs.declared.stop.Stop.TheVariants.{NoMemory, BadWords, ConsoleFault, JournalFault, ControlFault, StateFault, BadHeader, HeaderFault, NoSession, OtherSession, Damaged, VolumeFault, TooSmall, JournalEnd, BadSite, NotBuilt, EarlyBreak, EarlyVolume, Spent}
 use Rattle.xrc_status.specs.Stops.{details, device_text, last_line, status_line, status_of}
 use Rattle.consistency.specs.Courses.{replies_of}
-use Rattle.consistency.specs.Replies.{IsReply, answer_word, are_reply, command_word, has_reply, is_reply_line}
-use Rattle.consistency.specs.Steps.{TimedCommand}
+use Rattle.consistency.specs.Replies.{IsReply, answer_word, are_reply, has_reply, is_reply_line}
 use Rattle.consistency.specs.Times.{AreWhole, times_in_words, times_said, words}
 use Rattle.consistency.proofs.Pieces.{line_ended, times_append}
 use Rattle.consistency.proofs.Replies.{reply_whole}
@@ -21,7 +20,7 @@ use Rattle.consistency.proofs.Spelled.{AreWords, IsWord, no_feed_spelled, reply_
 use Rattle.consistency.proofs.Spelled.AreWords.{no_word, one_more}
 use Rattle.consistency.proofs.Stamped.{time_of_stamp, times_behind_answer, times_spelled}
 use Rattle.pair_course.specs.Course.{end_answered, end_line, end_reply, pair_answered, pair_line, pair_reply, start_answered, start_line, start_reply, tells_a_session}
-use Rattle.pair_course.proofs.Words.{AreQuiet, TellsNone, decimal_has_no, decimal_is_word, decimal_tells_none, none_in, quiet_words, session_is_word, session_tells_none, times_quiet}
+use Rattle.pair_course.proofs.Words.{AreQuiet, decimal_has_no, decimal_is_word, decimal_tells_none, none_in, quiet_words, session_is_word, session_tells_none, times_quiet}
 use Rattle.pair_course.proofs.Words.AreQuiet.{no_more, quiet_then}
 
 -- ---- replies
