@@ -1,0 +1,4 @@
+pub mod TextLaws
+pub mod HearLaws
+pub mod GrammarLaws
+pub mod LineLaws

@@ -1,0 +1,4 @@
+pub mod Texts
+pub mod Hearing
+pub mod Grammars
+pub mod Laws

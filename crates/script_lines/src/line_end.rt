@@ -1,0 +1,10 @@
+/// How the hearing of a line ended.
+#[derive(Clone, Copy, Debug, PartialEq, Eq)]
+pub enum LineEnd {
+    /// With its line feed, or with the end of the script behind at least one byte.
+    Whole,
+    /// With its byte 257, which is no line feed.
+    TooLong,
+    /// The script had ended.
+    Nothing,
+}

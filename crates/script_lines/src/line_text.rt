@@ -1,0 +1,77 @@
+ghost use Rattle.std.specs.Prelude.{◌≡◌, ◌≤◌, ◌<◌, ◌+◌, ◌++◌, ◌∷◌, ◌↔◌, ◌==◌, [], ℕ, List, IsTrue, length, take};
+ghost use Rattle.std.specs.List.{position};
+ghost use Rattle.consistency.specs.Courses.{first_line};
+
+use std::marker::Model;
+
+/// The most bytes that are heard of a line: 256 before its line feed, and one more.
+pub(crate) const MOST: usize = 257;
+
+/// What was heard of a line, with its line feed: at most 257 bytes. It takes no memory. Contracts see the list of its bytes.
+#[derive(Drop)]
+pub struct LineText {
+    bytes: [u8; MOST],
+    used: usize,
+}
+
+impl Model for LineText {
+    ghost Value = { List ℕ };
+
+    ghost view = { λ text. take text.used text.bytes };
+
+    ghost invariant = { λ text. text.used ≤ 257 };
+}
+
+impl LineText {
+    /// Of no line anything was heard yet.
+    pub fn make() -> LineText
+        ensures { result ≡ [] }
+    {
+        LineText {
+            bytes: [0; MOST],
+            used: 0,
+        }
+    }
+
+    pub(crate) fn clear(&mut self)
+        ensures { self.new ≡ [] }
+    {
+        self.used = 0;
+    }
+
+    pub(crate) fn push(&mut self, byte: u8)
+        requires { length self.old ≤ 256 }
+        ensures { self.new ≡ self.old ++ byte ∷ [] }
+    {
+        self.bytes[self.used] = byte;
+        self.used += 1;
+    }
+
+    pub(crate) fn is_empty(&self) -> bool
+        ensures { IsTrue result ↔ (self.now ≡ []) }
+    {
+        self.used == 0
+    }
+
+    /// What was heard, with the line feed.
+    pub fn as_bytes(&self) -> &[u8]
+        ensures { result.now ≡ self.now }
+    {
+        &self.bytes[..self.used]
+    }
+
+    /// What was heard before the line feed.
+    pub fn line(&self) -> &[u8]
+        ensures { result.now ≡ first_line self.now }
+    {
+        let bytes = self.as_bytes();
+        let end = feed_place(bytes).unwrap_or(bytes.len());
+        &bytes[..end]
+    }
+}
+
+fn feed_place(bytes: &[u8]) -> Option<usize>
+    ensures { result ≡ position (λ byte. byte == 10) bytes.now }
+{
+    bytes.iter().position(|byte| *byte == b'\n')
+}
