@@ -1,12 +1,24 @@
 -- The laws of lines that a run heard. Each is the contract of a public function.
-use Rattle.std.specs.Prelude.{◌≡◌, ℕ, ◌<◌, List, [], length, Option, None}
+use Rattle.std.specs.Prelude.{◌≡◌, ℕ, ◌<◌, List, [], ◌++◌, length, Option, None}
 use Rattle.crash_plant.specs.Moments.{PlantState}
 use Rattle.consistency.specs.Bears.{Run}
 use Rattle.consistency.specs.Courses.{Answered, first_line, later_line, stage_at}
 use Rattle.consistency.specs.Keeping.{Keeps, stage_now}
 use Rattle.consistency.specs.Steps.{TimedCommand}
 use Rattle.script_lines.specs.Grammars.{IsGrammar}
-use Rattle.script_lines.specs.Texts.{IsTooLong, IsWhole}
+use Rattle.script_lines.specs.Texts.{IsNothing, IsTooLong, IsWhole}
+use Rattle.script_lines.specs.declared.line_end.LineEnd.{LineEnd}
+use Rattle.script_lines.specs.declared.line_end.LineEnd.TheVariants.{Nothing, TooLong, Whole}
+
+-- How a hearing ended that didn't fail, by what was heard and what is left.
+abbrev pub Ends : LineEnd → (text left : List ℕ) → Type 0
+Ends Whole text left = IsWhole (Unit {0}) text left
+Ends TooLong text left = IsTooLong text
+Ends Nothing text left = IsNothing (Unit {0}) text left
+
+-- What is left of a script tells what is heard of it next, and how that ends.
+abbrev pub EndsAreToldApart : Type 0
+EndsAreToldApart = (script text other left rest : List ℕ) (x y : LineEnd) → script ≡ text ++ left → script ≡ other ++ rest → Ends x text left → Ends y other rest → (x ≡ y) × (text ≡ other)
 
 -- The next line of a run that heard a whole line is what this asks, where it isn't one too many and its time doesn't fall.
 abbrev pub IsNextLine : (tells : Type 0) → (text : List ℕ) → (first now : PlantState) → Type 0

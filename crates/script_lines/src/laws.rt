@@ -2,9 +2,14 @@
 
 ghost use Rattle.std.specs.Prelude.{ℕ, List};
 ghost use Rattle.script_lines.specs.Grammars.{IsGrammar, line_grammar};
-ghost use Rattle.script_lines.specs.Laws.{IsNextLine, LinesAreShort, LongLinesAreNone, NoByteIsNoLine};
+ghost use Rattle.script_lines.specs.Laws.{EndsAreToldApart, IsNextLine, LinesAreShort, LongLinesAreNone, NoByteIsNoLine};
 
 use crash_plant::Plant;
+
+/// What is left of a script tells what is heard of it next, and how that ends.
+pub fn ends_are_told_apart()
+    ensures { EndsAreToldApart }
+{}
 
 /// Behind a line that was heard whole a run's next line is what this line asks.
 pub fn whole_lines_are_next<P: Plant>(plant: &P)

@@ -2,10 +2,12 @@
 
 use crate::{LineEnd, LineText, asked_line, hear_line};
 use crash_plant::{Fail as Failure, FailList, MemoryPlant, PlainPlant, Plant};
+use pair_table::{Choice, Command};
 use std::alloc::Global;
 use std::process::Abort;
 use std::test::Fail;
-use tod_stamp::Stamp;
+use tod_stamp::{Session, Stamp};
+use xrc_command::Line;
 use xrc_edge::{Bytes, Failed, NoMemory};
 
 fn plain(alloc: Global, script: &[u8]) -> Result<PlainPlant, NoMemory> {
@@ -96,10 +98,18 @@ fn a_call_fails_within_a_line(rt: HostRuntime) -> Result<(), Fail> {
 #[test]
 fn what_stands_before_the_line_feed_is_read(rt: HostRuntime) -> Result<(), Fail> {
     let mut text = LineText::make();
-    let mut plant = plain(rt.alloc(), b"0000000000000050 XQUERY ABC\nXQUERY ABC")?;
+    let mut plant = plain(
+        rt.alloc(),
+        b"0000000000000050 XSUSPEND ABC VOLUME(ALL)\nXEND ABC",
+    )?;
+    let line = Line {
+        time: Stamp(0x50),
+        session: Session::read(b"ABC")?,
+        command: Command::Suspend(Choice::All),
+    };
     assert_eq!(rt; hear_line(&mut plant, &mut text), Ok(LineEnd::Whole));
-    assert_eq!(rt; asked_line(&text).map(|line| line.time), Some(Stamp(0x50)));
+    assert_eq!(rt; asked_line(&text), Some(line));
     assert_eq!(rt; hear_line(&mut plant, &mut text), Ok(LineEnd::Whole));
-    assert!(rt; asked_line(&text).is_none());
+    assert_eq!(rt; asked_line(&text), None);
     Ok(())
 }

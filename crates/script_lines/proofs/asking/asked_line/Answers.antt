@@ -1,6 +1,4 @@
-use Rattle.std.proofs.Common.{◌≡◌, ℕ, List, Option, Some, sym, ap, subst, ◌∙◌}
-use Rattle.std.specs.Prelude.{IfSome}
-use Rattle.xrc_command.specs.declared.line.Line.{Line}
+use Rattle.std.proofs.Common.{ℕ, List, sym, ap, subst, ◌∙◌}
 use Rattle.xrc_command.specs.Lines.{IsLine}
 use Rattle.script_lines.proofs.GrammarLaws.{asks_read}
 use Rattle.script_lines.proofs.asking.asked_line.Goals as goal

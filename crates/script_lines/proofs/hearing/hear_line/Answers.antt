@@ -1,4 +1,4 @@
-use Rattle.std.proofs.Common.{◌+◌, ◌∙◌, ap, arith}
+use Rattle.std.proofs.Common.{◌+◌, ◌∙◌, ap}
 use Rattle.crash_plant.proofs.Steps.{works_on_console_trans}
 use Rattle.script_lines.proofs.HearLaws.{silent_then}
 use Rattle.script_lines.proofs.hearing.hear_line.Goals as goal
