@@ -6,10 +6,11 @@ use Rattle.crash_plant.specs.declared.device.Heard.TheVariants.{Byte, End}
 use Rattle.script_lines.specs.declared.line_end.LineEnd.{LineEnd}
 use Rattle.script_lines.specs.declared.line_end.LineEnd.TheVariants.{Nothing, Whole}
 
+-- whether a line feed stands in a text
 abbrev pub has_feed : (text : List ℕ) → Bool
 has_feed text = list_any (λ b. b == 10) text
 
--- The front of a line, without its line feed.
+-- The front of a line: at most 256 bytes, and no line feed.
 pub record IsFront (text : List ℕ) : Type 0 where
   pub short : length text ≤ 256
   pub no_feed : has_feed text ≡ false
@@ -35,13 +36,14 @@ pub record IsTooLong (text : List ℕ) : Type 0 where
   pub size : length text ≡ 257
   pub no_feed : has_feed text ≡ false
 
--- No byte was left.
+-- Nothing was heard, and the script has ended, where bytes are told.
 pub record IsNothing (tells : Type 0) (text left : List ℕ) : Type 0 where
   pub text_is : text ≡ []
   pub at_end : tells → left ≡ []
 
 -- ---- behind the front of a line
 
+-- what was heard
 abbrev pub bytes_of : Heard → List ℕ
 bytes_of (Byte b) = b ∷ []
 bytes_of End = []

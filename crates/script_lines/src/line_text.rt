@@ -23,7 +23,7 @@ impl Model for LineText {
 }
 
 impl LineText {
-    /// Of no line anything was heard yet.
+    /// The text of a line of which nothing was heard yet.
     pub fn make() -> LineText
         ensures { result ≡ [] }
     {
@@ -31,26 +31,6 @@ impl LineText {
             bytes: [0; MOST],
             used: 0,
         }
-    }
-
-    pub(crate) fn clear(&mut self)
-        ensures { self.new ≡ [] }
-    {
-        self.used = 0;
-    }
-
-    pub(crate) fn push(&mut self, byte: u8)
-        requires { length self.old ≤ 256 }
-        ensures { self.new ≡ self.old ++ byte ∷ [] }
-    {
-        self.bytes[self.used] = byte;
-        self.used += 1;
-    }
-
-    pub(crate) fn is_empty(&self) -> bool
-        ensures { IsTrue result ↔ (self.now ≡ []) }
-    {
-        self.used == 0
     }
 
     /// What was heard, with the line feed.
@@ -68,8 +48,29 @@ impl LineText {
         let end = feed_place(bytes).unwrap_or(bytes.len());
         &bytes[..end]
     }
+
+    pub(crate) fn is_empty(&self) -> bool
+        ensures { IsTrue result ↔ (self.now ≡ []) }
+    {
+        self.used == 0
+    }
+
+    pub(crate) fn clear(&mut self)
+        ensures { self.new ≡ [] }
+    {
+        self.used = 0;
+    }
+
+    pub(crate) fn push(&mut self, byte: u8)
+        requires { length self.old ≤ 256 }
+        ensures { self.new ≡ self.old ++ byte ∷ [] }
+    {
+        self.bytes[self.used] = byte;
+        self.used += 1;
+    }
 }
 
+// The place of the first line feed.
 fn feed_place(bytes: &[u8]) -> Option<usize>
     ensures { result ≡ position (λ byte. byte == 10) bytes.now }
 {
