@@ -15,12 +15,14 @@ next_text zero script = []
 next_text (suc n) [] = []
 next_text (suc n) (b ∷ script) = cond (nat_eq b 10) (b ∷ []) (b ∷ next_text n script)
 
+-- It is a line and its line feed,
 fed_is : (n : ℕ) (line left : List ℕ) → length line < n → has_feed line ≡ false → next_text n (line ++ 10 ∷ left) ≡ line ++ 10 ∷ []
 unfolding next_text
 fed_is zero line left short none = absurd (omega (arith, short))
 fed_is (suc n) [] left short none = refl
 fed_is (suc n) (b ∷ line) left short none = let parts = or_parts (nat_eq b 10) (has_feed line) none in rw parts.0 (ap (λ (l : List ℕ). b ∷ l) (fed_is n line left (omega (arith, short)) parts.1))
 
+-- or all that is left,
 last_is : (n : ℕ) (text : List ℕ) → length text ≤ n → has_feed text ≡ false → next_text n text ≡ text
 unfolding next_text
 last_is zero [] short none = refl
@@ -28,6 +30,7 @@ last_is zero (b ∷ text) short none = absurd (omega (arith, short))
 last_is (suc n) [] short none = refl
 last_is (suc n) (b ∷ text) short none = let parts = or_parts (nat_eq b 10) (has_feed text) none in rw parts.0 (ap (λ (l : List ℕ). b ∷ l) (last_is n text (omega (arith, short)) parts.1))
 
+-- or so many bytes.
 long_is : (n : ℕ) (text left : List ℕ) → length text ≡ n → has_feed text ≡ false → next_text n (text ++ left) ≡ text
 unfolding next_text
 long_is zero [] left size none = refl
@@ -47,6 +50,7 @@ ends_next n is Nothing text left nothing =
 
 -- ---- its end
 
+-- A line with its line feed has one, so that it is neither too long nor nothing.
 has_its_feed : (line : List ℕ) → has_feed (line ++ 10 ∷ []) ≡ true
 has_its_feed [] = refl
 has_its_feed (b ∷ line) = or_right (nat_eq b 10) (has_feed (line ++ 10 ∷ [])) (has_its_feed line)
@@ -76,6 +80,7 @@ same_end Nothing Whole text left rest e f = absurd (whole_nothing text rest f le
 same_end Nothing TooLong text left rest e f = absurd (long_nothing text rest f left e)
 same_end Nothing Nothing text left rest e f = refl
 
+-- Both are the same for the same script.
 pub told_apart : EndsAreToldApart
 told_apart script a b left rest x y first second e f =
     let same : a ≡ b = sym (ends_next 257 refl x a left e) ∙ ap (next_text 257) (sym first ∙ second) ∙ ends_next 257 refl y b rest f in

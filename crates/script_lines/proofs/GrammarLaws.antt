@@ -37,5 +37,6 @@ read_others bytes none = by_time (time_at bytes) refl
     by_time None is = refl
     by_time (Some (time, text)) is = by_command time text is (command_at text) refl
 
+-- It is a grammar.
 pub is_grammar : IsGrammar line_grammar
 is_grammar = record { lines = read_lines; others = read_others }

@@ -1,5 +1,5 @@
 -- What hearing a line does, byte by byte.
-use Rattle.std.proofs.Common.{◌≡◌, inl, inr, ℕ, ◌≤◌, List, [], ◌∷◌, ◌++◌, false, sym, ap, subst, ◌∙◌, append_assoc, append-nil, arith}
+use Rattle.std.proofs.Common.{◌≡◌, inl, inr, ℕ, ◌≤◌, List, ◌++◌, false, sym, subst, ◌∙◌, append-nil, arith}
 use Rattle.std.proofs.lemmas.Bool.{cases_lt}
 use Rattle.crash_plant.specs.declared.device.Device.TheVariants.{Control}
 use Rattle.crash_plant.specs.declared.device.Heard.{Heard}
@@ -9,25 +9,8 @@ use Rattle.crash_plant.specs.Moments.{PlantState}
 use Rattle.consistency.specs.Keeping.{Keeps}
 use Rattle.consistency.proofs.Keeping.{keeps_hears, keeps_hears_end, keeps_hears_nothing}
 use Rattle.consistency.proofs.Lines.{one_line_more}
-use Rattle.script_lines.specs.Hearing.{HearsText, KeepsHearing, SaysNothing}
+use Rattle.script_lines.specs.Hearing.{KeepsHearing, SaysNothing}
 use Rattle.script_lines.specs.Texts.{bytes_of, has_feed}
-
--- ---- what was heard
-
--- One call more.
-pub text_more : (text : List ℕ) (heard : Heard) (began old new : PlantState) → HearsText text began old → Hears old new heard → HearsText (text ++ bytes_of heard) began new
-text_more text (Byte b) began old new so_far hears = record {
-  script = so_far.script ∙ ap (λ (l : List ℕ). text ++ l) hears.0 ∙ sym (append_assoc text (b ∷ []) new.script);
-  heard = hears.1 ∙ ap (λ (l : List ℕ). l ++ b ∷ []) so_far.heard ∙ append_assoc (began.heard began.clock) text (b ∷ []);
-}
-text_more text End began old new so_far hears = record {
-  script = so_far.script ∙ ap (λ (l : List ℕ). l ++ old.script) (sym (append-nil text)) ∙ ap (λ (l : List ℕ). text ++ [] ++ l) (hears.0 ∙ sym hears.1);
-  heard = hears.2 ∙ so_far.heard ∙ ap (λ (l : List ℕ). began.heard began.clock ++ l) (sym (append-nil text));
-}
-
--- A call that failed heard nothing.
-pub text_still : (text : List ℕ) (began old new : PlantState) → HearsText text began old → HearsNothing old new → HearsText text began new
-text_still text began old new so_far nothing = record { script = so_far.script ∙ ap (λ (l : List ℕ). text ++ l) (sym nothing.script); heard = nothing.heard ∙ so_far.heard }
 
 -- ---- runs
 

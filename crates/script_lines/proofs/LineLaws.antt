@@ -45,11 +45,13 @@ next_read tells told text first now run grammar lines read kept whole asks =
 
 -- ---- others
 
+-- A line that is too long is none, whole or not.
 pub long_is_no_line : LongLinesAreNone
 long_is_no_line run grammar script lines text is long =
     let line : first_line text ≡ text = (whole_at_end text (omega (arith, long.size)) long.no_feed).1 in
     outside_grammar grammar (length lines) (stage_at run lines (length lines)).replied (length (texts_of lines ++ text) == length script) text (ap grammar line ∙ long_is_none grammar text is (omega (arith, long.size)))
 
+-- Without a byte none is whole.
 pub nothing_is_no_line : NoByteIsNoLine
 nothing_is_no_line run grammar script lines =
     let at_end = length (texts_of lines ++ []) == length script in
