@@ -1,0 +1,17 @@
+pub mod Both
+pub mod Changing
+pub mod Copies
+pub mod CopySights
+pub mod HandLaws
+pub mod KeptErrors
+pub mod KeptGroups
+pub mod KeptNone
+pub mod KeptWaiting
+pub mod Reached
+pub mod RisingEntries
+pub mod Rooms
+pub mod Steps
+pub mod Showing
+pub mod TakenLaws
+pub mod WaitingWrites
+pub mod Working

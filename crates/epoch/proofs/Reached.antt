@@ -1,0 +1,65 @@
+-- What a primary holds at the time up to which its sidefile has reported.
+use Rattle.std.proofs.Common.{◌≡◌, ◌≤◌, ◌<◌, ◌+◌, ◌⊎◌, inl, inr, ℕ, Bool, true, nat_le, List, [], ◌∷◌, ◌++◌, Option, Some, None, refl, sym, ap, subst, ◌∙◌, arith, append-nil}
+use Rattle.std.specs.Prelude.{filter, All, option_map}
+use Rattle.std.proofs.lemmas.List.Elements.{filter-append}
+use Rattle.ckd_track.specs.declared.write.Write.{Write}
+use Rattle.trace_grammar.specs.declared.entry.Entry.{Entry}
+use Rattle.trace_grammar.specs.declared.trace.Trace.{Trace}
+use Rattle.trace_grammar.specs.declared.trace.TraceEnd.TheVariants as ends
+use Rattle.trace_grammar.specs.Entries.{stamp_of}
+use Rattle.trace_grammar.specs.Writes.{writes_of}
+use Rattle.write_trace.specs.declared.next.Stopped.{Stopped}
+use Rattle.write_trace.specs.declared.next.Stopped.TheVariants.{AtEnd}
+use Rattle.write_trace.specs.Answers.{ReaderState}
+use Rattle.primary_ctl.specs.States.{PrimaryState}
+use Rattle.primary_ctl.specs.Primaries.{never_fall}
+use Rattle.primary_ctl.proofs.Batches.{batches_make}
+use Rattle.sidefile.specs.declared.hand.Halt.{Halt}
+use Rattle.sidefile.specs.Ahead.{ahead, cause_ahead, cause_to_come, entries_of, waiting_first}
+use Rattle.sidefile.specs.Breaks.{is_below}
+use Rattle.sidefile.specs.Runs.{run_stamp, runs}
+use Rattle.sidefile.specs.States.{IsSidefile, IsWaiting, SidefileState}
+use Rattle.sidefile.proofs.RunLaws.{begins}
+use Rattle.epoch.specs.Taken.{HasReached, HasTaken, do_rise}
+use Rattle.epoch.proofs.Both.{and_true}
+use Rattle.epoch.proofs.HandLaws.{IsAbove}
+use Rattle.epoch.proofs.RisingEntries.{rise_behind, writes_rise}
+use Rattle.epoch.proofs.TakenLaws.{IsLater, all_early, all_more, later_none, later_some, writes_then}
+
+-- Where what is ahead is later than a time, the primary has reached it.
+pub reached_later : (told : Option (List ℕ)) (t : Trace) (side : SidefileState) (held : PrimaryState) (limit : ℕ) (taken : HasTaken told t side held) → side.upto ≤ limit
+    → IsLater limit (cause_ahead side.reader taken.rest) (ahead side.waiting side.reader taken.rest) → HasReached limit t held
+reached_later told t side held limit taken low later =
+    let old = ahead side.waiting side.reader taken.rest in
+    let early : Write → Bool = λ w. nat_le w.stamp.0 limit in
+    let due_writes : writes_of taken.before ≡ filter early (writes_of t.entries) =
+    sym (append-nil (writes_of taken.before))
+    ∙ ap (λ (ws : List Write). writes_of taken.before ++ ws) (sym later.none)
+    ∙ ap (λ (ws : List Write). ws ++ filter early (writes_of old)) (sym (all_early limit (writes_of taken.before) (all_more (λ w. w.stamp.0 ≤ side.upto) (λ w. w.stamp.0 ≤ limit) (writes_of taken.before) (λ w le. omega (arith, le, low)) taken.reported)))
+    ∙ sym (filter-append early (writes_of taken.before) (writes_of old))
+    ∙ ap (λ (ws : List Write). filter early ws) (sym (writes_then taken.before old))
+    ∙ ap (λ (es : List Entry). filter early (writes_of es)) taken.all in
+    let fall = and_true (never_fall 0 (writes_of t.entries)) true (writes_rise 0 t.entries taken.rise) refl in
+    record {
+      tracks = λ volume track. taken.tracks volume track ∙ batches_make (t ∷ []) limit 0 volume track t (writes_of taken.before ∷ []) fall refl (append-nil (writes_of taken.before) ∙ due_writes);
+      unbroken = ap (λ b. is_below (option_map (λ x. x.upto) b) limit) (sym taken.same_break) ∙ later.unbroken;
+    }
+
+-- What is ahead of a sidefile that goes on is later than what it has reported.
+later_now : (waiting : Option Entry) (reader : ReaderState) (upto : ℕ) (rest : List ℕ) → IsWaiting waiting reader upto → 0 < upto → do_rise 0 (ahead waiting reader rest) ≡ true → IsLater upto (cause_ahead reader rest) (ahead waiting reader rest)
+later_now None reader upto rest (inl first) some rise = (let z = first.0 in let no : ⊥ = omega (arith, some, z) in absurd no)
+later_now None reader upto rest (inr end) some rise =
+    later_none upto (cause_ahead reader rest) (ahead None reader rest)
+    (ap (λ (o : Option Stopped). runs (entries_of o reader rest)) end) (ap (λ (o : Option Stopped). cause_to_come o reader rest) end)
+later_now (Some e) reader upto rest waits some rise =
+    let es = entries_of reader.stopped reader rest in
+    let b = begins e es in
+    later_some upto 0 (cause_ahead reader rest) (e ∷ es) rise (record { run = e ∷ b.run; more = b.more; is = b.is; above = waits.1 })
+
+-- At the time up to which a sidefile that goes on has reported, the primary has reached it.
+pub reached_now : (told : Option (List ℕ)) (t : Trace) (side : SidefileState) (held : PrimaryState) → HasTaken told t side held → IsSidefile side.halted side.waiting side.reader side.upto → side.halted ≡ None → 0 < side.upto → HasReached side.upto t held
+reached_now told t side held taken keeps goes some =
+    let waits = subst (λ (h : Option Halt). IsSidefile h side.waiting side.reader side.upto) goes keeps in
+    let old = ahead side.waiting side.reader taken.rest in
+    let rising = rise_behind 0 taken.before old (subst (λ (es : List Entry). do_rise 0 es ≡ true) (sym taken.all) taken.rise) in
+    reached_later told t side held side.upto taken (omega arith) (later_now side.waiting side.reader side.upto taken.rest waits some rising)

@@ -1,0 +1,136 @@
+use Rattle.std.proofs.Common.{rules, ◌≡◌, ◌≤◌, ℕ, Ok, sym, ap, ◌∙◌, arith}
+use Rattle.crash_plant.specs.declared.device.Device.TheVariants.{Volume}
+use Rattle.site_store.specs.declared.store_error.StoreError.TheVariants.{Fault, JournalEnd, Spent, Volume as VolumeError}
+use Rattle.site_store.specs.Sites.{SiteState}
+use Rattle.epoch.proofs.CopySights.{on_always, on_ok, rose_later}
+use Rattle.epoch.proofs.KeptErrors.{full_logged, mark_failed, none_logged, only_read, read_failed, spent_logged, spent_marked}
+use Rattle.epoch.proofs.KeptGroups.{keep_all, keep_each, log_each}
+use Rattle.epoch.proofs.Working.{silent_here, silent_lent, silent_on, silent_then, silent_within}
+use Rattle.epoch.proofs.keeping.keep_group.Goals as goal
+
+-- ---- the group isn't logged
+
+pub returns-in_err-log-clause-moments : goal.returns-in_err-log-clause-moments
+returns-in_err-log-clause-moments g c = λ told means device count more tracks after there unended are makes all.
+    let tells = g.P.Plant.tells in
+    let a = g.P.Plant.state c.args.plant.now in
+    let b = g.P.Plant.state c.log.new.plant in
+    log_each tells told a b b b (silent_lent tells _ a b c.log.ensures.only) (silent_here tells b) (silent_here tells b) c.args.formed.now c.args.site.now.table.rows means device count more tracks after there unended are makes all (c.log.ensures.moments told)
+
+pub returns-in_err-log-clause-works : goal.returns-in_err-log-clause-works
+returns-in_err-log-clause-works g c = silent_lent g.P.Plant.tells _ (g.P.Plant.state c.args.plant.now) (g.P.Plant.state c.log.new.plant) c.log.ensures.only
+
+pub returns-in_err-log-clause-volume : goal.returns-in_err-log-clause-volume
+returns-in_err-log-clause-volume g c = λ none v is.
+    let same : c.log.result ≡ c.from_residual.result = search rules in
+    read_failed c.args.site.now.failed c.log.new.self.failed (g.P.Plant.state c.args.plant.now).faults (g.P.Plant.state c.log.new.plant).faults v c.log.ensures.fails none ((c.log.ensures.volume v).0 (same ∙ is))
+
+pub returns-in_err-log-clause-spent : goal.returns-in_err-log-clause-spent
+returns-in_err-log-clause-spent g c = λ told is.
+    let same : c.log.result ≡ c.from_residual.result = search rules in
+    let tells = g.P.Plant.tells in
+    let a = g.P.Plant.state c.args.plant.now in
+    let b = g.P.Plant.state c.log.new.plant in
+    spent_logged tells told a b c.args.site.now (silent_lent tells _ a b c.log.ensures.only) (only_read tells a b c.log.result Spent (λ d e. cc e) (same ∙ is) c.log.ensures.untouched) (c.requires.stands told) (c.log.ensures.spent.0 (same ∙ is)).1
+
+pub returns-in_err-log-clause-journal_end : goal.returns-in_err-log-clause-journal_end
+returns-in_err-log-clause-journal_end g c = λ told few is.
+    let same : c.log.result ≡ c.from_residual.result = search rules in
+    let tells = g.P.Plant.tells in
+    let a = g.P.Plant.state c.args.plant.now in
+    let b = g.P.Plant.state c.log.new.plant in
+    full_logged tells told a b c.args.site.now c.args.formed.now (silent_lent tells _ a b c.log.ensures.only) (only_read tells a b c.log.result JournalEnd (λ d e. cc e) (same ∙ is) c.log.ensures.untouched) (c.requires.stands told) few c.requires.entries (c.log.ensures.journal_end (same ∙ is))
+
+-- ---- it is logged, applied and marked
+
+pub mark-requires-clause-idle : goal.mark-requires-clause-idle
+mark-requires-clause-idle g c κs within = ap (λ (s : SiteState). s.waiting) c.apply.ensures.site
+
+pub returns-clause-table : goal.returns-clause-table
+returns-clause-table g c =
+    let before = ap (λ (s : SiteState). s.table) c.apply.ensures.site ∙ ap (λ (s : SiteState). s.table) c.in_ok-log.ensures.ok in
+    on_ok c.mark.result _ _ (λ is. ap (λ (s : SiteState). s.table) is ∙ before) c.mark.ensures.marked
+
+pub returns-clause-time : goal.returns-clause-time
+returns-clause-time g c =
+    let before = ap (λ (s : SiteState). s.time) c.apply.ensures.site ∙ ap (λ (s : SiteState). s.time) c.in_ok-log.ensures.ok in
+    on_ok c.mark.result _ _ (λ is. ap (λ (s : SiteState). s.time) is ∙ before) c.mark.ensures.marked
+
+pub returns-clause-controls : goal.returns-clause-controls
+returns-clause-controls g c =
+    let before = ap (λ (s : SiteState). s.controls) c.apply.ensures.site ∙ ap (λ (s : SiteState). s.controls) c.in_ok-log.ensures.ok in
+    on_ok c.mark.result _ _ (λ is. ap (λ (s : SiteState). s.controls) is ∙ before) c.mark.ensures.marked
+
+pub returns-clause-level : goal.returns-clause-level
+returns-clause-level g c =
+    let before = ap (λ (s : SiteState). s.level) c.apply.ensures.site ∙ ap (λ (s : SiteState). s.level) c.in_ok-log.ensures.ok in
+    on_ok c.mark.result _ _ (λ is. ap (λ (s : SiteState). s.level) is ∙ before) c.mark.ensures.marked
+
+pub returns-clause-idle : goal.returns-clause-idle
+returns-clause-idle g c = on_ok c.mark.result _ _ (λ is. ap (λ (s : SiteState). s.waiting) is ∙ ap (λ (s : SiteState). s.waiting) c.apply.ensures.site) c.mark.ensures.marked
+
+pub returns-clause-moments : goal.returns-clause-moments
+returns-clause-moments g c = λ told means device count more tracks after there unended are makes all.
+    let tells = g.P.Plant.tells in
+    let a = g.P.Plant.state c.args.plant.now in
+    let b = g.P.Plant.state c.log.new.plant in
+    let m = g.P.Plant.state c.apply.new.plant in
+    let d = g.P.Plant.state c.mark.new.plant in
+    keep_each tells told a b m d (silent_lent tells _ a b c.log.ensures.only) (silent_within tells _ b m c.apply.ensures.only) (silent_on tells _ m d c.mark.ensures.only) c.args.formed.now c.args.site.now.table.rows means device count more tracks after there unended are makes all
+    c.apply.new.self.at (c.log.ensures.moments told) (c.in_ok-log.ensures.logged told) (c.apply.ensures.moments told) (c.mark.ensures.moments told)
+
+pub returns-clause-shows : goal.returns-clause-shows
+returns-clause-shows g c = λ told means device count more tracks after there unended are makes all.
+    let tells = g.P.Plant.tells in
+    let a = g.P.Plant.state c.args.plant.now in
+    let b = g.P.Plant.state c.log.new.plant in
+    let m = g.P.Plant.state c.apply.new.plant in
+    let d = g.P.Plant.state c.mark.new.plant in
+    on_always c.mark.result _
+    (keep_all tells told a b m d (silent_lent tells _ a b c.log.ensures.only) (silent_within tells _ b m c.apply.ensures.only) (silent_on tells _ m d c.mark.ensures.only) c.args.formed.now c.args.site.now.table.rows means device count more tracks after there unended are makes all
+    c.apply.new.self.at (c.in_ok-log.ensures.logged told) (c.apply.ensures.moments told) (c.mark.ensures.moments told))
+
+pub returns-clause-works : goal.returns-clause-works
+returns-clause-works g c =
+    let tells = g.P.Plant.tells in
+    let a = g.P.Plant.state c.args.plant.now in
+    let b = g.P.Plant.state c.log.new.plant in
+    let m = g.P.Plant.state c.apply.new.plant in
+    let d = g.P.Plant.state c.mark.new.plant in
+    silent_then tells a b d (silent_lent tells _ a b c.log.ensures.only) (silent_then tells b m d (silent_within tells _ b m c.apply.ensures.only) (silent_on tells _ m d c.mark.ensures.only))
+
+-- ---- why it isn't
+
+pub returns-clause-fault : goal.returns-clause-fault
+returns-clause-fault g c = λ e is.
+    let a = g.P.Plant.state c.args.plant.now in
+    let b = g.P.Plant.state c.log.new.plant in
+    let m = g.P.Plant.state c.apply.new.plant in
+    let d = g.P.Plant.state c.mark.new.plant in
+    let one = c.log.ensures.only.faults e in
+    let two = c.apply.ensures.only.faults e in
+    rose_later (a.faults e) (m.faults e) (d.faults e) (omega (arith, one, two)) (c.mark.ensures.error (Fault e) is).1
+
+pub returns-clause-volume : goal.returns-clause-volume
+returns-clause-volume g c = λ none v is.
+    let tells = g.P.Plant.tells in
+    let a = g.P.Plant.state c.args.plant.now in
+    let b = g.P.Plant.state c.log.new.plant in
+    let m = g.P.Plant.state c.apply.new.plant in
+    let d = g.P.Plant.state c.mark.new.plant in
+    let fine = none_logged c.log.new.self (λ w first. cc ((c.in_ok-log.ensures.volume w).1 first)) in
+    let size = c.apply.ensures.fits.failed ∙ c.apply.ensures.only.site.volumes in
+    let rose = mark_failed tells c.log.new.self c.apply.new.self c.mark.new.self b m d c.apply.ensures.volumes fine size c.mark.result v (λ w first. (c.mark.ensures.failed_before w first).0) is (c.mark.ensures.error (VolumeError v) is)
+    (c.apply.ensures.only.faults (Volume v)) (c.mark.ensures.only.faults (Volume v)) in
+    rose_later (a.faults (Volume v)) (b.faults (Volume v)) (d.faults (Volume v)) (c.log.ensures.only.faults (Volume v)) rose
+
+pub returns-clause-spent : goal.returns-clause-spent
+returns-clause-spent g c = λ told is.
+    let tells = g.P.Plant.tells in
+    let m = g.P.Plant.state c.apply.new.plant in
+    let d = g.P.Plant.state c.mark.new.plant in
+    let why = c.mark.ensures.error Spent is in
+    spent_marked tells told m d c.apply.new.self why.1 (c.mark.ensures.volumes told) (c.mark.ensures.images told) (c.apply.ensures.stands told) why.0
+
+pub returns-clause-journal_end : goal.returns-clause-journal_end
+returns-clause-journal_end g c = λ told few is. absurd (c.mark.ensures.error JournalEnd is)

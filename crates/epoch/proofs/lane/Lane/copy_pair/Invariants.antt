@@ -1,0 +1,28 @@
+use Rattle.std.proofs.Common.{◌≡◌, ◌≤◌, ◌-◌, []}
+use Rattle.primary_ctl.specs.States.{track_of}
+use Rattle.site_store.specs.Standing.{Fits, Stands}
+use Rattle.epoch.specs.Lanes.{IsFeed}
+use Rattle.epoch.proofs.CopySights.{HasCopied}
+use Rattle.epoch.proofs.lane.Lane.copy_pair.Given as goal
+
+-- the parts so far are copied
+abbrev pub invariant-loop-first : goal.invariant-loop-first
+invariant-loop-first g l =
+    let begun = l.initial in
+    record {
+      feed : IsFeed l.self;
+      side : l.self.side ≡ begun.self.side;
+      primary : l.self.primary ≡ begun.self.primary;
+      empty : l.self.queue.waiting ≡ [];
+      upto : l.first ≤ l.tracks;
+      time : l.site.time ≡ begun.site.time;
+      controls : l.site.controls ≡ begun.site.controls;
+      level : l.site.level ≡ begun.site.level;
+      idle : l.site.waiting ≡ [];
+      fits : Fits l.site (g.P.Plant.state l.plant);
+      stands : g.P.Plant.tells → Stands l.site.table.rows l.site (g.P.Plant.state l.plant);
+      copied : HasCopied g.P.Plant.tells l.row (track_of begun.self.primary l.row.volume) begun.self.primary.time l.first begun.site l.site (g.P.Plant.state begun.plant) (g.P.Plant.state l.plant);
+    }
+
+abbrev pub decreases-loop-first : goal.decreases-loop-first
+decreases-loop-first g l = l.tracks - l.first

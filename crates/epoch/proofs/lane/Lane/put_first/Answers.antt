@@ -1,0 +1,20 @@
+use Rattle.std.proofs.Common.{◌≡◌, ◌∙◌, length, Bool, true, false, Ok, sym, ap, tt, arith, absurd}
+use Rattle.pending_queue.specs.Entries.{WaitingEntry}
+use Rattle.pending_queue.specs.Queues.{free_room}
+use Rattle.pending_queue.specs.Rooms.{blocks_taken}
+use Rattle.epoch.specs.Lanes.{is_of, most_blocks, most_records}
+use Rattle.epoch.proofs.Rooms.{kinds_keep, run_has_room}
+use Rattle.epoch.proofs.lane.Lane.put_first.Goals as goal
+
+pub put_batch-requires-clause-rules : goal.put_batch-requires-clause-rules
+put_batch-requires-clause-rules c = kinds_keep c.args.batch.now.writes c.requires.kinds
+
+pub unreachable-requires : goal.unreachable-requires
+unreachable-requires c =
+    let queue = c.args.self.now.queue in
+    let none = ap length c.requires.empty in
+    let no_blocks = ap blocks_taken c.requires.empty in
+    let full = c.put_batch.ensures.full (c.in_ok-put_batch.was tt ∙ ap (λ (b : Bool). Ok b) c.if-branch.false) in
+    let room = run_has_room (is_of c.args.volume) c.args.batch.now.writes (free_room queue) c.requires.kinds c.requires.few
+    (omega (arith, none, c.requires.feed.records)) (omega (arith, no_blocks, c.requires.feed.blocks)) in
+    absurd (cc (sym room ∙ full))

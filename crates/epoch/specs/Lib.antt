@@ -1,0 +1,7 @@
+pub mod Copying
+pub mod Ends
+pub mod Following
+pub mod Lanes
+pub mod Sights
+pub mod Taken
+pub mod Works
