@@ -11,20 +11,21 @@ use Rattle.crash_plant.specs.Moments.{Follows, PlantState, Same, on}
 use Rattle.lending.specs.Back.{OnlyReads}
 use Rattle.xrc_journal.specs.Items.{Item, body_spelling}
 use Rattle.applier.specs.Jobs.{FailsByCount}
+use Rattle.pair_table.specs.declared.row.PairRow.{PairRow}
 use Rattle.pending_queue.specs.Groups.{FormedGroup}
 use Rattle.site_store.specs.declared.store_error.StoreError.{StoreError}
 use Rattle.site_store.specs.declared.store_error.StoreError.TheVariants.{Fault, JournalEnd, Spent, Volume as VolumeError}
 use Rattle.site_store.specs.Applies.{CountsVolume, is_applied}
 use Rattle.site_store.specs.GroupRows.{pairs_with_group}
-use Rattle.site_store.specs.Groups.{EndsBefore, FailByReads, IsOfLiveRow, first_failed, first_failed_from}
+use Rattle.site_store.specs.Groups.{AreItemsOf, EndsBefore, FailByReads, IsOfLiveRow, first_failed, first_failed_from}
 use Rattle.site_store.specs.Marking.{FailsMark, IsAmong, IsFirstFailed, IsFirstTrue, NoneFailed, NoneTrue}
 use Rattle.site_store.specs.Sites.{SiteState, has_failed}
 use Rattle.site_store.specs.Standing.{Stands}
 use Rattle.site_store.proofs.MarkJobs.{true_false}
 use Rattle.site_store.proofs.MarkedSites.{in_list}
 use Rattle.site_store.proofs.NoneFailed.{none_failed}
-use Rattle.site_store.proofs.ReadsFirst.{stands_mid}
-use Rattle.epoch.specs.Ends.{IsFull, IsSpent}
+use Rattle.site_store.proofs.ReadsFirst.{items_mid, stands_mid}
+use Rattle.epoch.specs.Ends.{IsFull, IsFullFor, IsSpent}
 use Rattle.epoch.specs.Works.{WorksSilently}
 use Rattle.epoch.proofs.CopySights.{rose_later}
 
@@ -142,21 +143,29 @@ pub spent_marked : (tells : Type 0) (told : tells) (a b : PlantState) (site : Si
     → Stands site.table.rows site a → site.mark.number ≡ 2 ^ 64 - 2 → IsSpent b
 spent_marked tells told a b site works bytes images stands last = record { site = site; stands = stands_synced tells told a b site works bytes images stands; last = inr last }
 
+-- The items of a group's record are so for whoever is told the bytes.
+items_told : (tells : Type 0) (told : tells) (group : FormedGroup) (rows : List PairRow) (plant : PlantState) (items : List Item) → AreItemsOf tells group rows plant items → AreItemsOf (Unit {0}) group rows plant items
+items_told tells told group rows plant items are = record { images = are.images; parts = are.parts; are_images = are.are_images; keep = are.keep; tracks = are.tracks; content = λ any. are.content told }
+
 -- The record of a group doesn't fit the rest of its data set.
-pub full_logged : (tells : Type 0) (told : tells) (a b : PlantState) (site : SiteState) (group : FormedGroup) → WorksSilently tells a b → OnlyReads tells a b → Stands site.table.rows site a → length group.entries ≤ 32
-    → All (IsOfLiveRow site.table.rows) group.entries → EndsBefore tells group site a → IsFull b
-full_logged tells told a b site group works reads stands few live ends = record {
-  site = site;
-  stands = stands_read tells told a b site works reads stands;
-  group = group;
-  few = few;
-  live = live;
-  images = ends.are.images;
-  are_images = ends.are.are_images;
-  tracks = ends.are.tracks;
-  short =
-      let lengths = works.site.lengths (Journal site.at.set) in
-      let spelled = ap (λ (items : List Item). length (body_spelling items)) ends.are.parts in
-      let short = ends.short in
-      omega (arith, lengths, spelled, short);
-}
+pub full_logged : (tells : Type 0) (told : tells) (a b : PlantState) (site : SiteState) (group : FormedGroup) → WorksSilently tells a b → OnlyReads tells a b → Stands site.table.rows site a → All (IsOfLiveRow site.table.rows) group.entries
+    → EndsBefore tells group site a → IsFullFor group b
+full_logged tells told a b site group works reads stands live ends =
+    let rows = site.table.rows in
+    record {
+      site = site;
+      stands = stands_read tells told a b site works reads stands;
+      live = live;
+      ends = record {
+        items = ends.items;
+        are = items_mid a b works.site (reads.bytes told) (reads.moments told) ((works.elapses told).kept Control).later (Unit {0}) group rows ends.items (items_told tells told group rows a ends.items ends.are);
+        short =
+            let lengths = works.site.lengths (Journal site.at.set) in
+            let short = ends.short in
+            omega (arith, lengths, short);
+      };
+    }
+
+-- It is one of few entries.
+pub full_few : (group : FormedGroup) (plant : PlantState) → length group.entries ≤ 32 → IsFullFor group plant → IsFull plant
+full_few group plant few full = record { group = group; few = few; full = full }

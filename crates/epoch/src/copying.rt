@@ -160,6 +160,8 @@ impl Lane {
         ensures controls { OnOk result (site.new.controls ≡ site.old.controls) }
         ensures level { OnOk result (site.new.level ≡ site.old.level) }
         ensures idle { OnOk result (site.new.waiting ≡ []) }
+        ensures marked { OnOk result (site.new.mark.at ≡ site.new.at) }
+        ensures goes_on { OnOk result (site.new.mark.ended ≡ false) }
         ensures fits { OnOk result (Fits site.new (P.state plant.new)) }
         ensures stands { P.tells → OnOk result (Stands site.new.table.rows site.new (P.state plant.new)) }
         ensures moments { P.tells → PartMoments row.now site.old.table.rows (track_of self.old.primary row.now.volume) self.old.primary.time part.first (P.state plant.old) (P.state plant.new) }
@@ -203,6 +205,8 @@ impl Lane {
         ensures controls { OnOk result (site.new.controls ≡ site.old.controls) }
         ensures level { OnOk result (site.new.level ≡ site.old.level) }
         ensures idle { OnOk result (site.new.waiting ≡ []) }
+        ensures marked { OnOk result (site.new.mark.at ≡ site.new.at) }
+        ensures goes_on { OnOk result (site.new.mark.ended ≡ false) }
         ensures fits { OnOk result (Fits site.new (P.state plant.new)) }
         ensures stands { P.tells → OnOk result (Stands site.new.table.rows site.new (P.state plant.new)) }
         // At every moment the pair waits or is copied, or it is duplex and holds all tracks as they are at the lane's time.

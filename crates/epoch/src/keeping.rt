@@ -1,6 +1,6 @@
 //! A group, logged, applied and marked.
 
-ghost use Rattle.std.specs.Prelude.{◌≡◌, ◌≤◌, ◌<◌, ℕ, [], List, length, false, OnOk, IsErrOf};
+ghost use Rattle.std.specs.Prelude.{◌≡◌, ◌≤◌, ◌<◌, ℕ, [], List, false, OnOk, IsErrOf};
 ghost use Rattle.std.specs.List.{All};
 ghost use Rattle.xrc_edge.specs.Causes.{Rose};
 ghost use Rattle.ckd_track.specs.declared.rec.Rec.{Rec as RecValue};
@@ -15,7 +15,7 @@ ghost use Rattle.site_store.specs.GroupRows.{rows_with_group};
 ghost use Rattle.site_store.specs.Groups.{IsOfLiveRow};
 ghost use Rattle.site_store.specs.Marking.{NoneFailed};
 ghost use Rattle.site_store.specs.Standing.{Fits, Stands};
-ghost use Rattle.epoch.specs.Ends.{IsFull, IsSpent};
+ghost use Rattle.epoch.specs.Ends.{IsFullFor, IsSpent};
 ghost use Rattle.epoch.specs.Sights.{AllShow, EachIs, Makes, ShowsEither, behind};
 ghost use Rattle.epoch.specs.Works.{WorksSilently};
 
@@ -44,6 +44,9 @@ pub fn keep_group<R: Threads + Sync, P: Plant>(
     ensures controls { OnOk result (site.new.controls ≡ site.old.controls) }
     ensures level { OnOk result (site.new.level ≡ site.old.level) }
     ensures idle { OnOk result (site.new.waiting ≡ []) }
+    // The mark is where the next record comes.
+    ensures marked { OnOk result (site.new.mark.at ≡ site.new.at) }
+    ensures goes_on { OnOk result (site.new.mark.ended ≡ false) }
     ensures fits { OnOk result (Fits site.new (P.state plant.new)) }
     ensures stands { P.tells → OnOk result (Stands site.new.table.rows site.new (P.state plant.new)) }
     // At every moment what was before the group is seen, or what is behind it.
@@ -54,7 +57,7 @@ pub fn keep_group<R: Threads + Sync, P: Plant>(
     ensures fault { (d : DeviceValue) → IsErrOf result (Fault d) → Rose ((P.state plant.old).faults d) ((P.state plant.new).faults d) }
     ensures volume { NoneFailed site.old → (v : ℕ) → IsErrOf result (VolumeError v) → Rose ((P.state plant.old).faults (VolumeDevice v)) ((P.state plant.new).faults (VolumeDevice v)) }
     ensures spent { P.tells → IsErrOf result Spent → IsSpent (P.state plant.new) }
-    ensures journal_end { P.tells → length formed.now.entries ≤ 32 → IsErrOf result JournalEnd → IsFull (P.state plant.new) }
+    ensures journal_end { P.tells → IsErrOf result JournalEnd → IsFullFor formed.now (P.state plant.new) }
     ensures good { OnOk result (NoneFailed site.new) }
 {
     site.log(alloc, plant, formed)?;

@@ -54,6 +54,8 @@ impl Lane {
         ensures controls { OnOk result (site.new.controls ≡ site.old.controls) }
         ensures level { OnOk result (site.new.level ≡ site.old.level) }
         ensures idle { OnOk result (site.new.waiting ≡ []) }
+        ensures marked { OnOk result (site.new.mark.at ≡ site.new.at) }
+        ensures goes_on { OnOk result (site.new.mark.ended ≡ false) }
         ensures fits { OnOk result (Fits site.new (P.state plant.new)) }
         ensures stands { P.tells → OnOk result (Stands site.new.table.rows site.new (P.state plant.new)) }
         // At every moment the device holds the primary's tracks, at the time before what waits or at the lane's.
@@ -98,6 +100,8 @@ impl Lane {
         ensures controls { OnOk result (site.new.controls ≡ site.old.controls) }
         ensures level { OnOk result (site.new.level ≡ site.old.level) }
         ensures idle { OnOk result (site.new.waiting ≡ []) }
+        ensures marked { OnOk result (site.new.mark.at ≡ site.new.at) }
+        ensures goes_on { OnOk result (site.new.mark.ended ≡ false) }
         ensures fits { OnOk result (Fits site.new (P.state plant.new)) }
         ensures stands { P.tells → OnOk result (Stands site.new.table.rows site.new (P.state plant.new)) }
         // At every moment the time before is meant, or the lane's.

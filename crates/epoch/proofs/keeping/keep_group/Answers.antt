@@ -34,12 +34,12 @@ returns-in_err-log-clause-spent g c = λ told is.
     spent_logged tells told a b c.args.site.now (silent_lent tells _ a b c.log.ensures.only) (only_read tells a b c.log.result Spent (λ d e. cc e) (same ∙ is) c.log.ensures.untouched) (c.requires.stands told) (c.log.ensures.spent.0 (same ∙ is)).1
 
 pub returns-in_err-log-clause-journal_end : goal.returns-in_err-log-clause-journal_end
-returns-in_err-log-clause-journal_end g c = λ told few is.
+returns-in_err-log-clause-journal_end g c = λ told is.
     let same : c.log.result ≡ c.from_residual.result = search rules in
     let tells = g.P.Plant.tells in
     let a = g.P.Plant.state c.args.plant.now in
     let b = g.P.Plant.state c.log.new.plant in
-    full_logged tells told a b c.args.site.now c.args.formed.now (silent_lent tells _ a b c.log.ensures.only) (only_read tells a b c.log.result JournalEnd (λ d e. cc e) (same ∙ is) c.log.ensures.untouched) (c.requires.stands told) few c.requires.entries (c.log.ensures.journal_end (same ∙ is))
+    full_logged tells told a b c.args.site.now c.args.formed.now (silent_lent tells _ a b c.log.ensures.only) (only_read tells a b c.log.result JournalEnd (λ d e. cc e) (same ∙ is) c.log.ensures.untouched) (c.requires.stands told) c.requires.entries (c.log.ensures.journal_end (same ∙ is))
 
 -- ---- it is logged, applied and marked
 
@@ -68,6 +68,12 @@ returns-clause-level g c =
 
 pub returns-clause-idle : goal.returns-clause-idle
 returns-clause-idle g c = on_ok c.mark.result _ _ (λ is. ap (λ (s : SiteState). s.waiting) is ∙ ap (λ (s : SiteState). s.waiting) c.apply.ensures.site) c.mark.ensures.marked
+
+pub returns-clause-marked : goal.returns-clause-marked
+returns-clause-marked g c = on_ok c.mark.result _ _ (λ is. ap (λ (s : SiteState). s.mark.at) is ∙ sym (ap (λ (s : SiteState). s.at) is)) c.mark.ensures.marked
+
+pub returns-clause-goes_on : goal.returns-clause-goes_on
+returns-clause-goes_on g c = on_ok c.mark.result _ _ (λ is. ap (λ (s : SiteState). s.mark.ended) is) c.mark.ensures.marked
 
 pub returns-clause-moments : goal.returns-clause-moments
 returns-clause-moments g c = λ told means device count more tracks after there unended are makes all.
@@ -133,4 +139,4 @@ returns-clause-spent g c = λ told is.
     spent_marked tells told m d c.apply.new.self why.1 (c.mark.ensures.volumes told) (c.mark.ensures.images told) (c.apply.ensures.stands told) why.0
 
 pub returns-clause-journal_end : goal.returns-clause-journal_end
-returns-clause-journal_end g c = λ told few is. absurd (c.mark.ensures.error JournalEnd is)
+returns-clause-journal_end g c = λ told is. absurd (c.mark.ensures.error JournalEnd is)

@@ -9,6 +9,7 @@ use Rattle.epoch.specs.Copying.{IsPart, ShowsBefore, in_row, state_after}
 use Rattle.epoch.specs.Sights.{AllShow}
 use Rattle.epoch.proofs.Copies.{copies_length}
 use Rattle.epoch.proofs.CopySights.{device_there, group_behind, group_live, group_makes, group_moments, group_rows, ok_shows, on_always, on_ok, part_here}
+use Rattle.epoch.proofs.KeptErrors.{full_few}
 use Rattle.epoch.proofs.Working.{silent_here}
 use Rattle.epoch.proofs.lane.Lane.copy_part.Goals as goal
 
@@ -96,4 +97,4 @@ returns-clause-journal_end g c = λ told end.
     let count = copies_length row.volume c.args.self.now.time (track_of c.args.self.now.primary row.volume) part.first part.count in
     let most = c.requires.part.fits.few in
     let few : length c.form_part.new.self.formed.entries ≤ 32 = omega (arith, entries, count, most) in
-    c.keep_group.ensures.journal_end told few end
+    full_few c.form_part.new.self.formed (g.P.Plant.state c.keep_group.new.plant) few (c.keep_group.ensures.journal_end told end)

@@ -4,6 +4,7 @@ use Rattle.pending_queue.specs.Groups.{FormedGroup}
 use Rattle.site_means.specs.declared.means.Means.{Means}
 use Rattle.epoch.specs.Sights.{AllShow}
 use Rattle.epoch.proofs.CopySights.{on_ok}
+use Rattle.epoch.proofs.KeptErrors.{full_few}
 use Rattle.epoch.proofs.KeptNone.{none_behind, none_live, none_makes, none_moments, none_table}
 use Rattle.epoch.proofs.lane.Lane.keep_time.Goals as goal
 
@@ -54,4 +55,4 @@ pub returns-clause-journal_end : goal.returns-clause-journal_end
 returns-clause-journal_end g c = λ told end.
     let none = ap (λ (f : FormedGroup). length f.entries) c.begin.ensures in
     let few : length c.begin.new.self.entries ≤ 32 = omega (arith, none) in
-    c.keep_group.ensures.journal_end told few end
+    full_few c.begin.new.self (g.P.Plant.state c.keep_group.new.plant) few (c.keep_group.ensures.journal_end told end)

@@ -7,6 +7,7 @@ use Rattle.primary_ctl.specs.States.{track_of}
 use Rattle.epoch.specs.Following.{at_time}
 use Rattle.epoch.specs.Lanes.{tracks_of}
 use Rattle.epoch.proofs.CopySights.{device_there, on_always, on_both, on_ok}
+use Rattle.epoch.proofs.KeptErrors.{full_few}
 use Rattle.epoch.proofs.KeptWaiting.{waiting_few, waiting_fit, waiting_follows, waiting_group, waiting_left, waiting_live, waiting_makes, waiting_moments, waiting_table}
 use Rattle.epoch.proofs.lane.Lane.keep_waiting.Goals as goal
 
@@ -112,4 +113,4 @@ returns-clause-journal_end g c = λ told end.
     let w = c.requires.waits.1 in
     let is = waiting_group c.requires.waits.0 row.volume (tracks_of row) lane w lane.time c.requires.feed.time c.begin.new.self c.pop_upto.new.out lane.formed.controls c.requires.feed.formed c.begin.ensures c.pop_upto.ensures.popped in
     let few : length lane.queue.waiting ≤ 32 = omega (arith, c.len-few.ensures.count, c.len-few.ensures.within, c.requires.feed.records) in
-    c.keep_group.ensures.journal_end told (waiting_few c.requires.waits.0 row.volume (tracks_of row) lane w lane.time c.requires.feed.time c.pop_upto.new.out is few) end
+    full_few c.pop_upto.new.out (g.P.Plant.state c.keep_group.new.plant) (waiting_few c.requires.waits.0 row.volume (tracks_of row) lane w lane.time c.requires.feed.time c.pop_upto.new.out is few) (c.keep_group.ensures.journal_end told end)
