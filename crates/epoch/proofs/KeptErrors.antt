@@ -1,7 +1,7 @@
 -- Why a group isn't kept: whose count rose, and what stands on the devices where numbers are spent or a record doesn't fit.
-use Rattle.std.proofs.Common.{◌≡◌, ◌≢◌, ◌⊎◌, inl, inr, ℕ, zero, suc, ◌+◌, ◌-◌, ◌^◌, ◌<◌, ◌≤◌, ◌↔◌, Bool, true, false, List, [], ◌∷◌, ◌++◌, length, Option, Some, None, Ok, Err, refl, sym, ap, subst, ◌∙◌, arith}
+use Rattle.std.proofs.Common.{◌≡◌, ◌≢◌, ◌⊎◌, inl, inr, ℕ, zero, suc, ◌+◌, ◌-◌, ◌^◌, ◌<◌, ◌≤◌, Bool, true, false, List, [], ◌∷◌, length, Option, Some, None, refl, sym, subst, ◌∙◌, arith}
 use Rattle.std.specs.Prelude.{Result, IsErr, IsErrOf, slice_index_or}
-use Rattle.std.specs.List.{All, list_all}
+use Rattle.std.specs.List.{All}
 use Rattle.std.proofs.lemmas.Bool.{cases_Bool, cases_eq}
 use Rattle.xrc_edge.specs.Causes.{Rose}
 use Rattle.crash_plant.specs.declared.device.Device.{Device}
@@ -9,14 +9,12 @@ use Rattle.crash_plant.specs.declared.device.Device.TheVariants.{Control, State,
 use Rattle.crash_plant.specs.Calls.{WorksOn}
 use Rattle.crash_plant.specs.Moments.{Follows, PlantState, Same, on}
 use Rattle.lending.specs.Back.{OnlyReads}
-use Rattle.xrc_journal.specs.Items.{Item, body_spelling}
-use Rattle.applier.specs.Jobs.{FailsByCount}
+use Rattle.xrc_journal.specs.Items.{Item}
 use Rattle.pair_table.specs.declared.row.PairRow.{PairRow}
 use Rattle.pending_queue.specs.Groups.{FormedGroup}
 use Rattle.site_store.specs.declared.store_error.StoreError.{StoreError}
-use Rattle.site_store.specs.declared.store_error.StoreError.TheVariants.{Fault, JournalEnd, Spent, Volume as VolumeError}
+use Rattle.site_store.specs.declared.store_error.StoreError.TheVariants.{Fault, Volume as VolumeError}
 use Rattle.site_store.specs.Applies.{CountsVolume, is_applied}
-use Rattle.site_store.specs.GroupRows.{pairs_with_group}
 use Rattle.site_store.specs.Groups.{AreItemsOf, EndsBefore, FailByReads, IsOfLiveRow, first_failed, first_failed_from}
 use Rattle.site_store.specs.Marking.{FailsMark, IsAmong, IsFirstFailed, IsFirstTrue, NoneFailed, NoneTrue}
 use Rattle.site_store.specs.Sites.{SiteState, has_failed}

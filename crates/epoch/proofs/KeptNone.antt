@@ -1,21 +1,20 @@
 -- A group without entries, where a session has no pair.
-use Rattle.std.proofs.Common.{◌≡◌, ◌⊎◌, inl, inr, ℕ, ◌<◌, List, [], Option, Some, sym, ap, subst, ◌∙◌, arith}
+use Rattle.std.proofs.Common.{◌≡◌, ◌⊎◌, inl, inr, ℕ, List, [], sym, ap, subst, ◌∙◌, arith}
 use Rattle.std.specs.Prelude.{All}
 use Rattle.std.proofs.lemmas.List.Elements.{All-nil}
 use Rattle.tod_stamp.specs.declared.stamp.Stamp.{Stamp}
 use Rattle.ckd_track.specs.declared.rec.Rec.{Rec}
-use Rattle.crash_plant.specs.Choices.{Choice}
 use Rattle.crash_plant.specs.Moments.{PlantState}
 use Rattle.pair_table.specs.declared.row.PairRow.{PairRow}
 use Rattle.pair_table.specs.Tables.{Table, with_rows}
 use Rattle.pending_queue.specs.Groups.{FormedGroup, empty_group}
 use Rattle.site_means.specs.declared.means.Means.{Means}
-use Rattle.site_means.specs.Images.{Shape, shape_of}
+use Rattle.site_means.specs.Images.{shape_of}
 use Rattle.site_store.specs.GroupRows.{rows_with_group}
 use Rattle.site_store.specs.Groups.{IsOfLiveRow}
 use Rattle.site_store.specs.Sees.{with_time_and_rows}
 use Rattle.epoch.specs.Following.{at_time}
-use Rattle.epoch.specs.Sights.{AllShow, EachIs, Makes, Shows, ShowsEither, behind}
+use Rattle.epoch.specs.Sights.{EachIs, Makes, Shows, ShowsEither, behind}
 use Rattle.epoch.proofs.Showing.{each_weaker}
 
 module _ (cut : Stamp) (controls : ℕ) (begun : FormedGroup) (is : begun ≡ empty_group controls cut) where

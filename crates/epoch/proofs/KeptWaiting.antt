@@ -1,16 +1,14 @@
 -- What waits for a duplex pair, formed into a group and kept.
-use Rattle.std.proofs.Common.{◌≡◌, ℕ, ◌<◌, ◌≤◌, ◌*◌, List, [], ◌∷◌, length, refl, sym, ap, subst, ◌∙◌, arith, false}
+use Rattle.std.proofs.Common.{◌≡◌, ℕ, ◌≤◌, List, [], ◌∷◌, length, refl, sym, ap, subst, ◌∙◌, arith, false}
 use Rattle.std.specs.Prelude.{All}
 use Rattle.std.proofs.lemmas.Bool.{le-ltb}
 use Rattle.std.proofs.lemmas.List.Elements.{All-head, All-tail}
 use Rattle.tod_stamp.specs.declared.stamp.Stamp.{Stamp}
 use Rattle.ckd_track.specs.declared.rec.Rec.{Rec}
 use Rattle.ckd_track.specs.declared.write.Write.{Write}
-use Rattle.crash_plant.specs.Choices.{Choice}
 use Rattle.crash_plant.specs.Moments.{PlantState}
 use Rattle.trace_grammar.specs.declared.trace.Trace.{Trace}
 use Rattle.pair_table.specs.declared.row.PairRow.{PairRow}
-use Rattle.pair_table.specs.declared.row.PairState.{PairState}
 use Rattle.pair_table.specs.declared.row.PairState.TheVariants.{Duplex}
 use Rattle.pair_table.specs.Rows.{is_suspended}
 use Rattle.pair_table.specs.Tables.{Table, with_rows}
@@ -19,12 +17,12 @@ use Rattle.pending_queue.specs.Groups.{FormedGroup, HasRoomFor, empty_group, wit
 use Rattle.primary_ctl.specs.Primaries.{primary}
 use Rattle.primary_ctl.specs.States.{PrimaryState, track_of}
 use Rattle.site_means.specs.declared.means.Means.{Means}
-use Rattle.site_means.specs.Images.{Shape, shape_of}
+use Rattle.site_means.specs.Images.{shape_of}
 use Rattle.site_store.specs.GroupRows.{rows_with_group}
 use Rattle.site_store.specs.Groups.{IsOfLiveRow}
 use Rattle.epoch.specs.declared.lane.Lane.{Lane}
 use Rattle.epoch.specs.Following.{HoldsPrimary, IsFollowing, ShowsPrimary, at_time}
-use Rattle.epoch.specs.Lanes.{IsOn, WaitsFrom, tracks_of}
+use Rattle.epoch.specs.Lanes.{WaitsFrom, tracks_of}
 use Rattle.epoch.specs.Sights.{AllShow, EachIs, Makes, ShowsEither, behind}
 use Rattle.epoch.specs.Taken.{HasReached}
 use Rattle.epoch.proofs.Changing.{all_due, live_writes}

@@ -1,4 +1,4 @@
-use Rattle.std.proofs.Common.{◌≡◌, ◌∙◌, ◌+◌, ◌-◌, ◌*◌, ◌≤◌, true, false, refl, subst, arith}
+use Rattle.std.proofs.Common.{◌≡◌, ◌∙◌, ◌+◌, ◌-◌, true, false, refl, subst, arith}
 use Rattle.std.specs.Prelude.{OnOk}
 use Rattle.primary_ctl.specs.States.{PrimaryState, track_of}
 use Rattle.epoch.specs.declared.copying.Part.{Part}

@@ -1,7 +1,7 @@
-use Rattle.std.proofs.Common.{◌≡◌, ◌≤◌, ◌+◌, ◌*◌, ℕ, [], ◌∷◌, length, sym, ap, subst, ◌∙◌, arith}
+use Rattle.std.proofs.Common.{◌≤◌, ◌+◌, ◌*◌, length, sym, ap, subst, ◌∙◌, arith}
 use Rattle.std.specs.Prelude.{OnOk}
 use Rattle.pair_table.specs.declared.row.PairState.{PairState}
-use Rattle.pair_table.specs.Tables.{in_state, with_rows}
+use Rattle.pair_table.specs.Tables.{with_rows}
 use Rattle.pending_queue.specs.Groups.{FormedGroup}
 use Rattle.primary_ctl.specs.States.{track_of}
 use Rattle.site_means.specs.declared.means.Means.{Means}

@@ -1,4 +1,4 @@
-use Rattle.std.proofs.Common.{◌≡◌, ◌≤◌, ℕ, [], ◌∷◌, length, refl, sym, ap, ◌∙◌, arith}
+use Rattle.std.proofs.Common.{◌≤◌, ℕ, [], ◌∷◌, length, refl, sym, ap, ◌∙◌, arith}
 use Rattle.pending_queue.specs.Entries.{entries_of}
 use Rattle.pending_queue.specs.Groups.{FormedGroup}
 use Rattle.pending_queue.specs.Queues.{QueueState}
