@@ -1,0 +1,4 @@
+pub mod LineLaws
+pub mod Changing
+pub mod Stopping
+pub mod Ending

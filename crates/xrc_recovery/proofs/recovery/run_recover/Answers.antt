@@ -1,0 +1,90 @@
+use Rattle.std.proofs.Common.{Err, refl}
+use Rattle.xrc_recovery.specs.Stops.{IsSite}
+use Rattle.xrc_recovery.proofs.Ending.{at_error, at_report, at_site}
+use Rattle.xrc_recovery.proofs.recovery.run_recover.Goals as goal
+
+pub returns-then-not-is_site : goal.returns-then-not-is_site
+returns-then-not-is_site g c =
+    let a = g.P.Plant.state c.args.plant.now in
+    let other : ¬ IsSite a = λ site. let is = c.is_site.ensures.1 site in let no = c.if-not-is_site.true in cc in
+    let k = at_site g.P.Plant.tells c.args.session a other in
+    record {
+      site = k.site;
+      untouched = λ is. refl;
+      short = k.short;
+      called_for = k.called_for;
+      causes = k.causes;
+      complete = k.complete;
+      done = k.done;
+      failed = k.failed;
+      stopped = k.stopped;
+      silent = k.silent;
+      console_count = k.console_count;
+      changes = k.changes;
+      moments = k.moments;
+      unwritten = k.unwritten;
+    }
+
+pub returns-in-Err : goal.returns-in-Err
+returns-in-Err g c =
+    let a = g.P.Plant.state c.args.plant.now in
+    let b = g.P.Plant.state c.recover.new.plant in
+    let site = c.is_site.ensures.0 c.if-not-is_site.false in
+    let e = c.in-Err.error in
+    let k = at_error g.P.Plant.tells c.args.session a b e c.stop_of.result c.stop_of.ensures site c.in-Err.ensures.says (λ d first. let same = c.in-Err.ensures.short d first in cc) (λ d is. c.in-Err.ensures.fault d (λ i. Err (is i)))
+    c.recover.ensures.works c.recover.ensures.moments (λ early. c.in-Err.ensures.unwritten e refl early) in
+    record {
+      site = k.site;
+      untouched = λ is. absurd (k.site.0 is site);
+      short = k.short;
+      called_for = k.called_for;
+      causes = k.causes;
+      complete = k.complete;
+      done = k.done;
+      failed = k.failed;
+      stopped = k.stopped;
+      silent = k.silent;
+      console_count = k.console_count;
+      changes = k.changes;
+      moments = k.moments;
+      unwritten = k.unwritten;
+    }
+
+pub returns-in-Ok : goal.returns-in-Ok
+returns-in-Ok g c =
+    let a = g.P.Plant.state c.args.plant.now in
+    let b = g.P.Plant.state c.recover.new.plant in
+    let site = c.is_site.ensures.0 c.if-not-is_site.false in
+    let o = c.in-Ok.outcome in
+    let k = at_report g.P.Plant.tells c.args.session a b (g.P.Plant.state c.report.new.plant) o.means o.failed c.report.result (record {
+      site = site;
+      long = λ d first. let same = c.in-Ok.ensures.short d first in cc;
+      is_meant = c.in-Ok.ensures.says;
+      faulty = c.in-Ok.ensures.failed;
+      redone = c.in-Ok.ensures.redone;
+      works = c.recover.ensures.works;
+      moments = c.recover.ensures.moments;
+      ok = c.report.ensures.ok;
+      lines = c.report.ensures.lines;
+      volume = c.report.ensures.volume;
+      console = c.report.ensures.console;
+      front = c.report.ensures.front;
+      whole = c.report.ensures.whole;
+      later = c.report.ensures.later;
+    }) in
+    record {
+      site = k.site;
+      untouched = λ is. absurd (k.site.0 is site);
+      short = k.short;
+      called_for = k.called_for;
+      causes = k.causes;
+      complete = k.complete;
+      done = k.done;
+      failed = k.failed;
+      stopped = k.stopped;
+      silent = k.silent;
+      console_count = k.console_count;
+      changes = k.changes;
+      moments = k.moments;
+      unwritten = k.unwritten;
+    }

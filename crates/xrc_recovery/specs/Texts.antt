@@ -1,0 +1,41 @@
+-- What is said of a recovery: a line of the session and the time, and one line of each pair in the order of the rows.
+use Rattle.std.specs.Prelude.{ℕ, ◌==◌, List, [], ◌∷◌, ◌++◌, Bool, true, false, codes}
+use Rattle.std.specs.List.{list_any}
+use Rattle.tod_stamp.specs.Stamps.{stamp_text}
+use Rattle.pair_table.specs.declared.row.SuspendCause.{SuspendCause}
+use Rattle.pair_table.specs.declared.row.SuspendCause.TheVariants.{Command, Device, Session, Control}
+use Rattle.pair_table.specs.declared.row.PairState.{PairState}
+use Rattle.pair_table.specs.declared.row.PairState.TheVariants.{Pending, Copy, Duplex, Suspended}
+use Rattle.pair_table.specs.declared.row.PairRow.{PairRow}
+
+-- Each line ends with a line feed.
+abbrev pub recovered_line : (session : List ℕ) → (time : ℕ) → List ℕ
+recovered_line session time = codes "RECOVERED " ++ session ++ codes " T=" ++ stamp_text time ++ 10 ∷ []
+
+abbrev pub cause_text : SuspendCause → List ℕ
+cause_text Command = codes "COMMAND"
+cause_text Device = codes "DEVICE"
+cause_text Session = codes "SESSION"
+cause_text Control = codes "CONTROL"
+
+-- how far a pair is; a duplex pair whose volume failed has another word
+abbrev pub state_text : (has_failed : Bool) → PairState → List ℕ
+state_text has_failed Pending = codes "PENDING"
+state_text has_failed Copy = codes "COPY"
+state_text false Duplex = codes "DUPLEX"
+state_text true Duplex = codes "FAULT"
+state_text has_failed (Suspended cause since) = codes "SUSPENDED " ++ cause_text cause ++ codes " SINCE " ++ stamp_text since.0
+
+-- whether a device is among those that failed
+abbrev pub is_among : (failed : List ℕ) → (device : ℕ) → Bool
+is_among failed device = list_any (λ d. d == device) failed
+
+abbrev pub pair_line : (failed : List ℕ) → PairRow → List ℕ
+pair_line failed row = codes "PAIR " ++ row.primary ++ codes " " ++ row.secondary ++ codes " " ++ state_text (is_among failed row.device) row.state ++ 10 ∷ []
+
+abbrev pub pair_lines : (failed : List ℕ) → List PairRow → List ℕ
+pair_lines failed [] = []
+pair_lines failed (row ∷ rows) = pair_line failed row ++ pair_lines failed rows
+
+abbrev pub recovered_text : (session : List ℕ) → (time : ℕ) → List PairRow → (failed : List ℕ) → List ℕ
+recovered_text session time rows failed = recovered_line session time ++ pair_lines failed rows

@@ -1,0 +1,91 @@
+//! The lines that are said of a recovery.
+
+ghost use Rattle.std.specs.Prelude.{◌≡◌, ◌≤◌, ◌+◌, ◌++◌, ◌∷◌, [], length};
+ghost use Rattle.xrc_recovery.specs.Texts.{cause_text, is_among, pair_line, recovered_line, state_text};
+
+use pair_table::{PairRow, PairState, SuspendCause};
+use tod_stamp::{Serial, Session, Stamp};
+use xrc_status::Line;
+use xrecover::Outcome;
+
+/// The first line.
+pub(crate) fn recovered_line(session: Session, time: Stamp) -> Line
+    ensures { result ≡ recovered_line session time.0 }
+{
+    let mut line = Line::make();
+    line.add(b"RECOVERED ");
+    line.add(session.as_bytes());
+    line.add(b" T=");
+    line.add(&time.text());
+    line.add(b"\n");
+    line
+}
+
+/// The word of a cause.
+fn cause_word(cause: SuspendCause) -> &'static [u8]
+    ensures text { result.now ≡ cause_text cause }
+    ensures short { length result.now ≤ 7 }
+{
+    match cause {
+        SuspendCause::Command => b"COMMAND",
+        SuspendCause::Device => b"DEVICE",
+        SuspendCause::Session => b"SESSION",
+        SuspendCause::Control => b"CONTROL",
+    }
+}
+
+/// Puts how far a pair is.
+fn add_state(line: &mut Line, has_failed: bool, state: PairState)
+    requires { length line.old ≤ 40 }
+    ensures text { line.new ≡ line.old ++ state_text has_failed state }
+    ensures short { length line.new ≤ length line.old + 40 }
+{
+    match state {
+        PairState::Pending => line.add(b"PENDING"),
+        PairState::Copy => line.add(b"COPY"),
+        PairState::Duplex => line.add(if has_failed { b"FAULT" } else { b"DUPLEX" }),
+        PairState::Suspended { cause, since } => {
+            line.add(b"SUSPENDED ");
+            line.add(cause_word(cause));
+            line.add(b" SINCE ");
+            line.add(&since.text());
+        }
+    }
+}
+
+/// Whether a device is among those that failed.
+#[tactic(auto, using(crate::proofs::LineLaws::among_here, crate::proofs::LineLaws::among_more, crate::proofs::LineLaws::some_at))]
+fn is_among(outcome: &Outcome, device: u16) -> bool
+    ensures { result ≡ is_among outcome.now.failed device }
+{
+    for place in 0..outcome.failed.len() {
+        let failed = *outcome.failed.get(place).unwrap();
+        if failed == device {
+            return true;
+        }
+    }
+    false
+}
+
+/// Puts a name and a space.
+fn add_name(line: &mut Line, name: &Serial)
+    requires { length line.old ≤ 100 }
+    ensures text { line.new ≡ line.old ++ name.now ++ 32 ∷ [] }
+    ensures short { length line.new ≤ length line.old + 7 }
+{
+    line.add(name.as_bytes());
+    line.add(b" ");
+}
+
+/// The line of a pair.
+pub(crate) fn pair_line(outcome: &Outcome, row: &PairRow) -> Line
+    ensures { result ≡ pair_line outcome.now.failed row.now }
+{
+    let mut line = Line::make();
+    line.add(b"PAIR ");
+    add_name(&mut line, &row.primary);
+    add_name(&mut line, &row.secondary);
+    add_state(&mut line, is_among(outcome, row.device), row.state);
+    line.add(b"\n");
+    line
+}
