@@ -32,3 +32,4 @@ pub mod Wanted
 pub mod RecordAnswers
 pub mod BreakTimes
 pub mod Formatted
+pub mod PairAdded

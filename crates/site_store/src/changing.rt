@@ -117,3 +117,6 @@ impl<V> Site<V> {
         }
     }
 }
+
+#[cfg(test)]
+mod tests;

@@ -15,3 +15,10 @@ mod writing;
 
 pub use site::Site;
 pub use store_error::StoreError;
+
+#[cfg(test)]
+mod log_tests;
+#[cfg(test)]
+mod refusal_tests;
+#[cfg(test)]
+mod tests;
