@@ -36,22 +36,32 @@ write_stamp version tag stamp volumes left e next read =
     let same : (Written (record { volume = one.0.0.0; track = one.0.0.1; stamp = record { 0 = stamp }; kind = two.0.0 }), two.0.1) ≡ (e, next) = cc (two.2) in
     sym (ap (λ (p : Entry × Left). stamp_of p.0) same)
 
-entry_rises : (version last : ℕ) (volumes : List VolumeHead) (left : Left) (e : Entry) (next : Left) → entry_at version volumes last left ≡ Ok (e, next) → last ≤ stamp_of e
+-- the rule that a stamp keeps
+abbrev keeps_stamp : (last : ℕ) → ℕ → Bool
+keeps_stamp last n = nat_le 1 n && nat_le last n
+
+entry_keeps : (version last : ℕ) (volumes : List VolumeHead) (left : Left) (e : Entry) (next : Left) → entry_at version volumes last left ≡ Ok (e, next) → keeps_stamp last (stamp_of e) ≡ true
 unfolding entry_at
-entry_rises version last volumes left e next read =
+entry_keeps version last volumes left e next read =
     let one = bind_ok (number_at w8 (within 1 4) left)
     (λ t. number_at w64 (λ n. nat_le 1 n && nat_le last n) t.1 >>= (λ s. cond (nat_eq t.0 1) (Ok (Idle (record { 0 = s.0 }), s.1)) (write_at version volumes t.0 s.0 s.1))) (e, next) read in
     let two = bind_ok (number_at w64 (λ n. nat_le 1 n && nat_le last n) one.0.1)
     (λ s. cond (nat_eq one.0.0 1) (Ok (Idle (record { 0 = s.0 }), s.1)) (write_at version volumes one.0.0 s.0 s.1)) (e, next) one.2 in
     let kept = number_kept (λ n. nat_le 1 n && nat_le last n) one.0.1 two.0.0 two.0.1 two.1 in
-    let low = leb-true last two.0.0 (both_true (nat_le 1 two.0.0) (nat_le last two.0.0) kept).1 in
-    subst (λ n. last ≤ n) (sym (choose (nat_eq one.0.0 1) one.0.0 two.0.0 two.0.1 two.2)) low
+    subst (λ n. keeps_stamp last n ≡ true) (sym (choose (nat_eq one.0.0 1) one.0.0 two.0.0 two.0.1 two.2)) kept
   where
     choose : (idle : Bool) (tag stamp : ℕ) (behind : Left) → cond idle (Ok (Idle (record { 0 = stamp }), behind)) (write_at version volumes tag stamp behind) ≡ Ok (e, next) → stamp_of e ≡ stamp
     choose true tag stamp behind is =
         let same : (Idle (record { 0 = stamp }), behind) ≡ (e, next) = cc is in
         sym (ap (λ (p : Entry × Left). stamp_of p.0) same)
     choose false tag stamp behind is = write_stamp version tag stamp volumes behind e next is
+
+-- An entry that is read isn't before the last one, and its stamp is 1 at least.
+pub entry_rises : (version last : ℕ) (volumes : List VolumeHead) (left : Left) (e : Entry) (next : Left) → entry_at version volumes last left ≡ Ok (e, next) → last ≤ stamp_of e
+entry_rises version last volumes left e next read = leb-true last (stamp_of e) (both_true (nat_le 1 (stamp_of e)) (nat_le last (stamp_of e)) (entry_keeps version last volumes left e next read)).1
+
+pub entry_is_late : (version last : ℕ) (volumes : List VolumeHead) (left : Left) (e : Entry) (next : Left) → entry_at version volumes last left ≡ Ok (e, next) → 1 ≤ stamp_of e
+entry_is_late version last volumes left e next read = leb-true 1 (stamp_of e) (both_true (nat_le 1 (stamp_of e)) (nat_le last (stamp_of e)) (entry_keeps version last volumes left e next read)).0
 
 pub entries_rise : (turns version : ℕ) (volumes : List VolumeHead) (last : ℕ) (left : Left) → do_rise last (entries_from turns version volumes last left).0 ≡ true
 unfolding entries_from
@@ -72,7 +82,7 @@ entries_rise (suc turns) version volumes last left =
 -- ---- rising entries
 
 -- from a lower stamp on
-rise_lower : (low last : ℕ) (entries : List Entry) → low ≤ last → do_rise last entries ≡ true → do_rise low entries ≡ true
+pub rise_lower : (low last : ℕ) (entries : List Entry) → low ≤ last → do_rise last entries ≡ true → do_rise low entries ≡ true
 rise_lower low last [] le e = refl
 rise_lower low last (x ∷ entries) le e =
     let parts = both_true (nat_le last (stamp_of x)) (do_rise (stamp_of x) entries) e in

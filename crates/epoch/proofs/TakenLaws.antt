@@ -176,16 +176,15 @@ take_limit told now t side next held after control limit taken due low upto trac
 -- ---- a source that fails
 
 -- Where the source fails behind what a hand left, it fails behind what was ahead, if the hand leaves the break as it is.
-fails_behind : (now later : Option (List ℕ)) (side next : SidefileState) (control limit : ℕ) (given : Hand) (below : ℕ) (bytes : List ℕ) (l : LeavesRuns control limit now (front_of side) (front_of next) bytes given)
+fails_behind : (now later : Option (List ℕ)) (side next : SidefileState) (control limit : ℕ) (given : Hand) (below upto : ℕ) (bytes : List ℕ) (l : LeavesRuns control limit now (front_of side) (front_of next) bytes given)
     → ((all : List (List Entry)) → given ≡ hand control (Some ReadFault) limit all → break_in (Some ReadFault) (left_after given all) ≡ break_in (Some ReadFault) all)
-    → FailsBelow below later (front_of next) l.rest → FailsBelow below later (front_of side) bytes
-fails_behind now later side next control limit given below bytes l same_break f =
+    → FailsBelow below upto later (front_of next) l.rest → FailsBelow below upto later (front_of side) bytes
+fails_behind now later side next control limit given below upto bytes l same_break f =
     let same = l.fronts f.goes_on f.given in
     let all = runs_ahead (front_of side) (l.used ++ f.given) in
     record {
       given = l.used ++ f.given;
       left = f.left;
-      upto = f.upto;
       split = l.split ∙ ap (λ (u : List ℕ). l.used ++ u) f.split ∙ sym (append_assoc l.used f.given f.left);
       told = f.told;
       goes_on = l.went_on f.goes_on;
@@ -202,28 +201,27 @@ batch_leaves control limit batch all is =
     ap (λ (rs : List (List Entry)). break_in (Some ReadFault) (left_after (hands.Batch batch) rs)) first.is ∙ first.same
 
 pub batch_fails : (told now : Option (List ℕ)) (side next : SidefileState) (control limit : ℕ) (batch : Batch) → IsDue control limit told now (front_of side) (front_of next) (hands.Batch batch) → FailsAsBefore told now side next
-batch_fails told now side next control limit batch due below later failed bytes there =
+batch_fails told now side next control limit batch due below upto later failed bytes there =
     let l = (due bytes there).1 in
-    fails_behind now later side next control limit (hands.Batch batch) below bytes l (batch_leaves control limit batch) (failed l.rest l.there)
+    fails_behind now later side next control limit (hands.Batch batch) below upto bytes l (batch_leaves control limit batch) (failed l.rest l.there)
 
 -- and so does the limit
 pub limit_fails : (told now : Option (List ℕ)) (side next : SidefileState) (control limit : ℕ) → IsDue control limit told now (front_of side) (front_of next) hands.AtLimit → FailsAsBefore told now side next
-limit_fails told now side next control limit due below later failed bytes there =
+limit_fails told now side next control limit due below upto later failed bytes there =
     let l = (due bytes there).1 in
-    fails_behind now later side next control limit hands.AtLimit below bytes l (λ all is. refl) (failed l.rest l.there)
+    fails_behind now later side next control limit hands.AtLimit below upto bytes l (λ all is. refl) (failed l.rest l.there)
 
 -- one after another
 pub then_fails : (told now last : Option (List ℕ)) (a b d : SidefileState) → FailsAsBefore told now a b → FailsAsBefore now last b d → FailsAsBefore told last a d
-then_fails told now last a b d first second below later failed = first below later (second below later failed)
+then_fails told now last a b d first second below upto later failed = first below upto later (second below upto later failed)
 
 -- what is below a limit is below a later one
-pub fails_later : (told now : Option (List ℕ)) (side : SidefileState) (early late : ℕ) → early ≤ late → HasFailed early told now side → HasFailed late told now side
-fails_later told now side early late le failed bytes there =
+pub fails_later : (told now : Option (List ℕ)) (side : SidefileState) (early late upto : ℕ) → early ≤ late → HasFailed early upto told now side → HasFailed late upto told now side
+fails_later told now side early late upto le failed bytes there =
     let f = failed bytes there in
     record {
       given = f.given;
       left = f.left;
-      upto = f.upto;
       split = f.split;
       told = f.told;
       goes_on = f.goes_on;
@@ -234,11 +232,11 @@ fails_later told now side early late le failed bytes there =
 
 -- ---- a break
 
-below_is : (b : Option Break) (upto limit : ℕ) → b ≡ Some (record { cause = ReadFault; upto = upto }) → is_below (option_map (λ x. x.upto) b) limit ≡ true → upto < limit
-below_is b upto limit is below = ltb-true upto limit (rw is at below)
+below_is : (b : Option Break) (cause : Cause) (upto limit : ℕ) → b ≡ Some (record { cause = cause; upto = upto }) → is_below (option_map (λ x. x.upto) b) limit ≡ true → upto < limit
+below_is b cause upto limit is below = ltb-true upto limit (rw is at below)
 
 -- A break by a fault that is handed over is one of the source, below the limit.
-fails_here : (told now : Option (List ℕ)) (side next : SidefileState) (control limit : ℕ) (upto : Stamp) → 0 < limit → IsDue control limit told now (front_of side) (front_of next) (hands.Broken ReadFault upto) → HasFailed limit told now side
+fails_here : (told now : Option (List ℕ)) (side next : SidefileState) (control limit : ℕ) (upto : Stamp) → 0 < limit → IsDue control limit told now (front_of side) (front_of next) (hands.Broken ReadFault upto) → HasFailed limit upto.0 told now side
 fails_here told now side next control limit upto some due bytes there =
     let d = due bytes there in
     let all = runs_ahead (front_of side) d.front in
@@ -246,25 +244,27 @@ fails_here told now side next control limit upto some due bytes there =
     record {
       given = d.front;
       left = d.left;
-      upto = upto.0;
       split = d.split;
       told = d.told;
       goes_on = d.went_on;
       fault = d.fault;
       break_is = is;
-      below = below_is (break_in (Some ReadFault) all) upto.0 limit is (hand_broken control (Some ReadFault) limit all ReadFault upto some d.hand);
+      below = below_is (break_in (Some ReadFault) all) ReadFault upto.0 limit is (hand_broken control (Some ReadFault) limit all ReadFault upto some d.hand);
     }
 
 -- A break that is handed over without a fault is one of the trace, below the limit.
 breaks_here : (told : Option (List ℕ)) (side : SidefileState) (held : PrimaryState) (control limit : ℕ) (cause : Cause) (upto : Stamp) → 0 < limit
-    → ((bytes : List ℕ) → IsAhead side.reader told bytes → IsHand control limit (front_of side) bytes (hands.Broken cause upto)) → WillBreak limit told side held
+    → ((bytes : List ℕ) → IsAhead side.reader told bytes → IsHand control limit (front_of side) bytes (hands.Broken cause upto)) → WillBreak limit upto.0 told side held
 breaks_here told side held control limit cause upto some due t taken =
-    ap (λ b. is_below (option_map (λ x. x.upto) b) limit) (sym taken.same_break)
-    ∙ hand_broken control (cause_ahead side.reader taken.rest) limit (runs (ahead side.waiting side.reader taken.rest)) cause upto some (due taken.rest taken.there)
+    let all = runs (ahead side.waiting side.reader taken.rest) in
+    let end = cause_ahead side.reader taken.rest in
+    let given = due taken.rest taken.there in
+    let is = break_here control limit end all (record { cause = cause; upto = upto.0 }) (step control end limit all) (sym given) in
+    (ap (option_map (λ (b : Break). b.upto)) (sym taken.same_break ∙ is), below_is (break_in end all) cause upto.0 limit is (hand_broken control end limit all cause upto some given))
 
 pub take_broken : (told now : Option (List ℕ)) (side next : SidefileState) (held : PrimaryState) (control limit faults risen : ℕ) (cause : Cause) (upto : Stamp)
     → 0 < limit → IsDue control limit told now (front_of side) (front_of next) (hands.Broken cause upto) → HasFault faults risen (hands.Broken cause upto)
-    → (Rose faults risen × HasFailed limit told now side) ⊎ ((risen ≡ faults) × WillBreak limit told side held)
+    → (Rose faults risen × HasFailed limit upto.0 told now side) ⊎ ((risen ≡ faults) × WillBreak limit upto.0 told side held)
 take_broken told now side next held control limit faults risen ReadFault upto some due fault = inl (fault, fails_here told now side next control limit upto some due)
 take_broken told now side next held control limit faults risen (BadTrace place) upto some due fault = inr (fault, breaks_here told side held control limit (BadTrace place) upto some due)
 take_broken told now side next held control limit faults risen (Crowded stamp) upto some due fault = inr (fault, breaks_here told side held control limit (Crowded stamp) upto some due)

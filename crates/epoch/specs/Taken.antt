@@ -8,7 +8,7 @@ use Rattle.trace_grammar.specs.Writes.{writes_of}
 use Rattle.primary_ctl.specs.States.{PrimaryState, track_of, base_in, is_on, after_writes}
 use Rattle.primary_ctl.specs.Primaries.{primary}
 use Rattle.sidefile.specs.Runs.{runs}
-use Rattle.sidefile.specs.Breaks.{break_in, break_of, has_broken}
+use Rattle.sidefile.specs.Breaks.{break_in, break_of, break_time, has_broken}
 use Rattle.sidefile.specs.Ahead.{IsAhead, IsFault, ahead, cause_ahead}
 use Rattle.sidefile.specs.Exact.{Front, runs_ahead}
 use Rattle.sidefile.specs.States.{SidefileState, front_of}
@@ -37,16 +37,15 @@ pub record HasReached (limit : ℕ) (t : Trace) (held : PrimaryState) : Type 0 w
 
 -- ---- breaks
 
--- The trace of which this was taken over breaks below a limit.
-abbrev pub WillBreak : (limit : ℕ) → (told : Option (List ℕ)) → SidefileState → PrimaryState → Type 0
-WillBreak limit told side held = (t : Trace) → HasTaken told t side held → IsTrue (has_broken t limit)
+-- The trace of which this was taken over breaks at a time below a limit.
+abbrev pub WillBreak : (limit upto : ℕ) → (told : Option (List ℕ)) → SidefileState → PrimaryState → Type 0
+WillBreak limit upto told side held = (t : Trace) → HasTaken told t side held → (break_time t ≡ Some upto) × (upto < limit)
 
 -- The source failed behind the first of these bytes, which were ahead, and tells what it has left. The runs of those that it gave
--- break by this fault, below a limit.
-pub record FailsBelow (limit : ℕ) (now : Option (List ℕ)) (front : Front) (bytes : List ℕ) : Type 0 where
+-- break by this fault, at a time below a limit.
+pub record FailsBelow (limit upto : ℕ) (now : Option (List ℕ)) (front : Front) (bytes : List ℕ) : Type 0 where
   pub given : List ℕ
   pub left : List ℕ
-  pub upto : ℕ
   pub split : bytes ≡ given ++ left
   pub told : now ≡ Some left
   pub goes_on : front.reader.stopped ≡ None
@@ -54,10 +53,10 @@ pub record FailsBelow (limit : ℕ) (now : Option (List ℕ)) (front : Front) (b
   pub break_is : break_in (Some ReadFault) (runs_ahead front given) ≡ Some (record { cause = ReadFault; upto = upto })
   pub below : upto < limit
 
--- The source of a sidefile failed below a limit, by the bytes that it told.
-abbrev pub HasFailed : (limit : ℕ) → (told now : Option (List ℕ)) → SidefileState → Type 0
-HasFailed limit told now side = (bytes : List ℕ) → IsAhead side.reader told bytes → FailsBelow limit now (front_of side) bytes
+-- The source of a sidefile failed at a time below a limit, by the bytes that it told.
+abbrev pub HasFailed : (limit upto : ℕ) → (told now : Option (List ℕ)) → SidefileState → Type 0
+HasFailed limit upto told now side = (bytes : List ℕ) → IsAhead side.reader told bytes → FailsBelow limit upto now (front_of side) bytes
 
--- Where the source fails later, below a limit, it does so by what was ahead before, as by what is ahead now.
+-- Where the source fails later, below a limit, it does so at the same time by what was ahead before, as by what is ahead now.
 abbrev pub FailsAsBefore : (told now : Option (List ℕ)) → (old new : SidefileState) → Type 0
-FailsAsBefore told now old new = (limit : ℕ) (later : Option (List ℕ)) → HasFailed limit now later new → HasFailed limit told later old
+FailsAsBefore told now old new = (limit upto : ℕ) (later : Option (List ℕ)) → HasFailed limit upto now later new → HasFailed limit upto told later old

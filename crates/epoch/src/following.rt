@@ -1,6 +1,6 @@
 //! Following the primary of a duplex pair.
 
-ghost use Rattle.std.specs.Prelude.{◌≡◌, ◌≢◌, ◌≤◌, ◌<◌, ◌⊎◌, ◌++◌, ℕ, [], ◌∷◌, length, filter, true, false, All, Ok, OnOk, IsErrOf, IsTrue};
+ghost use Rattle.std.specs.Prelude.{◌≡◌, ◌≢◌, ◌≤◌, ◌<◌, ◌⊎◌, ◌++◌, ℕ, [], ◌∷◌, length, filter, true, false, All, Ok, OnErr, OnOk, IsErrOf, IsTrue};
 ghost use Rattle.xrc_edge.specs.Causes.{Rose};
 ghost use Rattle.ckd_track.specs.Effects.{is_kind};
 ghost use Rattle.crash_plant.specs.declared.device.Device.{Device as DeviceValue};
@@ -23,7 +23,7 @@ ghost use Rattle.epoch.specs.Ends.{IsFull, IsSpent};
 ghost use Rattle.epoch.specs.Following.{HoldsPrimary, IsFollowing, PutsRun, ShowsPrimary};
 ghost use Rattle.epoch.specs.Lanes.{IsFeed, IsLane, IsRowOf, Waits, is_of, most_records, tracks_of};
 ghost use Rattle.epoch.specs.Sights.{EachIs};
-ghost use Rattle.epoch.specs.Taken.{HasFailed, HasReached, HasTaken, WillBreak};
+ghost use Rattle.epoch.specs.Taken.{FailsAsBefore, HasFailed, HasReached, HasTaken, WillBreak};
 ghost use Rattle.epoch.specs.Works.{WorksSilently};
 
 use crate::carried::{OfVolume, are_of_kind};
@@ -69,6 +69,7 @@ impl Lane {
         requires stamps { IsTrue (writes_never_fall 0 batch.now.writes) }
         ensures others { (self.new.side ≡ self.old.side) × (self.new.primary ≡ self.old.primary) × (self.new.time ≡ self.old.time) × (self.new.formed ≡ self.old.formed) }
         ensures put { OnOk result (self.new.queue ≡ with_waiting self.old.queue (entries_of 0 (filter (is_of volume) batch.now.writes))) }
+        ensures refused { OnErr result (self.new.queue ≡ self.old.queue) }
         ensures memory { (e : StoreErrorValue) → IsErrOf result e → e ≡ NoMemory }
     {
         if self.put_batch(alloc, volume, batch)? {
@@ -207,15 +208,21 @@ impl Lane {
         ensures controls { OnOk result (site.new.controls ≡ site.old.controls) }
         ensures level { OnOk result (site.new.level ≡ site.old.level) }
         ensures idle { OnOk result (site.new.waiting ≡ []) }
+        ensures marked { OnOk result (site.new.mark.at ≡ site.new.at) }
+        ensures goes_on { OnOk result (site.new.mark.ended ≡ false) }
         ensures fits { OnOk result (Fits site.new (P.state plant.new)) }
         ensures stands { P.tells → OnOk result (Stands site.new.table.rows site.new (P.state plant.new)) }
+        ensures rises { self.old.side.upto ≤ self.new.side.upto }
+        ensures within { self.new.side.upto ≤ limit.0 }
         ensures taken { OnOk result ((t : TraceValue) → HasTaken (S.left source.old) t self.old.side self.old.primary → HasTaken (S.left source.new) t self.new.side self.new.primary × HasReached limit.0 t self.new.primary) }
-        // At every moment the device holds the primary's tracks at one time, from that of the call's start up to the limit.
-        ensures moments { P.tells → (t : TraceValue) (means : MeansValue) → HasTaken (S.left source.old) t self.old.side self.old.primary → IsFollowing t means row.now self.old site.old.time (P.state plant.old) → EachIs (ShowsPrimary (shape_of (P.state plant.old)) t means row.now site.old.time limit.0) (P.state plant.old) (P.state plant.new) }
+        ensures fails { OnOk result (FailsAsBefore (S.left source.old) (S.left source.new) self.old.side self.new.side) }
+        // At every moment the device holds the primary's tracks at one time, from that of the call's start up to that up to which the
+        // control has reported.
+        ensures moments { P.tells → (t : TraceValue) (means : MeansValue) → HasTaken (S.left source.old) t self.old.side self.old.primary → IsFollowing t means row.now self.old site.old.time (P.state plant.old) → EachIs (ShowsPrimary (shape_of (P.state plant.old)) t means row.now site.old.time self.new.side.upto) (P.state plant.old) (P.state plant.new) }
         ensures follows { P.tells → (t : TraceValue) (means : MeansValue) → HasTaken (S.left source.old) t self.old.side self.old.primary → IsFollowing t means row.now self.old site.old.time (P.state plant.old) → OnOk result (IsFollowing t means row.now self.new limit.0 (P.state plant.new)) }
         ensures works { WorksSilently P.tells (P.state plant.old) (P.state plant.new) }
         // Why it fails.
-        ensures broken { IsErrOf result Broken → (Rose (S.faults source.old) (S.faults source.new) × HasFailed limit.0 (S.left source.old) (S.left source.new) self.old.side) ⊎ ((S.faults source.new ≡ S.faults source.old) × WillBreak limit.0 (S.left source.old) self.old.side self.old.primary) }
+        ensures broken { IsErrOf result Broken → (Rose (S.faults source.old) (S.faults source.new) × HasFailed limit.0 self.new.side.upto (S.left source.old) (S.left source.new) self.old.side) ⊎ ((S.faults source.new ≡ S.faults source.old) × WillBreak limit.0 self.new.side.upto (S.left source.old) self.old.side self.old.primary) }
         ensures count { ¬ IsErrOf result Broken → S.faults source.new ≡ S.faults source.old }
         ensures fault { (d : DeviceValue) → IsErrOf result (Store (Fault d)) → Rose ((P.state plant.old).faults d) ((P.state plant.new).faults d) }
         ensures volume { NoneFailed site.old → (v : ℕ) → IsErrOf result (Store (VolumeError v)) → Rose ((P.state plant.old).faults (VolumeDevice v)) ((P.state plant.new).faults (VolumeDevice v)) }

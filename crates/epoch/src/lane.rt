@@ -102,10 +102,11 @@ impl Lane {
         ensures lane { OnOk result (IsLane self.new) }
         ensures volumes { OnOk result (self.new.primary.volumes ≡ self.old.primary.volumes) }
         ensures queue { self.new.queue ≡ self.old.queue }
+        ensures rises { self.old.side.upto ≤ self.new.side.upto }
         ensures time { OnOk result (self.new.primary.time ≡ limit.0) }
         ensures reached { OnOk result ((t : TraceValue) → HasTaken (S.left source.old) t self.old.side self.old.primary → HasTaken (S.left source.new) t self.new.side self.new.primary × HasReached limit.0 t self.new.primary) }
         ensures fails { OnOk result (FailsAsBefore (S.left source.old) (S.left source.new) self.old.side self.new.side) }
-        ensures broken { result ≡ Err LaneError.Broken → (Rose (S.faults source.old) (S.faults source.new) × HasFailed limit.0 (S.left source.old) (S.left source.new) self.old.side) ⊎ ((S.faults source.new ≡ S.faults source.old) × WillBreak limit.0 (S.left source.old) self.old.side self.old.primary) }
+        ensures broken { result ≡ Err LaneError.Broken → (Rose (S.faults source.old) (S.faults source.new) × HasFailed limit.0 self.new.side.upto (S.left source.old) (S.left source.new) self.old.side) ⊎ ((S.faults source.new ≡ S.faults source.old) × WillBreak limit.0 self.new.side.upto (S.left source.old) self.old.side self.old.primary) }
         ensures count { result ≢ Err LaneError.Broken → S.faults source.new ≡ S.faults source.old }
     {
         loop {

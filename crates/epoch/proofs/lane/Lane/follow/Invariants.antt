@@ -19,6 +19,7 @@ invariant-loop-batch g l =
     let now = g.P.Plant.state l.plant in
     record {
       lane : IsLane l.self;
+      rises : first.side.upto ≤ l.self.side.upto;
       later : l.self.side.upto ≤ l.limit.0;
       volumes : l.self.primary.volumes ≡ first.primary.volumes;
       waits : Waits l.row.volume (tracks_of l.row) l.self;
@@ -31,7 +32,7 @@ invariant-loop-batch g l =
       fits : Fits l.site now;
       stands : g.P.Plant.tells → Stands l.site.table.rows l.site now;
       taken : (t : Trace) → HasTaken (g.S.Source.left l.initial.source) t first.side first.primary → HasTaken (g.S.Source.left l.source) t l.self.side l.self.primary;
-      moments : g.P.Plant.tells → (t : Trace) (means : Means) → HasTaken (g.S.Source.left l.initial.source) t first.side first.primary → IsFollowing t means l.row first l.initial.site.time old → EachIs (ShowsPrimary (shape_of old) t means l.row l.initial.site.time l.limit.0) old now;
+      moments : g.P.Plant.tells → (t : Trace) (means : Means) → HasTaken (g.S.Source.left l.initial.source) t first.side first.primary → IsFollowing t means l.row first l.initial.site.time old → EachIs (ShowsPrimary (shape_of old) t means l.row l.initial.site.time l.self.side.upto) old now;
       follows : g.P.Plant.tells → (t : Trace) (means : Means) → HasTaken (g.S.Source.left l.initial.source) t first.side first.primary → IsFollowing t means l.row first l.initial.site.time old → IsFollowing t means l.row l.self l.site.time now;
       works : WorksSilently g.P.Plant.tells old now;
       fails : FailsAsBefore (g.S.Source.left l.initial.source) (g.S.Source.left l.source) first.side l.self.side;

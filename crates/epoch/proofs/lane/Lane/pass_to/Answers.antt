@@ -1,8 +1,9 @@
-use Rattle.std.proofs.Common.{◌≡◌, ◌∙◌, length, sym, ap, subst, arith, inl, inr}
+use Rattle.std.proofs.Common.{◌≡◌, ◌∙◌, ◌<◌, ℕ, Some, length, sym, ap, subst, arith, inl, inr}
 use Rattle.xrc_edge.specs.Causes.{Rose}
 use Rattle.primary_ctl.specs.States.{PrimaryState, track_of}
+use Rattle.sidefile.specs.Breaks.{break_time}
 use Rattle.sidefile.specs.States.{SidefileState}
-use Rattle.epoch.specs.Taken.{FailsAsBefore, HasTaken}
+use Rattle.epoch.specs.Taken.{FailsAsBefore, HasFailed, HasTaken}
 use Rattle.epoch.proofs.TakenLaws.{take_batch, take_limit, take_broken, batch_fails, limit_fails, then_fails}
 use Rattle.epoch.proofs.lane.Lane.pass_to.Goals as goal
 
@@ -33,6 +34,7 @@ loop-batch-preserved g c =
         even = ok.time ∙ sym upto ∙ sym (ap (λ x. x.upto) s.side);
       };
       later = (let u = ap (λ x. x.upto) s.side in omega (arith, u, upto, within));
+      rises = (let u = ap (λ x. x.upto) s.side in omega (arith, u, inv.rises, c.handover.ensures.rises));
       volumes = ok.volumes ∙ inv.volumes;
       queue = s.queue ∙ inv.queue;
       taken = λ t taken. subst (λ (x : SidefileState). HasTaken (g.S.Source.left c.handover.new.source) t x c.step.new.self.primary) (sym s.side)
@@ -68,9 +70,25 @@ returns-in-Broken-clause-broken g c = λ is.
     let lane = inv.lane in
     let h = c.in-Broken.ensures in
     let before = c.loop-batch.self in
+    let next = c.handover.new.self in
+    let limit = c.args.limit.0 in
+    let told = g.S.Source.left c.loop-batch.source in
+    let now = g.S.Source.left c.handover.new.source in
+    let faults = g.S.Source.faults c.loop-batch.source in
     let risen = g.S.Source.faults c.handover.new.source in
-    elim (take_broken (g.S.Source.left c.loop-batch.source) (g.S.Source.left c.handover.new.source) before.side c.handover.new.self before.primary before.side.control c.args.limit.0
-    (g.S.Source.faults c.loop-batch.source) risen c.in-Broken.cause c.in-Broken.upto c.requires.some (h.due lane.goes_on) (h.fault lane.goes_on)) [
-      | inl failed ↦ inl (subst (λ n. Rose n risen) inv.count failed.0, inv.fails c.args.limit.0 (g.S.Source.left c.handover.new.source) failed.1)
-      | inr breaks ↦ inr (breaks.0 ∙ inv.count, λ t taken. breaks.1 t (inv.taken t taken))
+    let broke = take_broken told now before.side next before.primary before.side.control limit faults risen c.in-Broken.cause c.in-Broken.upto c.requires.some (h.due lane.goes_on) (h.fault lane.goes_on) in
+    let at = h.reached lane.goes_on in
+    elim broke [
+      | inl failed ↦ inl (subst (λ n. Rose n risen) inv.count failed.0, inv.fails limit next.upto now (subst (λ (n : ℕ). HasFailed limit n told now before.side) (sym at) failed.1))
+      | inr breaks ↦ inr (breaks.0 ∙ inv.count, λ t taken. subst (λ (n : ℕ). (break_time t ≡ Some n) × (n < limit)) (sym at) (breaks.1 t (inv.taken t taken)))
     ]
+
+pub returns-in_err-step-in-Batch-clause-rises : goal.returns-in_err-step-in-Batch-clause-rises
+returns-in_err-step-in-Batch-clause-rises g c =
+    let u = ap (λ (x : SidefileState). x.upto) c.step.ensures.side in
+    omega (arith, u, c.loop-batch.invariant.rises, c.handover.ensures.rises)
+
+pub returns-in-AtLimit-clause-rises : goal.returns-in-AtLimit-clause-rises
+returns-in-AtLimit-clause-rises g c =
+    let u = ap (λ (x : SidefileState). x.upto) c.pass.ensures.side in
+    omega (arith, u, c.loop-batch.invariant.rises, c.handover.ensures.rises)

@@ -11,6 +11,7 @@ invariant-loop-batch g l =
     record {
       lane : IsLane l.self;
       later : l.self.side.upto ≤ l.limit.0;
+      rises : first.side.upto ≤ l.self.side.upto;
       volumes : l.self.primary.volumes ≡ first.primary.volumes;
       queue : l.self.queue ≡ first.queue;
       taken : (t : Trace) → HasTaken (g.S.Source.left l.initial.source) t first.side first.primary → HasTaken (g.S.Source.left l.source) t l.self.side l.self.primary;
