@@ -83,7 +83,7 @@ fn apply_job<P: Plant>(
 }
 
 /// Applies a body to the volumes, one after another.
-fn apply_jobs<P: Plant>(
+pub(crate) fn apply_jobs<P: Plant>(
     plant: &mut P,
     body: &Body,
     jobs: &mut [VolumeJob<P::Volume>],
