@@ -5,7 +5,7 @@ use Rattle.std.specs.Result.{result_ok}
 use Rattle.tod_stamp.specs.declared.name_error.NameError.{NameError}
 use Rattle.tod_stamp.specs.Names.{is_session, name_of}
 use Rattle.tod_stamp.proofs.NameLaws.{names_are_read, read_are_names}
-use Rattle.xrc_cli.specs.Words.{run_session}
+use Rattle.xrc_cli.specs.Words.{recover_session, run_session}
 
 pub three : {A : Type 0} (xs : List A) (x y z : A) → x ≡ get_or xs 0 x → y ≡ get_or xs 1 y → z ≡ get_or xs 2 z → 3 ≤ length xs → length xs < 4 → xs ≡ x ∷ y ∷ z ∷ []
 three [] x y z e f g low high = absurd (omega arith)
@@ -13,6 +13,12 @@ three (a ∷ []) x y z e f g low high = absurd (omega arith)
 three (a ∷ b ∷ []) x y z e f g low high = absurd (omega arith)
 three (a ∷ b ∷ d ∷ []) x y z e f g low high = cc
 three (a ∷ b ∷ d ∷ h ∷ more) x y z e f g low high = absurd (omega arith)
+
+pub two : {A : Type 0} (xs : List A) (x y : A) → x ≡ get_or xs 0 x → y ≡ get_or xs 1 y → 2 ≤ length xs → length xs < 3 → xs ≡ x ∷ y ∷ []
+two [] x y e f low high = absurd (omega arith)
+two (a ∷ []) x y e f low high = absurd (omega arith)
+two (a ∷ b ∷ []) x y e f low high = cc
+two (a ∷ b ∷ d ∷ more) x y e f low high = absurd (omega arith)
 
 -- a name is read exactly where it is a session
 session_read : (bytes : List ℕ) (r : Result (List ℕ) NameError) (valid : Bool) → name_of 8 bytes ≡ r → is_session bytes ≡ valid → result_ok r ≡ (if valid then Some bytes else None)
@@ -28,4 +34,11 @@ runs command session storage e f = choose (is_session session) refl
   where
     choose : (valid : Bool) → is_session session ≡ valid → result_ok (name_of 8 session) ≡ run_session (command ∷ session ∷ storage ∷ [])
     choose true is = rw (e, is, f) (session_read session (name_of 8 session) true refl is)
+    choose false is = rw (e, is) (session_read session (name_of 8 session) false refl is)
+
+pub recovers : (command session : List ℕ) → bytes_eq command (codes "recover") ≡ true → result_ok (name_of 8 session) ≡ recover_session (command ∷ session ∷ [])
+recovers command session e = choose (is_session session) refl
+  where
+    choose : (valid : Bool) → is_session session ≡ valid → result_ok (name_of 8 session) ≡ recover_session (command ∷ session ∷ [])
+    choose true is = rw (e, is) (session_read session (name_of 8 session) true refl is)
     choose false is = rw (e, is) (session_read session (name_of 8 session) false refl is)

@@ -1,17 +1,20 @@
 ghost use Rattle.std.specs.Prelude.{◌≡◌, map, string_bytes, IsOk, IfOk};
-ghost use Rattle.xrc_cli.specs.Words.{run_session, wanted_of};
+ghost use Rattle.xrc_cli.specs.Words.{recover_session, run_session, wanted_of};
 
-use crate::words::{Wanted, session_of};
+use crate::words::{Wanted, recovered_session, session_of};
 use std::alloc::Global;
 use xrc_edge::NoMemory;
 
 /// What has to be opened for the words, which come without the program's name.
 pub fn wanted(_alloc: Global, words: &[String]) -> Result<Wanted, NoMemory>
     ensures answers { IsOk result }
-    ensures answer { IfOk result (λ wanted. wanted ≡ wanted_of (run_session (map string_bytes words.now))) }
+    ensures answer { IfOk result (λ wanted. wanted ≡ wanted_of (run_session (map string_bytes words.now)) (recover_session (map string_bytes words.now))) }
 {
-    Ok(match session_of(words) {
-        Some(_) => Wanted::Traces(1),
+    if session_of(words).is_some() {
+        return Ok(Wanted::Traces(1));
+    }
+    Ok(match recovered_session(words) {
+        Some(_) => Wanted::Devices,
         None => Wanted::Nothing,
     })
 }
@@ -39,8 +42,17 @@ mod tests {
     }
 
     #[test]
+    fn a_recovery_wants_the_devices(rt: HostRuntime) -> Result<(), Fail> {
+        let words = words_of(rt.alloc(), &["recover", "ABC"])?;
+        assert_eq!(rt; wanted(rt.alloc(), words.as_slice())?, Wanted::Devices);
+        let session = recovered_session(words.as_slice()).ok_or("no session")?;
+        assert_eq!(rt; session.as_bytes(), b"ABC".as_slice());
+        Ok(())
+    }
+
+    #[test]
     fn other_words_want_nothing(rt: HostRuntime) -> Result<(), Fail> {
-        let others: [&[&str]; 9] = [
+        let others: [&[&str]; 13] = [
             &[],
             &["run", "ABC"],
             &["run", "abc", "1"],
@@ -49,7 +61,11 @@ mod tests {
             &["run", "ABC", "01"],
             &["RUN", "ABC", "1"],
             &["run", "ABC", "1", "1"],
-            &["recover", "ABC"],
+            &["recover"],
+            &["recover", "abc"],
+            &["recover", "ABCDEFGHI"],
+            &["RECOVER", "ABC"],
+            &["recover", "ABC", "1"],
         ];
         for (place, texts) in others.iter().enumerate() {
             let words = words_of(rt.alloc(), texts)?;
@@ -59,6 +75,10 @@ mod tests {
                 "words {place}"
             );
             assert!(rt; session_of(words.as_slice()).is_none(), "words {place}");
+            assert!(rt;
+                recovered_session(words.as_slice()).is_none(),
+                "words {place}"
+            );
         }
         Ok(())
     }

@@ -93,6 +93,14 @@ fn site_of(
     let script = bytes(alloc, script)?;
     let mut plain = PlainPlant::make(alloc, journals, 64, volumes, VOLUME_BYTES, script)?;
     label(&mut plain);
+    failing(alloc, plain, fails)
+}
+
+/// The same devices, of which these calls fail.
+fn failing(alloc: Global, plain: PlainPlant, fails: &[Failure]) -> Result<MemoryPlant, NoMemory>
+    requires { NoneLent (⟦<PlainPlant as Plant>⟧.state plain) }
+    ensures { IfOk result (λ plant. NoneLent (⟦<MemoryPlant as Plant>⟧.state plant)) }
+{
     let mut list = FailList::make(alloc);
     list.extend_from_slice(alloc, fails)?;
     MemoryPlant::make(alloc, plain, list)
@@ -571,6 +579,165 @@ fn other_numbers_of_devices_are_refused_first(rt: HostRuntime) -> Result<(), Fai
         let outcome = run(&rt, alloc, &RUN, trace, plant)?;
         assert_eq!(rt; outcome.status, 17);
         assert_eq!(rt; outcome.said.as_slice(), b"STATUS 17\n".as_slice());
+    }
+    Ok(())
+}
+
+/// The length that a journal needs.
+const JOURNAL: u64 = 1_826_816;
+
+/// The control after ABC was begun at the time 50.
+const MARK: [u8; 49] =
+    *b"\x01XCTL\x00\x00\x00\x00\x00\x00\x00\x01ABC     \x00\x00\x00\x00\x00\x00\x00\x00\x00\x00\x00\x00\x00\x00\x00\x00\x00\x00\x01\x00\x00\x00\x00\x00\x00\x00\x50\x00";
+
+/// State slot 0 of ABC: PRIM01 and SEC001 on device 0, of one cylinder, duplex.
+const STATE: [u8; 45] =
+    *b"XST1ABC     \x00\x00\x01PRIM01SEC001\x00\x00\x00\x00\x00\x00\x00\x01\x02\x00\x00\x00\x00\x00\x00\x00\x00\x00";
+
+/// Record 1, a group at the time 80 with the image of track 3 of device 0.
+const GROUP: [u8; 37] =
+    *b"\x01\x01\x00\x00\x00\x00\x00\x00\x00\x01\x00\x00\x00\x00\x00\x00\x00\x80\x00\x00\x00\x0F\x01\x00\x00\x00\x00\x00\x03\x00\x01\x01\x00\x00\x02Z\x00";
+
+const RECOVER: [&str; 2] = ["recover", "ABC"];
+
+/// Writes bytes at the front of the control, the state or journal 0.
+fn put<P: Plant>(plant: &mut P, device: Device, bytes: &[u8])
+    requires { NoneLent (P.state plant.old) }
+    ensures { NoneLent (P.state plant.new) }
+{
+    let there = match device {
+        Device::Control | Device::State => true,
+        Device::Journal(number) => number < plant.journals(),
+        Device::Volume(_) => false,
+    };
+    if there && plant.length(device) >= bytes.len() as u64 {
+        let _ = plant.write(device, 0, bytes);
+    }
+}
+
+/// A site that is long enough to be recovered, of zeros but for volume 0's label.
+fn long_site(alloc: Global, script: &[&[u8]]) -> Result<PlainPlant, NoMemory>
+    ensures { IfOk result (λ plant. NoneLent (⟦<PlainPlant as Plant>⟧.state plant)) }
+{
+    let script = bytes(alloc, script)?;
+    let mut plain = PlainPlant::make(alloc, 2, JOURNAL, 1, VOLUME_BYTES, script)?;
+    label(&mut plain);
+    Ok(plain)
+}
+
+/// The site of ABC with a duplex pair and a group, in which these calls fail.
+fn session_site(alloc: Global, group: &[u8], fails: &[Failure]) -> Result<MemoryPlant, NoMemory>
+    ensures { IfOk result (λ plant. NoneLent (⟦<MemoryPlant as Plant>⟧.state plant)) }
+{
+    let mut plain = long_site(alloc, &[])?;
+    put(&mut plain, Device::Control, &MARK);
+    put(&mut plain, Device::State, &STATE);
+    put(&mut plain, Device::Journal(0), group);
+    failing(alloc, plain, fails)
+}
+
+#[test]
+fn a_run_leaves_no_session_to_recover(rt: HostRuntime) -> Result<(), Fail> {
+    let alloc = rt.alloc();
+    let mut traces = Vec::new(alloc);
+    traces.push(source(alloc, &[&TRACE], 64, &[])?)?;
+    let mut plant = long_site(alloc, &[START, PAIR, END])?;
+    let run = words(alloc, &RUN)?;
+    assert_eq!(rt; xrc(&rt, alloc, &run, &mut traces, &mut plant), 0);
+    assert_eq!(rt; plant.said(), REPLIES);
+    let recover = words(alloc, &RECOVER)?;
+    assert_eq!(rt; xrc(&rt, alloc, &recover, &mut traces, &mut plant), 10);
+    let all = bytes(alloc, &[REPLIES, b"STATUS 10\n"])?;
+    assert_eq!(rt; plant.said(), all.as_slice());
+    Ok(())
+}
+
+#[test]
+fn a_site_is_recovered(rt: HostRuntime) -> Result<(), Fail> {
+    let alloc = rt.alloc();
+    let trace = source(alloc, &[], 64, &[])?;
+    let plant = session_site(alloc, &GROUP, &[])?;
+    let outcome = run(&rt, alloc, &RECOVER, trace, plant)?;
+    assert_eq!(rt; outcome.status, 0);
+    assert_eq!(rt;
+        outcome.said.as_slice(),
+        b"RECOVERED ABC T=0000000000000080\nPAIR PRIM01 SEC001 DUPLEX\n".as_slice()
+    );
+    for (track, slot) in outcome.slots.iter().enumerate() {
+        let expected = if track == 3 {
+            *b"\x00\x01\x01\x00\x00\x02Z\x00"
+        } else {
+            [0; 8]
+        };
+        assert_eq!(rt; *slot, expected, "in track {track}");
+    }
+    Ok(())
+}
+
+#[test]
+fn a_recovery_is_refused(rt: HostRuntime) -> Result<(), Fail> {
+    let alloc = rt.alloc();
+    let mut damaged = GROUP;
+    damaged[22] = 9;
+    // The words, the journal, the status, and its line.
+    let rows: [(&[&str], &[u8], u8, &[u8]); 5] = [
+        (&["recover", "XYZ"], &GROUP, 11, b"STATUS 11 ABC\n"),
+        (&RECOVER, &damaged, 12, b"STATUS 12 JOURNAL 0 22\n"),
+        (&["recover", "xyz"], &GROUP, 2, b"STATUS 2\n"),
+        (&["recover"], &GROUP, 2, b"STATUS 2\n"),
+        (&["recover", "ABC", "1"], &GROUP, 2, b"STATUS 2\n"),
+    ];
+    for (command, group, status, line) in rows {
+        let trace = source(alloc, &[], 64, &[])?;
+        let plant = session_site(alloc, group, &[])?;
+        let outcome = run(&rt, alloc, command, trace, plant)?;
+        assert_eq!(rt; outcome.status, status);
+        assert_eq!(rt; outcome.said.as_slice(), line);
+        assert!(rt; outcome.slots.iter().all(|slot| *slot == [0; 8]));
+    }
+    Ok(())
+}
+
+#[test]
+fn sites_of_other_numbers_are_not_recovered(rt: HostRuntime) -> Result<(), Fail> {
+    let alloc = rt.alloc();
+    // The journals, which are too short, the volumes, and what is said.
+    let rows: [(u16, u16, u8, &[u8]); 4] = [
+        (2, 0, 14, b"STATUS 14 JOURNAL 0 1826816\n"),
+        (1, 1, 16, b"STATUS 16\n"),
+        (17, 1, 16, b"STATUS 16\n"),
+        (2, 65, 16, b"STATUS 16\n"),
+    ];
+    for (journals, volumes, status, line) in rows {
+        let trace = source(alloc, &[], 64, &[])?;
+        let plant = site_of(alloc, journals, volumes, &[], &[])?;
+        let outcome = run(&rt, alloc, &RECOVER, trace, plant)?;
+        assert_eq!(rt; outcome.status, status);
+        assert_eq!(rt; outcome.said.as_slice(), line);
+    }
+    Ok(())
+}
+
+#[test]
+fn calls_of_a_recovery_that_fail(rt: HostRuntime) -> Result<(), Fail> {
+    let alloc = rt.alloc();
+    let rows: [(Option<Device>, u8, &[u8]); 5] = [
+        (Some(Device::Control), 6, b"STATUS 6\n"),
+        (Some(Device::State), 7, b"STATUS 7\n"),
+        (Some(Device::Journal(0)), 5, b"STATUS 5 0\n"),
+        (
+            Some(Device::Volume(0)),
+            13,
+            b"RECOVERED ABC T=0000000000000080\nPAIR PRIM01 SEC001 FAULT\nSTATUS 13\n",
+        ),
+        (None, 3, b"RECOVERED ABC T="),
+    ];
+    for (at, status, said) in rows {
+        let trace = source(alloc, &[], 64, &[])?;
+        let plant = session_site(alloc, &GROUP, &[failure(at, 0)])?;
+        let outcome = run(&rt, alloc, &RECOVER, trace, plant)?;
+        assert_eq!(rt; outcome.status, status);
+        assert_eq!(rt; outcome.said.as_slice(), said);
     }
     Ok(())
 }

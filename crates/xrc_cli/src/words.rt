@@ -1,5 +1,5 @@
 ghost use Rattle.std.specs.Prelude.{◌≡◌, map, string_bytes};
-ghost use Rattle.xrc_cli.specs.Words.{run_session};
+ghost use Rattle.xrc_cli.specs.Words.{recover_session, run_session};
 
 use tod_stamp::Session;
 
@@ -20,6 +20,18 @@ pub(crate) fn session_of(words: &[String]) -> Option<Session>
 {
     match words {
         [command, session, storage] if command.as_str() == "run" && storage.as_str() == "1" => {
+            Session::read(session.as_bytes()).ok()
+        }
+        _ => None,
+    }
+}
+
+// The session of the words `recover SESSION`.
+pub(crate) fn recovered_session(words: &[String]) -> Option<Session>
+    ensures { result ≡ recover_session (map string_bytes words.now) }
+{
+    match words {
+        [command, session] if command.as_str() == "recover" => {
             Session::read(session.as_bytes()).ok()
         }
         _ => None,

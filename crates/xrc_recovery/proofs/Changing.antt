@@ -134,6 +134,24 @@ module _ (a b c : PlantState) (devices : (d : Device) → Stays (on b d) (on c d
         rows redone
   ]
 
+  -- What was so before more is said stays so.
+  pub done_more : (rows : List PairRow) (items : List Item) (failed : List ℕ) → Elapses b c → Redone rows items failed a b → IsDoneBefore rows failed a b → IsDoneBefore rows failed a c
+  done_more rows items failed past redone done t from to differs = elim (cases_lt t b.clock) [
+    | inl early ↦
+        All-weaker
+        (λ row. is_duplex row.state ≡ true → ¬ Contains failed row.device → (x : List ℕ) → b.images t (Volume row.device) x → x ≡ b.bytes (Volume row.device))
+        (λ row. is_duplex row.state ≡ true → ¬ Contains failed row.device → (x : List ℕ) → c.images t (Volume row.device) x → x ≡ c.bytes (Volume row.device))
+        (λ row was duplex good x left.
+        was duplex good x ((past.kept (Volume row.device)).same t (omega (arith, early)) (omega (arith, early)) x left) ∙ sym (devices (Volume row.device)).bytes)
+        rows (done t from (omega (arith, early)) (λ same. differs (past.said t (omega (arith, early)) (omega (arith, early)) ∙ same)))
+    | inr late ↦
+        All-weaker
+        (λ row. is_duplex row.state ≡ true → ¬ Contains failed row.device → IsRedone row items a b)
+        (λ row. is_duplex row.state ≡ true → ¬ Contains failed row.device → (x : List ℕ) → c.images t (Volume row.device) x → x ≡ c.bytes (Volume row.device))
+        (λ row was duplex good x left. durable_then (Volume row.device) (was duplex good).durable t late to x left)
+        rows redone
+  ]
+
 -- ---- what failed
 
 pub faulty_then : (rows : List PairRow) (before now after : Device → ℕ) (failed : List ℕ) → ((d : Device) → after d ≡ now d) → AreFaulty rows before now failed → AreFaulty rows before after failed

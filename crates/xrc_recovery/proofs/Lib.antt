@@ -2,3 +2,4 @@ pub mod LineLaws
 pub mod Changing
 pub mod Stopping
 pub mod Ending
+pub mod Lasting

@@ -1,3 +1,4 @@
 pub mod Texts
 pub mod Stops
 pub mod Reports
+pub mod Statuses

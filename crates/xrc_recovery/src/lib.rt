@@ -1,6 +1,7 @@
 //! The command that recovers a site: its order of stops, and what it says of each pair.
 #![tactic(auto)]
 
+mod command;
 mod lines;
 mod recovery;
 mod reporting;
@@ -8,4 +9,5 @@ mod stops;
 #[cfg(test)]
 mod tests;
 
+pub use command::recover_site;
 pub use recovery::run_recover;

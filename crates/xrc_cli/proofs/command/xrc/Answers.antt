@@ -8,7 +8,7 @@ use Rattle.xrc_cli.proofs.StopLaws.{known_status, is_console_fault, is_bad_heade
 use Rattle.xrc_cli.proofs.command.xrc.Goals as goal
 
 pub returns-in-Err-clause-known : goal.returns-in-Err-clause-known
-returns-in-Err-clause-known g c = subst (λ (n : ℕ). Contains (0 ∷ 1 ∷ 2 ∷ 3 ∷ 8 ∷ 9 ∷ 17 ∷ 18 ∷ 19 ∷ []) n) (sym c.finish.ensures.status) (known_status c.in-Err.stop)
+returns-in-Err-clause-known g c = λ words. subst (λ (n : ℕ). Contains (0 ∷ 1 ∷ 2 ∷ 3 ∷ 8 ∷ 9 ∷ 17 ∷ 18 ∷ 19 ∷ []) n) (sym c.finish.ensures.status) (known_status c.in-Err.stop)
 
 pub returns-in-Err-clause-header : goal.returns-in-Err-clause-header
 returns-in-Err-clause-header g c = λ given place holds refused some site.

@@ -1,0 +1,347 @@
+-- The status of a recovery, and the line that is said last.
+use Rattle.std.proofs.Common.{◌≡◌, ◌≢◌, ◌≤◌, ◌+◌, ◌++◌, inl, inr, ℕ, List, [], Ok, Err, IsTrue, length, take, refl, sym, ◌∙◌, ap, subst, arith, append_assoc, length-append}
+use Rattle.std.proofs.lemmas.Bool.{cases_lt}
+use Rattle.std.proofs.lemmas.List.{take-append-le}
+use Rattle.std.proofs.Math.Seq.{take-append-add}
+use Rattle.xrc_edge.specs.Causes.{Rose}
+use Rattle.crash_plant.specs.declared.device.Device.{Device}
+use Rattle.crash_plant.specs.declared.device.Device.TheVariants.{Control, State, Journal, Volume}
+use Rattle.crash_plant.specs.Moments.{PlantState}
+use Rattle.crash_plant.specs.Calls.{Elapses, Says, WorksOnConsole}
+use Rattle.site_means.specs.Answers.{need}
+use Rattle.site_means.specs.Sight.{walked}
+use Rattle.xrecover.specs.Sees.{SeesSame}
+use Rattle.xrecover.specs.Works.{Nothing, Works}
+use Rattle.xrecover.proofs.Works.{rose_later}
+use Rattle.xrc_status.specs.declared.stop.Stop.{Stop}
+use Rattle.xrc_status.specs.declared.stop.Stop.TheVariants.{NoMemory, BadWords, ConsoleFault, JournalFault, ControlFault, StateFault, BadHeader, HeaderFault, NoSession, OtherSession, Damaged, VolumeFault, TooSmall, JournalEnd, BadSite, NotBuilt, EarlyBreak, EarlyVolume, Spent}
+use Rattle.xrc_status.specs.Saying.{SaidWhole, SaysLast}
+use Rattle.xrc_status.specs.Stops.{last_line, status_of}
+use Rattle.xrc_recovery.specs.Stops.{HasRisen, IsEarly, NoneRose}
+use Rattle.xrc_recovery.specs.Reports.{Reports, ReportsAll, report_of}
+use Rattle.xrc_recovery.specs.Statuses.{EndsRecovery, EndsSo, ReportsThen, SaysThen, ends_recovery}
+use Rattle.xrc_recovery.proofs.Changing.{changes_more, changes_of, done_more, faulty_then, follow_then, redone_then, says_after}
+use Rattle.xrc_recovery.proofs.Ending.{Ends, Step}
+
+-- ---- statuses of stops
+
+-- A recovery ends with a status of its own, and a stop's isn't 0.
+pub is_known : (a b : PlantState) (stop : Stop) → HasRisen a b stop → IsTrue (ends_recovery (status_of stop))
+is_known a b NoMemory risen = refl
+is_known a b BadWords risen = absurd risen
+is_known a b ConsoleFault risen = refl
+is_known a b (JournalFault j) risen = refl
+is_known a b ControlFault risen = refl
+is_known a b StateFault risen = refl
+is_known a b (BadHeader trace place) risen = absurd risen
+is_known a b (HeaderFault trace) risen = absurd risen
+is_known a b NoSession risen = refl
+is_known a b (OtherSession name) risen = refl
+is_known a b (Damaged d place) risen = refl
+is_known a b VolumeFault risen = refl
+is_known a b (TooSmall d needed) risen = refl
+is_known a b JournalEnd risen = absurd risen
+is_known a b BadSite risen = refl
+is_known a b NotBuilt risen = absurd risen
+is_known a b EarlyBreak risen = absurd risen
+is_known a b EarlyVolume risen = absurd risen
+is_known a b Spent risen = absurd risen
+
+pub not_done : (stop : Stop) → status_of stop ≢ 0
+not_done NoMemory = λ is. omega (arith, is)
+not_done BadWords = λ is. omega (arith, is)
+not_done ConsoleFault = λ is. omega (arith, is)
+not_done (JournalFault j) = λ is. omega (arith, is)
+not_done ControlFault = λ is. omega (arith, is)
+not_done StateFault = λ is. omega (arith, is)
+not_done (BadHeader trace place) = λ is. omega (arith, is)
+not_done (HeaderFault trace) = λ is. omega (arith, is)
+not_done NoSession = λ is. omega (arith, is)
+not_done (OtherSession name) = λ is. omega (arith, is)
+not_done (Damaged d place) = λ is. omega (arith, is)
+not_done VolumeFault = λ is. omega (arith, is)
+not_done (TooSmall d needed) = λ is. omega (arith, is)
+not_done JournalEnd = λ is. omega (arith, is)
+not_done BadSite = λ is. omega (arith, is)
+not_done NotBuilt = λ is. omega (arith, is)
+not_done EarlyBreak = λ is. omega (arith, is)
+not_done EarlyVolume = λ is. omega (arith, is)
+not_done Spent = λ is. omega (arith, is)
+
+pub is_console : (stop : Stop) → status_of stop ≡ 3 → stop ≡ ConsoleFault
+is_console NoMemory is = absurd (omega (arith, is))
+is_console BadWords is = absurd (omega (arith, is))
+is_console ConsoleFault is = refl
+is_console (JournalFault j) is = absurd (omega (arith, is))
+is_console ControlFault is = absurd (omega (arith, is))
+is_console StateFault is = absurd (omega (arith, is))
+is_console (BadHeader trace place) is = absurd (omega (arith, is))
+is_console (HeaderFault trace) is = absurd (omega (arith, is))
+is_console NoSession is = absurd (omega (arith, is))
+is_console (OtherSession name) is = absurd (omega (arith, is))
+is_console (Damaged d place) is = absurd (omega (arith, is))
+is_console VolumeFault is = absurd (omega (arith, is))
+is_console (TooSmall d needed) is = absurd (omega (arith, is))
+is_console JournalEnd is = absurd (omega (arith, is))
+is_console BadSite is = absurd (omega (arith, is))
+is_console NotBuilt is = absurd (omega (arith, is))
+is_console EarlyBreak is = absurd (omega (arith, is))
+is_console EarlyVolume is = absurd (omega (arith, is))
+is_console Spent is = absurd (omega (arith, is))
+
+pub is_volume : (stop : Stop) → status_of stop ≡ 13 → stop ≡ VolumeFault
+is_volume NoMemory is = absurd (omega (arith, is))
+is_volume BadWords is = absurd (omega (arith, is))
+is_volume ConsoleFault is = absurd (omega (arith, is))
+is_volume (JournalFault j) is = absurd (omega (arith, is))
+is_volume ControlFault is = absurd (omega (arith, is))
+is_volume StateFault is = absurd (omega (arith, is))
+is_volume (BadHeader trace place) is = absurd (omega (arith, is))
+is_volume (HeaderFault trace) is = absurd (omega (arith, is))
+is_volume NoSession is = absurd (omega (arith, is))
+is_volume (OtherSession name) is = absurd (omega (arith, is))
+is_volume (Damaged d place) is = absurd (omega (arith, is))
+is_volume VolumeFault is = refl
+is_volume (TooSmall d needed) is = absurd (omega (arith, is))
+is_volume JournalEnd is = absurd (omega (arith, is))
+is_volume BadSite is = absurd (omega (arith, is))
+is_volume NotBuilt is = absurd (omega (arith, is))
+is_volume EarlyBreak is = absurd (omega (arith, is))
+is_volume EarlyVolume is = absurd (omega (arith, is))
+is_volume Spent is = absurd (omega (arith, is))
+
+pub is_site : (stop : Stop) → status_of stop ≡ 16 → stop ≡ BadSite
+is_site NoMemory is = absurd (omega (arith, is))
+is_site BadWords is = absurd (omega (arith, is))
+is_site ConsoleFault is = absurd (omega (arith, is))
+is_site (JournalFault j) is = absurd (omega (arith, is))
+is_site ControlFault is = absurd (omega (arith, is))
+is_site StateFault is = absurd (omega (arith, is))
+is_site (BadHeader trace place) is = absurd (omega (arith, is))
+is_site (HeaderFault trace) is = absurd (omega (arith, is))
+is_site NoSession is = absurd (omega (arith, is))
+is_site (OtherSession name) is = absurd (omega (arith, is))
+is_site (Damaged d place) is = absurd (omega (arith, is))
+is_site VolumeFault is = absurd (omega (arith, is))
+is_site (TooSmall d needed) is = absurd (omega (arith, is))
+is_site JournalEnd is = absurd (omega (arith, is))
+is_site BadSite is = refl
+is_site NotBuilt is = absurd (omega (arith, is))
+is_site EarlyBreak is = absurd (omega (arith, is))
+is_site EarlyVolume is = absurd (omega (arith, is))
+is_site Spent is = absurd (omega (arith, is))
+
+-- Stops of other statuses than these come before anything is written.
+pub is_early_stop : (stop : Stop) → status_of stop ≢ 3 → status_of stop ≢ 5 → status_of stop ≢ 13 → IsEarly stop
+is_early_stop NoMemory three five thirteen = tt
+is_early_stop BadWords three five thirteen = tt
+is_early_stop ConsoleFault three five thirteen = absurd (three refl)
+is_early_stop (JournalFault j) three five thirteen = absurd (five refl)
+is_early_stop ControlFault three five thirteen = tt
+is_early_stop StateFault three five thirteen = tt
+is_early_stop (BadHeader trace place) three five thirteen = tt
+is_early_stop (HeaderFault trace) three five thirteen = tt
+is_early_stop NoSession three five thirteen = tt
+is_early_stop (OtherSession name) three five thirteen = tt
+is_early_stop (Damaged d place) three five thirteen = tt
+is_early_stop VolumeFault three five thirteen = absurd (thirteen refl)
+is_early_stop (TooSmall d needed) three five thirteen = tt
+is_early_stop JournalEnd three five thirteen = tt
+is_early_stop BadSite three five thirteen = tt
+is_early_stop NotBuilt three five thirteen = tt
+is_early_stop EarlyBreak three five thirteen = tt
+is_early_stop EarlyVolume three five thirteen = tt
+is_early_stop Spent three five thirteen = tt
+
+-- ---- counts
+
+-- A count that rose before calls that don't lower it has risen over all of them.
+pub rose_still : (before mid now : ℕ) → before ≤ mid → mid ≤ now → Rose before mid → Rose before now
+rose_still before mid now first later (inl less) = inl (omega (arith, less, later))
+rose_still before mid now first later (inr most) = elim (cases_lt before now) [
+  | inl less ↦ inl less
+  | inr end ↦ inr ((let same : now ≡ mid = omega (arith, end, first, later) in same) ∙ most)
+]
+
+module _ (a b c : PlantState) (faults : (d : Device) → c.faults d ≡ b.faults d) (first : a.console_faults ≤ b.console_faults) (later : b.console_faults ≤ c.console_faults) where
+  device_still : (d : Device) → Rose (a.faults d) (b.faults d) → Rose (a.faults d) (c.faults d)
+  device_still d rose = subst (λ (n : ℕ). Rose (a.faults d) n) (sym (faults d)) rose
+
+  pub risen_still : (stop : Stop) → HasRisen a b stop → HasRisen a c stop
+  risen_still NoMemory risen = tt
+  risen_still BadWords risen = absurd risen
+  risen_still ConsoleFault risen = rose_still a.console_faults b.console_faults c.console_faults first later risen
+  risen_still (JournalFault j) risen = device_still (Journal j) risen
+  risen_still ControlFault risen = device_still Control risen
+  risen_still StateFault risen = device_still State risen
+  risen_still (BadHeader trace place) risen = absurd risen
+  risen_still (HeaderFault trace) risen = absurd risen
+  risen_still NoSession risen = tt
+  risen_still (OtherSession name) risen = tt
+  risen_still (Damaged d place) risen = tt
+  risen_still VolumeFault risen = (risen.0, device_still (Volume risen.0) risen.1)
+  risen_still (TooSmall d needed) risen = tt
+  risen_still JournalEnd risen = absurd risen
+  risen_still BadSite risen = tt
+  risen_still NotBuilt risen = absurd risen
+  risen_still EarlyBreak risen = absurd risen
+  risen_still EarlyVolume risen = absurd risen
+  risen_still Spent risen = absurd risen
+
+  pub none_before : NoneRose a c → NoneRose a b
+  none_before none = record {
+    devices = λ d rose. none.devices d (device_still d rose);
+    console = λ rose. none.console (rose_still a.console_faults b.console_faults c.console_faults first later rose);
+  }
+
+-- ---- what is said
+
+-- A text, and a front of a line behind it.
+module _ (text line : List ℕ) (a b c : PlantState) (past : Elapses b c) (said : SaidWhole text a b) (p : Says text a b) (q : Says line b c) (later : a.clock ≤ b.clock) where
+  front_then : (t : ℕ) → a.clock ≤ t → t ≤ c.clock → (k : ℕ) × (k ≤ length (text ++ line)) × (c.said t ≡ a.said a.clock ++ take k (text ++ line))
+  front_then t from to = elim (cases_lt t b.clock) [
+    | inl early ↦
+        let s = p.front t from (omega (arith, early)) in (
+          s.0,
+          omega (arith, s.1, length-append text line),
+          past.said t (omega (arith, early)) (omega (arith, early)) ∙ s.2 ∙ ap (λ (l : List ℕ). a.said a.clock ++ l) (sym (take-append-le s.0 text line s.1)),
+        )
+    | inr late ↦
+        let s = q.front t late to in (
+          length text + s.0,
+          omega (arith, s.1, length-append text line),
+          s.2 ∙ ap (λ (l : List ℕ). l ++ take s.0 line) said ∙ append_assoc (a.said a.clock) text (take s.0 line) ∙ ap (λ (l : List ℕ). a.said a.clock ++ l) (sym (take-append-add text line s.0)),
+        )
+  ]
+
+  grows_then : (s t : ℕ) → a.clock ≤ s → s ≤ t → t ≤ c.clock → length (c.said s) ≤ length (c.said t)
+  grows_then s t from le to = elim (cases_lt s b.clock) [
+    | inl early ↦
+        let was = ap length (past.said s (omega (arith, early)) (omega (arith, early))) in
+        elim (cases_lt t b.clock) [
+          | inl soon ↦ omega (arith, was, p.grows s t from le (omega (arith, soon)), ap length (past.said t (omega (arith, soon)) (omega (arith, soon))))
+          | inr late ↦
+              let f = q.front t late to in
+              omega (arith, was, p.grows s b.clock from (omega (arith, early)) (omega arith), ap length f.2, length-append (b.said b.clock) (take f.0 line))
+        ]
+    | inr late ↦ q.grows s t late le to
+  ]
+
+  says_more : Says (text ++ line) a c
+  says_more = record {
+    front = front_then;
+    grows = grows_then;
+    heard = λ t from to. elim (cases_lt t b.clock) [
+      | inl early ↦ past.heard t (omega (arith, early)) (omega (arith, early)) ∙ p.heard t from (omega (arith, early))
+      | inr late ↦ q.heard t late to ∙ p.heard b.clock later (omega arith)
+    ];
+    script = q.script ∙ p.script;
+  }
+
+module _ (tells : Type 0) (line : List ℕ) (a b c : PlantState) (last : SaysLast tells line b c) (told : tells) where
+  -- A last line behind a text.
+  pub says_then_last : (text : List ℕ) → a.clock ≤ b.clock → a.console_faults ≤ b.console_faults → SaidWhole text a b → Says text a b → SaysThen text line a c
+  says_then_last text later counts said says =
+      let front = last.front.moments told in
+      record {
+        says = says_more text line a b c (last.front.only.elapses told) said says front later;
+        whole = elim (last.whole told) [
+          | inl all ↦ inl (all ∙ ap (λ (l : List ℕ). l ++ line) said ∙ append_assoc (a.said a.clock) text line)
+          | inr rose ↦
+              let f = front.front c.clock ((last.front.only.elapses told).kept Control).later (omega arith) in
+              inr ((f.0, f.1, f.2 ∙ ap (λ (l : List ℕ). l ++ take f.0 line) said ∙ append_assoc (a.said a.clock) text (take f.0 line)), rose_later a.console_faults b.console_faults c.console_faults counts rose)
+        ];
+      }
+
+  -- It alone, behind calls that said nothing.
+  pub says_last_alone : (step : Device → List ℕ → List ℕ → Type 0) → Works tells step a b → SaysThen [] line a c
+  says_last_alone step works =
+      let later = ((works.elapses told).kept Control).later in
+      let quiet : b.said b.clock ≡ a.said a.clock = (works.silent told).said b.clock later (omega arith) in
+      let front = last.front.moments told in
+      record {
+        says = says_after line a b c (last.front.only.elapses told) (works.silent told) front later;
+        whole = elim (last.whole told) [
+          | inl all ↦ inl (all ∙ ap (λ (l : List ℕ). l ++ line) quiet)
+          | inr rose ↦
+              let f = front.front c.clock ((last.front.only.elapses told).kept Control).later (omega arith) in
+              inr ((f.0, f.1, f.2 ∙ ap (λ (l : List ℕ). l ++ take f.0 line) quiet), subst (λ (n : ℕ). Rose n c.console_faults) works.console_faults rose)
+        ];
+      }
+
+  -- It behind a report.
+  pub report_then : (session failed : List ℕ) → a.clock ≤ b.clock → a.console_faults ≤ b.console_faults → ReportsAll session failed a b → ReportsThen session failed line a c
+  report_then session failed later counts all =
+      let pairs = all.report.pairs in
+      let rows = pairs.means.table.rows in
+      let o = last.front.only in
+      record {
+        pairs = record {
+          means = pairs.means;
+          is_meant = pairs.is_meant;
+          faulty = faulty_then rows a.faults b.faults c.faults failed o.faults pairs.faulty;
+          redone = redone_then a b c (o.devices told) rows (walked a a.bytes) failed ((o.elapses told).kept Control).later pairs.redone;
+          done_before = done_more a b c (o.devices told) rows (walked a a.bytes) failed (o.elapses told) pairs.redone pairs.done_before;
+        };
+        says = says_then_last (report_of session failed pairs) later counts all.whole all.report.says;
+      }
+
+-- ---- the end
+
+-- Done, it says no last line.
+pub ends_done : (tells : Type 0) (session : List ℕ) (a b : PlantState) (v : Unit {0}) → Ends tells session a b (Ok v) → EndsRecovery tells session a b 0
+ends_done tells session a b v e = record {
+  known = refl;
+  site = (λ is. absurd (omega (arith, is)), λ no. absurd (let bad = e.site.1 no in cc));
+  untouched = λ is. absurd (omega (arith, is));
+  short = λ site d first. absurd (let small = e.short site d first in cc);
+  stopped = λ other. absurd (other refl);
+  complete = λ told site ready none. inl refl;
+  done = λ told is. e.done told;
+  failed = λ told is. absurd (omega (arith, is));
+  cut = λ told is. absurd (omega (arith, is));
+  console_count = λ is. e.console_count (λ is. cc);
+  changes = e.changes;
+  moments = e.moments;
+  unwritten = λ other. absurd (other refl);
+}
+
+-- Each stop has its status, and its line behind what was said.
+module _ (tells : Type 0) (session : List ℕ) (a b c : PlantState) (stop : Stop) (e : Ends tells session a b (Err stop)) (last : SaysLast tells (last_line stop) b c) where
+  ends_so : EndsSo tells stop a c (status_of stop)
+  ends_so = record { is = refl; says = λ told quiet. says_last_alone tells (last_line stop) a b c last told (Step a) (e.silent quiet) }
+
+  pub ends_stopped : (stop ≡ BadSite → b ≡ a) → (stop ≡ ConsoleFault → c ≡ b) → EndsRecovery tells session a c (status_of stop)
+  ends_stopped here quiet =
+      let o = last.front.only in
+      let counts = e.changes.console_faults in
+      record {
+        known = is_known a b stop e.causes;
+        site = (λ is. e.site.0 (ap (λ (s : Stop). Err s) (is_site stop is)), λ no. ap status_of (let bad = e.site.1 no in let same : stop ≡ BadSite = cc in same));
+        untouched = λ is. subst (λ (s : PlantState). WorksOnConsole tells s c) (here (is_site stop is)) o;
+        short = λ site d first.
+            let small = e.short site d first in
+            let same : stop ≡ TooSmall d (need d) = cc in
+            subst (λ (s : Stop). EndsSo tells s a c (status_of stop)) same ends_so;
+        stopped = λ other. record { stop = stop; ends = ends_so; called_for = λ told. e.called_for told; risen = risen_still a b c o.faults counts last.later stop e.causes };
+        complete = λ told site ready none. inr (ap status_of (e.complete told site ready (none_before a b c o.faults counts last.later none)));
+        done = λ told is. absurd (not_done stop is);
+        failed = λ told is.
+            let same = is_volume stop is in
+            let f = e.failed told (ap (λ (s : Stop). Err s) same) in
+            (f.0, f.1, report_then tells (last_line VolumeFault) a b c (subst (λ (s : Stop). SaysLast tells (last_line s) b c) same last) told session f.0 ((e.changes.elapses told).kept Control).later counts f.2);
+        cut = λ told is.
+            let same = is_console stop is in
+            let f = e.stopped told (ap (λ (s : Stop). Err s) same) in
+            (f.0, subst (λ (s : PlantState). Reports session f.0 a s) (sym (quiet same)) f.1);
+        console_count = λ is. absurd (not_done stop is);
+        changes = changes_more tells (Step a) a b c e.changes o last.later;
+        moments = λ told settled. follow_then (SeesSame a) tells a b c told ((e.changes.elapses told).kept Control).later (e.moments told settled) o;
+        unwritten = λ other three five thirteen. changes_more tells Nothing a b c (changes_of tells Nothing a b (e.unwritten (is_early_stop stop three five thirteen))) o last.later;
+      }
+
+-- The console's count rose where it ends by that.
+pub console_rose : (tells : Type 0) (session : List ℕ) (a c : PlantState) (status : ℕ) → EndsRecovery tells session a c status → status ≡ 3 → Rose a.console_faults c.console_faults
+console_rose tells session a c status e is =
+    let by = e.stopped (λ zero. absurd (omega (arith, is, zero))) in
+    subst (λ (s : Stop). HasRisen a c s) (is_console by.stop (sym by.ends.is ∙ is)) by.risen

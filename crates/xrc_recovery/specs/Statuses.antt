@@ -1,0 +1,76 @@
+-- The status that a recovery ends with: what it stands for, and what was done and said by then.
+use Rattle.std.specs.Prelude.{◌≡◌, ◌≢◌, ◌≤◌, ◌↔◌, ◌⊎◌, ◌++◌, ◌==◌, ◌||◌, ℕ, List, [], Bool, IsTrue, Some, length, take}
+use Rattle.xrc_edge.specs.Causes.{Rose}
+use Rattle.crash_plant.specs.declared.device.Device.{Device}
+use Rattle.crash_plant.specs.Moments.{PlantState}
+use Rattle.crash_plant.specs.Calls.{Says, WorksOnConsole}
+use Rattle.crash_plant.specs.Choices.{AllFollow}
+use Rattle.site_means.specs.Answers.{first_short, need}
+use Rattle.site_means.specs.Sight.{walked}
+use Rattle.xrecover.specs.Redone.{Recovers, meant_rows}
+use Rattle.xrecover.specs.Sees.{IsSettled, SeesSame}
+use Rattle.xrecover.specs.Works.{Nothing}
+use Rattle.xrc_status.specs.declared.stop.Stop.{Stop}
+use Rattle.xrc_status.specs.declared.stop.Stop.TheVariants.{TooSmall, VolumeFault}
+use Rattle.xrc_status.specs.Saying.{SaidWhole}
+use Rattle.xrc_status.specs.Stops.{last_line, status_of}
+use Rattle.xrc_recovery.specs.Stops.{CallsFor, HasLines, HasRisen, IsReady, IsSite, NoneRose}
+use Rattle.xrc_recovery.specs.Reports.{Changes, RedoesPairs, Reports, ReportsAll, report_of}
+
+-- ---- what was said
+
+-- A text was said whole, and a front of a line behind it.
+abbrev pub SaidUpTo : (text line : List ℕ) → PlantState → PlantState → Type 0
+SaidUpTo text line old new = (k : ℕ) × (k ≤ length line) × (new.said new.clock ≡ old.said old.clock ++ (text ++ take k line))
+
+-- A text was said whole, and a line behind it, whole too, or in part where the console's count rose.
+pub record SaysThen (text line : List ℕ) (old new : PlantState) : Type 0 where
+  pub says : Says (text ++ line) old new
+  pub whole : SaidWhole (text ++ line) old new ⊎ (SaidUpTo text line old new × Rose old.console_faults new.console_faults)
+
+-- The pairs were redone but those of these devices; so it was said whole, and a line behind it.
+pub record ReportsThen (session failed line : List ℕ) (old new : PlantState) : Type 0 where
+  pub pairs : RedoesPairs session failed old new
+  pub says : SaysThen (report_of session failed pairs) line old new
+
+-- ---- stops
+
+-- The status is this stop's, and nothing but its line was said, unless the stop comes behind other lines.
+pub record EndsSo (tells : Type 0) (stop : Stop) (old new : PlantState) (status : ℕ) : Type 0 where
+  pub is : status ≡ status_of stop
+  pub says : tells → ¬ HasLines stop → SaysThen [] (last_line stop) old new
+
+-- It ends by a stop that what reads gave calls for, and the count of what failed rose.
+pub record EndsBy (tells : Type 0) (session : List ℕ) (old new : PlantState) (status : ℕ) : Type 0 where
+  pub stop : Stop
+  pub ends : EndsSo tells stop old new status
+  pub called_for : tells → CallsFor old session stop
+  pub risen : HasRisen old new stop
+
+-- ---- the whole
+
+-- whether a recovery can end with a status
+abbrev pub ends_recovery : (status : ℕ) → Bool
+ends_recovery status = status == 0 || status == 1 || status == 3 || status == 5 || status == 6 || status == 7 || status == 10 || status == 11 || status == 12 || status == 13 || status == 14 || status == 16
+
+-- What is so where a recovery of a session has ended with a status.
+pub record EndsRecovery (tells : Type 0) (session : List ℕ) (old new : PlantState) (status : ℕ) : Type 0 where
+  pub known : IsTrue (ends_recovery status)
+  -- The numbers of journals and volumes come first, and then the lengths of the control, the state and the journals.
+  pub site : (status ≡ 16) ↔ ¬ IsSite old
+  pub untouched : status ≡ 16 → WorksOnConsole tells old new
+  pub short : IsSite old → (d : Device) → first_short old ≡ Some d → EndsSo tells (TooSmall d (need d)) old new status
+  -- Each other status than 0 has its stop, and where nothing calls for one it is 0, but for want of memory.
+  pub stopped : status ≢ 0 → EndsBy tells session old new status
+  pub complete : tells → IsSite old → IsReady old session → NoneRose old new → (status ≡ 0) ⊎ (status ≡ 1)
+  -- Done: every duplex pair is redone, and so it was said. Where volumes failed the others are redone, and so it was said. Where the
+  -- console failed it was said in part.
+  pub done : tells → status ≡ 0 → ReportsAll session [] old new
+  pub failed : tells → status ≡ 13 → (failed : List ℕ) × (failed ≢ []) × ReportsThen session failed (last_line VolumeFault) old new
+  pub cut : tells → status ≡ 3 → (failed : List ℕ) × Reports session failed old new
+  pub console_count : status ≡ 0 → new.console_faults ≡ old.console_faults
+  -- At every moment only labels of duplex pairs' volumes, and slots of tracks of which the walk has an item, differ; a crash leaves
+  -- what means the same, with the same tracks. At most statuses nothing was written.
+  pub changes : Changes tells (Recovers (meant_rows old old.bytes) (walked old old.bytes)) old new
+  pub moments : tells → IsSettled old → AllFollow (SeesSame old) old new
+  pub unwritten : status ≢ 0 → status ≢ 3 → status ≢ 5 → status ≢ 13 → Changes tells Nothing old new
