@@ -1,4 +1,4 @@
-use Rattle.std.proofs.Common.{rules, ◌≡◌, true, take, sym, subst, arith}
+use Rattle.std.proofs.Common.{rules, ◌≡◌, true, take, subst, arith}
 use Rattle.std.specs.Prelude.{IsSomeAnd, find}
 use Rattle.std.specs.List.{All}
 use Rattle.std.proofs.lemmas.List.{take_all}

@@ -1,4 +1,4 @@
-use Rattle.std.proofs.Common.{◌≡◌, List, []}
+use Rattle.std.proofs.Common.{◌≡◌, []}
 use Rattle.site_store.specs.Standing.{Fits, Stands}
 use Rattle.site_store.proofs.refusal_tests.filled.Given as goal
 

@@ -1,4 +1,4 @@
-use Rattle.std.proofs.Common.{◌≡◌, IfOk, Result, subst}
+use Rattle.std.proofs.Common.{IfOk, Result, subst}
 use Rattle.xrc_edge.specs.declared.NoMemory.{NoMemory}
 use Rattle.crash_plant.specs.declared.memory_plant.MemoryPlant.{MemoryPlant}
 use Rattle.crash_plant.specs.Made.{SameDevices}
