@@ -3,3 +3,4 @@ pub mod SoundLaws
 pub mod FormLaws
 pub mod GroupLaws
 pub mod NothingLaws
+pub mod WantedLaws

@@ -1,6 +1,7 @@
 //! A control of a group state.
 
-ghost use Rattle.std.specs.Prelude.{◌≡◌, ◌↔◌, ◌≤◌, ◌++◌, ◌∷◌, [], length, true, false, Err, Ok, OnOk, OnErr, IfOk, IsTrue};
+ghost use Rattle.std.specs.Prelude.{◌≡◌, ◌↔◌, ℕ, ◌≤◌, ◌++◌, ◌∷◌, [], length, true, false, Err, Ok, OnOk, OnErr, IfOk, IfSome, IsTrue};
+ghost use Rattle.change_map.specs.Sets.{size};
 ghost use Rattle.pending_queue.specs.Entries.{all_keep_rules, due};
 ghost use Rattle.pending_queue.specs.Groups.{HasRoomFor, with_entries};
 ghost use Rattle.pending_queue.specs.declared.room.PushError.TheVariants as pushing;
@@ -82,7 +83,9 @@ impl Control {
 
     /// The least wanted track of the first volume that wants one.
     pub fn next_wanted(&self) -> Option<(u16, u32)>
-        ensures { result ≡ next_wanted self.now.volumes }
+        ensures next { result ≡ next_wanted self.now.volumes }
+        ensures wanted { IfSome result (λ p. is_wanted p.0 p.1 self.now.volumes ≡ true) }
+        ensures none { (result ≡ None) ↔ ((v x : ℕ) → is_wanted v x self.now.volumes ≡ false) }
     {
         next_wanted(self.volumes.as_slice())
     }
@@ -165,6 +168,7 @@ impl Control {
     pub fn resume(&mut self, number: u16) -> u32
         requires dropped { IsTrue (is_dropped number self.old.volumes) }
         ensures owed { result ≡ owed number self.old.volumes }
+        ensures mapped { IfSome (volume_of number self.old.volumes) (λ u. result ≡ size u.map) }
         ensures volume { self.new ≡ resumed number self.old }
     {
         resume(self.volumes.as_mut_slice(), number)
@@ -216,6 +220,7 @@ impl Control {
     pub fn announce(&self, alloc: Global, cut: Stamp, out: &mut Formed) -> Result<(), NoMemory>
         ensures ok { OnOk result (out.new ≡ with_news cut (self.now ∷ []) out.old) }
         ensures room { out.new.controls ≡ out.old.controls }
+        ensures entries { out.new.entries ≡ out.old.entries }
     {
         let cause = self.phase.cause_at(cut, self.floor);
         show_break(self.queue.control(), self.floor, cause, alloc, out)?;
@@ -233,6 +238,7 @@ fn show_break(
 ) -> Result<(), NoMemory>
     ensures ok { OnOk result (out.new ≡ record out.old { breaks = out.old.breaks ++ reported control floor cause }) }
     ensures room { out.new.controls ≡ out.old.controls }
+    ensures entries { out.new.entries ≡ out.old.entries }
 {
     match cause {
         Some(cause) => out.add_break(alloc, control, floor, cause),

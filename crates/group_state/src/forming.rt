@@ -51,6 +51,7 @@ pub fn announce(
 ) -> Result<(), NoMemory>
     ensures ok { OnOk result (out.new ≡ with_news cut controls.now out.old) }
     ensures room { out.new.controls ≡ out.old.controls }
+    ensures entries { out.new.entries ≡ out.old.entries }
 {
     for k in 0..controls.len() {
         controls[k].announce(alloc, cut, out)?;

@@ -1,13 +1,14 @@
 //! The state that the readers and the mover share.
 
-ghost use Rattle.std.specs.Prelude.{◌≡◌, ◌≢◌, ◌↔◌, ◌<◌, ◌≤◌, length, nat_lt, true, false, IfOk, IsTrue};
+ghost use Rattle.std.specs.Prelude.{◌≡◌, ◌≢◌, ◌↔◌, ℕ, ◌<◌, ◌≤◌, [], length, nat_lt, true, false, IfOk, IfSome, IsTrue};
 ghost use Rattle.ckd_track.specs.declared.write.Batch.{Batch as BatchIs};
+ghost use Rattle.change_map.specs.Sets.{size};
 ghost use Rattle.pending_queue.specs.declared.room.Room.{Room};
 ghost use Rattle.pending_queue.specs.Entries.{all_keep_rules};
 ghost use Rattle.group_state.specs.declared.joining.Joining.TheVariants as joining;
 ghost use Rattle.group_state.specs.declared.joining.CopyJoin.TheVariants as copying;
 ghost use Rattle.group_state.specs.declared.joining.Forming.TheVariants as formings;
-ghost use Rattle.group_state.specs.Volumes.{is_wanted, next_wanted, owed};
+ghost use Rattle.group_state.specs.Volumes.{volume_of, is_wanted, next_wanted, owed};
 ghost use Rattle.group_state.specs.Controls.{is_telling, fits, fits_track, room_of};
 ghost use Rattle.group_state.specs.Groups.{new_group, control_at, cut_of, gives_nothing, shown_at, shown_in};
 ghost use Rattle.group_state.specs.Sound.{MayTell, MayJoin, MayCarry, is_track_within, is_dropped};
@@ -74,6 +75,15 @@ impl GroupState {
         })
     }
 
+    /// How many controls there are.
+    pub fn controls(&self) -> u16
+        ensures count { result ≡ length self.now.controls }
+        ensures some { 1 ≤ result }
+        ensures few { result ≤ 16 }
+    {
+        self.controls.len() as u16
+    }
+
     /// Joins a batch. Its writes on volumes that are carried wait, but for those on tracks that a copy still wants; those on
     /// dropped volumes go into the map. Held exactly where the carried writes don't fit the control's free room. A batch that
     /// isn't joined comes back.
@@ -97,6 +107,8 @@ impl GroupState {
     pub fn next_wanted(&self, control: u16) -> Option<(u16, u32)>
         requires control { control < length self.now.controls }
         ensures step { steps self.now (NextWanted control) (Wanted result) self.now }
+        ensures wanted { IfSome result (λ p. is_wanted p.0 p.1 (control_at self.now control).volumes ≡ true) }
+        ensures none { (result ≡ None) ↔ ((v x : ℕ) → is_wanted v x (control_at self.now control).volumes ≡ false) }
     {
         self.controls[control as usize].next_wanted()
     }
@@ -179,6 +191,7 @@ impl GroupState {
         requires control { control < length self.old.controls }
         requires dropped { IsTrue (is_dropped volume (control_at self.old control).volumes) }
         ensures step { steps self.old (Resume control volume) (Owed result) self.new }
+        ensures owed { IfSome (volume_of volume (control_at self.old control).volumes) (λ u. result ≡ size u.map) }
     {
         self.controls[control as usize].resume(volume)
     }
@@ -198,6 +211,7 @@ impl GroupState {
         requires limit { self.old.last.0 ≤ limit.0 }
         requires room { length self.old.controls ≤ out.old.controls }
         ensures step { steps self.old (Form limit) (form_reply result (shown_in out.new)) self.new }
+        ensures unformed { result ≡ formings.NoMemory → out.new.entries ≡ [] }
         ensures nothing { result ≢ formings.NoMemory → (result ≡ formings.Nothing) ↔ (gives_nothing self.old limit ≡ true) }
         ensures room { out.new.controls ≡ out.old.controls }
     {

@@ -34,6 +34,12 @@ pub fn copies()
     ensures twice { reply_to (after_all (new_group 1 2 2) (Carry 0 0 both_wanted ∷ copy 0 0 ∷ [])) (copy 0 0) ≡ Stale }
 {}
 
+/// The next wanted track is that of the first volume that wants one; a dropped volume wants none.
+pub fn next_tracks()
+    ensures second { reply_to (after_all (new_group 1 2 2) (Carry 0 0 none_wanted ∷ Carry 0 1 both_wanted ∷ [])) (NextWanted 0) ≡ Wanted (Some (1, 0)) }
+    ensures dropped { reply_to (after_all (new_group 1 2 2) (Carry 0 0 both_wanted ∷ Drop 0 0 false ∷ [])) (NextWanted 0) ≡ Wanted None }
+{}
+
 /// A plan is done once its last track is formed, and not when that was joined; a plan that owes nothing is done at once.
 pub fn done_plans()
     ensures at_once { (shown_at (record { 0 = 9 }) (after (new_group 1 2 2) (Carry 0 0 none_wanted))).done ≡ (0, 0) ∷ [] }
@@ -50,6 +56,7 @@ pub fn resumes()
     ensures written_since { reply_to (after_all two_controls (raise 1 0x40 ∷ Form (record { 0 = 0x40 }) ∷ Drop 0 0 false ∷ Join (batch 0 (whole_on 1 0x41 ∷ []) 0x41) ∷ [])) (Resume 0 0) ≡ Owed 1 }
     ensures all { reply_to (after_all two_controls (raise 1 0x40 ∷ Form (record { 0 = 0x40 }) ∷ Drop 0 0 true ∷ [])) (Resume 0 0) ≡ Owed 2 }
     ensures wanted { reply_to (after_all two_controls (Form (record { 0 = 0x15 }) ∷ Drop 0 0 false ∷ Resume 0 0 ∷ [])) (NextWanted 0) ≡ Wanted (Some (0, 1)) }
+    ensures wanted_before { reply_to (after_all (new_group 1 2 2) (Carry 0 0 both_wanted ∷ Drop 0 0 false ∷ [])) (Resume 0 0) ≡ Owed 0 }
     ensures forgotten { reply_to (after_all two_controls (Drop 0 0 false ∷ Forget 0 0 ∷ Carry 0 0 none_wanted ∷ Drop 0 0 false ∷ [])) (Resume 0 0) ≡ Owed 0 }
 {}
 

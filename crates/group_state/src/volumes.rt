@@ -167,6 +167,7 @@ pub fn show_done(
 ) -> Result<(), NoMemory>
     ensures ok { OnOk result (out.new ≡ record out.old { done = out.old.done ++ numbers_of queue.now.control (filter (is_done_after cut queue.now.waiting) volumes.now) }) }
     ensures room { out.new.controls ≡ out.old.controls }
+    ensures entries { out.new.entries ≡ out.old.entries }
 {
     for place in 0..volumes.len() {
         if volumes[place].is_done_after(queue, cut) {
