@@ -1,14 +1,14 @@
 -- A form shows exactly the volumes whose plans are done after it, each once.
-use Rattle.std.proofs.Common.{◌≡◌, ℕ, zero, suc, ◌+◌, ◌<◌, Bool, true, false, not, cond, nat_eq, ◌&&◌, ◌||◌, List, [], ◌∷◌, ◌++◌, length, get_or, map, Option, Some, None, refl, sym, ap, subst, ◌∙◌, arith}
+use Rattle.std.proofs.Common.{inl, inr, ◌≡◌, ℕ, zero, suc, ◌+◌, ◌<◌, ◌≤◌, ◌⊎◌, Bool, true, false, not, cond, nat_eq, ◌&&◌, ◌||◌, List, [], ◌∷◌, ◌++◌, length, get_or, map, Option, Some, None, refl, sym, ap, subst, ◌∙◌, arith}
 use Rattle.std.specs.Prelude.{◌==◌, filter}
 use Rattle.std.specs.List.{list_all, list_any, count_by, flat_map, range_with_len}
 use Rattle.std.proofs.Math.Bool.{and-false, and-true}
-use Rattle.std.proofs.lemmas.Bool.{and_parts, or_parts, not-true, eqb-true, eq-eqb, ne_eqb, lt-ltb}
+use Rattle.std.proofs.lemmas.Bool.{cases_lt, and_parts, or_parts, not-true, eqb-true, eq-eqb, ne_eqb, lt-ltb}
 use Rattle.change_map.specs.Sets.{has_track, size}
 use Rattle.pending_queue.specs.Entries.{is_copy_of}
 use Rattle.cut_core.specs.Events.{Event}
 use Rattle.cut_core.specs.Events.Event.{Form as Forms}
-use Rattle.cut_core.specs.Shares.{share}
+use Rattle.cut_core.specs.Shares.{Share, share}
 use Rattle.cut_core.specs.Groups.{waiting_in}
 use Rattle.cut_core.specs.Once.{is_of}
 use Rattle.group_state.specs.declared.volume.Volume.{Volume}
@@ -75,18 +75,26 @@ other_count k v c other =
     ∙ ap (λ (b : Bool). count_by (λ u. is_volume_done u && (b && is_numbered v u)) c.volumes) other
     ∙ count_none (λ u. is_volume_done u && false) c.volumes (all_true (λ u. not (is_volume_done u && false)) c.volumes (λ u. ap not (and-false (is_volume_done u))))
 
-none_count : (k v first : ℕ) (controls : List ControlState) (d : ControlState) → ((i : ℕ) → i < length controls → (get_or controls i d).queue.control ≡ first + i) → k < first → count_by (is_named k v) (flat_map done_of controls) ≡ 0
-none_count k v first [] d numbers lt = refl
-none_count k v first (c ∷ controls) d numbers lt =
-    let here = other_count k v c (ne_eqb c.queue.control k (λ e. omega (arith, e, numbers 0 (omega arith)))) in
-    let rest = none_count k v (first + 1) controls d (λ i below. numbers (suc i) (omega arith) ∙ omega arith) (omega arith) in
+none_count : (k v first : ℕ) (controls : List ControlState) (d : ControlState) → ((i : ℕ) → i < length controls → (get_or controls i d).queue.control ≡ first + i) → (k < first) ⊎ (first + length controls ≤ k)
+    → count_by (is_named k v) (flat_map done_of controls) ≡ 0
+none_count k v first [] d numbers outside = refl
+none_count k v first (c ∷ controls) d numbers outside =
+    let others : (k < first + 1) ⊎ (first + 1 + length controls ≤ k) = elim outside [
+      | inl lt ↦ inl (omega (arith, lt))
+      | inr past ↦ inr (omega (arith, past))
+    ] in
+    let here = other_count k v c (ne_eqb c.queue.control k (λ e. elim outside [
+      | inl lt ↦ omega (arith, lt, e, numbers 0 (omega arith))
+      | inr past ↦ omega (arith, past, e, numbers 0 (omega arith))
+    ])) in
+    let rest = none_count k v (first + 1) controls d (λ i below. numbers (suc i) (omega arith) ∙ omega arith) others in
     omega (arith, here, rest, count_append (is_named k v) (done_of c) (flat_map done_of controls))
 
 all_count : (k v first i : ℕ) (controls : List ControlState) (d : ControlState) → ((i : ℕ) → i < length controls → (get_or controls i d).queue.control ≡ first + i) → i < length controls → first + i ≡ k
     → count_by (is_named k v) (flat_map done_of controls) ≡ count_by (is_named k v) (done_of (get_or controls i d))
 all_count k v first i [] d numbers lt is = absurd (omega arith)
 all_count k v first zero (c ∷ controls) d numbers lt is =
-    let rest = none_count k v (first + 1) controls d (λ i below. numbers (suc i) (omega arith) ∙ omega arith) (omega arith) in
+    let rest = none_count k v (first + 1) controls d (λ i below. numbers (suc i) (omega arith) ∙ omega arith) (inl (omega arith)) in
     omega (arith, rest, count_append (is_named k v) (done_of c) (flat_map done_of controls))
 all_count k v first (suc i) (c ∷ controls) d numbers lt is =
     let here = other_count k v c (ne_eqb c.queue.control k (λ e. omega (arith, e, is, numbers 0 (omega arith)))) in
@@ -121,7 +129,7 @@ copies_wait k v past c h =
     ∙ any_of (is_of k) (is_copy_on k v) (waiting_in [] past) (λ e other. rw other refl)
 
 -- what all volumes pass, a found one passes
-found_passes : (test : Volume → Bool) (v : ℕ) (volumes : List Volume) → list_all test volumes ≡ true → passes_or_none test (volume_of v volumes) ≡ true
+pub found_passes : (test : Volume → Bool) (v : ℕ) (volumes : List Volume) → list_all test volumes ≡ true → passes_or_none test (volume_of v volumes) ≡ true
 found_passes test v [] all = refl
 found_passes test v (u ∷ volumes) all =
     let parts = and_parts (test u) (list_all test volumes) all in
@@ -160,11 +168,12 @@ done_is k v tracks past c h sound told = by_option (volume_of v c.volumes) (h.vo
 -- ---- the form
 
 pub done_plans_are_shown : DonePlansAreShown
-done_plans_are_shown n before later limit shown k v below f =
+done_plans_are_shown n before later limit shown k v f =
     let first = new_group n f.records f.blocks in
     let parts = split first before (answered limit f.reply ∷ later) f.last f.runs in
     let middle = parts.middle in
     let cut = cut_of middle limit in
+    let past = history before ++ Forms cut.0 ∷ [] in
     let stands = stands_after n [] first before middle (stands_first n f.records f.blocks) parts.first in
     let after = stands_formed n (history before) middle limit stands parts.second.1 in
     let state = formed_at cut middle in
@@ -172,9 +181,13 @@ done_plans_are_shown n before later limit shown k v below f =
     let tracks = tracks_told k v before in
     let have = tracks_after n [] before first middle (first_tracks n f.records f.blocks) (stands_first n f.records f.blocks) parts.first in
     let told : passes_or_none (has_tracks tracks) (volume_of v c.volumes) ≡ true = forms (λ k v. tracks_told k v before) middle have cut k v in
-    let counted : count_by (is_named k v) (shown_at cut middle).done ≡ cond (is_plan_done k v tracks (history before ++ Forms cut.0 ∷ [])) 1 0 =
-    all_count k v 0 k state.controls (new_control 0 0 0) (λ i lt. after.numbers i (omega (arith, lt, after.follows.count)) ∙ omega arith) (omega (arith, below, after.follows.count)) (omega arith)
-    ∙ own_count k v c (after.numbers k below) (after.sound k below).distinct
-    ∙ ap (λ (b : Bool). cond {A = ℕ} b 1 0) (done_is k v tracks (history before ++ Forms cut.0 ∷ []) c (after.follows.each k below) (after.sound k below) told) in
+    let numbers : (i : ℕ) → i < length state.controls → (control_at state i).queue.control ≡ 0 + i = λ i lt. after.numbers i (omega (arith, lt, after.follows.count)) ∙ omega arith in
+    let counted : count_by (is_named k v) (shown_at cut middle).done ≡ cond (is_plan_done k v tracks past) 1 0 = elim (cases_lt k n) [
+      | inl below ↦ all_count k v 0 k state.controls (new_control 0 0 0) numbers (omega (arith, below, after.follows.count)) (omega arith)
+          ∙ own_count k v c (after.numbers k below) (after.sound k below).distinct
+          ∙ ap (λ (b : Bool). cond {A = ℕ} b 1 0) (done_is k v tracks past c (after.follows.each k below) (after.sound k below) told)
+      | inr beyond ↦ none_count k v 0 state.controls (new_control 0 0 0) numbers (inr (omega (arith, beyond, after.follows.count)))
+          ∙ ap (λ (s : Share). cond {A = ℕ} (s.is_carried && list_all (λ x. not (share k v x past).is_wanted) (range_with_len 0 tracks) && not (list_any (is_copy_on k v) (waiting_in [] past))) 1 0) (sym (after.beyond k v 0 beyond))
+    ] in
     subst (λ (shown : Shown). count_by (is_named k v) shown.done ≡ cond (is_plan_done k v tracks (history before ++ Forms shown.cut.0 ∷ [])) 1 0)
     (form_shows middle limit f.reply shown parts.second.0 f.shows parts.second.2) counted

@@ -8,6 +8,7 @@ use Rattle.std.proofs.lemmas.List.Sums.{fold_push}
 use Rattle.tod_stamp.specs.declared.stamp.Stamp.{Stamp}
 use Rattle.cut_core.specs.Events.{Event, floor, has_broken, is_done, is_live}
 use Rattle.cut_core.specs.Events.Event.{Form}
+use Rattle.cut_core.specs.Shares.{Share, share_by}
 use Rattle.cut_core.specs.Groups.{Entry, waiting_in, group}
 use Rattle.cut_core.specs.Legal.{is_legal_next, least_floor}
 use Rattle.cut_core.proofs.Filters.{all_filter}
@@ -27,6 +28,7 @@ use Rattle.group_history.specs.Laws.{ends_at, named, break_in, IsGroupOf}
 use Rattle.group_history.proofs.Seen.{seen_order}
 use Rattle.group_history.proofs.ByControl.{by_control, order_by_control, due_seen}
 use Rattle.group_history.proofs.Told.{at_cut}
+use Rattle.group_history.proofs.Elsewhere.{share_snoc}
 use Rattle.group_history.proofs.Controls.{control_formed}
 use Rattle.group_history.proofs.Stands.{are_below, Stands, below_next}
 
@@ -72,6 +74,7 @@ stands_formed n past s limit h le =
       numbers = λ k lt. ap (λ (c : ControlState). c.queue.control) (formed_control n past s cut k h lt) ∙ h.numbers k lt;
       sound = λ k lt. subst Sound (sym (formed_control n past s cut k h lt)) (sound_formed cut (control_at s k) (h.sound k lt));
       below = below_next n past x h.below refl;
+      beyond = λ k v y le. share_snoc k v y past x ∙ ap (λ (t : Share). share_by k v y t x) (h.beyond k v y le);
     }
 
 -- ---- what it shows

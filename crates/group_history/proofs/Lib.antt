@@ -14,3 +14,4 @@ pub mod WorkedRuns
 pub mod Tracks
 pub mod DonePlans
 pub mod CopiedTracks
+pub mod Sizes

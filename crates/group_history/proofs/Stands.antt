@@ -1,13 +1,14 @@
 -- What is kept through a run: the state follows the history, controls stand by their numbers and keep their rules, and all that
 -- waits is of one of them. A call on one control keeps it.
-use Rattle.std.proofs.Common.{inl, inr, ◌≡◌, ℕ, zero, suc, ◌+◌, ◌<◌, Bool, true, false, nat_eq, nat_lt, List, [], ◌∷◌, ◌++◌, length, get_or, map, refl, sym, ap, subst, ◌∙◌, arith, length-set}
+use Rattle.std.proofs.Common.{inl, inr, ◌≡◌, ℕ, zero, suc, ◌+◌, ◌<◌, ◌≤◌, Bool, true, false, nat_eq, nat_lt, List, [], ◌∷◌, ◌++◌, length, get_or, map, refl, sym, ap, subst, ◌∙◌, arith, length-set}
 use Rattle.std.specs.Prelude.{filter}
 use Rattle.std.specs.List.{list_all}
-use Rattle.std.proofs.lemmas.Bool.{cases_Bool, and_from, eqb-true, eqb-false, lt-ltb}
+use Rattle.std.proofs.lemmas.Bool.{cases_Bool, and_from, eqb-true, eqb-false, ne_eqb, lt-ltb}
 use Rattle.std.proofs.lemmas.List.{get_or-set_same, get_or-set_other}
 use Rattle.std.proofs.lemmas.List.Folds.{list_all-append}
 use Rattle.ckd_track.specs.declared.write.Write.{Write}
 use Rattle.cut_core.specs.Events.{Event, cut_after, last_cut}
+use Rattle.cut_core.specs.Shares.{no_share, share}
 use Rattle.cut_core.specs.Groups.{Entry, entry_of, carried_by, waiting_in}
 use Rattle.cut_core.specs.Legal.{is_legal_next}
 use Rattle.cut_core.proofs.Filters.{all_filter}
@@ -17,7 +18,7 @@ use Rattle.group_state.specs.Controls.{ControlState, new_control}
 use Rattle.group_state.specs.Groups.{Group, new_controls, new_group, control_at, with_control}
 use Rattle.group_state.specs.Sound.{Sound}
 use Rattle.group_history.specs.Follows.{IsControlOf, Follows}
-use Rattle.group_history.proofs.Elsewhere.{IsElsewhere, control_aside}
+use Rattle.group_history.proofs.Elsewhere.{IsElsewhere, control_aside, share_snoc}
 
 -- all entries are of the first controls
 abbrev pub are_below : (controls : ℕ) → List Entry → Bool
@@ -28,6 +29,8 @@ pub record Stands (n : ℕ) (past : List Event) (s : Group) : Type 0 where
   pub numbers : (k : ℕ) → k < n → (control_at s k).queue.control ≡ k
   pub sound : (k : ℕ) → k < n → Sound (control_at s k)
   pub below : are_below n (waiting_in [] past) ≡ true
+  -- the history has nothing of any other control
+  pub beyond : (k v x : ℕ) → n ≤ k → share k v x past ≡ no_share
 
 pub below_next : (n : ℕ) (past : List Event) (x : Event) → are_below n (waiting_in [] past) ≡ true → are_below n (carried_by past x) ≡ true → are_below n (waiting_in [] (past ++ x ∷ [])) ≡ true
 below_next n past x waits carried =
@@ -65,6 +68,7 @@ stands_next n past x j change s h lt legal cut elsewhere carried number sound co
       numbers = at_each (λ k c. k < n → c.queue.control ≡ k) s j change within (λ below. number ∙ h.numbers j lt) (λ k other below. h.numbers k below);
       sound = at_each (λ k c. k < n → Sound c) s j change within (λ below. sound) (λ k other below. h.sound k below);
       below = below_next n past x h.below carried;
+      beyond = λ k v y le. share_snoc k v y past x ∙ (elsewhere k (ne_eqb j k (λ e. omega (arith, e, lt, le)))).shares v y (share k v y past) ∙ h.beyond k v y le;
     }
 
 -- ---- the first state
@@ -103,4 +107,5 @@ stands_first n records blocks =
       numbers = λ k lt. ap (λ (c : ControlState). c.queue.control) (at k lt);
       sound = λ k lt. subst Sound (sym (at k lt)) (new_sound k records blocks);
       below = refl;
+      beyond = λ k v x past. refl;
     }

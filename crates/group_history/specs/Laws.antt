@@ -1,5 +1,5 @@
 -- The laws of runs. Each is the contract of a public function without parameters.
-use Rattle.std.specs.Prelude.{◌≡◌, ℕ, ◌<◌, ◌&&◌, not, List, [], ◌∷◌, ◌++◌, length, map, filter, fold, count_by, Bool, Some, nat_lt, nat_le, if◌then◌else◌, IsTrue}
+use Rattle.std.specs.Prelude.{◌≡◌, ℕ, ◌<◌, ◌&&◌, not, List, [], ◌∷◌, ◌++◌, length, map, filter, fold, count_by, Bool, Some, nat_lt, nat_le, if◌then◌else◌, IfSome, IsTrue}
 use Rattle.std.specs.List.{list_all, list_any, range_with_len, All, Contains}
 use Rattle.tod_stamp.specs.declared.stamp.Stamp.{Stamp}
 use Rattle.ckd_track.specs.declared.rec.Rec.{Rec}
@@ -13,10 +13,14 @@ use Rattle.cut_core.specs.Shares.{names_volume, share}
 use Rattle.cut_core.specs.Groups.{Entry, is_copy, stands_before, waiting_in, group}
 use Rattle.cut_core.specs.Legal.{least_floor}
 use Rattle.cut_core.specs.Cuts.{kept_writes}
-use Rattle.group_state.specs.Groups.{Group, Shown, new_group}
+use Rattle.group_state.specs.declared.volume.Volume.{Volume}
+use Rattle.group_state.specs.Volumes.{volume_of}
+use Rattle.group_state.specs.Controls.{ControlState}
+use Rattle.group_state.specs.Groups.{Group, Shown, new_group, control_at}
+use Rattle.group_state.specs.Sound.{are_distinct}
 use Rattle.group_state.specs.Machine.{Call, Reply}
-use Rattle.group_state.specs.Machine.Call.{Join, Copied, Break, Form, Carry}
-use Rattle.group_state.specs.Machine.Reply.{Made, Joined}
+use Rattle.group_state.specs.Machine.Call.{Join, Copied, Break, Form, Carry, Resume}
+use Rattle.group_state.specs.Machine.Reply.{Made, Joined, Owed}
 use Rattle.group_history.specs.Runs.{Answer, Runs, history, shown_by}
 use Rattle.group_history.specs.Follows.{AreSeen, Follows}
 
@@ -107,8 +111,41 @@ is_named k v shown = names_volume shown.0 shown.1 k v
 
 -- A form shows exactly the volumes whose plans are done after it, each once.
 abbrev pub DonePlansAreShown : Type 0
-DonePlansAreShown = (controls : ℕ) (before later : List Answer) (limit : Stamp) (shown : Shown) (k v : ℕ) → k < controls → HasForm controls before later limit shown
+DonePlansAreShown = (controls : ℕ) (before later : List Answer) (limit : Stamp) (shown : Shown) (k v : ℕ) → HasForm controls before later limit shown
     → count_by (is_named k v) shown.done ≡ (if is_plan_done k v (tracks_told k v before) (history before ++ Forms shown.cut.0 ∷ []) then 1 else 0)
+
+-- ---- sizes and numbers
+
+-- A volume is of so many tracks, in its map and in its plan.
+pub record IsOfTracks (tracks : ℕ) (u : Volume) : Type 0 where
+  pub mapped : length u.map ≡ tracks
+  pub planned : length u.plan.wanted ≡ tracks
+
+-- A volume that is kept is of as many tracks as the plan with which it began to be carried last.
+abbrev pub SizesAreTold : Type 0
+SizesAreTold = (controls records blocks : ℕ) (run : List Answer) (s : Group) (k v : ℕ) → Runs (new_group controls records blocks) run s → IfSome (volume_of v (control_at s k).volumes) (IsOfTracks (tracks_told k v run))
+
+-- A control stands under its number, and no two of its volumes have one number.
+pub record IsNumbered (k : ℕ) (c : ControlState) : Type 0 where
+  pub control : c.queue.control ≡ k
+  pub volumes : IsTrue (are_distinct c.volumes)
+
+abbrev pub NumbersAreKept : Type 0
+NumbersAreKept = (controls records blocks : ℕ) (run : List Answer) (s : Group) (k : ℕ) → k < controls → Runs (new_group controls records blocks) run s → IsNumbered k (control_at s k)
+
+-- ---- resumes
+
+abbrev pub resumed : (k v owed : ℕ) → Answer
+resumed k v n = record { call = Resume k v; reply = Owed n }
+
+-- how many of a volume's tracks the history has mapped
+abbrev pub mapped_of : (k v tracks : ℕ) → List Event → ℕ
+mapped_of k v tracks past = count_by (λ x. (share k v x past).is_mapped) (range_with_len 0 tracks)
+
+-- A resume tells how many of the volume's tracks the history before it has mapped.
+abbrev pub ResumesOweMapped : Type 0
+ResumesOweMapped = (controls records blocks : ℕ) (before later : List Answer) (s : Group) (k v n : ℕ) → Runs (new_group controls records blocks) (before ++ resumed k v n ∷ later) s
+    → n ≡ mapped_of k v (tracks_told k v before) (history before)
 
 -- ---- no late join
 

@@ -5,7 +5,9 @@
 mod laws;
 pub mod vectors;
 
-pub use laws::{forms_give_groups, runs_are_histories, runs_keep_to_cuts};
+pub use laws::{
+    forms_give_groups, resumes_owe_mapped, runs_are_histories, runs_keep_to_cuts, sizes_are_told,
+};
 
 #[cfg(test)]
 mod tests;

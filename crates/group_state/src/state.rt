@@ -206,7 +206,8 @@ impl GroupState {
     }
 
     /// Forms a group at the least of the limit and the floors of all controls whose break isn't reported. Nothing exactly
-    /// where this cut is the last one, no entry up to it waits, and no break at it is unreported.
+    /// where this cut is the last one, no entry up to it waits, and no break at it is unreported. After want of memory the
+    /// group has no entry.
     pub fn form(&mut self, alloc: Global, limit: Stamp, out: &mut Formed) -> Forming
         requires limit { self.old.last.0 ≤ limit.0 }
         requires room { length self.old.controls ≤ out.old.controls }
