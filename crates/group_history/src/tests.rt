@@ -10,7 +10,7 @@ ghost use Rattle.group_history.specs.Runs.{MayCopy};
 ghost use Rattle.group_state.specs.Vectors.{whole_on, batch, none_wanted, both_wanted, update_of};
 
 use change_map::ChangeMap;
-use ckd_track::{Batch, Cause, Kind, Slot, Track, Write, WriteList};
+use ckd_track::{Batch, Cause, Kind, Rec, Slot, Track, Write, WriteList};
 use copy_plan::CopyPlan;
 use group_state::{CopyJoin, Forming, GroupState, Joining};
 use pending_queue::{Formed, Room};
@@ -130,24 +130,64 @@ fn long_update(alloc: Global) -> Result<Batch, NoMemory>
     batch_of(alloc, 0, write, 9)
 }
 
-/// Volume 0 of control 0 begins to be carried with a plan that wants both of its tracks.
-fn carry_wanted(alloc: Global, state: &mut GroupState) -> Result<(), NoMemory>
+/// A volume of control 0 begins to be carried with a plan that wants both of its tracks.
+fn carry_wanted(alloc: Global, state: &mut GroupState, volume: u16) -> Result<(), NoMemory>
     requires control { 0 < length state.old.controls }
-    requires may { MayCarry (control_at state.old 0) 0 both_wanted }
-    ensures { IfOk result (λ done. state.new ≡ after state.old (Carry 0 0 both_wanted)) }
+    requires may { MayCarry (control_at state.old 0) volume both_wanted }
+    ensures { IfOk result (λ done. state.new ≡ after state.old (Carry 0 volume both_wanted)) }
 {
     let plan = CopyPlan::first(alloc, 2)?;
-    state.carry(alloc, 0, 0, plan, ChangeMap::make(alloc, 2)?)
+    state.carry(alloc, 0, volume, plan, ChangeMap::make(alloc, 2)?)
 }
 
-/// A wanted track of volume 0 that fits is copied at the floor.
-fn copy(rt: &impl Abort, alloc: Global, state: &mut GroupState, track: u32, at: u64, slot: &Slot)
+/// A wanted track of control 0 that fits is copied at the floor.
+fn copy(
+    rt: &impl Abort,
+    alloc: Global,
+    state: &mut GroupState,
+    volume: u16,
+    track: u32,
+    at: u64,
+    slot: &Slot,
+)
     requires control { 0 < length state.old.controls }
-    requires may { MayCopy (control_at state.old 0) 0 track (record { 0 = at }) }
-    ensures { state.new ≡ after state.old (Copied 0 0 track (record { 0 = at }) slot.now) }
+    requires may { MayCopy (control_at state.old 0) volume track (record { 0 = at }) }
+    ensures { state.new ≡ after state.old (Copied 0 volume track (record { 0 = at }) slot.now) }
 {
-    let copied = state.copied(alloc, 0, 0, track, Stamp(at), slot);
+    let copied = state.copied(alloc, 0, volume, track, Stamp(at), slot);
     assert_eq!(rt; copied, CopyJoin::Joined);
+}
+
+/// A batch of three writes that empty tracks.
+fn three_writes(alloc: Global) -> Result<Batch, NoMemory>
+    ensures { IfOk result (λ made. made ≡ batch 0 (whole_on 0 0x10 ∷ whole_on 1 0x11 ∷ whole_on 0 0x12 ∷ []) 0x12) }
+{
+    let mut writes = WriteList::make(alloc);
+    writes.push(alloc, whole(alloc, 0, 0x10))?;
+    writes.push(alloc, whole(alloc, 1, 0x11))?;
+    writes.push(alloc, whole(alloc, 0, 0x12))?;
+    Ok(Batch {
+        control: 0,
+        writes,
+        upto: Stamp(0x12),
+    })
+}
+
+/// A slot with a track of one record.
+fn slot_of_one(rt: &impl Abort, alloc: Global) -> Result<Slot, NoMemory>
+    ensures { IfOk result (λ slot. slot ≡ record { number = 1; key = []; content = replicate 3 7 } ∷ []) }
+{
+    let rec = Rec {
+        number: 1,
+        key: Bytes::make(alloc),
+        content: filled(alloc, 3)?,
+    };
+    let mut track = Track::make(alloc);
+    assert!(rt; track.fits(&rec));
+    track.push(alloc, rec)?;
+    let mut slot = Slot::make(alloc)?;
+    slot.set(&track);
+    Ok(slot)
 }
 
 /// The slower control holds the cut back.
@@ -214,9 +254,9 @@ fn a_copied_track_is_held_without_room(rt: HostRuntime) -> Result<(), Fail> {
     let alloc = rt.alloc();
     let mut state = GroupState::make(alloc, 1, 1, 1)?;
     let slot = Slot::make(alloc)?;
-    carry_wanted(alloc, &mut state)?;
+    carry_wanted(alloc, &mut state, 0)?;
     assert_eq!(rt; state.next_wanted(0), Some((0, 0)));
-    copy(&rt, alloc, &mut state, 0, 0, &slot);
+    copy(&rt, alloc, &mut state, 0, 0, 0, &slot);
     assert_eq!(rt; state.next_wanted(0), Some((0, 1)));
     let copied = state.copied(alloc, 0, 0, 1, Stamp(0), &slot);
     let none = Room {
@@ -239,9 +279,9 @@ fn a_resumed_volume_copies_what_was_written(rt: HostRuntime) -> Result<(), Fail>
     state.drop_volume(0, 0, false);
     join(&rt, alloc, &mut state, one_write(alloc, 0, 1, 0x20, 0x20)?);
     assert_eq!(rt; state.resume(0, 0), 2);
-    copy(&rt, alloc, &mut state, 0, 0x20, &slot);
+    copy(&rt, alloc, &mut state, 0, 0, 0x20, &slot);
     assert_eq!(rt; state.next_wanted(0), Some((0, 1)));
-    copy(&rt, alloc, &mut state, 1, 0x20, &slot);
+    copy(&rt, alloc, &mut state, 0, 1, 0x20, &slot);
     form(&rt, alloc, &mut state, 0x20, &mut out);
     assert_shown(&rt, &out, &[(0, 0), (0, 1)]);
     assert_eq!(rt; out.done_at(0), Some((0, 0)));
@@ -286,5 +326,37 @@ fn a_break_is_reported_once(rt: HostRuntime) -> Result<(), Fail> {
     form(&rt, alloc, &mut state, 0x50, &mut out);
     assert_eq!(rt; out.cut(), Stamp(0x50));
     assert_eq!(rt; out.break_at(0), None);
+    Ok(())
+}
+
+/// One form has all writes of a batch on one volume, the copied track of another, and two breaks at one time.
+#[test]
+fn two_volumes_and_two_breaks(rt: HostRuntime) -> Result<(), Fail> {
+    let alloc = rt.alloc();
+    let mut state = GroupState::make(alloc, 3, 32, 3_552)?;
+    let mut out = Formed::make(alloc, 3)?;
+    let slot = slot_of_one(&rt, alloc)?;
+    assert_eq!(rt; state.controls(), 3);
+    carry(alloc, &mut state, 0)?;
+    carry_wanted(alloc, &mut state, 1)?;
+    join(&rt, alloc, &mut state, three_writes(alloc)?);
+    assert_eq!(rt; state.next_wanted(0), Some((1, 0)));
+    state.broken(1, Stamp(0x12), Cause::ReadFault);
+    state.broken(2, Stamp(0x12), Cause::ReadFault);
+    copy(&rt, alloc, &mut state, 1, 0, 0x12, &slot);
+    assert_eq!(rt; state.next_wanted(0), Some((1, 1)));
+    form(&rt, alloc, &mut state, 0x40, &mut out);
+    assert_eq!(rt; out.cut(), Stamp(0x12));
+    assert_shown(&rt, &out, &[(0, 0), (0, 1), (0, 0), (0, 0)]);
+    assert!(rt; out.count() == 4);
+    assert_eq!(rt; out.head(2).volume, 0);
+    assert_eq!(rt; out.head(3).volume, 1);
+    assert!(rt; 15 < out.entry(3).len());
+    assert_eq!(rt; &out.entry(3)[15..], slot.bytes());
+    assert_eq!(rt; out.break_at(0), Some((1, Stamp(0x12), Cause::ReadFault)));
+    assert_eq!(rt; out.break_at(1), Some((2, Stamp(0x12), Cause::ReadFault)));
+    assert_eq!(rt; out.break_at(2), None);
+    assert_eq!(rt; out.done_at(0), Some((0, 0)));
+    assert_eq!(rt; out.done_at(1), None);
     Ok(())
 }
