@@ -1,0 +1,4 @@
+pub mod Asked
+pub mod Going
+pub mod Meaning
+pub mod Saying
