@@ -1,0 +1,120 @@
+use Rattle.std.proofs.Common.{rules, ◌≡◌, ◌≤◌, ℕ, ◌∷◌, [], false, Some, ap, sym, subst, ◌∙◌, arith}
+use Rattle.std.specs.Prelude.{IfErr, Result}
+use Rattle.sidefile.specs.Breaks.{has_broken}
+use Rattle.sidefile.specs.States.{SidefileState}
+use Rattle.pair_table.specs.declared.row.PairState.TheVariants.{Duplex}
+use Rattle.pair_table.specs.Tables.{Table, in_state}
+use Rattle.site_means.specs.Images.{shape_of}
+use Rattle.session_lines.specs.Meanings.{EachMeans, MeanPair}
+use Rattle.xrc_status.specs.declared.stop.Stop.{Stop}
+use Rattle.xrc_session.specs.StopsOf.{IsOfEpoch}
+use Rattle.pair_course.specs.Course.{end_line}
+use Rattle.epoch.proofs.CopySights.{on_ok}
+use Rattle.epoch.proofs.Working.{silent_then}
+use Rattle.xrc_session.specs.Ending.{HoldsNow}
+use Rattle.xrc_session.proofs.Foreseeing.{foresees_same, reached_own}
+use Rattle.xrc_session.proofs.StopLaws.{store_errs_of_epoch}
+use Rattle.xrc_session.proofs.Together.{each_live, ending_then, run_at}
+use Rattle.xrc_session.proofs.ending.bring_to_end.Goals as goal
+
+-- ---- the copy stops
+
+pub returns-in_err-copy-clause-moments : goal.returns-in_err-copy-clause-moments
+returns-in_err-copy-clause-moments g c = λ told run t at_run f.
+    let a = g.P.Plant.state c.args.plant.now in
+    let b = g.P.Plant.state c.copy.new.plant in
+    let site = c.args.site.now in
+    let lane = c.args.lane.now in
+    let even = c.requires.between.lane_goes_on.even in
+    let side : c.copy.new.lane.side.upto ≡ lane.side.upto = ap (λ (s : SidefileState). s.upto) c.copy.ensures.side in
+    let upto : lane.primary.time ≤ c.copy.new.lane.side.upto = omega (arith, even, side) in
+    each_live run t site.time c.args.at.0 c.args.row.now a b
+    (c.copy.ensures.moments told run t (end_line run.session c.args.at.0) at_run (reached_own _ lane c.copy.new.lane.side.upto t f upto c.requires.some) c.requires.later)
+
+pub returns-in_err-copy-clause-of_epoch : goal.returns-in_err-copy-clause-of_epoch
+returns-in_err-copy-clause-of_epoch g c =
+    let same : c.copy.result ≡ c.from_residual.result = search rules in
+    subst (λ (r : Result (Unit {0}) Stop). IfErr r IsOfEpoch) same (store_errs_of_epoch c.copy.result c.copy.ensures.of_store)
+
+-- ---- the following stops
+
+pub returns-in_err-follow-clause-works : goal.returns-in_err-follow-clause-works
+returns-in_err-follow-clause-works g c =
+    silent_then g.P.Plant.tells (g.P.Plant.state c.args.plant.now) (g.P.Plant.state c.copy.new.plant) (g.P.Plant.state c.follow.new.plant) c.copy.ensures.works c.follow.ensures.works
+
+pub returns-in_err-follow-clause-moments : goal.returns-in_err-follow-clause-moments
+returns-in_err-follow-clause-moments g c = λ told run t at_run f.
+    let state = g.P.Plant.state in
+    let site = c.args.site.now in
+    let lane = c.args.lane.now in
+    let mid = c.copy.new.site in
+    let row = c.args.row.now in
+    let end = c.args.at.0 in
+    let even = c.requires.between.lane_goes_on.even in
+    let rises = c.follow.ensures.rises in
+    let side : c.copy.new.lane.side.upto ≡ lane.side.upto = ap (λ (s : SidefileState). s.upto) c.copy.ensures.side in
+    let upto : lane.primary.time ≤ c.follow.new.lane.side.upto = omega (arith, even, rises, side) in
+    let same : mid.time ≡ site.time = c.in_ok-copy.ensures.time in
+    let table : mid.table.session ≡ site.table.session = ap (λ (t : Table). t.session) c.in_ok-copy.ensures.table in
+    ending_then run t site.time end row g.P.Plant.tells told (state c.args.plant.now) (state c.copy.new.plant) (state c.follow.new.plant) c.follow.ensures.works
+    (each_live run t site.time end row (state c.args.plant.now) (state c.copy.new.plant)
+    (c.copy.ensures.moments told run t (end_line run.session end) at_run (reached_own _ lane c.follow.new.lane.side.upto t f upto c.requires.some) c.requires.later))
+    (each_live run t site.time end row (state c.copy.new.plant) (state c.follow.new.plant)
+    (subst (λ (n : ℕ). EachMeans (state c.copy.new.plant) (state c.follow.new.plant) (λ x. MeanPair run t (Some (end_line run.session end)) n row false (shape_of (state c.follow.new.plant)) x)) same
+    (c.follow.ensures.moments told (c.in_ok-copy.ensures.holds told) run t (end_line run.session end) (run_at site.table.session mid.table.session run (sym table) at_run)
+    (foresees_same _ lane c.copy.new.lane c.copy.ensures.side c.copy.ensures.primary t c.follow.new.lane.side.upto f) (omega arith))))
+
+-- ---- the end is marked, or isn't
+
+pub returns-clause-works : goal.returns-clause-works
+returns-clause-works g c =
+    let state = g.P.Plant.state in
+    silent_then g.P.Plant.tells (state c.args.plant.now) (state c.copy.new.plant) (state c.mark_end.new.plant) c.copy.ensures.works
+    (silent_then g.P.Plant.tells (state c.copy.new.plant) (state c.follow.new.plant) (state c.mark_end.new.plant) c.follow.ensures.works c.mark_end.ensures.works)
+
+pub returns-clause-moments : goal.returns-clause-moments
+returns-clause-moments g c = λ told run t at_run f.
+    let state = g.P.Plant.state in
+    let site = c.args.site.now in
+    let lane = c.args.lane.now in
+    let mid = c.copy.new.site in
+    let last = c.follow.new.site in
+    let row = c.args.row.now in
+    let end = c.args.at.0 in
+    let told_left = g.S.Source.left c.args.source.now in
+    let even = c.requires.between.lane_goes_on.even in
+    let rises = c.follow.ensures.rises in
+    let later = c.requires.later in
+    let side : c.copy.new.lane.side.upto ≡ lane.side.upto = ap (λ (s : SidefileState). s.upto) c.copy.ensures.side in
+    let upto : lane.primary.time ≤ c.follow.new.lane.side.upto = omega (arith, even, rises, side) in
+    let same : mid.time ≡ site.time = c.in_ok-copy.ensures.time in
+    let at : last.time ≡ end = c.in_ok-follow.ensures.time in
+    let table : mid.table.session ≡ site.table.session = ap (λ (t : Table). t.session) c.in_ok-copy.ensures.table in
+    let second : last.table.session ≡ site.table.session = ap (λ (t : Table). t.session) c.in_ok-follow.ensures.table ∙ table in
+    let rows : last.table.rows ≡ in_state Duplex row ∷ [] = ap (λ (t : Table). t.rows) c.in_ok-follow.ensures.table ∙ ap (λ (t : Table). t.rows) c.in_ok-copy.ensures.table in
+    let g_copied = foresees_same told_left lane c.copy.new.lane c.copy.ensures.side c.copy.ensures.primary t c.follow.new.lane.side.upto f in
+    let whole : has_broken t last.time ≡ false = subst (λ (n : ℕ). has_broken t n ≡ false) (sym at) (c.in_ok-follow.ensures.whole t g_copied) in
+    let holds : HoldsNow t row last.time (state c.follow.new.plant) = subst (λ (n : ℕ). HoldsNow t row n (state c.follow.new.plant)) (sym at) (c.in_ok-follow.ensures.holds told (c.in_ok-copy.ensures.holds told) t g_copied) in
+    ending_then run t site.time end row g.P.Plant.tells told (state c.args.plant.now) (state c.follow.new.plant) (state c.mark_end.new.plant) c.mark_end.ensures.works
+    (ending_then run t site.time end row g.P.Plant.tells told (state c.args.plant.now) (state c.copy.new.plant) (state c.follow.new.plant) c.follow.ensures.works
+    (each_live run t site.time end row (state c.args.plant.now) (state c.copy.new.plant)
+    (c.copy.ensures.moments told run t (end_line run.session end) at_run (reached_own told_left lane c.follow.new.lane.side.upto t f upto c.requires.some) c.requires.later))
+    (each_live run t site.time end row (state c.copy.new.plant) (state c.follow.new.plant)
+    (subst (λ (n : ℕ). EachMeans (state c.copy.new.plant) (state c.follow.new.plant) (λ x. MeanPair run t (Some (end_line run.session end)) n row false (shape_of (state c.follow.new.plant)) x)) same
+    (c.follow.ensures.moments told (c.in_ok-copy.ensures.holds told) run t (end_line run.session end) (run_at site.table.session mid.table.session run (sym table) at_run) g_copied (omega arith)))))
+    (c.mark_end.ensures.moments told run t row site.time end (run_at site.table.session last.table.session run (sym second) at_run) rows whole holds (omega (arith, at, later)) (omega (arith, at)))
+
+pub returns-clause-holds : goal.returns-clause-holds
+returns-clause-holds g c = λ told t f.
+    let state = g.P.Plant.state in
+    let last = c.follow.new.site in
+    let row = c.args.row.now in
+    let at : last.time ≡ c.args.at.0 = c.in_ok-follow.ensures.time in
+    let rows : last.table.rows ≡ in_state Duplex row ∷ [] = ap (λ (t : Table). t.rows) c.in_ok-follow.ensures.table ∙ ap (λ (t : Table). t.rows) c.in_ok-copy.ensures.table in
+    let g_copied = foresees_same (g.S.Source.left c.args.source.now) c.args.lane.now c.copy.new.lane c.copy.ensures.side c.copy.ensures.primary t c.follow.new.lane.side.upto f in
+    let holds = c.in_ok-follow.ensures.holds told (c.in_ok-copy.ensures.holds told) t g_copied in
+    on_ok c.mark_end.result _ _ (λ now. subst (λ (n : ℕ). HoldsNow t row n (state c.mark_end.new.plant)) at now)
+    (c.mark_end.ensures.holds told t row rows (subst (λ (n : ℕ). HoldsNow t row n (state c.follow.new.plant)) (sym at) holds))
+
+pub returns-clause-of_epoch : goal.returns-clause-of_epoch
+returns-clause-of_epoch g c = store_errs_of_epoch c.mark_end.result c.mark_end.ensures.of_store

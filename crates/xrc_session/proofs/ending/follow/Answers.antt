@@ -1,0 +1,45 @@
+use Rattle.std.proofs.Common.{arith}
+use Rattle.site_store.specs.Sites.{means_with}
+use Rattle.xrc_session.proofs.Followed.{follow_holds, follow_moments, follows_here}
+use Rattle.xrc_session.proofs.StopLaws.{epoch_caused}
+use Rattle.xrc_session.proofs.ending.follow.Goals as goal
+
+pub returns-in-Ok-clause-moments : goal.returns-in-Ok-clause-moments
+returns-in-Ok-clause-moments g c = λ told holds run t line at_run f later.
+    let a = g.P.Plant.state c.args.plant.now in
+    let b = g.P.Plant.state c.follow.new.plant in
+    let site = c.args.site.now in
+    let row = c.args.row.now in
+    let between = c.requires.between in
+    let upto = c.follow.new.self.side.upto in
+    follow_moments a b site row run f.other t line upto c.follow.ensures.works.site at_run between.level between.goes_on c.requires.rows (omega (arith, later, c.follow.ensures.within)) f.agrees
+    (c.follow.ensures.moments told f.other (means_with site.table.rows site) f.taken
+    (follows_here a site row c.args.lane.now f.other (between.stands told) c.requires.rows between.goes_on between.none_waits between.same_time (f.reached c.requires.some) holds))
+
+pub returns-in-Err-clause-moments : goal.returns-in-Err-clause-moments
+returns-in-Err-clause-moments g c = λ told holds run t line at_run f later.
+    let a = g.P.Plant.state c.args.plant.now in
+    let b = g.P.Plant.state c.follow.new.plant in
+    let site = c.args.site.now in
+    let row = c.args.row.now in
+    let between = c.requires.between in
+    let upto = c.follow.new.self.side.upto in
+    follow_moments a b site row run f.other t line upto c.follow.ensures.works.site at_run between.level between.goes_on c.requires.rows (omega (arith, later, c.follow.ensures.within)) f.agrees
+    (c.follow.ensures.moments told f.other (means_with site.table.rows site) f.taken
+    (follows_here a site row c.args.lane.now f.other (between.stands told) c.requires.rows between.goes_on between.none_waits between.same_time (f.reached c.requires.some) holds))
+
+pub returns-in-Ok-clause-holds : goal.returns-in-Ok-clause-holds
+returns-in-Ok-clause-holds g c = λ told holds t f.
+    let a = g.P.Plant.state c.args.plant.now in
+    let b = g.P.Plant.state c.follow.new.plant in
+    let site = c.args.site.now in
+    let row = c.args.row.now in
+    let between = c.requires.between in
+    let upto = c.follow.new.self.side.upto in
+    follow_holds b site row c.follow.new.self f.other t upto c.args.at.0 f.agrees (omega (arith, c.in-Ok.ensures.lane.even, c.in-Ok.ensures.even))
+    (c.in-Ok.ensures.follows told f.other (means_with site.table.rows site) f.taken
+    (follows_here a site row c.args.lane.now f.other (between.stands told) c.requires.rows between.goes_on between.none_waits between.same_time (f.reached c.requires.some) holds))
+
+pub returns-in-Err-clause-cause : goal.returns-in-Err-clause-cause
+returns-in-Err-clause-cause g c =
+    epoch_caused (g.P.Plant.state c.args.plant.now) (g.P.Plant.state c.follow.new.plant) c.follow.result c.in-Err.error c.of_epoch.result c.in-Err.is c.of_epoch.ensures c.follow.ensures.fault (c.follow.ensures.volume c.requires.between.good)

@@ -1,0 +1,33 @@
+use Rattle.crash_plant.specs.declared.device.Device.TheVariants.{Control}
+use Rattle.site_store.specs.declared.store_error.StoreError.TheVariants.{Fault, JournalEnd, Spent, Volume as VolumeError}
+use Rattle.epoch.proofs.KeptErrors.{spent_marked}
+use Rattle.xrc_session.proofs.Marked.{mark_holds, mark_moments}
+use Rattle.xrc_session.proofs.StopLaws.{store_caused, was_end, was_spent}
+use Rattle.xrc_session.proofs.ending.mark_end.Goals as goal
+
+pub returns-in-Ok-clause-moments : goal.returns-in-Ok-clause-moments
+returns-in-Ok-clause-moments g c = λ told run t row from end at_run rows whole holds since upto.
+    mark_moments (g.P.Plant.state c.args.plant.now) c.args.site.now row c.requires.fits rows run t from end (c.requires.stands told) at_run c.requires.level c.requires.goes_on whole since upto holds
+    (g.P.Plant.state c.mark.new.plant) c.mark.ensures.only.site (c.mark.ensures.moments told)
+
+pub returns-in-Err-clause-moments : goal.returns-in-Err-clause-moments
+returns-in-Err-clause-moments g c = λ told run t row from end at_run rows whole holds since upto.
+    mark_moments (g.P.Plant.state c.args.plant.now) c.args.site.now row c.requires.fits rows run t from end (c.requires.stands told) at_run c.requires.level c.requires.goes_on whole since upto holds
+    (g.P.Plant.state c.mark.new.plant) c.mark.ensures.only.site (c.mark.ensures.moments told)
+
+pub returns-in-Ok-clause-holds : goal.returns-in-Ok-clause-holds
+returns-in-Ok-clause-holds g c = λ told t row rows holds.
+    mark_holds (g.P.Plant.state c.args.plant.now) c.args.site.now row c.requires.fits rows (g.P.Plant.state c.mark.new.plant) t c.mark.ensures.only.site ((c.mark.ensures.only.elapses told).kept Control).later (c.mark.ensures.moments told) holds
+
+pub returns-in-Err-clause-cause : goal.returns-in-Err-clause-cause
+returns-in-Err-clause-cause g c =
+    store_caused (g.P.Plant.state c.args.plant.now) (g.P.Plant.state c.mark.new.plant) c.mark.result c.in-Err.error c.of_store.result c.in-Err.is c.of_store.ensures
+    (λ d is. (c.mark.ensures.error (Fault d) is).1) (λ v is. ((c.mark.ensures.error (VolumeError v) is).1 c.requires.good).1)
+
+pub returns-in-Err-clause-spent : goal.returns-in-Err-clause-spent
+returns-in-Err-clause-spent g c = λ told is.
+    let why = c.mark.ensures.error Spent (was_spent c.mark.result c.in-Err.error c.of_store.result c.in-Err.is c.of_store.ensures is) in
+    spent_marked g.P.Plant.tells told (g.P.Plant.state c.args.plant.now) (g.P.Plant.state c.mark.new.plant) c.args.site.now why.1 (c.mark.ensures.volumes told) (c.mark.ensures.images told) (c.requires.stands told) why.0
+
+pub returns-in-Err-clause-no_journal_end : goal.returns-in-Err-clause-no_journal_end
+returns-in-Err-clause-no_journal_end g c = λ is. c.mark.ensures.error JournalEnd (was_end c.mark.result c.in-Err.error c.of_store.result c.in-Err.is c.of_store.ensures is)

@@ -1,0 +1,17 @@
+use Rattle.std.proofs.Common.{◌≡◌, ◌∙◌, sym}
+use Rattle.xrc_session.proofs.FirstSide.{cut_in, opened_fails, opens, same_err}
+use Rattle.xrc_session.proofs.opening.open_trace.Goals as goal
+
+pub returns-in-Err-clause-cut : goal.returns-in-Err-clause-cut
+returns-in-Err-clause-cut g c = λ is.
+    cut_in (g.S.Source.left c.args.source.now) (g.S.Source.left c.start.new.source) (g.S.Source.faults c.args.source.now) (g.S.Source.faults c.start.new.source) c.in-Err.error c.in-Err.ensures (sym c.of_header.ensures ∙ same_err _ _ is)
+
+pub returns-in-Ok-make-clause-ahead : goal.returns-in-Ok-make-clause-ahead
+returns-in-Ok-make-clause-ahead g c = λ given told.
+    let made = c.in-Ok-make.ensures in
+    let lane = c.in-Ok-make.lane in
+    opens given (g.S.Source.left c.args.source.now) (g.S.Source.left c.start.new.source) c.in-Ok.started.0 c.in-Ok.started.1 lane.side lane.primary told c.in-Ok.ensures.0 made.side made.volumes made.tracks
+
+pub returns-in-Ok-make-clause-fails : goal.returns-in-Ok-make-clause-fails
+returns-in-Ok-make-clause-fails g c = λ given left limit upto told failed other t whole gave.
+    opened_fails given left (g.S.Source.left c.args.source.now) (g.S.Source.left c.start.new.source) c.in-Ok.started.0 c.in-Ok.started.1 c.in-Ok-make.lane.side limit upto told c.in-Ok.ensures.0 c.in-Ok-make.ensures.side failed other t whole gave

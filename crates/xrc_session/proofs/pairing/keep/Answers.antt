@@ -1,0 +1,20 @@
+use Rattle.std.proofs.Common.{arith}
+use Rattle.xrc_session.proofs.PairWaits.{kept_heard}
+use Rattle.xrc_session.proofs.StopLaws.{store_caused}
+use Rattle.xrc_session.proofs.pairing.keep.Goals as goal
+
+pub returns-in-Ok-clause-heard : goal.returns-in-Ok-clause-heard
+returns-in-Ok-clause-heard g c = λ told first run t start row text heard standing whole.
+    let behind = c.requires.behind in
+    kept_heard run t start row c.args.at.0 text (g.P.Plant.state first) (g.P.Plant.state c.args.plant.now) (g.P.Plant.state c.keep_time.new.plant) heard c.args.site.now standing c.requires.rows g.P.Plant.tells told c.keep_time.ensures.works (behind.stands told)
+    c.args.lane.now.primary.time c.requires.time (omega (arith, behind.later, c.requires.time)) whole (c.keep_time.ensures.moments told)
+
+pub returns-in-Err-clause-heard : goal.returns-in-Err-clause-heard
+returns-in-Err-clause-heard g c = λ told first run t start row text heard standing whole.
+    let behind = c.requires.behind in
+    kept_heard run t start row c.args.at.0 text (g.P.Plant.state first) (g.P.Plant.state c.args.plant.now) (g.P.Plant.state c.keep_time.new.plant) heard c.args.site.now standing c.requires.rows g.P.Plant.tells told c.keep_time.ensures.works (behind.stands told)
+    c.args.lane.now.primary.time c.requires.time (omega (arith, behind.later, c.requires.time)) whole (c.keep_time.ensures.moments told)
+
+pub returns-in-Err-clause-cause : goal.returns-in-Err-clause-cause
+returns-in-Err-clause-cause g c =
+    store_caused (g.P.Plant.state c.args.plant.now) (g.P.Plant.state c.keep_time.new.plant) c.keep_time.result c.in-Err.error c.of_store.result c.in-Err.is c.of_store.ensures c.keep_time.ensures.fault (c.keep_time.ensures.volume c.requires.behind.good)

@@ -1,0 +1,51 @@
+use Rattle.std.proofs.Common.{List, ap, subst}
+use Rattle.crash_plant.specs.Choices.{AllFollow}
+use Rattle.pair_table.specs.declared.row.PairRow.{PairRow}
+use Rattle.site_store.specs.Changes.{SeesRows}
+use Rattle.site_store.specs.Sees.{SeesSameOr}
+use Rattle.site_store.specs.Sites.{SiteState}
+use Rattle.epoch.proofs.Working.{silent_on}
+use Rattle.xrc_session.proofs.PairPuts.{put_ahead, put_full, put_is, put_spent}
+use Rattle.xrc_session.proofs.PairWaits.{logged_heard}
+use Rattle.xrc_session.proofs.StopLaws.{store_caused, was_end, was_spent}
+use Rattle.xrc_session.proofs.pairing.put_pair.Goals as goal
+
+pub log_change-requires-clause-stands : goal.log_change-requires-clause-stands
+log_change-requires-clause-stands g c κs within = λ told.
+    put_ahead c.args.row c.args.site.now c.put_row.new.self c.requires.rows c.in-Ok.ensures.ok (g.P.Plant.state c.args.plant.now) c.requires.room (c.requires.stands told)
+
+pub returns-in-Ok-log_change-clause-heard : goal.returns-in-Ok-log_change-clause-heard
+returns-in-Ok-log_change-clause-heard g c = λ told first run t start text heard standing added whole.
+    let a = g.P.Plant.state c.args.plant.now in
+    let b = g.P.Plant.state c.log_change.new.plant in
+    let at = c.args.at.0 in
+    let rows_are = ap (λ (s : SiteState). s.table.rows) (put_is c.args.row c.args.site.now c.put_row.new.self c.requires.rows c.in-Ok.ensures.ok) in
+    logged_heard run t start c.args.row at text (g.P.Plant.state first) a b heard c.args.site.now standing c.requires.rows g.P.Plant.tells told (silent_on g.P.Plant.tells _ a b c.log_change.ensures.only) (c.requires.stands told) c.requires.time added whole
+    (subst (λ (l : List PairRow). AllFollow (SeesSameOr a (SeesRows a at l)) a b) rows_are (c.log_change.ensures.moments told))
+
+pub returns-clause-heard : goal.returns-clause-heard
+returns-clause-heard g c = λ told first run t start text heard standing added whole.
+    let a = g.P.Plant.state c.args.plant.now in
+    let b = g.P.Plant.state c.log_change.new.plant in
+    let at = c.args.at.0 in
+    let rows_are = ap (λ (s : SiteState). s.table.rows) (put_is c.args.row c.args.site.now c.put_row.new.self c.requires.rows c.in-Ok.ensures.ok) in
+    logged_heard run t start c.args.row at text (g.P.Plant.state first) a b heard c.args.site.now standing c.requires.rows g.P.Plant.tells told (silent_on g.P.Plant.tells _ a b c.log_change.ensures.only) (c.requires.stands told) c.requires.time added whole
+    (subst (λ (l : List PairRow). AllFollow (SeesSameOr a (SeesRows a at l)) a b) rows_are (c.log_change.ensures.moments told))
+
+pub returns-clause-cause : goal.returns-clause-cause
+returns-clause-cause g c =
+    store_caused (g.P.Plant.state c.args.plant.now) (g.P.Plant.state c.log_change.new.plant) c.log_change.result c.in-Err-log_change.error c.of_store.result c.in-Err-log_change.is c.of_store.ensures (λ d is. (c.log_change.ensures.cause.fault d is).1) (λ v is. absurd (c.log_change.ensures.cause.volume v is))
+
+pub returns-clause-spent : goal.returns-clause-spent
+returns-clause-spent g c = λ told is.
+    let a = g.P.Plant.state c.args.plant.now in
+    let b = g.P.Plant.state c.log_change.new.plant in
+    put_spent c.args.row c.args.site.now c.put_row.new.self c.requires.rows c.in-Ok.ensures.ok g.P.Plant.tells told a b (silent_on g.P.Plant.tells _ a b c.log_change.ensures.only) (c.requires.stands told) c.log_change.result c.log_change.ensures.untouched c.log_change.ensures.refuses
+    (was_spent c.log_change.result c.in-Err-log_change.error c.of_store.result c.in-Err-log_change.is c.of_store.ensures is)
+
+pub returns-clause-journal_end : goal.returns-clause-journal_end
+returns-clause-journal_end g c = λ told is.
+    let a = g.P.Plant.state c.args.plant.now in
+    let b = g.P.Plant.state c.log_change.new.plant in
+    put_full c.args.row c.args.site.now c.put_row.new.self c.requires.rows c.in-Ok.ensures.ok g.P.Plant.tells told a b (silent_on g.P.Plant.tells _ a b c.log_change.ensures.only) (c.requires.stands told) c.log_change.result c.log_change.ensures.untouched c.log_change.ensures.refuses
+    (was_end c.log_change.result c.in-Err-log_change.error c.of_store.result c.in-Err-log_change.is c.of_store.ensures is)

@@ -1,0 +1,30 @@
+use Rattle.std.proofs.Common.{◌≡◌, []}
+use Rattle.crash_plant.specs.declared.device.Device.TheVariants.{Volume}
+use Rattle.epoch.proofs.Working.{silent_on, silent_then}
+use Rattle.xrc_session.proofs.Formatted.{early_volume, fits_read, stands_read}
+use Rattle.xrc_session.proofs.starting.format.Goals as goal
+
+pub returns-in-Ok-read_label-clause-fits : goal.returns-in-Ok-read_label-clause-fits
+returns-in-Ok-read_label-clause-fits g c =
+    fits_read g.P.Plant.tells _ c.in-Ok.site (g.P.Plant.state c.format.new.plant) (g.P.Plant.state c.read_label.new.plant) c.read_label.ensures.only c.in-Ok.ensures.fits
+
+pub returns-in-Ok-read_label-clause-stands : goal.returns-in-Ok-read_label-clause-stands
+returns-in-Ok-read_label-clause-stands g c = λ told.
+    stands_read g.P.Plant.tells told (Volume 0) [] c.in-Ok.site (g.P.Plant.state c.format.new.plant) (g.P.Plant.state c.read_label.new.plant) c.read_label.ensures.only (c.read_label.ensures.same told) (c.read_label.ensures.moments told) (c.in-Ok.ensures.stands told)
+
+pub returns-in-Ok-read_label-clause-works : goal.returns-in-Ok-read_label-clause-works
+returns-in-Ok-read_label-clause-works g c =
+    let a = g.P.Plant.state c.args.plant.now in
+    let b = g.P.Plant.state c.format.new.plant in
+    let d = g.P.Plant.state c.read_label.new.plant in
+    silent_then g.P.Plant.tells a b d (silent_on g.P.Plant.tells _ a b c.format.ensures.only) (silent_on g.P.Plant.tells _ b d c.read_label.ensures.only)
+
+pub returns-in-Err-read_label-clause-works : goal.returns-in-Err-read_label-clause-works
+returns-in-Err-read_label-clause-works g c =
+    let a = g.P.Plant.state c.args.plant.now in
+    let b = g.P.Plant.state c.format.new.plant in
+    let d = g.P.Plant.state c.read_label.new.plant in
+    silent_then g.P.Plant.tells a b d (silent_on g.P.Plant.tells _ a b c.format.ensures.only) (silent_on g.P.Plant.tells _ b d c.read_label.ensures.only)
+
+pub returns-in-Err-read_label-clause-of_start : goal.returns-in-Err-read_label-clause-of_start
+returns-in-Err-read_label-clause-of_start g c = early_volume

@@ -1,0 +1,71 @@
+-- What a run of a script with one pair has done, and what it has not.
+use Rattle.std.specs.Prelude.{◌≡◌, ◌⊎◌, ℕ, ◌+◌, ◌-◌, ◌<◌, ◌≤◌, ◌++◌, List, [], ◌∷◌, length, take, true, Option, Some, Err}
+use Rattle.tod_stamp.specs.Fields.{Bad, place_of}
+use Rattle.tod_stamp.specs.Fields.Bad.{Cut}
+use Rattle.crash_plant.specs.declared.device.Device.TheVariants.{Volume}
+use Rattle.crash_plant.specs.Moments.{PlantState}
+use Rattle.trace_grammar.specs.declared.trace.Trace.{Trace}
+use Rattle.trace_grammar.specs.Good.{most_bytes, whole_trace}
+use Rattle.trace_grammar.specs.Headers.{header_at}
+use Rattle.pair_table.specs.declared.row.PairState.TheVariants.{Duplex}
+use Rattle.pair_table.specs.Tables.{in_state}
+use Rattle.volume_label.specs.declared.label.Label.{Label}
+use Rattle.volume_label.specs.Labels.{label_of}
+use Rattle.site_means.specs.Images.{shape_of}
+use Rattle.site_means.specs.Sight.{walked}
+use Rattle.consistency.specs.Bears.{Run}
+use Rattle.pair_course.specs.Course.{HoldsTracks, IsPairRun, MeansRows}
+use Rattle.session_lines.specs.Meanings.{NowMeans}
+use Rattle.session_lines.specs.Runs.{Ended, GoesOn, ended_lines}
+use Rattle.xrc_session.specs.Between.{IsRunOf}
+use Rattle.xrc_session.specs.Stopping.{StopsSo}
+use Rattle.xrc_session.specs.Traces.{IsTraceOf}
+use Rattle.xrc_status.specs.declared.stop.Stop.{Stop}
+use Rattle.xrc_status.specs.declared.stop.Stop.TheVariants.{BadHeader, BadSite, HeaderFault, TooSmall}
+
+-- the label that reads give of device 0
+abbrev pub first_label : PlantState → Option Label
+first_label plant = label_of (plant.lengths (Volume 0)) (take 14 (plant.bytes (Volume 0)))
+
+-- A run of a session over the trace of what its source gave, with the label of device 0, on a plant that keeps its past.
+pub record IsSessionRun (session : List ℕ) (before now : Option (List ℕ)) (faults risen : ℕ) (plant : PlantState) (t : Trace) (run : Run) : Type 0 where
+  pub past : 0 < plant.clock
+  pub trace : IsTraceOf before now faults risen t
+  pub pair_run : IsPairRun run t
+  pub its : IsRunOf session (first_label plant) run
+
+-- ---- done
+
+-- The script was heard to its end, and each of its three lines was answered; each moment bears. Now whatever a crash leaves means the
+-- ended session at the time of its end, by no record of the journal, with the pair duplex and its primary's tracks in its slots.
+pub record EndsSession (run : Run) (t : Trace) (old new : PlantState) : Type 0 where
+  pub end : Ended
+  pub goes_on : GoesOn run t (ended_lines run end) [] old new
+  pub at_end : new.script ≡ []
+  pub means : NowMeans new (λ c. MeansRows run (shape_of new) c (in_state Duplex end.pair.row ∷ []) end.time true)
+  pub walk : NowMeans new (λ c. walked new c ≡ [])
+  pub holds : NowMeans new (λ c. HoldsTracks t (shape_of new) c end.pair.row end.time)
+
+-- ---- not done
+
+-- A stop by the trace's header.
+abbrev pub IsOfHeader : Stop → Type 0
+IsOfHeader stop = ((place : ℕ) × (stop ≡ BadHeader 0 place)) ⊎ (stop ≡ HeaderFault 0)
+
+-- A stop that comes before the script is heard.
+abbrev pub IsEarly : Stop → Type 0
+IsEarly stop = (stop ≡ BadSite) ⊎ ((d : _) × (needed : ℕ) × (stop ≡ TooSmall d needed)) ⊎ IsOfHeader stop
+
+-- Then the plant is untouched. With any other stop each moment of the run bears.
+abbrev pub StopsEarlyOr : (untouched : Type 0) → Run → (old new : PlantState) → Stop → Type 0
+StopsEarlyOr untouched run old new stop = (IsEarly stop × untouched) ⊎ StopsSo run old new stop
+
+-- The bytes begin with no header: the first field that is cut or breaks its rule stands at that place.
+abbrev pub IsRefused : (given : List ℕ) → (place : ℕ) → Type 0
+IsRefused given place = (bad : Bad) × (header_at 1 (whole_trace given) ≡ Err bad) × (place_of bad ≡ place)
+
+-- A source gave these bytes before it failed, which end within the header.
+pub record EndsInHeader (all left given : List ℕ) : Type 0 where
+  pub split : all ≡ given ++ left
+  pub within : length given ≤ most_bytes
+  pub cut : (place : ℕ) × (header_at 1 (whole_trace given) ≡ Err (Cut place))

@@ -1,0 +1,14 @@
+//! A session with one pair: its script, line by line over one trace and the devices of a site.
+#![tactic(auto)]
+
+mod ending;
+mod numbers;
+mod opening;
+mod pairing;
+mod run;
+mod starting;
+mod stops;
+#[cfg(test)]
+mod tests;
+
+pub use run::run_script;
