@@ -1,12 +1,14 @@
 //! Whole scripts over sources and devices in memory.
 
+ghost use Rattle.std.specs.Prelude.{IfOk};
+ghost use Rattle.crash_plant.specs.Calls.{NoneLent};
+
 use crate::run_script;
-use crash_plant::{Device, Fail as Failure, FailList, MemoryPlant, PlainPlant, Plant};
+use crash_plant::{Device, FailList, MemoryPlant, PlainPlant, Plant};
 use std::alloc::Global;
 use std::test::Fail;
 use tod_stamp::Session;
 use xrc_edge::{Bytes, MemorySource, NoMemory};
-use xrc_status::Stop;
 
 const LABEL: [u8; 14] = *b"XVOLSEC001\x00\x00\x00\x01";
 
@@ -30,11 +32,26 @@ fn bytes(alloc: Global, part: &[u8]) -> Result<Bytes, NoMemory> {
     Ok(all)
 }
 
-fn site(alloc: Global, script: &[u8]) -> Result<MemoryPlant, NoMemory> {
+/// Writes the label of volume 0.
+fn label<P: Plant>(plant: &mut P)
+    requires { NoneLent (P.state plant.old) }
+    ensures { NoneLent (P.state plant.new) }
+{
+    let device = Device::Volume(0);
+    if plant.volumes() >= 1 && plant.length(device) >= 14 {
+        let _ = plant.write(device, 0, &LABEL);
+    }
+}
+
+/// A site of two journals and one volume.
+fn site(alloc: Global, script: &[u8]) -> Result<MemoryPlant, NoMemory>
+    ensures { IfOk result (λ plant. NoneLent (⟦<MemoryPlant as Plant>⟧.state plant)) }
+{
     let script = bytes(alloc, script)?;
     let mut plain = PlainPlant::make(alloc, 2, JOURNAL_BYTES, 1, VOLUME_BYTES, script)?;
-    let _ = plain.write(Device::Volume(0), 0, &LABEL);
-    MemoryPlant::make(alloc, plain, FailList::make(alloc))
+    label(&mut plain);
+    let plant = MemoryPlant::make(alloc, plain, FailList::make(alloc))?;
+    Ok(plant)
 }
 
 fn source(alloc: Global, trace: &[u8]) -> Result<MemorySource, NoMemory> {
