@@ -4,7 +4,7 @@ use Rattle.std.proofs.lemmas.Grind.{flat_map-append}
 use Rattle.std.proofs.Common.{◌≡◌, ℕ, zero, suc, ◌-◌, take, drop, append_assoc, length-append, ◌+◌, ◌≤◌, ◌<◌, true, ◌&&◌, List, [], ◌∷◌, ◌++◌, length, get_or, set, map, Ok, Err, refl, sym, ap, subst, ◌∙◌, arith, length-set, add-one}
 use Rattle.std.specs.Prelude.{Result, OnOk, OnErr, ◌≢◌, nat_eq, nat_le}
 use Rattle.std.specs.List.{list_all, flat_map}
-use Rattle.std.proofs.lemmas.Bool.{and_parts, and_from, eqb-true, eq-eqb, leb-true, le-leb}
+use Rattle.std.proofs.lemmas.Bool.{and_parts, and_from, eq-eqb, leb-true, le-leb}
 use Rattle.tod_stamp.specs.declared.stamp.Stamp.{Stamp}
 use Rattle.group_state.specs.declared.joining.CopyJoin.{CopyJoin}
 use Rattle.group_state.specs.declared.joining.CopyJoin.TheVariants.{Joined, Held, Stale, NoMemory}
@@ -36,15 +36,6 @@ same_copy Stale new then old ok err s = same_queue new old (err (λ e. cc))
 same_copy NoMemory new then old ok err s = same_queue new old (err (λ e. cc))
 
 -- ---- one control
-
-pub number_at : (first k : ℕ) (controls : List ControlState) (d : ControlState) → are_numbered first controls ≡ true → k < length controls → (get_or controls k d).queue.control ≡ first + k
-number_at first k [] d e lt = absurd (omega arith)
-number_at first zero (c ∷ controls) d e lt =
-    let parts = and_parts (nat_eq c.queue.control first && has_few c) (are_numbered (first + 1) controls) e in
-    omega (arith, eqb-true c.queue.control first (and_parts (nat_eq c.queue.control first) (has_few c) parts.0).0)
-number_at first (suc k) (c ∷ controls) d e lt =
-    let parts = and_parts (nat_eq c.queue.control first && has_few c) (are_numbered (first + 1) controls) e in
-    omega (arith, number_at (first + 1) k controls d parts.1 (omega arith))
 
 numbered_set : (first k : ℕ) (controls : List ControlState) (new d : ControlState) → are_numbered first controls ≡ true → k < length controls → SameQueue new (get_or controls k d) → are_numbered first (set controls k new) ≡ true
 numbered_set first k [] new d e lt s = absurd (omega arith)

@@ -61,7 +61,6 @@ impl Control {
 
     /// Joins a batch, or refuses it as a whole.
     pub fn join(&mut self, alloc: Global, batch: &Batch) -> Result<(), PushError>
-        requires control { batch.now.control ≡ self.old.queue.control }
         requires rules { IsTrue (all_keep_rules batch.now.writes) }
         requires legal { MayJoin self.old batch.now }
         ensures joined { OnOk result (self.new ≡ joined batch.now self.old) }

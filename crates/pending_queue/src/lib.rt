@@ -12,6 +12,7 @@ mod queue;
 mod room;
 
 pub use carrier::{Carrier, Everything};
+pub use ckd_track::Cause;
 pub use formed::Formed;
 pub use head::EntryHead;
 pub use laws::{

@@ -130,7 +130,6 @@ impl Queue {
 
     /// Puts the entries of all writes of a batch behind those that wait, as `push_carried` does.
     pub fn push_all(&mut self, alloc: Global, batch: &Batch) -> Result<(), PushError>
-        requires control { batch.now.control ≡ self.old.control }
         requires rules { IsTrue (all_keep_rules batch.now.writes) }
         requires stamps { IsTrue (writes_never_fall (last_stamp self.old.waiting) batch.now.writes) }
         ensures pushed { OnOk result (self.new ≡ with_waiting self.old (self.old.waiting ++ entries_of self.old.control batch.now.writes)) }
@@ -149,9 +148,8 @@ impl Queue {
         batch: &Batch,
         carrier: &C,
     ) -> Result<(), PushError>
-        requires control { batch.now.control ≡ self.old.control }
         requires rules { IsTrue (all_keep_rules batch.now.writes) }
-        requires stamps { IsTrue (writes_never_fall (last_stamp self.old.waiting) batch.now.writes) }
+        requires stamps { IsTrue (writes_never_fall (last_stamp self.old.waiting) (filter (C.carries carrier.now) batch.now.writes)) }
         ensures pushed { OnOk result (self.new ≡ with_waiting self.old (self.old.waiting ++ entries_of self.old.control (filter (C.carries carrier.now) batch.now.writes))) }
         ensures refused { OnErr result (self.new ≡ self.old) }
         ensures full { (result ≡ Err (PushError.Full (free_room self.old))) ↔ (has_room (free_room self.old) (filter (C.carries carrier.now) batch.now.writes) ≡ false) }

@@ -4,9 +4,10 @@ use Rattle.ckd_track.specs.declared.write.Batch.{Batch}
 use Rattle.ckd_track.specs.declared.write.Write.{Write}
 use Rattle.pending_queue.specs.declared.room.PushError.{PushError}
 use Rattle.pending_queue.specs.declared.room.PushError.TheVariants.{Full}
-use Rattle.pending_queue.specs.Entries.{entries_of}
+use Rattle.pending_queue.specs.Entries.{entries_of, last_stamp}
 use Rattle.pending_queue.specs.Queues.{with_waiting, free_room}
 use Rattle.pending_queue.specs.Rooms.{has_room}
+use Rattle.pending_queue.proofs.VolumeLaws.{carried_never_fall}
 use Rattle.group_state.specs.declared.volume.Volume.{Volume}
 use Rattle.group_state.specs.Volumes.{is_carried, with_writes}
 use Rattle.group_state.specs.Controls.{ControlState, fits, room_of}
@@ -18,7 +19,9 @@ pub push_carried-pushed-requires-clause-stamps : goal.push_carried-pushed-requir
 push_carried-pushed-requires-clause-stamps c =
     let s = c.self.inside in
     let view : ControlState = record { queue = s.queue; floor = s.floor; phase = s.phase; volumes = s.volumes.items } in
-    batch_rises c.args.batch.now view c.self.invariant (subst (λ (v : ControlState). MayJoin v c.args.batch.now) (sym c.self.view_is) c.requires.legal)
+    let volumes = c.as_slice.result.now in
+    carried_never_fall (λ w. is_carried volumes w) (last_stamp s.queue.waiting) c.args.batch.now.writes
+    (batch_rises c.args.batch.now view c.self.invariant (subst (λ (v : ControlState). MayJoin v c.args.batch.now) (sym c.self.view_is) c.requires.legal))
 
 ok_then : (r : Result (Unit {0}) PushError) (P : Type 0) → OnOk r P → false ≡ is_err r → P
 ok_then (Ok u) P p e = p

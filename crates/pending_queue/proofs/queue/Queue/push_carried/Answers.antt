@@ -4,7 +4,6 @@ use Rattle.ckd_track.specs.declared.write.Write.{Write}
 use Rattle.pending_queue.specs.Entries.{entries_of, never_fall, last_stamp, writes_never_fall}
 use Rattle.pending_queue.specs.Rooms.{blocks_taken, blocks_needed}
 use Rattle.pending_queue.specs.Queues.{QueueState}
-use Rattle.pending_queue.proofs.VolumeLaws.{carried_never_fall}
 use Rattle.pending_queue.proofs.EntryLaws.{pushed_records, pushed_blocks, pushed_never_fall}
 use Rattle.pending_queue.proofs.queue.Queue.push_carried.Goals as goal
 
@@ -21,11 +20,11 @@ invariant_of-self-2 g c =
     let same_records = ap (λ (queue : QueueState). queue.records) c.self.view_is in
     let same_taken = ap (λ (queue : QueueState). blocks_taken queue.waiting) c.self.view_is in
     let same_blocks = ap (λ (queue : QueueState). queue.blocks) c.self.view_is in
-    let stamps = ap (λ (queue : QueueState). writes_never_fall (last_stamp queue.waiting) writes) c.self.view_is ∙ c.requires.stamps in (
+    let stamps = ap (λ (queue : QueueState). writes_never_fall (last_stamp queue.waiting) carried) c.self.view_is ∙ c.requires.stamps in (
       record {
         within_records = omega (arith, ap length pushed, pushed_records control waiting carried, ap length given, c.in-Some.ensures.records refl, c.free-free.ensures.records, same_count, same_records);
         within_blocks = omega (arith, ap blocks_taken pushed, pushed_blocks control waiting carried, ap blocks_needed given, c.in-Some.ensures.some, c.in-Some.ensures.blocks, c.free-free.ensures.blocks, same_taken, same_blocks);
-        rising = ap (never_fall 0) pushed ∙ pushed_never_fall control 0 waiting carried c.self.invariant.0.rising (carried_never_fall carries (last_stamp waiting) writes stamps);
+        rising = ap (never_fall 0) pushed ∙ pushed_never_fall control 0 waiting carried c.self.invariant.0.rising stamps;
       },
       omega (arith, ap blocks_taken pushed, pushed_blocks control waiting carried, ap blocks_needed given, c.in-Some.ensures.some, c.self.invariant.1),
     )
