@@ -1,15 +1,14 @@
--- The control's slots at the moments of a session's start, over plain states.
-use Rattle.std.proofs.Common.{◌≡◌, ◌≢◌, ◌⊎◌, inl, inr, ℕ, zero, suc, ◌+◌, ◌-◌, ◌≤◌, ◌<◌, Bool, true, List, [], ◌∷◌, length, take, drop, slice_index, None, Some, Ok, refl, sym, ap, subst, ◌∙◌, arith, get_or-take}
+-- The control's slots, the state and journal 0 at the moments of a session's start, over plain states.
+use Rattle.std.proofs.Common.{◌≡◌, ◌≢◌, ◌⊎◌, inl, inr, ℕ, zero, suc, ◌+◌, ◌-◌, ◌≤◌, ◌<◌, Bool, true, List, [], ◌∷◌, length, take, drop, slice_index, Some, Ok, refl, sym, ap, subst, ◌∙◌, arith, get_or-take}
 use Rattle.std.specs.Prelude.{slice_range}
 use Rattle.std.proofs.lemmas.List.{drop-drop, get_or-drop, take-take}
 use Rattle.tod_stamp.specs.declared.stamp.Stamp.{Stamp}
-use Rattle.crash_plant.specs.declared.device.Device.{Device}
-use Rattle.crash_plant.specs.declared.device.Device.TheVariants.{Control, State, Journal, Volume}
+use Rattle.crash_plant.specs.declared.device.Device.TheVariants.{Control, State, Journal}
 use Rattle.crash_plant.specs.Bytes.{Torn}
 use Rattle.crash_plant.specs.Calls.{WorksOn}
 use Rattle.crash_plant.specs.Choices.{Choice, IsChoice, AllFollow}
 use Rattle.crash_plant.specs.Moments.{PlantState, Standing, on, Follows, IsDurable, Kept, Same}
-use Rattle.crash_plant.proofs.Choices.{choices_then}
+use Rattle.crash_plant.proofs.Choices.{choices_then, works_on_choices}
 use Rattle.crash_plant.proofs.Steps.{follows_then}
 use Rattle.gates.specs.Gates.{Shuts}
 use Rattle.gates.proofs.Behind.{shuts, torn_here}
@@ -23,9 +22,10 @@ use Rattle.pair_table.specs.declared.row.PairRow.{PairRow}
 use Rattle.state_set.specs.Slots.{state_of}
 use Rattle.site_means.specs.Images.{shape_of}
 use Rattle.site_means.specs.Sight.{means_of, meant_by}
-use Rattle.site_store.specs.Formats.{IsSettledAt, ShutsOrMeans, ShutsSlots, started_means}
+use Rattle.site_store.specs.Formats.{IsSettledAt, ShutsFirst, ShutsOrMeans, ShutsSlots, started_means}
 use Rattle.site_store.specs.Marking.{IsFormatted, IsMarked, PutsMark}
 use Rattle.site_store.specs.Sites.{first_mark}
+use Rattle.site_store.proofs.Calls.{all_weaker}
 use Rattle.site_store.proofs.MarkEnds.{meant_at_gate}
 
 -- ---- one gate
@@ -102,7 +102,7 @@ slots_then lengths x y z a b = record {
   second = slot_then is_closed (slot_of lengths (drop 512 x)) (slot_of lengths (drop 512 y)) (slot_of lengths (drop 512 z)) a.second b.second;
 }
 
-pub slots_here : (lengths x : List ℕ) → ShutsSlots lengths x x
+slots_here : (lengths x : List ℕ) → ShutsSlots lengths x x
 slots_here lengths x = record { first = inl refl; second = inl refl }
 
 pub first_follows : (lengths : List ℕ) (old new : Standing) → Follows (Shuts 0) old new → Follows (ShutsSlots lengths) old new
@@ -114,42 +114,39 @@ both_follow lengths old mid new first one second two =
 
 -- ---- the whole plant
 
--- a choice with other bytes on the control
-abbrev with_control : List ℕ → Choice → Choice
-with_control bytes c Control = bytes
-with_control bytes c State = c State
-with_control bytes c (Journal j) = c (Journal j)
-with_control bytes c (Volume v) = c (Volume v)
+-- nothing yet
+pub first_here : (lengths : List ℕ) (c : Choice) → ShutsFirst lengths c c
+first_here lengths c = record { slots = slots_here lengths (c Control); before = inl (refl, refl) }
 
--- What is said of the control's images is said of choices.
-pub control_follows : (step : List ℕ → List ℕ → Type 0) (old new : PlantState) → IsChoice old old.clock old.bytes → Follows step (on old Control) (on new Control) → AllFollow (λ b c. step (b Control) (c Control)) old new
-control_follows step old new read follows t from to c is = (with_control start.0 old.bytes, here, start.2)
-  where
-    start : (b : List ℕ) × old.images old.clock Control b × step b (c Control)
-    start = follows t from to (c Control) (is Control tt)
+-- No gate is open.
+both_shut : (lengths : List ℕ) (x z : Choice) → NoGateOpen (z Control) → ShutsFirst lengths x z
+both_shut lengths x z shut =
+    let first = first_closed lengths (z Control) shut.first in
+    let second = second_closed lengths (z Control) shut.second in
+    record { slots = record { first = inr first; second = inr second }; before = inr (record { first = first; second = second }) }
 
-    here : IsChoice old old.clock (with_control start.0 old.bytes)
-    here Control part = start.1
-    here State part = read State part
-    here (Journal j) part = read (Journal j) part
-    here (Volume v) part = read (Volume v) part
+-- Only the control was called, and then journal 0.
+module _ (tells : Type 0) (told : tells) (old mid : PlantState) (works : WorksOn tells (λ d. d ≡ Control) old mid) (follows : Follows (ShutsSlots (lengths_of old)) (on old Control) (on mid Control)) where
+  pub shut_control : AllFollow (ShutsFirst (lengths_of old)) old mid
+  shut_control = all_weaker old mid _ _ (works_on_choices tells told Control (ShutsSlots (lengths_of old)) old mid tt works follows)
+      (λ x y here step. record { slots = step.0; before = inl (step.1 State (λ same. cc same), step.1 (Journal 0) (λ same. cc same)) })
 
-module _ (tells : Type 0) (told : tells) (session : List ℕ) (level : Level) (at : Stamp) (old mid : PlantState) (shuts_works : WorksOn tells IsFormatted old mid) (read : IsChoice old old.clock old.bytes) (follows : Follows (ShutsSlots (lengths_of old)) (on old Control) (on mid Control)) where
-  shut : AllFollow (λ b c. ShutsSlots (lengths_of old) (b Control) (c Control)) old mid
-  shut = control_follows (ShutsSlots (lengths_of old)) old mid read follows
+  pub shut_journal : (new : PlantState) → NoGateOpen (mid.bytes Control) → IsDurable (on mid Control) → 1 ≤ old.journals → WorksOn tells (λ d. d ≡ Journal 0) mid new → Follows (Torn 0 1) (on mid (Journal 0)) (on new (Journal 0)) → AllFollow (ShutsFirst (lengths_of old)) old new
+  shut_journal new gates control there puts torn =
+      choices_then old mid new (ShutsFirst (lengths_of old)) _ (ShutsFirst (lengths_of old)) ((works.elapses told).kept Control).later shut_control puts.site (puts.elapses told)
+      (works_on_choices tells told (Journal 0) (Torn 0 1) mid new (omega (arith, there, works.site.journals)) puts torn)
+      (λ x y here step. step) (λ x y z here is step put. both_shut (lengths_of old) x z (subst (λ (l : List ℕ). NoGateOpen l) (sym (put.1 Control (λ same. cc same) ∙ control (y Control) (is Control tt))) gates))
 
+module _ (tells : Type 0) (told : tells) (session : List ℕ) (level : Level) (at : Stamp) (old mid : PlantState) (shuts_works : WorksOn tells IsFormatted old mid) (shut : AllFollow (ShutsFirst (lengths_of old)) old mid) where
   -- before the mark
   pub shut_alone : AllFollow (ShutsOrMeans old (started_means session level at)) old mid
-  shut_alone t from to c is = let start = shut t from to c is in (start.0, start.1, inl start.2)
+  shut_alone = all_weaker old mid _ _ shut (λ x y here step. inl step)
 
   module _ (new : PlantState) (m : Mark) (rows : List PairRow) (mark_is : m ≡ first_mark session at) (none : rows ≡ []) (gates : NoGateOpen (mid.bytes Control)) (control : IsDurable (on mid Control)) (first : slice_index (mid.bytes (Journal 0)) 0 ≢ 1)
       (journal : IsDurable (on mid (Journal 0))) (there : 2 ≤ old.journals) (puts_works : WorksOn tells IsMarked mid new) (puts : AllFollow (PutsMark (lengths_of mid) mid.volumes m (record { level = level; rows = rows })) mid new) where
     -- No gate is open.
     no_gate : (y z : Choice) → IsChoice mid mid.clock y → chosen_mark (lengths_of mid) (z Control) ≡ chosen_mark (lengths_of mid) (y Control) → NoGateOpen (z Control)
     no_gate y z is e = (none_where (lengths_of mid) (z Control)).0 (e ∙ ap (λ (l : List ℕ). chosen_mark (lengths_of mid) l) (control (y Control) (is Control tt)) ∙ none_of_gates (lengths_of mid) (mid.bytes Control) gates)
-
-    closed_slots : (x z : List ℕ) → NoGateOpen z → ShutsSlots (lengths_of old) x z
-    closed_slots x z shut_now = record { first = inr (first_closed (lengths_of old) z shut_now.first); second = inr (second_closed (lengths_of old) z shut_now.second) }
 
     -- The first mark counts before its state, and no record stands there.
     first_seen : (y z : Choice) → IsChoice mid mid.clock y → z (Journal 0) ≡ y (Journal 0) → chosen_mark (lengths_of mid) (z Control) ≡ Ok (Some m) → state_of mid.volumes m.session m.state_slot (z State) ≡ Ok (record { level = level; rows = rows })
@@ -163,9 +160,9 @@ module _ (tells : Type 0) (told : tells) (session : List ℕ) (level : Level) (a
     -- with the mark
     pub shut_or_means : AllFollow (ShutsOrMeans old (started_means session level at)) old new
     shut_or_means =
-        choices_then old mid new (λ b c. ShutsSlots (lengths_of old) (b Control) (c Control)) (PutsMark (lengths_of mid) mid.volumes m (record { level = level; rows = rows })) (ShutsOrMeans old (started_means session level at))
+        choices_then old mid new (ShutsFirst (lengths_of old)) (PutsMark (lengths_of mid) mid.volumes m (record { level = level; rows = rows })) (ShutsOrMeans old (started_means session level at))
         ((shuts_works.elapses told).kept Control).later shut puts_works.site (puts_works.elapses told) puts
         (λ x y here step. inl step) (λ x y z here is step put. elim put.chosen [
-          | inl e ↦ inl (closed_slots (x Control) (z Control) (no_gate y z is e))
+          | inl e ↦ inl (both_shut (lengths_of old) x z (no_gate y z is e))
           | inr e ↦ inr (first_seen y z is (put.others (Journal 0) (λ no. no)) e.0 e.1)
         ])

@@ -1,6 +1,6 @@
 -- What each end of the call that logs a group leaves: volumes were read, and then a record was put, or not.
-use Rattle.std.proofs.Common.{◌≡◌, ◌≢◌, inl, inr, ℕ, ◌+◌, ◌-◌, ◌^◌, ◌≤◌, ◌<◌, ◌&&◌, Bool, true, false, cond, nat_le, List, [], length, Option, Some, None, Ok, Err, refl, sym, ap, subst, ◌∙◌, arith, eq-eqb}
-use Rattle.std.specs.Prelude.{◌⊎◌, ◌↔◌, Result, IsErr, IsErrOf, slice_index_or}
+use Rattle.std.proofs.Common.{◌≡◌, ◌≢◌, inl, inr, ℕ, ◌+◌, ◌-◌, ◌^◌, ◌≤◌, ◌<◌, ◌&&◌, Bool, true, false, cond, nat_le, List, [], length, Some, None, Ok, Err, refl, sym, ap, subst, ◌∙◌, arith, eq-eqb}
+use Rattle.std.specs.Prelude.{◌⊎◌, ◌↔◌, Result, IsErr, IsErrOf}
 use Rattle.std.specs.List.{list_all}
 use Rattle.std.proofs.lemmas.Bool.{and_from, cases_eq, cases_lt, le-leb, ne_eqb}
 use Rattle.std.proofs.lemmas.List.{get_or_past}
@@ -8,10 +8,12 @@ use Rattle.xrc_edge.specs.Causes.{Rose}
 use Rattle.crash_plant.specs.declared.device.Device.{Device}
 use Rattle.crash_plant.specs.declared.device.Device.TheVariants.{Control, Journal, Volume}
 use Rattle.crash_plant.specs.declared.spot.Spot.{Spot}
+use Rattle.crash_plant.specs.Bytes.{Torn}
 use Rattle.crash_plant.specs.Calls.{Elapses, NoneLent, WorksOn}
 use Rattle.crash_plant.specs.Choices.{AllFollow, Choice, IsChoice}
 use Rattle.crash_plant.specs.Moments.{Follows, IsDurable, PlantState, Same, Stays, on}
 use Rattle.crash_plant.proofs.Steps.{follows_then, none_lent_then, works_on_more}
+use Rattle.gates.proofs.Behind.{torn_here}
 use Rattle.pair_table.specs.declared.row.PairRow.{PairRow}
 use Rattle.pair_table.specs.Tables.{KeepsRows, are_below, most_rows, none_clash}
 use Rattle.pending_queue.specs.Groups.{FormedGroup}
@@ -30,6 +32,7 @@ use Rattle.site_store.specs.Sees.{SeesSameOr}
 use Rattle.site_store.specs.Sites.{SiteState, has_failed}
 use Rattle.site_store.specs.Standing.{Fits, Stands, has_volume}
 use Rattle.site_store.proofs.Ends.{Alone, all_end, alone}
+use Rattle.site_store.proofs.Exits.{elsewhere}
 use Rattle.site_store.proofs.Fitting.{fits_still}
 use Rattle.site_store.proofs.GroupItems.{fits_behind}
 use Rattle.site_store.proofs.Logged as logged
@@ -147,6 +150,13 @@ module _ (tells : Type 0) (site : SiteState) (group : FormedGroup) (old mid : Pl
     pub put_images : tells → (d : ℕ) → Follows Same (on old (Volume d)) (on new (Volume d))
     put_images told d =
         follows_then (on old (Volume d)) (on mid (Volume d)) (on new (Volume d)) Same Same Same (later told) (r.reads.moments told (Volume d)) ((only_there.elapses told).kept (Volume d)) (stays_put told d).images (λ p q here e. e) (λ p q r here there e e2. e2 ∙ e)
+
+    -- Elsewhere than at the record the journal is as it was.
+    pub put_elsewhere : tells → Follows (Appends (form_of mid) mid.journals from at record_of) (on mid (Journal at.set)) (on new (Journal at.set)) → Follows (Torn site.at.place (length (body_spelling items) + 23)) (on old (Journal site.at.set)) (on new (Journal site.at.set))
+    put_elsewhere told appends =
+        let n = length (body_spelling items) + 23 in
+        follows_then (on old (Journal site.at.set)) (on mid (Journal site.at.set)) (on new (Journal site.at.set)) Same (Torn site.at.place n) (Torn site.at.place n) (later told) (r.reads.moments told (Journal site.at.set)) ((only_there.elapses told).kept (Journal site.at.set))
+        (elsewhere (form_of mid) mid.journals group.cut.0 from at site.at items items mid new at_is refl appends) (λ p q here e. subst (λ (l : List ℕ). Torn site.at.place n p l) (sym e) (torn_here site.at.place n p)) (λ p q x here there e torn. subst (λ (l : List ℕ). Torn site.at.place n l x) e torn)
 
     pub put_fails : FailByReads site.failed failed old.faults new.faults
     put_fails = fails_then site.failed failed old.faults mid.faults new.faults (λ d. only_there.others_faults (Volume d) (λ e. cc e)) r.fails

@@ -1,12 +1,13 @@
 -- A formed group as a record: the items of the record, what the group needs of the site, and what is seen of a crash once it is
 -- logged.
-use Rattle.std.specs.Prelude.{◌≡◌, ◌⊎◌, ◌↔◌, ℕ, ◌+◌, ◌-◌, ◌*◌, ◌^◌, ◌==◌, ◌<◌, ◌≤◌, List, [], ◌∷◌, ◌++◌, length, Bool, true, false, Option, Some, None, option_map, IsSomeAnd, if◌then◌else◌, slice_index_or, IsTrue}
+use Rattle.std.specs.Prelude.{◌≡◌, ◌⊎◌, ◌↔◌, ℕ, ◌+◌, ◌-◌, ◌*◌, ◌^◌, ◌==◌, ◌<◌, ◌≤◌, List, [], ◌∷◌, ◌++◌, length, Bool, true, false, Option, Some, None, option_map, IsSomeAnd, if◌then◌else◌, slice_index_or, IsTrue, Result, OnOk}
 use Rattle.std.specs.List.{list_any, list_all}
 use Rattle.ckd_track.specs.declared.write.Kind.{Kind}
 use Rattle.crash_plant.specs.declared.device.Device.{Device}
 use Rattle.crash_plant.specs.declared.device.Device.TheVariants.{Journal, Volume as VolumeDevice}
+use Rattle.crash_plant.specs.Bytes.{Torn}
 use Rattle.crash_plant.specs.Choices.{Choice, IsChoice}
-use Rattle.crash_plant.specs.Moments.{PlantState}
+use Rattle.crash_plant.specs.Moments.{Follows, PlantState, on}
 use Rattle.pair_table.specs.declared.row.PairRow.{PairRow}
 use Rattle.pair_table.specs.Rows.{is_suspended}
 use Rattle.pair_table.specs.Tables.{with_rows}
@@ -21,6 +22,7 @@ use Rattle.applier.specs.Slots.{HasItem}
 use Rattle.image_former.specs.Changes.{AreSpelled, changed_through}
 use Rattle.image_former.specs.Entries.{HasEntry, entry_device, entry_row, is_device}
 use Rattle.image_former.specs.Forms.{is_image}
+use Rattle.site_store.specs.declared.store_error.StoreError.{StoreError}
 use Rattle.site_store.specs.GroupRows.{pairs_with_group, rows_with_group}
 use Rattle.site_store.specs.Sees.{with_time_and_rows}
 use Rattle.site_store.specs.Sites.{SiteState}
@@ -85,6 +87,16 @@ pub record SeesFormed (plant : PlantState) (group : FormedGroup) (rows : List Pa
 -- the devices on which the call works: the journal, and the volumes with entries
 abbrev pub IsOfGroup : (set : ℕ) → List PairRow → List WaitingEntry → Device → Type 0
 IsOfGroup set rows entries device = (device ≡ Journal set) ⊎ ((v : ℕ) × (device ≡ VolumeDevice v) × HasEntryOn rows entries v)
+
+-- ---- what is left of the journal
+
+-- At every moment the journal is as it was, but for the bytes of the group's record at the site's spot: 22 before the items, the
+-- items, and the gate behind them. After Ok these items wait.
+pub record LeavesElsewhere (tells : Type 0) (group : FormedGroup) (site next : SiteState) (old new : PlantState) (result : Result (Unit {0}) StoreError) : Type 0 where
+  pub items : List Item
+  pub are : AreItemsOf tells group site.table.rows old items
+  pub waiting : OnOk result (next.waiting ≡ items)
+  pub elsewhere : tells → Follows (Torn site.at.place (length (body_spelling items) + 23)) (on old (Journal site.at.set)) (on new (Journal site.at.set))
 
 -- ---- why it isn't logged
 

@@ -14,7 +14,7 @@ ghost use Rattle.state_set.specs.Slots.{started_table};
 ghost use Rattle.site_means.specs.Sight.{means_of};
 ghost use Rattle.site_store.specs.declared.store_error.StoreError.{StoreError as AnyError};
 ghost use Rattle.site_store.specs.declared.store_error.StoreError.TheVariants.{Fault, NoMemory as Memory};
-ghost use Rattle.site_store.specs.Formats.{IsSettledAt, ShutsOrMeans, ShutsSlots, started_means};
+ghost use Rattle.site_store.specs.Formats.{IsSettledAt, ShutsFirst, ShutsOrMeans, ShutsSlots, started_means};
 ghost use Rattle.site_store.specs.Jobs.{are_home_from, body_room, has_job_failed};
 ghost use Rattle.site_store.specs.Marking.{IsFormatted, error_of};
 ghost use Rattle.site_store.specs.Sites.{first_mark, first_spot, new_site};
@@ -83,7 +83,8 @@ fn shut_all<P: Plant>(plant: &mut P) -> Result<(), StoreError>
     ensures first { P.tells → OnOk result (slice_index ((P.state plant.new).bytes (JournalDevice 0)) 0 ≢ 1) }
     ensures durable_control { P.tells → OnOk result (IsDurable (on (P.state plant.new) Control)) }
     ensures durable_journal { P.tells → OnOk result (IsDurable (on (P.state plant.new) (JournalDevice 0))) }
-    ensures moments { P.tells → IsDurable (on (P.state plant.old) Control) → Follows (ShutsSlots (lengths_of (P.state plant.old))) (on (P.state plant.old) Control) (on (P.state plant.new) Control) }
+    // At every moment the state and the journal are as they were, until both slots of the control are closed.
+    ensures moments { P.tells → IsDurable (on (P.state plant.old) Control) → AllFollow (ShutsFirst (lengths_of (P.state plant.old))) (P.state plant.old) (P.state plant.new) }
     ensures only { WorksOn P.tells IsFormatted (P.state plant.old) (P.state plant.new) }
     ensures error { (e : AnyError) → IsErrOf result e → (d : AnyDevice) × (e ≡ Fault d) × IsFormatted d × Rose ((P.state plant.old).faults d) ((P.state plant.new).faults d) }
     ensures others { (d : AnyDevice) → ¬ IsErrOf result (error_of d) → (P.state plant.new).faults d ≡ (P.state plant.old).faults d }
@@ -180,7 +181,7 @@ impl<V: Drop> Site<V> {
             means_of (P.state plant.new) c ≡ Some (record { session = session; level = level; time = at; table = started_table session []; from = first_spot; ended = false })) }
         ensures stands { P.tells → IfOk result (λ site. Stands [] site (P.state plant.new)) }
         // At every moment, also of a start that fails, each slot of the control is as it was, or closed, until whatever a crash leaves
-        // means the new session.
+        // means the new session. The state and journal 0 are as they were, until both slots are closed.
         ensures moments { P.tells → IsDurable (on (P.state plant.old) Control) → AllFollow (ShutsOrMeans (P.state plant.old) (started_means session level at)) (P.state plant.old) (P.state plant.new) }
         ensures only { WorksOn P.tells IsFormatted (P.state plant.old) (P.state plant.new) }
         // Why it fails.

@@ -19,7 +19,7 @@ ghost use Rattle.image_former.specs.Entries.{HasEntry, entry_device, is_row_of, 
 ghost use Rattle.image_former.specs.Forms.{AreItemsWhereAllowed, is_image};
 ghost use Rattle.image_former.specs.Jobs.{HasFailed};
 ghost use Rattle.site_store.specs.declared.store_error.StoreError.TheVariants.{Fault, Volume as VolumeError, JournalEnd, Spent, NoMemory};
-ghost use Rattle.site_store.specs.Groups.{AreItemsOf, EndsBefore, FailByReads, HasEntryOn, HasRoom, IsOfGroup, IsOfLiveRow, SeesFormed, behind_group, first_failed, first_failed_from, is_entry_of};
+ghost use Rattle.site_store.specs.Groups.{AreItemsOf, EndsBefore, FailByReads, HasEntryOn, HasRoom, IsOfGroup, IsOfLiveRow, LeavesElsewhere, SeesFormed, behind_group, first_failed, first_failed_from, is_entry_of};
 ghost use Rattle.site_store.specs.Jobs.{are_home_from, has_job_failed};
 ghost use Rattle.site_store.specs.Sees.{SeesSameOr};
 ghost use Rattle.site_store.specs.Standing.{Fits, Stands, has_volume};
@@ -185,6 +185,8 @@ impl<V> Site<V> {
         ensures moments { P.tells → AllFollow (SeesSameOr (P.state plant.old) (SeesFormed (P.state plant.old) formed.now self.old.table.rows)) (P.state plant.old) (P.state plant.new) }
         // After Ok the group is seen in every choice.
         ensures logged { P.tells → OnOk result ((c : Choice) → IsChoice (P.state plant.new) (P.state plant.new).clock c → (b : Choice) × IsChoice (P.state plant.old) (P.state plant.old).clock b × SeesFormed (P.state plant.old) formed.now self.old.table.rows b c) }
+        // Unless a volume has failed, nothing of the journal changes before the spot, or behind the gate that follows the record.
+        ensures elsewhere { first_failed self.new ≡ None → LeavesElsewhere P.tells formed.now self.old self.new (P.state plant.old) (P.state plant.new) result }
         // The journal is written, and the volumes with entries are read. All else is as before, on all devices and the console.
         ensures only { WorksOnLent P.tells (IsOfGroup self.old.at.set self.old.table.rows formed.now.entries) (P.state plant.old) (P.state plant.new) }
         ensures volumes { P.tells → (d : ℕ) → (P.state plant.new).bytes (Volume d) ≡ (P.state plant.old).bytes (Volume d) }

@@ -14,8 +14,8 @@ use Rattle.site_store.specs.Sites.{SiteState, new_site}
 use Rattle.site_store.specs.Standing.{Fits, Stands}
 use Rattle.site_store.proofs.Calls.{durable_still}
 use Rattle.site_store.proofs.Firsts.{chosen_first, first_fits, first_is_mark, first_is_next, first_means, first_stands, holds_first, marked_formatted}
-use Rattle.site_store.proofs.Fitting.{lengths_still, reads_choice}
-use Rattle.site_store.proofs.Formatted.{shut_alone, shut_or_means, slots_here}
+use Rattle.site_store.proofs.Fitting.{lengths_still}
+use Rattle.site_store.proofs.Formatted.{first_here, shut_alone, shut_or_means}
 use Rattle.site_store.proofs.site.Site.format.Goals as goal
 
 pub returns-in_err-shut_all-clause-only : goal.returns-in_err-shut_all-clause-only
@@ -132,21 +132,19 @@ returns-clause-others g c d not =
 pub returns-in_err-site-clause-moments : goal.returns-in_err-site-clause-moments
 returns-in_err-site-clause-moments g c told durable =
     let old = g.P.Plant.state c.args.plant.now in
-    choices_here old (ShutsOrMeans old (started_means c.args.session c.args.level c.args.at)) (λ b is. inl (slots_here (lengths_of old) (b Control)))
+    choices_here old (ShutsOrMeans old (started_means c.args.session c.args.level c.args.at)) (λ b is. inl (first_here (lengths_of old) b))
 
 pub returns-in_err-shut_all-clause-moments : goal.returns-in_err-shut_all-clause-moments
 returns-in_err-shut_all-clause-moments g c told durable =
     let old = g.P.Plant.state c.args.plant.now in
-    shut_alone g.P.Plant.tells told c.args.session c.args.level c.args.at old (g.P.Plant.state c.shut_all.new.plant) c.shut_all.ensures.only
-    (reads_choice old c.requires.home (λ d there. g.met.P.Plant.read_is_image c.args.plant.now d told there)) (c.shut_all.ensures.moments told durable)
+    shut_alone g.P.Plant.tells told c.args.session c.args.level c.args.at old (g.P.Plant.state c.shut_all.new.plant) c.shut_all.ensures.only (c.shut_all.ensures.moments told durable)
 
 pub returns-in_err-put_mark-clause-moments : goal.returns-in_err-put_mark-clause-moments
 returns-in_err-put_mark-clause-moments g c told durable =
     let old = g.P.Plant.state c.args.plant.now in
     let shut = c.in_ok-shut_all.ensures in
     let view = c.site.view_is ∙ c.in_ok-site.ensures in
-    shut_or_means g.P.Plant.tells told c.args.session c.args.level c.args.at old (g.P.Plant.state c.shut_all.new.plant) c.shut_all.ensures.only
-    (reads_choice old c.requires.home (λ d there. g.met.P.Plant.read_is_image c.args.plant.now d told there)) (c.shut_all.ensures.moments told durable)
+    shut_or_means g.P.Plant.tells told c.args.session c.args.level c.args.at old (g.P.Plant.state c.shut_all.new.plant) c.shut_all.ensures.only (c.shut_all.ensures.moments told durable)
     (g.P.Plant.state c.put_mark.new.plant) c.site.inside.mark c.site.inside.table.rows (ap (λ (s : SiteState). s.mark) view) (ap (λ (s : SiteState). s.table.rows) view) (shut.shut told) (shut.durable_control told) (shut.first told) (shut.durable_journal told)
     c.requires.lengths.journals.0 c.put_mark.ensures.only (c.put_mark.ensures.moments told)
 
@@ -155,7 +153,6 @@ returns-clause-moments g c told durable =
     let old = g.P.Plant.state c.args.plant.now in
     let shut = c.in_ok-shut_all.ensures in
     let view = c.site.view_is ∙ c.in_ok-site.ensures in
-    shut_or_means g.P.Plant.tells told c.args.session c.args.level c.args.at old (g.P.Plant.state c.shut_all.new.plant) c.shut_all.ensures.only
-    (reads_choice old c.requires.home (λ d there. g.met.P.Plant.read_is_image c.args.plant.now d told there)) (c.shut_all.ensures.moments told durable)
+    shut_or_means g.P.Plant.tells told c.args.session c.args.level c.args.at old (g.P.Plant.state c.shut_all.new.plant) c.shut_all.ensures.only (c.shut_all.ensures.moments told durable)
     (g.P.Plant.state c.put_mark.new.plant) c.site.inside.mark c.site.inside.table.rows (ap (λ (s : SiteState). s.mark) view) (ap (λ (s : SiteState). s.table.rows) view) (shut.shut told) (shut.durable_control told) (shut.first told) (shut.durable_journal told)
     c.requires.lengths.journals.0 c.put_mark.ensures.only (c.put_mark.ensures.moments told)

@@ -1,10 +1,9 @@
-use Rattle.std.proofs.Common.{rules, ◌≡◌, ◌≢◌, ℕ, ◌+◌, ◌*◌, ◌-◌, ◌^◌, ◌≤◌, ◌<◌, Bool, List, length, map, Some, None, Ok, Err, refl, sym, ap, subst, ◌∙◌, arith}
+use Rattle.std.proofs.Common.{rules, ◌≡◌, ◌≢◌, ◌+◌, ◌-◌, ◌^◌, ◌≤◌, ◌<◌, Bool, List, length, map, None, Ok, Err, refl, sym, ap, subst, ◌∙◌, arith}
 use Rattle.std.specs.Prelude.{Result}
 use Rattle.std.specs.Vec.{with_items}
-use Rattle.std.proofs.lemmas.List.{length-map, with_items_is}
+use Rattle.std.proofs.lemmas.List.{with_items_is}
 use Rattle.std.proofs.lemmas.Result.{err_from_is_err_and}
 use Rattle.tod_stamp.specs.declared.stamp.Stamp.{Stamp}
-use Rattle.crash_plant.specs.declared.device.Device.{Device}
 use Rattle.crash_plant.specs.declared.device.Device.TheVariants.{Journal}
 use Rattle.crash_plant.specs.declared.spot.Spot.{Spot}
 use Rattle.crash_plant.specs.Moments.{Follows, on}
@@ -154,6 +153,12 @@ returns-in_err-put_record g c =
       stands = search rules;
       moments = λ told. exits.put_moments tells site group old mid failed r new from spot items marked at only told c.requires.fits (c.requires.stands told) are keep c.requires.cut c.requires.applied none (read told) low (subst (λ (t : Stamp). Follows (Appends (form_of mid) mid.journals from spot (record { time = t.0; items = items })) (on mid (Journal spot.set)) (on new (Journal spot.set))) c.cut-cut.ensures (c.put_record.ensures.moments told));
       logged = search rules;
+      elsewhere = λ good. record {
+        items = items;
+        are = are;
+        waiting = search rules;
+        elsewhere = λ told. exits.put_elsewhere tells site group old mid failed r new from spot items marked at only told (subst (λ (t : Stamp). Follows (Appends (form_of mid) mid.journals from spot (record { time = t.0; items = items })) (on mid (Journal spot.set)) (on new (Journal spot.set))) c.cut-cut.ensures (c.put_record.ensures.moments told));
+      };
       only = exits.put_only tells site group old mid failed r new from spot items marked at only;
       volumes = λ told. exits.put_volumes tells site group old mid failed r new from spot items marked at only told;
       images = λ told. exits.put_images tells site group old mid failed r new from spot items marked at only told;
@@ -218,6 +223,7 @@ returns g c =
       stands = λ told. subst (λ (s : SiteState). Stands s.table.rows s new) (sym is)
           (exits.put_stands tells site group old mid failed r new from spot items marked at only told c.requires.fits (c.requires.stands told) are keep c.requires.cut c.requires.applied none (read told) low (appends told) (ok.durable told) (adds told));
       moments = λ told. exits.put_moments tells site group old mid failed r new from spot items marked at only told c.requires.fits (c.requires.stands told) are keep c.requires.cut c.requires.applied none (read told) low (appends told);
+      elsewhere = λ good. record { items = items; are = are; waiting = refl; elsewhere = λ told. exits.put_elsewhere tells site group old mid failed r new from spot items marked at only told (appends told) };
       logged = λ told. exits.put_logged tells site group old mid failed r new from spot items marked at only told c.requires.fits (c.requires.stands told) are keep c.requires.cut c.requires.applied none (read told) low (appends told) (ok.durable told) (adds told);
       only = exits.put_only tells site group old mid failed r new from spot items marked at only;
       volumes = λ told. exits.put_volumes tells site group old mid failed r new from spot items marked at only told;
