@@ -23,7 +23,7 @@ use Rattle.site_store.proofs.MarkJobs.{true_false}
 use Rattle.site_store.proofs.MarkedSites.{in_list}
 use Rattle.site_store.proofs.NoneFailed.{none_failed}
 use Rattle.site_store.proofs.ReadsFirst.{items_mid, stands_mid}
-use Rattle.epoch.specs.Ends.{IsFull, IsFullFor, IsSpent}
+use Rattle.epoch.specs.Ends.{IsFullAt, IsSpent}
 use Rattle.epoch.specs.Works.{WorksSilently}
 use Rattle.epoch.proofs.CopySights.{rose_later}
 
@@ -147,23 +147,22 @@ items_told tells told group rows plant items are = record { images = are.images;
 
 -- The record of a group doesn't fit the rest of its data set.
 pub full_logged : (tells : Type 0) (told : tells) (a b : PlantState) (site : SiteState) (group : FormedGroup) → WorksSilently tells a b → OnlyReads tells a b → Stands site.table.rows site a → All (IsOfLiveRow site.table.rows) group.entries
-    → EndsBefore tells group site a → IsFullFor group b
+    → EndsBefore tells group site a → IsFullAt site.time group b
 full_logged tells told a b site group works reads stands live ends =
     let rows = site.table.rows in
     record {
-      site = site;
-      stands = stands_read tells told a b site works reads stands;
-      live = live;
-      ends = record {
-        items = ends.items;
-        are = items_mid a b works.site (reads.bytes told) (reads.moments told) ((works.elapses told).kept Control).later (Unit {0}) group rows ends.items (items_told tells told group rows a ends.items ends.are);
-        short =
-            let lengths = works.site.lengths (Journal site.at.set) in
-            let short = ends.short in
-            omega (arith, lengths, short);
+      full = record {
+        site = site;
+        stands = stands_read tells told a b site works reads stands;
+        live = live;
+        ends = record {
+          items = ends.items;
+          are = items_mid a b works.site (reads.bytes told) (reads.moments told) ((works.elapses told).kept Control).later (Unit {0}) group rows ends.items (items_told tells told group rows a ends.items ends.are);
+          short =
+              let lengths = works.site.lengths (Journal site.at.set) in
+              let short = ends.short in
+              omega (arith, lengths, short);
+        };
       };
+      time_is = refl;
     }
-
--- It is one of few entries.
-pub full_few : (group : FormedGroup) (plant : PlantState) → length group.entries ≤ 32 → IsFullFor group plant → IsFull plant
-full_few group plant few full = record { group = group; few = few; full = full }

@@ -14,6 +14,7 @@ use Rattle.pair_table.specs.Rows.{is_suspended}
 use Rattle.pair_table.specs.Tables.{Table, with_rows}
 use Rattle.pending_queue.specs.Entries.{WaitingEntry, due, entries_of, entry_of, is_later, left}
 use Rattle.pending_queue.specs.Groups.{FormedGroup, HasRoomFor, empty_group, with_entries}
+use Rattle.pending_queue.specs.Queues.{QueueState}
 use Rattle.primary_ctl.specs.Primaries.{primary}
 use Rattle.primary_ctl.specs.States.{PrimaryState, track_of}
 use Rattle.site_means.specs.declared.means.Means.{Means}
@@ -21,6 +22,7 @@ use Rattle.site_means.specs.Images.{shape_of}
 use Rattle.site_store.specs.GroupRows.{rows_with_group}
 use Rattle.site_store.specs.Groups.{IsOfLiveRow}
 use Rattle.epoch.specs.declared.lane.Lane.{Lane}
+use Rattle.epoch.specs.Ends.{IsFullAt, IsFullForWaiting}
 use Rattle.epoch.specs.Following.{HoldsPrimary, IsFollowing, ShowsPrimary, at_time}
 use Rattle.epoch.specs.Lanes.{WaitsFrom, tracks_of}
 use Rattle.epoch.specs.Sights.{AllShow, EachIs, Makes, ShowsEither, behind}
@@ -37,6 +39,16 @@ none_left cut [] early = refl
 none_left cut (w ∷ writes) early =
     let not : is_later cut (entry_of 0 w) ≡ false = le-ltb cut.0 w.stamp.0 (All-head (λ v. v.stamp.0 ≤ cut.0) w writes early) in
     rw not (none_left cut writes (All-tail (λ v. v.stamp.0 ≤ cut.0) w writes early))
+
+-- What waits in another lane's queue is the same.
+pub full_same : (lane next : Lane) (time : ℕ) (plant : PlantState) → next.queue ≡ lane.queue → next.primary ≡ lane.primary → IsFullForWaiting next time plant → IsFullForWaiting lane time plant
+full_same lane next time plant queue held f = record {
+  group = f.group;
+  full = f.full;
+  few = f.few;
+  at = f.at ∙ ap (λ (p : PrimaryState). p.time) held;
+  waits = f.waits ∙ ap (λ (q : QueueState). q.waiting) queue;
+}
 
 -- ---- the group
 
@@ -64,11 +76,21 @@ module _ (base : ℕ → List Rec) (volume tracks : ℕ) (lane : Lane) (w : Wait
       taken ∙ ap (λ (f : FormedGroup). with_entries f (due cut lane.queue.waiting)) from ∙ formed_all base volume tracks lane w cut at
 
   -- which has as many entries
-  pub waiting_few : (popped : FormedGroup) → popped ≡ group_of cut (entries_of 0 w.writes) → length lane.queue.waiting ≤ 32 → length popped.entries ≤ 32
+  waiting_few : (popped : FormedGroup) → popped ≡ group_of cut (entries_of 0 w.writes) → length lane.queue.waiting ≤ 32 → length popped.entries ≤ 32
   waiting_few popped is few =
       let same : popped.entries ≡ lane.queue.waiting = ap (λ (f : FormedGroup). f.entries) is ∙ sym w.entries in
       let count = ap length same in
       omega (arith, count, few)
+
+  -- Where its record doesn't fit, that of what waits doesn't.
+  pub waiting_full : (popped : FormedGroup) (time : ℕ) (plant : PlantState) → popped ≡ group_of cut (entries_of 0 w.writes) → length lane.queue.waiting ≤ 32 → IsFullAt time popped plant → IsFullForWaiting lane time plant
+  waiting_full popped time plant is few full = record {
+    group = popped;
+    full = full;
+    few = waiting_few popped is few;
+    at = ap (λ (f : FormedGroup). f.cut.0) is ∙ at;
+    waits = ap (λ (f : FormedGroup). f.entries) is ∙ sym w.entries;
+  }
 
 module _ (row : PairRow) (lane : Lane) (cut : Stamp) (at : cut.0 ≡ lane.primary.time) (rows : List PairRow) (popped : FormedGroup) (control : row.control ≡ 0) (duplex : row.state ≡ Duplex) (own : rows ≡ row ∷ []) where
   -- Its entries are the pair's.

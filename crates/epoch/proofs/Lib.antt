@@ -2,10 +2,12 @@ pub mod Both
 pub mod Changing
 pub mod Copies
 pub mod CopySights
+pub mod Frames
 pub mod GivenEntries
 pub mod GivenTraces
 pub mod HandLaws
 pub mod KeptErrors
+pub mod KeptFrames
 pub mod KeptGroups
 pub mod KeptNone
 pub mod KeptWaiting
@@ -16,6 +18,7 @@ pub mod Rooms
 pub mod Showing
 pub mod Steps
 pub mod TakenLaws
+pub mod TraceWaits
 pub mod Turns
 pub mod WaitingWrites
 pub mod Working

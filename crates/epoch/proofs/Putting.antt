@@ -94,6 +94,11 @@ module _ (row : PairRow) (lane put next : Lane) (volumes : List VolumeHead) (bat
     holds = holds;
   }
 
+-- It is put too where another lane has that queue.
+pub puts_same : (volume : ℕ) (writes : List Write) (lane put next : Lane) (before after : ℕ) → next.queue ≡ put.queue → PutsRun volume writes lane before put after → PutsRun volume writes lane before next after
+puts_same volume writes lane put next before after queue (Behind same waiting) = Behind same (ap (λ (q : QueueState). q.waiting) queue ∙ waiting)
+puts_same volume writes lane put next before after queue (Alone at waiting) = Alone at (ap (λ (q : QueueState). q.waiting) queue ∙ waiting)
+
 -- The site's time has risen, and isn't above the lane's.
 pub put_later : (volume : ℕ) (writes : List Write) (lane next : Lane) (before after : ℕ) → PutsRun volume writes lane before next after → before ≤ lane.primary.time → (before ≤ after) × (after ≤ lane.primary.time)
 put_later volume writes lane next before after (Behind same waiting) le = (omega (arith, same), omega (arith, same, le))

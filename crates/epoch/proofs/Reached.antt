@@ -24,28 +24,20 @@ use Rattle.epoch.specs.Taken.{HasReached, HasTaken, do_rise}
 use Rattle.epoch.proofs.Both.{and_true}
 use Rattle.epoch.proofs.HandLaws.{IsAbove}
 use Rattle.epoch.proofs.RisingEntries.{rise_behind, writes_rise}
-use Rattle.epoch.proofs.TakenLaws.{IsLater, all_early, all_more, later_none, later_some, writes_then}
+use Rattle.epoch.proofs.TakenLaws.{IsLater, due_writes, later_none, later_some}
 
 -- Where what is ahead is later than a time, the primary has reached it.
 pub reached_later : (told : Option (List ℕ)) (t : Trace) (side : SidefileState) (held : PrimaryState) (limit : ℕ) (taken : HasTaken told t side held) → side.upto ≤ limit
     → IsLater limit (cause_ahead side.reader taken.rest) (ahead side.waiting side.reader taken.rest) → HasReached limit t held
 reached_later told t side held limit taken low later =
-    let old = ahead side.waiting side.reader taken.rest in
-    let early : Write → Bool = λ w. nat_le w.stamp.0 limit in
-    let due_writes : writes_of taken.before ≡ filter early (writes_of t.entries) =
-    sym (append-nil (writes_of taken.before))
-    ∙ ap (λ (ws : List Write). writes_of taken.before ++ ws) (sym later.none)
-    ∙ ap (λ (ws : List Write). ws ++ filter early (writes_of old)) (sym (all_early limit (writes_of taken.before) (all_more (λ w. w.stamp.0 ≤ side.upto) (λ w. w.stamp.0 ≤ limit) (writes_of taken.before) (λ w le. omega (arith, le, low)) taken.reported)))
-    ∙ sym (filter-append early (writes_of taken.before) (writes_of old))
-    ∙ ap (λ (ws : List Write). filter early ws) (sym (writes_then taken.before old))
-    ∙ ap (λ (es : List Entry). filter early (writes_of es)) taken.all in
+    let due_before : writes_of taken.before ≡ filter (λ w. nat_le w.stamp.0 limit) (writes_of t.entries) = sym (due_writes told t side held limit taken low later) in
     let fall = and_true (never_fall 0 (writes_of t.entries)) true (writes_rise 0 t.entries taken.rise) refl in
     record {
-      tracks = λ volume track. taken.tracks volume track ∙ batches_make (t ∷ []) limit 0 volume track t (writes_of taken.before ∷ []) fall refl (append-nil (writes_of taken.before) ∙ due_writes);
+      tracks = λ volume track. taken.tracks volume track ∙ batches_make (t ∷ []) limit 0 volume track t (writes_of taken.before ∷ []) fall refl (append-nil (writes_of taken.before) ∙ due_before);
       unbroken = ap (λ b. is_below (option_map (λ x. x.upto) b) limit) (sym taken.same_break) ∙ later.unbroken;
     }
 
--- What is ahead of a sidefile that goes on is later than what it has reported.
+-- Where an entry waits, or the trace has ended, what is ahead is later than what was reported.
 later_now : (waiting : Option Entry) (reader : ReaderState) (upto : ℕ) (rest : List ℕ) → IsWaiting waiting reader upto → 0 < upto → do_rise 0 (ahead waiting reader rest) ≡ true → IsLater upto (cause_ahead reader rest) (ahead waiting reader rest)
 later_now None reader upto rest (inl first) some rise = (let z = first.0 in let no : ⊥ = omega (arith, some, z) in absurd no)
 later_now None reader upto rest (inr end) some rise =
@@ -56,10 +48,19 @@ later_now (Some e) reader upto rest waits some rise =
     let b = begins e es in
     later_some upto 0 (cause_ahead reader rest) (e ∷ es) rise (record { run = e ∷ b.run; more = b.more; is = b.is; above = waits.1 })
 
--- At the time up to which a sidefile that goes on has reported, the primary has reached it.
-pub reached_now : (told : Option (List ℕ)) (t : Trace) (side : SidefileState) (held : PrimaryState) → HasTaken told t side held → IsSidefile side.halted side.waiting side.reader side.upto → side.halted ≡ None → 0 < side.upto → HasReached side.upto t held
-reached_now told t side held taken keeps goes some =
+-- What is ahead of a sidefile that goes on is later than what it has reported.
+ahead_later : (told : Option (List ℕ)) (t : Trace) (side : SidefileState) (held : PrimaryState) (taken : HasTaken told t side held) → IsSidefile side.halted side.waiting side.reader side.upto → side.halted ≡ None → 0 < side.upto
+    → IsLater side.upto (cause_ahead side.reader taken.rest) (ahead side.waiting side.reader taken.rest)
+ahead_later told t side held taken keeps goes some =
     let waits = subst (λ (h : Option Halt). IsSidefile h side.waiting side.reader side.upto) goes keeps in
-    let old = ahead side.waiting side.reader taken.rest in
-    let rising = rise_behind 0 taken.before old (subst (λ (es : List Entry). do_rise 0 es ≡ true) (sym taken.all) taken.rise) in
-    reached_later told t side held side.upto taken (omega arith) (later_now side.waiting side.reader side.upto taken.rest waits some rising)
+    let rising = rise_behind 0 taken.before (ahead side.waiting side.reader taken.rest) (subst (λ (es : List Entry). do_rise 0 es ≡ true) (sym taken.all) taken.rise) in
+    later_now side.waiting side.reader side.upto taken.rest waits some rising
+
+-- At the time up to which it has reported, the primary has reached it.
+pub reached_now : (told : Option (List ℕ)) (t : Trace) (side : SidefileState) (held : PrimaryState) → HasTaken told t side held → IsSidefile side.halted side.waiting side.reader side.upto → side.halted ≡ None → 0 < side.upto → HasReached side.upto t held
+reached_now told t side held taken keeps goes some = reached_later told t side held side.upto taken (omega arith) (ahead_later told t side held taken keeps goes some)
+
+-- The writes up to that time are those that were taken over.
+pub due_now : (told : Option (List ℕ)) (t : Trace) (side : SidefileState) (held : PrimaryState) (taken : HasTaken told t side held) → IsSidefile side.halted side.waiting side.reader side.upto → side.halted ≡ None → 0 < side.upto
+    → filter (λ w. nat_le w.stamp.0 side.upto) (writes_of t.entries) ≡ writes_of taken.before
+due_now told t side held taken keeps goes some = due_writes told t side held side.upto taken (omega arith) (ahead_later told t side held taken keeps goes some)

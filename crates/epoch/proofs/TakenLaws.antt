@@ -64,11 +64,12 @@ ahead_behind : (old new run : List Entry) (more : List (List Entry)) → runs ol
 ahead_behind old new run more is rest =
     sym (runs_are_all old) ∙ ap (λ (rs : List (List Entry)). flat_map (λ r. r) rs) is ∙ ap (λ (rs : List (List Entry)). run ++ flat_map (λ r. r) rs) (sym rest) ∙ ap (λ (t : List Entry). run ++ t) (runs_are_all new)
 
-pub take_batch : (told now : Option (List ℕ)) (t : Trace) (side next : SidefileState) (held after : PrimaryState) (control limit : ℕ) (batch : Batch) (volumes : _)
-    → HasTaken told t side held → IsDue control limit told now (front_of side) (front_of next) (hands.Batch batch) → IsRunOf volumes control side.upto limit batch → next.upto ≡ batch.upto.0
+-- It is taken over: its writes come behind those before.
+pub take_writes : (told now : Option (List ℕ)) (t : Trace) (side next : SidefileState) (held after : PrimaryState) (control limit : ℕ) (batch : Batch) (volumes : _)
+    (taken : HasTaken told t side held) → IsDue control limit told now (front_of side) (front_of next) (hands.Batch batch) → IsRunOf volumes control side.upto limit batch → next.upto ≡ batch.upto.0
     → ((volume track : ℕ) → track_of after volume track ≡ after_writes (track_of held volume track) (filter (is_on volume track) batch.writes))
-    → HasTaken now t next after
-take_batch told now t side next held after control limit batch volumes taken due run upto tracks =
+    → (more : HasTaken now t next after) × (writes_of more.before ≡ writes_of taken.before ++ batch.writes)
+take_writes told now t side next held after control limit batch volumes taken due run upto tracks =
     let d = due taken.rest taken.there in
     let old = ahead side.waiting side.reader taken.rest in
     let new = ahead next.waiting next.reader d.1.rest in
@@ -78,27 +79,35 @@ take_batch told now t side next held after control limit batch volumes taken due
     let writes : writes_of (taken.before ++ first.run) ≡ writes_of taken.before ++ batch.writes = writes_then taken.before first.run ∙ ap (λ (ws : List Write). writes_of taken.before ++ ws) (sym first.writes) in
     let P : Write → Type 0 = λ w. w.stamp.0 ≤ next.upto in
     let above = run.above in
-    let there = run.there in
-    record {
-      rise = taken.rise;
-      before = taken.before ++ first.run;
-      rest = d.1.rest;
-      there = d.1.there;
-      all = append_assoc taken.before first.run new ∙ ap (λ (es : List Entry). taken.before ++ es) (sym split) ∙ taken.all;
-      reported = All-same P (writes_of (taken.before ++ first.run)) (writes_of taken.before ++ batch.writes) writes
-          (All-append P (writes_of taken.before) batch.writes
-          (all_more (λ w. w.stamp.0 ≤ side.upto) P (writes_of taken.before) (λ w le. omega (arith, le, upto, above, there)) taken.reported)
-          (all_more (λ w. w.stamp.0 ≡ run.stamp) P batch.writes (λ w is. omega (arith, is, upto, there)) run.stamps));
-      tracks = λ volume track.
-          let base = base_in t.header.base volume track in
-          let on : Write → Bool = is_on volume track in
-          tracks volume track
-          ∙ ap (λ (recs : List Rec). after_writes recs (filter on batch.writes)) (taken.tracks volume track)
-          ∙ sym (after_then base (filter on (writes_of taken.before)) (filter on batch.writes))
-          ∙ ap (after_writes base) (sym (filter-append on (writes_of taken.before) batch.writes))
-          ∙ ap (λ (ws : List Write). after_writes base (filter on ws)) (sym writes);
-      same_break = ap (λ (c : Option Cause). break_in c (runs new)) d.1.same_end ∙ ap (break_in (cause_ahead side.reader taken.rest)) left ∙ first.same ∙ taken.same_break;
-    }
+    let there = run.there in (
+      record {
+        rise = taken.rise;
+        before = taken.before ++ first.run;
+        rest = d.1.rest;
+        there = d.1.there;
+        all = append_assoc taken.before first.run new ∙ ap (λ (es : List Entry). taken.before ++ es) (sym split) ∙ taken.all;
+        reported = All-same P (writes_of (taken.before ++ first.run)) (writes_of taken.before ++ batch.writes) writes
+            (All-append P (writes_of taken.before) batch.writes
+            (all_more (λ w. w.stamp.0 ≤ side.upto) P (writes_of taken.before) (λ w le. omega (arith, le, upto, above, there)) taken.reported)
+            (all_more (λ w. w.stamp.0 ≡ run.stamp) P batch.writes (λ w is. omega (arith, is, upto, there)) run.stamps));
+        tracks = λ volume track.
+            let base = base_in t.header.base volume track in
+            let on : Write → Bool = is_on volume track in
+            tracks volume track
+            ∙ ap (λ (recs : List Rec). after_writes recs (filter on batch.writes)) (taken.tracks volume track)
+            ∙ sym (after_then base (filter on (writes_of taken.before)) (filter on batch.writes))
+            ∙ ap (after_writes base) (sym (filter-append on (writes_of taken.before) batch.writes))
+            ∙ ap (λ (ws : List Write). after_writes base (filter on ws)) (sym writes);
+        same_break = ap (λ (c : Option Cause). break_in c (runs new)) d.1.same_end ∙ ap (break_in (cause_ahead side.reader taken.rest)) left ∙ first.same ∙ taken.same_break;
+      },
+      writes,
+    )
+
+pub take_batch : (told now : Option (List ℕ)) (t : Trace) (side next : SidefileState) (held after : PrimaryState) (control limit : ℕ) (batch : Batch) (volumes : _)
+    → HasTaken told t side held → IsDue control limit told now (front_of side) (front_of next) (hands.Batch batch) → IsRunOf volumes control side.upto limit batch → next.upto ≡ batch.upto.0
+    → ((volume track : ℕ) → track_of after volume track ≡ after_writes (track_of held volume track) (filter (is_on volume track) batch.writes))
+    → HasTaken now t next after
+take_batch told now t side next held after control limit batch volumes taken due run upto tracks = (take_writes told now t side next held after control limit batch volumes taken due run upto tracks).0
 
 -- ---- the limit
 
@@ -135,6 +144,28 @@ take_later control limit last cause entries rise e = elim (hand_at_limit control
   | inr h ↦ later_some limit last cause entries rise h
 ]
 
+-- Where what is ahead is later than a time, the writes up to it are those before.
+pub due_writes : (told : Option (List ℕ)) (t : Trace) (side : SidefileState) (held : PrimaryState) (limit : ℕ) (taken : HasTaken told t side held) → side.upto ≤ limit
+    → IsLater limit (cause_ahead side.reader taken.rest) (ahead side.waiting side.reader taken.rest) → filter (λ w. nat_le w.stamp.0 limit) (writes_of t.entries) ≡ writes_of taken.before
+due_writes told t side held limit taken low later =
+    let old = ahead side.waiting side.reader taken.rest in
+    let early : Write → Bool = λ w. nat_le w.stamp.0 limit in
+    ap (λ (es : List Entry). filter early (writes_of es)) (sym taken.all)
+    ∙ ap (λ (ws : List Write). filter early ws) (writes_then taken.before old)
+    ∙ filter-append early (writes_of taken.before) (writes_of old)
+    ∙ ap (λ (ws : List Write). ws ++ filter early (writes_of old)) (all_early limit (writes_of taken.before) (all_more (λ w. w.stamp.0 ≤ side.upto) (λ w. w.stamp.0 ≤ limit) (writes_of taken.before) (λ w le. omega (arith, le, low)) taken.reported))
+    ∙ ap (λ (ws : List Write). writes_of taken.before ++ ws) later.none
+    ∙ append-nil (writes_of taken.before)
+
+-- At a limit what is ahead is later than that.
+pub limit_later : (told now : Option (List ℕ)) (t : Trace) (side next : SidefileState) (held : PrimaryState) (control limit : ℕ) (taken : HasTaken told t side held) → IsDue control limit told now (front_of side) (front_of next) hands.AtLimit
+    → IsLater limit (cause_ahead side.reader taken.rest) (ahead side.waiting side.reader taken.rest)
+limit_later told now t side next held control limit taken due =
+    let d = due taken.rest taken.there in
+    let old = ahead side.waiting side.reader taken.rest in
+    let rising = rise_behind 0 taken.before old (subst (λ (es : List Entry). do_rise 0 es ≡ true) (sym taken.all) taken.rise) in
+    take_later control limit 0 (cause_ahead side.reader taken.rest) old rising d.0
+
 pub take_limit : (told now : Option (List ℕ)) (t : Trace) (side next : SidefileState) (held after : PrimaryState) (control limit : ℕ)
     → HasTaken told t side held → IsDue control limit told now (front_of side) (front_of next) hands.AtLimit → side.upto ≤ limit → next.upto ≡ limit
     → ((volume track : ℕ) → track_of after volume track ≡ track_of held volume track)
@@ -144,16 +175,8 @@ take_limit told now t side next held after control limit taken due low upto trac
     let old = ahead side.waiting side.reader taken.rest in
     let new = ahead next.waiting next.reader d.1.rest in
     let same : new ≡ old = sym (runs_are_all new) ∙ ap (λ (rs : List (List Entry)). flat_map (λ r. r) rs) d.1.runs ∙ runs_are_all old in
-    let rising = rise_behind 0 taken.before old (subst (λ (es : List Entry). do_rise 0 es ≡ true) (sym taken.all) taken.rise) in
-    let later = take_later control limit 0 (cause_ahead side.reader taken.rest) old rising d.0 in
-    let early : Write → Bool = λ w. nat_le w.stamp.0 limit in
-    let due_writes : writes_of taken.before ≡ filter early (writes_of t.entries) =
-    sym (append-nil (writes_of taken.before))
-    ∙ ap (λ (ws : List Write). writes_of taken.before ++ ws) (sym later.none)
-    ∙ ap (λ (ws : List Write). ws ++ filter early (writes_of old)) (sym (all_early limit (writes_of taken.before) (all_more (λ w. w.stamp.0 ≤ side.upto) (λ w. w.stamp.0 ≤ limit) (writes_of taken.before) (λ w le. omega (arith, le, low)) taken.reported)))
-    ∙ sym (filter-append early (writes_of taken.before) (writes_of old))
-    ∙ ap (λ (ws : List Write). filter early ws) (sym (writes_then taken.before old))
-    ∙ ap (λ (es : List Entry). filter early (writes_of es)) taken.all in
+    let later = limit_later told now t side next held control limit taken due in
+    let due_before : writes_of taken.before ≡ filter (λ w. nat_le w.stamp.0 limit) (writes_of t.entries) = sym (due_writes told t side held limit taken low later) in
     let fall = and_true (never_fall 0 (writes_of t.entries)) true (writes_rise 0 t.entries taken.rise) refl in (
       record {
         rise = taken.rise;
@@ -168,7 +191,7 @@ take_limit told now t side next held after control limit taken due low upto trac
       record {
         tracks = λ volume track.
             tracks volume track ∙ taken.tracks volume track
-            ∙ batches_make (t ∷ []) limit 0 volume track t (writes_of taken.before ∷ []) fall refl (append-nil (writes_of taken.before) ∙ due_writes);
+            ∙ batches_make (t ∷ []) limit 0 volume track t (writes_of taken.before ∷ []) fall refl (append-nil (writes_of taken.before) ∙ due_before);
         unbroken = ap (λ b. is_below (option_map (λ x. x.upto) b) limit) (sym taken.same_break) ∙ later.unbroken;
       },
     )

@@ -1,10 +1,19 @@
 -- What the devices show where a group can't be kept.
-use Rattle.std.specs.Prelude.{◌≡◌, ◌⊎◌, ◌-◌, ◌^◌, ◌≤◌, length, All}
+use Rattle.std.specs.Prelude.{◌≡◌, ◌⊎◌, ◌-◌, ◌^◌, ◌≤◌, ◌&&◌, ℕ, List, [], length, filter, All}
+use Rattle.ckd_track.specs.declared.rec.Rec.{Rec}
 use Rattle.crash_plant.specs.Moments.{PlantState}
+use Rattle.trace_grammar.specs.declared.trace.Trace.{Trace}
+use Rattle.trace_grammar.specs.Writes.{writes_of}
+use Rattle.pair_table.specs.declared.row.PairRow.{PairRow}
+use Rattle.pending_queue.specs.Entries.{entries_of}
 use Rattle.pending_queue.specs.Groups.{FormedGroup}
 use Rattle.site_store.specs.Groups.{EndsBefore, IsOfLiveRow}
 use Rattle.site_store.specs.Sites.{SiteState}
 use Rattle.site_store.specs.Standing.{Stands}
+use Rattle.epoch.specs.declared.copying.Part.{Part}
+use Rattle.epoch.specs.declared.lane.Lane.{Lane}
+use Rattle.epoch.specs.Copying.{IsPartOf, group_of}
+use Rattle.epoch.specs.Lanes.{is_between, is_of}
 
 -- A site stands on the devices whose next record, or next mark, would need the number 2^64 - 1.
 pub record IsSpent (plant : PlantState) : Type 0 where
@@ -19,8 +28,40 @@ pub record IsFullFor (group : FormedGroup) (plant : PlantState) : Type 0 where
   pub live : All (IsOfLiveRow site.table.rows) group.entries
   pub ends : EndsBefore (Unit {0}) group site plant
 
--- The record of some group of at most 32 entries doesn't fit.
-pub record IsFull (plant : PlantState) : Type 0 where
-  pub group : FormedGroup
-  pub few : length group.entries ≤ 32
+-- It is a site at this time.
+pub record IsFullAt (time : ℕ) (group : FormedGroup) (plant : PlantState) : Type 0 where
   pub full : IsFullFor group plant
+  pub time_is : full.site.time ≡ time
+
+-- ---- the group that is due
+
+-- The record of a group without entries at a time doesn't fit.
+pub record IsFullForTime (time : ℕ) (plant : PlantState) : Type 0 where
+  pub group : FormedGroup
+  pub at : group.cut.0 ≡ time
+  pub none : group.entries ≡ []
+  pub full : IsFullFor group plant
+
+-- That of a part of a pair's tracks, as they are at a time, doesn't fit.
+pub record IsFullForCopy (row : PairRow) (tracks : ℕ → List Rec) (time : ℕ) (plant : PlantState) : Type 0 where
+  pub part : Part
+  pub is_part : IsPartOf row part
+  pub full : IsFullFor (group_of row.volume (record { 0 = time }) tracks part) plant
+
+-- That of what waits, at the lane's time, doesn't fit behind a site at this time.
+pub record IsFullForWaiting (lane : Lane) (time : ℕ) (plant : PlantState) : Type 0 where
+  pub group : FormedGroup
+  pub full : IsFullAt time group plant
+  pub few : length group.entries ≤ 32
+  pub at : group.cut.0 ≡ lane.primary.time
+  pub waits : group.entries ≡ lane.queue.waiting
+
+-- That of the writes to a pair's volume doesn't fit which the trace has behind the site's time up to a cut.
+pub record IsFullForWrites (t : Trace) (row : PairRow) (from to : ℕ) (plant : PlantState) : Type 0 where
+  pub group : FormedGroup
+  pub full : IsFullFor group plant
+  pub few : length group.entries ≤ 32
+  pub since : from ≤ full.site.time
+  pub rises : full.site.time ≤ group.cut.0
+  pub up_to : group.cut.0 ≤ to
+  pub writes : group.entries ≡ entries_of 0 (filter (λ w. is_between full.site.time group.cut.0 w && is_of row.volume w) (writes_of t.entries))

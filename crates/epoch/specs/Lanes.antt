@@ -1,5 +1,5 @@
 -- What a lane is between its calls, and what waits in its queue.
-use Rattle.std.specs.Prelude.{◌≡◌, ℕ, ◌<◌, ◌≤◌, ◌*◌, ◌==◌, Bool, List, [], ◌∷◌, length, None, filter, All, IsTrue}
+use Rattle.std.specs.Prelude.{◌≡◌, ℕ, ◌<◌, ◌≤◌, ◌*◌, ◌==◌, ◌&&◌, Bool, List, [], ◌∷◌, length, None, filter, nat_le, nat_lt, All, IsTrue}
 use Rattle.ckd_track.specs.declared.rec.Rec.{Rec}
 use Rattle.ckd_track.specs.declared.write.Write.{Write}
 use Rattle.ckd_track.specs.Effects.{is_kind}
@@ -49,6 +49,10 @@ tracks_of row = 15 * row.cylinders
 
 abbrev pub is_of : (volume : ℕ) → Write → Bool
 is_of volume w = w.volume == volume
+
+-- whether a write is behind one time and not behind another
+abbrev pub is_between : (from to : ℕ) → Write → Bool
+is_between from to w = nat_lt from w.stamp.0 && nat_le w.stamp.0 to
 
 -- A write on a track of a volume that keeps the rules of its kind.
 pub record IsOn (volume tracks : ℕ) (w : Write) : Type 0 where

@@ -5,6 +5,7 @@ ghost use Rattle.xrc_edge.specs.Causes.{Rose};
 ghost use Rattle.ckd_track.specs.Tracks.{IsTrack};
 ghost use Rattle.crash_plant.specs.declared.device.Device.{Device as DeviceValue};
 ghost use Rattle.crash_plant.specs.declared.device.Device.TheVariants.{Volume as VolumeDevice};
+ghost use Rattle.crash_plant.specs.Calls.{NoneLent};
 ghost use Rattle.pair_table.specs.declared.row.PairState.TheVariants.{Duplex, Pending};
 ghost use Rattle.pair_table.specs.Tables.{in_state, with_rows};
 ghost use Rattle.pending_queue.specs.Entries.{copy_head, copy_of, last_stamp};
@@ -18,7 +19,8 @@ ghost use Rattle.site_store.specs.Marking.{NoneFailed};
 ghost use Rattle.site_store.specs.Standing.{Fits, Stands};
 ghost use Rattle.trace_grammar.specs.Headers.{cylinders_of};
 ghost use Rattle.epoch.specs.Copying.{IsPart, IsPartOf, IsUncopiedIn, PartMoments, PartShows, ShowsCopying, copies_from, group_of, in_row, state_after};
-ghost use Rattle.epoch.specs.Ends.{IsFull, IsSpent};
+ghost use Rattle.epoch.specs.Ends.{IsFullForCopy, IsSpent};
+ghost use Rattle.epoch.specs.Frames.{KeepsOthers};
 ghost use Rattle.epoch.specs.Lanes.{IsFeed, IsRowOf, tracks_of};
 ghost use Rattle.epoch.specs.Sights.{AllShow, EachIs};
 ghost use Rattle.epoch.specs.Works.{WorksSilently};
@@ -160,17 +162,21 @@ impl Lane {
         ensures controls { OnOk result (site.new.controls ≡ site.old.controls) }
         ensures level { OnOk result (site.new.level ≡ site.old.level) }
         ensures idle { OnOk result (site.new.waiting ≡ []) }
+        ensures set { OnOk result (site.new.at.set ≡ site.old.at.set) }
         ensures marked { OnOk result (site.new.mark.at ≡ site.new.at) }
         ensures goes_on { OnOk result (site.new.mark.ended ≡ false) }
         ensures fits { OnOk result (Fits site.new (P.state plant.new)) }
         ensures stands { P.tells → OnOk result (Stands site.new.table.rows site.new (P.state plant.new)) }
+        ensures home { NoneLent (P.state plant.new) }
         ensures moments { P.tells → PartMoments row.now site.old.table.rows (track_of self.old.primary row.now.volume) self.old.primary.time part.first (P.state plant.old) (P.state plant.new) }
         ensures shows { P.tells → OnOk result (PartShows row.now site.old.table.rows (track_of self.old.primary row.now.volume) self.old.primary.time part (P.state plant.old) (P.state plant.new)) }
+        // But for the journal, and the pair's tracks, all is as before.
+        ensures others { P.tells → KeepsOthers site.old.at.set row.now.device (tracks_of row.now) (P.state plant.old) (P.state plant.new) }
         ensures works { WorksSilently P.tells (P.state plant.old) (P.state plant.new) }
         ensures fault { (d : DeviceValue) → IsErrOf result (Fault d) → Rose ((P.state plant.old).faults d) ((P.state plant.new).faults d) }
         ensures volume { NoneFailed site.old → (v : ℕ) → IsErrOf result (VolumeError v) → Rose ((P.state plant.old).faults (VolumeDevice v)) ((P.state plant.new).faults (VolumeDevice v)) }
         ensures spent { P.tells → IsErrOf result Spent → IsSpent (P.state plant.new) }
-        ensures journal_end { P.tells → IsErrOf result JournalEnd → IsFull (P.state plant.new) }
+        ensures journal_end { P.tells → IsErrOf result JournalEnd → IsFullForCopy row.now (track_of self.old.primary row.now.volume) self.old.primary.time (P.state plant.new) }
         ensures good { OnOk result (NoneFailed site.new) }
     {
         self.form_part(alloc, row.volume, part)?;
@@ -205,19 +211,23 @@ impl Lane {
         ensures controls { OnOk result (site.new.controls ≡ site.old.controls) }
         ensures level { OnOk result (site.new.level ≡ site.old.level) }
         ensures idle { OnOk result (site.new.waiting ≡ []) }
+        ensures set { OnOk result (site.new.at.set ≡ site.old.at.set) }
         ensures marked { OnOk result (site.new.mark.at ≡ site.new.at) }
         ensures goes_on { OnOk result (site.new.mark.ended ≡ false) }
         ensures fits { OnOk result (Fits site.new (P.state plant.new)) }
         ensures stands { P.tells → OnOk result (Stands site.new.table.rows site.new (P.state plant.new)) }
+        ensures home { NoneLent (P.state plant.new) }
         // At every moment the pair waits or is copied, or it is duplex and holds all tracks as they are at the lane's time.
         ensures moments { P.tells → (means : MeansValue) → means.ended ≡ false → means.time.0 ≡ self.old.primary.time → AllShow (in_row Pending row.now means) row.now.device 0 (track_of self.old.primary row.now.volume) (P.state plant.old) → EachIs (ShowsCopying (shape_of (P.state plant.old)) means row.now (track_of self.old.primary row.now.volume)) (P.state plant.old) (P.state plant.new) }
         ensures shows { P.tells → (means : MeansValue) → means.ended ≡ false → means.time.0 ≡ self.old.primary.time → AllShow (in_row Pending row.now means) row.now.device 0 (track_of self.old.primary row.now.volume) (P.state plant.old) → OnOk result (AllShow (in_row Duplex row.now means) row.now.device (tracks_of row.now) (track_of self.old.primary row.now.volume) (P.state plant.new)) }
+        // But for the journal, and the pair's tracks, all is as before.
+        ensures others { P.tells → KeepsOthers site.old.at.set row.now.device (tracks_of row.now) (P.state plant.old) (P.state plant.new) }
         ensures works { WorksSilently P.tells (P.state plant.old) (P.state plant.new) }
         // Why it fails.
         ensures fault { (d : DeviceValue) → IsErrOf result (Fault d) → Rose ((P.state plant.old).faults d) ((P.state plant.new).faults d) }
         ensures volume { NoneFailed site.old → (v : ℕ) → IsErrOf result (VolumeError v) → Rose ((P.state plant.old).faults (VolumeDevice v)) ((P.state plant.new).faults (VolumeDevice v)) }
         ensures spent { P.tells → IsErrOf result Spent → IsSpent (P.state plant.new) }
-        ensures journal_end { P.tells → IsErrOf result JournalEnd → IsFull (P.state plant.new) }
+        ensures journal_end { P.tells → IsErrOf result JournalEnd → IsFullForCopy row.now (track_of self.old.primary row.now.volume) self.old.primary.time (P.state plant.new) }
         ensures good { OnOk result (NoneFailed site.new) }
     {
         let tracks = tracks_of(site, row);

@@ -5,6 +5,7 @@ ghost use Rattle.xrc_edge.specs.Causes.{Rose};
 ghost use Rattle.ckd_track.specs.Effects.{is_kind};
 ghost use Rattle.crash_plant.specs.declared.device.Device.{Device as DeviceValue};
 ghost use Rattle.crash_plant.specs.declared.device.Device.TheVariants.{Volume as VolumeDevice};
+ghost use Rattle.crash_plant.specs.Calls.{NoneLent};
 ghost use Rattle.trace_grammar.specs.declared.trace.Trace.{Trace as TraceValue};
 ghost use Rattle.pair_table.specs.declared.row.PairState.TheVariants.{Duplex};
 ghost use Rattle.pending_queue.specs.Entries.{all_keep_rules, entries_of, last_stamp, writes_never_fall};
@@ -19,8 +20,9 @@ ghost use Rattle.site_store.specs.declared.store_error.StoreError.TheVariants.{F
 ghost use Rattle.site_store.specs.Marking.{NoneFailed};
 ghost use Rattle.site_store.specs.Standing.{Fits, Stands};
 ghost use Rattle.epoch.specs.declared.epoch_error.EpochError.TheVariants.{Broken, Store};
-ghost use Rattle.epoch.specs.Ends.{IsFull, IsSpent};
+ghost use Rattle.epoch.specs.Ends.{IsFullForWaiting, IsFullForWrites, IsSpent};
 ghost use Rattle.epoch.specs.Following.{HoldsPrimary, IsFollowing, PutsRun, ShowsPrimary};
+ghost use Rattle.epoch.specs.Frames.{KeepsOthers};
 ghost use Rattle.epoch.specs.Lanes.{IsFeed, IsLane, IsRowOf, Waits, is_of, most_records, tracks_of};
 ghost use Rattle.epoch.specs.Sights.{EachIs};
 ghost use Rattle.epoch.specs.Taken.{FailsAsBefore, HasFailed, HasReached, HasTaken, WillBreak};
@@ -43,7 +45,6 @@ impl Lane {
     /// Puts the writes of a batch that are on a volume behind those that wait. False where they don't fit, and then nothing has
     /// changed.
     fn put_batch(&mut self, alloc: Global, volume: u16, batch: &Batch) -> Result<bool, StoreError>
-        requires control { batch.now.control ≡ self.old.queue.control }
         requires rules { IsTrue (all_keep_rules batch.now.writes) }
         requires stamps { IsTrue (writes_never_fall (last_stamp self.old.queue.waiting) batch.now.writes) }
         ensures others { (self.new.side ≡ self.old.side) × (self.new.primary ≡ self.old.primary) × (self.new.time ≡ self.old.time) × (self.new.formed ≡ self.old.formed) }
@@ -63,7 +64,6 @@ impl Lane {
     fn put_first(&mut self, alloc: Global, volume: u16, batch: &Batch) -> Result<(), StoreError>
         requires feed { IsFeed self.old }
         requires empty { self.old.queue.waiting ≡ [] }
-        requires control { batch.now.control ≡ 0 }
         requires kinds { All (λ w. IsTrue (is_kind w.kind)) batch.now.writes }
         requires few { length batch.now.writes ≤ most_records }
         requires stamps { IsTrue (writes_never_fall 0 batch.now.writes) }
@@ -108,16 +108,20 @@ impl Lane {
         ensures controls { OnOk result (site.new.controls ≡ site.old.controls) }
         ensures level { OnOk result (site.new.level ≡ site.old.level) }
         ensures idle { OnOk result (site.new.waiting ≡ []) }
+        ensures set { OnOk result (site.new.at.set ≡ site.old.at.set) }
+        ensures home { NoneLent (P.state plant.new) }
         ensures fits { OnOk result (Fits site.new (P.state plant.new)) }
         ensures stands { P.tells → OnOk result (Stands site.new.table.rows site.new (P.state plant.new)) }
         ensures moments { P.tells → (t : TraceValue) (means : MeansValue) → IsFollowing t means row.now self.old site.old.time (P.state plant.old) → EachIs (ShowsPrimary (shape_of (P.state plant.old)) t means row.now site.old.time self.old.primary.time) (P.state plant.old) (P.state plant.new) }
         ensures shows { P.tells → (t : TraceValue) (means : MeansValue) → IsFollowing t means row.now self.old site.old.time (P.state plant.old) → OnOk result (HoldsPrimary t means row.now site.new.time (P.state plant.new)) }
+        // But for the journal, and the pair's tracks, all is as before.
+        ensures kept { P.tells → KeepsOthers site.old.at.set row.now.device (tracks_of row.now) (P.state plant.old) (P.state plant.new) }
         ensures works { WorksSilently P.tells (P.state plant.old) (P.state plant.new) }
         // Why it fails.
         ensures fault { (d : DeviceValue) → IsErrOf result (Fault d) → Rose ((P.state plant.old).faults d) ((P.state plant.new).faults d) }
         ensures volume { NoneFailed site.old → (v : ℕ) → IsErrOf result (VolumeError v) → Rose ((P.state plant.old).faults (VolumeDevice v)) ((P.state plant.new).faults (VolumeDevice v)) }
         ensures spent { P.tells → IsErrOf result Spent → IsSpent (P.state plant.new) }
-        ensures journal_end { P.tells → IsErrOf result JournalEnd → IsFull (P.state plant.new) }
+        ensures journal_end { P.tells → IsErrOf result JournalEnd → IsFullForWaiting self.old site.old.time (P.state plant.new) }
         ensures good { NoneFailed site.old → OnOk result (NoneFailed site.new) }
     {
         are_of_kind(batch.writes.as_slice());
@@ -155,21 +159,26 @@ impl Lane {
         ensures tracks { OnOk result ((v x : ℕ) → track_of self.new.primary v x ≡ after_writes (track_of self.old.primary v x) (filter (is_on v x) batch.now.writes)) }
         ensures time { OnOk result (self.new.primary.time ≡ batch.now.upto.0) }
         ensures waits { OnOk result (Waits row.now.volume (tracks_of row.now) self.new) }
+        ensures put { OnOk result (PutsRun row.now.volume batch.now.writes self.old site.old.time self.new site.new.time) }
         ensures table { OnOk result (site.new.table ≡ site.old.table) }
         ensures later { OnOk result ((site.old.time ≤ site.new.time) × (site.new.time ≤ self.old.primary.time)) }
         ensures controls { OnOk result (site.new.controls ≡ site.old.controls) }
         ensures level { OnOk result (site.new.level ≡ site.old.level) }
         ensures idle { OnOk result (site.new.waiting ≡ []) }
+        ensures set { OnOk result (site.new.at.set ≡ site.old.at.set) }
+        ensures home { NoneLent (P.state plant.new) }
         ensures fits { OnOk result (Fits site.new (P.state plant.new)) }
         ensures stands { P.tells → OnOk result (Stands site.new.table.rows site.new (P.state plant.new)) }
         ensures moments { P.tells → (t : TraceValue) (means : MeansValue) → IsFollowing t means row.now self.old site.old.time (P.state plant.old) → EachIs (ShowsPrimary (shape_of (P.state plant.old)) t means row.now site.old.time self.old.primary.time) (P.state plant.old) (P.state plant.new) }
         ensures follows { P.tells → (t : TraceValue) (means : MeansValue) → IsFollowing t means row.now self.old site.old.time (P.state plant.old) → OnOk result (HasReached self.new.primary.time t self.new.primary → IsFollowing t means row.now self.new site.new.time (P.state plant.new)) }
+        // But for the journal, and the pair's tracks, all is as before.
+        ensures others { P.tells → KeepsOthers site.old.at.set row.now.device (tracks_of row.now) (P.state plant.old) (P.state plant.new) }
         ensures works { WorksSilently P.tells (P.state plant.old) (P.state plant.new) }
         // Why it fails.
         ensures fault { (d : DeviceValue) → IsErrOf result (Fault d) → Rose ((P.state plant.old).faults d) ((P.state plant.new).faults d) }
         ensures volume { NoneFailed site.old → (v : ℕ) → IsErrOf result (VolumeError v) → Rose ((P.state plant.old).faults (VolumeDevice v)) ((P.state plant.new).faults (VolumeDevice v)) }
         ensures spent { P.tells → IsErrOf result Spent → IsSpent (P.state plant.new) }
-        ensures journal_end { P.tells → IsErrOf result JournalEnd → IsFull (P.state plant.new) }
+        ensures journal_end { P.tells → IsErrOf result JournalEnd → IsFullForWaiting self.old site.old.time (P.state plant.new) }
         ensures good { NoneFailed site.old → OnOk result (NoneFailed site.new) }
     {
         self.put_run(rt, alloc, plant, site, row, batch)?;
@@ -208,6 +217,8 @@ impl Lane {
         ensures controls { OnOk result (site.new.controls ≡ site.old.controls) }
         ensures level { OnOk result (site.new.level ≡ site.old.level) }
         ensures idle { OnOk result (site.new.waiting ≡ []) }
+        ensures set { OnOk result (site.new.at.set ≡ site.old.at.set) }
+        ensures home { NoneLent (P.state plant.new) }
         ensures marked { OnOk result (site.new.mark.at ≡ site.new.at) }
         ensures goes_on { OnOk result (site.new.mark.ended ≡ false) }
         ensures fits { OnOk result (Fits site.new (P.state plant.new)) }
@@ -220,6 +231,8 @@ impl Lane {
         // control has reported.
         ensures moments { P.tells → (t : TraceValue) (means : MeansValue) → HasTaken (S.left source.old) t self.old.side self.old.primary → IsFollowing t means row.now self.old site.old.time (P.state plant.old) → EachIs (ShowsPrimary (shape_of (P.state plant.old)) t means row.now site.old.time self.new.side.upto) (P.state plant.old) (P.state plant.new) }
         ensures follows { P.tells → (t : TraceValue) (means : MeansValue) → HasTaken (S.left source.old) t self.old.side self.old.primary → IsFollowing t means row.now self.old site.old.time (P.state plant.old) → OnOk result (IsFollowing t means row.now self.new limit.0 (P.state plant.new)) }
+        // But for the journal, and the pair's tracks, all is as before.
+        ensures others { P.tells → KeepsOthers site.old.at.set row.now.device (tracks_of row.now) (P.state plant.old) (P.state plant.new) }
         ensures works { WorksSilently P.tells (P.state plant.old) (P.state plant.new) }
         // Why it fails.
         ensures broken { IsErrOf result Broken → (Rose (S.faults source.old) (S.faults source.new) × HasFailed limit.0 self.new.side.upto (S.left source.old) (S.left source.new) self.old.side) ⊎ ((S.faults source.new ≡ S.faults source.old) × WillBreak limit.0 self.new.side.upto (S.left source.old) self.old.side self.old.primary) }
@@ -227,7 +240,7 @@ impl Lane {
         ensures fault { (d : DeviceValue) → IsErrOf result (Store (Fault d)) → Rose ((P.state plant.old).faults d) ((P.state plant.new).faults d) }
         ensures volume { NoneFailed site.old → (v : ℕ) → IsErrOf result (Store (VolumeError v)) → Rose ((P.state plant.old).faults (VolumeDevice v)) ((P.state plant.new).faults (VolumeDevice v)) }
         ensures spent { P.tells → IsErrOf result (Store Spent) → IsSpent (P.state plant.new) }
-        ensures journal_end { P.tells → IsErrOf result (Store JournalEnd) → IsFull (P.state plant.new) }
+        ensures journal_end { P.tells → IsErrOf result (Store JournalEnd) → (t : TraceValue) → HasTaken (S.left source.old) t self.old.side self.old.primary → IsFullForWrites t row.now site.old.time limit.0 (P.state plant.new) }
         ensures good { NoneFailed site.old → OnOk result (NoneFailed site.new) }
     {
         loop {

@@ -5,6 +5,7 @@ ghost use Rattle.xrc_edge.specs.Causes.{Rose};
 ghost use Rattle.ckd_track.specs.declared.rec.Rec.{Rec as RecValue};
 ghost use Rattle.crash_plant.specs.declared.device.Device.{Device as DeviceValue};
 ghost use Rattle.crash_plant.specs.declared.device.Device.TheVariants.{Volume as VolumeDevice};
+ghost use Rattle.crash_plant.specs.Calls.{NoneLent};
 ghost use Rattle.pair_table.specs.declared.row.PairState.TheVariants.{Duplex};
 ghost use Rattle.trace_grammar.specs.declared.trace.Trace.{Trace as TraceValue};
 ghost use Rattle.site_means.specs.declared.means.Means.{Means as MeansValue};
@@ -12,8 +13,9 @@ ghost use Rattle.site_means.specs.Images.{shape_of};
 ghost use Rattle.site_store.specs.declared.store_error.StoreError.TheVariants.{Fault, JournalEnd, Spent, Volume as VolumeError};
 ghost use Rattle.site_store.specs.Marking.{NoneFailed};
 ghost use Rattle.site_store.specs.Standing.{Fits, Stands};
-ghost use Rattle.epoch.specs.Ends.{IsFull, IsSpent};
+ghost use Rattle.epoch.specs.Ends.{IsFullForTime, IsFullForWaiting, IsSpent};
 ghost use Rattle.epoch.specs.Following.{IsFollowing, ShowsPrimary, at_time};
+ghost use Rattle.epoch.specs.Frames.{KeepsOthers};
 ghost use Rattle.epoch.specs.Lanes.{IsFeed, IsRowOf, Waits, tracks_of};
 ghost use Rattle.epoch.specs.Sights.{AllShow, EachIs, Shows};
 ghost use Rattle.epoch.specs.Works.{WorksSilently};
@@ -54,19 +56,23 @@ impl Lane {
         ensures controls { OnOk result (site.new.controls ≡ site.old.controls) }
         ensures level { OnOk result (site.new.level ≡ site.old.level) }
         ensures idle { OnOk result (site.new.waiting ≡ []) }
+        ensures set { OnOk result (site.new.at.set ≡ site.old.at.set) }
         ensures marked { OnOk result (site.new.mark.at ≡ site.new.at) }
         ensures goes_on { OnOk result (site.new.mark.ended ≡ false) }
         ensures fits { OnOk result (Fits site.new (P.state plant.new)) }
         ensures stands { P.tells → OnOk result (Stands site.new.table.rows site.new (P.state plant.new)) }
+        ensures home { NoneLent (P.state plant.new) }
         // At every moment the device holds the primary's tracks, at the time before what waits or at the lane's.
         ensures moments { P.tells → (t : TraceValue) (means : MeansValue) → IsFollowing t means row.now self.old site.old.time (P.state plant.old) → EachIs (ShowsPrimary (shape_of (P.state plant.old)) t means row.now site.old.time self.old.primary.time) (P.state plant.old) (P.state plant.new) }
         ensures follows { P.tells → (t : TraceValue) (means : MeansValue) → IsFollowing t means row.now self.old site.old.time (P.state plant.old) → OnOk result (IsFollowing t means row.now self.new site.new.time (P.state plant.new)) }
+        // But for the journal, and the pair's tracks, all is as before.
+        ensures others { P.tells → KeepsOthers site.old.at.set row.now.device (tracks_of row.now) (P.state plant.old) (P.state plant.new) }
         ensures works { WorksSilently P.tells (P.state plant.old) (P.state plant.new) }
         // Why it fails.
         ensures fault { (d : DeviceValue) → IsErrOf result (Fault d) → Rose ((P.state plant.old).faults d) ((P.state plant.new).faults d) }
         ensures volume { NoneFailed site.old → (v : ℕ) → IsErrOf result (VolumeError v) → Rose ((P.state plant.old).faults (VolumeDevice v)) ((P.state plant.new).faults (VolumeDevice v)) }
         ensures spent { P.tells → IsErrOf result Spent → IsSpent (P.state plant.new) }
-        ensures journal_end { P.tells → IsErrOf result JournalEnd → IsFull (P.state plant.new) }
+        ensures journal_end { P.tells → IsErrOf result JournalEnd → IsFullForWaiting self.old site.old.time (P.state plant.new) }
         ensures good { OnOk result (NoneFailed site.new) }
     {
         // A queue has few entries by its type.
@@ -100,19 +106,23 @@ impl Lane {
         ensures controls { OnOk result (site.new.controls ≡ site.old.controls) }
         ensures level { OnOk result (site.new.level ≡ site.old.level) }
         ensures idle { OnOk result (site.new.waiting ≡ []) }
+        ensures set { OnOk result (site.new.at.set ≡ site.old.at.set) }
         ensures marked { OnOk result (site.new.mark.at ≡ site.new.at) }
         ensures goes_on { OnOk result (site.new.mark.ended ≡ false) }
         ensures fits { OnOk result (Fits site.new (P.state plant.new)) }
         ensures stands { P.tells → OnOk result (Stands site.new.table.rows site.new (P.state plant.new)) }
+        ensures home { NoneLent (P.state plant.new) }
         // At every moment the time before is meant, or the lane's.
         ensures moments { P.tells → (means : MeansValue) (tracks : ℕ → List RecValue) → means.ended ≡ false → means.table.rows ≡ [] → AllShow means 0 0 tracks (P.state plant.old) → EachIs (λ c. Shows (shape_of (P.state plant.old)) means 0 0 tracks c ⊎ Shows (shape_of (P.state plant.old)) (at_time self.old.primary.time means) 0 0 tracks c) (P.state plant.old) (P.state plant.new) }
         ensures shows { P.tells → (means : MeansValue) (tracks : ℕ → List RecValue) → means.ended ≡ false → means.table.rows ≡ [] → AllShow means 0 0 tracks (P.state plant.old) → OnOk result (AllShow (at_time self.old.primary.time means) 0 0 tracks (P.state plant.new)) }
+        // But for the journal, all is as before.
+        ensures others { P.tells → (device : ℕ) → KeepsOthers site.old.at.set device 0 (P.state plant.old) (P.state plant.new) }
         ensures works { WorksSilently P.tells (P.state plant.old) (P.state plant.new) }
         // Why it fails.
         ensures fault { (d : DeviceValue) → IsErrOf result (Fault d) → Rose ((P.state plant.old).faults d) ((P.state plant.new).faults d) }
         ensures volume { NoneFailed site.old → (v : ℕ) → IsErrOf result (VolumeError v) → Rose ((P.state plant.old).faults (VolumeDevice v)) ((P.state plant.new).faults (VolumeDevice v)) }
         ensures spent { P.tells → IsErrOf result Spent → IsSpent (P.state plant.new) }
-        ensures journal_end { P.tells → IsErrOf result JournalEnd → IsFull (P.state plant.new) }
+        ensures journal_end { P.tells → IsErrOf result JournalEnd → IsFullForTime self.old.primary.time (P.state plant.new) }
         ensures good { OnOk result (NoneFailed site.new) }
     {
         self.formed.begin(self.time);

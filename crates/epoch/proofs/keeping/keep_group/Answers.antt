@@ -1,9 +1,13 @@
 use Rattle.std.proofs.Common.{rules, ◌≡◌, sym, ap, ◌∙◌, arith}
 use Rattle.crash_plant.specs.declared.device.Device.TheVariants.{Volume}
+use Rattle.crash_plant.proofs.Steps.{none_lent_then}
+use Rattle.lending.proofs.Works.{none_lent_lent}
 use Rattle.site_store.specs.declared.store_error.StoreError.TheVariants.{Fault, JournalEnd, Spent, Volume as VolumeError}
 use Rattle.site_store.specs.Sites.{SiteState}
+use Rattle.epoch.specs.Lanes.{tracks_of}
 use Rattle.epoch.proofs.CopySights.{on_always, on_ok, rose_later}
 use Rattle.epoch.proofs.KeptErrors.{full_logged, mark_failed, none_logged, only_read, read_failed, spent_logged, spent_marked}
+use Rattle.epoch.proofs.KeptFrames.{items_none, items_own, keeps_applied, keeps_logged, keeps_marked, keeps_three}
 use Rattle.epoch.proofs.KeptGroups.{keep_all, keep_each, log_each}
 use Rattle.epoch.proofs.Working.{silent_here, silent_lent, silent_on, silent_then, silent_within}
 use Rattle.epoch.proofs.keeping.keep_group.Goals as goal
@@ -16,6 +20,19 @@ returns-in_err-log-clause-moments g c = λ told means device count more tracks a
     let a = g.P.Plant.state c.args.plant.now in
     let b = g.P.Plant.state c.log.new.plant in
     log_each tells told a b b b (silent_lent tells _ a b c.log.ensures.only) (silent_here tells b) (silent_here tells b) c.args.formed.now c.args.site.now.table.rows means device count more tracks after there unended are makes all (c.log.ensures.moments told)
+
+pub returns-in_err-log-clause-home : goal.returns-in_err-log-clause-home
+returns-in_err-log-clause-home g c = none_lent_lent g.P.Plant.tells _ (g.P.Plant.state c.args.plant.now) (g.P.Plant.state c.log.new.plant) c.log.ensures.only c.requires.fits.home
+
+pub returns-in_err-log-clause-others : goal.returns-in_err-log-clause-others
+returns-in_err-log-clause-others g c = λ told row only.
+    let site = c.args.site.now in
+    keeps_logged g.P.Plant.tells told site.at.set row.device (tracks_of row) site.table.rows c.args.formed.now.entries (g.P.Plant.state c.args.plant.now) (g.P.Plant.state c.log.new.plant) c.log.ensures.only (c.log.ensures.volumes told) (c.log.ensures.images told)
+
+pub returns-in_err-log-clause-alone : goal.returns-in_err-log-clause-alone
+returns-in_err-log-clause-alone g c = λ told none device.
+    let site = c.args.site.now in
+    keeps_logged g.P.Plant.tells told site.at.set device 0 site.table.rows c.args.formed.now.entries (g.P.Plant.state c.args.plant.now) (g.P.Plant.state c.log.new.plant) c.log.ensures.only (c.log.ensures.volumes told) (c.log.ensures.images told)
 
 pub returns-in_err-log-clause-works : goal.returns-in_err-log-clause-works
 returns-in_err-log-clause-works g c = silent_lent g.P.Plant.tells _ (g.P.Plant.state c.args.plant.now) (g.P.Plant.state c.log.new.plant) c.log.ensures.only
@@ -35,6 +52,14 @@ returns-in_err-log-clause-spent g c = λ told is.
 
 pub returns-in_err-log-clause-journal_end : goal.returns-in_err-log-clause-journal_end
 returns-in_err-log-clause-journal_end g c = λ told is.
+    let same : c.log.result ≡ c.from_residual.result = search rules in
+    let tells = g.P.Plant.tells in
+    let a = g.P.Plant.state c.args.plant.now in
+    let b = g.P.Plant.state c.log.new.plant in
+    (full_logged tells told a b c.args.site.now c.args.formed.now (silent_lent tells _ a b c.log.ensures.only) (only_read tells a b c.log.result JournalEnd (λ d e. cc e) (same ∙ is) c.log.ensures.untouched) (c.requires.stands told) c.requires.entries (c.log.ensures.journal_end (same ∙ is))).full
+
+pub returns-in_err-log-clause-full_at : goal.returns-in_err-log-clause-full_at
+returns-in_err-log-clause-full_at g c = λ told is.
     let same : c.log.result ≡ c.from_residual.result = search rules in
     let tells = g.P.Plant.tells in
     let a = g.P.Plant.state c.args.plant.now in
@@ -68,6 +93,14 @@ returns-clause-level g c =
 
 pub returns-clause-idle : goal.returns-clause-idle
 returns-clause-idle g c = on_ok c.mark.result _ _ (λ is. ap (λ (s : SiteState). s.waiting) is ∙ ap (λ (s : SiteState). s.waiting) c.apply.ensures.site) c.mark.ensures.marked
+
+pub returns-clause-set : goal.returns-clause-set
+returns-clause-set g c =
+    let before = ap (λ (s : SiteState). s.at.set) c.apply.ensures.site ∙ ap (λ (s : SiteState). s.at.set) c.in_ok-log.ensures.ok in
+    on_ok c.mark.result _ _ (λ is. ap (λ (s : SiteState). s.at.set) is ∙ before) c.mark.ensures.marked
+
+pub returns-clause-home : goal.returns-clause-home
+returns-clause-home g c = none_lent_then g.P.Plant.tells _ (g.P.Plant.state c.apply.new.plant) (g.P.Plant.state c.mark.new.plant) c.mark.ensures.only c.apply.ensures.fits.home
 
 pub returns-clause-marked : goal.returns-clause-marked
 returns-clause-marked g c = on_ok c.mark.result _ _ (λ is. ap (λ (s : SiteState). s.mark.at) is ∙ sym (ap (λ (s : SiteState). s.at) is)) c.mark.ensures.marked
@@ -105,6 +138,33 @@ returns-clause-works g c =
     let d = g.P.Plant.state c.mark.new.plant in
     silent_then tells a b d (silent_lent tells _ a b c.log.ensures.only) (silent_then tells b m d (silent_within tells _ b m c.apply.ensures.only) (silent_on tells _ m d c.mark.ensures.only))
 
+pub returns-clause-others : goal.returns-clause-others
+returns-clause-others g c = λ told row only.
+    let tells = g.P.Plant.tells in
+    let a = g.P.Plant.state c.args.plant.now in
+    let b = g.P.Plant.state c.log.new.plant in
+    let m = g.P.Plant.state c.apply.new.plant in
+    let d = g.P.Plant.state c.mark.new.plant in
+    let site = c.args.site.now in
+    let tracks = tracks_of row in
+    keeps_three tells told site.at.set row.device tracks a b m d (silent_lent tells _ a b c.log.ensures.only) (silent_within tells _ b m c.apply.ensures.only) (silent_on tells _ m d c.mark.ensures.only)
+    (keeps_logged tells told site.at.set row.device tracks site.table.rows c.args.formed.now.entries a b c.log.ensures.only (c.log.ensures.volumes told) (c.log.ensures.images told))
+    (keeps_applied tells told site.at.set row.device tracks c.log.new.self.waiting b m (items_own tells c.args.formed.now row site.table.rows a c.log.new.self.waiting only c.requires.entries c.in_ok-log.ensures.items) c.apply.ensures.only (c.apply.ensures.slots told) (c.apply.ensures.slot_moments told))
+    (keeps_marked tells told c.apply.new.self site.at.set row.device tracks m d c.mark.ensures.only (c.mark.ensures.volumes told) (c.mark.ensures.images told))
+
+pub returns-clause-alone : goal.returns-clause-alone
+returns-clause-alone g c = λ told none device.
+    let tells = g.P.Plant.tells in
+    let a = g.P.Plant.state c.args.plant.now in
+    let b = g.P.Plant.state c.log.new.plant in
+    let m = g.P.Plant.state c.apply.new.plant in
+    let d = g.P.Plant.state c.mark.new.plant in
+    let site = c.args.site.now in
+    keeps_three tells told site.at.set device 0 a b m d (silent_lent tells _ a b c.log.ensures.only) (silent_within tells _ b m c.apply.ensures.only) (silent_on tells _ m d c.mark.ensures.only)
+    (keeps_logged tells told site.at.set device 0 site.table.rows c.args.formed.now.entries a b c.log.ensures.only (c.log.ensures.volumes told) (c.log.ensures.images told))
+    (keeps_applied tells told site.at.set device 0 c.log.new.self.waiting b m (items_none tells c.args.formed.now site.table.rows a c.log.new.self.waiting device none c.requires.entries c.in_ok-log.ensures.items) c.apply.ensures.only (c.apply.ensures.slots told) (c.apply.ensures.slot_moments told))
+    (keeps_marked tells told c.apply.new.self site.at.set device 0 m d c.mark.ensures.only (c.mark.ensures.volumes told) (c.mark.ensures.images told))
+
 -- ---- why it isn't
 
 pub returns-clause-fault : goal.returns-clause-fault
@@ -140,3 +200,6 @@ returns-clause-spent g c = λ told is.
 
 pub returns-clause-journal_end : goal.returns-clause-journal_end
 returns-clause-journal_end g c = λ told is. absurd (c.mark.ensures.error JournalEnd is)
+
+pub returns-clause-full_at : goal.returns-clause-full_at
+returns-clause-full_at g c = λ told is. absurd (c.mark.ensures.error JournalEnd is)

@@ -1,10 +1,13 @@
-use Rattle.std.proofs.Common.{◌≡◌, ◌∙◌, ◌+◌, ◌-◌, true, false, refl, subst, arith}
+use Rattle.std.proofs.Common.{rules, ◌≡◌, ◌∙◌, ◌+◌, ◌-◌, true, false, refl, subst, arith}
 use Rattle.std.specs.Prelude.{OnOk}
 use Rattle.primary_ctl.specs.States.{PrimaryState, track_of}
 use Rattle.epoch.specs.declared.copying.Part.{Part}
 use Rattle.epoch.specs.Copying.{PartMoments, PartShows}
 use Rattle.epoch.specs.Lanes.{tracks_of}
-use Rattle.epoch.proofs.CopySights.{copied_more, copied_none, moments_then, shows_last}
+use Rattle.epoch.specs.Ends.{IsFullForCopy}
+use Rattle.epoch.proofs.CopySights.{copied_more, copied_none, moments_then, on_ok, shows_last}
+use Rattle.epoch.proofs.Frames.{keeps_here}
+use Rattle.epoch.proofs.KeptFrames.{keeps_next}
 use Rattle.epoch.proofs.Working.{silent_then}
 use Rattle.epoch.proofs.lane.Lane.copy_pair.Goals as goal
 
@@ -19,9 +22,11 @@ loop-first-init g c = record {
   controls = refl;
   level = refl;
   idle = c.requires.idle;
+  set = refl;
   fits = c.requires.fits;
   stands = c.requires.stands;
   copied = copied_none g.P.Plant.tells c.args.row.now (track_of c.args.self.now.primary c.args.row.now.volume) c.args.self.now.primary.time c.args.site.now (g.P.Plant.state c.args.plant.now) c.requires.rows c.requires.state;
+  others = λ told. let row = c.args.row.now in keeps_here c.args.site.now.at.set row.device (tracks_of row) (g.P.Plant.state c.args.plant.now);
 }
 
 pub returns-in_err-copy_part-clause-moments : goal.returns-in_err-copy_part-clause-moments
@@ -58,11 +63,14 @@ loop-first-preserved g c =
       controls = ok.controls ∙ inv.controls;
       level = ok.level ∙ inv.level;
       idle = ok.idle;
+      set = ok.set ∙ inv.set;
       fits = ok.fits;
       stands = ok.stands;
       copied = copied_more g.P.Plant.tells row (track_of begun.primary row.volume) begun.primary.time c.args.site.now c.loop-first.site (g.P.Plant.state c.args.plant.now) mid new part inv.copied c.copy_part.new.site refl each.works
           (subst (λ (p : PrimaryState). g.P.Plant.tells → PartMoments row c.loop-first.site.table.rows (track_of p row.volume) p.time c.loop-first.first mid new) inv.primary each.moments)
           (subst (λ (p : PrimaryState). g.P.Plant.tells → PartShows row c.loop-first.site.table.rows (track_of p row.volume) p.time part mid new) inv.primary ok.shows) ok.table ok.good;
+      others = λ told.
+          keeps_next g.P.Plant.tells told c.args.site.now.at.set c.loop-first.site.at.set row.device (tracks_of row) (g.P.Plant.state c.args.plant.now) mid new inv.copied.works each.works inv.set inv.others each.others;
     }
 
 pub returns-clause-moments : goal.returns-clause-moments
@@ -91,3 +99,31 @@ returns-clause-shows g c =
 pub returns-clause-works : goal.returns-clause-works
 returns-clause-works g c =
     silent_then g.P.Plant.tells (g.P.Plant.state c.args.plant.now) (g.P.Plant.state c.loop-first.plant) (g.P.Plant.state c.copy_part-2.new.plant) c.loop-first.invariant.copied.works c.copy_part-2.ensures.works
+
+pub returns-in_err-copy_part-clause-others : goal.returns-in_err-copy_part-clause-others
+returns-in_err-copy_part-clause-others g c = λ told.
+    let row = c.args.row.now in
+    let inv = c.loop-first.invariant in
+    let each = c.copy_part.ensures in
+    keeps_next g.P.Plant.tells told c.args.site.now.at.set c.loop-first.site.at.set row.device (tracks_of row) (g.P.Plant.state c.args.plant.now) (g.P.Plant.state c.loop-first.plant) (g.P.Plant.state c.copy_part.new.plant) inv.copied.works each.works inv.set inv.others each.others
+
+pub returns-clause-others : goal.returns-clause-others
+returns-clause-others g c = λ told.
+    let row = c.args.row.now in
+    let inv = c.loop-first.invariant in
+    let each = c.copy_part-2.ensures in
+    keeps_next g.P.Plant.tells told c.args.site.now.at.set c.loop-first.site.at.set row.device (tracks_of row) (g.P.Plant.state c.args.plant.now) (g.P.Plant.state c.loop-first.plant) (g.P.Plant.state c.copy_part-2.new.plant) inv.copied.works each.works inv.set inv.others each.others
+
+pub returns-clause-set : goal.returns-clause-set
+returns-clause-set g c = on_ok c.copy_part-2.result _ _ (λ same. same ∙ c.loop-first.invariant.set) c.copy_part-2.ensures.set
+
+pub returns-in_err-copy_part-clause-journal_end : goal.returns-in_err-copy_part-clause-journal_end
+returns-in_err-copy_part-clause-journal_end g c = λ told end.
+    let row = c.args.row.now in
+    let same : c.copy_part.result ≡ c.from_residual.result = search rules in
+    subst (λ (p : PrimaryState). IsFullForCopy row (track_of p row.volume) p.time (g.P.Plant.state c.copy_part.new.plant)) c.loop-first.invariant.primary (c.copy_part.ensures.journal_end told (same ∙ end))
+
+pub returns-clause-journal_end : goal.returns-clause-journal_end
+returns-clause-journal_end g c = λ told end.
+    let row = c.args.row.now in
+    subst (λ (p : PrimaryState). IsFullForCopy row (track_of p row.volume) p.time (g.P.Plant.state c.copy_part-2.new.plant)) c.loop-first.invariant.primary (c.copy_part-2.ensures.journal_end told end)

@@ -1,7 +1,8 @@
 use Rattle.std.proofs.Common.{◌≡◌, ◌≤◌, ◌-◌, []}
 use Rattle.primary_ctl.specs.States.{track_of}
 use Rattle.site_store.specs.Standing.{Fits, Stands}
-use Rattle.epoch.specs.Lanes.{IsFeed}
+use Rattle.epoch.specs.Frames.{KeepsOthers}
+use Rattle.epoch.specs.Lanes.{IsFeed, tracks_of}
 use Rattle.epoch.proofs.CopySights.{HasCopied}
 use Rattle.epoch.proofs.lane.Lane.copy_pair.Given as goal
 
@@ -19,9 +20,11 @@ invariant-loop-first g l =
       controls : l.site.controls ≡ begun.site.controls;
       level : l.site.level ≡ begun.site.level;
       idle : l.site.waiting ≡ [];
+      set : l.site.at.set ≡ begun.site.at.set;
       fits : Fits l.site (g.P.Plant.state l.plant);
       stands : g.P.Plant.tells → Stands l.site.table.rows l.site (g.P.Plant.state l.plant);
       copied : HasCopied g.P.Plant.tells l.row (track_of begun.self.primary l.row.volume) begun.self.primary.time l.first begun.site l.site (g.P.Plant.state begun.plant) (g.P.Plant.state l.plant);
+      others : g.P.Plant.tells → KeepsOthers begun.site.at.set l.row.device (tracks_of l.row) (g.P.Plant.state begun.plant) (g.P.Plant.state l.plant);
     }
 
 abbrev pub decreases-loop-first : goal.decreases-loop-first

@@ -1,15 +1,17 @@
-use Rattle.std.proofs.Common.{◌≤◌, ◌+◌, ◌*◌, length, sym, ap, subst, ◌∙◌, arith}
+use Rattle.std.proofs.Common.{◌≡◌, ◌+◌, ◌*◌, sym, ap, subst, ◌∙◌, arith}
 use Rattle.std.specs.Prelude.{OnOk}
+use Rattle.tod_stamp.specs.declared.stamp.Stamp.{Stamp}
 use Rattle.pair_table.specs.declared.row.PairState.{PairState}
-use Rattle.pair_table.specs.Tables.{with_rows}
+use Rattle.pair_table.specs.Tables.{in_state, with_rows}
 use Rattle.pending_queue.specs.Groups.{FormedGroup}
 use Rattle.primary_ctl.specs.States.{track_of}
 use Rattle.site_means.specs.declared.means.Means.{Means}
-use Rattle.epoch.specs.Copying.{IsPart, ShowsBefore, in_row, state_after}
+use Rattle.epoch.specs.Copying.{IsPart, ShowsBefore, group_of, in_row, state_after}
+use Rattle.epoch.specs.Ends.{IsFullFor}
+use Rattle.epoch.specs.Lanes.{tracks_of}
 use Rattle.epoch.specs.Sights.{AllShow}
-use Rattle.epoch.proofs.Copies.{copies_length}
 use Rattle.epoch.proofs.CopySights.{device_there, group_behind, group_live, group_makes, group_moments, group_rows, ok_shows, on_always, on_ok, part_here}
-use Rattle.epoch.proofs.KeptErrors.{full_few}
+use Rattle.epoch.proofs.Frames.{keeps_here}
 use Rattle.epoch.proofs.Working.{silent_here}
 use Rattle.epoch.proofs.lane.Lane.copy_part.Goals as goal
 
@@ -89,12 +91,17 @@ returns-clause-shows g c = λ told.
     (c.keep_group.ensures.shows told (in_row state row means) row.device part.first (part.first + part.count) tracks tracks there before.unended (sym before.rows_are) makes before.shows) in
     ok_shows c.keep_group.result row rows tracks c.args.self.now.primary.time part plant next each
 
+pub returns-clause-others : goal.returns-clause-others
+returns-clause-others g c = λ told. let is = c.requires.rows in c.keep_group.ensures.others told (in_state is.state c.args.row.now) is.are
+
+pub returns-in_err-form_part-clause-others : goal.returns-in_err-form_part-clause-others
+returns-in_err-form_part-clause-others g c = λ told. let row = c.args.row.now in keeps_here c.args.site.now.at.set row.device (tracks_of row) (g.P.Plant.state c.args.plant.now)
+
 pub returns-clause-journal_end : goal.returns-clause-journal_end
 returns-clause-journal_end g c = λ told end.
     let row = c.args.row.now in
-    let part = c.args.part in
-    let entries = ap (λ (f : FormedGroup). length f.entries) c.in_ok-form_part.ensures.formed in
-    let count = copies_length row.volume c.args.self.now.time (track_of c.args.self.now.primary row.volume) part.first part.count in
-    let most = c.requires.part.fits.few in
-    let few : length c.form_part.new.self.formed.entries ≤ 32 = omega (arith, entries, count, most) in
-    full_few c.form_part.new.self.formed (g.P.Plant.state c.keep_group.new.plant) few (c.keep_group.ensures.journal_end told end)
+    let lane = c.args.self.now in
+    let tracks = track_of lane.primary row.volume in
+    let at : lane.time ≡ record { 0 = lane.primary.time } = (let time = c.requires.feed.time in λ i. record { 0 = time i }) in
+    let is = c.in_ok-form_part.ensures.formed ∙ ap (λ (s : Stamp). group_of row.volume s tracks c.args.part) at in
+    record { part = c.args.part; is_part = c.requires.part; full = subst (λ (f : FormedGroup). IsFullFor f (g.P.Plant.state c.keep_group.new.plant)) is (c.keep_group.ensures.journal_end told end) }

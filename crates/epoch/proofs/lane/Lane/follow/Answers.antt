@@ -1,4 +1,5 @@
-use Rattle.std.proofs.Common.{◌≡◌, ◌∙◌, ◌≤◌, ◌<◌, ℕ, List, Some, refl, sym, ap, subst, arith, inl, inr}
+use Rattle.std.proofs.Common.{◌≡◌, ◌∙◌, ◌≤◌, ◌<◌, ℕ, List, Some, Err, refl, sym, ap, subst, arith, inl, inr}
+use Rattle.std.proofs.lemmas.Result.{err_from_is_err_and}
 use Rattle.xrc_edge.specs.Causes.{Rose}
 use Rattle.trace_grammar.specs.declared.header.VolumeHead.{VolumeHead}
 use Rattle.trace_grammar.specs.declared.trace.Trace.{Trace}
@@ -6,13 +7,17 @@ use Rattle.primary_ctl.specs.States.{PrimaryState, track_of}
 use Rattle.sidefile.specs.Breaks.{break_time}
 use Rattle.sidefile.specs.States.{SidefileState}
 use Rattle.site_means.specs.Images.{shape_of}
+use Rattle.site_store.specs.declared.store_error.StoreError.TheVariants.{JournalEnd}
 use Rattle.epoch.specs.Following.{IsFollowing}
 use Rattle.epoch.specs.Lanes.{IsRowOf, tracks_of}
 use Rattle.epoch.specs.Taken.{FailsAsBefore, HasFailed, HasReached, HasTaken}
+use Rattle.epoch.proofs.Frames.{keeps_here}
+use Rattle.epoch.proofs.KeptFrames.{keeps_next}
 use Rattle.epoch.proofs.Reached.{reached_now}
 use Rattle.epoch.proofs.Steps.{holds_here, waits_none}
 use Rattle.epoch.proofs.TakenLaws.{batch_fails, limit_fails, take_batch, take_broken, take_limit, then_fails}
-use Rattle.epoch.proofs.Turns.{follows_later, follows_side, moments_more, moments_then, run_of_lane, waits_later, waits_side}
+use Rattle.epoch.proofs.TraceWaits.{full_writes, traced_batch, traced_limit, waits_at}
+use Rattle.epoch.proofs.Turns.{follows_later, follows_side, moments_more, moments_then, run_of_lane, waits_later, waits_side, with_side}
 use Rattle.epoch.proofs.Working.{silent_here, silent_then}
 use Rattle.epoch.proofs.lane.Lane.follow.Goals as goal
 
@@ -35,12 +40,15 @@ loop-batch-init g c =
       controls = refl;
       level = refl;
       idle = c.requires.idle;
+      set = refl;
       fits = c.requires.fits;
       stands = c.requires.stands;
       taken = λ t taken. taken;
+      traced = λ t taken. waits_at t row.volume c.args.site.now.time lane c.requires.empty time;
       moments = λ told t means taken follows. holds_here t means row c.args.site.now.time lane.side.upto (g.P.Plant.state c.args.plant.now) follows.holds (omega (arith, time, even));
       follows = λ told t means taken follows. follows;
       works = silent_here g.P.Plant.tells (g.P.Plant.state c.args.plant.now);
+      others = λ told. keeps_here c.args.site.now.at.set row.device (tracks_of row) (g.P.Plant.state c.args.plant.now);
       fails = λ limit upto later failed. failed;
       count = refl;
       good = λ none. none;
@@ -100,9 +108,13 @@ loop-batch-preserved g c =
       controls = ok.controls ∙ inv.controls;
       level = ok.level ∙ inv.level;
       idle = ok.idle;
+      set = ok.set ∙ inv.set;
       fits = ok.fits;
       stands = ok.stands;
       taken = λ t taken. subst (λ (x : SidefileState). HasTaken told_next t x c.take_batch.new.self.primary) (sym same) (took t taken);
+      traced = λ t taken.
+          traced_batch told_now told_next t before c.take_batch.new.self side c.args.limit.0 c.in-Batch.batch row.volume c.loop-batch.site.time c.take_batch.new.site.time (inv.taken t taken) lane (h.due lane.goes_on) run upto h.waiting
+          (h.halted lane.goes_on) ok.tracks ok.time inv.cut ok.put (inv.traced t taken);
       moments = λ told t means taken follows.
           moments_then g.P.Plant.tells told t means row c.args.site.now.time before.side.upto c.loop-batch.site.time before.primary.time c.take_batch.new.self.side.upto old now next inv.works ok.works inv.from
           (omega (arith, same_upto, h.rises)) (omega (arith, same_upto, even, h.rises)) (inv.moments told t means taken follows)
@@ -112,6 +124,7 @@ loop-batch-preserved g c =
           let reached = reached_now told_next t side c.take_batch.new.self.primary (took t taken) h.waiting (h.halted lane.goes_on) (omega (arith, upto, above, there)) in
           ok.follows told t means here (subst (λ (n : ℕ). HasReached n t c.take_batch.new.self.primary) (upto ∙ sym ok.time) reached);
       works = silent_then g.P.Plant.tells old now next inv.works ok.works;
+      others = λ told. keeps_next g.P.Plant.tells told c.args.site.now.at.set c.loop-batch.site.at.set row.device (tracks_of row) old now next inv.works ok.works inv.set inv.others ok.others;
       fails = subst (λ (x : SidefileState). FailsAsBefore (g.S.Source.left c.args.source.now) told_next first.side x) (sym same)
           (then_fails (g.S.Source.left c.args.source.now) told_now told_next first.side before.side side inv.fails (batch_fails told_now told_next before.side side before.side.control c.args.limit.0 c.in-Batch.batch (h.due lane.goes_on)));
       count = h.fault lane.goes_on ∙ inv.count;
@@ -137,6 +150,24 @@ returns-in_err-take_batch-in-Batch-clause-moments g c = λ told t means taken fo
     let here = follows_side t means row before side c.loop-batch.site.time now (inv.follows told t means taken follows) in
     moments_then g.P.Plant.tells told t means row c.args.site.now.time before.side.upto c.loop-batch.site.time before.primary.time c.take_batch.new.self.side.upto old now next inv.works c.take_batch.ensures.works inv.from
     (omega (arith, same_upto, rises)) (omega (arith, same_upto, even, rises)) (inv.moments told t means taken follows) (c.take_batch.ensures.moments told t means here)
+
+pub returns-in_err-take_batch-in-Batch-clause-others : goal.returns-in_err-take_batch-in-Batch-clause-others
+returns-in_err-take_batch-in-Batch-clause-others g c = λ told.
+    let row = c.args.row.now in
+    let inv = c.loop-batch.invariant in
+    keeps_next g.P.Plant.tells told c.args.site.now.at.set c.loop-batch.site.at.set row.device (tracks_of row) (g.P.Plant.state c.args.plant.now) (g.P.Plant.state c.loop-batch.plant) (g.P.Plant.state c.take_batch.new.plant) inv.works c.take_batch.ensures.works
+    inv.set inv.others c.take_batch.ensures.others
+
+pub returns-in_err-take_batch-in-Batch-clause-journal_end : goal.returns-in_err-take_batch-in-Batch-clause-journal_end
+returns-in_err-take_batch-in-Batch-clause-journal_end g c = λ told is t taken.
+    let before = c.loop-batch.self in
+    let inv = c.loop-batch.invariant in
+    let even = inv.lane.even in
+    let later = inv.later in
+    let p = err_from_is_err_and c.from_residual.result c.from_residual.ensures.1 in
+    let same : c.in_err-take_batch-in-Batch.field-0.0 ≡ JournalEnd = cc (p.1, p.2, is) in
+    full_writes t c.args.row.now (with_side c.handover.new.self before) c.args.site.now.time c.loop-batch.site.time c.args.limit.0 (g.P.Plant.state c.take_batch.new.plant) inv.from inv.cut (omega (arith, even, later)) (inv.traced t taken)
+    (c.in_err-take_batch-in-Batch.ensures.journal_end told (λ i. Err (same i)))
 
 -- ---- at the limit
 
@@ -244,6 +275,41 @@ returns-in-AtLimit-clause-follows g c = λ told t means taken follows.
     (λ v x. ap (λ (p : PrimaryState). track_of p v x) held) in
     let here = follows_later t means row before passed limit c.loop-batch.site.time now c.pass.ensures.queue held (omega (arith, even, later)) both.1 (inv.follows told t means taken follows) in
     subst (λ (n : ℕ). IsFollowing t means row c.keep_waiting.new.self n next) (kept.time ∙ ap (λ (p : PrimaryState). p.time) held) (kept.follows told t means here)
+
+pub returns-in-AtLimit-clause-set : goal.returns-in-AtLimit-clause-set
+returns-in-AtLimit-clause-set g c = c.in_ok-keep_waiting-in-AtLimit.ensures.set ∙ c.loop-batch.invariant.set
+
+pub returns-in-AtLimit-clause-others : goal.returns-in-AtLimit-clause-others
+returns-in-AtLimit-clause-others g c = λ told.
+    let row = c.args.row.now in
+    let inv = c.loop-batch.invariant in
+    keeps_next g.P.Plant.tells told c.args.site.now.at.set c.loop-batch.site.at.set row.device (tracks_of row) (g.P.Plant.state c.args.plant.now) (g.P.Plant.state c.loop-batch.plant) (g.P.Plant.state c.keep_waiting.new.plant) inv.works c.keep_waiting.ensures.works
+    inv.set inv.others c.keep_waiting.ensures.others
+
+pub returns-in_err-keep_waiting-in-AtLimit-clause-others : goal.returns-in_err-keep_waiting-in-AtLimit-clause-others
+returns-in_err-keep_waiting-in-AtLimit-clause-others g c = λ told.
+    let row = c.args.row.now in
+    let inv = c.loop-batch.invariant in
+    keeps_next g.P.Plant.tells told c.args.site.now.at.set c.loop-batch.site.at.set row.device (tracks_of row) (g.P.Plant.state c.args.plant.now) (g.P.Plant.state c.loop-batch.plant) (g.P.Plant.state c.keep_waiting.new.plant) inv.works c.keep_waiting.ensures.works
+    inv.set inv.others c.keep_waiting.ensures.others
+
+pub returns-in_err-keep_waiting-in-AtLimit-clause-journal_end : goal.returns-in_err-keep_waiting-in-AtLimit-clause-journal_end
+returns-in_err-keep_waiting-in-AtLimit-clause-journal_end g c = λ told is t taken.
+    let before = c.loop-batch.self in
+    let passed = c.pass.new.self in
+    let limit = c.args.limit.0 in
+    let row = c.args.row.now in
+    let since = c.loop-batch.site.time in
+    let inv = c.loop-batch.invariant in
+    let even = inv.lane.even in
+    let later = inv.later in
+    let cut = inv.cut in
+    let at = ap (λ (p : PrimaryState). p.time) c.pass.ensures.primary in
+    let waits = traced_limit (g.S.Source.left c.loop-batch.source) (g.S.Source.left c.handover.new.source) t before passed c.handover.new.self limit row.volume since (inv.taken t taken) inv.lane (c.in-AtLimit.ensures.due inv.lane.goes_on) later
+    c.pass.ensures.queue at cut (inv.traced t taken) in
+    let p = err_from_is_err_and c.from_residual-in_err-keep_waiting-in-AtLimit.result c.from_residual-in_err-keep_waiting-in-AtLimit.ensures.1 in
+    let same : c.in_err-keep_waiting-in-AtLimit.field-0.0 ≡ JournalEnd = cc (p.1, p.2, is) in
+    full_writes t row passed c.args.site.now.time since limit (g.P.Plant.state c.keep_waiting.new.plant) inv.from (omega (arith, cut, even, later, at)) (omega (arith, at)) waits (c.in_err-keep_waiting-in-AtLimit.ensures.journal_end told (λ i. Err (same i)))
 
 -- ---- a break, and the want of memory
 

@@ -4,7 +4,6 @@ use Rattle.pending_queue.specs.Groups.{FormedGroup}
 use Rattle.site_means.specs.declared.means.Means.{Means}
 use Rattle.epoch.specs.Sights.{AllShow}
 use Rattle.epoch.proofs.CopySights.{on_ok}
-use Rattle.epoch.proofs.KeptErrors.{full_few}
 use Rattle.epoch.proofs.KeptNone.{none_behind, none_live, none_makes, none_moments, none_table}
 use Rattle.epoch.proofs.lane.Lane.keep_time.Goals as goal
 
@@ -51,8 +50,13 @@ returns-clause-shows g c = λ told means tracks unended none all.
     subst (λ (m : Means). OnOk c.keep_group.result (AllShow m 0 0 tracks b)) (none_behind lane.time lane.formed.controls c.begin.new.self c.begin.ensures means lane.primary.time none c.requires.feed.time)
     (c.keep_group.ensures.shows told means 0 0 0 tracks tracks there unended (none ∙ sym c.requires.rows) (none_makes lane.time lane.formed.controls c.begin.new.self c.begin.ensures rows tracks) all)
 
+pub returns-clause-others : goal.returns-clause-others
+returns-clause-others g c = λ told. c.keep_group.ensures.alone told c.requires.rows
+
 pub returns-clause-journal_end : goal.returns-clause-journal_end
-returns-clause-journal_end g c = λ told end.
-    let none = ap (λ (f : FormedGroup). length f.entries) c.begin.ensures in
-    let few : length c.begin.new.self.entries ≤ 32 = omega (arith, none) in
-    full_few c.begin.new.self (g.P.Plant.state c.keep_group.new.plant) few (c.keep_group.ensures.journal_end told end)
+returns-clause-journal_end g c = λ told end. record {
+  group = c.begin.new.self;
+  at = ap (λ (f : FormedGroup). f.cut.0) c.begin.ensures ∙ c.requires.feed.time;
+  none = ap (λ (f : FormedGroup). f.entries) c.begin.ensures;
+  full = c.keep_group.ensures.journal_end told end;
+}

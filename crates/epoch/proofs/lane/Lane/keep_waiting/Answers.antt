@@ -7,8 +7,8 @@ use Rattle.primary_ctl.specs.States.{track_of}
 use Rattle.epoch.specs.Following.{at_time}
 use Rattle.epoch.specs.Lanes.{tracks_of}
 use Rattle.epoch.proofs.CopySights.{device_there, on_always, on_both, on_ok}
-use Rattle.epoch.proofs.KeptErrors.{full_few}
-use Rattle.epoch.proofs.KeptWaiting.{waiting_few, waiting_fit, waiting_follows, waiting_group, waiting_left, waiting_live, waiting_makes, waiting_moments, waiting_table}
+use Rattle.epoch.proofs.Frames.{keeps_here}
+use Rattle.epoch.proofs.KeptWaiting.{waiting_fit, waiting_follows, waiting_full, waiting_group, waiting_left, waiting_live, waiting_makes, waiting_moments, waiting_table}
 use Rattle.epoch.proofs.lane.Lane.keep_waiting.Goals as goal
 
 pub pop_upto-requires : goal.pop_upto-requires
@@ -106,6 +106,12 @@ returns-clause-follows g c = λ told t means following.
     c.keep_group.ensures.time
     (c.keep_group.ensures.shows told (at_time site.time means) row.device (tracks_of row) (tracks_of row) base (track_of lane.primary row.volume) there following.goes_on (following.rows ∙ sym c.requires.rows) makes following.holds.shows)
 
+pub returns-clause-others : goal.returns-clause-others
+returns-clause-others g c = λ told. c.keep_group.ensures.others told c.args.row.now c.requires.rows
+
+pub returns-in_err-pop_upto-clause-others : goal.returns-in_err-pop_upto-clause-others
+returns-in_err-pop_upto-clause-others g c = λ told. let row = c.args.row.now in keeps_here c.args.site.now.at.set row.device (tracks_of row) (g.P.Plant.state c.args.plant.now)
+
 pub returns-clause-journal_end : goal.returns-clause-journal_end
 returns-clause-journal_end g c = λ told end.
     let lane = c.args.self.now in
@@ -113,4 +119,4 @@ returns-clause-journal_end g c = λ told end.
     let w = c.requires.waits.1 in
     let is = waiting_group c.requires.waits.0 row.volume (tracks_of row) lane w lane.time c.requires.feed.time c.begin.new.self c.pop_upto.new.out lane.formed.controls c.requires.feed.formed c.begin.ensures c.pop_upto.ensures.popped in
     let few : length lane.queue.waiting ≤ 32 = omega (arith, c.len-few.ensures.count, c.len-few.ensures.within, c.requires.feed.records) in
-    full_few c.pop_upto.new.out (g.P.Plant.state c.keep_group.new.plant) (waiting_few c.requires.waits.0 row.volume (tracks_of row) lane w lane.time c.requires.feed.time c.pop_upto.new.out is few) (c.keep_group.ensures.journal_end told end)
+    waiting_full c.requires.waits.0 row.volume (tracks_of row) lane w lane.time c.requires.feed.time c.pop_upto.new.out c.args.site.now.time (g.P.Plant.state c.keep_group.new.plant) is few (c.keep_group.ensures.full_at told end)

@@ -1,4 +1,4 @@
-use Rattle.std.proofs.Common.{◌≡◌, ◌∙◌, ℕ, Bool, Ok, filter, ap, subst, sym}
+use Rattle.std.proofs.Common.{rules, ◌≡◌, ◌∙◌, ℕ, Bool, Ok, filter, ap, subst, sym}
 use Rattle.pending_queue.specs.Entries.{all_keep_rules, entries_of}
 use Rattle.primary_ctl.specs.States.{PrimaryState}
 use Rattle.site_means.specs.Images.{shape_of}
@@ -6,6 +6,7 @@ use Rattle.epoch.specs.Following.{ShowsPrimary}
 use Rattle.epoch.specs.Lanes.{is_of, tracks_of}
 use Rattle.epoch.specs.Sights.{EachIs}
 use Rattle.epoch.proofs.CopySights.{on_always}
+use Rattle.epoch.proofs.KeptWaiting.{full_same}
 use Rattle.epoch.proofs.Putting.{not_put, run_from_start, run_rises}
 use Rattle.epoch.proofs.Rooms.{kinds_keep}
 use Rattle.epoch.proofs.Turns.{feed_put, follows_same}
@@ -72,3 +73,10 @@ returns-clause-shows g c = λ told t means follows.
     let held = c.put_batch.ensures.others.1 in
     let now = c.in_ok-keep_waiting.ensures.follows told t means (follows_same t means row lane next time old queue held follows) in
     on_always c.put_first.result _ now.holds
+
+pub returns-in_err-keep_waiting-clause-journal_end : goal.returns-in_err-keep_waiting-clause-journal_end
+returns-in_err-keep_waiting-clause-journal_end g c = λ told end.
+    let full = c.in_ok-put_batch.was ∙ ap (λ (b : Bool). Ok b) c.if-branch.false in
+    let queue = c.put_batch.ensures.same (not_put c.put_batch.result full) in
+    let same : c.keep_waiting.result ≡ c.from_residual-in_err-keep_waiting.result = search rules in
+    full_same c.args.self.now c.put_batch.new.self c.args.site.now.time (g.P.Plant.state c.keep_waiting.new.plant) queue c.put_batch.ensures.others.1 (c.keep_waiting.ensures.journal_end told (same ∙ end))
