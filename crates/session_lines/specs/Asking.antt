@@ -1,5 +1,5 @@
 -- What the lines of a session with one pair ask, as they were heard.
-use Rattle.std.specs.Prelude.{◌≡◌, ◌⊎◌, ℕ, ◌<◌, ◌≤◌, List, [], length, Some}
+use Rattle.std.specs.Prelude.{◌≡◌, ◌⊎◌, ℕ, ◌+◌, ◌<◌, ◌≤◌, List, [], length, Some}
 use Rattle.crash_plant.specs.Moments.{PlantState}
 use Rattle.pair_table.specs.declared.command.Command.TheVariants.{AddPair}
 use Rattle.consistency.specs.Bears.{Run}
@@ -25,9 +25,11 @@ HasEnded tells text left = IsWhole tells text left ⊎ (IsTooLong text ⊎ IsNot
 
 -- ---- the three lines
 
--- a start at the level at which a fault suspends its own pair alone
-abbrev pub AsksStart : (session text : List ℕ) → (time : ℕ) → Type 0
-AsksStart session text time = Asks text 0 (start_line session time)
+-- A start at the level at which a fault suspends its own pair alone, which leaves this level out: a time, the command's word and the
+-- session, with a space between them, and nothing more.
+pub record AsksStart (session text : List ℕ) (time : ℕ) : Type 0 where
+  pub asks : Asks text 0 (start_line session time)
+  pub short : length (first_line text) ≡ 24 + length session
 
 abbrev pub AsksPair : (session text : List ℕ) → (before time : ℕ) → (primary secondary : List ℕ) → Type 0
 AsksPair session text before time primary secondary = Asks text before (named_line session time primary secondary)

@@ -1,5 +1,6 @@
-ghost use Rattle.std.specs.Prelude.{◌≡◌, ℕ, List, [], IfOk, IfSome, IsErrOf, IsNone, OnOk};
+ghost use Rattle.std.specs.Prelude.{◌≡◌, ◌↔◌, ◌+◌, ℕ, List, [], IfOk, IfSome, IsErrOf, IsNone, IsTrue, OnOk, length};
 ghost use Rattle.crash_plant.specs.Calls.{WorksOnConsole};
+ghost use Rattle.consistency.specs.Courses.{first_line};
 ghost use Rattle.consistency.specs.Steps.{TimedCommand};
 ghost use Rattle.pair_table.specs.declared.command.Command.TheVariants.{AddPair};
 ghost use Rattle.pair_course.specs.Course.{end_line, start_line};
@@ -18,6 +19,9 @@ use tod_stamp::{Session, Stamp};
 use xrc_command::Line;
 use xrc_edge::Failed;
 use xrc_status::Stop;
+
+/// The bytes of a start's time and word, with the spaces behind them.
+const SHORT_START: usize = 24;
 
 // What a text asks, where this names the session and comes not before a time.
 fn line_in(text: &LineText, session: Session, before: Stamp) -> Option<Line>
@@ -62,6 +66,13 @@ fn next_line<P: Plant>(
     }
 }
 
+// Whether a start of a session has no level behind the session.
+fn leaves_level_out(text: &LineText, session: Session) -> bool
+    ensures { IsTrue result ↔ (length (first_line text.now) ≡ 24 + length session) }
+{
+    text.line().len() == SHORT_START + session.as_bytes().len()
+}
+
 // The pair that a command at a time adds, if it adds one.
 fn pair_in(time: Stamp, command: Command) -> Option<NamedPair>
     ensures time { IfSome result (λ pair. pair.time ≡ time) }
@@ -79,8 +90,8 @@ fn pair_in(time: Stamp, command: Command) -> Option<NamedPair>
     }
 }
 
-/// Hears the line that starts the session, at the level at which a fault suspends its own pair alone, and gives its time. Any other
-/// line isn't built.
+/// Hears the line that starts the session, at the level at which a fault suspends its own pair alone, and gives its time. A line that
+/// names a level isn't built, and neither is any other line.
 pub fn hear_start<P: Plant>(
     plant: &mut P,
     text: &mut LineText,
@@ -101,7 +112,7 @@ pub fn hear_start<P: Plant>(
     let start = Command::Start {
         level: Level::Volume,
     };
-    if line.command == start {
+    if line.command == start && leaves_level_out(text, session) {
         Ok(line.time)
     } else {
         Err(Stop::NotBuilt)

@@ -62,6 +62,11 @@ fn lines_of_the_session_are_heard(rt: HostRuntime) -> Result<(), Fail> {
         Ok(Stamp(0x90))
     );
     assert_eq!(rt; expect_nothing(&mut plant), Err(Stop::NotBuilt));
+    plant = plain(
+        rt.alloc(),
+        b"0000000000000050 XSTART ABC ERRORLEVEL(VOLUME)\n",
+    )?;
+    assert_eq!(rt; hear_start(&mut plant, &mut text, abc), Err(Stop::NotBuilt));
     plant = plain(rt.alloc(), SCRIPT)?;
     let other = session(&rt, b"ABD");
     assert_eq!(rt;

@@ -1,8 +1,7 @@
 -- The start's line in a run: heard, worked for and answered.
-use Rattle.std.proofs.Common.{◌≡◌, ◌⊎◌, inl, inr, ℕ, ◌<◌, ◌≤◌, List, [], ◌∷◌, false, Option, Some, None, Result, Ok, Err, refl, sym, ap, subst, ◌∙◌, arith}
+use Rattle.std.proofs.Common.{◌≡◌, inl, inr, ℕ, ◌≤◌, List, [], false, Option, Some, None, Result, Ok, Err, refl, sym, ap, subst, ◌∙◌, arith}
 use Rattle.std.specs.Prelude.{IfErr, IsErrAnd, IsErrOf}
 use Rattle.tod_stamp.specs.declared.stamp.Stamp.{Stamp}
-use Rattle.crash_plant.specs.declared.device.Device.{Device}
 use Rattle.crash_plant.specs.Calls.{WorksOnConsole}
 use Rattle.crash_plant.specs.Moments.{PlantState}
 use Rattle.trace_grammar.specs.declared.trace.Trace.{Trace}
@@ -12,7 +11,6 @@ use Rattle.xrc_command.specs.Reading.{command_at, time_at}
 use Rattle.xrc_command.proofs.PartReading.{time_takes}
 use Rattle.site_means.specs.Images.{shape_of}
 use Rattle.site_means.specs.Sight.{meant_by}
-use Rattle.site_store.specs.declared.store_error.StoreError.{StoreError}
 use Rattle.site_store.specs.Sites.{SiteState, means_with}
 use Rattle.site_store.specs.Standing.{Stands}
 use Rattle.consistency.specs.Bears.{Run}
@@ -32,10 +30,10 @@ use Rattle.session_lines.specs.Meanings.{NowMeans}
 use Rattle.session_lines.specs.Runs.{GoesOn, line_heard, started_at}
 use Rattle.session_lines.proofs.Going.{beginnings, hears_on}
 use Rattle.xrc_status.specs.declared.stop.Stop.{Stop}
-use Rattle.xrc_status.specs.declared.stop.Stop.TheVariants.{EarlyBreak, JournalEnd, NotBuilt, Spent}
-use Rattle.xrc_session.specs.Stopping.{KeepsSome, NoneFell, StopsSo}
+use Rattle.xrc_status.specs.declared.stop.Stop.TheVariants.{ConsoleFault, EarlyBreak, JournalEnd, NotBuilt, Spent}
+use Rattle.xrc_session.specs.Stopping.{NoneFell}
 use Rattle.xrc_session.specs.StopsOf.{IsOfStart, stop_of_lane}
-use Rattle.xrc_session.proofs.StopLaws.{lane_stops, store_end, store_not_refused, store_spent, store_stops}
+use Rattle.xrc_session.proofs.StopLaws.{store_end, store_not_console, store_not_refused, store_spent}
 
 -- ---- its time
 
@@ -52,19 +50,17 @@ asked_late bytes line is = by_time (time_at bytes) refl is
     by_time (Some read) at is = let late = (time_takes bytes read.0 read.1 at).positive in omega (arith, asked_time read (command_at read.1) line is, late)
 
 pub start_late : (session text : List ℕ) (time : ℕ) → AsksStart session text time → 1 ≤ time
-start_late session text time asks = asked_late (first_line text) (start_line session time) asks.read
+start_late session text time asks = asked_late (first_line text) (start_line session time) asks.asks.read
 
 -- ---- the stops of its work
-
-pub start_stops : (run : Run) (first now : PlantState) (stop : Stop) → IsOfStart stop → KeepsSome run first now → StopsSo run first now stop
-start_stops run first now stop is keeps = elim is [
-  | inl store ↦ subst (λ (s : Stop). StopsSo run first now s) (sym store.1) (store_stops run first now store.0 keeps)
-  | inr lane ↦ subst (λ (s : Stop). StopsSo run first now s) (sym lane.1) (lane_stops run first now lane.0 keeps)
-]
 
 lane_not_refused : (e : LaneError) → ¬ (stop_of_lane e ≡ NotBuilt)
 lane_not_refused lane.Broken = λ is. cc is
 lane_not_refused lane.NoMemory = λ is. cc is
+
+lane_not_console : (e : LaneError) → ¬ (stop_of_lane e ≡ ConsoleFault)
+lane_not_console lane.Broken = λ is. cc is
+lane_not_console lane.NoMemory = λ is. cc is
 
 lane_not_spent : (e : LaneError) → ¬ (stop_of_lane e ≡ Spent)
 lane_not_spent lane.Broken = λ is. cc is
@@ -82,6 +78,12 @@ pub start_not_refused : (stop : Stop) → IsOfStart stop → ¬ (stop ≡ NotBui
 start_not_refused stop is same = elim is [
   | inl store ↦ store_not_refused store.0 (sym store.1 ∙ same)
   | inr lane ↦ lane_not_refused lane.0 (sym lane.1 ∙ same)
+]
+
+pub start_not_console : (stop : Stop) → IsOfStart stop → ¬ (stop ≡ ConsoleFault)
+start_not_console stop is same = elim is [
+  | inl store ↦ store_not_console store.0 (sym store.1 ∙ same)
+  | inr lane ↦ lane_not_console lane.0 (sym lane.1 ∙ same)
 ]
 
 pub start_not_spent : (stop : Stop) → IsOfStart stop → ¬ (stop ≡ Spent)
@@ -121,32 +123,30 @@ module _ (run : Run) (t : Trace) (text : List ℕ) (first a b : PlantState) (goe
   pub begun_hears : GoesOn run t [] text first b
   begun_hears = hears_on run t [] [] text first a b goes keeps
 
-  pub begun_keeps : KeepsSome run first b
-  begun_keeps = record { lines = []; text = text; keeps = begun_hears.keeps }
-
   -- The work for it goes on with the run.
   pub begun_works : (tells : Type 0) → tells → (c : PlantState) → WorksSilently tells b c → GoesOn run t [] text first c
   begun_works tells told c works = beginnings first b c run t text begun_hears (record { site = works.site; elapses = works.elapses told; silent = works.silent told })
 
-  pub works_keep : (tells : Type 0) → tells → (c : PlantState) → WorksSilently tells b c → KeepsSome run first c
-  works_keep tells told c works = record { lines = []; text = text; keeps = (begun_works tells told c works).keeps }
+  -- It is the start.
+  pub start_is_heard : (session : List ℕ) (time : ℕ) → run.session ≡ session → IsNext 0 text (start_line session time) first a → line_heard run first [] text ≡ Some (start_line run.session time)
+  start_is_heard session time session_is next =
+      let here : line_heard run first [] text ≡ Some (start_line session time) = next run [] goes.up goes.keeps (omega arith) (omega arith) in
+      here ∙ ap (λ (s : List ℕ). Some (start_line s time)) (sym session_is)
 
   -- Once the site is made it may be answered.
   pub may_start : (session : List ℕ) (time : ℕ) → run.session ≡ session → IsNext 0 text (start_line session time) first a → (tells : Type 0) → tells → (c : PlantState) → WorksSilently tells b c → has_broken t time ≡ false
       → NowMeans c (λ x. MeansRows run (shape_of c) x [] time false) → MayStart run t (started_at time text) first c
-  may_start session time session_is next tells told c works whole means =
-      let here : line_heard run first [] text ≡ Some (start_line session time) = next run [] goes.up goes.keeps (omega arith) (omega arith) in
-      record {
-        begun = begun_works tells told c works;
-        heard = here ∙ ap (λ (s : List ℕ). Some (start_line s time)) (sym session_is);
-        whole = whole;
-        means = means;
-      }
+  may_start session time session_is next tells told c works whole means = record {
+    begun = begun_works tells told c works;
+    heard = start_is_heard session time session_is next;
+    whole = whole;
+    means = means;
+  }
 
 -- ---- counts
 
 -- No count fell while a line was heard, worked for and answered.
-pub none_fell : (tells : Type 0) (a b c d : PlantState) → WorksOnConsole tells a b → b.console_faults ≡ a.console_faults → WorksSilently tells b c → WorksOnConsole tells c d → d.console_faults ≡ c.console_faults → NoneFell a d
+pub none_fell : (tells : Type 0) (a b c d : PlantState) → WorksOnConsole tells a b → b.console_faults ≡ a.console_faults → WorksSilently tells b c → WorksOnConsole tells c d → c.console_faults ≤ d.console_faults → NoneFell a d
 none_fell tells a b c d hears heard works says said = record {
   console = omega (arith, heard, works.console_faults, said);
   devices = λ x. let one = hears.faults x in let two = works.faults x in let three = says.faults x in omega (arith, one, two, three);

@@ -58,6 +58,7 @@ module _ (tells : Type 0) (old new : PlantState) (works : WorksOnConsole tells o
     none_waits = between.none_waits;
     same_time = between.same_time;
     one_control = between.one_control;
+    first_set = between.first_set;
     level = between.level;
     applied = between.applied;
     good = between.good;

@@ -1,7 +1,8 @@
 -- Stops that come before the script is heard, and those that come later.
-use Rattle.std.proofs.Common.{◌≡◌, ◌≢◌, ◌⊎◌, inl, inr, ℕ, List, Option, Some, Result, Ok, Err, refl, sym, ap, subst, ◌∙◌}
-use Rattle.std.specs.Prelude.{IfErr, IsErrOf, OnOk}
-use Rattle.crash_plant.specs.Moments.{PlantState}
+use Rattle.std.proofs.Common.{◌≡◌, ◌≢◌, ◌⊎◌, inl, inr, ℕ, Result, Ok, Err, refl, sym, ap, subst, ◌∙◌}
+use Rattle.std.specs.Prelude.{IfErr, IsErrOf}
+use Rattle.crash_plant.specs.Moments.{PlantState, on}
+use Rattle.crash_plant.proofs.Steps.{stays_here}
 use Rattle.consistency.specs.Bears.{Run}
 use Rattle.xrc_status.specs.declared.stop.Stop.{Stop}
 use Rattle.xrc_status.specs.declared.stop.Stop.TheVariants.{ConsoleFault, JournalFault, ControlFault, StateFault, EarlyVolume, EarlyBreak, NotBuilt, JournalEnd, Spent, NoMemory, BadWords, BadHeader, HeaderFault, NoSession, OtherSession, Damaged, VolumeFault, TooSmall, BadSite}
@@ -43,9 +44,9 @@ was_break result before now count differ = elim (break_or result) [ inl is ↦ i
 -- ---- late stops
 
 -- Once the script is heard no stop is early.
-pub late_stops : {T : Type 0} (result : Result T Stop) (untouched : Type 0) (run : Run) (old new : PlantState) → IfErr result (StopsSo run old new) → IfErr result (StopsEarlyOr untouched run old new)
-late_stops (Ok x) untouched run old new stops = tt
-late_stops (Err e) untouched run old new stops = inr stops
+pub late_stops : {T : Type 0} (result : Result T Stop) (untouched : Type 0) (run : Run) (breaks full : (time : ℕ) → Type 0) (old new : PlantState) → IfErr result (StopsSo run breaks full old new) → IfErr result (StopsEarlyOr untouched run breaks full old new)
+late_stops (Ok x) untouched run breaks full old new stops = tt
+late_stops (Err e) untouched run breaks full old new stops = inr stops
 
 -- ---- stops by the header
 
@@ -53,12 +54,12 @@ late_stops (Err e) untouched run old new stops = inr stops
 abbrev pub IsOfOpening : Stop → Type 0
 IsOfOpening stop = ((place : ℕ) × (stop ≡ BadHeader 0 place)) ⊎ (stop ≡ HeaderFault 0) ⊎ (stop ≡ NoMemory)
 
-pub opening_stops : (stop : Stop) (untouched : Type 0) (run : Run) (plant : PlantState) → IsOfOpening stop → untouched → StopsEarlyOr untouched run plant plant stop
-opening_stops stop untouched run plant of kept = elim of [
+pub opening_stops : (stop : Stop) (untouched : Type 0) (run : Run) (breaks full : (time : ℕ) → Type 0) (plant : PlantState) → IsOfOpening stop → untouched → StopsEarlyOr untouched run breaks full plant plant stop
+opening_stops stop untouched run breaks full plant of kept = elim of [
   | inl bad ↦ inl (inr (inr (inl bad)), kept)
   | inr rest ↦ elim rest [
     | inl fault ↦ inl (inr (inr (inr fault)), kept)
-    | inr memory ↦ inr (subst (λ (s : Stop). StopsSo run plant plant s) (sym memory) (keeps_first run plant))
+    | inr memory ↦ inr (subst (λ (s : Stop). StopsSo run breaks full plant plant s) (sym memory) (inr (keeps_first run plant, λ d. stays_here (on plant d))))
   ]
 ]
 

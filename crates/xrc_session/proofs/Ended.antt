@@ -1,6 +1,6 @@
 -- The end's line in a run: heard, worked for and answered.
 use Rattle.std.proofs.Common.{◌≡◌, ◌⊎◌, inl, inr, ℕ, ◌≤◌, List, [], ◌∷◌, true, false, Option, Some, Result, Ok, Err, sym, ap, subst, ◌∙◌, arith}
-use Rattle.std.specs.Prelude.{IfErr, OnErr}
+use Rattle.std.specs.Prelude.{IfErr}
 use Rattle.crash_plant.specs.Choices.{Choice}
 use Rattle.crash_plant.specs.Moments.{PlantState}
 use Rattle.trace_grammar.specs.declared.trace.Trace.{Trace}
@@ -14,13 +14,9 @@ use Rattle.site_store.specs.Sites.{SiteState, means_with}
 use Rattle.site_store.specs.Standing.{Stands}
 use Rattle.consistency.specs.Bears.{Run}
 use Rattle.consistency.specs.Steps.{TimedCommand}
-use Rattle.consistency.specs.Courses.{Answered}
-use Rattle.consistency.specs.Moments.{BearsThroughout}
-use Rattle.consistency.proofs.Keeping.{keeps_throughout}
 use Rattle.pair_course.specs.Course.{HoldsTracks, MeansRows, end_line}
 use Rattle.epoch.specs.Works.{WorksSilently}
 use Rattle.epoch.proofs.CopySights.{rose_later}
-use Rattle.script_lines.specs.Grammars.{line_grammar}
 use Rattle.script_lines.specs.Hearing.{KeepsHearing}
 use Rattle.session_lines.specs.Answering.{MayEnd}
 use Rattle.session_lines.specs.Asking.{IsNext}
@@ -29,40 +25,21 @@ use Rattle.session_lines.specs.Meanings.{EachMeans, MeanPair, NowMeans}
 use Rattle.session_lines.specs.Runs.{HasPaired, Paired, ended_at, line_heard, paired_lines}
 use Rattle.session_lines.proofs.Going.{ends, hears_on}
 use Rattle.xrc_session.specs.Ending.{HoldsNow, IsRunAt, MeanEnding}
-use Rattle.xrc_session.specs.Stopping.{BearsSome, HasStopCause, KeepsSome, StopsSo}
+use Rattle.xrc_session.specs.Stopping.{HasStopCause}
 use Rattle.xrc_edge.specs.Causes.{HasCause, Rose}
 use Rattle.xrc_status.specs.declared.stop.Stop.{Stop}
 use Rattle.xrc_status.specs.declared.stop.Stop.TheVariants.{ConsoleFault, NotBuilt}
 
 -- ---- errors
 
--- Of each error something else holds.
-pub err_more : {T : Type 0} (result : Result T Stop) (A B : Stop → Type 0) → ((stop : Stop) → A stop → B stop) → IfErr result A → IfErr result B
-err_more (Ok x) A B more a = tt
-err_more (Err e) A B more a = more e a
-
 -- The console failed in a reply.
-pub say_stops : {T : Type 0} (result : Result T Stop) (run : Run) (lines : List Answered) (first now : PlantState) → IfErr result (λ stop. stop ≡ ConsoleFault) → OnErr result (BearsThroughout run line_grammar lines first now) → IfErr result (StopsSo run first now)
-say_stops (Ok x) run lines first now stop bears = tt
-say_stops (Err e) run lines first now stop bears = subst (λ (s : Stop). StopsSo run first now s) (sym stop) (record { lines = lines; bears = bears })
-
 pub say_cause : {T : Type 0} (result : Result T Stop) (old mid new : PlantState) → IfErr result (λ stop. stop ≡ ConsoleFault) → HasCause mid.console_faults new.console_faults result → old.console_faults ≤ mid.console_faults → IfErr result (HasStopCause old new)
 say_cause (Ok x) old mid new stop cause le = tt
 say_cause (Err e) old mid new stop cause le = subst (λ (s : Stop). HasStopCause old new s) (sym stop) (rose_later old.console_faults mid.console_faults new.console_faults le cause.failed)
 
--- A run that keeps bears.
-pub bears_some : (run : Run) (first now : PlantState) → KeepsSome run first now → BearsSome run first now
-bears_some run first now some = record { lines = some.lines; bears = keeps_throughout run line_grammar some.lines some.text first now some.keeps }
-
 -- ---- a line that isn't heard
 
 module _ (stop : Stop) (heard : (stop ≡ NotBuilt) ⊎ (stop ≡ ConsoleFault)) where
-  pub hear_stops : (run : Run) (first now : PlantState) → KeepsSome run first now → StopsSo run first now stop
-  hear_stops run first now keeps = elim heard [
-    | inl refused ↦ subst (λ (s : Stop). StopsSo run first now s) (sym refused) keeps
-    | inr failed ↦ subst (λ (s : Stop). StopsSo run first now s) (sym failed) (bears_some run first now keeps)
-  ]
-
   pub hear_cause : (old new : PlantState) → (stop ≡ ConsoleFault → Rose old.console_faults new.console_faults) → HasStopCause old new stop
   hear_cause old new rose = elim heard [
     | inl refused ↦ subst (λ (s : Stop). HasStopCause old new s) (sym refused) tt
@@ -75,10 +52,6 @@ hearing before now (Ok x) stop cause is = cc is
 hearing before now (Err e) stop cause is = let same : e ≡ stop = cc is in subst (λ (s : Stop). (s ≡ NotBuilt) ⊎ (s ≡ ConsoleFault)) same cause.stops
 
 -- ---- a line that is
-
--- The run keeps its lines, whatever was heard of the next one.
-pub paired_keeps : (run : Run) (t : Trace) (p : Paired) (heard : List ℕ) (first now : PlantState) → HasPaired run t p heard first now → KeepsSome run first now
-paired_keeps run t p heard first now has = record { lines = paired_lines run p; text = heard; keeps = has.goes_on.keeps }
 
 -- What the devices mean once the end is marked.
 pub ended_rows : (run : Run) (row : PairRow) (time : ℕ) (site : SiteState) (plant : PlantState) → Stands site.table.rows site plant → site.table.session ≡ run.session → site.level ≡ run.level → site.table.rows ≡ in_state Duplex row ∷ [] → site.time ≡ time → site.mark.ended ≡ true
@@ -106,9 +79,6 @@ module _ (run : Run) (t : Trace) (p : Paired) (text : List ℕ) (first a b : Pla
     short = has.short;
     added = has.added;
   }
-
-  pub heard_keeps : KeepsSome run first b
-  heard_keeps = paired_keeps run t p text first b paired_hears
 
   module _ (session : List ℕ) (from time : ℕ) (row : PairRow) (row_is : p.row ≡ row) (time_is : p.time ≡ from) (session_is : run.session ≡ session) (next : IsNext from text (end_line session time) first a) where
     -- It is the end.

@@ -1,7 +1,7 @@
 -- The start of a trace: what is ahead of a lane at first, and the trace of the bytes that a source gives before it fails.
-use Rattle.std.proofs.Common.{◌≡◌, ℕ, ◌≤◌, ◌+◌, ◌-◌, ◌&&◌, Bool, true, false, nat_eq, List, [], length, take, Option, Some, None, Result, Ok, Err, refl, sym, ap, subst, ◌∙◌, arith}
+use Rattle.std.proofs.Common.{◌≡◌, ℕ, ◌≤◌, ◌-◌, ◌&&◌, true, false, nat_eq, List, [], length, take, Option, Some, None, Result, Ok, Err, refl, sym, ap, subst, ◌∙◌, arith}
 use Rattle.std.specs.Prelude.{IsTrue}
-use Rattle.std.proofs.lemmas.Bool.{eqb-true}
+use Rattle.std.proofs.lemmas.Bool.{eqb-true, lt-ltb}
 use Rattle.std.proofs.lemmas.List.Elements.{All-nil}
 use Rattle.tod_stamp.specs.Fields.{Bad, Left, place_of, within}
 use Rattle.ckd_track.specs.declared.write.Cause.{Cause}
@@ -11,7 +11,6 @@ use Rattle.trace_grammar.specs.declared.header.Header.{Header}
 use Rattle.trace_grammar.specs.declared.trace.HeaderError.{HeaderError}
 use Rattle.trace_grammar.specs.declared.trace.HeaderError.TheVariants as header
 use Rattle.trace_grammar.specs.declared.trace.Trace.{Trace}
-use Rattle.trace_grammar.specs.declared.trace.TraceEnd.TheVariants.{ReadFault}
 use Rattle.trace_grammar.specs.Good.{after_header, entries_from, trace_of, whole_trace}
 use Rattle.trace_grammar.specs.Headers.{are_bases, are_volumes, header_at, is_header_of}
 use Rattle.write_trace.specs.Answers.{ReaderState}
@@ -19,15 +18,15 @@ use Rattle.write_trace.specs.Starts.{FailsInHeader, IsBadHeader, ReadsHeader, St
 use Rattle.write_trace.specs.Unread.{seen}
 use Rattle.primary_ctl.specs.States.{PrimaryState, base_in, track_of}
 use Rattle.sidefile.specs.Ahead.{ahead, cause_ahead}
-use Rattle.sidefile.specs.Breaks.{break_in}
+use Rattle.sidefile.specs.Breaks.{break_in, has_broken, is_below}
 use Rattle.sidefile.specs.Runs.{runs}
 use Rattle.sidefile.specs.States.{SidefileState, front_of}
 use Rattle.sidefile.proofs.FirstTurns.{ahead_none}
 use Rattle.sidefile.proofs.TraceLaws.{ahead_trace, given_trace}
-use Rattle.epoch.specs.Taken.{HasFailed, HasTaken, do_rise}
+use Rattle.epoch.specs.Taken.{FailsBelow, HasFailed, HasTaken, do_rise}
 use Rattle.epoch.proofs.Both.{both_true}
 use Rattle.epoch.proofs.GivenEntries.{entries_from_one}
-use Rattle.epoch.proofs.GivenTraces.{failed_trace, given_primary, given_unbroken}
+use Rattle.epoch.proofs.GivenTraces.{failed_trace, given_break, given_primary, given_unbroken}
 use Rattle.epoch.proofs.RisingEntries.{entries_rise, rise_lower}
 use Rattle.xrc_status.specs.declared.stop.Stop.TheVariants.{HeaderFault}
 use Rattle.xrc_session.specs.Runs.{EndsInHeader, IsRefused}
@@ -125,21 +124,34 @@ module _ (given : List ℕ) (now : Option (List ℕ)) (header : Header) (reader 
         },
       )
 
-  -- Where the source fails later, the bytes that it gave are a trace with which that one agrees up to its break.
-  fails_first : (left : List ℕ) (limit upto : ℕ) → HasFailed limit upto now (Some left) (first_side reader) → (t : Trace) → trace_of 1 true (take (length given - length left) given) ≡ Ok t → Agrees upto whole t
-  fails_first left limit upto failed t gave =
-      let (rest, there, is, long) = reads.reads given refl in
-      let front = front_of (first_side reader) in
-      let fails = failed rest (λ goes. there) in
-      let same_left : fails.left ≡ left = cc fails.told in
-      let made = given_trace given rest fails.given fails.left header reader is (sym long) (version_is header reads.kept) reads.volumes reads.last reads.goes_on fails.split fails.fault in
-      let t_is : failed_trace whole (ahead None reader fails.given) ≡ t =
-      one_trace (failed_trace whole (ahead None reader fails.given)) t (sym made ∙ ap (λ (l : List ℕ). trace_of 1 true (take (length given - length l) given)) same_left ∙ gave) in
-      subst (Agrees upto whole) t_is (record {
-        header = refl;
-        unbroken = λ time le ok. given_unbroken (Some left) whole front limit upto rest fails time le;
-        tracks = λ time le volume track. given_primary (Some left) whole front limit upto rest fails [] entries_are opens_rise time volume track le;
-      })
+  -- Where the source fails later, the bytes that it gave are this trace.
+  module _ (left : List ℕ) (limit upto : ℕ) (failed : HasFailed limit upto now (Some left) (first_side reader)) (t : Trace) (gave : trace_of 1 true (take (length given - length left) given) ≡ Ok t) where
+    abbrev fails : FailsBelow limit upto (Some left) (front_of (first_side reader)) (reads.reads given refl).0
+    fails = failed (reads.reads given refl).0 (λ goes. (reads.reads given refl).1)
+
+    given_is : failed_trace whole (ahead None reader fails.given) ≡ t
+    given_is =
+        let (rest, there, is, long) = reads.reads given refl in
+        let same_left : fails.left ≡ left = cc fails.told in
+        let made = given_trace given rest fails.given fails.left header reader is (sym long) (version_is header reads.kept) reads.volumes reads.last reads.goes_on fails.split fails.fault in
+        one_trace (failed_trace whole (ahead None reader fails.given)) t (sym made ∙ ap (λ (l : List ℕ). trace_of 1 true (take (length given - length l) given)) same_left ∙ gave)
+
+    -- The trace of all bytes agrees with it up to its break.
+    fails_first : Agrees upto whole t
+    fails_first =
+        let rest = (reads.reads given refl).0 in
+        let front = front_of (first_side reader) in
+        subst (Agrees upto whole) given_is (record {
+          header = refl;
+          unbroken = λ time le ok. given_unbroken (Some left) whole front limit upto rest fails time le;
+          tracks = λ time le volume track. given_primary (Some left) whole front limit upto rest fails [] entries_are opens_rise time volume track le;
+        })
+
+    -- It breaks below the limit.
+    breaks_first : has_broken t limit ≡ true
+    breaks_first =
+        let rest = (reads.reads given refl).0 in
+        subst (λ (x : Trace). has_broken x limit ≡ true) given_is (ap (λ (b : Option ℕ). is_below b limit) (given_break (Some left) whole (front_of (first_side reader)) limit upto rest fails) ∙ lt-ltb upto limit fails.below)
 
 -- ---- the same of any sidefile that starts so
 
@@ -154,6 +166,11 @@ opened_fails given left before now header reader side limit upto told reads side
     let here = subst (λ (b : Option (List ℕ)). ReadsHeader b now header reader) told reads in
     let same = one_trace (whole given now header reader here) other (sym (whole_is given now header reader here) ∙ whole_other) in
     subst (λ (o : Trace). Agrees upto o t) same (fails_first given now header reader here left limit upto (subst (HasFailed limit upto now (Some left)) side_is failed) t gave)
+
+pub opened_breaks : (given left : List ℕ) (before now : Option (List ℕ)) (header : Header) (reader : ReaderState) (side : SidefileState) (limit upto : ℕ) → before ≡ Some given → ReadsHeader before now header reader → side ≡ first_side reader
+    → HasFailed limit upto now (Some left) side → (t : Trace) → trace_of 1 true (take (length given - length left) given) ≡ Ok t → has_broken t limit ≡ true
+opened_breaks given left before now header reader side limit upto told reads side_is failed t gave =
+    breaks_first given now header reader (subst (λ (b : Option (List ℕ)). ReadsHeader b now header reader) told reads) left limit upto (subst (HasFailed limit upto now (Some left)) side_is failed) t gave
 
 -- ---- stops
 

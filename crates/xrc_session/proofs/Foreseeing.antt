@@ -21,12 +21,16 @@ foresees_on told now old new limit taken volumes time t upto f =
       agrees = f.agrees;
     }
 
--- So does one whose sidefile and tracks are the same.
+-- A lane whose sidefile and tracks are the same has taken over the same.
+pub taken_same : (told : Option (List ℕ)) (old new : Lane) → new.side ≡ old.side → new.primary ≡ old.primary → (t : Trace) → HasTaken told t old.side old.primary → HasTaken told t new.side new.primary
+taken_same told old new side primary t taken = subst (λ (s : SidefileState). HasTaken told t s new.primary) (sym side) (subst (λ (p : PrimaryState). HasTaken told t old.side p) (sym primary) taken)
+
+-- So it foresees the same.
 pub foresees_same : (told : Option (List ℕ)) (old new : Lane) → new.side ≡ old.side → new.primary ≡ old.primary → (t : Trace) (upto : ℕ) → Foresees told old upto t → Foresees told new upto t
 foresees_same told old new side primary t upto f = record {
   other = f.other;
   rules = f.rules;
-  taken = subst (λ (s : SidefileState). HasTaken told f.other s new.primary) (sym side) (subst (λ (p : PrimaryState). HasTaken told f.other old.side p) (sym primary) f.taken);
+  taken = taken_same told old new side primary f.other f.taken;
   reached = λ up. subst (λ (p : PrimaryState). HasReached p.time f.other p) (sym primary) (f.reached (subst (λ (p : PrimaryState). 0 < p.time) primary up));
   volumes = ap (λ (p : PrimaryState). p.volumes) primary ∙ f.volumes;
   agrees = f.agrees;

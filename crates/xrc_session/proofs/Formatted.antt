@@ -1,5 +1,5 @@
 -- What stands once a site is formatted and its label is read, with a lane at its time.
-use Rattle.std.proofs.Common.{◌≡◌, ◌≢◌, ◌⊎◌, inl, inr, ℕ, ◌<◌, ◌≤◌, List, [], false, replicate, slice_index_or, Result, Ok, Err, refl, sym, ap, subst, ◌∙◌, arith}
+use Rattle.std.proofs.Common.{◌≡◌, ◌≢◌, inl, inr, ℕ, List, [], false, replicate, slice_index_or, Result, Err, refl, sym, ap, subst, ◌∙◌, arith}
 use Rattle.std.specs.Prelude.{IsErrOf}
 use Rattle.std.proofs.lemmas.Bool.{cases_lt}
 use Rattle.std.proofs.lemmas.List.{get_or-replicate, get_or_past, length-replicate}
@@ -65,6 +65,7 @@ set_between tells lane site volumes session at plant is goes_on empty time fits 
   none_waits = empty;
   same_time = ap (λ (s : SiteState). s.time) is ∙ sym time;
   one_control = ap (λ (s : SiteState). s.controls) is;
+  first_set = ap (λ (s : SiteState). s.at.set) is;
   level = ap (λ (s : SiteState). s.level) is;
   applied = ap (λ (s : SiteState). s.waiting) is;
   good = subst NoneFailed (sym is) (none_true volumes);

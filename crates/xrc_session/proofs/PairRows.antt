@@ -30,7 +30,7 @@ pub same_head : (a b : VolumeHead) → (let x : Option VolumeHead = Some a in le
 same_head a b e = cc
 
 -- A volume's cylinders are those of its number.
-cylinders_at : (heads : List VolumeHead) (i : ℕ) (head : VolumeHead) → slice_get heads i ≡ Some head → head.cylinders ≡ cylinders_of heads i
+pub cylinders_at : (heads : List VolumeHead) (i : ℕ) (head : VolumeHead) → slice_get heads i ≡ Some head → head.cylinders ≡ cylinders_of heads i
 cylinders_at [] i head at = absurd cc
 cylinders_at (v ∷ heads) zero head at = sym (ap (λ (h : VolumeHead). h.cylinders) (same_head v head at))
 cylinders_at (v ∷ heads) (suc i) head at = cylinders_at heads i head at

@@ -1,11 +1,10 @@
--- Why a stop came of a failed call, and how a run stands then.
+-- Why a stop came of a failed call, and of which error.
 use Rattle.std.proofs.Common.{◌≡◌, ℕ, ◌≤◌, ap, sym, subst, ◌∙◌, refl}
 use Rattle.std.specs.Prelude.{Result, Ok, Err, IfErr, IsErrOf}
 use Rattle.xrc_edge.specs.Causes.{Rose}
 use Rattle.crash_plant.specs.declared.device.Device.{Device}
 use Rattle.crash_plant.specs.declared.device.Device.TheVariants.{Control, State, Journal, Volume}
 use Rattle.crash_plant.specs.Moments.{PlantState}
-use Rattle.consistency.specs.Bears.{Run}
 use Rattle.site_store.specs.declared.store_error.StoreError.{StoreError}
 use Rattle.site_store.specs.declared.store_error.StoreError.TheVariants as store
 use Rattle.epoch.specs.declared.epoch_error.EpochError.{EpochError}
@@ -15,7 +14,7 @@ use Rattle.epoch.specs.declared.lane_error.LaneError.TheVariants as lane
 use Rattle.epoch.proofs.CopySights.{rose_later}
 use Rattle.xrc_status.specs.declared.stop.Stop.{Stop}
 use Rattle.xrc_status.specs.declared.stop.Stop.TheVariants.{ConsoleFault, NotBuilt, EarlyBreak, JournalEnd, Spent}
-use Rattle.xrc_session.specs.Stopping.{HasStopCause, KeepsSome, StopsSo}
+use Rattle.xrc_session.specs.Stopping.{HasStopCause}
 use Rattle.xrc_session.specs.StopsOf.{IsOfEpoch, IsOfStore, stop_of_device, stop_of_epoch, stop_of_lane, stop_of_store}
 
 -- ---- why
@@ -181,32 +180,6 @@ of_epoch_not_refused stop is same = epoch_not_refused is.0 (sym is.1 ∙ same)
 
 pub of_store_not_broken : (stop : Stop) → IsOfStore stop → ¬ (stop ≡ EarlyBreak)
 of_store_not_broken stop is same = store_not_broken is.0 (sym is.1 ∙ same)
-
--- ---- how the run stands
-
-device_stops : (run : Run) (first now : PlantState) (d : Device) → KeepsSome run first now → StopsSo run first now (stop_of_device d)
-device_stops run first now Control keeps = keeps
-device_stops run first now State keeps = keeps
-device_stops run first now (Journal j) keeps = keeps
-device_stops run first now (Volume v) keeps = keeps
-
-pub store_stops : (run : Run) (first now : PlantState) (e : StoreError) → KeepsSome run first now → StopsSo run first now (stop_of_store e)
-store_stops run first now (store.Fault d) keeps = device_stops run first now d keeps
-store_stops run first now (store.Volume v) keeps = keeps
-store_stops run first now store.JournalEnd keeps = keeps
-store_stops run first now store.Spent keeps = keeps
-store_stops run first now store.NoMemory keeps = keeps
-
-pub epoch_stops : (run : Run) (first now : PlantState) (e : EpochError) → KeepsSome run first now → StopsSo run first now (stop_of_epoch e)
-epoch_stops run first now epoch.Broken keeps = keeps
-epoch_stops run first now (epoch.Store e) keeps = store_stops run first now e keeps
-
-pub lane_stops : (run : Run) (first now : PlantState) (e : LaneError) → KeepsSome run first now → StopsSo run first now (stop_of_lane e)
-lane_stops run first now lane.Broken keeps = keeps
-lane_stops run first now lane.NoMemory keeps = keeps
-
-pub of_epoch_stops : (run : Run) (first now : PlantState) (stop : Stop) → IsOfEpoch stop → KeepsSome run first now → StopsSo run first now stop
-of_epoch_stops run first now stop is keeps = subst (λ (s : Stop). StopsSo run first now s) (sym is.1) (epoch_stops run first now is.0 keeps)
 
 -- ---- what was answered
 

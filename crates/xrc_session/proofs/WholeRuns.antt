@@ -1,51 +1,46 @@
 -- A run of a whole script: its trace, and its calls one after another.
-use Rattle.std.proofs.Common.{◌≡◌, ◌≢◌, ◌⊎◌, inl, inr, ℕ, ◌<◌, ◌≤◌, ◌+◌, ◌-◌, ◌*◌, List, [], ◌∷◌, length, take, true, false, Bool, Option, Some, None, Result, Ok, Err, refl, sym, ap, subst, ◌∙◌, arith}
-use Rattle.std.specs.Prelude.{IfErr, IfOk, IsErrOf, IsTrue, OnOk}
-use Rattle.xrc_edge.specs.Causes.{Rose}
-use Rattle.crash_plant.specs.declared.device.Device.{Device}
+use Rattle.std.proofs.Common.{◌≡◌, ◌≢◌, inl, inr, ℕ, ◌≤◌, ◌-◌, List, [], ◌∷◌, length, take, true, false, Option, Some, None, Result, Ok, Err, refl, sym, ap, subst, ◌∙◌, arith}
+use Rattle.std.specs.Prelude.{IfErr, IsErrOf, OnOk}
 use Rattle.crash_plant.specs.declared.device.Device.TheVariants.{Control, State, Journal, Volume}
-use Rattle.crash_plant.specs.Calls.{SameSite, WorksOnConsole}
+use Rattle.crash_plant.specs.Calls.{WorksOnConsole}
+use Rattle.crash_plant.specs.Choices.{IsChoice}
 use Rattle.crash_plant.specs.Moments.{PlantState}
 use Rattle.trace_grammar.specs.declared.trace.HeaderError.{HeaderError}
 use Rattle.trace_grammar.specs.declared.trace.Trace.{Trace}
 use Rattle.trace_grammar.specs.Good.{trace_of}
-use Rattle.trace_grammar.specs.Headers.{is_header_of}
-use Rattle.pair_table.specs.declared.row.PairRow.{PairRow}
 use Rattle.pair_table.specs.declared.row.PairState.TheVariants.{Duplex}
 use Rattle.pair_table.specs.Tables.{in_state}
 use Rattle.volume_label.specs.declared.label.Label.{Label}
-use Rattle.primary_ctl.specs.States.{PrimaryState}
-use Rattle.sidefile.specs.States.{SidefileState}
 use Rattle.site_means.specs.Answers.{first_short}
-use Rattle.site_means.specs.Images.{Shape, shape_of}
+use Rattle.site_means.specs.Images.{shape_of}
 use Rattle.site_means.specs.Sight.{walked_by}
 use Rattle.site_means.specs.Meaning.{meaning_in}
 use Rattle.site_means.proofs.Shorts.{are_long}
 use Rattle.site_store.specs.Sites.{SiteState}
 use Rattle.site_store.specs.Standing.{HasLengths, Stands}
 use Rattle.consistency.specs.Bears.{Run}
-use Rattle.consistency.specs.Courses.{Answered}
 use Rattle.consistency.proofs.Keeping.{keeps_begins}
 use Rattle.pair_course.specs.Course.{HoldsTracks, MeansRows}
 use Rattle.epoch.specs.declared.lane.Lane.{Lane}
-use Rattle.epoch.specs.Taken.{FailsAsBefore, HasFailed, HasTaken}
+use Rattle.epoch.specs.Taken.{HasFailed}
 use Rattle.epoch.proofs.CopySights.{rose_later}
 use Rattle.script_lines.specs.Grammars.{line_grammar}
-use Rattle.script_lines.specs.Hearing.{HearsText, KeepsHearing}
-use Rattle.session_lines.specs.Behind.{HasHearingCause, HearsEnd, HearsMore}
+use Rattle.script_lines.specs.Hearing.{KeepsHearing}
+use Rattle.session_lines.specs.Behind.{HasHearingCause, HearsEnd}
 use Rattle.session_lines.specs.Meanings.{NowMeans}
-use Rattle.session_lines.specs.Runs.{Ended, GoesOn, HasPaired, Paired, ended_at, ended_lines}
-use Rattle.session_lines.proofs.Going.{goes_throughout, hears_on}
+use Rattle.session_lines.specs.Runs.{GoesOn, Paired, ended_at, ended_lines}
+use Rattle.session_lines.proofs.Going.{hears_on}
 use Rattle.xrc_status.specs.declared.stop.Stop.{Stop}
 use Rattle.xrc_status.specs.declared.stop.Stop.TheVariants.{ConsoleFault, JournalFault, ControlFault, StateFault, EarlyVolume, EarlyBreak, NotBuilt, JournalEnd, Spent, NoMemory, BadWords, BadHeader, HeaderFault, NoSession, OtherSession, Damaged, VolumeFault, TooSmall, BadSite}
 use Rattle.xrc_session.specs.Between.{IsRunOf}
 use Rattle.xrc_session.specs.Numbers.{HasNumbers}
-use Rattle.xrc_session.specs.Runs.{EndsSession, IsSessionRun, first_label}
-use Rattle.xrc_session.specs.Stopping.{BearsSome, BreaksBelow, HasStopCause, KeepsSome, NoneFell, StopsSo}
+use Rattle.xrc_session.specs.Runs.{EndsSession, IsSessionRun}
+use Rattle.xrc_session.specs.Stopping.{BreaksBelow, HasStopCause, KeepsSome, NoneFell}
 use Rattle.xrc_session.specs.Traces.{Agrees, Foresees, IsTraceOf}
 use Rattle.xrc_session.specs.Traces.IsTraceOf.{Failed, Whole}
-use Rattle.xrc_session.proofs.Between.{choice_heard, now_heard}
+use Rattle.xrc_session.proofs.Between.{now_heard}
 use Rattle.xrc_session.proofs.EmptyWalks.{none_is_walked}
+use Rattle.xrc_session.proofs.EndSlots.{slots_begin}
 use Rattle.xrc_session.proofs.Ended.{ended_rows}
 use Rattle.xrc_session.proofs.FirstSide.{Opens}
 
@@ -62,10 +57,10 @@ agrees_less upto less other t le agrees = record {
 pub foresees_less : (told : Option (List ℕ)) (lane : Lane) (upto less : ℕ) (t : Trace) → less ≤ upto → Foresees told lane upto t → Foresees told lane less t
 foresees_less told lane upto less t le f = record { other = f.other; taken = f.taken; rules = f.rules; reached = f.reached; volumes = f.volumes; agrees = agrees_less upto less f.other t le f.agrees }
 
-one_trace : (a b : Trace) → (let x : Result Trace HeaderError = Ok a in let y : Result Trace HeaderError = Ok b in x ≡ y) → a ≡ b
+pub one_trace : (a b : Trace) → (let x : Result Trace HeaderError = Ok a in let y : Result Trace HeaderError = Ok b in x ≡ y) → a ≡ b
 one_trace a b e = cc
 
-one_told : (a b : List ℕ) (told : Option (List ℕ)) → told ≡ Some a → told ≡ Some b → a ≡ b
+pub one_told : (a b : List ℕ) (told : Option (List ℕ)) → told ≡ Some a → told ≡ Some b → a ≡ b
 one_told a b told x y = cc
 
 -- The bytes that the source of a run held.
@@ -135,20 +130,7 @@ fell_then a b c x y = record { console = omega (arith, x.console, y.console); de
 
 -- ---- behind the last line
 
--- What isn't the end of the script stops the run, whose lines are answered.
-pub nothing_stops : {T : Type 0} (result : Result T Stop) (run : Run) (t : Trace) (lines : List Answered) (first mid new : PlantState) → GoesOn run t lines [] first mid → HasHearingCause mid.console_faults new.console_faults result
-    → (IsErrOf result NotBuilt → HearsMore mid new) → (IsErrOf result ConsoleFault → HearsText [] mid new) → ((text : List ℕ) → HearsText text mid new → KeepsHearing [] text first mid new) → IfErr result (StopsSo run first new)
-nothing_stops (Ok x) run t lines first mid new goes cause more failed keeps = tt
-nothing_stops (Err e) run t lines first mid new goes cause more failed keeps = elim cause.stops [
-  | inl refused ↦
-      let one = more (ap (λ (s : Stop). Err s) refused) in
-      subst (λ (s : Stop). StopsSo run first new s) (sym refused)
-      (record { lines = lines; text = one.byte ∷ []; keeps = (hears_on run t lines [] (one.byte ∷ []) first mid new goes (keeps (one.byte ∷ []) one.heard)).keeps })
-  | inr fault ↦
-      let none = failed (ap (λ (s : Stop). Err s) fault) in
-      subst (λ (s : Stop). StopsSo run first new s) (sym fault) (record { lines = lines; bears = goes_throughout run t lines [] first new (hears_on run t lines [] [] first mid new goes (keeps [] none)) })
-]
-
+-- What isn't the end of the script is refused, or the console failed.
 pub nothing_cause : {T : Type 0} (result : Result T Stop) (mid new : PlantState) → HasHearingCause mid.console_faults new.console_faults result → IfErr result (HasStopCause mid new)
 nothing_cause (Ok x) mid new cause = tt
 nothing_cause (Err e) mid new cause = elim cause.stops [
@@ -166,16 +148,19 @@ module _ (run : Run) (t : Trace) (pair : Paired) (text : List ℕ) (first mid ne
     (keeps : KeepsHearing [] [] first mid new) where
   -- The script was heard to its end.
   pub ends_session : GoesOn run t (ended_lines run (ended_at pair site.time text)) [] first mid → Stands site.table.rows site mid → site.table.session ≡ run.session → site.level ≡ run.level → site.table.rows ≡ in_state Duplex pair.row ∷ [] → site.mark.ended ≡ true
-      → site.at ≡ site.mark.at → NowMeans mid (λ c. HoldsTracks t (shape_of mid) c pair.row site.time) → EndsSession run t first new
-  ends_session goes stands session level rows ended empty holds =
+      → site.at ≡ site.mark.at → NowMeans mid (λ c. HoldsTracks t (shape_of mid) c pair.row site.time) → IsChoice new new.clock new.bytes → pair.row.device ≡ 0 → EndsSession run t first new
+  ends_session goes stands session level rows ended empty holds reads device =
       let last = ended_at pair site.time text in
+      let walk = now_heard tells mid new only told (λ s c. walked_by (meaning_in s c) ≡ []) (none_is_walked site.table.rows site mid stands empty) in
+      let held = now_heard tells mid new only told (λ s c. HoldsTracks t s c pair.row site.time) holds in
       record {
         end = last;
         goes_on = hears_on run t (ended_lines run last) [] [] first mid new goes keeps;
         at_end = end.at_end;
         means = now_heard tells mid new only told (λ s c. MeansRows run s c (in_state Duplex pair.row ∷ []) site.time true) (ended_rows run pair.row site.time site mid stands session level rows refl ended);
-        walk = now_heard tells mid new only told (λ s c. walked_by (meaning_in s c) ≡ []) (none_is_walked site.table.rows site mid stands empty);
-        holds = now_heard tells mid new only told (λ s c. HoldsTracks t s c pair.row site.time) holds;
+        walk = walk;
+        holds = held;
+        slots = slots_begin new t pair.row site.time reads device walk held;
       }
 
 -- ---- the site

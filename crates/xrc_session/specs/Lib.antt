@@ -1,8 +1,12 @@
 pub mod Traces
 pub mod Between
 pub mod Pairing
+pub mod Expected
 pub mod Stopping
+pub mod Full
+pub mod Leaving
 pub mod StopsOf
 pub mod Ending
 pub mod Numbers
 pub mod Runs
+pub mod Laws

@@ -49,6 +49,7 @@ pub record IsBehind (tells : Type 0) (lane : Lane) (site : SiteState) (plant : P
   pub none_waits : lane.queue.waiting ≡ []
   pub later : site.time ≤ lane.primary.time
   pub one_control : site.controls ≡ 1
+  pub first_set : site.at.set ≡ 0
   pub level : site.level ≡ Volume
   pub applied : site.waiting ≡ []
   pub good : NoneFailed site

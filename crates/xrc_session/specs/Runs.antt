@@ -1,20 +1,29 @@
 -- What a run of a script with one pair has done, and what it has not.
-use Rattle.std.specs.Prelude.{◌≡◌, ◌⊎◌, ℕ, ◌+◌, ◌-◌, ◌<◌, ◌≤◌, ◌++◌, List, [], ◌∷◌, length, take, true, Option, Some, Err}
-use Rattle.tod_stamp.specs.Fields.{Bad, place_of}
+use Rattle.std.specs.Prelude.{◌≡◌, ◌≢◌, ◌⊎◌, ℕ, ◌-◌, ◌^◌, ◌<◌, ◌≤◌, ◌++◌, List, [], ◌∷◌, length, take, true, Option, Some, Err}
+use Rattle.tod_stamp.specs.Fields.{Bad, IsBytes, place_of}
 use Rattle.tod_stamp.specs.Fields.Bad.{Cut}
+use Rattle.xrc_edge.specs.Causes.{Rose}
+use Rattle.crash_plant.specs.declared.device.Device.{Device}
 use Rattle.crash_plant.specs.declared.device.Device.TheVariants.{Volume}
 use Rattle.crash_plant.specs.Moments.{PlantState}
 use Rattle.trace_grammar.specs.declared.trace.Trace.{Trace}
 use Rattle.trace_grammar.specs.Good.{most_bytes, whole_trace}
 use Rattle.trace_grammar.specs.Headers.{header_at}
+use Rattle.primary_ctl.specs.Primaries.{primary}
+use Rattle.sidefile.specs.Breaks.{has_broken}
 use Rattle.pair_table.specs.declared.row.PairState.TheVariants.{Duplex}
 use Rattle.pair_table.specs.Tables.{in_state}
 use Rattle.volume_label.specs.declared.label.Label.{Label}
 use Rattle.volume_label.specs.Labels.{label_of}
 use Rattle.site_means.specs.Images.{shape_of}
 use Rattle.site_means.specs.Sight.{walked}
+use Rattle.applier.specs.Slots.{BeginsWithTrack}
 use Rattle.consistency.specs.Bears.{Run}
-use Rattle.pair_course.specs.Course.{HoldsTracks, IsPairRun, MeansRows}
+use Rattle.consistency.specs.Courses.{AreAsked, texts_of}
+use Rattle.pair_course.specs.Course.{HoldsTracks, IsAdded, IsPairRun, MeansRows}
+use Rattle.script_lines.specs.Grammars.{line_grammar}
+use Rattle.epoch.specs.Lanes.{tracks_of}
+use Rattle.session_lines.specs.Asking.{AsksStart}
 use Rattle.session_lines.specs.Meanings.{NowMeans}
 use Rattle.session_lines.specs.Runs.{Ended, GoesOn, ended_lines}
 use Rattle.xrc_session.specs.Between.{IsRunOf}
@@ -37,7 +46,8 @@ pub record IsSessionRun (session : List ℕ) (before now : Option (List ℕ)) (f
 -- ---- done
 
 -- The script was heard to its end, and each of its three lines was answered; each moment bears. Now whatever a crash leaves means the
--- ended session at the time of its end, by no record of the journal, with the pair duplex and its primary's tracks in its slots.
+-- ended session at the time of its end, by no record of the journal, with the pair duplex and its primary's tracks in its slots. Each of
+-- these, as a read gives it, begins with its image.
 pub record EndsSession (run : Run) (t : Trace) (old new : PlantState) : Type 0 where
   pub end : Ended
   pub goes_on : GoesOn run t (ended_lines run end) [] old new
@@ -45,6 +55,7 @@ pub record EndsSession (run : Run) (t : Trace) (old new : PlantState) : Type 0 w
   pub means : NowMeans new (λ c. MeansRows run (shape_of new) c (in_state Duplex end.pair.row ∷ []) end.time true)
   pub walk : NowMeans new (λ c. walked new c ≡ [])
   pub holds : NowMeans new (λ c. HoldsTracks t (shape_of new) c end.pair.row end.time)
+  pub slots : IsBytes (new.bytes (Volume 0)) → (x : ℕ) → x < tracks_of end.pair.row → BeginsWithTrack (new.bytes (Volume 0)) x (Some (primary (t ∷ []) end.time 0 end.pair.row.volume x))
 
 -- ---- not done
 
@@ -57,8 +68,12 @@ abbrev pub IsEarly : Stop → Type 0
 IsEarly stop = (stop ≡ BadSite) ⊎ ((d : _) × (needed : ℕ) × (stop ≡ TooSmall d needed)) ⊎ IsOfHeader stop
 
 -- Then the plant is untouched. With any other stop each moment of the run bears.
-abbrev pub StopsEarlyOr : (untouched : Type 0) → Run → (old new : PlantState) → Stop → Type 0
-StopsEarlyOr untouched run old new stop = (IsEarly stop × untouched) ⊎ StopsSo run old new stop
+abbrev pub StopsEarlyOr : (untouched : Type 0) → Run → (breaks full : (time : ℕ) → Type 0) → (old new : PlantState) → Stop → Type 0
+StopsEarlyOr untouched run breaks full old new stop = (IsEarly stop × untouched) ⊎ StopsSo run breaks full old new stop
+
+-- The trace has broken at a time, where the source's count of faults doesn't stand at its end.
+abbrev pub HasBrokenBy : Trace → (risen time : ℕ) → Type 0
+HasBrokenBy t risen time = risen ≢ 2 ^ 64 - 1 → has_broken t time ≡ true
 
 -- The bytes begin with no header: the first field that is cut or breaks its rule stands at that place.
 abbrev pub IsRefused : (given : List ℕ) → (place : ℕ) → Type 0
@@ -69,3 +84,19 @@ pub record EndsInHeader (all left given : List ℕ) : Type 0 where
   pub split : all ≡ given ++ left
   pub within : length given ≤ most_bytes
   pub cut : (place : ℕ) × (header_at 1 (whole_trace given) ≡ Err (Cut place))
+
+-- ---- what a script asks
+
+-- It asks for a session with one pair: its lines are a start that leaves its level out, a pair and an end, as they would be answered, and
+-- nothing else.
+pub record AsksSession (run : Run) (script : List ℕ) : Type 0 where
+  pub end : Ended
+  pub whole : texts_of (ended_lines run end) ≡ script
+  pub asked : AreAsked run line_grammar script (ended_lines run end)
+  pub added : IsAdded run end.pair.row
+  pub start : AsksStart run.session end.pair.start.text end.pair.start.time
+
+-- No call on a device or the console failed.
+pub record NoneFailed (old new : PlantState) : Type 0 where
+  pub devices : (d : Device) → ¬ Rose (old.faults d) (new.faults d)
+  pub console : ¬ Rose old.console_faults new.console_faults

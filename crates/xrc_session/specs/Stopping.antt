@@ -7,7 +7,6 @@ use Rattle.crash_plant.specs.Moments.{PlantState}
 use Rattle.consistency.specs.Bears.{Run}
 use Rattle.consistency.specs.Courses.{Answered}
 use Rattle.consistency.specs.Keeping.{Keeps}
-use Rattle.consistency.specs.Moments.{BearsThroughout}
 use Rattle.pair_table.specs.declared.row.PairRow.{PairRow}
 use Rattle.xrc_journal.specs.Items.{body_spelling}
 use Rattle.xrc_journal.specs.Items.Item.{Pair}
@@ -16,6 +15,7 @@ use Rattle.site_store.specs.Standing.{Stands}
 use Rattle.epoch.specs.declared.lane.Lane.{Lane}
 use Rattle.epoch.specs.Taken.{HasFailed, WillBreak}
 use Rattle.script_lines.specs.Grammars.{line_grammar}
+use Rattle.xrc_session.specs.Expected.{AnswersInPart, IsUnexpected, KeepsExpected, LeavesAll, StopsAt}
 use Rattle.xrc_status.specs.declared.stop.Stop.{Stop}
 use Rattle.xrc_status.specs.declared.stop.Stop.TheVariants.{ConsoleFault, JournalFault, ControlFault, StateFault, EarlyVolume, EarlyBreak, NotBuilt, JournalEnd, Spent, NoMemory, BadWords, BadHeader, HeaderFault, NoSession, OtherSession, Damaged, VolumeFault, TooSmall, BadSite}
 
@@ -25,32 +25,29 @@ pub record KeepsSome (run : Run) (first now : PlantState) : Type 0 where
   pub text : List ℕ
   pub keeps : Keeps run line_grammar lines text first now
 
--- Each moment bears, with some lines answered.
-pub record BearsSome (run : Run) (first now : PlantState) : Type 0 where
-  pub lines : List Answered
-  pub bears : BearsThroughout run line_grammar lines first now
-
--- A console that failed may have said a front of a reply. With any other stop nothing was said behind the replies.
-abbrev pub StopsSo : Run → (first now : PlantState) → Stop → Type 0
-StopsSo run first now ConsoleFault = BearsSome run first now
-StopsSo run first now (JournalFault j) = KeepsSome run first now
-StopsSo run first now ControlFault = KeepsSome run first now
-StopsSo run first now StateFault = KeepsSome run first now
-StopsSo run first now EarlyVolume = KeepsSome run first now
-StopsSo run first now EarlyBreak = KeepsSome run first now
-StopsSo run first now NotBuilt = KeepsSome run first now
-StopsSo run first now JournalEnd = KeepsSome run first now
-StopsSo run first now Spent = KeepsSome run first now
-StopsSo run first now NoMemory = KeepsSome run first now
-StopsSo run first now BadWords = ⊥
-StopsSo run first now (BadHeader trace place) = ⊥
-StopsSo run first now (HeaderFault trace) = ⊥
-StopsSo run first now NoSession = ⊥
-StopsSo run first now (OtherSession name) = ⊥
-StopsSo run first now (Damaged d place) = ⊥
-StopsSo run first now VolumeFault = ⊥
-StopsSo run first now (TooSmall d needed) = ⊥
-StopsSo run first now BadSite = ⊥
+-- How a run stands with each stop. The parameters say what is so by the time of the line that was heard last, where the trace has
+-- broken and where the journal has no room. A console that failed may have said a front of a reply; with any other stop nothing was said
+-- behind the replies. Where memory is wanting before a start was heard, no device was worked on.
+abbrev pub StopsSo : Run → (breaks full : (time : ℕ) → Type 0) → (first now : PlantState) → Stop → Type 0
+StopsSo run breaks full first now ConsoleFault = AnswersInPart run first now
+StopsSo run breaks full first now NotBuilt = IsUnexpected run first now
+StopsSo run breaks full first now EarlyBreak = StopsAt run breaks first now
+StopsSo run breaks full first now JournalEnd = StopsAt run full first now
+StopsSo run breaks full first now (JournalFault j) = KeepsExpected run first now
+StopsSo run breaks full first now ControlFault = KeepsExpected run first now
+StopsSo run breaks full first now StateFault = KeepsExpected run first now
+StopsSo run breaks full first now EarlyVolume = KeepsExpected run first now
+StopsSo run breaks full first now Spent = KeepsExpected run first now
+StopsSo run breaks full first now NoMemory = KeepsExpected run first now ⊎ (KeepsSome run first now × LeavesAll first now)
+StopsSo run breaks full first now BadWords = ⊥
+StopsSo run breaks full first now (BadHeader trace place) = ⊥
+StopsSo run breaks full first now (HeaderFault trace) = ⊥
+StopsSo run breaks full first now NoSession = ⊥
+StopsSo run breaks full first now (OtherSession name) = ⊥
+StopsSo run breaks full first now (Damaged d place) = ⊥
+StopsSo run breaks full first now VolumeFault = ⊥
+StopsSo run breaks full first now (TooSmall d needed) = ⊥
+StopsSo run breaks full first now BadSite = ⊥
 
 -- The count of what failed rose. A line stops a run in no other way.
 abbrev pub HasStopCause : (old new : PlantState) → Stop → Type 0
@@ -85,6 +82,10 @@ pub record NoneFell (old new : PlantState) : Type 0 where
 -- rose, or by the trace that was ahead.
 abbrev pub BreaksBelow : (limit : ℕ) → (told now : Option (List ℕ)) → (faults risen : ℕ) → (old new : Lane) → Type 0
 BreaksBelow limit told now faults risen old new = (Rose faults risen × HasFailed limit new.side.upto told now old.side) ⊎ ((risen ≡ faults) × WillBreak limit new.side.upto told old.side old.primary)
+
+-- The same, of the time of a line.
+abbrev pub BreaksAt : (told now : Option (List ℕ)) → (faults risen : ℕ) → (old new : Lane) → (time : ℕ) → Type 0
+BreaksAt told now faults risen old new time = BreaksBelow time told now faults risen old new
 
 -- ---- a full journal
 

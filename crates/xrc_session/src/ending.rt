@@ -1,8 +1,9 @@
 //! The end of the session.
 
 ghost use Rattle.std.specs.Prelude.{◌≡◌, ◌≤◌, ◌<◌, ℕ, [], ◌∷◌, Some, true, false, OnOk, IfErr, IsErrOf};
-ghost use Rattle.crash_plant.specs.Calls.{SameSite};
+ghost use Rattle.crash_plant.specs.Calls.{Elapses, NoneLent, SameSite};
 ghost use Rattle.trace_grammar.specs.declared.trace.Trace.{Trace as TraceValue};
+ghost use Rattle.primary_ctl.specs.States.{track_of};
 ghost use Rattle.sidefile.specs.Breaks.{has_broken};
 ghost use Rattle.pair_table.specs.declared.level.Level.TheVariants.{Volume};
 ghost use Rattle.pair_table.specs.declared.row.PairRow.{PairRow as PairRowValue};
@@ -14,9 +15,10 @@ ghost use Rattle.site_store.specs.Standing.{Fits, Stands};
 ghost use Rattle.consistency.specs.Bears.{Run};
 ghost use Rattle.consistency.specs.Steps.{TimedCommand};
 ghost use Rattle.pair_course.specs.Course.{HoldsTracks};
-ghost use Rattle.epoch.specs.Ends.{IsFull, IsSpent};
-ghost use Rattle.epoch.specs.Lanes.{IsRowOf};
-ghost use Rattle.epoch.specs.Taken.{FailsAsBefore, HasReached};
+ghost use Rattle.epoch.specs.Ends.{IsFullForCopy, IsFullForWrites, IsSpent};
+ghost use Rattle.epoch.specs.Frames.{KeepsOthers};
+ghost use Rattle.epoch.specs.Lanes.{IsRowOf, tracks_of};
+ghost use Rattle.epoch.specs.Taken.{FailsAsBefore, HasReached, HasTaken};
 ghost use Rattle.epoch.specs.Works.{WorksSilently};
 ghost use Rattle.session_lines.specs.Asking.{AsksEnd};
 ghost use Rattle.session_lines.specs.Meanings.{EachMeans, MeanPair, NowMeans};
@@ -24,7 +26,8 @@ ghost use Rattle.session_lines.specs.Runs.{GoesOn, HasPaired, Paired as PairedLi
 ghost use Rattle.xrc_status.specs.declared.stop.Stop.TheVariants.{EarlyBreak, JournalEnd, NotBuilt, Spent};
 ghost use Rattle.xrc_session.specs.Between.{IsBetween};
 ghost use Rattle.xrc_session.specs.Ending.{HoldsLane, HoldsNow, IsRunAt, MeanEnding};
-ghost use Rattle.xrc_session.specs.Stopping.{BreaksBelow, HasStopCause, NoneFell, StopsSo};
+ghost use Rattle.xrc_session.specs.Full.{IsFullBehind, IsFullForEnd};
+ghost use Rattle.xrc_session.specs.Stopping.{BreaksAt, BreaksBelow, HasStopCause, NoneFell, StopsSo};
 ghost use Rattle.xrc_session.specs.StopsOf.{IsOfEpoch, IsOfStore};
 ghost use Rattle.xrc_session.specs.Traces.{Foresees};
 
@@ -63,11 +66,13 @@ fn copy<R: Threads + Sync, P: Plant>(
     // At every moment the pair waits or is copied, or it is duplex and holds its primary's tracks.
     ensures moments { P.tells → (run : Run) (t : TraceValue) (line : TimedCommand) → IsRunAt site.old.table.session run → HasReached lane.old.primary.time t lane.old.primary → site.old.time ≤ line.time → EachMeans (P.state plant.old) (P.state plant.new) (λ c. MeanPair run t (Some line) site.old.time row.now false (shape_of (P.state plant.new)) c) }
     ensures holds { P.tells → OnOk result (HoldsLane lane.new row.now (P.state plant.new)) }
+    ensures home { NoneLent (P.state plant.new) }
+    ensures others { P.tells → KeepsOthers 0 row.now.device (tracks_of row.now) (P.state plant.old) (P.state plant.new) }
     // Why it stops.
     ensures of_store { IfErr result IsOfStore }
     ensures cause { IfErr result (HasStopCause (P.state plant.old) (P.state plant.new)) }
     ensures spent { P.tells → IsErrOf result Spent → IsSpent (P.state plant.new) }
-    ensures journal_end { P.tells → IsErrOf result JournalEnd → IsFull (P.state plant.new) }
+    ensures journal_end { P.tells → IsErrOf result JournalEnd → IsFullForCopy row.now (track_of lane.old.primary row.now.volume) site.old.time (P.state plant.new) }
 {
     match lane.copy_pair(rt, alloc, plant, site, row) {
         Ok(()) => Ok(()),
@@ -103,13 +108,15 @@ fn follow<R: Threads + Sync, S: Source, P: Plant>(
     ensures moments { P.tells → HoldsLane lane.old row.now (P.state plant.old) → (run : Run) (t : TraceValue) (line : TimedCommand) → IsRunAt site.old.table.session run → Foresees (S.left source.old) lane.old lane.new.side.upto t → at.0 ≤ line.time → EachMeans (P.state plant.old) (P.state plant.new) (λ c. MeanPair run t (Some line) site.old.time row.now false (shape_of (P.state plant.new)) c) }
     ensures whole { (t : TraceValue) → Foresees (S.left source.old) lane.old lane.new.side.upto t → OnOk result (has_broken t at.0 ≡ false) }
     ensures holds { P.tells → HoldsLane lane.old row.now (P.state plant.old) → (t : TraceValue) → Foresees (S.left source.old) lane.old lane.new.side.upto t → OnOk result (HoldsNow t row.now at.0 (P.state plant.new)) }
+    ensures home { NoneLent (P.state plant.new) }
+    ensures others { P.tells → KeepsOthers 0 row.now.device (tracks_of row.now) (P.state plant.old) (P.state plant.new) }
     // Why it stops.
     ensures of_epoch { IfErr result IsOfEpoch }
     ensures cause { IfErr result (HasStopCause (P.state plant.old) (P.state plant.new)) }
     ensures broken { IsErrOf result EarlyBreak → BreaksBelow at.0 (S.left source.old) (S.left source.new) (S.faults source.old) (S.faults source.new) lane.old lane.new }
     ensures count { ¬ IsErrOf result EarlyBreak → S.faults source.new ≡ S.faults source.old }
     ensures spent { P.tells → IsErrOf result Spent → IsSpent (P.state plant.new) }
-    ensures journal_end { P.tells → IsErrOf result JournalEnd → IsFull (P.state plant.new) }
+    ensures journal_end { P.tells → IsErrOf result JournalEnd → (t : TraceValue) → HasTaken (S.left source.old) t lane.old.side lane.old.primary → IsFullForWrites t (in_state Duplex row.now) site.old.time at.0 (P.state plant.new) }
 {
     let duplex = PairRow {
         state: PairState::Duplex,
@@ -129,6 +136,7 @@ fn mark_end<R: Threads + Sync, P: Plant>(
     site: &mut Site<P::Volume>,
 ) -> Result<(), Stop>
     requires fits { Fits site.old (P.state plant.old) }
+    requires first_set { site.old.at.set ≡ 0 }
     requires applied { site.old.waiting ≡ [] }
     requires good { NoneFailed site.old }
     requires level { site.old.level ≡ Volume }
@@ -144,6 +152,8 @@ fn mark_end<R: Threads + Sync, P: Plant>(
     // At every moment the duplex pair holds its primary's tracks at the site's time, and the session has ended or it hasn't.
     ensures moments { P.tells → (run : Run) (t : TraceValue) (row : PairRowValue) (from end : ℕ) → IsRunAt site.old.table.session run → site.old.table.rows ≡ in_state Duplex row ∷ [] → has_broken t site.old.time ≡ false → HoldsNow t row site.old.time (P.state plant.old) → from ≤ site.old.time → site.old.time ≤ end → EachMeans (P.state plant.old) (P.state plant.new) (λ c. MeanEnding run t from end row (shape_of (P.state plant.new)) c) }
     ensures holds { P.tells → (t : TraceValue) (row : PairRowValue) → site.old.table.rows ≡ in_state Duplex row ∷ [] → HoldsNow t row site.old.time (P.state plant.old) → OnOk result (HoldsNow t row site.old.time (P.state plant.new)) }
+    ensures home { NoneLent (P.state plant.new) }
+    ensures others { P.tells → (device tracks : ℕ) → KeepsOthers 0 device tracks (P.state plant.old) (P.state plant.new) }
     // Why it stops.
     ensures of_store { IfErr result IsOfStore }
     ensures cause { IfErr result (HasStopCause (P.state plant.old) (P.state plant.new)) }
@@ -188,13 +198,15 @@ fn bring_to_end<R: Threads + Sync, S: Source, P: Plant>(
     ensures moments { P.tells → (run : Run) (t : TraceValue) → IsRunAt site.old.table.session run → Foresees (S.left source.old) lane.old lane.new.side.upto t → EachMeans (P.state plant.old) (P.state plant.new) (λ c. MeanEnding run t site.old.time at.0 row.now (shape_of (P.state plant.new)) c) }
     ensures whole { (t : TraceValue) → Foresees (S.left source.old) lane.old lane.new.side.upto t → OnOk result (has_broken t at.0 ≡ false) }
     ensures holds { P.tells → (t : TraceValue) → Foresees (S.left source.old) lane.old lane.new.side.upto t → OnOk result (HoldsNow t row.now at.0 (P.state plant.new)) }
+    ensures home { NoneLent (P.state plant.new) }
+    ensures others { P.tells → KeepsOthers 0 row.now.device (tracks_of row.now) (P.state plant.old) (P.state plant.new) }
     // Why it stops.
     ensures of_epoch { IfErr result IsOfEpoch }
     ensures cause { IfErr result (HasStopCause (P.state plant.old) (P.state plant.new)) }
     ensures broken { IsErrOf result EarlyBreak → BreaksBelow at.0 (S.left source.old) (S.left source.new) (S.faults source.old) (S.faults source.new) lane.old lane.new }
     ensures count { ¬ IsErrOf result EarlyBreak → S.faults source.new ≡ S.faults source.old }
     ensures spent { P.tells → IsErrOf result Spent → IsSpent (P.state plant.new) }
-    ensures journal_end { P.tells → IsErrOf result JournalEnd → IsFull (P.state plant.new) }
+    ensures journal_end { P.tells → IsErrOf result JournalEnd → (t : TraceValue) → HasTaken (S.left source.old) t lane.old.side lane.old.primary → HasReached site.old.time t lane.old.primary → IsFullForEnd t row.now site.old.time (P.state plant.new) at.0 }
 {
     copy(rt, alloc, lane, plant, site, row)?;
     follow(rt, alloc, lane, source, plant, site, row, at)?;
@@ -223,7 +235,10 @@ pub(crate) fn end<R: Threads + Sync, S: Source, P: Plant>(
     ensures foresees { OnOk result ((t : TraceValue) (upto : ℕ) → Foresees (S.left source.old) lane.old upto t → Foresees (S.left source.new) lane.new upto t) }
     ensures fails { OnOk result (FailsAsBefore (S.left source.old) (S.left source.new) lane.old.side lane.new.side) }
     ensures rises { lane.old.side.upto ≤ lane.new.side.upto }
+    ensures home { NoneLent (P.state plant.new) }
+    ensures others { P.tells → KeepsOthers 0 row.device (tracks_of row) (P.state plant.old) (P.state plant.new) }
     ensures site { SameSite (P.state plant.old) (P.state plant.new) }
+    ensures elapses { P.tells → Elapses (P.state plant.old) (P.state plant.new) }
     ensures table { OnOk result (site.new.table ≡ with_rows site.old.table (in_state Duplex row ∷ [])) }
     ensures level { OnOk result (site.new.level ≡ Volume) }
     ensures ended { OnOk result (site.new.mark.ended ≡ true) }
@@ -231,7 +246,7 @@ pub(crate) fn end<R: Threads + Sync, S: Source, P: Plant>(
     ensures stands { P.tells → OnOk result (Stands site.new.table.rows site.new (P.state plant.new)) }
     // The line is answered, and each moment bears. The device holds its primary's tracks.
     ensures ends { P.tells → (first : P) (run : Run) (t : TraceValue) (pair : PairedLine) → HasPaired run t pair [] (P.state first) (P.state plant.old) → pair.row ≡ row → pair.time ≡ site.old.time → run.session ≡ session → Foresees (S.left source.old) lane.old lane.new.side.upto t → OnOk result (GoesOn run t (ended_lines run (ended_at pair site.new.time text.new)) [] (P.state first) (P.state plant.new)) }
-    ensures stops { P.tells → (first : P) (run : Run) (t : TraceValue) (pair : PairedLine) → HasPaired run t pair [] (P.state first) (P.state plant.old) → pair.row ≡ row → pair.time ≡ site.old.time → run.session ≡ session → Foresees (S.left source.old) lane.old lane.new.side.upto t → IfErr result (StopsSo run (P.state first) (P.state plant.new)) }
+    ensures stops { P.tells → (first : P) (run : Run) (t : TraceValue) (pair : PairedLine) → HasPaired run t pair [] (P.state first) (P.state plant.old) → pair.row ≡ row → pair.time ≡ site.old.time → run.session ≡ session → Foresees (S.left source.old) lane.old lane.new.side.upto t → IfErr result (StopsSo run (BreaksAt (S.left source.old) (S.left source.new) (S.faults source.old) (S.faults source.new) lane.old lane.new) (IsFullBehind (S.left source.old) lane.old row site.old.time (P.state plant.new)) (P.state first) (P.state plant.new)) }
     ensures holds { P.tells → (t : TraceValue) → Foresees (S.left source.old) lane.old lane.new.side.upto t → OnOk result (NowMeans (P.state plant.new) (λ c. HoldsTracks t (shape_of (P.state plant.new)) c row site.new.time)) }
     // Why it stops.
     ensures cause { IfErr result (HasStopCause (P.state plant.old) (P.state plant.new)) }
@@ -240,7 +255,6 @@ pub(crate) fn end<R: Threads + Sync, S: Source, P: Plant>(
     ensures counts { OnOk result (NoneFell (P.state plant.old) (P.state plant.new)) }
     ensures count { ¬ IsErrOf result EarlyBreak → S.faults source.new ≡ S.faults source.old }
     ensures spent { P.tells → IsErrOf result Spent → IsSpent (P.state plant.new) }
-    ensures journal_end { P.tells → IsErrOf result JournalEnd → IsFull (P.state plant.new) }
 {
     let at = hear_end(plant, text, session, site.time())?;
     bring_to_end(rt, alloc, lane, source, plant, site, &row, at)?;

@@ -2,6 +2,7 @@
 #![tactic(auto)]
 
 mod ending;
+mod laws;
 mod numbers;
 mod opening;
 mod pairing;
@@ -11,4 +12,5 @@ mod stops;
 #[cfg(test)]
 mod tests;
 
+pub use laws::{one_row_is_asked, one_session_is_asked};
 pub use run::run_script;

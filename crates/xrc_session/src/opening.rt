@@ -5,6 +5,7 @@ ghost use Rattle.xrc_edge.specs.Causes.{Rose};
 ghost use Rattle.trace_grammar.specs.declared.trace.Trace.{Trace as TraceValue};
 ghost use Rattle.trace_grammar.specs.Good.{trace_of};
 ghost use Rattle.trace_grammar.specs.Headers.{are_volumes, is_header_of};
+ghost use Rattle.sidefile.specs.Breaks.{has_broken};
 ghost use Rattle.epoch.specs.Lanes.{IsLane};
 ghost use Rattle.epoch.specs.Taken.{HasFailed, HasTaken};
 ghost use Rattle.xrc_status.specs.declared.stop.Stop.TheVariants.{BadHeader, HeaderFault};
@@ -47,6 +48,8 @@ pub(crate) fn open_trace<S: Source>(alloc: Global, source: &mut S) -> Result<Ope
     ensures ahead { (given : List ℕ) → S.left source.old ≡ Some given → IfOk result (λ opened. (t : TraceValue) × (trace_of 1 false given ≡ Ok t) × (t.header.volumes ≡ opened.lane.primary.volumes) × IsTrue (is_header_of 1 t.header) × HasTaken (S.left source.new) t opened.lane.side opened.lane.primary) }
     // Where the source fails later, the bytes that it gave are a trace with which that one agrees up to its break.
     ensures fails { (given left : List ℕ) (limit upto : ℕ) → S.left source.old ≡ Some given → IfOk result (λ opened. HasFailed limit upto (S.left source.new) (Some left) opened.lane.side → (other t : TraceValue) → trace_of 1 false given ≡ Ok other → trace_of 1 true (take (length given - length left) given) ≡ Ok t → Agrees upto other t) }
+    // So they break at a time below the limit at which the source fails.
+    ensures breaks { (given left : List ℕ) (limit upto : ℕ) → S.left source.old ≡ Some given → IfOk result (λ opened. HasFailed limit upto (S.left source.new) (Some left) opened.lane.side → (t : TraceValue) → trace_of 1 true (take (length given - length left) given) ≡ Ok t → has_broken t limit ≡ true) }
     // Why it stops.
     ensures refused { (place : ℕ) → result ≡ Err (BadHeader 0 place) → (given : List ℕ) → S.left source.old ≡ Some given → IsRefused given place }
     ensures header { (given : List ℕ) (place : ℕ) → S.left source.old ≡ Some given → IsRefused given place → IfErr result (λ stop. (stop ≡ BadHeader 0 place) ⊎ (stop ≡ HeaderFault 0) ⊎ (stop ≡ Stop.NoMemory)) × ¬ IsOk result }

@@ -3,7 +3,7 @@
 ghost use Rattle.std.specs.Prelude.{◌≡◌, ◌≢◌, ◌⊎◌, ◌<◌, ◌≤◌, ◌*◌, ℕ, List, [], ◌∷◌, length, false, slice_get, Some, IfErr, IfOk, IfSome, IsErrOf, IsNone, IsTrue, OnOk};
 ghost use Rattle.xrc_edge.specs.Causes.{Rose};
 ghost use Rattle.crash_plant.specs.declared.device.Device.TheVariants.{Volume as VolumeDevice};
-ghost use Rattle.crash_plant.specs.Calls.{SameSite, WorksOnConsole};
+ghost use Rattle.crash_plant.specs.Calls.{Elapses, NoneLent, SameSite, WorksOnConsole};
 ghost use Rattle.trace_grammar.specs.declared.header.VolumeHead.{VolumeHead as HeadValue};
 ghost use Rattle.trace_grammar.specs.declared.trace.Trace.{Trace as TraceValue};
 ghost use Rattle.trace_grammar.specs.Headers.{are_volumes};
@@ -18,19 +18,21 @@ ghost use Rattle.site_store.specs.Changes.{behind_record};
 ghost use Rattle.site_store.specs.Sites.{with_table};
 ghost use Rattle.site_store.specs.Standing.{Fits, Stands, has_volume};
 ghost use Rattle.consistency.specs.Bears.{Run};
-ghost use Rattle.epoch.specs.Ends.{IsFull, IsSpent};
+ghost use Rattle.epoch.specs.Ends.{IsFullForTime, IsSpent};
+ghost use Rattle.epoch.specs.Frames.{KeepsOthers};
 ghost use Rattle.epoch.specs.Lanes.{IsLane, IsRowOf};
-ghost use Rattle.epoch.specs.Taken.{FailsAsBefore};
+ghost use Rattle.epoch.specs.Taken.{FailsAsBefore, HasTaken};
 ghost use Rattle.epoch.specs.Works.{WorksSilently};
 ghost use Rattle.pair_course.specs.Course.{IsAdded};
 ghost use Rattle.script_lines.specs.Hearing.{KeepsHearing};
-ghost use Rattle.session_lines.specs.Asking.{AsksPair, IsNext, named_line};
+ghost use Rattle.session_lines.specs.Asking.{AsksPair, HasEnded, IsNext, named_line};
 ghost use Rattle.session_lines.specs.Behind.{HasHearingCause};
 ghost use Rattle.session_lines.specs.Runs.{HasPaired, HasStarted, Started as StartedLine, paired_at};
 ghost use Rattle.xrc_status.specs.declared.stop.Stop.TheVariants.{EarlyBreak, JournalEnd, NoMemory as MemoryStop, NotBuilt, Spent};
 ghost use Rattle.xrc_session.specs.Between.{IsBetween, IsRunOf};
 ghost use Rattle.xrc_session.specs.Pairing.{HasHeardPair, IsBehind, IsNewRow, IsStandingAt};
-ghost use Rattle.xrc_session.specs.Stopping.{BreaksBelow, HasStopCause, IsFullForRow, NoneFell, StopsSo};
+ghost use Rattle.xrc_session.specs.Full.{IsFullForPair};
+ghost use Rattle.xrc_session.specs.Stopping.{BreaksAt, BreaksBelow, HasStopCause, IsFullForRow, NoneFell, StopsSo};
 ghost use Rattle.xrc_session.specs.StopsOf.{IsOfStore};
 ghost use Rattle.xrc_session.specs.Traces.{Foresees};
 
@@ -136,6 +138,7 @@ fn hear_row<P: Plant>(
     ensures keeps { P.tells → (first : P) → KeepsHearing [] text.new (P.state first) (P.state plant.old) (P.state plant.new) }
     ensures only { WorksOnConsole P.tells (P.state plant.old) (P.state plant.new) }
     ensures refused { IsErrOf result NotBuilt → (row : RowValue) (time : ℕ) → IsNewRow volumes.now label row → ¬ AsksPair session text.new before.0 time row.primary row.secondary }
+    ensures ended { IsErrOf result NotBuilt → HasEnded P.tells text.new (P.state plant.new).script }
     ensures cause { HasHearingCause (P.state plant.old).console_faults (P.state plant.new).console_faults result }
 {
     let asked = hear_pair(plant, text, session, before)?;
@@ -161,6 +164,7 @@ fn pass<S: Source>(alloc: Global, lane: &mut Lane, source: &mut S, at: Stamp) ->
     ensures foresees { OnOk result ((t : TraceValue) (upto : ℕ) → Foresees (S.left source.old) lane.old upto t → Foresees (S.left source.new) lane.new upto t) }
     ensures fails { OnOk result (FailsAsBefore (S.left source.old) (S.left source.new) lane.old.side lane.new.side) }
     ensures rises { lane.old.side.upto ≤ lane.new.side.upto }
+    ensures taken { OnOk result ((t : TraceValue) → HasTaken (S.left source.old) t lane.old.side lane.old.primary → HasTaken (S.left source.new) t lane.new.side lane.new.primary) }
     // Why it stops.
     ensures stops { IfErr result (λ stop. (stop ≡ EarlyBreak) ⊎ (stop ≡ MemoryStop)) }
     ensures broken { IsErrOf result EarlyBreak → BreaksBelow at.0 (S.left source.old) (S.left source.new) (S.faults source.old) (S.faults source.new) lane.old lane.new }
@@ -193,11 +197,13 @@ fn keep<R: Threads + Sync, P: Plant>(
     ensures works { WorksSilently P.tells (P.state plant.old) (P.state plant.new) }
     // Each moment bears: a crash leaves the session without a pair, at the site's time or the lane's.
     ensures heard { P.tells → (first : P) (run : Run) (t : TraceValue) (start : StartedLine) (row : RowValue) (text : List ℕ) → HasHeardPair run t start row at.0 text (P.state first) (P.state plant.old) → IsStandingAt run start site.old → has_broken t at.0 ≡ false → HasHeardPair run t start row at.0 text (P.state first) (P.state plant.new) }
+    ensures home { NoneLent (P.state plant.new) }
+    ensures others { P.tells → KeepsOthers 0 0 0 (P.state plant.old) (P.state plant.new) }
     // Why it stops.
     ensures of_store { IfErr result IsOfStore }
     ensures cause { IfErr result (HasStopCause (P.state plant.old) (P.state plant.new)) }
     ensures spent { P.tells → IsErrOf result Spent → IsSpent (P.state plant.new) }
-    ensures journal_end { P.tells → IsErrOf result JournalEnd → IsFull (P.state plant.new) }
+    ensures journal_end { P.tells → IsErrOf result JournalEnd → IsFullForTime at.0 (P.state plant.new) }
 {
     if site.time() == at {
         return Ok(());
@@ -233,13 +239,16 @@ fn wait_for<R: Threads + Sync, S: Source, P: Plant>(
     ensures works { WorksSilently P.tells (P.state plant.old) (P.state plant.new) }
     // Each moment bears: a crash leaves the session without a pair, at a time up to the line's.
     ensures heard { P.tells → (first : P) (run : Run) (t : TraceValue) (start : StartedLine) (row : RowValue) (text : List ℕ) → HasHeardPair run t start row at.0 text (P.state first) (P.state plant.old) → start.time ≡ site.old.time → run.session ≡ site.old.table.session → Foresees (S.left source.old) lane.old lane.new.side.upto t → HasHeardPair run t start row at.0 text (P.state first) (P.state plant.new) }
+    ensures taken { OnOk result ((t : TraceValue) → HasTaken (S.left source.old) t lane.old.side lane.old.primary → HasTaken (S.left source.new) t lane.new.side lane.new.primary) }
+    ensures home { NoneLent (P.state plant.new) }
+    ensures others { P.tells → KeepsOthers 0 0 0 (P.state plant.old) (P.state plant.new) }
     // Why it stops.
     ensures cause { IfErr result (HasStopCause (P.state plant.old) (P.state plant.new)) }
     ensures built { ¬ IsErrOf result NotBuilt }
     ensures broken { IsErrOf result EarlyBreak → BreaksBelow at.0 (S.left source.old) (S.left source.new) (S.faults source.old) (S.faults source.new) lane.old lane.new }
     ensures count { ¬ IsErrOf result EarlyBreak → S.faults source.new ≡ S.faults source.old }
     ensures spent { P.tells → IsErrOf result Spent → IsSpent (P.state plant.new) }
-    ensures journal_end { P.tells → IsErrOf result JournalEnd → IsFull (P.state plant.new) }
+    ensures journal_end { P.tells → IsErrOf result JournalEnd → IsFullForTime at.0 (P.state plant.new) }
 {
     pass(alloc, lane, source, at)?;
     keep(rt, alloc, lane, plant, site, at)
@@ -255,6 +264,7 @@ fn put_pair<P: Plant>(
 ) -> Result<(), Stop>
     requires rows { site.old.table.rows ≡ [] }
     requires time { site.old.time ≡ at.0 }
+    requires first_set { site.old.at.set ≡ 0 }
     requires applied { site.old.waiting ≡ [] }
     requires fits { Fits site.old (P.state plant.old) }
     requires stands { P.tells → Stands [] site.old (P.state plant.old) }
@@ -267,6 +277,8 @@ fn put_pair<P: Plant>(
     ensures works { WorksSilently P.tells (P.state plant.old) (P.state plant.new) }
     // Each moment bears: a crash leaves the session without the pair, or its row.
     ensures heard { P.tells → (first : P) (run : Run) (t : TraceValue) (start : StartedLine) (text : List ℕ) → HasHeardPair run t start row at.0 text (P.state first) (P.state plant.old) → IsStandingAt run start site.old → IsAdded run row → has_broken t at.0 ≡ false → HasHeardPair run t start row at.0 text (P.state first) (P.state plant.new) }
+    ensures home { NoneLent (P.state plant.new) }
+    ensures others { P.tells → KeepsOthers 0 0 0 (P.state plant.old) (P.state plant.new) }
     // Why it stops.
     ensures of_store { IfErr result IsOfStore }
     ensures cause { IfErr result (HasStopCause (P.state plant.old) (P.state plant.new)) }
@@ -313,13 +325,16 @@ fn take_pair<R: Threads + Sync, S: Source, P: Plant>(
     ensures works { WorksSilently P.tells (P.state plant.old) (P.state plant.new) }
     // Each moment bears.
     ensures heard { P.tells → (first : P) (run : Run) (t : TraceValue) (start : StartedLine) (text : List ℕ) → HasHeardPair run t start row.now at.0 text (P.state first) (P.state plant.old) → start.time ≡ site.old.time → run.session ≡ site.old.table.session → IsAdded run row.now → Foresees (S.left source.old) lane.old lane.new.side.upto t → HasHeardPair run t start row.now at.0 text (P.state first) (P.state plant.new) }
+    ensures taken { OnOk result ((t : TraceValue) → HasTaken (S.left source.old) t lane.old.side lane.old.primary → HasTaken (S.left source.new) t lane.new.side lane.new.primary) }
+    ensures home { NoneLent (P.state plant.new) }
+    ensures others { P.tells → KeepsOthers 0 0 0 (P.state plant.old) (P.state plant.new) }
     // Why it stops.
     ensures cause { IfErr result (HasStopCause (P.state plant.old) (P.state plant.new)) }
     ensures built { ¬ IsErrOf result NotBuilt }
     ensures broken { IsErrOf result EarlyBreak → BreaksBelow at.0 (S.left source.old) (S.left source.new) (S.faults source.old) (S.faults source.new) lane.old lane.new }
     ensures count { ¬ IsErrOf result EarlyBreak → S.faults source.new ≡ S.faults source.old }
     ensures spent { P.tells → IsErrOf result Spent → IsSpent (P.state plant.new) }
-    ensures journal_end { P.tells → IsErrOf result JournalEnd → IsFull (P.state plant.new) ⊎ IsFullForRow (P.state plant.new) }
+    ensures journal_end { P.tells → IsErrOf result JournalEnd → IsFullForPair (P.state plant.new) at.0 }
 {
     wait_for(rt, alloc, lane, source, plant, site, at)?;
     put_pair(alloc, plant, site, *row, at)
@@ -354,10 +369,14 @@ pub(crate) fn add_pair<R: Threads + Sync, S: Source, P: Plant>(
     ensures foresees { OnOk result ((t : TraceValue) (upto : ℕ) → Foresees (S.left source.old) lane.old upto t → Foresees (S.left source.new) lane.new upto t) }
     ensures fails { OnOk result (FailsAsBefore (S.left source.old) (S.left source.new) lane.old.side lane.new.side) }
     ensures rises { lane.old.side.upto ≤ lane.new.side.upto }
+    ensures taken { OnOk result ((t : TraceValue) → HasTaken (S.left source.old) t lane.old.side lane.old.primary → HasTaken (S.left source.new) t lane.new.side lane.new.primary) }
+    ensures home { NoneLent (P.state plant.new) }
+    ensures others { P.tells → KeepsOthers 0 0 0 (P.state plant.old) (P.state plant.new) }
     ensures site { SameSite (P.state plant.old) (P.state plant.new) }
+    ensures elapses { P.tells → Elapses (P.state plant.old) (P.state plant.new) }
     // The line is answered, and each moment bears.
     ensures pairs { P.tells → (first : P) (run : Run) (t : TraceValue) (start : StartedLine) → HasStarted run t start [] (P.state first) (P.state plant.old) → start.time ≡ started.old.site.time → IsRunOf session started.old.label run → Foresees (S.left source.old) lane.old lane.new.side.upto t → IfOk result (λ row. HasPaired run t (paired_at start row (15 * row.cylinders) started.new.site.time text.new) [] (P.state first) (P.state plant.new)) }
-    ensures stops { P.tells → (first : P) (run : Run) (t : TraceValue) (start : StartedLine) → HasStarted run t start [] (P.state first) (P.state plant.old) → start.time ≡ started.old.site.time → IsRunOf session started.old.label run → Foresees (S.left source.old) lane.old lane.new.side.upto t → IfErr result (StopsSo run (P.state first) (P.state plant.new)) }
+    ensures stops { P.tells → (first : P) (run : Run) (t : TraceValue) (start : StartedLine) → HasStarted run t start [] (P.state first) (P.state plant.old) → start.time ≡ started.old.site.time → IsRunOf session started.old.label run → Foresees (S.left source.old) lane.old lane.new.side.upto t → IfErr result (StopsSo run (BreaksAt (S.left source.old) (S.left source.new) (S.faults source.old) (S.faults source.new) lane.old lane.new) (IsFullForPair (P.state plant.new)) (P.state first) (P.state plant.new)) }
     // Why it stops.
     ensures cause { IfErr result (HasStopCause (P.state plant.old) (P.state plant.new)) }
     ensures counts { OnOk result (NoneFell (P.state plant.old) (P.state plant.new)) }
@@ -365,7 +384,6 @@ pub(crate) fn add_pair<R: Threads + Sync, S: Source, P: Plant>(
     ensures broken { IsErrOf result EarlyBreak → (time : ℕ) × (primary : List ℕ) × (secondary : List ℕ) × AsksPair session text.new started.old.site.time time primary secondary × BreaksBelow time (S.left source.old) (S.left source.new) (S.faults source.old) (S.faults source.new) lane.old lane.new }
     ensures count { ¬ IsErrOf result EarlyBreak → S.faults source.new ≡ S.faults source.old }
     ensures spent { P.tells → IsErrOf result Spent → IsSpent (P.state plant.new) }
-    ensures journal_end { P.tells → IsErrOf result JournalEnd → IsFull (P.state plant.new) ⊎ IsFullForRow (P.state plant.new) }
 {
     let label = started.label;
     let before = started.site.time();

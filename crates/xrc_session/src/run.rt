@@ -1,24 +1,28 @@
 //! A whole script.
 
-ghost use Rattle.std.specs.Prelude.{◌≡◌, ◌≢◌, ◌⊎◌, ◌↔◌, ◌<◌, ◌≤◌, ℕ, List, [], ◌∷◌, length, Err, None, Some, IfErr, IfOk, IfSome, IsErrOf, IsTrue, OnOk};
+ghost use Rattle.std.specs.Prelude.{◌≡◌, ◌≢◌, ◌⊎◌, ◌↔◌, ◌<◌, ◌≤◌, ◌-◌, ◌^◌, ℕ, false, List, [], ◌∷◌, length, Err, None, Some, IfErr, IfOk, IfSome, IsErrOf, IsTrue, OnOk};
 ghost use Rattle.xrc_edge.specs.Causes.{Rose};
 ghost use Rattle.crash_plant.specs.declared.device.Device.{Device as AnyDevice};
-ghost use Rattle.crash_plant.specs.Calls.{NoneLent, SameSite};
+ghost use Rattle.crash_plant.specs.Calls.{Elapses, NoneLent, SameSite};
 ghost use Rattle.trace_grammar.specs.declared.trace.Trace.{Trace as TraceValue};
 ghost use Rattle.trace_grammar.specs.Headers.{are_volumes};
+ghost use Rattle.sidefile.specs.Breaks.{has_broken};
 ghost use Rattle.pair_table.specs.declared.row.PairState.TheVariants.{Pending};
 ghost use Rattle.site_means.specs.Answers.{first_short, need};
 ghost use Rattle.site_store.specs.Standing.{HasLengths};
 ghost use Rattle.consistency.specs.Bears.{Run};
-ghost use Rattle.epoch.specs.Ends.{IsFull, IsSpent};
-ghost use Rattle.epoch.specs.Lanes.{IsLane, IsRowOf};
-ghost use Rattle.epoch.specs.Taken.{FailsAsBefore, HasFailed};
+ghost use Rattle.epoch.specs.Ends.{IsSpent};
+ghost use Rattle.epoch.specs.Frames.{KeepsOthers};
+ghost use Rattle.epoch.specs.Lanes.{IsLane, IsRowOf, tracks_of};
+ghost use Rattle.epoch.specs.Taken.{FailsAsBefore, HasFailed, HasTaken};
 ghost use Rattle.session_lines.specs.Runs.{GoesOn, HasPaired, Paired as PairedLine};
 ghost use Rattle.xrc_status.specs.declared.stop.Stop.TheVariants.{BadHeader, BadSite, EarlyBreak, HeaderFault, JournalEnd, NoMemory, Spent, TooSmall};
 ghost use Rattle.xrc_session.specs.Between.{IsBetween, IsRunOf};
+ghost use Rattle.xrc_session.specs.Full.{IsFullBehind, IsFullForPair, IsFullFrom, IsJournalFull};
+ghost use Rattle.xrc_session.specs.Leaving.{LeavesOthers};
 ghost use Rattle.xrc_session.specs.Numbers.{HasNumbers};
-ghost use Rattle.xrc_session.specs.Runs.{EndsInHeader, EndsSession, IsEarly, IsOfHeader, IsRefused, IsSessionRun, StopsEarlyOr, first_label};
-ghost use Rattle.xrc_session.specs.Stopping.{HasStopCause, IsFullForRow, NoneFell, StopsSo};
+ghost use Rattle.xrc_session.specs.Runs.{AsksSession, EndsInHeader, EndsSession, HasBrokenBy, IsEarly, IsOfHeader, IsRefused, IsSessionRun, NoneFailed, StopsEarlyOr, first_label};
+ghost use Rattle.xrc_session.specs.Stopping.{BreaksAt, HasStopCause, NoneFell, StopsSo};
 ghost use Rattle.xrc_session.specs.Traces.{Foresees};
 
 use crate::ending::end;
@@ -67,22 +71,26 @@ fn begin<R: Threads + Sync, S: Source, P: Plant>(
     requires there { 1 ≤ (P.state plant.old).volumes }
     ensures between { IfOk result (λ paired. IsBetween P.tells lane.new paired.started.site (P.state plant.new)) }
     ensures row { IfOk result (λ paired. IsRowOf lane.new.primary.volumes paired.row) }
+    ensures device { IfOk result (λ paired. paired.row.device ≡ 0) }
     ensures pending { IfOk result (λ paired. paired.row.state ≡ Pending) }
     ensures rows { IfOk result (λ paired. paired.started.site.table.rows ≡ paired.row ∷ []) }
     ensures session { IfOk result (λ paired. paired.started.site.table.session ≡ session) }
     ensures foresees { OnOk result ((t : TraceValue) (upto : ℕ) → Foresees (S.left source.old) lane.old upto t → Foresees (S.left source.new) lane.new upto t) }
     ensures fails { OnOk result (FailsAsBefore (S.left source.old) (S.left source.new) lane.old.side lane.new.side) }
+    ensures taken { OnOk result ((t : TraceValue) → HasTaken (S.left source.old) t lane.old.side lane.old.primary → HasTaken (S.left source.new) t lane.new.side lane.new.primary) }
+    ensures home { NoneLent (P.state plant.new) }
+    ensures others { P.tells → KeepsOthers 0 0 0 (P.state plant.old) (P.state plant.new) }
     ensures site { SameSite (P.state plant.old) (P.state plant.new) }
+    ensures elapses { P.tells → Elapses (P.state plant.old) (P.state plant.new) }
     // Two lines are answered, and each moment bears.
     ensures pairs { P.tells → (run : Run) (t : TraceValue) → GoesOn run t [] [] (P.state plant.old) (P.state plant.old) → IsRunOf session (first_label (P.state plant.old)) run → Foresees (S.left source.old) lane.old lane.new.side.upto t → IfOk result (λ paired. (pair : PairedLine) × HasPaired run t pair [] (P.state plant.old) (P.state plant.new) × (pair.row ≡ paired.row) × (pair.time ≡ paired.started.site.time)) }
-    ensures stops { P.tells → (run : Run) (t : TraceValue) → GoesOn run t [] [] (P.state plant.old) (P.state plant.old) → IsRunOf session (first_label (P.state plant.old)) run → Foresees (S.left source.old) lane.old lane.new.side.upto t → IfErr result (StopsSo run (P.state plant.old) (P.state plant.new)) }
+    ensures stops { P.tells → (run : Run) (t : TraceValue) → GoesOn run t [] [] (P.state plant.old) (P.state plant.old) → IsRunOf session (first_label (P.state plant.old)) run → Foresees (S.left source.old) lane.old lane.new.side.upto t → IfErr result (StopsSo run (BreaksAt (S.left source.old) (S.left source.new) (S.faults source.old) (S.faults source.new) lane.old lane.new) (IsFullForPair (P.state plant.new)) (P.state plant.old) (P.state plant.new)) }
     // Why it stops.
     ensures cause { IfErr result (HasStopCause (P.state plant.old) (P.state plant.new)) }
     ensures failed { IsErrOf result EarlyBreak → S.faults source.new ≢ S.faults source.old → (limit : ℕ) × HasFailed limit lane.new.side.upto (S.left source.old) (S.left source.new) lane.old.side }
     ensures counts { OnOk result (NoneFell (P.state plant.old) (P.state plant.new)) }
     ensures count { ¬ IsErrOf result EarlyBreak → S.faults source.new ≡ S.faults source.old }
     ensures spent { P.tells → IsErrOf result Spent → IsSpent (P.state plant.new) }
-    ensures journal_end { P.tells → IsErrOf result JournalEnd → IsFull (P.state plant.new) ⊎ IsFullForRow (P.state plant.new) }
 {
     let mut started = start(alloc, session, text, lane, source, plant)?;
     let row = add_pair(
@@ -112,20 +120,23 @@ fn finish<R: Threads + Sync, S: Source, P: Plant>(
 ) -> Result<(), Stop>
     requires between { IsBetween P.tells lane.old paired.old.started.site (P.state plant.old) }
     requires row { IsRowOf lane.old.primary.volumes paired.old.row }
+    requires device { paired.old.row.device ≡ 0 }
     requires pending { paired.old.row.state ≡ Pending }
     requires rows { paired.old.started.site.table.rows ≡ paired.old.row ∷ [] }
     requires session { paired.old.started.site.table.session ≡ session }
+    ensures home { NoneLent (P.state plant.new) }
+    ensures others { P.tells → KeepsOthers 0 0 (tracks_of paired.old.row) (P.state plant.old) (P.state plant.new) }
     ensures site { SameSite (P.state plant.old) (P.state plant.new) }
+    ensures elapses { P.tells → Elapses (P.state plant.old) (P.state plant.new) }
     // The script was heard to its end, and each moment bears.
     ensures ends { P.tells → (first : P) (run : Run) (t : TraceValue) (pair : PairedLine) → HasPaired run t pair [] (P.state first) (P.state plant.old) → pair.row ≡ paired.old.row → pair.time ≡ paired.old.started.site.time → run.session ≡ session → Foresees (S.left source.old) lane.old lane.new.side.upto t → OnOk result (EndsSession run t (P.state first) (P.state plant.new)) }
-    ensures stops { P.tells → (first : P) (run : Run) (t : TraceValue) (pair : PairedLine) → HasPaired run t pair [] (P.state first) (P.state plant.old) → pair.row ≡ paired.old.row → pair.time ≡ paired.old.started.site.time → run.session ≡ session → Foresees (S.left source.old) lane.old lane.new.side.upto t → IfErr result (StopsSo run (P.state first) (P.state plant.new)) }
+    ensures stops { P.tells → (first : P) (run : Run) (t : TraceValue) (pair : PairedLine) → HasPaired run t pair [] (P.state first) (P.state plant.old) → pair.row ≡ paired.old.row → pair.time ≡ paired.old.started.site.time → run.session ≡ session → Foresees (S.left source.old) lane.old lane.new.side.upto t → IfErr result (StopsSo run (BreaksAt (S.left source.old) (S.left source.new) (S.faults source.old) (S.faults source.new) lane.old lane.new) (IsFullBehind (S.left source.old) lane.old paired.old.row paired.old.started.site.time (P.state plant.new)) (P.state first) (P.state plant.new)) }
     // Why it stops.
     ensures cause { IfErr result (HasStopCause (P.state plant.old) (P.state plant.new)) }
     ensures failed { IsErrOf result EarlyBreak → S.faults source.new ≢ S.faults source.old → (limit : ℕ) × HasFailed limit lane.new.side.upto (S.left source.old) (S.left source.new) lane.old.side }
     ensures count { ¬ IsErrOf result EarlyBreak → S.faults source.new ≡ S.faults source.old }
     ensures rises { lane.old.side.upto ≤ lane.new.side.upto }
     ensures spent { P.tells → IsErrOf result Spent → IsSpent (P.state plant.new) }
-    ensures journal_end { P.tells → IsErrOf result JournalEnd → IsFull (P.state plant.new) }
 {
     let row = paired.row;
     end(
@@ -161,15 +172,16 @@ fn run_lines<R: Threads + Sync, S: Source, P: Plant>(
     requires home { NoneLent (P.state plant.old) }
     requires lengths { HasLengths 1 (P.state plant.old) }
     requires there { 1 ≤ (P.state plant.old).volumes }
+    ensures home { NoneLent (P.state plant.new) }
+    ensures others { P.tells → (run : Run) (t : TraceValue) → GoesOn run t [] [] (P.state plant.old) (P.state plant.old) → IsRunOf session (first_label (P.state plant.old)) run → Foresees (S.left source.old) lane.old lane.new.side.upto t → LeavesOthers run (P.state plant.old) (P.state plant.new) }
     ensures site { SameSite (P.state plant.old) (P.state plant.new) }
     ensures ends { P.tells → (run : Run) (t : TraceValue) → GoesOn run t [] [] (P.state plant.old) (P.state plant.old) → IsRunOf session (first_label (P.state plant.old)) run → Foresees (S.left source.old) lane.old lane.new.side.upto t → OnOk result (EndsSession run t (P.state plant.old) (P.state plant.new)) }
-    ensures stops { P.tells → (run : Run) (t : TraceValue) → GoesOn run t [] [] (P.state plant.old) (P.state plant.old) → IsRunOf session (first_label (P.state plant.old)) run → Foresees (S.left source.old) lane.old lane.new.side.upto t → IfErr result (StopsSo run (P.state plant.old) (P.state plant.new)) }
+    ensures stops { P.tells → (run : Run) (t : TraceValue) → GoesOn run t [] [] (P.state plant.old) (P.state plant.old) → IsRunOf session (first_label (P.state plant.old)) run → Foresees (S.left source.old) lane.old lane.new.side.upto t → IfErr result (StopsSo run (BreaksAt (S.left source.old) (S.left source.new) (S.faults source.old) (S.faults source.new) lane.old lane.new) (IsFullFrom (S.left source.old) lane.old (P.state plant.new)) (P.state plant.old) (P.state plant.new)) }
     // Why it stops.
     ensures cause { IfErr result (HasStopCause (P.state plant.old) (P.state plant.new)) }
     ensures failed { IsErrOf result EarlyBreak → S.faults source.new ≢ S.faults source.old → (limit : ℕ) × HasFailed limit lane.new.side.upto (S.left source.old) (S.left source.new) lane.old.side }
     ensures count { ¬ IsErrOf result EarlyBreak → S.faults source.new ≡ S.faults source.old }
     ensures spent { P.tells → IsErrOf result Spent → IsSpent (P.state plant.new) }
-    ensures journal_end { P.tells → IsErrOf result JournalEnd → IsFull (P.state plant.new) ⊎ IsFullForRow (P.state plant.new) }
 {
     let mut text = LineText::make();
     let mut paired = begin(rt, alloc, session, volumes, &mut text, lane, source, plant)?;
@@ -198,17 +210,20 @@ fn run_trace<R: Threads + Sync, S: Source, P: Plant>(
     requires there { 1 ≤ (P.state plant.old).volumes }
     ensures refused { (place : ℕ) → result ≡ Err (BadHeader 0 place) → (given : List ℕ) → S.left source.old ≡ Some given → IsRefused given place }
     ensures header { (given : List ℕ) (place : ℕ) → S.left source.old ≡ Some given → IsRefused given place → (result ≡ Err (BadHeader 0 place)) ⊎ (result ≡ Err (HeaderFault 0)) ⊎ (result ≡ Err NoMemory) }
+    ensures unopened { (given : List ℕ) (place : ℕ) → S.left source.old ≡ Some given → IsRefused given place → plant.new ≡ plant.old }
     ensures header_fault { result ≡ Err (HeaderFault 0) → Rose (S.faults source.old) (S.faults source.new) }
     ensures cut { result ≡ Err (HeaderFault 0) → (all left : List ℕ) → S.left source.old ≡ Some all → S.left source.new ≡ Some left → (given : List ℕ) × EndsInHeader all left given }
     ensures ends { P.tells → (run : Run) (t : TraceValue) → IsSessionRun session (S.left source.old) (S.left source.new) (S.faults source.old) (S.faults source.new) (P.state plant.old) t run → OnOk result (EndsSession run t (P.state plant.old) (P.state plant.new)) }
-    ensures stops { P.tells → (run : Run) (t : TraceValue) → IsSessionRun session (S.left source.old) (S.left source.new) (S.faults source.old) (S.faults source.new) (P.state plant.old) t run → IfErr result (StopsEarlyOr (plant.new ≡ plant.old) run (P.state plant.old) (P.state plant.new)) }
+    ensures stops { P.tells → (run : Run) (t : TraceValue) → IsSessionRun session (S.left source.old) (S.left source.new) (S.faults source.old) (S.faults source.new) (P.state plant.old) t run → IfErr result (StopsEarlyOr (plant.new ≡ plant.old) run (HasBrokenBy t (S.faults source.new)) (IsJournalFull t (P.state plant.new)) (P.state plant.old) (P.state plant.new)) }
+    ensures home { NoneLent (P.state plant.new) }
+    // Of the journals the first alone is worked on, and of the volumes the first alone, in the slots of the pair's tracks.
+    ensures others { P.tells → (run : Run) (t : TraceValue) → IsSessionRun session (S.left source.old) (S.left source.new) (S.faults source.old) (S.faults source.new) (P.state plant.old) t run → LeavesOthers run (P.state plant.old) (P.state plant.new) }
     ensures works { SameSite (P.state plant.old) (P.state plant.new) }
     // Why it stops.
     ensures causes { IfErr result (λ stop. IsOfHeader stop ⊎ HasStopCause (P.state plant.old) (P.state plant.new) stop) }
     ensures untouched { IfErr result (λ stop. IsEarly stop → plant.new ≡ plant.old) }
     ensures source_count { result ≢ Err (HeaderFault 0) → result ≢ Err EarlyBreak → S.faults source.new ≡ S.faults source.old }
     ensures spent { P.tells → result ≡ Err Spent → IsSpent (P.state plant.new) }
-    ensures journal_end { P.tells → result ≡ Err JournalEnd → IsFull (P.state plant.new) ⊎ IsFullForRow (P.state plant.new) }
 {
     let mut opened = open_trace(alloc, source)?;
     run_lines(
@@ -238,18 +253,23 @@ pub fn run_script<R: Threads + Sync, S: Source, P: Plant>(
     ensures too_small { (d : AnyDevice) (needed : ℕ) → result ≡ Err (TooSmall d needed) → HasNumbers (P.state plant.old) × (first_short (P.state plant.old) ≡ Some d) × (needed ≡ need d) }
     ensures refused { (place : ℕ) → result ≡ Err (BadHeader 0 place) → (given : List ℕ) → S.left source.old ≡ Some given → IsRefused given place }
     ensures header { (given : List ℕ) (place : ℕ) → S.left source.old ≡ Some given → IsRefused given place → HasNumbers (P.state plant.old) → first_short (P.state plant.old) ≡ None → (result ≡ Err (BadHeader 0 place)) ⊎ (result ≡ Err (HeaderFault 0)) ⊎ (result ≡ Err NoMemory) }
+    ensures unopened { (given : List ℕ) (place : ℕ) → S.left source.old ≡ Some given → IsRefused given place → plant.new ≡ plant.old }
     ensures header_fault { result ≡ Err (HeaderFault 0) → Rose (S.faults source.old) (S.faults source.new) }
     ensures cut { result ≡ Err (HeaderFault 0) → (all left : List ℕ) → S.left source.old ≡ Some all → S.left source.new ≡ Some left → (given : List ℕ) × EndsInHeader all left given }
     // Done: the script was heard to its end and its three lines were answered. Each moment bears, at every exit.
     ensures ends { P.tells → (run : Run) (t : TraceValue) → IsSessionRun session (S.left source.old) (S.left source.new) (S.faults source.old) (S.faults source.new) (P.state plant.old) t run → OnOk result (EndsSession run t (P.state plant.old) (P.state plant.new)) }
-    ensures stops { P.tells → (run : Run) (t : TraceValue) → IsSessionRun session (S.left source.old) (S.left source.new) (S.faults source.old) (S.faults source.new) (P.state plant.old) t run → IfErr result (StopsEarlyOr (plant.new ≡ plant.old) run (P.state plant.old) (P.state plant.new)) }
+    ensures stops { P.tells → (run : Run) (t : TraceValue) → IsSessionRun session (S.left source.old) (S.left source.new) (S.faults source.old) (S.faults source.new) (P.state plant.old) t run → IfErr result (StopsEarlyOr (plant.new ≡ plant.old) run (HasBrokenBy t (S.faults source.new)) (IsJournalFull t (P.state plant.new)) (P.state plant.old) (P.state plant.new)) }
+    ensures home { NoneLent (P.state plant.new) }
+    // Of the journals the first alone is worked on, and of the volumes the first alone, in the slots of the pair's tracks.
+    ensures others { P.tells → (run : Run) (t : TraceValue) → IsSessionRun session (S.left source.old) (S.left source.new) (S.faults source.old) (S.faults source.new) (P.state plant.old) t run → LeavesOthers run (P.state plant.old) (P.state plant.new) }
     ensures works { SameSite (P.state plant.old) (P.state plant.new) }
     // Why it stops.
     ensures causes { IfErr result (λ stop. IsEarly stop ⊎ HasStopCause (P.state plant.old) (P.state plant.new) stop) }
     ensures untouched { IfErr result (λ stop. IsEarly stop → plant.new ≡ plant.old) }
     ensures source_count { result ≢ Err (HeaderFault 0) → result ≢ Err EarlyBreak → S.faults source.new ≡ S.faults source.old }
     ensures spent { P.tells → result ≡ Err Spent → IsSpent (P.state plant.new) }
-    ensures journal_end { P.tells → result ≡ Err JournalEnd → IsFull (P.state plant.new) ⊎ IsFullForRow (P.state plant.new) }
+    // Where nothing calls for a stop, there is none but for want of memory, a full journal or spent numbers.
+    ensures complete { P.tells → HasNumbers (P.state plant.old) → first_short (P.state plant.old) ≡ None → NoneFailed (P.state plant.old) (P.state plant.new) → S.faults source.new ≡ S.faults source.old → S.faults source.new ≢ 2 ^ 64 - 1 → (run : Run) (t : TraceValue) → IsSessionRun session (S.left source.old) (S.left source.new) (S.faults source.old) (S.faults source.new) (P.state plant.old) t run → (asks : AsksSession run (P.state plant.old).script) → has_broken t asks.end.time ≡ false → IfErr result (λ stop. (stop ≡ NoMemory) ⊎ (stop ≡ JournalEnd) ⊎ (stop ≡ Spent)) }
 {
     check_site(plant)?;
     run_trace(rt, alloc, session, source, plant)

@@ -2,7 +2,7 @@
 
 ghost use Rattle.std.specs.Prelude.{◌≡◌, ◌≢◌, ◌<◌, ◌≤◌, ℕ, List, [], false, take, Err, IfErr, IfOk, IfSome, IsErrOf, IsTrue, OnOk};
 ghost use Rattle.crash_plant.specs.declared.device.Device.TheVariants.{Volume as VolumeDevice};
-ghost use Rattle.crash_plant.specs.Calls.{NoneLent, SameSite};
+ghost use Rattle.crash_plant.specs.Calls.{Elapses, NoneLent, SameSite};
 ghost use Rattle.trace_grammar.specs.declared.trace.Trace.{Trace as TraceValue};
 ghost use Rattle.sidefile.specs.Breaks.{has_broken};
 ghost use Rattle.pair_table.specs.declared.level.Level.TheVariants.{Volume};
@@ -11,13 +11,15 @@ ghost use Rattle.site_store.specs.Sites.{new_site};
 ghost use Rattle.site_store.specs.Standing.{Fits, HasLengths, Stands};
 ghost use Rattle.consistency.specs.Bears.{Run};
 ghost use Rattle.epoch.specs.Lanes.{IsLane};
-ghost use Rattle.epoch.specs.Taken.{FailsAsBefore};
+ghost use Rattle.epoch.specs.Frames.{KeepsOthers};
+ghost use Rattle.epoch.specs.Taken.{FailsAsBefore, HasTaken};
 ghost use Rattle.epoch.specs.Works.{WorksSilently};
 ghost use Rattle.session_lines.specs.Asking.{AsksStart};
 ghost use Rattle.session_lines.specs.Runs.{GoesOn, HasStarted, started_at};
 ghost use Rattle.xrc_status.specs.declared.stop.Stop.TheVariants.{EarlyBreak, JournalEnd, NotBuilt, Spent};
 ghost use Rattle.xrc_session.specs.Between.{IsBetween};
-ghost use Rattle.xrc_session.specs.Stopping.{BreaksBelow, HasStopCause, NoneFell, StopsSo};
+ghost use Rattle.xrc_session.specs.Expected.{LeavesAll};
+ghost use Rattle.xrc_session.specs.Stopping.{BreaksAt, BreaksBelow, HasStopCause, NoneFell, StopsSo};
 ghost use Rattle.xrc_session.specs.StopsOf.{IsOfStart};
 ghost use Rattle.xrc_session.specs.Traces.{Foresees};
 
@@ -61,6 +63,8 @@ fn format<P: Plant>(
     ensures label { P.tells → IfOk result (λ started. started.label ≡ label_of ((P.state plant.old).lengths (VolumeDevice 0)) (take 14 ((P.state plant.old).bytes (VolumeDevice 0)))) }
     ensures room { IfOk result (λ started. IfSome started.label (λ l. IsTrue (has_room ((P.state plant.old).lengths (VolumeDevice 0)) l.cylinders))) }
     ensures works { WorksSilently P.tells (P.state plant.old) (P.state plant.new) }
+    ensures home { NoneLent (P.state plant.new) }
+    ensures others { P.tells → KeepsOthers 0 0 0 (P.state plant.old) (P.state plant.new) }
     // Why it stops.
     ensures of_start { IfErr result IsOfStart }
     ensures unbroken { ¬ IsErrOf result EarlyBreak }
@@ -105,6 +109,9 @@ fn set_up<S: Source, P: Plant>(
     ensures works { WorksSilently P.tells (P.state plant.old) (P.state plant.new) }
     // The run's trace hasn't broken by the start's time.
     ensures whole { OnOk result ((t : TraceValue) → Foresees (S.left source.old) lane.old lane.new.side.upto t → has_broken t at.0 ≡ false) }
+    ensures taken { OnOk result ((t : TraceValue) → HasTaken (S.left source.old) t lane.old.side lane.old.primary → HasTaken (S.left source.new) t lane.new.side lane.new.primary) }
+    ensures home { NoneLent (P.state plant.new) }
+    ensures others { P.tells → KeepsOthers 0 0 0 (P.state plant.old) (P.state plant.new) }
     // Why it stops.
     ensures of_start { IfErr result IsOfStart }
     ensures cause { IfErr result (HasStopCause (P.state plant.old) (P.state plant.new)) }
@@ -143,10 +150,14 @@ pub(crate) fn start<S: Source, P: Plant>(
     ensures foresees { OnOk result ((t : TraceValue) (upto : ℕ) → Foresees (S.left source.old) lane.old upto t → Foresees (S.left source.new) lane.new upto t) }
     ensures fails { OnOk result (FailsAsBefore (S.left source.old) (S.left source.new) lane.old.side lane.new.side) }
     ensures rises { lane.old.side.upto ≤ lane.new.side.upto }
+    ensures taken { OnOk result ((t : TraceValue) → HasTaken (S.left source.old) t lane.old.side lane.old.primary → HasTaken (S.left source.new) t lane.new.side lane.new.primary) }
+    ensures home { NoneLent (P.state plant.new) }
+    ensures others { P.tells → KeepsOthers 0 0 0 (P.state plant.old) (P.state plant.new) }
     ensures site { SameSite (P.state plant.old) (P.state plant.new) }
+    ensures elapses { P.tells → Elapses (P.state plant.old) (P.state plant.new) }
     // The line is answered, and each moment bears.
     ensures starts { P.tells → (first : P) (run : Run) (t : TraceValue) → GoesOn run t [] [] (P.state first) (P.state plant.old) → run.session ≡ session → Foresees (S.left source.old) lane.old lane.new.side.upto t → IfOk result (λ started. HasStarted run t (started_at started.site.time text.new) [] (P.state first) (P.state plant.new)) }
-    ensures stops { P.tells → (first : P) (run : Run) (t : TraceValue) → GoesOn run t [] [] (P.state first) (P.state plant.old) → run.session ≡ session → Foresees (S.left source.old) lane.old lane.new.side.upto t → IfErr result (StopsSo run (P.state first) (P.state plant.new)) }
+    ensures stops { P.tells → (first : P) (run : Run) (t : TraceValue) → GoesOn run t [] [] (P.state first) (P.state plant.old) → LeavesAll (P.state first) (P.state plant.old) → run.session ≡ session → Foresees (S.left source.old) lane.old lane.new.side.upto t → IfErr result (StopsSo run (BreaksAt (S.left source.old) (S.left source.new) (S.faults source.old) (S.faults source.new) lane.old lane.new) (λ time. ⊥) (P.state first) (P.state plant.new)) }
     // Why it stops.
     ensures cause { IfErr result (HasStopCause (P.state plant.old) (P.state plant.new)) }
     ensures refused { (time : ℕ) → IsErrOf result NotBuilt → ¬ AsksStart session text.new time }

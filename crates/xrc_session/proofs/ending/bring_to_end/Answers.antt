@@ -1,5 +1,5 @@
-use Rattle.std.proofs.Common.{rules, ◌≡◌, ◌≤◌, ℕ, ◌∷◌, [], false, Some, ap, sym, subst, ◌∙◌, arith}
-use Rattle.std.specs.Prelude.{IfErr, Result}
+use Rattle.std.proofs.Common.{rules, ◌≡◌, ◌≤◌, inl, inr, ℕ, ◌∷◌, [], false, Some, ap, sym, subst, ◌∙◌, arith}
+use Rattle.std.specs.Prelude.{IfErr, IsErrOf, Result}
 use Rattle.sidefile.specs.Breaks.{has_broken}
 use Rattle.sidefile.specs.States.{SidefileState}
 use Rattle.pair_table.specs.declared.row.PairState.TheVariants.{Duplex}
@@ -7,12 +7,17 @@ use Rattle.pair_table.specs.Tables.{Table, in_state}
 use Rattle.site_means.specs.Images.{shape_of}
 use Rattle.session_lines.specs.Meanings.{EachMeans, MeanPair}
 use Rattle.xrc_status.specs.declared.stop.Stop.{Stop}
+use Rattle.xrc_status.specs.declared.stop.Stop.TheVariants.{JournalEnd}
 use Rattle.xrc_session.specs.StopsOf.{IsOfEpoch}
 use Rattle.pair_course.specs.Course.{end_line}
 use Rattle.epoch.proofs.CopySights.{on_ok}
+use Rattle.epoch.specs.Ends.{IsFullForWrites}
+use Rattle.epoch.specs.Lanes.{tracks_of}
+use Rattle.epoch.proofs.Frames.{keeps_then}
 use Rattle.epoch.proofs.Working.{silent_then}
 use Rattle.xrc_session.specs.Ending.{HoldsNow}
-use Rattle.xrc_session.proofs.Foreseeing.{foresees_same, reached_own}
+use Rattle.xrc_session.proofs.EndStops.{copy_full}
+use Rattle.xrc_session.proofs.Foreseeing.{foresees_same, reached_own, taken_same}
 use Rattle.xrc_session.proofs.StopLaws.{store_errs_of_epoch}
 use Rattle.xrc_session.proofs.Together.{each_live, ending_then, run_at}
 use Rattle.xrc_session.proofs.ending.bring_to_end.Goals as goal
@@ -35,6 +40,12 @@ pub returns-in_err-copy-clause-of_epoch : goal.returns-in_err-copy-clause-of_epo
 returns-in_err-copy-clause-of_epoch g c =
     let same : c.copy.result ≡ c.from_residual.result = search rules in
     subst (λ (r : Result (Unit {0}) Stop). IfErr r IsOfEpoch) same (store_errs_of_epoch c.copy.result c.copy.ensures.of_store)
+
+pub returns-in_err-copy-clause-journal_end : goal.returns-in_err-copy-clause-journal_end
+returns-in_err-copy-clause-journal_end g c = λ told is t taken reached.
+    let same : c.copy.result ≡ c.from_residual.result = search rules in
+    let was = subst (λ (r : Result (Unit {0}) Stop). IsErrOf r JournalEnd) (sym same) is in
+    inl (copy_full t c.args.row.now c.args.site.now.time c.args.lane.now.primary (g.P.Plant.state c.copy.new.plant) reached (c.copy.ensures.journal_end told was))
 
 -- ---- the following stops
 
@@ -63,6 +74,20 @@ returns-in_err-follow-clause-moments g c = λ told run t at_run f.
     (subst (λ (n : ℕ). EachMeans (state c.copy.new.plant) (state c.follow.new.plant) (λ x. MeanPair run t (Some (end_line run.session end)) n row false (shape_of (state c.follow.new.plant)) x)) same
     (c.follow.ensures.moments told (c.in_ok-copy.ensures.holds told) run t (end_line run.session end) (run_at site.table.session mid.table.session run (sym table) at_run)
     (foresees_same _ lane c.copy.new.lane c.copy.ensures.side c.copy.ensures.primary t c.follow.new.lane.side.upto f) (omega arith))))
+
+pub returns-in_err-follow-clause-others : goal.returns-in_err-follow-clause-others
+returns-in_err-follow-clause-others g c = λ told.
+    let state = g.P.Plant.state in
+    let row = c.args.row.now in
+    let copied = c.copy.ensures in
+    keeps_then 0 row.device (tracks_of row) (state c.args.plant.now) (state c.copy.new.plant) (state c.follow.new.plant) copied.works.site (copied.works.elapses told) (c.follow.ensures.works.elapses told) (copied.others told) (c.follow.ensures.others told)
+
+pub returns-in_err-follow-clause-journal_end : goal.returns-in_err-follow-clause-journal_end
+returns-in_err-follow-clause-journal_end g c = λ told is t taken reached.
+    let same : c.follow.result ≡ c.from_residual-in_err-follow.result = search rules in
+    let was = subst (λ (r : Result (Unit {0}) Stop). IsErrOf r JournalEnd) (sym same) is in
+    let here = taken_same (g.S.Source.left c.args.source.now) c.args.lane.now c.copy.new.lane c.copy.ensures.side c.copy.ensures.primary t taken in
+    inr (subst (λ (n : ℕ). IsFullForWrites t (in_state Duplex c.args.row.now) n c.args.at.0 (g.P.Plant.state c.follow.new.plant)) c.in_ok-copy.ensures.time (c.follow.ensures.journal_end told was t here))
 
 -- ---- the end is marked, or isn't
 
@@ -118,3 +143,19 @@ returns-clause-holds g c = λ told t f.
 
 pub returns-clause-of_epoch : goal.returns-clause-of_epoch
 returns-clause-of_epoch g c = store_errs_of_epoch c.mark_end.result c.mark_end.ensures.of_store
+
+pub returns-clause-others : goal.returns-clause-others
+returns-clause-others g c = λ told.
+    let state = g.P.Plant.state in
+    let row = c.args.row.now in
+    let a = state c.args.plant.now in
+    let b = state c.copy.new.plant in
+    let d = state c.follow.new.plant in
+    let e = state c.mark_end.new.plant in
+    let copied = c.copy.ensures in
+    let both = silent_then g.P.Plant.tells a b d copied.works c.follow.ensures.works in
+    keeps_then 0 row.device (tracks_of row) a d e both.site (both.elapses told) (c.mark_end.ensures.works.elapses told)
+    (keeps_then 0 row.device (tracks_of row) a b d copied.works.site (copied.works.elapses told) (c.follow.ensures.works.elapses told) (copied.others told) (c.follow.ensures.others told)) (c.mark_end.ensures.others told row.device (tracks_of row))
+
+pub returns-clause-journal_end : goal.returns-clause-journal_end
+returns-clause-journal_end g c = λ told is t taken reached. absurd (c.mark_end.ensures.no_journal_end is)

@@ -1,7 +1,11 @@
+use Rattle.std.proofs.Common.{ℕ, sym, subst}
 use Rattle.primary_ctl.specs.States.{track_of}
 use Rattle.site_store.specs.Sites.{means_with}
+use Rattle.epoch.specs.Ends.{IsFullForCopy}
+use Rattle.epoch.specs.Lanes.{tracks_of}
 use Rattle.xrc_session.proofs.Copied.{copy_holds, copy_moments, shows_pending}
-use Rattle.xrc_session.proofs.StopLaws.{store_caused}
+use Rattle.xrc_session.proofs.EndLeaves.{of_first}
+use Rattle.xrc_session.proofs.StopLaws.{store_caused, was_end}
 use Rattle.xrc_session.proofs.ending.copy.Goals as goal
 
 pub returns-in-Ok-clause-moments : goal.returns-in-Ok-clause-moments
@@ -37,3 +41,19 @@ pub returns-in-Err-clause-cause : goal.returns-in-Err-clause-cause
 returns-in-Err-clause-cause g c =
     store_caused (g.P.Plant.state c.args.plant.now) (g.P.Plant.state c.copy_pair.new.plant) c.copy_pair.result c.in-Err.error c.of_store.result c.in-Err.is c.of_store.ensures
     c.copy_pair.ensures.fault (c.copy_pair.ensures.volume c.requires.between.good)
+
+pub returns-in-Ok-clause-others : goal.returns-in-Ok-clause-others
+returns-in-Ok-clause-others g c = λ told.
+    let row = c.args.row.now in
+    of_first c.args.site.now.at.set row.device (tracks_of row) (g.P.Plant.state c.args.plant.now) (g.P.Plant.state c.copy_pair.new.plant) c.requires.between.first_set (c.copy_pair.ensures.others told)
+
+pub returns-in-Err-clause-others : goal.returns-in-Err-clause-others
+returns-in-Err-clause-others g c = λ told.
+    let row = c.args.row.now in
+    of_first c.args.site.now.at.set row.device (tracks_of row) (g.P.Plant.state c.args.plant.now) (g.P.Plant.state c.copy_pair.new.plant) c.requires.between.first_set (c.copy_pair.ensures.others told)
+
+pub returns-in-Err-clause-journal_end : goal.returns-in-Err-clause-journal_end
+returns-in-Err-clause-journal_end g c = λ told is.
+    let row = c.args.row.now in
+    subst (λ (n : ℕ). IsFullForCopy row (track_of c.args.lane.now.primary row.volume) n (g.P.Plant.state c.copy_pair.new.plant)) (sym c.requires.between.same_time)
+    (c.copy_pair.ensures.journal_end told (was_end c.copy_pair.result c.in-Err.error c.of_store.result c.in-Err.is c.of_store.ensures is))

@@ -1,18 +1,26 @@
-use Rattle.std.proofs.Common.{rules, ◌≡◌, ℕ, ◌∷◌, [], Result, Err, ap, sym, subst, ◌∙◌}
-use Rattle.std.specs.Prelude.{IfErr, OnOk}
+use Rattle.std.proofs.Common.{rules, ◌≡◌, ℕ, ◌∷◌, [], Err, refl, ap, sym, subst, ◌∙◌}
+use Rattle.std.specs.Prelude.{OnOk}
+use Rattle.crash_plant.proofs.Steps.{none_lent_console}
 use Rattle.pair_table.specs.declared.row.PairState.TheVariants.{Duplex}
 use Rattle.pair_table.specs.Tables.{Table, in_state}
 use Rattle.pair_course.specs.Course.{HoldsTracks, end_line}
+use Rattle.epoch.specs.Lanes.{tracks_of}
 use Rattle.epoch.proofs.CopySights.{on_always}
+use Rattle.epoch.proofs.Frames.{keeps_console}
 use Rattle.session_lines.specs.Asking.{IsNext}
-use Rattle.session_lines.specs.Runs.{GoesOn, ended_at, ended_lines}
-use Rattle.xrc_status.specs.declared.stop.Stop.{Stop}
+use Rattle.session_lines.specs.Runs.{GoesOn, end_of, ended_at, ended_lines, paired_lines}
 use Rattle.xrc_session.specs.Ending.{HoldsNow}
-use Rattle.xrc_session.specs.Stopping.{HasStopCause, StopsSo}
+use Rattle.xrc_session.specs.Expected.AreAnswered.{AnEnd, APair}
+use Rattle.xrc_session.specs.Full.{IsFullBehind}
+use Rattle.xrc_session.specs.Stopping.{BreaksAt, HasStopCause, StopsSo}
 use Rattle.xrc_session.specs.StopsOf.{IsOfEpoch}
+use Rattle.xrc_session.proofs.Begun.{err_of}
 use Rattle.xrc_session.proofs.Between.{between_heard, now_heard, stands_heard}
-use Rattle.xrc_session.proofs.Ended.{end_goes_on, ended_rows, err_more, hear_cause, hear_stops, heard_keeps, hearing, may_end, paired_keeps, runs_at, say_stops}
-use Rattle.xrc_session.proofs.StopLaws.{if_err, of_epoch_stops}
+use Rattle.xrc_session.proofs.Ended.{end_goes_on, end_is_heard, ended_rows, hear_cause, hearing, may_end, paired_hears, runs_at}
+use Rattle.xrc_session.proofs.Hearing.{expected_stops, expects_end, hear_stops, no_end}
+use Rattle.xrc_session.proofs.Leaves.{answered_keeps, answered_past, heard_keeps, heard_past}
+use Rattle.xrc_session.proofs.Saying.{answers_so_far, say_stops}
+use Rattle.xrc_session.proofs.StopLaws.{if_err, of_epoch_not_console, of_epoch_not_refused}
 use Rattle.xrc_session.proofs.Together.{run_at}
 use Rattle.xrc_session.proofs.ending.end.Goals as goal
 
@@ -21,13 +29,24 @@ use Rattle.xrc_session.proofs.ending.end.Goals as goal
 pub returns-in_err-at-clause-stops : goal.returns-in_err-at-clause-stops
 returns-in_err-at-clause-stops g c = λ told first run t pair has row_is time_is session_is f.
     let state = g.P.Plant.state in
+    let told_left = g.S.Source.left c.args.source.now in
+    let faults = g.S.Source.faults c.args.source.now in
+    let lane = c.args.lane.now in
     let a = state c.args.plant.now in
     let b = state c.hear_end.new.plant in
-    let was : c.hear_end.result ≡ Err c.in_err-at.field-0.0 = search rules in
-    let is : c.from_residual.result ≡ Err c.in_err-at.field-0.0 = search rules in
-    if_err c.from_residual.result c.in_err-at.field-0.0 (StopsSo run (state first) b) is
-    (hear_stops c.in_err-at.field-0.0 (hearing _ _ c.hear_end.result c.in_err-at.field-0.0 c.hear_end.ensures.cause was) run (state first) b
-    (heard_keeps run t pair c.hear_end.new.text (state first) a b has (c.hear_end.ensures.keeps told first)))
+    let text = c.hear_end.new.text in
+    let stop = c.in_err-at.field-0.0 in
+    let was : c.hear_end.result ≡ Err stop = search rules in
+    let is : c.from_residual.result ≡ Err stop = search rules in
+    let keeps = (paired_hears run t pair text (state first) a b has (c.hear_end.ensures.keeps told first)).goes_on.keeps in
+    let breaks = BreaksAt told_left told_left faults faults lane lane in
+    let full = IsFullBehind told_left lane c.args.row c.args.site.now.time b in
+    if_err c.from_residual.result stop (StopsSo run breaks full (state first) b) is
+    (hear_stops stop (hearing _ _ c.hear_end.result stop c.hear_end.ensures.cause was) run breaks full (state first) b
+    (λ refused.
+    let no = was ∙ ap Err refused in
+    no_end g.P.Plant.tells told c.args.session run session_is text (state first) b (c.hear_end.ensures.ended no) pair c.time.result.0 (time_is ∙ sym c.time.ensures) keeps (c.hear_end.ensures.refused no))
+    (answers_so_far run (paired_lines run pair) text (state first) b (APair pair refl) keeps (λ none. absurd (cc none))))
 
 pub returns-in_err-at-clause-cause : goal.returns-in_err-at-clause-cause
 returns-in_err-at-clause-cause g c =
@@ -39,6 +58,12 @@ returns-in_err-at-clause-cause g c =
     (hear_cause c.in_err-at.field-0.0 (hearing _ _ c.hear_end.result c.in_err-at.field-0.0 c.hear_end.ensures.cause was) a b
     (λ console. c.hear_end.ensures.cause.failed (was ∙ ap Err console)))
 
+pub returns-in_err-at-clause-home : goal.returns-in_err-at-clause-home
+returns-in_err-at-clause-home g c = none_lent_console g.P.Plant.tells (g.P.Plant.state c.args.plant.now) (g.P.Plant.state c.hear_end.new.plant) c.hear_end.ensures.only c.requires.between.fits.home
+
+pub returns-in_err-at-clause-others : goal.returns-in_err-at-clause-others
+returns-in_err-at-clause-others g c = λ told. keeps_console g.P.Plant.tells told 0 c.args.row.device (tracks_of c.args.row) (g.P.Plant.state c.args.plant.now) (g.P.Plant.state c.hear_end.new.plant) c.hear_end.ensures.only
+
 -- ---- the work stops
 
 pub bring_to_end-requires-clause-between : goal.bring_to_end-requires-clause-between
@@ -48,6 +73,8 @@ bring_to_end-requires-clause-between g c κs within =
 pub returns-in_err-bring_to_end-clause-stops : goal.returns-in_err-bring_to_end-clause-stops
 returns-in_err-bring_to_end-clause-stops g c = λ told first run t pair has row_is time_is session_is f.
     let state = g.P.Plant.state in
+    let left = g.S.Source.left in
+    let faults = g.S.Source.faults in
     let a = state c.args.plant.now in
     let b = state c.hear_end.new.plant in
     let d = state c.bring_to_end.new.plant in
@@ -55,12 +82,33 @@ returns-in_err-bring_to_end-clause-stops g c = λ told first run t pair has row_
     let text = c.hear_end.new.text in
     let end = c.in_ok-at.at.0 in
     let session = c.args.session in
-    let same : c.bring_to_end.result ≡ c.from_residual-in_err-bring_to_end.result = search rules in
+    let work = c.bring_to_end.ensures in
+    let stop = c.in_err-bring_to_end.field-0.0 in
+    let was : c.bring_to_end.result ≡ Err stop = search rules in
+    let is : c.from_residual-in_err-bring_to_end.result ≡ Err stop = search rules in
     let next : IsNext site.time text (end_line session end) (state first) a = subst (λ (n : ℕ). IsNext n text (end_line session end) (state first) a) c.time.ensures (c.in_ok-at.ensures.next told first) in
-    let means = c.bring_to_end.ensures.moments told run t (run_at session site.table.session run (sym c.requires.session) (runs_at run t pair [] (state first) a session has session_is)) f in
-    let on = end_goes_on run t pair text (state first) a b has (c.hear_end.ensures.keeps told first) session site.time end c.args.row row_is time_is session_is next g.P.Plant.tells told d c.bring_to_end.ensures.works means in
-    subst (λ (r : Result (Unit {0}) Stop). IfErr r (StopsSo run (state first) d)) same
-    (err_more c.bring_to_end.result IsOfEpoch (StopsSo run (state first) d) (λ stop of. of_epoch_stops run (state first) d stop of (paired_keeps run t pair text (state first) d on)) c.bring_to_end.ensures.of_epoch)
+    let means = work.moments told run t (run_at session site.table.session run (sym c.requires.session) (runs_at run t pair [] (state first) a session has session_is)) f in
+    let keeps = c.hear_end.ensures.keeps told first in
+    let on = end_goes_on run t pair text (state first) a b has keeps session site.time end c.args.row row_is time_is session_is next g.P.Plant.tells told d work.works means in
+    let line = expects_end run text end (state first) d pair on.goes_on.keeps (end_is_heard run t pair text (state first) a b has keeps session site.time end c.args.row row_is time_is session_is next) in
+    let breaks = BreaksAt (left c.args.source.now) (left c.bring_to_end.new.source) (faults c.args.source.now) (faults c.bring_to_end.new.source) c.args.lane.now c.bring_to_end.new.lane in
+    let full = IsFullBehind (left c.args.source.now) c.args.lane.now c.args.row site.time d in
+    let of = err_of c.bring_to_end.result stop IsOfEpoch was work.of_epoch in
+    if_err c.from_residual-in_err-bring_to_end.result stop (StopsSo run breaks full (state first) d) is
+    (expected_stops run breaks full (state first) b d line stop (err_of c.bring_to_end.result stop (HasStopCause b d) was work.cause) (λ console. absurd (of_epoch_not_console stop of console)) (of_epoch_not_refused stop of)
+    (λ broken. work.broken (was ∙ ap Err broken)) (λ ended. work.journal_end told (was ∙ ap Err ended)))
+
+pub returns-in_err-bring_to_end-clause-others : goal.returns-in_err-bring_to_end-clause-others
+returns-in_err-bring_to_end-clause-others g c = λ told.
+    let state = g.P.Plant.state in
+    let row = c.args.row in
+    let work = c.bring_to_end.ensures in
+    heard_keeps g.P.Plant.tells told (state c.args.plant.now) (state c.hear_end.new.plant) (state c.bring_to_end.new.plant) c.hear_end.ensures.only work.works row.device (tracks_of row) (work.others told)
+
+pub returns-in_err-bring_to_end-clause-elapses : goal.returns-in_err-bring_to_end-clause-elapses
+returns-in_err-bring_to_end-clause-elapses g c = λ told.
+    let state = g.P.Plant.state in
+    heard_past g.P.Plant.tells told (state c.args.plant.now) (state c.hear_end.new.plant) (state c.bring_to_end.new.plant) c.hear_end.ensures.only c.bring_to_end.ensures.works
 
 -- ---- the end is answered, or the reply fails
 
@@ -89,6 +137,8 @@ returns-clause-ends g c = λ told first run t pair has row_is time_is session_is
 pub returns-clause-stops : goal.returns-clause-stops
 returns-clause-stops g c = λ told first run t pair has row_is time_is session_is f.
     let state = g.P.Plant.state in
+    let left = g.S.Source.left in
+    let faults = g.S.Source.faults in
     let a = state c.args.plant.now in
     let b = state c.hear_end.new.plant in
     let d = state c.bring_to_end.new.plant in
@@ -104,9 +154,16 @@ returns-clause-stops g c = λ told first run t pair has row_is time_is session_i
     let means = c.bring_to_end.ensures.moments told run t (run_at session site.table.session run (sym c.requires.session) runs) f in
     let name : last.table.session ≡ run.session = ap (λ (x : Table). x.session) done.table ∙ c.requires.session ∙ sym session_is in
     let rows : last.table.rows ≡ in_state Duplex c.args.row ∷ [] = ap (λ (x : Table). x.rows) done.table in
-    let may = may_end run t pair text (state first) a b has (c.hear_end.ensures.keeps told first) session site.time end c.args.row row_is time_is session_is next g.P.Plant.tells told d c.bring_to_end.ensures.works means (done.whole t f)
+    let keeps = c.hear_end.ensures.keeps told first in
+    let works = c.bring_to_end.ensures.works in
+    let on = end_goes_on run t pair text (state first) a b has keeps session site.time end c.args.row row_is time_is session_is next g.P.Plant.tells told d works means in
+    let may = may_end run t pair text (state first) a b has keeps session site.time end c.args.row row_is time_is session_is next g.P.Plant.tells told d works means (done.whole t f)
     (ended_rows run c.args.row end last d (done.stands told) name (done.level ∙ sym runs.level) rows done.time done.ended) (done.holds told t f) in
-    say_stops c.say_ended.result run (ended_lines run (ended_at pair end text)) (state first) e c.say_ended.ensures.stop (c.say_ended.ensures.bears told first run t pair text may)
+    let breaks = BreaksAt (left c.args.source.now) (left c.bring_to_end.new.source) (faults c.args.source.now) (faults c.bring_to_end.new.source) c.args.lane.now c.bring_to_end.new.lane in
+    let full = IsFullBehind (left c.args.source.now) c.args.lane.now c.args.row site.time e in
+    let last_line = ended_at pair end text in
+    say_stops c.say_ended.result run breaks full (paired_lines run pair) (end_of run last_line) text (state first) d e (AnEnd last_line refl) on.goes_on.keeps g.P.Plant.tells told c.say_ended.ensures.said c.say_ended.ensures.stop
+    (c.say_ended.ensures.bears told first run t pair text may)
 
 pub returns-clause-holds : goal.returns-clause-holds
 returns-clause-holds g c = λ told t f.
@@ -123,3 +180,19 @@ returns-clause-stands g c = λ told.
     let last = c.bring_to_end.new.site in
     on_always c.say_ended.result _
     (stands_heard g.P.Plant.tells (g.P.Plant.state c.bring_to_end.new.plant) (g.P.Plant.state c.say_ended.new.plant) c.say_ended.ensures.said.front.only told last.table.rows last (c.in_ok-bring_to_end.ensures.stands told))
+
+pub returns-clause-home : goal.returns-clause-home
+returns-clause-home g c = none_lent_console g.P.Plant.tells (g.P.Plant.state c.bring_to_end.new.plant) (g.P.Plant.state c.say_ended.new.plant) c.say_ended.ensures.said.front.only c.bring_to_end.ensures.home
+
+pub returns-clause-elapses : goal.returns-clause-elapses
+returns-clause-elapses g c = λ told.
+    let state = g.P.Plant.state in
+    answered_past g.P.Plant.tells told (state c.args.plant.now) (state c.hear_end.new.plant) (state c.bring_to_end.new.plant) c.hear_end.ensures.only c.bring_to_end.ensures.works (state c.say_ended.new.plant) c.say_ended.ensures.said.front.only
+
+pub returns-clause-others : goal.returns-clause-others
+returns-clause-others g c = λ told.
+    let state = g.P.Plant.state in
+    let row = c.args.row in
+    let work = c.bring_to_end.ensures in
+    answered_keeps g.P.Plant.tells told (state c.args.plant.now) (state c.hear_end.new.plant) (state c.bring_to_end.new.plant) c.hear_end.ensures.only work.works (state c.say_ended.new.plant) c.say_ended.ensures.said.front.only row.device (tracks_of row)
+    (work.others told)

@@ -1,5 +1,8 @@
 use Rattle.std.proofs.Common.{arith}
 use Rattle.site_store.specs.Sites.{means_with}
+use Rattle.epoch.specs.Lanes.{tracks_of}
+use Rattle.xrc_session.proofs.EndLeaves.{of_first}
+use Rattle.xrc_session.proofs.EndStops.{was_full}
 use Rattle.xrc_session.proofs.Followed.{follow_holds, follow_moments, follows_here}
 use Rattle.xrc_session.proofs.StopLaws.{epoch_caused}
 use Rattle.xrc_session.proofs.ending.follow.Goals as goal
@@ -43,3 +46,16 @@ returns-in-Ok-clause-holds g c = λ told holds t f.
 pub returns-in-Err-clause-cause : goal.returns-in-Err-clause-cause
 returns-in-Err-clause-cause g c =
     epoch_caused (g.P.Plant.state c.args.plant.now) (g.P.Plant.state c.follow.new.plant) c.follow.result c.in-Err.error c.of_epoch.result c.in-Err.is c.of_epoch.ensures c.follow.ensures.fault (c.follow.ensures.volume c.requires.between.good)
+
+pub returns-in-Ok-clause-others : goal.returns-in-Ok-clause-others
+returns-in-Ok-clause-others g c = λ told.
+    let row = c.args.row.now in
+    of_first c.args.site.now.at.set row.device (tracks_of row) (g.P.Plant.state c.args.plant.now) (g.P.Plant.state c.follow.new.plant) c.requires.between.first_set (c.follow.ensures.others told)
+
+pub returns-in-Err-clause-others : goal.returns-in-Err-clause-others
+returns-in-Err-clause-others g c = λ told.
+    let row = c.args.row.now in
+    of_first c.args.site.now.at.set row.device (tracks_of row) (g.P.Plant.state c.args.plant.now) (g.P.Plant.state c.follow.new.plant) c.requires.between.first_set (c.follow.ensures.others told)
+
+pub returns-in-Err-clause-journal_end : goal.returns-in-Err-clause-journal_end
+returns-in-Err-clause-journal_end g c = λ told is. c.follow.ensures.journal_end told (was_full c.follow.result c.in-Err.error c.of_epoch.result c.in-Err.is c.of_epoch.ensures is)

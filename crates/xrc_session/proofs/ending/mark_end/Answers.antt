@@ -1,6 +1,9 @@
 use Rattle.crash_plant.specs.declared.device.Device.TheVariants.{Control}
 use Rattle.site_store.specs.declared.store_error.StoreError.TheVariants.{Fault, JournalEnd, Spent, Volume as VolumeError}
+use Rattle.crash_plant.proofs.Steps.{none_lent_then}
+use Rattle.site_store.specs.Marking.{IsTouched}
 use Rattle.epoch.proofs.KeptErrors.{spent_marked}
+use Rattle.xrc_session.proofs.EndLeaves.{mark_leaves}
 use Rattle.xrc_session.proofs.Marked.{mark_holds, mark_moments}
 use Rattle.xrc_session.proofs.StopLaws.{store_caused, was_end, was_spent}
 use Rattle.xrc_session.proofs.ending.mark_end.Goals as goal
@@ -31,3 +34,15 @@ returns-in-Err-clause-spent g c = λ told is.
 
 pub returns-in-Err-clause-no_journal_end : goal.returns-in-Err-clause-no_journal_end
 returns-in-Err-clause-no_journal_end g c = λ is. c.mark.ensures.error JournalEnd (was_end c.mark.result c.in-Err.error c.of_store.result c.in-Err.is c.of_store.ensures is)
+
+pub returns-in-Ok-clause-home : goal.returns-in-Ok-clause-home
+returns-in-Ok-clause-home g c = none_lent_then g.P.Plant.tells (IsTouched c.args.site.now) (g.P.Plant.state c.args.plant.now) (g.P.Plant.state c.mark.new.plant) c.mark.ensures.only c.requires.fits.home
+
+pub returns-in-Ok-clause-others : goal.returns-in-Ok-clause-others
+returns-in-Ok-clause-others g c = λ told. mark_leaves g.P.Plant.tells told c.args.site.now (g.P.Plant.state c.args.plant.now) (g.P.Plant.state c.mark.new.plant) c.mark.ensures.only (c.mark.ensures.volumes told) (c.mark.ensures.images told) 0
+
+pub returns-in-Err-clause-home : goal.returns-in-Err-clause-home
+returns-in-Err-clause-home g c = none_lent_then g.P.Plant.tells (IsTouched c.args.site.now) (g.P.Plant.state c.args.plant.now) (g.P.Plant.state c.mark.new.plant) c.mark.ensures.only c.requires.fits.home
+
+pub returns-in-Err-clause-others : goal.returns-in-Err-clause-others
+returns-in-Err-clause-others g c = λ told. mark_leaves g.P.Plant.tells told c.args.site.now (g.P.Plant.state c.args.plant.now) (g.P.Plant.state c.mark.new.plant) c.mark.ensures.only (c.mark.ensures.volumes told) (c.mark.ensures.images told) 0

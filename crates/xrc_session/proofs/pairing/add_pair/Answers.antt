@@ -1,13 +1,20 @@
-use Rattle.std.proofs.Common.{rules, ◌≡◌, ◌⊎◌, ◌*◌, ℕ, [], Ok, Err, sym, ap, subst, ◌∙◌, arith}
+use Rattle.std.proofs.Common.{rules, ◌≡◌, ◌*◌, ℕ, [], Ok, Err, refl, sym, ap, subst, ◌∙◌, arith}
+use Rattle.crash_plant.proofs.Steps.{none_lent_console}
 use Rattle.pair_table.specs.Tables.{Table}
-use Rattle.session_lines.specs.Runs.{HasPaired, paired_at, paired_lines}
-use Rattle.xrc_status.specs.declared.stop.Stop.{Stop}
-use Rattle.xrc_status.specs.declared.stop.Stop.TheVariants.{ConsoleFault, NotBuilt}
-use Rattle.xrc_session.specs.Stopping.{HasStopCause, StopsSo}
+use Rattle.epoch.proofs.Frames.{keeps_console}
+use Rattle.session_lines.specs.Runs.{HasPaired, pair_of, paired_at, started_lines}
+use Rattle.xrc_session.specs.Expected.AreAnswered.{APair, AStart}
+use Rattle.xrc_session.specs.Full.{IsFullForPair}
+use Rattle.xrc_session.specs.Stopping.{BreaksAt, HasStopCause, StopsSo}
+use Rattle.xrc_session.proofs.AddedRows.{added_is_new}
+use Rattle.xrc_session.proofs.Begun.{err_of, hear_counted, none_fell}
 use Rattle.xrc_session.proofs.Between.{between_heard}
-use Rattle.xrc_session.proofs.PairEnds.{err_at, line_counts, reply_stops}
-use Rattle.xrc_session.proofs.PairLines.{heard_cause, hears_pair, may_pair, started_hears, started_stops}
+use Rattle.xrc_session.proofs.Ended.{hearing}
+use Rattle.xrc_session.proofs.Hearing.{expected_stops, expects_pair, hear_stops, no_pair}
+use Rattle.xrc_session.proofs.Leaves.{answered_keeps, answered_past, heard_keeps, heard_past}
+use Rattle.xrc_session.proofs.PairLines.{hears_pair, may_pair, started_hears}
 use Rattle.xrc_session.proofs.PairRows.{new_is_added}
+use Rattle.xrc_session.proofs.Saying.{answers_so_far, say_stops}
 use Rattle.xrc_session.proofs.StopLaws.{if_err}
 use Rattle.xrc_session.proofs.pairing.add_pair.Goals as goal
 
@@ -16,15 +23,23 @@ use Rattle.xrc_session.proofs.pairing.add_pair.Goals as goal
 pub returns-in_err-asked-clause-stops : goal.returns-in_err-asked-clause-stops
 returns-in_err-asked-clause-stops g c = λ told first run t start has time of_run f.
     let state = g.P.Plant.state in
+    let source = g.S.Source.left c.args.source.now in
+    let faults = g.S.Source.faults c.args.source.now in
+    let lane = c.args.lane.now in
+    let breaks = BreaksAt source source faults faults lane lane in
     let a = state c.args.plant.now in
     let b = state c.hear_row.new.plant in
     let text = c.hear_row.new.text in
+    let label = c.args.started.now.label in
     let stop = c.in_err-asked.field-0.0 in
     let was : c.hear_row.result ≡ Err stop = search rules in
     let is : c.from_residual.result ≡ Err stop = search rules in
-    let why = err_at c.hear_row.result stop (λ (s : Stop). (s ≡ NotBuilt) ⊎ (s ≡ ConsoleFault)) was c.hear_row.ensures.cause.stops in
-    if_err c.from_residual.result stop (StopsSo run (state first) b) is
-    (started_stops run t start text (state first) a b stop (started_hears run t start text (state first) a b has (c.hear_row.ensures.keeps told first)) (heard_cause a b stop why (λ console. c.hear_row.ensures.cause.failed (was ∙ ap Err console))))
+    let on = started_hears run t start text (state first) a b has (c.hear_row.ensures.keeps told first) in
+    if_err c.from_residual.result stop (StopsSo run breaks (IsFullForPair b) (state first) b) is
+    (hear_stops stop (hearing _ _ c.hear_row.result stop c.hear_row.ensures.cause was) run breaks (IsFullForPair b) (state first) b
+    (λ refused. no_pair g.P.Plant.tells told c.args.session run of_run.session_is text (state first) b (c.hear_row.ensures.ended (was ∙ ap Err refused)) start c.time-before.result.0 (time ∙ sym c.time-before.ensures) on.goes_on.keeps
+    (λ row n added. c.hear_row.ensures.refused (was ∙ ap Err refused) row n (added_is_new c.args.session c.args.volumes.now label row run t source lane lane.side.upto added has.goes_on.pair_run of_run c.requires.volumes f)))
+    (answers_so_far run (started_lines run start) text (state first) b (AStart start refl) on.goes_on.keeps (λ none. absurd (cc none))))
 
 -- ---- the pair isn't taken
 
@@ -35,6 +50,7 @@ take_pair-requires-clause-between g c κs within =
 pub returns-in_err-take_pair-clause-stops : goal.returns-in_err-take_pair-clause-stops
 returns-in_err-take_pair-clause-stops g c = λ told first run t start has time of_run f.
     let state = g.P.Plant.state in
+    let breaks = BreaksAt (g.S.Source.left c.args.source.now) (g.S.Source.left c.take_pair.new.source) (g.S.Source.faults c.args.source.now) (g.S.Source.faults c.take_pair.new.source) c.args.lane.now c.take_pair.new.lane in
     let a = state c.args.plant.now in
     let b = state c.hear_row.new.plant in
     let d = state c.take_pair.new.plant in
@@ -47,7 +63,11 @@ returns-in_err-take_pair-clause-stops g c = λ told first run t start has time o
     let heard = hears_pair c.args.session run t start row c.time-before.result.0 at text (state first) a b has (c.hear_row.ensures.keeps told first) (c.in_ok-asked.ensures.next told first) (time ∙ sym c.time-before.ensures) of_run.session_is in
     let added = new_is_added c.args.session c.args.volumes.now c.args.started.now.label row run t (g.S.Source.left c.args.source.now) c.args.lane.now c.take_pair.new.lane.side.upto c.in_ok-asked.ensures.row has.goes_on.pair_run of_run c.requires.volumes f in
     let on = c.take_pair.ensures.heard told first run t start text heard time (of_run.session_is ∙ sym c.requires.session) added f in
-    if_err c.from_residual-in_err-take_pair.result stop (StopsSo run (state first) d) is (started_stops run t start text (state first) b d stop on.started (err_at c.take_pair.result stop (HasStopCause b d) was c.take_pair.ensures.cause))
+    let keeps = on.started.goes_on.keeps in
+    if_err c.from_residual-in_err-take_pair.result stop (StopsSo run breaks (IsFullForPair d) (state first) d) is
+    (expected_stops run breaks (IsFullForPair d) (state first) b d (expects_pair run text at (state first) d start row keeps added on.heard) stop (err_of c.take_pair.result stop (HasStopCause b d) was c.take_pair.ensures.cause)
+    (λ console. answers_so_far run (started_lines run start) text (state first) d (AStart start refl) keeps (λ none. absurd (cc none))) (λ refused. c.take_pair.ensures.built (was ∙ ap Err refused))
+    (λ broken. c.take_pair.ensures.broken (was ∙ ap Err broken)) (λ end. c.take_pair.ensures.journal_end told (was ∙ ap Err end)))
 
 -- ---- the reply isn't said
 
@@ -58,6 +78,7 @@ returns-in_err-say_added-clause-stops g c =
     let is : c.from_residual-in_err-say_added.result ≡ Err stop = first_of (search rules, search (rules, c.from_residual-in_err-say_added.ensures, c.in_err-say_added.is, c.in_err-say_added.was), grind (arith, c.from_residual-in_err-say_added.ensures)) in
     λ told first run t start has time of_run f.
     let state = g.P.Plant.state in
+    let breaks = BreaksAt (g.S.Source.left c.args.source.now) (g.S.Source.left c.take_pair.new.source) (g.S.Source.faults c.args.source.now) (g.S.Source.faults c.take_pair.new.source) c.args.lane.now c.take_pair.new.lane in
     let a = state c.args.plant.now in
     let b = state c.hear_row.new.plant in
     let d = state c.take_pair.new.plant in
@@ -66,6 +87,7 @@ returns-in_err-say_added-clause-stops g c =
     let row = c.in_ok-asked.asked.row in
     let at = c.in_ok-asked.asked.time.0 in
     let tracks = c.tracks_of.result in
+    let pair = paired_at start row tracks at text in
     let done = c.in_ok-take_pair.ensures in
     let session = of_run.session_is ∙ sym c.requires.session in
     let heard = hears_pair c.args.session run t start row c.time-before.result.0 at text (state first) a b has (c.hear_row.ensures.keeps told first) (c.in_ok-asked.ensures.next told first) (time ∙ sym c.time-before.ensures) of_run.session_is in
@@ -73,8 +95,10 @@ returns-in_err-say_added-clause-stops g c =
     let on = c.take_pair.ensures.heard told first run t start text heard time session added f in
     let may = may_pair g.P.Plant.tells told c.take_pair.new.lane c.take_pair.new.site run t start row tracks at text (state first) d done.between (ap (λ (x : Table). x.rows) done.table) done.time
     (session ∙ sym (ap (λ (x : Table). x.session) done.table)) on added (done.unbroken t f) in
-    if_err c.from_residual-in_err-say_added.result stop (StopsSo run (state first) e) is
-    (reply_stops c.say_added.result stop run (paired_lines run (paired_at start row tracks at text)) (state first) e was c.say_added.ensures.stop (c.say_added.ensures.bears told first run t start row text may))
+    if_err c.from_residual-in_err-say_added.result stop (StopsSo run breaks (IsFullForPair e) (state first) e) is
+    (err_of c.say_added.result stop (StopsSo run breaks (IsFullForPair e) (state first) e) was
+    (say_stops c.say_added.result run breaks (IsFullForPair e) (started_lines run start) (pair_of run pair) text (state first) d e (APair pair refl) on.started.goes_on.keeps g.P.Plant.tells told c.say_added.ensures.said c.say_added.ensures.stop
+    (c.say_added.ensures.bears told first run t start row text may)))
 
 -- ---- the line is answered
 
@@ -105,7 +129,53 @@ returns-clause-pairs g c = λ told first run t start has time of_run f.
 
 pub returns-clause-counts : goal.returns-clause-counts
 returns-clause-counts g c =
-    let state = g.P.Plant.state in
+    let a = g.P.Plant.state c.args.plant.now in
+    let b = g.P.Plant.state c.hear_row.new.plant in
+    let d = g.P.Plant.state c.take_pair.new.plant in
+    let e = g.P.Plant.state c.say_added.new.plant in
     let was : c.hear_row.result ≡ Ok c.in_ok-asked.asked = search rules in
-    line_counts g.P.Plant.tells (state c.args.plant.now) (state c.hear_row.new.plant) (state c.take_pair.new.plant) (state c.say_added.new.plant) c.hear_row.ensures.only (c.hear_row.ensures.cause.counted (λ is. let no = sym was ∙ is in cc no)) c.take_pair.ensures.works
-    c.say_added.ensures.said.front.only c.say_added.ensures.said.cause.later
+    none_fell g.P.Plant.tells a b d e c.hear_row.ensures.only (hear_counted a.console_faults b.console_faults c.hear_row.result c.in_ok-asked.asked c.hear_row.ensures.cause was) c.take_pair.ensures.works c.say_added.ensures.said.front.only c.say_added.ensures.said.cause.later
+
+-- ---- what it leaves
+
+pub returns-in_err-asked-clause-home : goal.returns-in_err-asked-clause-home
+returns-in_err-asked-clause-home g c = none_lent_console g.P.Plant.tells (g.P.Plant.state c.args.plant.now) (g.P.Plant.state c.hear_row.new.plant) c.hear_row.ensures.only c.requires.between.fits.home
+
+pub returns-in_err-say_added-clause-home : goal.returns-in_err-say_added-clause-home
+returns-in_err-say_added-clause-home g c = none_lent_console g.P.Plant.tells (g.P.Plant.state c.take_pair.new.plant) (g.P.Plant.state c.say_added.new.plant) c.say_added.ensures.said.front.only c.take_pair.ensures.home
+
+pub returns-clause-home : goal.returns-clause-home
+returns-clause-home g c = none_lent_console g.P.Plant.tells (g.P.Plant.state c.take_pair.new.plant) (g.P.Plant.state c.say_added.new.plant) c.say_added.ensures.said.front.only c.take_pair.ensures.home
+
+pub returns-in_err-asked-clause-others : goal.returns-in_err-asked-clause-others
+returns-in_err-asked-clause-others g c = λ told. keeps_console g.P.Plant.tells told 0 0 0 (g.P.Plant.state c.args.plant.now) (g.P.Plant.state c.hear_row.new.plant) c.hear_row.ensures.only
+
+pub returns-in_err-take_pair-clause-others : goal.returns-in_err-take_pair-clause-others
+returns-in_err-take_pair-clause-others g c = λ told.
+    let state = g.P.Plant.state in
+    heard_keeps g.P.Plant.tells told (state c.args.plant.now) (state c.hear_row.new.plant) (state c.take_pair.new.plant) c.hear_row.ensures.only c.take_pair.ensures.works 0 0 (c.take_pair.ensures.others told)
+
+pub returns-in_err-say_added-clause-others : goal.returns-in_err-say_added-clause-others
+returns-in_err-say_added-clause-others g c = λ told.
+    let state = g.P.Plant.state in
+    answered_keeps g.P.Plant.tells told (state c.args.plant.now) (state c.hear_row.new.plant) (state c.take_pair.new.plant) c.hear_row.ensures.only c.take_pair.ensures.works (state c.say_added.new.plant) c.say_added.ensures.said.front.only 0 0 (c.take_pair.ensures.others told)
+
+pub returns-clause-others : goal.returns-clause-others
+returns-clause-others g c = λ told.
+    let state = g.P.Plant.state in
+    answered_keeps g.P.Plant.tells told (state c.args.plant.now) (state c.hear_row.new.plant) (state c.take_pair.new.plant) c.hear_row.ensures.only c.take_pair.ensures.works (state c.say_added.new.plant) c.say_added.ensures.said.front.only 0 0 (c.take_pair.ensures.others told)
+
+pub returns-in_err-take_pair-clause-elapses : goal.returns-in_err-take_pair-clause-elapses
+returns-in_err-take_pair-clause-elapses g c = λ told.
+    let state = g.P.Plant.state in
+    heard_past g.P.Plant.tells told (state c.args.plant.now) (state c.hear_row.new.plant) (state c.take_pair.new.plant) c.hear_row.ensures.only c.take_pair.ensures.works
+
+pub returns-in_err-say_added-clause-elapses : goal.returns-in_err-say_added-clause-elapses
+returns-in_err-say_added-clause-elapses g c = λ told.
+    let state = g.P.Plant.state in
+    answered_past g.P.Plant.tells told (state c.args.plant.now) (state c.hear_row.new.plant) (state c.take_pair.new.plant) c.hear_row.ensures.only c.take_pair.ensures.works (state c.say_added.new.plant) c.say_added.ensures.said.front.only
+
+pub returns-clause-elapses : goal.returns-clause-elapses
+returns-clause-elapses g c = λ told.
+    let state = g.P.Plant.state in
+    answered_past g.P.Plant.tells told (state c.args.plant.now) (state c.hear_row.new.plant) (state c.take_pair.new.plant) c.hear_row.ensures.only c.take_pair.ensures.works (state c.say_added.new.plant) c.say_added.ensures.said.front.only

@@ -1,6 +1,9 @@
-use Rattle.std.proofs.Common.{arith}
+use Rattle.std.proofs.Common.{ℕ, arith, subst}
+use Rattle.epoch.specs.Ends.{IsFullForTime}
+use Rattle.epoch.specs.Frames.{KeepsOthers}
+use Rattle.epoch.proofs.Frames.{keeps_here}
 use Rattle.xrc_session.proofs.PairWaits.{kept_heard}
-use Rattle.xrc_session.proofs.StopLaws.{store_caused}
+use Rattle.xrc_session.proofs.StopLaws.{store_caused, was_end}
 use Rattle.xrc_session.proofs.pairing.keep.Goals as goal
 
 pub returns-in-Ok-clause-heard : goal.returns-in-Ok-clause-heard
@@ -18,3 +21,19 @@ returns-in-Err-clause-heard g c = λ told first run t start row text heard stand
 pub returns-in-Err-clause-cause : goal.returns-in-Err-clause-cause
 returns-in-Err-clause-cause g c =
     store_caused (g.P.Plant.state c.args.plant.now) (g.P.Plant.state c.keep_time.new.plant) c.keep_time.result c.in-Err.error c.of_store.result c.in-Err.is c.of_store.ensures c.keep_time.ensures.fault (c.keep_time.ensures.volume c.requires.behind.good)
+
+pub returns-in-Err-clause-journal_end : goal.returns-in-Err-clause-journal_end
+returns-in-Err-clause-journal_end g c = λ told is.
+    subst (λ (n : ℕ). IsFullForTime n (g.P.Plant.state c.keep_time.new.plant)) c.requires.time
+    (c.keep_time.ensures.journal_end told (was_end c.keep_time.result c.in-Err.error c.of_store.result c.in-Err.is c.of_store.ensures is))
+
+pub returns-then-eq-clause-others : goal.returns-then-eq-clause-others
+returns-then-eq-clause-others g c = λ told. keeps_here 0 0 0 (g.P.Plant.state c.args.plant.now)
+
+pub returns-in-Ok-clause-others : goal.returns-in-Ok-clause-others
+returns-in-Ok-clause-others g c = λ told.
+    subst (λ (set : ℕ). KeepsOthers set 0 0 (g.P.Plant.state c.args.plant.now) (g.P.Plant.state c.keep_time.new.plant)) c.requires.behind.first_set (c.keep_time.ensures.others told 0)
+
+pub returns-in-Err-clause-others : goal.returns-in-Err-clause-others
+returns-in-Err-clause-others g c = λ told.
+    subst (λ (set : ℕ). KeepsOthers set 0 0 (g.P.Plant.state c.args.plant.now) (g.P.Plant.state c.keep_time.new.plant)) c.requires.behind.first_set (c.keep_time.ensures.others told 0)

@@ -1,10 +1,13 @@
-use Rattle.std.proofs.Common.{List, ap, subst}
+use Rattle.std.proofs.Common.{List, ap, subst, ◌∙◌}
 use Rattle.crash_plant.specs.Choices.{AllFollow}
+use Rattle.crash_plant.proofs.Steps.{none_lent_then}
 use Rattle.pair_table.specs.declared.row.PairRow.{PairRow}
 use Rattle.site_store.specs.Changes.{SeesRows}
 use Rattle.site_store.specs.Sees.{SeesSameOr}
 use Rattle.site_store.specs.Sites.{SiteState}
+use Rattle.epoch.proofs.Frames.{keeps_here}
 use Rattle.epoch.proofs.Working.{silent_on}
+use Rattle.xrc_session.proofs.Leaves.{log_keeps}
 use Rattle.xrc_session.proofs.PairPuts.{put_ahead, put_full, put_is, put_spent}
 use Rattle.xrc_session.proofs.PairWaits.{logged_heard}
 use Rattle.xrc_session.proofs.StopLaws.{store_caused, was_end, was_spent}
@@ -49,3 +52,22 @@ returns-clause-journal_end g c = λ told is.
     let b = g.P.Plant.state c.log_change.new.plant in
     put_full c.args.row c.args.site.now c.put_row.new.self c.requires.rows c.in-Ok.ensures.ok g.P.Plant.tells told a b (silent_on g.P.Plant.tells _ a b c.log_change.ensures.only) (c.requires.stands told) c.log_change.result c.log_change.ensures.untouched c.log_change.ensures.refuses
     (was_end c.log_change.result c.in-Err-log_change.error c.of_store.result c.in-Err-log_change.is c.of_store.ensures is)
+
+pub returns-in-Ok-log_change-clause-home : goal.returns-in-Ok-log_change-clause-home
+returns-in-Ok-log_change-clause-home g c = none_lent_then g.P.Plant.tells _ (g.P.Plant.state c.args.plant.now) (g.P.Plant.state c.log_change.new.plant) c.log_change.ensures.only c.requires.fits.home
+
+pub returns-in-Ok-log_change-clause-others : goal.returns-in-Ok-log_change-clause-others
+returns-in-Ok-log_change-clause-others g c = λ told.
+    let set = ap (λ (s : SiteState). s.at.set) (put_is c.args.row c.args.site.now c.put_row.new.self c.requires.rows c.in-Ok.ensures.ok) ∙ c.requires.first_set in
+    log_keeps g.P.Plant.tells told 0 0 (g.P.Plant.state c.args.plant.now) (g.P.Plant.state c.log_change.new.plant) c.put_row.new.self.at.set set c.log_change.ensures.only
+
+pub returns-clause-home : goal.returns-clause-home
+returns-clause-home g c = none_lent_then g.P.Plant.tells _ (g.P.Plant.state c.args.plant.now) (g.P.Plant.state c.log_change.new.plant) c.log_change.ensures.only c.requires.fits.home
+
+pub returns-clause-others : goal.returns-clause-others
+returns-clause-others g c = λ told.
+    let set = ap (λ (s : SiteState). s.at.set) (put_is c.args.row c.args.site.now c.put_row.new.self c.requires.rows c.in-Ok.ensures.ok) ∙ c.requires.first_set in
+    log_keeps g.P.Plant.tells told 0 0 (g.P.Plant.state c.args.plant.now) (g.P.Plant.state c.log_change.new.plant) c.put_row.new.self.at.set set c.log_change.ensures.only
+
+pub returns-in-Err-clause-others : goal.returns-in-Err-clause-others
+returns-in-Err-clause-others g c = λ told. keeps_here 0 0 0 (g.P.Plant.state c.args.plant.now)

@@ -1,5 +1,6 @@
 use Rattle.std.proofs.Common.{◌∙◌, sym, ap, arith}
 use Rattle.pair_table.specs.Tables.{Table}
+use Rattle.epoch.proofs.Frames.{keeps_then}
 use Rattle.epoch.proofs.Working.{silent_then}
 use Rattle.xrc_session.specs.Pairing.{IsStandingAt}
 use Rattle.xrc_session.proofs.pairing.take_pair.Goals as goal
@@ -22,3 +23,7 @@ returns-clause-heard g c = λ told first run t start text heard time session add
       later = omega (arith, time, later, at);
     } in
     c.put_pair.ensures.heard told first run t start text (c.wait_for.ensures.heard told first run t start c.args.row.now text heard time session f) standing added (waited.unbroken t f)
+
+pub returns-clause-others : goal.returns-clause-others
+returns-clause-others g c = λ told.
+    keeps_then 0 0 0 (g.P.Plant.state c.args.plant.now) (g.P.Plant.state c.wait_for.new.plant) (g.P.Plant.state c.put_pair.new.plant) c.wait_for.ensures.works.site (c.wait_for.ensures.works.elapses told) (c.put_pair.ensures.works.elapses told) (c.wait_for.ensures.others told) (c.put_pair.ensures.others told)

@@ -1,20 +1,34 @@
-use Rattle.std.proofs.Common.{rules, ◌≡◌, ◌⊎◌, inl, inr, ℕ, [], List, Result, Ok, Err, refl, sym, ◌∙◌}
+use Rattle.std.proofs.Common.{rules, ◌≡◌, inl, Ok, Err, ◌∙◌}
 use Rattle.crash_plant.proofs.Steps.{site_trans}
 use Rattle.xrc_status.specs.declared.stop.Stop.TheVariants.{EarlyBreak}
-use Rattle.xrc_session.specs.Stopping.{StopsSo}
+use Rattle.xrc_session.specs.Full.{IsFullBehind, IsFullForPair, IsFullFrom}
+use Rattle.xrc_session.specs.Leaving.LeavesOthers.{Unpaired}
+use Rattle.xrc_session.specs.Stopping.{BreaksAt, StopsSo}
 use Rattle.xrc_session.proofs.Begun.{err_of}
+use Rattle.xrc_session.proofs.EndLeaves.{leaves_pair}
+use Rattle.xrc_session.proofs.RunStops.{breaks_before, full_before, stop_so, stops_so}
 use Rattle.xrc_session.proofs.StopLaws.{if_err}
 use Rattle.xrc_session.proofs.WholeRuns.{causes_since, foresees_less, ok_not_err}
 use Rattle.xrc_session.proofs.run.run_lines.Goals as goal
 
 pub returns-in_err-paired-clause-stops : goal.returns-in_err-paired-clause-stops
 returns-in_err-paired-clause-stops g c = λ told run t goes of f.
+    let left = g.S.Source.left in
+    let faults = g.S.Source.faults in
+    let source = c.args.source.now in
+    let lane = c.args.lane.now in
     let a = g.P.Plant.state c.args.plant.now in
     let b = g.P.Plant.state c.begin.new.plant in
     let e = c.in_err-paired.field-0.0 in
     let was : c.begin.result ≡ Err e = search rules in
     let is : c.from_residual.result ≡ Err e = search (rules, c.from_residual.ensures) in
-    if_err c.from_residual.result e (StopsSo run a b) is (err_of c.begin.result e (StopsSo run a b) was (c.begin.ensures.stops told run t goes of f))
+    let breaks = BreaksAt (left source) (left c.begin.new.source) (faults source) (faults c.begin.new.source) lane c.begin.new.lane in
+    let full = IsFullFrom (left source) lane b in
+    if_err c.from_residual.result e (StopsSo run breaks full a b) is
+    (stop_so run breaks (IsFullForPair b) breaks full a b e (λ broken time so. so) (λ ended time so other taken. inl so) (err_of c.begin.result e (StopsSo run breaks (IsFullForPair b) a b) was (c.begin.ensures.stops told run t goes of f)))
+
+pub returns-in_err-paired-clause-others : goal.returns-in_err-paired-clause-others
+returns-in_err-paired-clause-others g c = λ told run t goes of f. Unpaired (c.begin.ensures.others told)
 
 pub returns-clause-site : goal.returns-clause-site
 returns-clause-site g c = site_trans (g.P.Plant.state c.args.plant.now) (g.P.Plant.state c.begin.new.plant) (g.P.Plant.state c.finish.new.plant) c.begin.ensures.site c.finish.ensures.site
@@ -28,10 +42,37 @@ returns-clause-ends g c = λ told run t goes of f.
 
 pub returns-clause-stops : goal.returns-clause-stops
 returns-clause-stops g c = λ told run t goes of f.
-    let upto = c.finish.new.lane.side.upto in
+    let left = g.S.Source.left in
+    let faults = g.S.Source.faults in
+    let source = c.args.source.now in
+    let mid = c.begin.new.source in
+    let last = c.finish.new.source in
+    let lane = c.args.lane.now in
+    let next = c.begin.new.lane in
+    let end = c.finish.new.lane in
+    let a = g.P.Plant.state c.args.plant.now in
+    let d = g.P.Plant.state c.finish.new.plant in
+    let paired = c.in_ok-paired.paired in
     let begun = c.in_ok-paired.ensures in
-    let p = begun.pairs told run t goes of (foresees_less (g.S.Source.left c.args.source.now) c.args.lane.now upto c.begin.new.lane.side.upto t c.finish.ensures.rises f) in
-    c.finish.ensures.stops told c.args.plant.now run t p.0 p.1 p.2 p.3 of.session_is (begun.foresees t upto f)
+    let between = begun.between in
+    let p = begun.pairs told run t goes of (foresees_less (left source) lane end.side.upto next.side.upto t c.finish.ensures.rises f) in
+    let here = begun.foresees t end.side.upto f in
+    let ok : c.begin.result ≡ Ok paired = search rules in
+    let counted = c.begin.ensures.count (ok_not_err c.begin.result paired EarlyBreak ok) in
+    let later = BreaksAt (left mid) (left last) (faults mid) (faults last) next end in
+    let behind = IsFullBehind (left mid) next paired.row paired.started.site.time d in
+    stops_so run later behind (BreaksAt (left source) (left last) (faults source) (faults last) lane end) (IsFullFrom (left source) lane d) a d c.finish.result
+    (λ broken time so. breaks_before time (left source) (left mid) (left last) (faults source) (faults mid) (faults last) lane next end counted begun.fails begun.taken so)
+    (λ ended time so. full_before (left source) (left mid) lane next paired.row paired.started.site.time end.side.upto d t begun.taken here between.lane_goes_on between.same_time between.fits.time time so)
+    (c.finish.ensures.stops told c.args.plant.now run t p.0 p.1 p.2 p.3 of.session_is here)
+
+pub returns-clause-others : goal.returns-clause-others
+returns-clause-others g c = λ told run t goes of f.
+    let state = g.P.Plant.state in
+    let begun = c.in_ok-paired.ensures in
+    let p = begun.pairs told run t goes of (foresees_less (g.S.Source.left c.args.source.now) c.args.lane.now c.finish.new.lane.side.upto c.begin.new.lane.side.upto t c.finish.ensures.rises f) in
+    leaves_pair run t p.0 c.in_ok-paired.paired.row (state c.args.plant.now) (state c.begin.new.plant) (state c.finish.new.plant) p.1 p.2 c.begin.ensures.site (c.begin.ensures.elapses told) (c.finish.ensures.elapses told) (c.begin.ensures.others told)
+    (c.finish.ensures.others told)
 
 pub returns-clause-cause : goal.returns-clause-cause
 returns-clause-cause g c =
@@ -43,6 +84,3 @@ returns-clause-failed g c = λ broken differ.
     let counted = c.begin.ensures.count (ok_not_err c.begin.result c.in_ok-paired.paired EarlyBreak ok) in
     let b = c.finish.ensures.failed broken (λ same. differ (same ∙ counted)) in
     (b.0, c.in_ok-paired.ensures.fails b.0 c.finish.new.lane.side.upto (g.S.Source.left c.finish.new.source) b.1)
-
-pub returns-clause-journal_end : goal.returns-clause-journal_end
-returns-clause-journal_end g c = λ told is. inl (c.finish.ensures.journal_end told is)

@@ -1,11 +1,17 @@
-use Rattle.std.proofs.Common.{rules, ◌≡◌, ◌≢◌, ◌⊎◌, inl, inr, ℕ, ◌-◌, [], List, length, take, true, Option, Some, Result, Ok, Err, refl, sym, ap, subst, ◌∙◌}
-use Rattle.epoch.specs.Taken.{HasFailed}
+use Rattle.std.proofs.Common.{rules, ◌≡◌, ◌⊎◌, Ok, Err, refl, sym, subst, ◌∙◌}
+use Rattle.trace_grammar.specs.declared.trace.Trace.{Trace}
+use Rattle.epoch.specs.Taken.{HasTaken}
+use Rattle.epoch.proofs.Frames.{keeps_here}
 use Rattle.xrc_status.specs.declared.stop.Stop.TheVariants.{BadHeader, HeaderFault, NoMemory}
-use Rattle.xrc_session.specs.Runs.{StopsEarlyOr}
+use Rattle.xrc_session.specs.Full.{IsFullFrom, IsJournalFull}
+use Rattle.xrc_session.specs.Leaving.LeavesOthers.{Unpaired}
+use Rattle.xrc_session.specs.Runs.{HasBrokenBy, StopsEarlyOr}
+use Rattle.xrc_session.specs.Stopping.{BreaksAt}
 use Rattle.xrc_session.proofs.Begun.{err_of}
 use Rattle.xrc_session.proofs.EarlyStops.{IsOfOpening, err_of_three, late_stops, opening_stops, was_break}
+use Rattle.xrc_session.proofs.RunStops.{broken_by, run_foresees, stops_so, whole_is}
 use Rattle.xrc_session.proofs.StopLaws.{if_err}
-use Rattle.xrc_session.proofs.WholeRuns.{agrees_with, bytes_held, foresees_first, goes_first, same_stop}
+use Rattle.xrc_session.proofs.WholeRuns.{bytes_held, goes_first, same_stop}
 use Rattle.xrc_session.proofs.run.run_trace.Goals as goal
 
 -- ---- the header stops it
@@ -16,7 +22,13 @@ returns-in_err-opened-clause-stops g c = λ told run t is.
     let plant = g.P.Plant.state c.args.plant.now in
     let was : c.open_trace.result ≡ Err e = search rules in
     let came : c.from_residual.result ≡ Err e = search (rules, c.from_residual.ensures) in
-    if_err c.from_residual.result e (StopsEarlyOr (c.args.plant.now ≡ c.args.plant.now) run plant plant) came (opening_stops e (c.args.plant.now ≡ c.args.plant.now) run plant (err_of c.open_trace.result e IsOfOpening was c.open_trace.ensures.stops) refl)
+    let breaks = HasBrokenBy t (g.S.Source.faults c.open_trace.new.source) in
+    let untouched = c.args.plant.now ≡ c.args.plant.now in
+    if_err c.from_residual.result e (StopsEarlyOr untouched run breaks (IsJournalFull t plant) plant plant) came
+    (opening_stops e untouched run breaks (IsJournalFull t plant) plant (err_of c.open_trace.result e IsOfOpening was c.open_trace.ensures.stops) refl)
+
+pub returns-in_err-opened-clause-others : goal.returns-in_err-opened-clause-others
+returns-in_err-opened-clause-others g c = λ told run t is. Unpaired (keeps_here 0 0 0 (g.P.Plant.state c.args.plant.now))
 
 pub returns-in_err-opened-clause-refused : goal.returns-in_err-opened-clause-refused
 returns-in_err-opened-clause-refused g c = λ place is given told.
@@ -39,46 +51,83 @@ pub returns-clause-ends : goal.returns-clause-ends
 returns-clause-ends g c = λ told run t is.
     let left = g.S.Source.left in
     let faults = g.S.Source.faults in
-    let before = left c.args.source.now in
-    let mid = left c.open_trace.new.source in
-    let now = left c.run_lines.new.source in
+    let source = c.args.source.now in
+    let opened = c.open_trace.new.source in
+    let last = c.run_lines.new.source in
+    let before = left source in
+    let mid = left opened in
+    let now = left last in
     let lane = c.in_ok-opened.opened.lane in
     let upto = c.run_lines.new.lane.side.upto in
     let known = c.in_ok-opened.ensures in
-    let given = bytes_held before now (faults c.args.source.now) (faults c.run_lines.new.source) t is.trace in
+    let a = g.P.Plant.state c.args.plant.now in
+    let given = bytes_held before now (faults source) (faults last) t is.trace in
     let opens = known.ahead given.0 given.1 in
     let ok : c.open_trace.result ≡ Ok c.in_ok-opened.opened = search rules in
     let counted = c.open_trace.ensures.count (λ fault. cc (ok, fault)) in
-    let agrees = agrees_with before now (faults c.args.source.now) (faults c.run_lines.new.source) t opens.0 given.0 upto is.trace given.1 opens.1
-    (λ differ rest now_is gave.
-    let later : faults c.run_lines.new.source ≢ faults c.open_trace.new.source = λ same. differ (same ∙ counted) in
-    let failed = c.run_lines.ensures.failed (was_break c.run_lines.result (faults c.open_trace.new.source) (faults c.run_lines.new.source) c.run_lines.ensures.count later) later in
-    known.fails given.0 rest failed.0 upto given.1 (subst (λ (n : Option (List ℕ)). HasFailed failed.0 upto mid n lane.side) now_is failed.1) opens.0 t opens.1 gave) in
-    c.run_lines.ensures.ends told run t (goes_first c.args.session before now (faults c.args.source.now) (faults c.run_lines.new.source) (g.P.Plant.state c.args.plant.now) t run is) is.its (foresees_first given.0 mid lane upto t opens known.lane.2 agrees)
+    let foresees = run_foresees before mid now (faults source) (faults opened) (faults last) t given.0 lane upto is.trace given.1 counted opens known.lane.2 (λ rest limit failed. known.fails given.0 rest limit upto given.1 failed)
+    (λ differ. c.run_lines.ensures.failed (was_break c.run_lines.result (faults opened) (faults last) c.run_lines.ensures.count differ) differ) in
+    let goes = goes_first c.args.session before now (faults source) (faults last) a t run is in
+    c.run_lines.ensures.ends told run t goes is.its foresees
+
+pub returns-clause-others : goal.returns-clause-others
+returns-clause-others g c = λ told run t is.
+    let left = g.S.Source.left in
+    let faults = g.S.Source.faults in
+    let source = c.args.source.now in
+    let opened = c.open_trace.new.source in
+    let last = c.run_lines.new.source in
+    let before = left source in
+    let mid = left opened in
+    let now = left last in
+    let lane = c.in_ok-opened.opened.lane in
+    let upto = c.run_lines.new.lane.side.upto in
+    let known = c.in_ok-opened.ensures in
+    let a = g.P.Plant.state c.args.plant.now in
+    let given = bytes_held before now (faults source) (faults last) t is.trace in
+    let opens = known.ahead given.0 given.1 in
+    let ok : c.open_trace.result ≡ Ok c.in_ok-opened.opened = search rules in
+    let counted = c.open_trace.ensures.count (λ fault. cc (ok, fault)) in
+    let foresees = run_foresees before mid now (faults source) (faults opened) (faults last) t given.0 lane upto is.trace given.1 counted opens known.lane.2 (λ rest limit failed. known.fails given.0 rest limit upto given.1 failed)
+    (λ differ. c.run_lines.ensures.failed (was_break c.run_lines.result (faults opened) (faults last) c.run_lines.ensures.count differ) differ) in
+    let goes = goes_first c.args.session before now (faults source) (faults last) a t run is in
+    c.run_lines.ensures.others told run t goes is.its foresees
 
 pub returns-clause-stops : goal.returns-clause-stops
 returns-clause-stops g c = λ told run t is.
     let left = g.S.Source.left in
     let faults = g.S.Source.faults in
-    let a = g.P.Plant.state c.args.plant.now in
-    let b = g.P.Plant.state c.run_lines.new.plant in
-    let before = left c.args.source.now in
-    let mid = left c.open_trace.new.source in
-    let now = left c.run_lines.new.source in
+    let source = c.args.source.now in
+    let opened = c.open_trace.new.source in
+    let last = c.run_lines.new.source in
+    let before = left source in
+    let mid = left opened in
+    let now = left last in
     let lane = c.in_ok-opened.opened.lane in
     let upto = c.run_lines.new.lane.side.upto in
     let known = c.in_ok-opened.ensures in
-    let given = bytes_held before now (faults c.args.source.now) (faults c.run_lines.new.source) t is.trace in
+    let a = g.P.Plant.state c.args.plant.now in
+    let given = bytes_held before now (faults source) (faults last) t is.trace in
     let opens = known.ahead given.0 given.1 in
     let ok : c.open_trace.result ≡ Ok c.in_ok-opened.opened = search rules in
     let counted = c.open_trace.ensures.count (λ fault. cc (ok, fault)) in
-    let agrees = agrees_with before now (faults c.args.source.now) (faults c.run_lines.new.source) t opens.0 given.0 upto is.trace given.1 opens.1
-    (λ differ rest now_is gave.
-    let later : faults c.run_lines.new.source ≢ faults c.open_trace.new.source = λ same. differ (same ∙ counted) in
-    let failed = c.run_lines.ensures.failed (was_break c.run_lines.result (faults c.open_trace.new.source) (faults c.run_lines.new.source) c.run_lines.ensures.count later) later in
-    known.fails given.0 rest failed.0 upto given.1 (subst (λ (n : Option (List ℕ)). HasFailed failed.0 upto mid n lane.side) now_is failed.1) opens.0 t opens.1 gave) in
-    late_stops c.run_lines.result (c.run_lines.new.plant ≡ c.args.plant.now) run a b
-    (c.run_lines.ensures.stops told run t (goes_first c.args.session before now (faults c.args.source.now) (faults c.run_lines.new.source) a t run is) is.its (foresees_first given.0 mid lane upto t opens known.lane.2 agrees))
+    let foresees = run_foresees before mid now (faults source) (faults opened) (faults last) t given.0 lane upto is.trace given.1 counted opens known.lane.2 (λ rest limit failed. known.fails given.0 rest limit upto given.1 failed)
+    (λ differ. c.run_lines.ensures.failed (was_break c.run_lines.result (faults opened) (faults last) c.run_lines.ensures.count differ) differ) in
+    let goes = goes_first c.args.session before now (faults source) (faults last) a t run is in
+    let b = g.P.Plant.state c.run_lines.new.plant in
+    let breaks = BreaksAt mid now (faults opened) (faults last) lane c.run_lines.new.lane in
+    let broken = HasBrokenBy t (faults last) in
+    let full = IsFullFrom mid lane b in
+    late_stops c.run_lines.result (c.run_lines.new.plant ≡ c.args.plant.now) run broken (IsJournalFull t b) a b
+    (stops_so run breaks full broken (IsJournalFull t b) a b c.run_lines.result
+    (λ stopped time so. broken_by before mid now (faults source) (faults opened) (faults last) time lane c.run_lines.new.lane t given.0 is.trace counted given.1 opens (λ rest failed. known.breaks given.0 rest time upto given.1 failed) so)
+    (λ ended time so.
+    let whole = whole_is before now (faults source) (faults last) t opens.0 given.0 is.trace (c.run_lines.ensures.count (λ stopped. cc (ended, stopped)) ∙ counted) given.1 opens.1 in
+    so t (subst (λ (x : Trace). HasTaken mid x lane.side lane.primary) (sym whole) opens.4))
+    (c.run_lines.ensures.stops told run t goes is.its foresees))
 
 pub returns-clause-header : goal.returns-clause-header
 returns-clause-header g c = λ given place told refused. absurd ((c.in_ok-opened.ensures.header given place told refused).1 refl)
+
+pub returns-clause-unopened : goal.returns-clause-unopened
+returns-clause-unopened g c = λ given place told refused. absurd ((c.in_ok-opened.ensures.header given place told refused).1 refl)

@@ -1,7 +1,10 @@
-use Rattle.std.proofs.Common.{◌≡◌, []}
+use Rattle.std.proofs.Common.{[]}
 use Rattle.crash_plant.specs.declared.device.Device.TheVariants.{Volume}
+use Rattle.crash_plant.proofs.Steps.{none_lent_then}
+use Rattle.epoch.proofs.Frames.{keeps_then}
 use Rattle.epoch.proofs.Working.{silent_on, silent_then}
 use Rattle.xrc_session.proofs.Formatted.{early_volume, fits_read, stands_read}
+use Rattle.xrc_session.proofs.Leaves.{format_keeps, read_keeps}
 use Rattle.xrc_session.proofs.starting.format.Goals as goal
 
 pub returns-in-Ok-read_label-clause-fits : goal.returns-in-Ok-read_label-clause-fits
@@ -28,3 +31,41 @@ returns-in-Err-read_label-clause-works g c =
 
 pub returns-in-Err-read_label-clause-of_start : goal.returns-in-Err-read_label-clause-of_start
 returns-in-Err-read_label-clause-of_start g c = early_volume
+
+pub returns-in-Ok-read_label-clause-home : goal.returns-in-Ok-read_label-clause-home
+returns-in-Ok-read_label-clause-home g c =
+    let a = g.P.Plant.state c.args.plant.now in
+    let b = g.P.Plant.state c.format.new.plant in
+    none_lent_then g.P.Plant.tells _ b (g.P.Plant.state c.read_label.new.plant) c.read_label.ensures.only (none_lent_then g.P.Plant.tells _ a b c.format.ensures.only c.requires.home)
+
+pub returns-in-Ok-read_label-clause-others : goal.returns-in-Ok-read_label-clause-others
+returns-in-Ok-read_label-clause-others g c = λ told.
+    let a = g.P.Plant.state c.args.plant.now in
+    let b = g.P.Plant.state c.format.new.plant in
+    let d = g.P.Plant.state c.read_label.new.plant in
+    let one = c.format.ensures.only in
+    let two = c.read_label.ensures.only in
+    keeps_then 0 0 0 a b d one.site (one.elapses told) (two.elapses told) (format_keeps g.P.Plant.tells told 0 0 a b one)
+    (read_keeps g.P.Plant.tells told 0 0 b d (Volume 0) two (record { bytes = c.read_label.ensures.same told; moments = c.read_label.ensures.moments told }))
+
+pub returns-in-Err-read_label-clause-home : goal.returns-in-Err-read_label-clause-home
+returns-in-Err-read_label-clause-home g c =
+    let a = g.P.Plant.state c.args.plant.now in
+    let b = g.P.Plant.state c.format.new.plant in
+    none_lent_then g.P.Plant.tells _ b (g.P.Plant.state c.read_label.new.plant) c.read_label.ensures.only (none_lent_then g.P.Plant.tells _ a b c.format.ensures.only c.requires.home)
+
+pub returns-in-Err-read_label-clause-others : goal.returns-in-Err-read_label-clause-others
+returns-in-Err-read_label-clause-others g c = λ told.
+    let a = g.P.Plant.state c.args.plant.now in
+    let b = g.P.Plant.state c.format.new.plant in
+    let d = g.P.Plant.state c.read_label.new.plant in
+    let one = c.format.ensures.only in
+    let two = c.read_label.ensures.only in
+    keeps_then 0 0 0 a b d one.site (one.elapses told) (two.elapses told) (format_keeps g.P.Plant.tells told 0 0 a b one)
+    (read_keeps g.P.Plant.tells told 0 0 b d (Volume 0) two (record { bytes = c.read_label.ensures.same told; moments = c.read_label.ensures.moments told }))
+
+pub returns-in-Err-clause-home : goal.returns-in-Err-clause-home
+returns-in-Err-clause-home g c = none_lent_then g.P.Plant.tells _ (g.P.Plant.state c.args.plant.now) (g.P.Plant.state c.format.new.plant) c.format.ensures.only c.requires.home
+
+pub returns-in-Err-clause-others : goal.returns-in-Err-clause-others
+returns-in-Err-clause-others g c = λ told. format_keeps g.P.Plant.tells told 0 0 (g.P.Plant.state c.args.plant.now) (g.P.Plant.state c.format.new.plant) c.format.ensures.only

@@ -1,4 +1,4 @@
-use Rattle.std.proofs.Common.{◌≡◌, ap, sym, subst, ◌∙◌}
+use Rattle.std.proofs.Common.{◌≡◌, sym, subst, ◌∙◌}
 use Rattle.xrc_status.specs.declared.stop.Stop.{Stop}
 use Rattle.xrc_session.specs.Stopping.{HasStopCause}
 use Rattle.xrc_session.proofs.Foreseeing.{foresees_on}
@@ -17,6 +17,9 @@ pub returns-in-Ok-clause-foresees : goal.returns-in-Ok-clause-foresees
 returns-in-Ok-clause-foresees g c = λ t upto f.
     let came = c.in-Ok.ensures in
     foresees_on (g.S.Source.left c.args.source.now) (g.S.Source.left c.pass_to.new.source) c.args.lane.now c.pass_to.new.self c.args.at.0 came.reached came.volumes came.time t upto f
+
+pub returns-in-Ok-clause-taken : goal.returns-in-Ok-clause-taken
+returns-in-Ok-clause-taken g c = λ t taken. (c.in-Ok.ensures.reached t taken).0
 
 pub returns-in-Err-clause-cause : goal.returns-in-Err-clause-cause
 returns-in-Err-clause-cause g c =

@@ -1,0 +1,138 @@
+-- How a run over a whole script stops: its calls one after another.
+use Rattle.std.proofs.Common.{◌≡◌, ◌≢◌, inl, inr, ℕ, ◌<◌, ◌-◌, true, false, List, [], ◌∷◌, length, take, Option, Some, Result, Ok, Err, refl, sym, ap, subst, ◌∙◌, arith}
+use Rattle.std.specs.Prelude.{IfErr, IsErrOf}
+use Rattle.std.proofs.lemmas.Bool.{lt-ltb}
+use Rattle.xrc_edge.specs.Causes.{Rose}
+use Rattle.crash_plant.specs.Moments.{PlantState}
+use Rattle.trace_grammar.specs.declared.trace.Trace.{Trace}
+use Rattle.trace_grammar.specs.Good.{trace_of}
+use Rattle.sidefile.specs.Breaks.{has_broken, is_below}
+use Rattle.pair_table.specs.declared.row.PairRow.{PairRow}
+use Rattle.consistency.specs.Bears.{Run}
+use Rattle.epoch.specs.declared.lane.Lane.{Lane}
+use Rattle.epoch.specs.Lanes.{IsLane}
+use Rattle.epoch.specs.Taken.{FailsAsBefore, HasFailed, HasReached, HasTaken}
+use Rattle.script_lines.specs.Hearing.{HearsText, KeepsHearing}
+use Rattle.session_lines.specs.Behind.{HasHearingCause, HearsMore}
+use Rattle.session_lines.specs.Runs.{Ended, GoesOn, ended_lines}
+use Rattle.session_lines.proofs.Going.{hears_on}
+use Rattle.xrc_status.specs.declared.stop.Stop.{Stop}
+use Rattle.xrc_status.specs.declared.stop.Stop.TheVariants.{ConsoleFault, JournalFault, ControlFault, StateFault, EarlyVolume, EarlyBreak, NotBuilt, JournalEnd, Spent, NoMemory, BadWords, BadHeader, HeaderFault, NoSession, OtherSession, Damaged, VolumeFault, TooSmall, BadSite}
+use Rattle.xrc_session.specs.Expected.{StopsAt}
+use Rattle.xrc_session.specs.Expected.AreAnswered.{AnEnd}
+use Rattle.xrc_session.specs.Expected.IsUnexpected.{More}
+use Rattle.xrc_session.specs.Full.{IsFullBehind, IsFullFrom}
+use Rattle.xrc_session.specs.Runs.{HasBrokenBy}
+use Rattle.xrc_session.specs.Stopping.{BreaksBelow, StopsSo}
+use Rattle.xrc_session.specs.Traces.{Agrees, Foresees, IsTraceOf}
+use Rattle.xrc_session.specs.Traces.IsTraceOf.{Failed, Whole}
+use Rattle.xrc_session.proofs.BothTaken.{reached_both}
+use Rattle.xrc_session.proofs.FirstSide.{Opens}
+use Rattle.xrc_session.proofs.Saying.{answers_so_far}
+use Rattle.xrc_session.proofs.WholeRuns.{agrees_with, foresees_first, one_told, one_trace}
+
+-- ---- less is said
+
+-- A line that stopped so by its time stopped by what follows from that.
+at_more : (run : Run) (so more : (time : ℕ) → Type 0) (first now : PlantState) → ((time : ℕ) → so time → more time) → StopsAt run so first now → StopsAt run more first now
+at_more run so more first now wider stops = record { line = stops.line; why = wider stops.line.time stops.why }
+
+-- A run that stopped so stopped so by what follows of breaks, and of full journals.
+module _ (run : Run) (breaks full less rest : (time : ℕ) → Type 0) (first now : PlantState) where
+  pub stop_so : (stop : Stop) → (stop ≡ EarlyBreak → (time : ℕ) → breaks time → less time) → (stop ≡ JournalEnd → (time : ℕ) → full time → rest time) → StopsSo run breaks full first now stop → StopsSo run less rest first now stop
+  stop_so ConsoleFault broken ended so = so
+  stop_so (JournalFault j) broken ended so = so
+  stop_so ControlFault broken ended so = so
+  stop_so StateFault broken ended so = so
+  stop_so EarlyVolume broken ended so = so
+  stop_so EarlyBreak broken ended so = at_more run breaks less first now (broken refl) so
+  stop_so NotBuilt broken ended so = so
+  stop_so JournalEnd broken ended so = at_more run full rest first now (ended refl) so
+  stop_so Spent broken ended so = so
+  stop_so NoMemory broken ended so = so
+  stop_so BadWords broken ended so = so
+  stop_so (BadHeader trace place) broken ended so = so
+  stop_so (HeaderFault trace) broken ended so = so
+  stop_so NoSession broken ended so = so
+  stop_so (OtherSession name) broken ended so = so
+  stop_so (Damaged d place) broken ended so = so
+  stop_so VolumeFault broken ended so = so
+  stop_so (TooSmall d needed) broken ended so = so
+  stop_so BadSite broken ended so = so
+
+  pub stops_so : {T : Type 0} (result : Result T Stop) → (IsErrOf result EarlyBreak → (time : ℕ) → breaks time → less time) → (IsErrOf result JournalEnd → (time : ℕ) → full time → rest time) → IfErr result (StopsSo run breaks full first now) → IfErr result (StopsSo run less rest first now)
+  stops_so (Ok x) broken ended so = tt
+  stops_so (Err e) broken ended so = stop_so e (λ is. broken (ap (λ (s : Stop). Err s) is)) (λ is. ended (ap (λ (s : Stop). Err s) is)) so
+
+-- ---- calls one after another
+
+-- What breaks behind a call breaks from before it, where that took no fault.
+pub breaks_before : (limit : ℕ) (told mid now : Option (List ℕ)) (faults between risen : ℕ) (old lane new : Lane) → between ≡ faults → FailsAsBefore told mid old.side lane.side
+    → ((t : Trace) → HasTaken told t old.side old.primary → HasTaken mid t lane.side lane.primary) → BreaksBelow limit mid now between risen lane new → BreaksBelow limit told now faults risen old new
+breaks_before limit told mid now faults between risen old lane new same fails taken (inl failed) = inl (subst (λ (n : ℕ). Rose n risen) same failed.0, fails limit new.side.upto now failed.1)
+breaks_before limit told mid now faults between risen old lane new same fails taken (inr will) = inr (will.0 ∙ same, λ t before. will.1 t (taken t before))
+
+-- A journal that is full while a pair is brought to its end is full by each trace that the lane took from its start on.
+pub full_before : (told mid : Option (List ℕ)) (old lane : Lane) (row : PairRow) (paired upto : ℕ) (now : PlantState) (t : Trace) → ((other : Trace) → HasTaken told other old.side old.primary → HasTaken mid other lane.side lane.primary) → Foresees mid lane upto t → IsLane lane
+    → paired ≡ lane.primary.time → 0 < paired → (time : ℕ) → IsFullBehind mid lane row paired now time → IsFullFrom told old now time
+full_before told mid old lane row paired upto now t takes f goes same some time full other taken =
+    let here = takes other taken in
+    let even = goes.even in
+    let reached : HasReached paired f.other lane.primary = subst (λ (n : ℕ). HasReached n f.other lane.primary) (sym same) (f.reached (omega (arith, same, some))) in
+    inr (row, paired, full other here (reached_both mid lane.side lane.primary paired (omega (arith, even, same)) f.other other f.taken here reached))
+
+-- ---- the trace of the run
+
+-- Where the source hasn't failed it is that of all bytes.
+pub whole_is : (before now : Option (List ℕ)) (faults risen : ℕ) (t other : Trace) (given : List ℕ) → IsTraceOf before now faults risen t → risen ≡ faults → before ≡ Some given → trace_of 1 false given ≡ Ok other → t ≡ other
+whole_is before now faults risen t other given (Whole same bytes told is) counted held whole = one_trace t other (sym is ∙ ap (trace_of 1 false) (one_told bytes given before told held) ∙ whole)
+whole_is before now faults risen t other given (Failed differ bytes left told rest is) counted held whole = absurd (differ counted)
+
+-- The lane of an opened trace foresees it.
+pub run_foresees : (before mid now : Option (List ℕ)) (faults opened risen : ℕ) (t : Trace) (given : List ℕ) (lane : Lane) (upto : ℕ) → IsTraceOf before now faults risen t → before ≡ Some given → opened ≡ faults → Opens given mid lane.side lane.primary → lane.primary.time ≡ 0
+    → ((left : List ℕ) (limit : ℕ) → HasFailed limit upto mid (Some left) lane.side → (other t : Trace) → trace_of 1 false given ≡ Ok other → trace_of 1 true (take (length given - length left) given) ≡ Ok t → Agrees upto other t)
+    → (risen ≢ opened → (limit : ℕ) × HasFailed limit upto mid now lane.side) → Foresees mid lane upto t
+run_foresees before mid now faults opened risen t given lane upto is held counted opens time fails failed =
+    foresees_first given mid lane upto t opens time
+    (agrees_with before now faults risen t opens.0 given upto is held opens.1
+    (λ differ left rest gave.
+    let f = failed (λ same. differ (same ∙ counted)) in
+    fails left f.0 (subst (λ (n : Option (List ℕ)). HasFailed f.0 upto mid n lane.side) rest f.1) opens.0 t opens.1 gave))
+
+-- A source that failed below a limit, whose count of faults rose, gave a trace that has broken by then.
+failed_by : (before mid now : Option (List ℕ)) (faults opened risen limit : ℕ) (lane new : Lane) (t : Trace) (given : List ℕ) → IsTraceOf before now faults risen t → opened < risen → opened ≡ faults → before ≡ Some given
+    → ((left : List ℕ) → HasFailed limit new.side.upto mid (Some left) lane.side → (t : Trace) → trace_of 1 true (take (length given - length left) given) ≡ Ok t → has_broken t limit ≡ true) → HasFailed limit new.side.upto mid now lane.side → has_broken t limit ≡ true
+failed_by before mid now faults opened risen limit lane new t given (Whole same bytes told is) rose counted held breaks failed = absurd (omega (arith, same, rose, counted))
+failed_by before mid now faults opened risen limit lane new t given (Failed differ bytes left told rest is) rose counted held breaks failed =
+    let gave : trace_of 1 true (take (length given - length left) given) ≡ Ok t = ap (λ (b : List ℕ). trace_of 1 true (take (length b - length left) b)) (sym (one_told bytes given before told held)) ∙ is in
+    breaks left (subst (λ (n : Option (List ℕ)). HasFailed limit new.side.upto mid n lane.side) rest failed) t gave
+
+-- Where a lane breaks at a time, the trace of its run has broken by then.
+pub broken_by : (before mid now : Option (List ℕ)) (faults opened risen limit : ℕ) (lane new : Lane) (t : Trace) (given : List ℕ) → IsTraceOf before now faults risen t → opened ≡ faults → before ≡ Some given → Opens given mid lane.side lane.primary
+    → ((left : List ℕ) → HasFailed limit new.side.upto mid (Some left) lane.side → (t : Trace) → trace_of 1 true (take (length given - length left) given) ≡ Ok t → has_broken t limit ≡ true) → BreaksBelow limit mid now opened risen lane new → HasBrokenBy t risen limit
+broken_by before mid now faults opened risen limit lane new t given is counted held opens breaks (inl failed) last = elim failed.0 [
+  | inl rose ↦ failed_by before mid now faults opened risen limit lane new t given is rose counted held breaks failed.1
+  | inr end ↦ absurd (last end)
+]
+broken_by before mid now faults opened risen limit lane new t given is counted held opens breaks (inr will) last =
+    let same = whole_is before now faults risen t opens.0 given is (will.0 ∙ counted) held opens.1 in
+    let w = will.1 opens.0 opens.4 in
+    subst (λ (x : Trace). has_broken x limit ≡ true) (sym same) (ap (λ (b : Option ℕ). is_below b limit) w.0 ∙ lt-ltb new.side.upto limit w.1)
+
+-- ---- behind the last line
+
+-- What isn't the end of the script is one byte more.
+pub nothing_stops : {T : Type 0} (result : Result T Stop) (run : Run) (t : Trace) (end : Ended) (breaks full : (time : ℕ) → Type 0) (first mid new : PlantState) → GoesOn run t (ended_lines run end) [] first mid → HasHearingCause mid.console_faults new.console_faults result
+    → (IsErrOf result NotBuilt → HearsMore mid new) → (IsErrOf result ConsoleFault → HearsText [] mid new) → ((text : List ℕ) → HearsText text mid new → KeepsHearing [] text first mid new) → IfErr result (StopsSo run breaks full first new)
+nothing_stops (Ok x) run t end breaks full first mid new goes cause more failed keeps = tt
+nothing_stops (Err e) run t end breaks full first mid new goes cause more failed keeps = elim cause.stops [
+  | inl refused ↦
+      let one = more (ap (λ (s : Stop). Err s) refused) in
+      let text = one.byte ∷ [] in
+      let heard = hears_on run t (ended_lines run end) [] text first mid new goes (keeps text one.heard) in
+      subst (λ (s : Stop). StopsSo run breaks full first new s) (sym refused) (More end text heard.keeps (λ none. cc none))
+  | inr fault ↦
+      let none = failed (ap (λ (s : Stop). Err s) fault) in
+      let heard = hears_on run t (ended_lines run end) [] [] first mid new goes (keeps [] none) in
+      subst (λ (s : Stop). StopsSo run breaks full first new s) (sym fault) (answers_so_far run (ended_lines run end) [] first new (AnEnd end refl) heard.keeps (λ none. absurd (cc none)))
+]
