@@ -20,7 +20,9 @@ printf '%s\n' '00000000000005DB XSTART ABC' '00000000000005DC XADDPAIR ABC VOLUM
 
 truncate -s 1024 control
 truncate -s 16384 state
-truncate -s 1826816 journal.0 journal.1
+# The first journal holds every group of the run.
+truncate -s 2200000000 journal.0
+truncate -s 1826816 journal.1
 printf 'XVOLSEC001\000\000\000\144' >volume.0
 head -c $((512 - 14 + 100 * 860160)) /dev/zero >>volume.0
 sync

@@ -1,16 +1,3 @@
 pub mod Words
-pub mod Scripts
-pub mod Lines
-pub mod Reading
-pub mod Replies
-pub mod Stops
-pub mod Frames
-pub mod Hearing
-pub mod Labels
-pub mod Slots
-pub mod Saying
-pub mod Plans
-pub mod Taken
-pub mod Copiers
-pub mod Runs
 pub mod Sources
+pub mod Statuses
