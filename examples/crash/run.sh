@@ -2,34 +2,9 @@
 # Kills the program in the middle of a session in a temporary folder, recovers the site, and shows and checks the time and the slots.
 set -eu
 
-repository=$(cd "$(dirname "$0")/../.." && pwd)
-program=$repository/crates/xrc/out/xrc
+# shellcheck source=SCRIPTDIR/../site.sh
+. "$(dirname "$0")/../site.sh"
 
-fail() {
-    printf 'crash: %s\n' "$1" >&2
-    exit 1
-}
-
-# The bytes of a text of hexadecimal digit pairs.
-bytes() {
-    for pair in $1; do
-        # shellcheck disable=SC2059
-        printf "\\$(printf '%03o' "0x$pair")"
-    done
-}
-
-if [ ! -x "$program" ]; then
-    command -v rt >/dev/null || fail "the toolchain's command rt is not installed"
-    echo "Proving and building the program; from a fresh clone this takes some minutes."
-    (cd "$repository/crates/xrc" && rt run </dev/null >out.log 2>&1) || true
-    if [ ! -x "$program" ]; then
-        cat "$repository/crates/xrc/out.log" >&2
-        fail "the program was not built"
-    fi
-    rm -f "$repository/crates/xrc/out.log"
-fi
-
-site=$(mktemp -d)
 running=
 writing=
 stop_all() {
@@ -38,23 +13,6 @@ stop_all() {
     rm -rf "$site"
 }
 trap stop_all EXIT
-cd "$site"
-
-cat >script <<'SCRIPT'
-0000000000000050 XSTART ABC
-0000000000000060 XADDPAIR ABC VOLUME(PRIM01,SEC001)
-0000000000000090 XEND ABC
-SCRIPT
-
-# New devices: control, state, two journals, and a volume of one cylinder with the label SEC001.
-prepare() {
-    rm -f control state journal.0 journal.1 volume.0 trace.0
-    truncate -s 1024 control
-    truncate -s 16384 state
-    truncate -s 1826816 journal.0 journal.1
-    bytes '58 56 4F 4C 53 45 43 30 30 31 00 00 00 01' >volume.0
-    truncate -s 860672 volume.0
-}
 
 # The trace of a volume PRIM01 of one cylinder: at time 64 track 3 gets one record with the content AB, and track 5 gets 31 writes; at
 # 6E that record becomes Z; the controller goes on to 70.
@@ -70,9 +28,9 @@ front() {
     bytes '01 00 00 00 00 00 00 00 70'
 }
 
-# The first 8 bytes of track 3's slot, which stands at 512 + 3 x 57,344.
+# The first 8 bytes of track 3's slot.
 slot() {
-    od -An -v -tx1 -j 172544 -N 8 volume.0 | tr -d ' \n'
+    volume_bytes "$(slot_place 3)" 8
 }
 
 # Waits until the file of replies has so many lines.
@@ -117,7 +75,7 @@ recover() {
 }
 
 # Killed behind the reply to XADDPAIR: the pair waits for its copy.
-prepare
+new_devices
 front >trace.0
 mkfifo console
 "$program" run ABC 1 <console >replies &
@@ -133,7 +91,8 @@ recover
 echo
 
 # Killed while it waits for the controller to go on: 32 writes fill a group, so those of 64 are on the volume, and that of 6E waits.
-prepare
+new_devices
+rm -f trace.0
 mkfifo trace.0
 (front; exec sleep 600) >trace.0 &
 writing=$!
@@ -147,6 +106,5 @@ writing=
 printf 'RECOVERED ABC T=000000000000006D\nPAIR PRIM01 SEC001 DUPLEX\n' >wanted
 recover
 [ "$(slot)" = 0001010000024142 ] || fail "the slot of track 3 begins with $(slot)"
-label=$(od -An -v -tx1 -N 14 volume.0 | tr -d ' \n')
-[ "$label" = 58564f4c5052494d303100000001 ] || fail "the label is not the primary's"
+[ "$(volume_bytes 0 14)" = 58564f4c5052494d303100000001 ] || fail "the label is not the primary's"
 echo "The slot of track 3 begins with $(slot), as the primary's track at 6D. The volume has the primary's label."

@@ -2,70 +2,30 @@
 # Copies one volume in a temporary folder by two traces in turn, shows what is said and what stands in the slots, and checks both.
 set -eu
 
-repository=$(cd "$(dirname "$0")/../.." && pwd)
-program=$repository/crates/xrc/out/xrc
+# shellcheck source=SCRIPTDIR/../site.sh
+. "$(dirname "$0")/../site.sh"
 
-fail() {
-    printf 'first-copy: %s\n' "$1" >&2
-    exit 1
-}
-
-# The bytes of a text of hexadecimal digit pairs.
-bytes() {
-    for pair in $1; do
-        # shellcheck disable=SC2059
-        printf "\\$(printf '%03o' "0x$pair")"
-    done
-}
-
-if [ ! -x "$program" ]; then
-    command -v rt >/dev/null || fail "the toolchain's command rt is not installed"
-    echo "Proving and building the program; from a fresh clone this takes some minutes."
-    (cd "$repository/crates/xrc" && rt run </dev/null >out.log 2>&1) || true
-    if [ ! -x "$program" ]; then
-        cat "$repository/crates/xrc/out.log" >&2
-        fail "the program was not built"
-    fi
-    rm -f "$repository/crates/xrc/out.log"
-fi
-
-site=$(mktemp -d)
-trap 'rm -rf "$site"' EXIT
-cd "$site"
-
-cat >script <<'SCRIPT'
-0000000000000050 XSTART ABC
-0000000000000060 XADDPAIR ABC VOLUME(PRIM01,SEC001)
-0000000000000090 XEND ABC
-SCRIPT
 cat >wanted <<'WANTED'
 0000000000000050 XSTART OK T=0000000000000050
 0000000000000060 XADDPAIR OK TRACKS 15 T=0000000000000060
 0000000000000090 XEND OK T=0000000000000090
 WANTED
 
-# Copies by the trace that is there, and checks what is said. The devices: control, state, two journals, and a new volume of one
-# cylinder with the label SEC001.
+# Copies by the trace that is there, onto new devices, and checks what is said.
 copy() {
-    truncate -s 1024 control
-    truncate -s 16384 state
-    truncate -s 1826816 journal.0 journal.1
-    bytes '58 56 4F 4C 53 45 43 30 30 31 00 00 00 01' >volume.0
-    truncate -s 860672 volume.0
-
+    new_devices
     status=0
     "$program" run ABC 1 <script >replies || status=$?
     echo "xrc run ABC 1 says:"
     cat replies
     [ "$status" -eq 0 ] || fail "the status is $status and not 0"
     cmp -s wanted replies || fail "the replies are not those that were wanted"
-    label=$(od -An -v -tx1 -N 14 volume.0 | tr -d ' \n')
-    [ "$label" = 58564f4c53454330303100000001 ] || fail "the label has changed"
+    [ "$(volume_bytes 0 14)" = 58564f4c53454330303100000001 ] || fail "the label has changed"
 }
 
-# Shows and checks the first bytes of a track's slot, which stands at 512 + the track's number x 57,344.
+# Shows and checks the first bytes of a track's slot.
 check_slot() {
-    slot=$(od -An -v -tx1 -j $((512 + $1 * 57344)) -N $((${#2} / 2)) volume.0 | tr -d ' \n')
+    slot=$(volume_bytes "$(slot_place "$1")" $((${#2} / 2)))
     echo "The slot of track $1 begins with $slot."
     [ "$slot" = "$2" ] || fail "the slot of track $1 does not begin with $2"
 }
