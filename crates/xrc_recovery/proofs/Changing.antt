@@ -17,7 +17,8 @@ use Rattle.xrc_journal.specs.Items.{Item}
 use Rattle.site_means.proofs.ReadAll.{reads_none}
 use Rattle.xrecover.specs.Pairs.{AreFaulty, duplex_devices, is_duplex}
 use Rattle.xrecover.specs.Redone.{Draws, IsRedone, Recovers, Redone}
-use Rattle.xrecover.specs.Works.{Nothing, Works}
+use Rattle.xrecover.specs.Works.{LabelsLast, Nothing, Works}
+use Rattle.xrecover.proofs.Labels.{last_before}
 use Rattle.xrecover.proofs.Relations.{recovers_same}
 use Rattle.xrecover.proofs.Works.{works_more, works_reads}
 use Rattle.xrc_recovery.specs.Reports.{Changes, IsDoneBefore}
@@ -100,6 +101,10 @@ follow_then R tells a b c told later f o t from to z is = elim (cases_lt t b.clo
       let start = (o.devices told d).images t late to (z d) (is d (part_still b c d o.site part)) in
       subst (λ (l : List ℕ). b.images b.clock d l) (sym start.2) start.1)
 ]
+
+-- Calls on the console change no label.
+pub labels_then : (tells : Type 0) (a b c : PlantState) → tells → a.clock ≤ b.clock → ((v : ℕ) → LabelsLast (on a (Volume v)) (on b (Volume v))) → WorksOnConsole tells b c → (v : ℕ) → LabelsLast (on a (Volume v)) (on c (Volume v))
+labels_then tells a b c told later last o v = last_before (on a (Volume v)) (on b (Volume v)) (on c (Volume v)) later (last v) ((o.elapses told).kept (Volume v)) (o.devices told (Volume v)).images (o.devices told (Volume v)).bytes
 
 -- ---- what was redone
 

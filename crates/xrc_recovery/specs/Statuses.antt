@@ -2,14 +2,15 @@
 use Rattle.std.specs.Prelude.{◌≡◌, ◌≢◌, ◌≤◌, ◌↔◌, ◌⊎◌, ◌++◌, ◌==◌, ◌||◌, ℕ, List, [], Bool, IsTrue, Some, length, take}
 use Rattle.xrc_edge.specs.Causes.{Rose}
 use Rattle.crash_plant.specs.declared.device.Device.{Device}
-use Rattle.crash_plant.specs.Moments.{PlantState}
+use Rattle.crash_plant.specs.declared.device.Device.TheVariants.{Volume}
+use Rattle.crash_plant.specs.Moments.{PlantState, on}
 use Rattle.crash_plant.specs.Calls.{Says, WorksOnConsole}
 use Rattle.crash_plant.specs.Choices.{AllFollow}
 use Rattle.site_means.specs.Answers.{first_short, need}
 use Rattle.site_means.specs.Sight.{walked}
 use Rattle.xrecover.specs.Redone.{Recovers, meant_rows}
 use Rattle.xrecover.specs.Sees.{IsSettled, SeesSame}
-use Rattle.xrecover.specs.Works.{Nothing}
+use Rattle.xrecover.specs.Works.{LabelsLast, Nothing}
 use Rattle.xrc_status.specs.declared.stop.Stop.{Stop}
 use Rattle.xrc_status.specs.declared.stop.Stop.TheVariants.{TooSmall, VolumeFault}
 use Rattle.xrc_status.specs.Saying.{SaidWhole}
@@ -73,4 +74,6 @@ pub record EndsRecovery (tells : Type 0) (session : List ℕ) (old new : PlantSt
   -- what means the same, with the same tracks. At most statuses nothing was written.
   pub changes : Changes tells (Recovers (meant_rows old old.bytes) (walked old old.bytes)) old new
   pub moments : tells → IsSettled old → AllFollow (SeesSame old) old new
+  -- A label is written once the slots of its volume are durable.
+  pub labels : tells → (v : ℕ) → LabelsLast (on old (Volume v)) (on new (Volume v))
   pub unwritten : status ≢ 0 → status ≢ 3 → status ≢ 5 → status ≢ 13 → Changes tells Nothing old new

@@ -70,7 +70,7 @@ take_more rows i r is = let on : i + 1 ≡ suc i = omega arith in ap (λ (n : �
 
 -- ---- duplex pairs of more rows
 
-none_duplex : (front : List PairRow) (r : PairRow) → Apart front r → list_any (is_duplex_of r.device) front ≡ false
+pub none_duplex : (front : List PairRow) (r : PairRow) → Apart front r → list_any (is_duplex_of r.device) front ≡ false
 none_duplex [] r apart = refl
 none_duplex (q ∷ front) r apart = (λ i. first (r.device == q.device) refl i || none_duplex front r (All-tail (λ p. p.device ≢ r.device) q front apart) i)
   where

@@ -2,6 +2,7 @@ pub mod Relations
 pub mod Works
 pub mod Again
 pub mod Later
+pub mod Labels
 pub mod Rows
 pub mod Deltas
 pub mod Contents

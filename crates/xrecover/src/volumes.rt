@@ -9,7 +9,7 @@ ghost use Rattle.xrc_journal.specs.Items.{AreItems, form_of};
 ghost use Rattle.applier.specs.Slots.{DiffersInSlots, HasItem, HoldsContent, slot_end};
 ghost use Rattle.applier.specs.Jobs.{FailsByCount};
 ghost use Rattle.volume_label.specs.Labels.{label_spelling};
-ghost use Rattle.xrecover.specs.Works.{OnVolume, Works};
+ghost use Rattle.xrecover.specs.Works.{LabelsLast, OnVolume, Works};
 ghost use Rattle.xrecover.specs.Redone.{Redoes};
 
 use applier::{VolumeJob, apply_volume};
@@ -97,6 +97,7 @@ pub(crate) fn finish_volume<P: Plant>(plant: &mut P, row: &PairRow) -> bool
     ensures counts { (v : ℕ) → v ≢ row.now.device → (P.state plant.new).faults (Volume v) ≡ (P.state plant.old).faults (Volume v) }
     ensures label { P.tells → result ≡ false → take 14 ((P.state plant.new).bytes (Volume row.now.device)) ≡ label_spelling (record { serial = row.now.primary; cylinders = row.now.cylinders }) }
     ensures durable { P.tells → result ≡ false → IsDurable (on (P.state plant.new) (Volume row.now.device)) }
+    ensures lasts { P.tells → LabelsLast (on (P.state plant.old) (Volume row.now.device)) (on (P.state plant.new) (Volume row.now.device)) }
 {
     let label = Label {
         serial: row.primary,

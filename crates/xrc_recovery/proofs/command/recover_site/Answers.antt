@@ -21,6 +21,7 @@ returns-in-Ok g c =
       silent = c.in-Ok.ensures.silent;
       console_count = c.in-Ok.ensures.console_count;
       changes = c.in-Ok.ensures.changes;
+      labels = c.in-Ok.ensures.labels;
       moments = c.in-Ok.ensures.moments;
       unwritten = c.in-Ok.ensures.unwritten;
     } in
@@ -44,6 +45,7 @@ returns-in-Err g c =
       silent = c.in-Err.ensures.silent;
       console_count = c.in-Err.ensures.console_count;
       changes = c.in-Err.ensures.changes;
+      labels = c.in-Err.ensures.labels;
       moments = c.in-Err.ensures.moments;
       unwritten = c.in-Err.ensures.unwritten;
     } in

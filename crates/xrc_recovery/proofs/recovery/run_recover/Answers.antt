@@ -21,6 +21,7 @@ returns-then-not-is_site g c =
       silent = k.silent;
       console_count = k.console_count;
       changes = k.changes;
+      labels = k.labels;
       moments = k.moments;
       unwritten = k.unwritten;
     }
@@ -32,7 +33,7 @@ returns-in-Err g c =
     let site = c.is_site.ensures.0 c.if-not-is_site.false in
     let e = c.in-Err.error in
     let k = at_error g.P.Plant.tells c.args.session a b e c.stop_of.result c.stop_of.ensures site c.in-Err.ensures.says (λ d first. let same = c.in-Err.ensures.short d first in cc) (λ d is. c.in-Err.ensures.fault d (λ i. Err (is i)))
-    c.recover.ensures.works c.recover.ensures.moments (λ early. c.in-Err.ensures.unwritten e refl early) in
+    c.recover.ensures.works c.recover.ensures.labels c.recover.ensures.moments (λ early. c.in-Err.ensures.unwritten e refl early) in
     record {
       site = k.site;
       untouched = λ is. absurd (k.site.0 is site);
@@ -46,6 +47,7 @@ returns-in-Err g c =
       silent = k.silent;
       console_count = k.console_count;
       changes = k.changes;
+      labels = k.labels;
       moments = k.moments;
       unwritten = k.unwritten;
     }
@@ -63,6 +65,7 @@ returns-in-Ok g c =
       faulty = c.in-Ok.ensures.failed;
       redone = c.in-Ok.ensures.redone;
       works = c.recover.ensures.works;
+      labels = c.recover.ensures.labels;
       moments = c.recover.ensures.moments;
       ok = c.report.ensures.ok;
       lines = c.report.ensures.lines;
@@ -85,6 +88,7 @@ returns-in-Ok g c =
       silent = k.silent;
       console_count = k.console_count;
       changes = k.changes;
+      labels = k.labels;
       moments = k.moments;
       unwritten = k.unwritten;
     }

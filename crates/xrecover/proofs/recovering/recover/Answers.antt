@@ -8,6 +8,7 @@ use Rattle.xrecover.specs.declared.recover_error.RecoverError.{RecoverError}
 use Rattle.xrecover.specs.Answers.{EndsLate, IsRecoverable, Says}
 use Rattle.xrecover.specs.Redone.{Recovers, meant_rows}
 use Rattle.xrecover.proofs.Finish.{all_redone, all_works, ends_late, late_says, no_writes, read_works, walk_now}
+use Rattle.xrecover.proofs.Labels.{labels_behind, labels_read}
 use Rattle.xrecover.proofs.Seen.{sees_moments}
 use Rattle.xrecover.proofs.recovering.recover.Goals as goal
 
@@ -86,3 +87,20 @@ returns-clause-moments g c = λ told settled.
     let new = g.P.Plant.state c.redo_pairs.new.plant in
     sees_moments g.P.Plant.tells told (meant_rows old old.bytes) old new
     (all_works g.P.Plant.tells old (g.P.Plant.state c.read_meant.new.plant) c.read_meant.ensures.reads c.args.session c.in_ok-meant.meant.means (λ told. (c.in_ok-meant.ensures.says told).0) new c.redo_pairs.ensures.works) settled
+
+pub returns-in_err-meant-clause-labels : goal.returns-in_err-meant-clause-labels
+returns-in_err-meant-clause-labels g c = λ told. labels_read g.P.Plant.tells told (g.P.Plant.state c.args.plant.now) (g.P.Plant.state c.read_meant.new.plant) c.read_meant.ensures.reads
+
+pub returns-in_err-tools-clause-labels : goal.returns-in_err-tools-clause-labels
+returns-in_err-tools-clause-labels g c = λ told. labels_read g.P.Plant.tells told (g.P.Plant.state c.args.plant.now) (g.P.Plant.state c.read_meant.new.plant) c.read_meant.ensures.reads
+
+pub returns-in_err-room-clause-labels : goal.returns-in_err-room-clause-labels
+returns-in_err-room-clause-labels g c = λ told. labels_read g.P.Plant.tells told (g.P.Plant.state c.args.plant.now) (g.P.Plant.state c.read_meant.new.plant) c.read_meant.ensures.reads
+
+pub returns-in_err-failed-clause-labels : goal.returns-in_err-failed-clause-labels
+returns-in_err-failed-clause-labels g c = λ told.
+    labels_behind g.P.Plant.tells told _ (g.P.Plant.state c.args.plant.now) (g.P.Plant.state c.read_meant.new.plant) (g.P.Plant.state c.redo_pairs.new.plant) c.read_meant.ensures.reads c.redo_pairs.ensures.works (c.redo_pairs.ensures.labels told)
+
+pub returns-clause-labels : goal.returns-clause-labels
+returns-clause-labels g c = λ told.
+    labels_behind g.P.Plant.tells told _ (g.P.Plant.state c.args.plant.now) (g.P.Plant.state c.read_meant.new.plant) (g.P.Plant.state c.redo_pairs.new.plant) c.read_meant.ensures.reads c.redo_pairs.ensures.works (c.redo_pairs.ensures.labels told)

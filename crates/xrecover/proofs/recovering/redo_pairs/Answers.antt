@@ -12,9 +12,11 @@ use Rattle.xrecover.specs.declared.recover_error.RecoverError.TheVariants.{Site}
 use Rattle.xrecover.specs.Answers.{IsLate}
 use Rattle.xrecover.specs.Pairs.{AreFaulty, is_duplex}
 use Rattle.xrecover.specs.Redone.{IsRedone, Recovers, Redone}
-use Rattle.xrecover.specs.Works.{Works}
-use Rattle.crash_plant.specs.Moments.{PlantState}
-use Rattle.xrecover.proofs.Going.{Going, going_faulty, going_first, going_redone}
+use Rattle.xrecover.specs.Works.{LabelsLast, Works}
+use Rattle.crash_plant.specs.declared.device.Device.TheVariants.{Volume}
+use Rattle.crash_plant.specs.Moments.{PlantState, on}
+use Rattle.xrecover.proofs.Going.{Going, apart_before, going_faulty, going_first, going_redone}
+use Rattle.xrecover.proofs.Labels.{label_here, label_kept, labels_pair}
 use Rattle.xrecover.proofs.Stepping.{late_before, other_going, pair_going, pair_long, pair_there, same_walk, stopped_works}
 use Rattle.xrecover.proofs.recovering.redo_pairs.Goals as goal
 use Rattle.xrecover.proofs.recovering.redo_pairs.Goals.{then-is_duplex+in_ok-again+then-has_failed, then-is_duplex+in_ok-again+else-has_failed, else-is_duplex}
@@ -24,6 +26,7 @@ loop-place-init g c =
     let old = g.P.Plant.state c.args.plant.now in
     record {
       going = subst (λ (l : List ℕ). Going g.P.Plant.tells (walked old old.bytes) [] l old old) (sym c.requires.empty) (going_first g.P.Plant.tells (walked old old.bytes) old);
+      labels = λ told v. label_kept (on old (Volume v)) (on old (Volume v)) (label_here g.P.Plant.tells told old v);
       room = refl;
       count = omega (arith, c.args.failed.ok.0, ap length c.requires.empty);
       places = c.requires.places;
@@ -65,6 +68,16 @@ returns-in_err-again-clause-works g c =
     stopped_works g.P.Plant.tells rows c.loop-place.place c.loop-place.failed.items (g.P.Plant.state c.args.plant.now) (g.P.Plant.state c.loop-place.plant) c.loop-place.invariant.going c.args.meant.now.mark c.requires.walk r is
     (sym c.is_duplex.ensures ∙ c.if-is_duplex.true) (g.P.Plant.state c.redo_pair.new.plant) c.redo_pair.ensures.works
 
+pub returns-in_err-again-clause-labels : goal.returns-in_err-again-clause-labels
+returns-in_err-again-clause-labels g c = λ told.
+    let rows = c.args.meant.now.means.table.rows in
+    let i = c.loop-place.place in
+    let old = g.P.Plant.state c.args.plant.now in
+    let r = c.unwrap.result.now in
+    let is : slice_get rows i ≡ Some r = sym c.row.ensures.row ∙ ap option_copied c.unwrap.ensures in
+    labels_pair g.P.Plant.tells told (take i rows) r (walked old old.bytes) _ old (g.P.Plant.state c.loop-place.plant) (g.P.Plant.state c.redo_pair.new.plant) (apart_before rows i r c.len-place-end.ensures.rules.apart is)
+    c.loop-place.invariant.going.works c.redo_pair.ensures.works (c.loop-place.invariant.labels told) (c.redo_pair.ensures.lasts told)
+
 pub returns-in_err-again-clause-late : goal.returns-in_err-again-clause-late
 returns-in_err-again-clause-late g c = λ told e is.
     let old = g.P.Plant.state c.args.plant.now in
@@ -92,6 +105,8 @@ loop-place-preserved g c =
           record {
             going = subst (λ (p : PlantState). Going g.P.Plant.tells (walked old old.bytes) (take (i + 1) rows) c.if-is_duplex.failed.items old p) (ap g.P.Plant.state (sym w.plant-is))
                 (subst (λ (l : List ℕ). Going g.P.Plant.tells (walked old old.bytes) (take (i + 1) rows) l old new) (sym failed_is) done);
+            labels = λ told. subst (λ (p : PlantState). (v : ℕ) → LabelsLast (on old (Volume v)) (on p (Volume v))) (ap g.P.Plant.state (sym w.plant-is))
+                (labels_pair g.P.Plant.tells told (take i rows) r (walked old old.bytes) _ old cur new (apart_before rows i r c.len-place-end.ensures.rules.apart is) going.works w.redo_pair.ensures.works (c.loop-place.invariant.labels told) (w.redo_pair.ensures.lasts told));
             room = ap (λ (t : Tools). t.body.room) w.tools-is ∙ w.in_ok-again.ensures.room ∙ c.loop-place.invariant.room;
             count = omega (arith, ap vec_len w.failed-is, w.push_reserved.ensures.len, c.loop-place.invariant.count);
             places = omega (arith, ap vec_capacity w.failed-is, w.push_reserved.ensures.capacity, c.loop-place.invariant.places);
@@ -104,6 +119,8 @@ loop-place-preserved g c =
           record {
             going = subst (λ (p : PlantState). Going g.P.Plant.tells (walked old old.bytes) (take (i + 1) rows) c.if-is_duplex.failed.items old p) (ap g.P.Plant.state (sym w.plant-is))
                 (subst (λ (l : List ℕ). Going g.P.Plant.tells (walked old old.bytes) (take (i + 1) rows) l old new) (sym failed_is) done);
+            labels = λ told. subst (λ (p : PlantState). (v : ℕ) → LabelsLast (on old (Volume v)) (on p (Volume v))) (ap g.P.Plant.state (sym w.plant-is))
+                (labels_pair g.P.Plant.tells told (take i rows) r (walked old old.bytes) _ old cur new (apart_before rows i r c.len-place-end.ensures.rules.apart is) going.works w.redo_pair.ensures.works (c.loop-place.invariant.labels told) (w.redo_pair.ensures.lasts told));
             room = ap (λ (t : Tools). t.body.room) w.tools-is ∙ w.in_ok-again.ensures.room ∙ c.loop-place.invariant.room;
             count = omega (arith, ap vec_len w.failed-is, c.loop-place.invariant.count);
             places = omega (arith, ap vec_capacity w.failed-is, c.loop-place.invariant.places);
@@ -113,6 +130,7 @@ loop-place-preserved g c =
           record {
             going = subst (λ (p : PlantState). Going g.P.Plant.tells (walked old old.bytes) (take (i + 1) rows) c.if-is_duplex.failed.items old p) (ap g.P.Plant.state (sym w.plant-is))
                 (subst (λ (l : List ℕ). Going g.P.Plant.tells (walked old old.bytes) (take (i + 1) rows) l old cur) (λ i. (sym w.failed-is i).items) done);
+            labels = λ told. subst (λ (p : PlantState). (v : ℕ) → LabelsLast (on old (Volume v)) (on p (Volume v))) (ap g.P.Plant.state (sym w.plant-is)) (c.loop-place.invariant.labels told);
             room = ap (λ (t : Tools). t.body.room) w.tools-is ∙ c.loop-place.invariant.room;
             count = omega (arith, ap vec_len w.failed-is, c.loop-place.invariant.count);
             places = omega (arith, ap vec_capacity w.failed-is, c.loop-place.invariant.places);

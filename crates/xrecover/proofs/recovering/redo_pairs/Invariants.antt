@@ -1,5 +1,8 @@
-use Rattle.std.proofs.Common.{◌≡◌, ◌≤◌, length, take, vec_capacity, vec_len}
+use Rattle.std.proofs.Common.{◌≡◌, ◌≤◌, ℕ, length, take, vec_capacity, vec_len}
+use Rattle.crash_plant.specs.declared.device.Device.TheVariants.{Volume}
+use Rattle.crash_plant.specs.Moments.{on}
 use Rattle.site_means.specs.Sight.{walked}
+use Rattle.xrecover.specs.Works.{LabelsLast}
 use Rattle.xrecover.proofs.Going.{Going}
 use Rattle.xrecover.proofs.recovering.redo_pairs.Given as goal
 
@@ -7,6 +10,7 @@ use Rattle.xrecover.proofs.recovering.redo_pairs.Given as goal
 abbrev pub invariant-loop-place : goal.invariant-loop-place
 invariant-loop-place g l = record {
   going : Going g.P.Plant.tells (walked (g.P.Plant.state l.fn.plant) (g.P.Plant.state l.fn.plant).bytes) (take l.place l.meant.means.table.rows) l.failed.items (g.P.Plant.state l.fn.plant) (g.P.Plant.state l.plant);
+  labels : g.P.Plant.tells → (v : ℕ) → LabelsLast (on (g.P.Plant.state l.fn.plant) (Volume v)) (on (g.P.Plant.state l.plant) (Volume v));
   room : l.tools.body.room ≡ l.fn.tools.body.room;
   count : vec_len l.failed ≤ l.place;
   places : length l.meant.means.table.rows ≤ vec_capacity l.failed;

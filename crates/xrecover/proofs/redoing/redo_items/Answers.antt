@@ -15,6 +15,7 @@ use Rattle.xrecover.specs.Redone.{Draws}
 use Rattle.xrecover.proofs.Again.{Next, Reads, all_again, fault_again, found_same, of_walk, reads_again, reads_first, reads_next}
 use Rattle.xrecover.proofs.Contents.{Done, done_then}
 use Rattle.xrecover.proofs.Relations.{items_within}
+use Rattle.xrecover.proofs.Labels.{label_applied, label_here, label_read}
 use Rattle.xrecover.proofs.Works.{then_applied, then_read, works_here}
 use Rattle.xrecover.proofs.redoing.redo_items.Goals as goal
 
@@ -24,6 +25,7 @@ loop-tools-init g c =
     record {
       works = works_here g.P.Plant.tells c.args.device (walked old old.bytes) old;
       counts = λ v differ. refl;
+      label = λ told. label_here g.P.Plant.tells told old c.args.device;
       set = c.requires.spot.set;
       place = omega (arith, c.requires.spot.room);
       room = λ i. c.args.tools.body.room;
@@ -35,6 +37,12 @@ returns-in_err-time-clause-works g c = then_read g.P.Plant.tells c.args.device _
 
 pub returns-in_err-time-clause-counts : goal.returns-in_err-time-clause-counts
 returns-in_err-time-clause-counts g c = λ v differ. c.read_again.ensures.reads.only.others_faults (Volume v) (λ is. is) ∙ c.loop-tools.invariant.counts v differ
+
+pub returns-in_err-time-clause-label : goal.returns-in_err-time-clause-label
+returns-in_err-time-clause-label g c = λ told.
+    let v = c.args.device in
+    let inv = c.loop-tools.invariant in
+    label_read g.P.Plant.tells told v (g.P.Plant.state c.args.plant.now) (g.P.Plant.state c.loop-tools.plant) (g.P.Plant.state c.read_again.new.plant) ((inv.works.elapses told).kept (Volume v)).later (inv.label told) c.read_again.ensures.reads
 
 pub returns-in_err-time-clause-told : goal.returns-in_err-time-clause-told
 returns-in_err-time-clause-told g c told e is =
@@ -54,6 +62,12 @@ returns-in_default-clause-works g c = then_read g.P.Plant.tells c.args.device _ 
 
 pub returns-in_default-clause-counts : goal.returns-in_default-clause-counts
 returns-in_default-clause-counts g c = λ v differ. c.read_again.ensures.reads.only.others_faults (Volume v) (λ is. is) ∙ c.loop-tools.invariant.counts v differ
+
+pub returns-in_default-clause-label : goal.returns-in_default-clause-label
+returns-in_default-clause-label g c = λ told.
+    let v = c.args.device in
+    let inv = c.loop-tools.invariant in
+    label_read g.P.Plant.tells told v (g.P.Plant.state c.args.plant.now) (g.P.Plant.state c.loop-tools.plant) (g.P.Plant.state c.read_again.new.plant) ((inv.works.elapses told).kept (Volume v)).later (inv.label told) c.read_again.ensures.reads
 
 pub returns-in_default-clause-content : goal.returns-in_default-clause-content
 returns-in_default-clause-content g c = λ told good.
@@ -94,6 +108,16 @@ returns-then-failed-clause-works g c =
 pub returns-then-failed-clause-counts : goal.returns-then-failed-clause-counts
 returns-then-failed-clause-counts g c = λ v differ. c.apply_body-again.ensures.counts v differ ∙ c.read_again.ensures.reads.only.others_faults (Volume v) (λ is. is) ∙ c.loop-tools.invariant.counts v differ
 
+pub returns-then-failed-clause-label : goal.returns-then-failed-clause-label
+returns-then-failed-clause-label g c = λ told.
+    let old = g.P.Plant.state c.args.plant.now in
+    let cur = g.P.Plant.state c.loop-tools.plant in
+    let mid = g.P.Plant.state c.read_again.new.plant in
+    let v = c.args.device in
+    let inv = c.loop-tools.invariant in
+    label_applied g.P.Plant.tells told v c.read_again.new.body.items old mid (g.P.Plant.state c.apply_body-again.new.plant) (omega (arith, ((inv.works.elapses told).kept (Volume v)).later, ((c.read_again.ensures.reads.only.elapses told).kept (Volume v)).later))
+    (label_read g.P.Plant.tells told v old cur mid ((inv.works.elapses told).kept (Volume v)).later (inv.label told) c.read_again.ensures.reads) c.apply_body-again.ensures.works
+
 pub loop-tools-preserved : goal.loop-tools-preserved
 loop-tools-preserved g c =
     let old = g.P.Plant.state c.args.plant.now in
@@ -131,6 +155,8 @@ loop-tools-preserved g c =
       works = then_applied g.P.Plant.tells v items its _ _ _ (then_read g.P.Plant.tells v items _ _ _ inv.works c.read_again.ensures.reads) c.apply_body-again.ensures.works
           (λ told. of_walk (shape_of old) old.bytes items its v a b b at after last time.0 (inv.reads told) (next told));
       counts = λ w differ. c.apply_body-again.ensures.counts w differ ∙ c.read_again.ensures.reads.only.others_faults (Volume w) (λ is. is) ∙ inv.counts w differ;
+      label = λ told. label_applied g.P.Plant.tells told v its old mid new (omega (arith, ((inv.works.elapses told).kept (Volume v)).later, ((c.read_again.ensures.reads.only.elapses told).kept (Volume v)).later))
+          (label_read g.P.Plant.tells told v old cur mid ((inv.works.elapses told).kept (Volume v)).later (inv.label told) c.read_again.ensures.reads) c.apply_body-again.ensures.works;
       set = omega (arith, behind.set, reading.journals, applying.journals);
       place = omega (arith, behind.place, reading.lengths (Journal c.in-Some.after.set), applying.lengths (Journal c.in-Some.after.set));
       room = ap (λ (h : Held). h.room) c.apply_body-again.ensures.body ∙ c.read_again.ensures.room ∙ inv.room;

@@ -1,10 +1,12 @@
 use Rattle.std.proofs.Common.{◌≡◌, ◌∙◌, ℕ, List, [], refl, arith}
 use Rattle.crash_plant.specs.declared.device.Device.TheVariants.{Volume}
+use Rattle.crash_plant.specs.Moments.{on}
 use Rattle.site_means.specs.Sight.{walked}
 use Rattle.xrecover.specs.Works.{OnVolume}
 use Rattle.xrecover.specs.Redone.{Redoes}
 use Rattle.xrecover.proofs.Relations.{one_then, redoes_more, redoes_then}
 use Rattle.xrecover.proofs.Contents.{draws_behind}
+use Rattle.xrecover.proofs.Labels.{label_kept, last_behind}
 use Rattle.xrecover.proofs.Works.{works_trans}
 use Rattle.xrecover.proofs.redoing.redo_pair.Goals as goal
 
@@ -36,3 +38,10 @@ returns-clause-redone g c = λ told good.
       label = c.finish_volume-failed.ensures.label told good;
       durable = c.finish_volume-failed.ensures.durable told good;
     }
+
+pub returns-clause-lasts : goal.returns-clause-lasts
+returns-clause-lasts g c = λ told.
+    let d = Volume c.args.row.now.device in
+    let mid = c.redo_items.ensures in
+    let fin = c.finish_volume-failed.ensures in
+    last_behind (on (g.P.Plant.state c.args.plant.now) d) (on (g.P.Plant.state c.redo_items.new.plant) d) (on (g.P.Plant.state c.finish_volume-failed.new.plant) d) ((mid.works.elapses told).kept d).later (mid.label told) ((fin.works.elapses told).kept d) (fin.lasts told)

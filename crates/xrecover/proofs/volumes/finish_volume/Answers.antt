@@ -1,10 +1,11 @@
-use Rattle.std.proofs.Common.{List, ℕ, [], subst, sym, ◌∙◌}
+use Rattle.std.proofs.Common.{List, ℕ, [], subst, sym, ◌∙◌, rules}
 use Rattle.crash_plant.specs.declared.device.Device.TheVariants.{Volume}
-use Rattle.crash_plant.specs.Moments.{Same}
+use Rattle.crash_plant.specs.Moments.{on, Same}
 use Rattle.xrecover.specs.Works.{OnVolume}
 use Rattle.xrecover.specs.Redone.{Redoes}
 use Rattle.xrecover.proofs.Relations.{label_redoes, one_then, redoes_same, redoes_then}
 use Rattle.xrecover.proofs.Works.{works_one, works_trans}
+use Rattle.xrecover.proofs.Labels.{label_kept, label_last, label_same}
 use Rattle.xrecover.proofs.volumes.finish_volume.Goals as goal
 
 pub returns-in-Err-clause-works : goal.returns-in-Err-clause-works
@@ -28,3 +29,17 @@ returns-in-Err-clause-counts g c = λ v differ. c.sync.ensures.only.others_fault
 
 pub returns-in-Ok-clause-counts : goal.returns-in-Ok-clause-counts
 returns-in-Ok-clause-counts g c = λ v differ. c.write_label.ensures.only.others_faults (Volume v) (λ is. differ cc) ∙ c.sync.ensures.only.others_faults (Volume v) (λ is. differ cc)
+
+pub returns-in-Err-clause-lasts : goal.returns-in-Err-clause-lasts
+returns-in-Err-clause-lasts g c = λ told.
+    let d = Volume c.args.row.now.device in
+    let old = on (g.P.Plant.state c.args.plant.now) d in
+    let new = on (g.P.Plant.state c.sync.new.self) d in
+    label_kept old new (label_same old new (c.sync.ensures.moments told))
+
+-- The slots are durable when the label is written.
+pub returns-in-Ok-clause-lasts : goal.returns-in-Ok-clause-lasts
+returns-in-Ok-clause-lasts g c = λ told.
+    let d = Volume c.args.row.now.device in
+    label_last (on (g.P.Plant.state c.args.plant.now) d) (on (g.P.Plant.state c.sync.new.self) d) (on (g.P.Plant.state c.write_label.new.plant) d) ((c.sync.ensures.only.elapses told).kept d).later (c.sync.ensures.moments told)
+    (search rules) ((c.write_label.ensures.only.elapses told).kept d) (c.write_label.ensures.moments told) (c.write_label.ensures.torn told)
