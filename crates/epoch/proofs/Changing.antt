@@ -1,12 +1,11 @@
 -- What the entries of writes to one volume make of its pair's tracks.
-use Rattle.std.proofs.Common.{◌≡◌, ℕ, ◌<◌, ◌≤◌, ◌*◌, Bool, true, false, cond, ◌&&◌, List, [], ◌∷◌, ◌++◌, Option, Some, None, map, inl, inr, refl, sym, ap, subst, ◌∙◌, arith}
-use Rattle.std.specs.Prelude.{All, filter, find, nat_eq, nat_le, nat_lt, not}
-use Rattle.std.specs.List.{AllZip, list_all}
+use Rattle.std.proofs.Common.{◌≡◌, ℕ, ◌<◌, ◌≤◌, ◌*◌, Bool, true, false, cond, List, [], ◌∷◌, Some, None, inl, inr, refl, sym, ap, arith}
+use Rattle.std.specs.Prelude.{All, filter, nat_eq, nat_le, nat_lt, not}
+use Rattle.std.specs.List.{list_all}
 use Rattle.std.proofs.lemmas.Bool.{cases_Bool, and_from, and_parts, eq-eqb, le-leb, leb-true, le-ltb}
 use Rattle.std.proofs.lemmas.List.Elements.{All-head, All-tail, All-cons, All-nil}
 use Rattle.tod_stamp.specs.declared.stamp.Stamp.{Stamp}
-use Rattle.xrc_edge.specs.Order.{in_order, is_in_order}
-use Rattle.xrc_edge.proofs.OrderLaws.{order_stays}
+use Rattle.xrc_edge.specs.Order.{is_in_order}
 use Rattle.ckd_track.specs.declared.rec.Rec.{Rec}
 use Rattle.ckd_track.specs.declared.write.Kind.{Kind}
 use Rattle.ckd_track.specs.declared.write.Write.{Write}
@@ -14,12 +13,10 @@ use Rattle.ckd_track.specs.Effects.{apply}
 use Rattle.pair_table.specs.declared.row.PairRow.{PairRow}
 use Rattle.pair_table.specs.Rows.{is_suspended}
 use Rattle.pending_queue.specs.Entries.{WaitingEntry, due, entries_of, entry_of, head_of, is_due, never_fall, stamp_of, stands_before}
-use Rattle.pending_queue.proofs.EntryLaws.{none_before}
-use Rattle.pending_queue.specs.Laws.{stands_at}
 use Rattle.primary_ctl.specs.States.{after_writes, is_on}
-use Rattle.image_former.specs.Changes.{AreSpelled, changed_through, changed_where}
-use Rattle.image_former.specs.Entries.{entry_device, entry_row, is_entry_on, is_row_of}
-use Rattle.site_store.specs.Groups.{IsOfLiveRow, IsOfRow}
+use Rattle.image_former.specs.Changes.{AreSpelled, changed_through}
+use Rattle.image_former.specs.Entries.{entry_row, is_entry_on, is_row_of}
+use Rattle.site_store.specs.Groups.{IsOfLiveRow}
 use Rattle.epoch.specs.Lanes.{IsOn, tracks_of}
 
 -- ---- which entries are on a track

@@ -1,5 +1,5 @@
 -- The entries that are read of a front of the bytes are a front of those that are read of all.
-use Rattle.std.proofs.Common.{◌≡◌, ℕ, zero, suc, ◌+◌, ◌-◌, ◌≤◌, Bool, true, false, cond, nat_le, List, [], ◌∷◌, ◌++◌, length, replicate, take, Option, Some, None, Result, Ok, Err, refl, sym, ap, subst, ◌∙◌, arith, append_assoc, length-append}
+use Rattle.std.proofs.Common.{◌≡◌, ℕ, zero, suc, ◌+◌, ◌-◌, ◌≤◌, Bool, true, false, cond, nat_le, List, [], ◌∷◌, ◌++◌, length, replicate, Option, Some, None, Result, Ok, Err, refl, sym, ap, subst, ◌∙◌, arith, append_assoc, length-append}
 use Rattle.std.proofs.lemmas.Bool.{le-leb, leb-true}
 use Rattle.std.proofs.lemmas.List.{length-replicate, take_all}
 use Rattle.tod_stamp.specs.Fields.{Left, Bad}
@@ -12,13 +12,13 @@ use Rattle.trace_grammar.specs.Good.{bad_end, entries_from, last_stamp, most_byt
 use Rattle.write_trace.specs.declared.next.Stopped.{Stopped}
 use Rattle.write_trace.specs.Answers.{ReaderState}
 use Rattle.write_trace.specs.Unread.{seen}
-use Rattle.sidefile.specs.Ahead.{IsFault, ahead, entries_of, read_of, waiting_first}
+use Rattle.sidefile.specs.Ahead.{IsFault, ahead, entries_of, read_of}
 use Rattle.sidefile.proofs.Local.{at}
 use Rattle.sidefile.proofs.LocalEntries.{local_entry}
 use Rattle.sidefile.proofs.Steps.{seen_behind}
 use Rattle.sidefile.proofs.Turns.{no_turn, turn_err, turn_ok}
 use Rattle.epoch.proofs.Both.{and_true, both_true}
-use Rattle.epoch.proofs.RisingEntries.{entry_is_late, entry_rises}
+use Rattle.epoch.proofs.RisingEntries.{entry_is_late}
 use Rattle.epoch.specs.Taken.{do_rise}
 
 -- ---- a front

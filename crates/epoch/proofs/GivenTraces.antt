@@ -1,6 +1,6 @@
 -- The trace of the bytes that a source gave before it failed: up to its break time the primary's tracks are those of the trace of
 -- all bytes.
-use Rattle.std.proofs.Common.{◌≡◌, ◌⊎◌, inl, inr, ℕ, zero, suc, ◌+◌, ◌-◌, ◌<◌, ◌≤◌, Bool, true, false, cond, nat_le, nat_lt, List, [], ◌∷◌, ◌++◌, Option, Some, None, refl, sym, ap, subst, ◌∙◌, arith, append_assoc, append-nil}
+use Rattle.std.proofs.Common.{◌≡◌, ◌⊎◌, inl, inr, ℕ, ◌+◌, ◌-◌, ◌<◌, ◌≤◌, Bool, true, false, cond, nat_le, List, [], ◌∷◌, ◌++◌, Option, Some, None, refl, sym, ap, subst, ◌∙◌, arith, append_assoc, append-nil}
 use Rattle.std.specs.Prelude.{filter, option_map}
 use Rattle.std.specs.List.{flat_map}
 use Rattle.std.proofs.lemmas.Bool.{le-ltb, leb-true}
@@ -17,9 +17,9 @@ use Rattle.trace_grammar.specs.Writes.{writes_of}
 use Rattle.primary_ctl.specs.Primaries.{after_batches, never_fall, primary}
 use Rattle.primary_ctl.specs.States.{base_in}
 use Rattle.primary_ctl.proofs.Batches.{batches_make}
-use Rattle.sidefile.specs.Ahead.{IsFault, ahead}
+use Rattle.sidefile.specs.Ahead.{ahead}
 use Rattle.sidefile.specs.Breaks.{Break, break_after, break_in, break_time, crowd, has_broken, is_below}
-use Rattle.sidefile.specs.Exact.{Front, runs_ahead}
+use Rattle.sidefile.specs.Exact.{Front}
 use Rattle.sidefile.specs.Runs.{is_crowded, run_stamp, runs}
 use Rattle.sidefile.proofs.RunLaws.{runs_are_all}
 use Rattle.epoch.specs.Taken.{FailsBelow, do_rise}

@@ -23,7 +23,7 @@ use Rattle.site_store.proofs.MarkJobs.{true_false}
 use Rattle.site_store.proofs.MarkedSites.{in_list}
 use Rattle.site_store.proofs.NoneFailed.{none_failed}
 use Rattle.site_store.proofs.ReadsFirst.{items_mid, stands_mid}
-use Rattle.epoch.specs.Ends.{IsFullAt, IsSpent}
+use Rattle.epoch.specs.Ends.{IsFullOf, IsSpent}
 use Rattle.epoch.specs.Works.{WorksSilently}
 use Rattle.epoch.proofs.CopySights.{rose_later}
 
@@ -147,7 +147,7 @@ items_told tells told group rows plant items are = record { images = are.images;
 
 -- The record of a group doesn't fit the rest of its data set.
 pub full_logged : (tells : Type 0) (told : tells) (a b : PlantState) (site : SiteState) (group : FormedGroup) → WorksSilently tells a b → OnlyReads tells a b → Stands site.table.rows site a → All (IsOfLiveRow site.table.rows) group.entries
-    → EndsBefore tells group site a → IsFullAt site.time group b
+    → EndsBefore tells group site a → IsFullOf site group b
 full_logged tells told a b site group works reads stands live ends =
     let rows = site.table.rows in
     record {
@@ -165,4 +165,6 @@ full_logged tells told a b site group works reads stands live ends =
         };
       };
       time_is = refl;
+      rows_are = refl;
+      at_is = refl;
     }

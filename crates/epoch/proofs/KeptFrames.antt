@@ -1,10 +1,9 @@
 -- What a group leaves of all but its journal and its pair's tracks.
-use Rattle.std.proofs.Common.{◌≡◌, ◌≢◌, ◌⊎◌, inl, inr, ℕ, ◌<◌, ◌≤◌, ◌-◌, ◌*◌, ◌==◌, ◌&&◌, Bool, true, false, List, [], ◌∷◌, ◌++◌, cond, length, drop, Option, Some, None, refl, sym, ap, subst, ◌∙◌, arith, eqb-true}
-use Rattle.std.specs.Prelude.{All, IsSomeAnd, Result, OnOk, Ok, Err}
+use Rattle.std.proofs.Common.{◌≡◌, ◌≢◌, inl, inr, ℕ, ◌<◌, ◌-◌, ◌==◌, ◌&&◌, Bool, true, false, List, [], ◌∷◌, ◌++◌, cond, length, drop, Option, Some, None, refl, sym, subst, ◌∙◌, arith, eqb-true}
+use Rattle.std.specs.Prelude.{All, IsSomeAnd}
 use Rattle.std.proofs.lemmas.Bool.{and_parts}
 use Rattle.std.proofs.lemmas.List.{take_all}
-use Rattle.crash_plant.specs.declared.device.Device.{Device}
-use Rattle.crash_plant.specs.declared.device.Device.TheVariants.{Control, Journal, Volume}
+use Rattle.crash_plant.specs.declared.device.Device.TheVariants.{Journal, Volume}
 use Rattle.crash_plant.specs.Calls.{WorksOn}
 use Rattle.crash_plant.specs.Moments.{Follows, PlantState, Same, on}
 use Rattle.lending.specs.Back.{WorksOnLent}
@@ -22,7 +21,7 @@ use Rattle.site_store.specs.Marking.{IsTouched}
 use Rattle.site_store.specs.Sites.{SiteState}
 use Rattle.site_store.proofs.Forming.{found_any}
 use Rattle.site_store.proofs.RowItems.{AreRowItems, item_before}
-use Rattle.epoch.specs.Frames.{DiffersInTracks, HoldsAsBefore, IsApartFrom, KeepsOthers}
+use Rattle.epoch.specs.Frames.{DiffersInTracks, KeepsOthers}
 use Rattle.epoch.specs.Lanes.{tracks_of}
 use Rattle.epoch.specs.Works.{WorksSilently}
 use Rattle.epoch.proofs.Frames.{follows_more, holds_stays, keeps_same, keeps_then}

@@ -21,8 +21,9 @@ use Rattle.site_means.specs.declared.means.Means.{Means}
 use Rattle.site_means.specs.Images.{shape_of}
 use Rattle.site_store.specs.GroupRows.{rows_with_group}
 use Rattle.site_store.specs.Groups.{IsOfLiveRow}
+use Rattle.site_store.specs.Sites.{SiteState}
 use Rattle.epoch.specs.declared.lane.Lane.{Lane}
-use Rattle.epoch.specs.Ends.{IsFullAt, IsFullForWaiting}
+use Rattle.epoch.specs.Ends.{IsFullForWaiting, IsFullOf}
 use Rattle.epoch.specs.Following.{HoldsPrimary, IsFollowing, ShowsPrimary, at_time}
 use Rattle.epoch.specs.Lanes.{WaitsFrom, tracks_of}
 use Rattle.epoch.specs.Sights.{AllShow, EachIs, Makes, ShowsEither, behind}
@@ -41,13 +42,14 @@ none_left cut (w ∷ writes) early =
     rw not (none_left cut writes (All-tail (λ v. v.stamp.0 ≤ cut.0) w writes early))
 
 -- What waits in another lane's queue is the same.
-pub full_same : (lane next : Lane) (time : ℕ) (plant : PlantState) → next.queue ≡ lane.queue → next.primary ≡ lane.primary → IsFullForWaiting next time plant → IsFullForWaiting lane time plant
-full_same lane next time plant queue held f = record {
+pub full_same : (lane next : Lane) (time : ℕ) (rows : List PairRow) (plant : PlantState) → next.queue ≡ lane.queue → next.primary ≡ lane.primary → IsFullForWaiting next time rows plant → IsFullForWaiting lane time rows plant
+full_same lane next time rows plant queue held f = record {
   group = f.group;
   full = f.full;
   few = f.few;
   at = f.at ∙ ap (λ (p : PrimaryState). p.time) held;
   waits = f.waits ∙ ap (λ (q : QueueState). q.waiting) queue;
+  plain = f.plain;
 }
 
 -- ---- the group
@@ -83,13 +85,14 @@ module _ (base : ℕ → List Rec) (volume tracks : ℕ) (lane : Lane) (w : Wait
       omega (arith, count, few)
 
   -- Where its record doesn't fit, that of what waits doesn't.
-  pub waiting_full : (popped : FormedGroup) (time : ℕ) (plant : PlantState) → popped ≡ group_of cut (entries_of 0 w.writes) → length lane.queue.waiting ≤ 32 → IsFullAt time popped plant → IsFullForWaiting lane time plant
-  waiting_full popped time plant is few full = record {
+  pub waiting_full : (popped : FormedGroup) (site : SiteState) (plant : PlantState) → popped ≡ group_of cut (entries_of 0 w.writes) → length lane.queue.waiting ≤ 32 → IsFullOf site popped plant → IsFullForWaiting lane site.time site.table.rows plant
+  waiting_full popped site plant is few f = record {
     group = popped;
-    full = full;
+    full = record { full = f.full; time_is = f.time_is; rows_are = f.rows_are };
     few = waiting_few popped is few;
     at = ap (λ (f : FormedGroup). f.cut.0) is ∙ at;
     waits = ap (λ (f : FormedGroup). f.entries) is ∙ sym w.entries;
+    plain = record { unbroken = ap (λ (f : FormedGroup). f.breaks) is; undone = ap (λ (f : FormedGroup). f.done) is };
   }
 
 module _ (row : PairRow) (lane : Lane) (cut : Stamp) (at : cut.0 ≡ lane.primary.time) (rows : List PairRow) (popped : FormedGroup) (control : row.control ≡ 0) (duplex : row.state ≡ Duplex) (own : rows ≡ row ∷ []) where

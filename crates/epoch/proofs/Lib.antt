@@ -2,6 +2,7 @@ pub mod Both
 pub mod Changing
 pub mod Copies
 pub mod CopySights
+pub mod Counted
 pub mod Frames
 pub mod GivenEntries
 pub mod GivenTraces

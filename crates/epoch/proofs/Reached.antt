@@ -1,28 +1,22 @@
 -- What a primary holds at the time up to which its sidefile has reported.
-use Rattle.std.proofs.Common.{◌≡◌, ◌≤◌, ◌<◌, ◌+◌, ◌⊎◌, inl, inr, ℕ, Bool, true, nat_le, List, [], ◌∷◌, ◌++◌, Option, Some, None, refl, sym, ap, subst, ◌∙◌, arith, append-nil}
-use Rattle.std.specs.Prelude.{filter, All, option_map}
-use Rattle.std.proofs.lemmas.List.Elements.{filter-append}
-use Rattle.ckd_track.specs.declared.write.Write.{Write}
+use Rattle.std.proofs.Common.{◌≡◌, ◌≤◌, ◌<◌, inl, inr, ℕ, true, nat_le, List, [], ◌∷◌, Option, Some, None, refl, sym, ap, subst, ◌∙◌, arith, append-nil}
+use Rattle.std.specs.Prelude.{filter, option_map}
 use Rattle.trace_grammar.specs.declared.entry.Entry.{Entry}
 use Rattle.trace_grammar.specs.declared.trace.Trace.{Trace}
-use Rattle.trace_grammar.specs.declared.trace.TraceEnd.TheVariants as ends
-use Rattle.trace_grammar.specs.Entries.{stamp_of}
 use Rattle.trace_grammar.specs.Writes.{writes_of}
 use Rattle.write_trace.specs.declared.next.Stopped.{Stopped}
-use Rattle.write_trace.specs.declared.next.Stopped.TheVariants.{AtEnd}
 use Rattle.write_trace.specs.Answers.{ReaderState}
 use Rattle.primary_ctl.specs.States.{PrimaryState}
 use Rattle.primary_ctl.specs.Primaries.{never_fall}
 use Rattle.primary_ctl.proofs.Batches.{batches_make}
 use Rattle.sidefile.specs.declared.hand.Halt.{Halt}
-use Rattle.sidefile.specs.Ahead.{ahead, cause_ahead, cause_to_come, entries_of, waiting_first}
+use Rattle.sidefile.specs.Ahead.{ahead, cause_ahead, cause_to_come, entries_of}
 use Rattle.sidefile.specs.Breaks.{is_below}
-use Rattle.sidefile.specs.Runs.{run_stamp, runs}
+use Rattle.sidefile.specs.Runs.{runs}
 use Rattle.sidefile.specs.States.{IsSidefile, IsWaiting, SidefileState}
 use Rattle.sidefile.proofs.RunLaws.{begins}
 use Rattle.epoch.specs.Taken.{HasReached, HasTaken, do_rise}
 use Rattle.epoch.proofs.Both.{and_true}
-use Rattle.epoch.proofs.HandLaws.{IsAbove}
 use Rattle.epoch.proofs.RisingEntries.{rise_behind, writes_rise}
 use Rattle.epoch.proofs.TakenLaws.{IsLater, due_writes, later_none, later_some}
 

@@ -1,7 +1,6 @@
 -- The room that a run of writes needs.
-use Rattle.std.proofs.Common.{◌≡◌, ℕ, ◌≤◌, ◌*◌, Bool, true, List, [], ◌∷◌, length, refl, arith}
+use Rattle.std.proofs.Common.{◌≡◌, ◌≤◌, ◌*◌, Bool, true, List, [], ◌∷◌, length, refl, arith}
 use Rattle.std.specs.Prelude.{All, filter, nat_le, IsTrue}
-use Rattle.std.specs.List.{sum_by}
 use Rattle.std.proofs.lemmas.Bool.{and_from, le-leb}
 use Rattle.std.proofs.lemmas.List.Elements.{All-head, All-tail, All-cons, All-nil, All-filter}
 use Rattle.std.proofs.lemmas.List.Sums.{sum_by-le, length-filter, count_by-le-length}
@@ -9,7 +8,7 @@ use Rattle.ckd_track.specs.declared.write.Kind.{Kind}
 use Rattle.ckd_track.specs.declared.write.Kind.TheVariants.{Format, Update, Whole}
 use Rattle.ckd_track.specs.declared.write.Write.{Write}
 use Rattle.ckd_track.specs.Effects.{is_kind, keeps_rules}
-use Rattle.ckd_track.specs.Entries.{kind_spelling, queue_form}
+use Rattle.ckd_track.specs.Entries.{queue_form}
 use Rattle.ckd_track.proofs.KindLaws.{short_fields}
 use Rattle.pending_queue.specs.declared.room.Room.{Room}
 use Rattle.pending_queue.specs.Entries.{all_keep_rules}

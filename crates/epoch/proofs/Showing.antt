@@ -1,5 +1,5 @@
 -- What is seen at each moment of calls, call by call.
-use Rattle.std.proofs.Common.{◌≡◌, ◌⊎◌, inl, inr, ℕ, ◌<◌, ◌≤◌, List, Option, Some, None, refl, sym, ap, subst, ◌∙◌, arith, false}
+use Rattle.std.proofs.Common.{◌≡◌, inl, inr, ℕ, ◌<◌, ◌≤◌, List, Some, sym, ap, subst, ◌∙◌, arith, false}
 use Rattle.std.specs.Option.{option_map}
 use Rattle.std.proofs.lemmas.Bool.{cases_lt}
 use Rattle.ckd_track.specs.declared.rec.Rec.{Rec}
@@ -12,12 +12,12 @@ use Rattle.pair_table.specs.declared.row.PairRow.{PairRow}
 use Rattle.pending_queue.specs.Groups.{FormedGroup}
 use Rattle.site_means.specs.declared.means.Means.{Means}
 use Rattle.site_means.specs.Images.{Shape, shape_of}
-use Rattle.site_means.specs.Sight.{content_in, means_in}
+use Rattle.site_means.specs.Sight.{content_in}
 use Rattle.site_means.proofs.Goes.{shape_same}
 use Rattle.site_store.specs.GroupRows.{rows_with_group}
 use Rattle.site_store.specs.Groups.{SeesFormed}
-use Rattle.site_store.specs.Sees.{SeesMark, SeesSame, SeesSameOr, from_mark, with_time_and_rows}
-use Rattle.epoch.specs.Sights.{AllShow, EachIs, Makes, Shows, ShowsEither, behind, marked_at}
+use Rattle.site_store.specs.Sees.{SeesMark, SeesSame, from_mark, with_time_and_rows}
+use Rattle.epoch.specs.Sights.{AllShow, EachIs, Makes, Shows, behind, marked_at}
 use Rattle.epoch.specs.Works.{WorksSilently}
 
 -- ---- moments

@@ -1,5 +1,5 @@
 -- What is seen between the steps of following a primary.
-use Rattle.std.proofs.Common.{◌≡◌, ℕ, ◌<◌, ◌≤◌, List, [], ◌∷◌, Some, inl, inr, sym, ap, subst, ◌∙◌, arith, false}
+use Rattle.std.proofs.Common.{◌≡◌, ℕ, ◌≤◌, List, [], ◌∷◌, Some, inl, inr, sym, ap, subst, ◌∙◌, arith, false}
 use Rattle.std.proofs.lemmas.List.Elements.{All-nil}
 use Rattle.ckd_track.specs.declared.rec.Rec.{Rec}
 use Rattle.ckd_track.specs.declared.write.Write.{Write}

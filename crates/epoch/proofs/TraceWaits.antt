@@ -1,7 +1,7 @@
 -- That what waits is all that a trace has for a volume between two times.
-use Rattle.std.proofs.Common.{◌≡◌, ℕ, ◌<◌, ◌≤◌, ◌&&◌, Bool, true, false, cond, nat_le, nat_lt, List, [], ◌∷◌, ◌++◌, Option, None, inl, inr, refl, sym, ap, subst, ◌∙◌, arith, append-nil}
+use Rattle.std.proofs.Common.{◌≡◌, ℕ, ◌<◌, ◌≤◌, ◌&&◌, Bool, false, cond, nat_le, nat_lt, List, [], ◌∷◌, ◌++◌, Option, None, inl, inr, refl, sym, ap, subst, ◌∙◌, arith, append-nil}
 use Rattle.std.specs.Prelude.{All, filter}
-use Rattle.std.proofs.lemmas.Bool.{cases_Bool, cases_lt, le-leb, le-ltb, leb-false, lt-leb, lt-ltb}
+use Rattle.std.proofs.lemmas.Bool.{cases_Bool, cases_lt, le-ltb, leb-false, lt-leb, lt-ltb}
 use Rattle.std.proofs.lemmas.List.{map-append}
 use Rattle.std.proofs.lemmas.List.Elements.{All-head, All-nil, All-tail, filter-append}
 use Rattle.ckd_track.specs.declared.write.Batch.{Batch}
@@ -159,8 +159,8 @@ traced_limit told now t lane next side limit volume since taken is due up queue 
     (omega (arith, time, even, up)) since le refl queue waits
 
 -- Where what waits doesn't fit, these writes of the trace don't.
-pub full_writes : (t : Trace) (row : PairRow) (lane : Lane) (from since to : ℕ) (plant : PlantState) → from ≤ since → since ≤ lane.primary.time → lane.primary.time ≤ to → WaitsOf t row.volume since lane → IsFullForWaiting lane since plant → IsFullForWrites t row from to plant
-full_writes t row lane from since to plant low le high waits f =
+pub full_writes : (t : Trace) (row : PairRow) (lane : Lane) (from since to : ℕ) (rows : List PairRow) (plant : PlantState) → rows ≡ row ∷ [] → from ≤ since → since ≤ lane.primary.time → lane.primary.time ≤ to → WaitsOf t row.volume since lane → IsFullForWaiting lane since rows plant → IsFullForWrites t row from to plant
+full_writes t row lane from since to rows plant own low le high waits f =
     let time = f.full.time_is in
     let cut = f.at in
     let here = sym time in
@@ -169,8 +169,10 @@ full_writes t row lane from since to plant low le high waits f =
       group = f.group;
       full = f.full.full;
       few = f.few;
+      rows = f.full.rows_are ∙ own;
       since = omega (arith, time, low);
       rises = omega (arith, time, cut, le);
       up_to = omega (arith, cut, high);
+      plain = f.plain;
       writes = f.waits ∙ waits ∙ (λ i. entries_of 0 (filter (λ w. is_between (here i) (there i) w && is_of row.volume w) (writes_of t.entries)));
     }

@@ -1,5 +1,5 @@
 -- The turns of following: how what was followed so far goes on.
-use Rattle.std.proofs.Common.{◌≡◌, ℕ, ◌<◌, ◌≤◌, List, [], ◌∷◌, None, Result, Ok, Err, sym, ap, subst, ◌∙◌, arith}
+use Rattle.std.proofs.Common.{◌≡◌, ℕ, ◌≤◌, List, [], ◌∷◌, Result, Ok, Err, sym, ap, subst, ◌∙◌, arith}
 use Rattle.std.specs.Prelude.{All, OnErr, OnOk}
 use Rattle.tod_stamp.specs.declared.stamp.Stamp.{Stamp}
 use Rattle.ckd_track.specs.declared.rec.Rec.{Rec}
@@ -21,7 +21,7 @@ use Rattle.site_means.specs.Images.{Shape, shape_of}
 use Rattle.site_means.proofs.Goes.{shape_same}
 use Rattle.epoch.specs.declared.lane.Lane.{Lane}
 use Rattle.epoch.specs.Following.{IsFollowing, ShowsPrimary}
-use Rattle.epoch.specs.Lanes.{IsFeed, IsLane, IsRowOf, Waits, WaitsFrom, tracks_of}
+use Rattle.epoch.specs.Lanes.{IsFeed, IsLane, Waits, WaitsFrom, tracks_of}
 use Rattle.epoch.specs.Sights.{EachIs}
 use Rattle.epoch.specs.Taken.{HasReached}
 use Rattle.epoch.specs.Works.{WorksSilently}

@@ -1,7 +1,7 @@
 -- What waits: the group that is formed of it, and a batch more.
-use Rattle.std.proofs.Common.{◌≡◌, ℕ, ◌<◌, ◌≤◌, ◌*◌, Bool, true, false, cond, ◌&&◌, List, [], ◌∷◌, ◌++◌, length, Option, Some, None, refl, sym, ap, subst, ◌∙◌, arith, append_assoc}
-use Rattle.std.specs.Prelude.{All, filter, nat_eq, nat_le, nat_lt, IsTrue, map}
-use Rattle.std.proofs.lemmas.Bool.{cases_Bool, and_from, and_parts, le-leb, leb-true, ltb-true, eqb-true}
+use Rattle.std.proofs.Common.{◌≡◌, ℕ, ◌<◌, ◌≤◌, ◌*◌, Bool, true, false, cond, ◌&&◌, List, [], ◌∷◌, ◌++◌, length, Some, refl, sym, ap, subst, ◌∙◌, arith}
+use Rattle.std.specs.Prelude.{All, filter, nat_eq, nat_le, nat_lt, IsTrue}
+use Rattle.std.proofs.lemmas.Bool.{and_from, and_parts, le-leb, ltb-true, eqb-true}
 use Rattle.std.proofs.lemmas.List.{map-append}
 use Rattle.std.proofs.lemmas.List.Elements.{All-append, All-cons, All-head, All-nil, All-tail, filter-append}
 use Rattle.tod_stamp.specs.declared.stamp.Stamp.{Stamp}
@@ -14,7 +14,7 @@ use Rattle.trace_grammar.specs.Writes.{IsWriteTo}
 use Rattle.pair_table.specs.declared.row.PairRow.{PairRow}
 use Rattle.pair_table.specs.declared.row.PairState.{PairState}
 use Rattle.pair_table.specs.declared.row.PairState.TheVariants.{Duplex}
-use Rattle.pending_queue.specs.Entries.{WaitingEntry, due, entries_of, entry_of, last_stamp, last_stamp_from, never_fall, stands_before, stamp_of, writes_never_fall}
+use Rattle.pending_queue.specs.Entries.{WaitingEntry, due, entries_of, entry_of, last_stamp_from, never_fall, stands_before, writes_never_fall}
 use Rattle.pending_queue.specs.Groups.{FormedGroup, empty_group, with_entries}
 use Rattle.pending_queue.proofs.EntryLaws.{pushed_never_fall}
 use Rattle.pending_queue.proofs.VolumeLaws.{carried_never_fall}
@@ -22,7 +22,7 @@ use Rattle.primary_ctl.specs.States.{after_writes, is_on, track_of}
 use Rattle.xrc_edge.specs.Order.{in_order}
 use Rattle.xrc_edge.proofs.OrderLaws.{order_stays}
 use Rattle.image_former.specs.Changes.{changed_through}
-use Rattle.site_store.specs.GroupRows.{row_in, rows_with_group, unbroken_state, is_done}
+use Rattle.site_store.specs.GroupRows.{row_in, rows_with_group, unbroken_state}
 use Rattle.epoch.specs.declared.lane.Lane.{Lane}
 use Rattle.epoch.specs.Lanes.{IsOn, IsRowOf, WaitsFrom, is_of, tracks_of}
 use Rattle.epoch.specs.Sights.{Makes}

@@ -1,5 +1,5 @@
 -- The copy of a pair's tracks, part by part, and what is seen meanwhile.
-use Rattle.std.specs.Prelude.{◌≡◌, ◌<◌, ◌≤◌, ◌⊎◌, ◌^◌, ℕ, zero, suc, ◌+◌, Bool, true, false, List, [], ◌∷◌, if◌then◌else◌}
+use Rattle.std.specs.Prelude.{◌≡◌, ◌<◌, ◌≤◌, ◌⊎◌, ◌^◌, ℕ, zero, suc, ◌+◌, ◌*◌, Bool, true, false, List, [], ◌∷◌, if◌then◌else◌}
 use Rattle.tod_stamp.specs.declared.stamp.Stamp.{Stamp}
 use Rattle.ckd_track.specs.declared.rec.Rec.{Rec}
 use Rattle.crash_plant.specs.Choices.{Choice}
@@ -33,10 +33,13 @@ pub record IsPart (tracks : ℕ) (part : Part) : Type 0 where
   pub within : part.first + part.count ≤ tracks
   pub short : part.first + part.count < 2 ^ 32
 
--- A part of the tracks of a pair's volume. With the last part all are copied.
+-- A part of the tracks of a pair's volume, which are copied 32 at a time from the first on. With the last part all are copied.
 pub record IsPartOf (row : PairRow) (part : Part) : Type 0 where
   pub fits : IsPart (tracks_of row) part
   pub whole : part.is_last ≡ true → part.first + part.count ≡ tracks_of row
+  pub parts : ℕ
+  pub from : part.first ≡ 32 * parts
+  pub goes_on : part.is_last ≡ false → (part.count ≡ 32) × (part.first + 32 < tracks_of row)
 
 -- the entries of so many copied tracks of a volume, from this one on
 abbrev pub copies_from : (volume : ℕ) → Stamp → (ℕ → List Rec) → (first count : ℕ) → List WaitingEntry

@@ -6,3 +6,4 @@ pub mod Lanes
 pub mod Sights
 pub mod Taken
 pub mod Works
+pub mod Counted

@@ -1,5 +1,5 @@
 -- What is seen of a crash's choice while a session with one pair is brought to a time.
-use Rattle.std.specs.Prelude.{◌≡◌, ◌⊎◌, ℕ, ◌<◌, ◌≤◌, List, Option, Some, OnOk, Result}
+use Rattle.std.specs.Prelude.{◌≡◌, ◌⊎◌, ℕ, ◌<◌, ◌≤◌, List, Option, Some}
 use Rattle.ckd_track.specs.declared.rec.Rec.{Rec}
 use Rattle.ckd_track.specs.declared.write.Kind.{Kind}
 use Rattle.crash_plant.specs.declared.spot.Spot.{Spot}

@@ -1,7 +1,7 @@
 -- What calls on a site's devices leave as it was.
-use Rattle.std.specs.Prelude.{◌≡◌, ℕ, ◌≤◌}
+use Rattle.std.specs.Prelude.{◌≡◌, ◌≤◌}
 use Rattle.crash_plant.specs.declared.device.Device.{Device}
-use Rattle.crash_plant.specs.Calls.{Elapses, NoneLent, SameSite, Silent}
+use Rattle.crash_plant.specs.Calls.{Elapses, SameSite, Silent}
 use Rattle.crash_plant.specs.Moments.{PlantState}
 
 -- Calls work on devices alone: nothing is heard or said, the past stays, and no count of faults falls.

@@ -19,6 +19,7 @@ ghost use Rattle.site_store.specs.Marking.{NoneFailed};
 ghost use Rattle.site_store.specs.Standing.{Fits, Stands};
 ghost use Rattle.trace_grammar.specs.Headers.{cylinders_of};
 ghost use Rattle.epoch.specs.Copying.{IsPart, IsPartOf, IsUncopiedIn, PartMoments, PartShows, ShowsCopying, copies_from, group_of, in_row, state_after};
+ghost use Rattle.epoch.specs.Counted.{IsCounted};
 ghost use Rattle.epoch.specs.Ends.{IsFullForCopy, IsSpent};
 ghost use Rattle.epoch.specs.Frames.{KeepsOthers};
 ghost use Rattle.epoch.specs.Lanes.{IsFeed, IsRowOf, tracks_of};
@@ -176,6 +177,8 @@ impl Lane {
         ensures fault { (d : DeviceValue) → IsErrOf result (Fault d) → Rose ((P.state plant.old).faults d) ((P.state plant.new).faults d) }
         ensures volume { NoneFailed site.old → (v : ℕ) → IsErrOf result (VolumeError v) → Rose ((P.state plant.old).faults (VolumeDevice v)) ((P.state plant.new).faults (VolumeDevice v)) }
         ensures spent { P.tells → IsErrOf result Spent → IsSpent (P.state plant.new) }
+        ensures unspent { IsCounted site.old (P.state plant.old) → ¬ IsErrOf result Spent }
+        ensures counted { IsCounted site.old (P.state plant.old) → OnOk result (IsCounted site.new (P.state plant.new)) }
         ensures journal_end { P.tells → IsErrOf result JournalEnd → IsFullForCopy row.now (track_of self.old.primary row.now.volume) self.old.primary.time (P.state plant.new) }
         ensures good { OnOk result (NoneFailed site.new) }
     {
@@ -227,6 +230,8 @@ impl Lane {
         ensures fault { (d : DeviceValue) → IsErrOf result (Fault d) → Rose ((P.state plant.old).faults d) ((P.state plant.new).faults d) }
         ensures volume { NoneFailed site.old → (v : ℕ) → IsErrOf result (VolumeError v) → Rose ((P.state plant.old).faults (VolumeDevice v)) ((P.state plant.new).faults (VolumeDevice v)) }
         ensures spent { P.tells → IsErrOf result Spent → IsSpent (P.state plant.new) }
+        ensures unspent { IsCounted site.old (P.state plant.old) → ¬ IsErrOf result Spent }
+        ensures counted { IsCounted site.old (P.state plant.old) → OnOk result (IsCounted site.new (P.state plant.new)) }
         ensures journal_end { P.tells → IsErrOf result JournalEnd → IsFullForCopy row.now (track_of self.old.primary row.now.volume) self.old.primary.time (P.state plant.new) }
         ensures good { OnOk result (NoneFailed site.new) }
     {

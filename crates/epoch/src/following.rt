@@ -20,6 +20,7 @@ ghost use Rattle.site_store.specs.declared.store_error.StoreError.TheVariants.{F
 ghost use Rattle.site_store.specs.Marking.{NoneFailed};
 ghost use Rattle.site_store.specs.Standing.{Fits, Stands};
 ghost use Rattle.epoch.specs.declared.epoch_error.EpochError.TheVariants.{Broken, Store};
+ghost use Rattle.epoch.specs.Counted.{IsCounted};
 ghost use Rattle.epoch.specs.Ends.{IsFullForWaiting, IsFullForWrites, IsSpent};
 ghost use Rattle.epoch.specs.Following.{HoldsPrimary, IsFollowing, PutsRun, ShowsPrimary};
 ghost use Rattle.epoch.specs.Frames.{KeepsOthers};
@@ -121,7 +122,9 @@ impl Lane {
         ensures fault { (d : DeviceValue) → IsErrOf result (Fault d) → Rose ((P.state plant.old).faults d) ((P.state plant.new).faults d) }
         ensures volume { NoneFailed site.old → (v : ℕ) → IsErrOf result (VolumeError v) → Rose ((P.state plant.old).faults (VolumeDevice v)) ((P.state plant.new).faults (VolumeDevice v)) }
         ensures spent { P.tells → IsErrOf result Spent → IsSpent (P.state plant.new) }
-        ensures journal_end { P.tells → IsErrOf result JournalEnd → IsFullForWaiting self.old site.old.time (P.state plant.new) }
+        ensures unspent { IsCounted site.old (P.state plant.old) → ¬ IsErrOf result Spent }
+        ensures counted { IsCounted site.old (P.state plant.old) → OnOk result (IsCounted site.new (P.state plant.new)) }
+        ensures journal_end { P.tells → IsErrOf result JournalEnd → IsFullForWaiting self.old site.old.time site.old.table.rows (P.state plant.new) }
         ensures good { NoneFailed site.old → OnOk result (NoneFailed site.new) }
     {
         are_of_kind(batch.writes.as_slice());
@@ -178,7 +181,9 @@ impl Lane {
         ensures fault { (d : DeviceValue) → IsErrOf result (Fault d) → Rose ((P.state plant.old).faults d) ((P.state plant.new).faults d) }
         ensures volume { NoneFailed site.old → (v : ℕ) → IsErrOf result (VolumeError v) → Rose ((P.state plant.old).faults (VolumeDevice v)) ((P.state plant.new).faults (VolumeDevice v)) }
         ensures spent { P.tells → IsErrOf result Spent → IsSpent (P.state plant.new) }
-        ensures journal_end { P.tells → IsErrOf result JournalEnd → IsFullForWaiting self.old site.old.time (P.state plant.new) }
+        ensures unspent { IsCounted site.old (P.state plant.old) → ¬ IsErrOf result Spent }
+        ensures counted { IsCounted site.old (P.state plant.old) → OnOk result (IsCounted site.new (P.state plant.new)) }
+        ensures journal_end { P.tells → IsErrOf result JournalEnd → IsFullForWaiting self.old site.old.time site.old.table.rows (P.state plant.new) }
         ensures good { NoneFailed site.old → OnOk result (NoneFailed site.new) }
     {
         self.put_run(rt, alloc, plant, site, row, batch)?;
@@ -240,6 +245,8 @@ impl Lane {
         ensures fault { (d : DeviceValue) → IsErrOf result (Store (Fault d)) → Rose ((P.state plant.old).faults d) ((P.state plant.new).faults d) }
         ensures volume { NoneFailed site.old → (v : ℕ) → IsErrOf result (Store (VolumeError v)) → Rose ((P.state plant.old).faults (VolumeDevice v)) ((P.state plant.new).faults (VolumeDevice v)) }
         ensures spent { P.tells → IsErrOf result (Store Spent) → IsSpent (P.state plant.new) }
+        ensures unspent { IsCounted site.old (P.state plant.old) → ¬ IsErrOf result (Store Spent) }
+        ensures counted { IsCounted site.old (P.state plant.old) → OnOk result (IsCounted site.new (P.state plant.new)) }
         ensures journal_end { P.tells → IsErrOf result (Store JournalEnd) → (t : TraceValue) → HasTaken (S.left source.old) t self.old.side self.old.primary → IsFullForWrites t row.now site.old.time limit.0 (P.state plant.new) }
         ensures good { NoneFailed site.old → OnOk result (NoneFailed site.new) }
     {

@@ -1,6 +1,6 @@
 //! A group, logged, applied and marked.
 
-ghost use Rattle.std.specs.Prelude.{◌≡◌, ◌≤◌, ◌<◌, ℕ, [], ◌∷◌, List, false, OnOk, IsErrOf};
+ghost use Rattle.std.specs.Prelude.{◌≡◌, ◌≤◌, ◌<◌, ℕ, [], ◌∷◌, List, length, false, OnOk, IsErrOf};
 ghost use Rattle.std.specs.List.{All};
 ghost use Rattle.xrc_edge.specs.Causes.{Rose};
 ghost use Rattle.ckd_track.specs.declared.rec.Rec.{Rec as RecValue};
@@ -9,14 +9,17 @@ ghost use Rattle.crash_plant.specs.declared.device.Device.TheVariants.{Volume as
 ghost use Rattle.crash_plant.specs.Calls.{NoneLent, SameSite, Elapses, Silent};
 ghost use Rattle.pair_table.specs.declared.row.PairRow.{PairRow as PairRowValue};
 ghost use Rattle.pair_table.specs.Tables.{with_rows};
+ghost use Rattle.xrc_journal.specs.Items.{Item, body_spelling};
+ghost use Rattle.xrc_journal.specs.Records.{spot_after};
 ghost use Rattle.site_means.specs.declared.means.Means.{Means as MeansValue};
 ghost use Rattle.site_means.specs.Images.{shape_of};
 ghost use Rattle.site_store.specs.declared.store_error.StoreError.TheVariants.{Fault, JournalEnd, Spent, Volume as VolumeError};
 ghost use Rattle.site_store.specs.GroupRows.{rows_with_group};
-ghost use Rattle.site_store.specs.Groups.{IsOfLiveRow};
+ghost use Rattle.site_store.specs.Groups.{AreItemsOf, EndsBefore, IsOfLiveRow};
 ghost use Rattle.site_store.specs.Marking.{NoneFailed};
 ghost use Rattle.site_store.specs.Standing.{Fits, Stands};
-ghost use Rattle.epoch.specs.Ends.{IsFullAt, IsFullFor, IsSpent};
+ghost use Rattle.epoch.specs.Counted.{IsCounted};
+ghost use Rattle.epoch.specs.Ends.{IsFullFor, IsFullOf, IsSpent};
 ghost use Rattle.epoch.specs.Frames.{KeepsOthers};
 ghost use Rattle.epoch.specs.Lanes.{tracks_of};
 ghost use Rattle.epoch.specs.Sights.{AllShow, EachIs, Makes, ShowsEither, behind};
@@ -49,7 +52,8 @@ pub fn keep_group<R: Threads + Sync, P: Plant>(
     ensures idle { OnOk result (site.new.waiting ≡ []) }
     // The journal is the same one.
     ensures set { OnOk result (site.new.at.set ≡ site.old.at.set) }
-    // The mark is where the next record comes.
+    // The next record comes behind this one's, and the mark is there.
+    ensures at { OnOk result ((items : List Item) × AreItemsOf P.tells formed.now site.old.table.rows (P.state plant.old) items × (site.new.at ≡ spot_after site.old.at (length (body_spelling items)))) }
     ensures marked { OnOk result (site.new.mark.at ≡ site.new.at) }
     ensures goes_on { OnOk result (site.new.mark.ended ≡ false) }
     ensures fits { OnOk result (Fits site.new (P.state plant.new)) }
@@ -66,8 +70,11 @@ pub fn keep_group<R: Threads + Sync, P: Plant>(
     ensures fault { (d : DeviceValue) → IsErrOf result (Fault d) → Rose ((P.state plant.old).faults d) ((P.state plant.new).faults d) }
     ensures volume { NoneFailed site.old → (v : ℕ) → IsErrOf result (VolumeError v) → Rose ((P.state plant.old).faults (VolumeDevice v)) ((P.state plant.new).faults (VolumeDevice v)) }
     ensures spent { P.tells → IsErrOf result Spent → IsSpent (P.state plant.new) }
+    ensures unspent { IsCounted site.old (P.state plant.old) → ¬ IsErrOf result Spent }
+    ensures counted { IsCounted site.old (P.state plant.old) → OnOk result (IsCounted site.new (P.state plant.new)) }
     ensures journal_end { P.tells → IsErrOf result JournalEnd → IsFullFor formed.now (P.state plant.new) }
-    ensures full_at { P.tells → IsErrOf result JournalEnd → IsFullAt site.old.time formed.now (P.state plant.new) }
+    ensures full_of { P.tells → IsErrOf result JournalEnd → IsFullOf site.old formed.now (P.state plant.new) }
+    ensures ends { IsErrOf result JournalEnd → EndsBefore P.tells formed.now site.old (P.state plant.old) }
     ensures good { OnOk result (NoneFailed site.new) }
 {
     site.log(alloc, plant, formed)?;

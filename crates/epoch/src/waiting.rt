@@ -1,18 +1,20 @@
 //! What waits, kept as a group.
 
-ghost use Rattle.std.specs.Prelude.{◌≡◌, ◌≤◌, ◌⊎◌, ℕ, [], ◌∷◌, List, false, OnOk, IsErrOf};
+ghost use Rattle.std.specs.Prelude.{◌≡◌, ◌≤◌, ◌+◌, ◌⊎◌, ℕ, [], ◌∷◌, List, false, OnOk, IsErrOf};
 ghost use Rattle.xrc_edge.specs.Causes.{Rose};
 ghost use Rattle.ckd_track.specs.declared.rec.Rec.{Rec as RecValue};
 ghost use Rattle.crash_plant.specs.declared.device.Device.{Device as DeviceValue};
-ghost use Rattle.crash_plant.specs.declared.device.Device.TheVariants.{Volume as VolumeDevice};
+ghost use Rattle.crash_plant.specs.declared.device.Device.TheVariants.{Journal as JournalDevice, Volume as VolumeDevice};
 ghost use Rattle.crash_plant.specs.Calls.{NoneLent};
 ghost use Rattle.pair_table.specs.declared.row.PairState.TheVariants.{Duplex};
 ghost use Rattle.trace_grammar.specs.declared.trace.Trace.{Trace as TraceValue};
+ghost use Rattle.xrc_journal.specs.Records.{spot_after};
 ghost use Rattle.site_means.specs.declared.means.Means.{Means as MeansValue};
 ghost use Rattle.site_means.specs.Images.{shape_of};
 ghost use Rattle.site_store.specs.declared.store_error.StoreError.TheVariants.{Fault, JournalEnd, Spent, Volume as VolumeError};
 ghost use Rattle.site_store.specs.Marking.{NoneFailed};
 ghost use Rattle.site_store.specs.Standing.{Fits, Stands};
+ghost use Rattle.epoch.specs.Counted.{IsCounted};
 ghost use Rattle.epoch.specs.Ends.{IsFullForTime, IsFullForWaiting, IsSpent};
 ghost use Rattle.epoch.specs.Following.{IsFollowing, ShowsPrimary, at_time};
 ghost use Rattle.epoch.specs.Frames.{KeepsOthers};
@@ -72,7 +74,9 @@ impl Lane {
         ensures fault { (d : DeviceValue) → IsErrOf result (Fault d) → Rose ((P.state plant.old).faults d) ((P.state plant.new).faults d) }
         ensures volume { NoneFailed site.old → (v : ℕ) → IsErrOf result (VolumeError v) → Rose ((P.state plant.old).faults (VolumeDevice v)) ((P.state plant.new).faults (VolumeDevice v)) }
         ensures spent { P.tells → IsErrOf result Spent → IsSpent (P.state plant.new) }
-        ensures journal_end { P.tells → IsErrOf result JournalEnd → IsFullForWaiting self.old site.old.time (P.state plant.new) }
+        ensures unspent { IsCounted site.old (P.state plant.old) → ¬ IsErrOf result Spent }
+        ensures counted { IsCounted site.old (P.state plant.old) → OnOk result (IsCounted site.new (P.state plant.new)) }
+        ensures journal_end { P.tells → IsErrOf result JournalEnd → IsFullForWaiting self.old site.old.time site.old.table.rows (P.state plant.new) }
         ensures good { OnOk result (NoneFailed site.new) }
     {
         // A queue has few entries by its type.
@@ -107,6 +111,7 @@ impl Lane {
         ensures level { OnOk result (site.new.level ≡ site.old.level) }
         ensures idle { OnOk result (site.new.waiting ≡ []) }
         ensures set { OnOk result (site.new.at.set ≡ site.old.at.set) }
+        ensures at { OnOk result (site.new.at ≡ spot_after site.old.at 0) }
         ensures marked { OnOk result (site.new.mark.at ≡ site.new.at) }
         ensures goes_on { OnOk result (site.new.mark.ended ≡ false) }
         ensures fits { OnOk result (Fits site.new (P.state plant.new)) }
@@ -122,7 +127,10 @@ impl Lane {
         ensures fault { (d : DeviceValue) → IsErrOf result (Fault d) → Rose ((P.state plant.old).faults d) ((P.state plant.new).faults d) }
         ensures volume { NoneFailed site.old → (v : ℕ) → IsErrOf result (VolumeError v) → Rose ((P.state plant.old).faults (VolumeDevice v)) ((P.state plant.new).faults (VolumeDevice v)) }
         ensures spent { P.tells → IsErrOf result Spent → IsSpent (P.state plant.new) }
+        ensures unspent { IsCounted site.old (P.state plant.old) → ¬ IsErrOf result Spent }
+        ensures counted { IsCounted site.old (P.state plant.old) → OnOk result (IsCounted site.new (P.state plant.new)) }
         ensures journal_end { P.tells → IsErrOf result JournalEnd → IsFullForTime self.old.primary.time (P.state plant.new) }
+        ensures has_room { site.old.at.place + 46 ≤ (P.state plant.old).lengths (JournalDevice site.old.at.set) → ¬ IsErrOf result JournalEnd }
         ensures good { OnOk result (NoneFailed site.new) }
     {
         self.formed.begin(self.time);

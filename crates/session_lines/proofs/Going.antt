@@ -38,6 +38,7 @@ beginnings first old new run t heard goes work = works_on run t [] heard first o
 pub waits : (first old new : PlantState) → WaitsGoOn first old new
 waits first old new run t s heard has work means = record {
   goes_on = works_on run t (started_lines run s) heard first old new has.goes_on work (λ started u since to c is. none_bears run t s heard first old has new c (means u since to c is));
+  is = has.is;
   short = has.short;
 }
 
@@ -47,15 +48,16 @@ adds first old new run t s row time heard has work is added whole means = record
     | inl none ↦ none_bears run t s heard first old has new c none
     | inr one ↦ added_time run t s heard first old has row time is new c added whole one
   ]);
+  is = has.is;
   short = has.short;
 }
 
 pub pairs : (first old new : PlantState) → PairsGoOn first old new
 pairs first old new run t p heard has work means = record {
   goes_on = works_on run t (paired_lines run p) heard first old new has.goes_on work (λ started u since to c is. live_bears run t p heard first old has new c (means u since to c is));
+  is = has.is;
   short_start = has.short_start;
   short = has.short;
-  added = has.added;
 }
 
 pub ends : (first old new : PlantState) → EndsGoOn first old new
@@ -64,7 +66,7 @@ ends first old new run t p time heard has work is means = record {
     | inl live ↦ live_bears run t p heard first old has new c live
     | inr ended ↦ ended_bears run t p heard first old has time is new c ended
   ]);
+  is = has.is;
   short_start = has.short_start;
   short = has.short;
-  added = has.added;
 }

@@ -99,7 +99,7 @@ module _ (run : Run) (t : Trace) (p : Paired) (heard : List ℕ) (first now : Pl
       → BearsTime run (stage_now run line_grammar first.script (paired_lines run p) heard) (replies_of (paired_lines run p)) plant c
   pair_time is_ended plant c m meant = record {
     time = m.time;
-    bears = pair_bears run t p.row m.state next p.time m.time (shape_of plant) c has.goes_on.pair_run (added_pending run p.row has.added) (added_control run p.row has.added) m.live m.lies m.whole m.holds meant;
+    bears = pair_bears run t p.row m.state next p.time m.time (shape_of plant) c has.goes_on.pair_run (added_pending run p.row has.is.added) (added_control run p.row has.is.added) m.live m.lies m.whole m.holds meant;
     not_earlier = paired_up_to m.time (not_before next p.time m.time m.lies);
   }
 

@@ -27,7 +27,7 @@ use Rattle.pair_course.proofs.Saying.{end_is_reply, ended_says, pair_is_reply, p
 use Rattle.pair_course.proofs.Waiting.{ended_bears, pair_bears, wait_bears}
 use Rattle.script_lines.specs.Grammars.{line_grammar}
 use Rattle.session_lines.specs.Answering.{MayEnd, MayPair, MayStart}
-use Rattle.session_lines.specs.Runs.{Ended, GoesOn, HasPaired, HasStarted, Paired, Started, end_of, ended_lines, pair_of, paired_lines, start_of, started_lines}
+use Rattle.session_lines.specs.Runs.{Ended, HasFinished, HasPaired, HasStarted, Paired, Started, end_of, ended_lines, pair_of, paired_lines, start_of, started_lines}
 use Rattle.session_lines.proofs.Meaning.{added_control, added_pending, pair_later, pair_not_before, row_bears, up_to_one, up_to_three, up_to_two}
 
 -- ---- the texts
@@ -74,6 +74,7 @@ module _ (run : Run) (t : Trace) (s : Started) (first mid new : PlantState) (may
       keeps = keeps_says run line_grammar [] s.text first mid new may.begun.up may.begun.keeps tells told front.only (start_of run s) (front.moments told) refl start_answers may.heard (λ started. absurd cc)
           (λ started c is. start_behind c (may.means c is)) (λ started c is. pairs_meant run (started_stage run.session s.time) (shape_of mid) c (may.means c is)) whole;
     };
+    is = record { asks = may.asks; whole = may.whole };
     short = short;
   }
 
@@ -123,9 +124,9 @@ module _ (run : Run) (t : Trace) (p : Paired) (first mid new : PlantState) (may 
       keeps = keeps_says run line_grammar (started_lines run p.start) p.text first mid new started.goes_on.up started.goes_on.keeps tells told front.only (pair_of run p) (front.moments told) refl pair_answers may.heard
           (λ on c is. pair_during c (may.means c is)) (λ on c is. pair_behind c (may.means c is)) (λ on c is. pairs_meant run (paired_stage run.session p.time p.row) (shape_of mid) c (may.means c is)) whole;
     };
+    is = record { start = started.is; added = may.added; counted = may.counted; whole = may.whole };
     short_start = started.short;
     short = short;
-    added = may.added;
   }
 
 -- ---- the end
@@ -144,7 +145,7 @@ module _ (run : Run) (t : Trace) (e : Ended) (first mid new : PlantState) (may :
   end_later = next_not_before line_grammar 2 e.pair.time (length (texts_of (paired_lines run e.pair) ++ e.text) == length first.script) e.text (end_line run.session e.time) may.heard
 
   end_answers : IsAnswered run (paired_stage run.session e.pair.time row) (end_of run e)
-  end_answers = end_is_answered run t row e.pair.time e.time paired.goes_on.pair_run (added_pending run row paired.added) end_later may.whole e.text (end_reply e.time) (end_is_reply run.session e.time)
+  end_answers = end_is_answered run t row e.pair.time e.time paired.goes_on.pair_run (added_pending run row paired.is.added) end_later may.whole e.text (end_reply e.time) (end_is_reply run.session e.time)
 
   -- The times that were said are those of the three lines.
   end_up_to : AreUpTo e.time (times_said (replies_of (paired_lines run e.pair) ++ end_reply e.time))
@@ -158,7 +159,7 @@ module _ (run : Run) (t : Trace) (e : Ended) (first mid new : PlantState) (may :
       → BearsTime run (stage_now run line_grammar first.script (paired_lines run e.pair) e.text) (replies_of (paired_lines run e.pair) ++ end_reply e.time) mid c
   end_during c means holds = record {
     time = e.time;
-    bears = pair_bears run t row Duplex next e.pair.time e.time (shape_of mid) c paired.goes_on.pair_run (added_pending run row paired.added) (added_control run row paired.added) (inr (inr refl))
+    bears = pair_bears run t row Duplex next e.pair.time e.time (shape_of mid) c paired.goes_on.pair_run (added_pending run row paired.is.added) (added_control run row paired.is.added) (inr (inr refl))
         (subst (λ (n : Option TimedCommand). LiesBefore n e.pair.time e.time) (sym may.heard) (end_later, omega arith)) may.whole (λ duplex. holds) (inr (means, e.time, may.heard));
     not_earlier = end_up_to;
   }
@@ -166,20 +167,23 @@ module _ (run : Run) (t : Trace) (e : Ended) (first mid new : PlantState) (may :
   -- And once it is whole.
   end_behind : (c : Choice) → MeansRows run (shape_of mid) c (in_state Duplex row ∷ []) e.time true → HoldsTracks t (shape_of mid) c row e.time
       → BearsTime run (ended_stage run.session e.pair.time e.time row) (replies_of (paired_lines run e.pair) ++ end_reply e.time) mid c
-  end_behind c means holds = record { time = e.time; bears = ended_bears run t row None e.pair.time e.time (shape_of mid) c paired.goes_on.pair_run (added_control run row paired.added) means holds; not_earlier = end_up_to }
+  end_behind c means holds = record { time = e.time; bears = ended_bears run t row None e.pair.time e.time (shape_of mid) c paired.goes_on.pair_run (added_control run row paired.is.added) means holds; not_earlier = end_up_to }
 
   pub end_throughout : BearsThroughout run line_grammar (ended_lines run e) first new
   end_throughout = keeps_says_throughout run line_grammar (paired_lines run e.pair) e.text first mid new paired.goes_on.up paired.goes_on.keeps tells told front.only (end_of run e) (front.moments told) refl end_answers may.heard
       (λ on c is. end_during c (may.means c is).0 (may.means c is).1) (λ on c is. end_behind c (may.means c is).0 (may.means c is).1)
       (λ on c is. pairs_meant run (ended_stage run.session e.pair.time e.time row) (shape_of mid) c (may.means c is).0)
 
-  pub end_goes_on : SaidWhole (end_reply e.time) mid new → GoesOn run t (ended_lines run e) [] first new
+  pub end_goes_on : SaidWhole (end_reply e.time) mid new → HasFinished run t e [] first new
   end_goes_on whole = record {
-    up = paired.goes_on.up;
-    pair_run = paired.goes_on.pair_run;
-    keeps = keeps_says run line_grammar (paired_lines run e.pair) e.text first mid new paired.goes_on.up paired.goes_on.keeps tells told front.only (end_of run e) (front.moments told) refl end_answers may.heard
-        (λ on c is. end_during c (may.means c is).0 (may.means c is).1) (λ on c is. end_behind c (may.means c is).0 (may.means c is).1)
-        (λ on c is. pairs_meant run (ended_stage run.session e.pair.time e.time row) (shape_of mid) c (may.means c is).0) whole;
+    goes_on = record {
+      up = paired.goes_on.up;
+      pair_run = paired.goes_on.pair_run;
+      keeps = keeps_says run line_grammar (paired_lines run e.pair) e.text first mid new paired.goes_on.up paired.goes_on.keeps tells told front.only (end_of run e) (front.moments told) refl end_answers may.heard
+          (λ on c is. end_during c (may.means c is).0 (may.means c is).1) (λ on c is. end_behind c (may.means c is).0 (may.means c is).1)
+          (λ on c is. pairs_meant run (ended_stage run.session e.pair.time e.time row) (shape_of mid) c (may.means c is).0) whole;
+    };
+    is = record { pair = paired.is; whole = may.whole };
   }
 
 -- ---- by the outcome
@@ -201,7 +205,7 @@ module _ {T E : Type 0} (result : Result T E) (run : Run) (t : Trace) (first mid
   pub pair_err : (p : Paired) → MayPair run t p first mid → p.time < 2 ^ 64 → SaysText tells (pair_reply p.time p.tracks) mid new result → OnErr result (BearsThroughout run line_grammar (paired_lines run p) first new)
   pair_err p may short says = on_err result (pair_throughout run t p first mid new may short tells told says.front)
 
-  pub end_ok : (e : Ended) → MayEnd run t e first mid → e.time < 2 ^ 64 → SaysText tells (end_reply e.time) mid new result → OnOk result (GoesOn run t (ended_lines run e) [] first new)
+  pub end_ok : (e : Ended) → MayEnd run t e first mid → e.time < 2 ^ 64 → SaysText tells (end_reply e.time) mid new result → OnOk result (HasFinished run t e [] first new)
   end_ok e may short says = on_ok_weaker result (end_goes_on run t e first mid new may short tells told says.front) (says.whole told)
 
   pub end_err : (e : Ended) → MayEnd run t e first mid → e.time < 2 ^ 64 → SaysText tells (end_reply e.time) mid new result → OnErr result (BearsThroughout run line_grammar (ended_lines run e) first new)

@@ -6,24 +6,28 @@ use Rattle.sidefile.specs.Breaks.{has_broken}
 use Rattle.pair_table.specs.declared.row.PairState.TheVariants.{Duplex}
 use Rattle.pair_table.specs.Tables.{in_state}
 use Rattle.site_means.specs.Images.{shape_of}
-use Rattle.consistency.specs.Bears.{Run}
+use Rattle.consistency.specs.Bears.{Run, tracks_of}
 use Rattle.pair_course.specs.Course.{HoldsTracks, IsAdded, MeansRows, end_line, pair_line, start_line}
+use Rattle.session_lines.specs.Asking.{AsksStart}
 use Rattle.session_lines.specs.Meanings.{NowMeans}
 use Rattle.session_lines.specs.Runs.{Ended, GoesOn, HasPaired, HasStarted, Paired, Started, line_heard, paired_lines, started_lines}
 
--- A start was heard, by whose time the trace hasn't broken, and a crash leaves the session without a pair at that time.
+-- A start was heard that leaves its level out, by whose time the trace hasn't broken, and a crash leaves the session without a pair at
+-- that time.
 pub record MayStart (run : Run) (t : Trace) (s : Started) (first now : PlantState) : Type 0 where
   pub begun : GoesOn run t [] s.text first now
   pub heard : line_heard run first [] s.text ≡ Some (start_line run.session s.time)
+  pub asks : AsksStart run.session s.text s.time
   pub whole : has_broken t s.time ≡ false
   pub means : NowMeans now (λ c. MeansRows run (shape_of now) c [] s.time false)
 
--- A pair was heard behind the start, and a crash leaves its row at its time.
+-- A pair was heard behind the start, whose reply counts its tracks, and a crash leaves its row at its time.
 pub record MayPair (run : Run) (t : Trace) (p : Paired) (first now : PlantState) : Type 0 where
   pub started : HasStarted run t p.start p.text first now
   pub heard : line_heard run first (started_lines run p.start) p.text ≡ Some (pair_line run.session p.time p.row)
   pub whole : has_broken t p.time ≡ false
   pub added : IsAdded run p.row
+  pub counted : p.tracks ≡ tracks_of p.row
   pub means : NowMeans now (λ c. MeansRows run (shape_of now) c (p.row ∷ []) p.time false)
 
 -- An end was heard behind the pair, and a crash leaves the ended session at its time, with the pair duplex and its primary's tracks.

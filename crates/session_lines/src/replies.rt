@@ -11,7 +11,7 @@ ghost use Rattle.script_lines.specs.Grammars.{line_grammar};
 ghost use Rattle.xrc_status.specs.Saying.{SaysText};
 ghost use Rattle.xrc_status.specs.declared.stop.Stop.TheVariants.{ConsoleFault};
 ghost use Rattle.session_lines.specs.Answering.{MayEnd, MayPair, MayStart};
-ghost use Rattle.session_lines.specs.Runs.{GoesOn, HasPaired, HasStarted, Paired, Started, ended_at, ended_lines, paired_at, paired_lines, started_at, started_lines};
+ghost use Rattle.session_lines.specs.Runs.{HasFinished, HasPaired, HasStarted, Paired, Started, ended_at, ended_lines, paired_at, paired_lines, started_at, started_lines};
 
 use crash_plant::Plant;
 use tod_stamp::Stamp;
@@ -79,7 +79,7 @@ pub fn say_added<P: Plant>(plant: &mut P, time: Stamp, tracks: u32) -> Result<()
 pub fn say_ended<P: Plant>(plant: &mut P, time: Stamp) -> Result<(), Stop>
     ensures said { SaysText P.tells (end_reply time.0) (P.state plant.old) (P.state plant.new) result }
     ensures stop { IfErr result (λ stop. stop ≡ ConsoleFault) }
-    ensures goes_on { P.tells → (first : P) (run : Run) (t : Trace) (pair : Paired) (text : List ℕ) → let e = ended_at pair time.0 text in MayEnd run t e (P.state first) (P.state plant.old) → OnOk result (GoesOn run t (ended_lines run e) [] (P.state first) (P.state plant.new)) }
+    ensures goes_on { P.tells → (first : P) (run : Run) (t : Trace) (pair : Paired) (text : List ℕ) → let e = ended_at pair time.0 text in MayEnd run t e (P.state first) (P.state plant.old) → OnOk result (HasFinished run t e [] (P.state first) (P.state plant.new)) }
     ensures bears { P.tells → (first : P) (run : Run) (t : Trace) (pair : Paired) (text : List ℕ) → let e = ended_at pair time.0 text in MayEnd run t e (P.state first) (P.state plant.old) → OnErr result (BearsThroughout run line_grammar (ended_lines run e) (P.state first) (P.state plant.new)) }
 {
     say(plant, &reply_of(time, b" XEND OK"))

@@ -1,51 +1,51 @@
 -- Which lines a run had answered where it stopped.
-use Rattle.std.proofs.Common.{◌≡◌, ◌⊎◌, inl, inr, ℕ, List, [], IsTrue, Option, refl}
+use Rattle.std.proofs.Common.{◌≡◌, ◌⊎◌, inl, inr, ℕ, List, [], ◌∷◌, IsTrue, refl}
 use Rattle.crash_plant.specs.Moments.{PlantState}
+use Rattle.trace_grammar.specs.declared.trace.Trace.{Trace}
 use Rattle.consistency.specs.Bears.{Run}
 use Rattle.consistency.specs.Courses.{Answered}
 use Rattle.consistency.specs.Keeping.{Keeps}
-use Rattle.consistency.specs.Steps.{TimedCommand}
 use Rattle.consistency.proofs.Keeping.{keeps_begins}
 use Rattle.script_lines.specs.Grammars.{line_grammar}
 use Rattle.xrc_status.specs.declared.stop.Stop.{Stop}
 use Rattle.xrc_status.specs.declared.stop.Stop.TheVariants.{NoMemory, BadWords, ConsoleFault, JournalFault, ControlFault, StateFault, BadHeader, HeaderFault, NoSession, OtherSession, Damaged, VolumeFault, TooSmall, JournalEnd, BadSite, NotBuilt, EarlyBreak, EarlyVolume, Spent}
-use Rattle.xrc_session.specs.Expected.{AnswersInPart, AreAnswered, IsExpected, IsUnexpected, KeepsExpected, LeavesAll}
+use Rattle.xrc_session.specs.Expected.{AnswersInPart, AreAnswered, DueLine, IsAsked, IsUnexpected, KeepsExpected, lines_before}
 use Rattle.xrc_session.specs.Expected.AreAnswered.{Nothing, AStart, APair, AnEnd}
-use Rattle.xrc_session.specs.Expected.IsExpected.{StartNext, PairNext, EndNext}
+use Rattle.xrc_session.specs.Expected.DueLine.{DueStart, DuePair, DueEnd}
 use Rattle.xrc_session.specs.Expected.IsUnexpected.{NoStart, NoPair, NoEnd, More}
 use Rattle.xrc_session.specs.Stopping.{StopsSo}
 use Rattle.xrc_status.specs.Stops.{status_of}
 use Rattle.xrc_cli.specs.Statuses.{ends_in_work}
 
 -- These lines were answered, and each moment so far bears.
-pub record KeepsAnswered (run : Run) (first now : PlantState) : Type 0 where
+pub record KeepsAnswered (run : Run) (t : Trace) (first now : PlantState) : Type 0 where
   pub lines : List Answered
   pub text : List ℕ
-  pub are : AreAnswered run lines ⊎ LeavesAll first now
+  pub are : AreAnswered run t lines
   pub keeps : Keeps run line_grammar lines text first now
 
 -- A run that has made no call yet.
-pub none_answered : (run : Run) (plant : PlantState) → KeepsAnswered run plant plant
-none_answered run plant = record { lines = []; text = []; are = inl (Nothing refl); keeps = keeps_begins run line_grammar plant }
+pub none_answered : (run : Run) (t : Trace) (plant : PlantState) → KeepsAnswered run t plant plant
+none_answered run t plant = record { lines = []; text = []; are = Nothing refl; keeps = keeps_begins run line_grammar plant }
 
-before_expected : (run : Run) (lines : List Answered) (next : Option TimedCommand) (time : ℕ) → IsExpected run lines next time → AreAnswered run lines
-before_expected run lines next time (StartNext none is) = Nothing none
-before_expected run lines next time (PairNext start row are added is) = AStart start are
-before_expected run lines next time (EndNext pair are is) = APair pair are
+before_due : (run : Run) (t : Trace) (text : List ℕ) (due : DueLine) → IsAsked run t text due → AreAnswered run t (lines_before run due)
+before_due run t text (DueStart time) asked = Nothing refl
+before_due run t text (DuePair start row time) asked = AStart start asked.0 refl
+before_due run t text (DueEnd pair time) asked = APair pair asked refl
 
-module _ (run : Run) (first now : PlantState) where
+module _ (run : Run) (t : Trace) (first now : PlantState) where
   -- An expected line was heard.
-  expected_answered : KeepsExpected run first now → KeepsAnswered run first now
-  expected_answered k = record { lines = k.lines; text = k.text; are = inl (before_expected run k.lines _ k.time k.expected); keeps = k.keeps }
+  expected_answered : KeepsExpected run t first now → KeepsAnswered run t first now
+  expected_answered k = record { lines = lines_before run k.due; text = k.text; are = before_due run t k.text k.due k.asked; keeps = k.keeps }
 
-  unexpected_answered : IsUnexpected run first now → KeepsAnswered run first now
-  unexpected_answered (NoStart text keeps ended other leaves) = record { lines = []; text = text; are = inl (Nothing refl); keeps = keeps }
-  unexpected_answered (NoPair start text keeps ended other) = record { lines = _; text = text; are = inl (AStart start refl); keeps = keeps }
-  unexpected_answered (NoEnd pair text keeps ended other) = record { lines = _; text = text; are = inl (APair pair refl); keeps = keeps }
-  unexpected_answered (More end text keeps some) = record { lines = _; text = text; are = inl (AnEnd end refl); keeps = keeps }
+  unexpected_answered : IsUnexpected run t first now → KeepsAnswered run t first now
+  unexpected_answered (NoStart text keeps ended other leaves) = record { lines = []; text = text; are = Nothing refl; keeps = keeps }
+  unexpected_answered (NoPair start text is keeps ended other means) = record { lines = _; text = text; are = AStart start is refl; keeps = keeps }
+  unexpected_answered (NoEnd pair text is keeps ended other means) = record { lines = _; text = text; are = APair pair is refl; keeps = keeps }
+  unexpected_answered (More end byte is keeps means) = record { lines = _; text = byte ∷ []; are = AnEnd end is refl; keeps = keeps }
 
   -- A failed console may have said a part of a reply. At each other stop the replies of these lines were said.
-  pub stop_answered : (breaks full : (time : ℕ) → Type 0) (stop : Stop) → StopsSo run breaks full first now stop → ((stop ≡ ConsoleFault) × AnswersInPart run first now) ⊎ KeepsAnswered run first now
+  pub stop_answered : (breaks full : DueLine → Type 0) (stop : Stop) → StopsSo run t breaks full first now stop → ((stop ≡ ConsoleFault) × AnswersInPart run t first now) ⊎ KeepsAnswered run t first now
   stop_answered breaks full ConsoleFault so = inl (refl, so)
   stop_answered breaks full NotBuilt so = inr (unexpected_answered so)
   stop_answered breaks full EarlyBreak so = inr (expected_answered so.line)
@@ -54,9 +54,9 @@ module _ (run : Run) (first now : PlantState) where
   stop_answered breaks full ControlFault so = inr (expected_answered so)
   stop_answered breaks full StateFault so = inr (expected_answered so)
   stop_answered breaks full EarlyVolume so = inr (expected_answered so)
-  stop_answered breaks full Spent so = inr (expected_answered so)
+  stop_answered breaks full Spent so = absurd so
   stop_answered breaks full NoMemory (inl so) = inr (expected_answered so)
-  stop_answered breaks full NoMemory (inr so) = inr (record { lines = so.0.lines; text = so.0.text; are = inr so.1; keeps = so.0.keeps })
+  stop_answered breaks full NoMemory (inr so) = inr (record { lines = []; text = []; are = Nothing refl; keeps = so.keeps })
   stop_answered breaks full BadWords so = absurd so
   stop_answered breaks full (BadHeader trace place) so = absurd so
   stop_answered breaks full (HeaderFault trace) so = absurd so
@@ -68,7 +68,7 @@ module _ (run : Run) (first now : PlantState) where
   stop_answered breaks full BadSite so = absurd so
 
   -- In the work for a line it is the expected one.
-  pub work_expected : (breaks full : (time : ℕ) → Type 0) (stop : Stop) → IsTrue (ends_in_work (status_of stop)) → StopsSo run breaks full first now stop → KeepsExpected run first now
+  pub work_expected : (breaks full : DueLine → Type 0) (stop : Stop) → IsTrue (ends_in_work (status_of stop)) → StopsSo run t breaks full first now stop → KeepsExpected run t first now
   work_expected breaks full ConsoleFault in_work so = absurd cc
   work_expected breaks full NotBuilt in_work so = absurd cc
   work_expected breaks full EarlyBreak in_work so = absurd cc
@@ -77,7 +77,7 @@ module _ (run : Run) (first now : PlantState) where
   work_expected breaks full ControlFault in_work so = so
   work_expected breaks full StateFault in_work so = so
   work_expected breaks full EarlyVolume in_work so = so
-  work_expected breaks full Spent in_work so = so
+  work_expected breaks full Spent in_work so = absurd so
   work_expected breaks full NoMemory in_work so = absurd cc
   work_expected breaks full BadWords in_work so = absurd so
   work_expected breaks full (BadHeader trace place) in_work so = absurd so

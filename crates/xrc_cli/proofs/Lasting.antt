@@ -7,6 +7,7 @@ use Rattle.crash_plant.specs.declared.device.Device.TheVariants.{Control, State,
 use Rattle.crash_plant.specs.Moments.{PlantState, Same, on}
 use Rattle.crash_plant.specs.Calls.{Elapses}
 use Rattle.crash_plant.proofs.Steps.{follows_then}
+use Rattle.trace_grammar.specs.declared.trace.Trace.{Trace}
 use Rattle.pair_course.specs.Course.{tells_a_session}
 use Rattle.pair_course.proofs.Saying.{stop_says_none}
 use Rattle.consistency.specs.Bears.{Run}
@@ -17,7 +18,6 @@ use Rattle.xrc_status.specs.declared.stop.Stop.{Stop}
 use Rattle.xrc_status.specs.declared.stop.Stop.TheVariants.{NoMemory, BadWords, ConsoleFault, JournalFault, ControlFault, StateFault, BadHeader, HeaderFault, NoSession, OtherSession, Damaged, VolumeFault, TooSmall, JournalEnd, BadSite, NotBuilt, EarlyBreak, EarlyVolume, Spent}
 use Rattle.xrc_status.specs.Saying.{SaysLast}
 use Rattle.xrc_status.specs.Stops.{last_line}
-use Rattle.xrc_session.specs.Expected.{LeavesAll}
 use Rattle.xrc_session.specs.Leaving.{LeavesOthers}
 use Rattle.xrc_session.specs.Leaving.LeavesOthers.{Unpaired, WithPair}
 use Rattle.xrc_session.specs.Runs.{NoneFailed}
@@ -49,7 +49,7 @@ module _ (first mid new : PlantState) (faults : (d : Device) → new.faults d �
   cause_still EarlyBreak same cause = tt
   cause_still NotBuilt same cause = tt
   cause_still JournalEnd same cause = tt
-  cause_still Spent same cause = tt
+  cause_still Spent same cause = absurd cause
   cause_still NoMemory same cause = tt
   cause_still BadWords same cause = absurd cause
   cause_still (BadHeader trace place) same cause = absurd cause
@@ -91,32 +91,20 @@ module _ (tells : Type 0) (told : tells) (line : List ℕ) (first mid new : Plan
         (λ p q here s. s) (λ p q r here there s same. subst (λ (l : List ℕ). DiffersInTracks tracks p l) (sym same) s);
   }
 
-  pub others_still : (run : Run) → first.clock ≤ mid.clock → LeavesOthers run first mid → LeavesOthers run first new
-  others_still run later (Unpaired keeps) = Unpaired (keeps_still 0 0 0 later keeps)
-  others_still run later (WithPair pair asked added keeps) = WithPair pair asked added (keeps_still 0 0 _ later keeps)
-
-  -- Where no device was worked on, none was behind the line.
-  pub leaves_still : first.clock ≤ mid.clock → LeavesAll first mid → LeavesAll first new
-  leaves_still later leaves d =
-      let then = last.front.only.devices told d in
-      record {
-        bytes = then.bytes ∙ (leaves d).bytes;
-        images = follows_then (on first d) (on mid d) (on new d) Same Same Same later (leaves d).images (past.kept d) then.images (λ p q here e. e) (λ p q r here there e e2. e2 ∙ e);
-        all = λ t from to c was. elim (cases_lt t mid.clock) [
-          | inl early ↦ (past.kept d).all t (omega (arith, early)) (omega (arith, early)) c ((leaves d).all t from (omega (arith, early)) c was)
-          | inr late ↦ then.all t late to c ((leaves d).all mid.clock later (omega arith) c was)
-        ];
-        faults = then.faults ∙ (leaves d).faults;
-      }
+  pub others_still : (run : Run) → 0 < first.clock → first.clock ≤ mid.clock → LeavesOthers run first mid → LeavesOthers run first new
+  others_still run up later (Unpaired keeps) = Unpaired (keeps_still 0 0 0 later keeps)
+  others_still run up later (WithPair pair moment since to heard asked added keeps) =
+      let goes = (past.kept Control).later in
+      WithPair pair moment since (omega (arith, to, goes)) (past.heard moment (omega (arith, up, later)) to ∙ heard) asked added (keeps_still 0 0 _ later keeps)
 
 -- ---- each moment bears
 
-module _ (tells : Type 0) (told : tells) (stop : Stop) (run : Run) (first mid new : PlantState) (valid : tells_a_session stop ≡ true) (last : SaysLast tells (last_line stop) mid new) where
-  abbrev pub bears_still : 0 < first.clock → KeepsAnswered run first mid → BearsAnswered run first new
+module _ (tells : Type 0) (told : tells) (stop : Stop) (run : Run) (t : Trace) (first mid new : PlantState) (valid : tells_a_session stop ≡ true) (last : SaysLast tells (last_line stop) mid new) where
+  abbrev pub bears_still : 0 < first.clock → KeepsAnswered run t first mid → BearsAnswered run t first new
   bears_still up kept =
       let none = stop_says_none stop valid in
       record {
         lines = kept.lines;
-        are = elim kept.are [ inl are ↦ inl are | inr leaves ↦ inr (leaves_still tells told (last_line stop) first mid new last kept.keeps.later leaves) ];
+        are = kept.are;
         bears = keeps_says_status run line_grammar kept.lines kept.text first mid new up kept.keeps tells told last.front.only (last_line stop) (last.front.moments told) none.0 none.1;
       }

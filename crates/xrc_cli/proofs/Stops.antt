@@ -1,14 +1,25 @@
 -- The statuses of the stops of a run.
-use Rattle.std.proofs.Common.{◌≡◌, ◌⊎◌, inl, inr, ℕ, ◌==◌, true, [], ◌∷◌, Contains, IsTrue, Option, Some, None, refl, sym, ap, subst, arith, if◌then◌else◌}
+use Rattle.std.proofs.Common.{◌≡◌, ◌⊎◌, inl, inr, ℕ, ◌==◌, ◌||◌, Bool, true, false, [], ◌∷◌, Contains, IsTrue, Option, Some, None, refl, sym, ap, subst, arith, if◌then◌else◌}
 use Rattle.crash_plant.specs.declared.device.Device.{Device}
 use Rattle.crash_plant.specs.Moments.{PlantState}
 use Rattle.pair_course.specs.Course.{tells_a_session}
 use Rattle.xrc_status.specs.declared.stop.Stop.{Stop}
 use Rattle.xrc_status.specs.declared.stop.Stop.TheVariants.{NoMemory, BadWords, ConsoleFault, JournalFault, ControlFault, StateFault, BadHeader, HeaderFault, NoSession, OtherSession, Damaged, VolumeFault, TooSmall, JournalEnd, BadSite, NotBuilt, EarlyBreak, EarlyVolume, Spent}
 use Rattle.xrc_status.specs.Stops.{status_of}
-use Rattle.xrc_session.specs.Runs.{IsEarly}
+use Rattle.xrc_session.specs.Runs.{IsEarly, IsOfSite}
 use Rattle.xrc_session.specs.Stopping.{HasStopCause}
-use Rattle.xrc_cli.specs.Statuses.{ends_early, ends_in_work, ends_run}
+use Rattle.xrc_cli.specs.Statuses.{ends_by_site, ends_early, ends_in_work, ends_run}
+
+-- ---- groups of statuses
+
+one_of_four : (a b c d : Bool) → IsTrue (c || d) → IsTrue (a || b || c || d)
+one_of_four true b c d is = refl
+one_of_four false true c d is = refl
+one_of_four false false c d is = is
+
+-- One that ends by the site ends early.
+pub by_site_early : (status : ℕ) → IsTrue (ends_by_site status) → IsTrue (ends_early status)
+by_site_early status is = one_of_four (status == 8) (status == 9) (status == 14) (status == 16) is
 
 -- ---- the stop of a status
 
@@ -20,8 +31,7 @@ only status =
     (if status == 15 then Some JournalEnd else
     (if status == 16 then Some BadSite else
     (if status == 17 then Some NotBuilt else
-    (if status == 18 then Some EarlyBreak else
-    (if status == 24 then Some Spent else None))))))
+    (if status == 18 then Some EarlyBreak else None)))))
 
 only_is : (stop other : Stop) → only (status_of stop) ≡ Some other → stop ≡ other
 only_is NoMemory other is = cc
@@ -42,7 +52,7 @@ only_is BadSite other is = cc
 only_is NotBuilt other is = cc
 only_is EarlyBreak other is = cc
 only_is EarlyVolume other is = absurd cc
-only_is Spent other is = cc
+only_is Spent other is = absurd cc
 
 pub is_no_memory : (stop : Stop) → status_of stop ≡ 1 → stop ≡ NoMemory
 is_no_memory stop is = only_is stop NoMemory (ap only is)
@@ -62,9 +72,6 @@ is_not_built stop is = only_is stop NotBuilt (ap only is)
 pub is_break : (stop : Stop) → status_of stop ≡ 18 → stop ≡ EarlyBreak
 is_break stop is = only_is stop EarlyBreak (ap only is)
 
-pub is_spent : (stop : Stop) → status_of stop ≡ 24 → stop ≡ Spent
-is_spent stop is = only_is stop Spent (ap only is)
-
 -- ---- early stops
 
 -- what is so of each early stop is so of one that is early
@@ -82,6 +89,9 @@ is_header_fault = early_all (λ s. status_of s ≡ 9 → s ≡ HeaderFault 0) (�
 
 pub is_short : (stop : Stop) → IsEarly stop → status_of stop ≡ 14 → (d : Device) × (needed : ℕ) × (stop ≡ TooSmall d needed)
 is_short = early_all (λ s. status_of s ≡ 14 → (d : Device) × (needed : ℕ) × (s ≡ TooSmall d needed)) (λ is. absurd (omega (arith, is))) (λ d needed is. (d, needed, refl)) (λ place is. absurd (omega (arith, is))) (λ is. absurd (omega (arith, is)))
+
+pub is_of_site : (stop : Stop) → IsEarly stop → IsTrue (ends_by_site (status_of stop)) → IsOfSite stop
+is_of_site = early_all (λ s. IsTrue (ends_by_site (status_of s)) → IsOfSite s) (λ is. inl refl) (λ d needed is. inr (d, needed, refl)) (λ place is. absurd cc) (λ is. absurd cc)
 
 -- its status is that of none that comes later
 pub early_status : (stop : Stop) → IsEarly stop → IsTrue (ends_early (status_of stop))
@@ -118,7 +128,7 @@ module _ (old now : PlantState) where
   late_known NotBuilt cause = refl
   late_known EarlyBreak cause = refl
   late_known EarlyVolume cause = refl
-  late_known Spent cause = refl
+  late_known Spent cause = absurd cause
 
   late_not_early : (stop : Stop) → HasStopCause old now stop → ¬ IsTrue (ends_early (status_of stop))
   late_not_early NoMemory cause = λ is. cc
@@ -139,7 +149,7 @@ module _ (old now : PlantState) where
   late_not_early NotBuilt cause = λ is. cc
   late_not_early EarlyBreak cause = λ is. cc
   late_not_early EarlyVolume cause = λ is. cc
-  late_not_early Spent cause = λ is. cc
+  late_not_early Spent cause = absurd cause
 
   late_tells : (stop : Stop) → HasStopCause old now stop → tells_a_session stop ≡ true
   late_tells NoMemory cause = refl
@@ -187,7 +197,6 @@ header_status stop place (inl is) = subst (λ (s : Stop). Contains (1 ∷ 8 ∷ 
 header_status stop place (inr (inl is)) = subst (λ (s : Stop). Contains (1 ∷ 8 ∷ 9 ∷ []) (status_of s)) (sym is) (2, (omega arith), refl)
 header_status stop place (inr (inr is)) = subst (λ (s : Stop). Contains (1 ∷ 8 ∷ 9 ∷ []) (status_of s)) (sym is) (0, (omega arith), refl)
 
-pub free_status : (stop : Stop) → (stop ≡ NoMemory) ⊎ (stop ≡ JournalEnd) ⊎ (stop ≡ Spent) → Contains (0 ∷ 1 ∷ 15 ∷ 24 ∷ []) (status_of stop)
-free_status stop (inl is) = subst (λ (s : Stop). Contains (0 ∷ 1 ∷ 15 ∷ 24 ∷ []) (status_of s)) (sym is) (1, (omega arith), refl)
-free_status stop (inr (inl is)) = subst (λ (s : Stop). Contains (0 ∷ 1 ∷ 15 ∷ 24 ∷ []) (status_of s)) (sym is) (2, (omega arith), refl)
-free_status stop (inr (inr is)) = subst (λ (s : Stop). Contains (0 ∷ 1 ∷ 15 ∷ 24 ∷ []) (status_of s)) (sym is) (3, (omega arith), refl)
+pub free_status : (stop : Stop) → (stop ≡ NoMemory) ⊎ (stop ≡ JournalEnd) → Contains (0 ∷ 1 ∷ 15 ∷ []) (status_of stop)
+free_status stop (inl is) = subst (λ (s : Stop). Contains (0 ∷ 1 ∷ 15 ∷ []) (status_of s)) (sym is) (1, (omega arith), refl)
+free_status stop (inr is) = subst (λ (s : Stop). Contains (0 ∷ 1 ∷ 15 ∷ []) (status_of s)) (sym is) (2, (omega arith), refl)

@@ -29,9 +29,8 @@ use xrc_status::{Stop, say_stop};
 /// Statuses of both: 0 done, 1 no memory, 3 a call on the console failed, 5, 6, 7 a call on a journal, the control or the state failed,
 /// 14 a device is too small, 16 the numbers of journals, volumes or traces are others. 2: the words are no command line. Of a run: 8 the
 /// trace's header is bad, 9 a call on the trace failed within its header, 15 the journal is full, 17 a line is not the one that is
-/// expected, or the label is not its secondary's, 18 the trace breaks before the line's time, 19 a call on volume 0 failed, 24 the
-/// numbers of records are spent. Of a recovery: 10 no session has begun, 11 the site is another session's, 12 a device is damaged, 13 a
-/// pair's volume failed.
+/// expected, or the label is not its secondary's, 18 the trace breaks before the line's time, 19 a call on a volume failed. Of a
+/// recovery: 10 no session has begun, 11 the site is another session's, 12 a device is damaged, 13 a pair's volume failed.
 pub fn xrc<R: Threads + Wait + Sync, S: Source + Send, P: Plant>(
     rt: &R,
     alloc: Global,
@@ -48,7 +47,7 @@ pub fn xrc<R: Threads + Wait + Sync, S: Source + Send, P: Plant>(
 
     // With the words of a run: over one trace each moment bears one time, what was said, what holds where it is done, and each status
     // with its cause and its line. Another number of traces is refused.
-    ensures ran { IfSome (run_session (map string_bytes words.now)) (λ session. IfOne S.left S.faults (EndsRun P.tells P.state session plant.old plant.new result) (RefusesSources P.tells (traces.new ≡ traces.old) (P.state plant.old) (P.state plant.new) result) traces.old.items traces.new.items) }
+    ensures ran { IfSome (run_session (map string_bytes words.now)) (λ session. IfOne (λ before now. EndsRun P.tells P.state session plant.old plant.new result (now ≡ before) (S.left before) (S.left now) (S.faults before) (S.faults now)) (RefusesSources P.tells (traces.new ≡ traces.old) (P.state plant.old) (P.state plant.new) result) traces.old.items traces.new.items) }
 
     // With those of a recovery: what was said, redone and changed, and each status with its cause and its line. No trace is read.
     ensures recovered { IfSome (recover_session (map string_bytes words.now)) (λ session. EndsRecovery P.tells session (P.state plant.old) (P.state plant.new) result) }

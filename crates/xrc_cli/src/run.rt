@@ -26,7 +26,7 @@ fn run_over_one<R: Threads + Sync, S: Source, P: Plant>(
     plant: &mut P,
 ) -> u8
     requires { NoneLent (P.state plant.old) }
-    ensures { EndsRun P.tells P.state session plant.old plant.new result (S.left source.old) (S.left source.new) (S.faults source.old) (S.faults source.new) }
+    ensures { EndsRun P.tells P.state session plant.old plant.new result (source.new ≡ source.old) (S.left source.old) (S.left source.new) (S.faults source.old) (S.faults source.new) }
 {
     match run_script(rt, alloc, session, source, plant) {
         Ok(()) => DONE,
@@ -43,7 +43,7 @@ pub(crate) fn run_session<R: Threads + Sync, S: Source, P: Plant>(
     plant: &mut P,
 ) -> u8
     requires { NoneLent (P.state plant.old) }
-    ensures { IfOne S.left S.faults (EndsRun P.tells P.state session plant.old plant.new result) (RefusesSources P.tells (traces.new ≡ traces.old) (P.state plant.old) (P.state plant.new) result) traces.old.items traces.new.items }
+    ensures { IfOne (λ before now. EndsRun P.tells P.state session plant.old plant.new result (now ≡ before) (S.left before) (S.left now) (S.faults before) (S.faults now)) (RefusesSources P.tells (traces.new ≡ traces.old) (P.state plant.old) (P.state plant.new) result) traces.old.items traces.new.items }
 {
     if traces.len() != 1 {
         return say_stop(plant, Stop::BadSite);

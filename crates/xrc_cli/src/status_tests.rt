@@ -54,7 +54,7 @@ fn sites_of_other_numbers_come_first(rt: HostRuntime) -> Result<(), Fail> {
     let alloc = rt.alloc();
     for (journals, volumes) in [(0, 1), (1, 1), (17, 1), (2, 0), (2, 65)] {
         let mut plant = plain(alloc, journals, 64, volumes, 64, &[])?;
-        let trace = source(alloc, &[], 64, &[0])?;
+        let trace = source(alloc, &[], 64, &[1])?;
         assert_eq!(rt; call(&rt, alloc, &RUN, trace, &mut plant)?, 16);
         assert_eq!(rt; plant.said(), b"STATUS 16\n".as_slice());
     }
@@ -96,7 +96,7 @@ fn devices_that_are_too_short_come_next(rt: HostRuntime) -> Result<(), Fail> {
     ];
     for (device, length, line) in rows {
         let mut plant = resized(alloc, device, length, &[START])?;
-        let trace = source(alloc, &[], 64, &[0])?;
+        let trace = source(alloc, &[], 64, &[1])?;
         assert_eq!(rt; call(&rt, alloc, &RUN, trace, &mut plant)?, 14);
         assert_eq!(rt; plant.said(), line);
         assert!(rt; plant.hear() == Ok(Heard::Byte(START[0])));

@@ -134,11 +134,12 @@ module _ (run : Run) (t : Trace) (text : List ℕ) (first a b : PlantState) (goe
       here ∙ ap (λ (s : List ℕ). Some (start_line s time)) (sym session_is)
 
   -- Once the site is made it may be answered.
-  pub may_start : (session : List ℕ) (time : ℕ) → run.session ≡ session → IsNext 0 text (start_line session time) first a → (tells : Type 0) → tells → (c : PlantState) → WorksSilently tells b c → has_broken t time ≡ false
+  pub may_start : (session : List ℕ) (time : ℕ) → run.session ≡ session → IsNext 0 text (start_line session time) first a → (tells : Type 0) → tells → (c : PlantState) → WorksSilently tells b c → AsksStart session text time → has_broken t time ≡ false
       → NowMeans c (λ x. MeansRows run (shape_of c) x [] time false) → MayStart run t (started_at time text) first c
-  may_start session time session_is next tells told c works whole means = record {
+  may_start session time session_is next tells told c works asks whole means = record {
     begun = begun_works tells told c works;
     heard = start_is_heard session time session_is next;
+    asks = subst (λ (s : List ℕ). AsksStart s text time) (sym session_is) asks;
     whole = whole;
     means = means;
   }

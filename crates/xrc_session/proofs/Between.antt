@@ -15,6 +15,7 @@ use Rattle.site_store.proofs.ReadsFirst.{choice_before, stands_mid}
 use Rattle.consistency.specs.Bears.{Run}
 use Rattle.pair_course.specs.Course.{MeansRows}
 use Rattle.epoch.specs.declared.lane.Lane.{Lane}
+use Rattle.epoch.proofs.Counted.{counted_same}
 use Rattle.session_lines.specs.Meanings.{NowMeans}
 use Rattle.xrc_session.specs.Between.{IsBetween}
 
@@ -64,6 +65,7 @@ module _ (tells : Type 0) (old new : PlantState) (works : WorksOnConsole tells o
     good = between.good;
     goes_on = between.goes_on;
     fits = fits_still site old new works.site (none_lent between.fits.home) between.fits;
+    counted = counted_same site site old new refl refl works.site between.counted;
     stands = λ told. stands_heard told site.table.rows site (between.stands told);
   }
 

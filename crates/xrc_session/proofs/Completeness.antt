@@ -32,14 +32,14 @@ use Rattle.script_lines.specs.Texts.{IsWhole, has_feed}
 use Rattle.script_lines.proofs.EndLaws.{told_apart}
 use Rattle.script_lines.proofs.GrammarLaws.{is_grammar, long_is_none}
 use Rattle.session_lines.specs.Asking.{AsksStart, HasEnded}
-use Rattle.session_lines.specs.Runs.{end_of, ended_lines, pair_of, paired_lines, start_of, started_at, started_lines}
+use Rattle.session_lines.specs.Runs.{Paired, end_of, ended_lines, pair_of, paired_lines, start_of, started_at, started_lines}
 use Rattle.xrc_status.specs.declared.stop.Stop.{Stop}
 use Rattle.xrc_status.specs.declared.stop.Stop.TheVariants.{ConsoleFault, JournalFault, ControlFault, StateFault, EarlyVolume, EarlyBreak, NotBuilt, JournalEnd, Spent, NoMemory, BadWords, BadHeader, HeaderFault, NoSession, OtherSession, Damaged, VolumeFault, TooSmall, BadSite}
-use Rattle.xrc_session.specs.Expected.{IsExpected, IsUnexpected, KeepsExpected}
-use Rattle.xrc_session.specs.Expected.IsExpected.{EndNext, PairNext, StartNext}
+use Rattle.xrc_session.specs.Expected.{DueLine, IsUnexpected, KeepsExpected, line_of, lines_before, time_of}
+use Rattle.xrc_session.specs.Expected.DueLine.{DueEnd, DuePair, DueStart}
 use Rattle.xrc_session.specs.Expected.IsUnexpected.{More, NoEnd, NoPair, NoStart}
 use Rattle.xrc_session.specs.Laws.{AreTheSame}
-use Rattle.xrc_session.specs.Runs.{AsksSession, HasBrokenBy, IsEarly, IsOfHeader, IsRefused, NoneFailed, StopsEarlyOr}
+use Rattle.xrc_session.specs.Runs.{AsksSession, HasBrokenBy, IsEarly, IsOfHeader, IsOfSite, IsRefused, NoneFailed, StopsEarlyOr}
 use Rattle.xrc_session.specs.Stopping.{HasStopCause, StopsSo}
 use Rattle.xrc_session.specs.Traces.{IsTraceOf}
 use Rattle.xrc_session.specs.Traces.IsTraceOf.{Failed, Whole as WholeTrace}
@@ -196,6 +196,22 @@ told_same (x ∷ lines) (y ∷ others) left rest are told same zero a b at there
     (ap (λ (l : Answered). l.text) (sym first) ∙ one.0 ∙ ap (λ (l : Answered). l.text) second, ap (λ (l : Answered). l.line) (sym first) ∙ one.1 ∙ ap (λ (l : Answered). l.line) second)
 told_same (x ∷ lines) (y ∷ others) left rest are told same (suc n) a b at there = told_same lines others left rest are.1 told.1 (both_told x y lines others left rest are told same).2 n a b at there
 
+-- ---- what a run has heard of it
+
+-- What was heard of a script and what is left.
+kept_whole : (run : Run) (first now : PlantState) (lines : List Answered) (text : List ℕ) → Keeps run line_grammar lines text first now → first.script ≡ texts_of lines ++ (text ++ now.script)
+kept_whole run first now lines text keeps = keeps.script ∙ append_assoc (texts_of lines) text now.script
+
+lines_told : (run : Run) (first now : PlantState) (lines : List Answered) (text : List ℕ) → Keeps run line_grammar lines text first now → AreTold lines (text ++ now.script)
+lines_told run first now lines text keeps = are_told run first.script lines (text ++ now.script) keeps.asked (kept_whole run first now lines text keeps)
+
+-- Two pairs that a run has answered behind its start are at the same time.
+pub paired_once : (run : Run) (first : PlantState) (p q : Paired) (text other : List ℕ) (a b : PlantState) → Keeps run line_grammar (paired_lines run p) text first a → Keeps run line_grammar (paired_lines run q) other first b → p.time ≡ q.time
+paired_once run first p q text other a b one two =
+    let same = told_same (paired_lines run p) (paired_lines run q) (text ++ a.script) (other ++ b.script) (lines_told run first a (paired_lines run p) text one) (lines_told run first b (paired_lines run q) other two)
+    (sym (kept_whole run first a (paired_lines run p) text one) ∙ kept_whole run first b (paired_lines run q) other two) 1 (pair_of run p) (pair_of run q) refl refl in
+    ap (λ (l : TimedCommand). l.time) same.1
+
 -- ---- a script that asks for a session
 
 -- Its lines are told.
@@ -203,7 +219,7 @@ asked_told : (run : Run) (script : List ℕ) (asks : AsksSession run script) →
 asked_told run script asks = are_told run script (ended_lines run asks.end) [] asks.asked (sym asks.whole ∙ sym (append-nil (texts_of (ended_lines run asks.end))))
 
 -- It tells a run over it the same lines.
-module _ (run : Run) (first now : PlantState) (asks : AsksSession run first.script) where
+module _ (run : Run) (t : Trace) (first now : PlantState) (asks : AsksSession run first.script) where
   -- The pair isn't added before the start, nor does the session end before that.
   paired_later : asks.end.pair.start.time ≤ asks.end.pair.time
   paired_later = next_not_before line_grammar 1 asks.end.pair.start.time (length (texts_of (take 2 (ended_lines run asks.end))) == length first.script) asks.end.pair.text (pair_line run.session asks.end.pair.time asks.end.pair.row)
@@ -212,15 +228,12 @@ module _ (run : Run) (first now : PlantState) (asks : AsksSession run first.scri
   ended_later : asks.end.pair.time ≤ asks.end.time
   ended_later = next_not_before line_grammar 2 asks.end.pair.time (length (texts_of (take 3 (ended_lines run asks.end))) == length first.script) asks.end.text (end_line run.session asks.end.time) (asks.asked 2 (end_of run asks.end) refl).asks
 
-  -- What was heard of it and what is left.
-  kept_script : (lines : List Answered) (text : List ℕ) → Keeps run line_grammar lines text first now → first.script ≡ texts_of lines ++ (text ++ now.script)
-  kept_script lines text keeps = keeps.script ∙ append_assoc (texts_of lines) text now.script
-
+  -- The run has heard a front of it.
   kept_told : (lines : List Answered) (text : List ℕ) → Keeps run line_grammar lines text first now → AreTold lines (text ++ now.script)
-  kept_told lines text keeps = are_told run first.script lines (text ++ now.script) keeps.asked (kept_script lines text keeps)
+  kept_told = lines_told run first now
 
   same_script : (lines : List Answered) (text : List ℕ) → Keeps run line_grammar lines text first now → texts_of lines ++ (text ++ now.script) ≡ texts_of (ended_lines run asks.end) ++ []
-  same_script lines text keeps = sym (kept_script lines text keeps) ∙ sym asks.whole ∙ sym (append-nil (texts_of (ended_lines run asks.end)))
+  same_script lines text keeps = sym (kept_whole run first now lines text keeps) ∙ sym asks.whole ∙ sym (append-nil (texts_of (ended_lines run asks.end)))
 
   -- Behind the answered lines those that it asks are left,
   kept_left : (lines : List Answered) (text : List ℕ) → Keeps run line_grammar lines text first now → length lines ≤ 3 → text ++ now.script ≡ texts_of (drop (length lines) (ended_lines run asks.end)) ++ []
@@ -249,43 +262,43 @@ module _ (run : Run) (first now : PlantState) (asks : AsksSession run first.scri
       (told_once text a.text now.script (texts_of (drop (suc (length lines)) all) ++ []) line a.line heard (told_at all [] (length lines) a (asked_told run first.script asks) at) (kept_left lines text keeps (omega (arith, few)) ∙ texts_from all (length lines) a [] at)).1
 
   -- Nothing that it tells is unexpected.
-  none_unexpected : ¬ IsUnexpected run first now
+  none_unexpected : ¬ IsUnexpected run t first now
   none_unexpected (NoStart text keeps ended none untouched) =
       let one = ended_is [] text (start_of run asks.end.pair.start) keeps refl ended in
       none asks.end.pair.start.time (subst (λ (l : List ℕ). AsksStart run.session l asks.end.pair.start.time) (sym one) asks.start)
-  none_unexpected (NoPair start text keeps ended none) =
+  none_unexpected (NoPair start text is keeps ended none means) =
       let at : start.time ≡ asks.end.pair.start.time = ap (λ (l : TimedCommand). l.time) (kept_line (started_lines run start) text keeps 0 (start_of run start) (start_of run asks.end.pair.start) refl refl).1 in
       let one = ended_is (started_lines run start) text (pair_of run asks.end.pair) keeps refl ended in
       none asks.end.pair.row asks.end.pair.time asks.added
       (record { read = ap (λ (l : List ℕ). line_grammar (first_line l)) one ∙ (asked_told run first.script asks).1.0.asks; not_before = omega (arith, at, paired_later) })
-  none_unexpected (NoEnd pair text keeps ended none) =
+  none_unexpected (NoEnd pair text is keeps ended none means) =
       let at : pair.time ≡ asks.end.pair.time = ap (λ (l : TimedCommand). l.time) (kept_line (paired_lines run pair) text keeps 1 (pair_of run pair) (pair_of run asks.end.pair) refl refl).1 in
       let one = ended_is (paired_lines run pair) text (end_of run asks.end) keeps refl ended in
       none asks.end.time (record { read = ap (λ (l : List ℕ). line_grammar (first_line l)) one ∙ (asked_told run first.script asks).1.1.0.asks; not_before = omega (arith, at, ended_later) })
-  none_unexpected (More end text keeps some) =
-      let none : text ++ now.script ≡ [] = kept_left (ended_lines run end) text keeps (omega arith) in
-      some (nil_from_length text (omega (arith, ap length none, length-append text now.script)))
+  none_unexpected (More end byte is keeps means) =
+      let none : byte ∷ now.script ≡ [] = kept_left (ended_lines run end) (byte ∷ []) keeps (omega arith) in
+      absurd (cc none)
 
-  -- No line that it tells is later than the end.
-  expected_by : (lines : List Answered) (text : List ℕ) (time : ℕ) → Keeps run line_grammar lines text first now → IsExpected run lines (stage_now run line_grammar first.script lines text).next time → time ≤ asks.end.time
-  expected_by lines text time keeps (StartNext are next) =
-      let same = next_is lines text (start_line run.session time) (start_of run asks.end.pair.start) keeps (ap (λ (l : List Answered). slice_get (ended_lines run asks.end) (length l)) are) next in
+  -- Nothing that it tells is due later than the end.
+  due_by : (due : DueLine) (text : List ℕ) → Keeps run line_grammar (lines_before run due) text first now → (stage_now run line_grammar first.script (lines_before run due) text).next ≡ Some (line_of run due) → time_of due ≤ asks.end.time
+  due_by (DueStart time) text keeps next =
+      let same = next_is [] text (start_line run.session time) (start_of run asks.end.pair.start) keeps refl next in
       omega (arith, ap (λ (l : TimedCommand). l.time) same, paired_later, ended_later)
-  expected_by lines text time keeps (PairNext start row are added next) =
-      let same = next_is lines text (pair_line run.session time row) (pair_of run asks.end.pair) keeps (ap (λ (l : List Answered). slice_get (ended_lines run asks.end) (length l)) are) next in
+  due_by (DuePair start row time) text keeps next =
+      let same = next_is (started_lines run start) text (pair_line run.session time row) (pair_of run asks.end.pair) keeps refl next in
       omega (arith, ap (λ (l : TimedCommand). l.time) same, ended_later)
-  expected_by lines text time keeps (EndNext pair are next) =
-      let same = next_is lines text (end_line run.session time) (end_of run asks.end) keeps (ap (λ (l : List Answered). slice_get (ended_lines run asks.end) (length l)) are) next in
+  due_by (DueEnd pair time) text keeps next =
+      let same = next_is (paired_lines run pair) text (end_line run.session time) (end_of run asks.end) keeps refl next in
       omega (arith, ap (λ (l : TimedCommand). l.time) same)
 
-  pub expected_in_time : (heard : KeepsExpected run first now) → heard.time ≤ asks.end.time
-  expected_in_time heard = expected_by heard.lines heard.text heard.time heard.keeps heard.expected
+  pub due_in_time : (heard : KeepsExpected run t first now) → time_of heard.due ≤ asks.end.time
+  due_in_time heard = due_by heard.due heard.text heard.keeps heard.next
 
 -- ---- why a run over it stops
 
--- A stop for want of memory, of room in the journal or of numbers.
+-- A stop for want of memory, or of room in the journal.
 abbrev pub IsForWant : Stop → Type 0
-IsForWant stop = (stop ≡ NoMemory) ⊎ (stop ≡ JournalEnd) ⊎ (stop ≡ Spent)
+IsForWant stop = (stop ≡ NoMemory) ⊎ (stop ≡ JournalEnd)
 
 -- A stop before the script is heard has none of the causes of later ones.
 early_uncaused : (old new : PlantState) (stop : Stop) → IsEarly stop → ¬ HasStopCause old new stop
@@ -300,18 +313,31 @@ early_uncaused old new stop early cause = elim early [
   ]
 ]
 
-module _ (run : Run) (t : Trace) (risen : ℕ) (full : (time : ℕ) → Type 0) (old new : PlantState) (asks : AsksSession run old.script) (whole : has_broken t asks.end.time ≡ false) (up : risen ≢ 2 ^ 64 - 1) (good : NoneFailed old new) where
+-- A stop by the site is none of those that come behind it.
+site_uncaused : (old new : PlantState) (stop : Stop) → IsOfHeader stop ⊎ HasStopCause old new stop → ¬ IsOfSite stop
+site_uncaused old new stop (inr caused) (inl site) = early_uncaused old new stop (inl site) caused
+site_uncaused old new stop (inr caused) (inr short) = early_uncaused old new stop (inr (inl short)) caused
+site_uncaused old new stop (inl (inl bad)) (inl site) = let b = bad.1 in cc (b, site)
+site_uncaused old new stop (inl (inr fault)) (inl site) = cc (fault, site)
+site_uncaused old new stop (inl (inl bad)) (inr short) = let b = bad.1 in let s = short.2 in cc (b, s)
+site_uncaused old new stop (inl (inr fault)) (inr short) = let s = short.2 in cc (fault, s)
+
+pub no_site_stop : {T : Type 0} (old new : PlantState) (result : Result T Stop) (so : Type 0) → IfErr result (λ stop. IsOfHeader stop ⊎ HasStopCause old new stop) → IfErr result (λ stop. IsOfSite stop → so)
+no_site_stop old new (Ok x) so cause = tt
+no_site_stop old new (Err e) so cause = λ site. absurd (site_uncaused old new e cause site)
+
+module _ (run : Run) (t : Trace) (risen : ℕ) (full : DueLine → Type 0) (old new : PlantState) (asks : AsksSession run old.script) (whole : has_broken t asks.end.time ≡ false) (up : risen ≢ 2 ^ 64 - 1) (good : NoneFailed old new) where
   -- Where the trace hasn't broken by the end of the session, and no call failed, a run over the script stops for want alone.
-  pub stops_for_want : (stop : Stop) → StopsSo run (HasBrokenBy t risen) full old new stop → HasStopCause old new stop → IsForWant stop
+  pub stops_for_want : (stop : Stop) → StopsSo run t (HasBrokenBy t risen) full old new stop → HasStopCause old new stop → IsForWant stop
   stops_for_want ConsoleFault stands cause = absurd (good.console cause)
   stops_for_want (JournalFault j) stands cause = absurd (good.devices (Journal j) cause)
   stops_for_want ControlFault stands cause = absurd (good.devices Control cause)
   stops_for_want StateFault stands cause = absurd (good.devices State cause)
   stops_for_want EarlyVolume stands cause = absurd (good.devices (Volume cause.0) cause.1)
-  stops_for_want EarlyBreak stands cause = absurd (true≢false (sym (stands.why up) ∙ whole_before t stands.line.time asks.end.time (expected_in_time run old new asks stands.line) whole))
-  stops_for_want NotBuilt stands cause = absurd (none_unexpected run old new asks stands)
-  stops_for_want JournalEnd stands cause = inr (inl refl)
-  stops_for_want Spent stands cause = inr (inr refl)
+  stops_for_want EarlyBreak stands cause = absurd (true≢false (sym (stands.why up) ∙ whole_before t (time_of stands.line.due) asks.end.time (due_in_time run t old new asks stands.line) whole))
+  stops_for_want NotBuilt stands cause = absurd (none_unexpected run t old new asks stands)
+  stops_for_want JournalEnd stands cause = inr refl
+  stops_for_want Spent stands cause = absurd cause
   stops_for_want NoMemory stands cause = inl refl
   stops_for_want BadWords stands cause = absurd cause
   stops_for_want (BadHeader trace place) stands cause = absurd cause
@@ -324,7 +350,7 @@ module _ (run : Run) (t : Trace) (risen : ℕ) (full : (time : ℕ) → Type 0) 
   stops_for_want BadSite stands cause = absurd cause
 
   -- The same of what is answered, where no header stops it.
-  pub answers_for_want : {T : Type 0} (result : Result T Stop) (untouched : Type 0) → IfErr result (StopsEarlyOr untouched run (HasBrokenBy t risen) full old new) → IfErr result (λ stop. IsOfHeader stop ⊎ HasStopCause old new stop)
+  pub answers_for_want : {T : Type 0} (result : Result T Stop) (untouched : Type 0) → IfErr result (StopsEarlyOr untouched run t (HasBrokenBy t risen) full old new) → IfErr result (λ stop. IsOfHeader stop ⊎ HasStopCause old new stop)
       → ((stop : Stop) → result ≡ Err stop → ¬ IsOfHeader stop) → IfErr result IsForWant
   answers_for_want (Ok x) untouched stands cause late = tt
   answers_for_want (Err e) untouched stands cause late = elim cause [

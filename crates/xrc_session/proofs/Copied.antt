@@ -1,9 +1,11 @@
 -- The copy of a pair's tracks, as a run sees it.
-use Rattle.std.proofs.Common.{◌≡◌, inl, inr, ℕ, ◌≤◌, List, [], ◌∷◌, false, Some, refl, sym, ap, subst, ◌∙◌, arith}
+use Rattle.std.proofs.Common.{◌≡◌, inl, inr, ℕ, ◌<◌, ◌≤◌, List, [], ◌∷◌, false, Some, refl, sym, ap, subst, ◌∙◌, arith}
 use Rattle.ckd_track.specs.declared.rec.Rec.{Rec}
-use Rattle.crash_plant.specs.Calls.{SameSite}
+use Rattle.crash_plant.specs.declared.device.Device.TheVariants.{Control}
+use Rattle.crash_plant.specs.Calls.{Elapses, SameSite}
 use Rattle.crash_plant.specs.Choices.{Choice}
 use Rattle.crash_plant.specs.Moments.{PlantState}
+use Rattle.crash_plant.proofs.Choices.{past_choice}
 use Rattle.trace_grammar.specs.declared.trace.Trace.{Trace}
 use Rattle.sidefile.specs.Breaks.{has_broken}
 use Rattle.pair_table.specs.declared.level.Level.TheVariants.{Volume}
@@ -21,14 +23,16 @@ use Rattle.site_store.specs.Sites.{SiteState, means_with}
 use Rattle.site_store.specs.Standing.{Stands}
 use Rattle.consistency.specs.Bears.{Run}
 use Rattle.consistency.specs.Steps.{TimedCommand}
-use Rattle.pair_course.specs.Course.{HoldsTracks, IsLive}
+use Rattle.pair_course.specs.Course.{HoldsTracks, IsLive, MeansRows}
 use Rattle.epoch.specs.declared.lane.Lane.{Lane}
 use Rattle.epoch.specs.Copying.{ShowsCopying, in_row}
 use Rattle.epoch.specs.Lanes.{tracks_of}
 use Rattle.epoch.specs.Sights.{AllShow, EachIs, Shows, marked_at}
 use Rattle.epoch.specs.Taken.{HasReached}
-use Rattle.session_lines.specs.Meanings.{EachMeans, MeanPair}
+use Rattle.session_lines.specs.Meanings.{EachMeans, MeanPair, NowMeans}
+use Rattle.session_lines.specs.Runs.{Paired}
 use Rattle.xrc_session.specs.Ending.{HoldsLane, IsRunAt}
+use Rattle.xrc_session.specs.Runs.{WasCopied}
 
 -- ---- before it
 
@@ -85,3 +89,48 @@ copy_moments old new site row lane run t line same at_run level goes_on time rea
 
 pub copy_holds : (old new : Lane) (row : PairRow) (means : Means) (plant : PlantState) → new.primary ≡ old.primary → AllShow means row.device (tracks_of row) (track_of old.primary row.volume) plant → HoldsLane new row plant
 copy_holds old new row means plant same shown c is x lt = (shown c is).held x lt ∙ ap (λ (p : PrimaryState). Some (track_of p row.volume x)) (sym same)
+
+-- ---- the moment behind it
+
+module _ (run : Run) (t : Trace) (p : Paired) where
+  -- A site with the duplex pair alone, at the pair's time, means it so.
+  pub copied_rows : (plant : PlantState) (site : SiteState) (row : PairRow) → Stands site.table.rows site plant → IsRunAt site.table.session run → site.level ≡ Volume → site.table.rows ≡ in_state Duplex row ∷ [] → site.mark.ended ≡ false → p.row ≡ row → p.time ≡ site.time
+      → NowMeans plant (λ c. MeansRows run (shape_of plant) c (in_state Duplex p.row ∷ []) p.time false)
+  copied_rows plant site row stands at_run level rows goes_on row_is time_is c is = record {
+    means = means_with site.table.rows site;
+    defined = ap meant_by (stands.meant c is);
+    session = sym at_run.session_is;
+    level = level ∙ sym at_run.level;
+    rows_are = rows ∙ ap (λ (r : PairRow). in_state Duplex r ∷ []) (sym row_is);
+    at = sym time_is;
+    ended = goes_on;
+  }
+
+  -- The lane's tracks are the primary's at its time.
+  pub copied_tracks : (plant : PlantState) (lane : Lane) (row : PairRow) → HoldsLane lane row plant → HasReached lane.primary.time t lane.primary → p.row ≡ row → p.time ≡ lane.primary.time → NowMeans plant (λ c. HoldsTracks t (shape_of plant) c p.row p.time)
+  copied_tracks plant lane row holds reached row_is time_is c is =
+      let here : HasReached p.time t lane.primary = subst (λ (n : ℕ). HasReached n t lane.primary) (sym time_is) reached in
+      subst (λ (r : PairRow). HoldsTracks t (shape_of plant) c r p.time) (sym row_is) (λ x lt. holds c is x lt ∙ ap (λ (r : List Rec). Some r) (here.tracks row.volume x))
+
+  -- So it was copied,
+  pub copied_now : (first now : PlantState) → first.clock ≤ now.clock → NowMeans now (λ c. MeansRows run (shape_of now) c (in_state Duplex p.row ∷ []) p.time false) → NowMeans now (λ c. HoldsTracks t (shape_of now) c p.row p.time) → WasCopied run t p first now
+  copied_now first now later means holds = record { moment = now.clock; since = later; up_to = omega arith; means = means; holds = holds }
+
+  -- and was behind further calls, which keep the past,
+  pub copied_on : (first mid now : PlantState) → 0 < first.clock → SameSite mid now → Elapses mid now → WasCopied run t p first mid → WasCopied run t p first now
+  copied_on first mid now up site past was =
+      let since = was.since in
+      let upto = was.up_to in
+      let later = (past.kept Control).later in
+      let some : 0 < mid.clock = omega (arith, up, since, upto) in
+      record {
+        moment = was.moment;
+        since = since;
+        up_to = omega (arith, upto, later);
+        means = λ c is. subst (λ (s : Shape). MeansRows run s c (in_state Duplex p.row ∷ []) p.time false) (sym (shape_same mid now site)) (was.means c (past_choice mid now was.moment c site past some upto is));
+        holds = λ c is. subst (λ (s : Shape). HoldsTracks t s c p.row p.time) (sym (shape_same mid now site)) (was.holds c (past_choice mid now was.moment c site past some upto is));
+      }
+
+  -- since any earlier moment.
+  pub copied_since : (first later now : PlantState) → first.clock ≤ later.clock → WasCopied run t p later now → WasCopied run t p first now
+  copied_since first later now le was = let since = was.since in record { moment = was.moment; since = omega (arith, le, since); up_to = was.up_to; means = was.means; holds = was.holds }

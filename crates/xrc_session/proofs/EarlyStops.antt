@@ -3,9 +3,11 @@ use Rattle.std.proofs.Common.{◌≡◌, ◌≢◌, ◌⊎◌, inl, inr, ℕ, Re
 use Rattle.std.specs.Prelude.{IfErr, IsErrOf}
 use Rattle.crash_plant.specs.Moments.{PlantState, on}
 use Rattle.crash_plant.proofs.Steps.{stays_here}
+use Rattle.trace_grammar.specs.declared.trace.Trace.{Trace}
 use Rattle.consistency.specs.Bears.{Run}
 use Rattle.xrc_status.specs.declared.stop.Stop.{Stop}
 use Rattle.xrc_status.specs.declared.stop.Stop.TheVariants.{ConsoleFault, JournalFault, ControlFault, StateFault, EarlyVolume, EarlyBreak, NotBuilt, JournalEnd, Spent, NoMemory, BadWords, BadHeader, HeaderFault, NoSession, OtherSession, Damaged, VolumeFault, TooSmall, BadSite}
+use Rattle.xrc_session.specs.Expected.{DueLine}
 use Rattle.xrc_session.specs.Runs.{StopsEarlyOr}
 use Rattle.xrc_session.specs.Stopping.{StopsSo}
 use Rattle.xrc_session.proofs.WholeRuns.{keeps_first}
@@ -44,9 +46,9 @@ was_break result before now count differ = elim (break_or result) [ inl is ↦ i
 -- ---- late stops
 
 -- Once the script is heard no stop is early.
-pub late_stops : {T : Type 0} (result : Result T Stop) (untouched : Type 0) (run : Run) (breaks full : (time : ℕ) → Type 0) (old new : PlantState) → IfErr result (StopsSo run breaks full old new) → IfErr result (StopsEarlyOr untouched run breaks full old new)
-late_stops (Ok x) untouched run breaks full old new stops = tt
-late_stops (Err e) untouched run breaks full old new stops = inr stops
+pub late_stops : {T : Type 0} (result : Result T Stop) (untouched : Type 0) (run : Run) (t : Trace) (breaks full : DueLine → Type 0) (old new : PlantState) → IfErr result (StopsSo run t breaks full old new) → IfErr result (StopsEarlyOr untouched run t breaks full old new)
+late_stops (Ok x) untouched run t breaks full old new stops = tt
+late_stops (Err e) untouched run t breaks full old new stops = inr stops
 
 -- ---- stops by the header
 
@@ -54,12 +56,12 @@ late_stops (Err e) untouched run breaks full old new stops = inr stops
 abbrev pub IsOfOpening : Stop → Type 0
 IsOfOpening stop = ((place : ℕ) × (stop ≡ BadHeader 0 place)) ⊎ (stop ≡ HeaderFault 0) ⊎ (stop ≡ NoMemory)
 
-pub opening_stops : (stop : Stop) (untouched : Type 0) (run : Run) (breaks full : (time : ℕ) → Type 0) (plant : PlantState) → IsOfOpening stop → untouched → StopsEarlyOr untouched run breaks full plant plant stop
-opening_stops stop untouched run breaks full plant of kept = elim of [
+pub opening_stops : (stop : Stop) (untouched : Type 0) (run : Run) (t : Trace) (breaks full : DueLine → Type 0) (plant : PlantState) → IsOfOpening stop → untouched → StopsEarlyOr untouched run t breaks full plant plant stop
+opening_stops stop untouched run t breaks full plant of kept = elim of [
   | inl bad ↦ inl (inr (inr (inl bad)), kept)
   | inr rest ↦ elim rest [
     | inl fault ↦ inl (inr (inr (inr fault)), kept)
-    | inr memory ↦ inr (subst (λ (s : Stop). StopsSo run breaks full plant plant s) (sym memory) (inr (keeps_first run plant, λ d. stays_here (on plant d))))
+    | inr memory ↦ inr (subst (λ (s : Stop). StopsSo run t breaks full plant plant s) (sym memory) (inr (record { keeps = keeps_first run plant; leaves = λ d. stays_here (on plant d) })))
   ]
 ]
 
@@ -69,3 +71,12 @@ err_of_three result e one two three is of = elim of [
   | inl a ↦ inl (is ∙ ap (λ (s : Stop). Err s) a)
   | inr rest ↦ elim rest [ inl b ↦ inr (inl (is ∙ ap (λ (s : Stop). Err s) b)) | inr d ↦ inr (inr (is ∙ ap (λ (s : Stop). Err s) d)) ]
 ]
+
+-- None of them is a break.
+pub no_break : {T : Type 0} (result : Result T Stop) (e : Stop) → IsOfOpening e → result ≡ Err e → ¬ IsErrOf result EarlyBreak
+no_break result e of was is =
+    let same : e ≡ EarlyBreak = cc (was, is) in
+    elim of [
+      | inl bad ↦ let b = bad.1 in cc (b, same)
+      | inr rest ↦ elim rest [ inl fault ↦ cc (fault, same) | inr memory ↦ cc (memory, same) ]
+    ]

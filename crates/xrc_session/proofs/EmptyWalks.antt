@@ -1,5 +1,5 @@
 -- Where a site's next record is the mark's first one, its walk has none.
-use Rattle.std.proofs.Common.{◌≡◌, inl, inr, ℕ, ◌+◌, ◌-◌, ◌^◌, ◌≤◌, ◌<◌, List, [], ◌∷◌, length, None, Option, Ok, Some, refl, sym, ap, subst, ◌∙◌, arith}
+use Rattle.std.proofs.Common.{◌≡◌, inl, inr, ℕ, ◌+◌, ◌-◌, ◌^◌, ◌≤◌, ◌<◌, List, [], ◌∷◌, length, None, refl, sym, ap, subst, ◌∙◌, arith}
 use Rattle.std.specs.List.{flat_map}
 use Rattle.std.proofs.lemmas.Bool.{cases_lt}
 use Rattle.crash_plant.specs.declared.device.Device.TheVariants.{Journal}
@@ -8,11 +8,11 @@ use Rattle.crash_plant.specs.Choices.{Choice, IsChoice}
 use Rattle.crash_plant.specs.Moments.{PlantState}
 use Rattle.control_set.specs.declared.value.Mark.{Mark}
 use Rattle.pair_table.specs.declared.row.PairRow.{PairRow}
-use Rattle.xrc_journal.specs.Items.{Form, Item}
+use Rattle.xrc_journal.specs.Items.{Form}
 use Rattle.xrc_journal.specs.Walks.{Logged, Walks}
 use Rattle.site_means.specs.Images.{Images, Shape, shape_of}
 use Rattle.site_means.specs.Sight.{walked, walked_by}
-use Rattle.site_means.specs.Walk.{Walk, ends_at, start, walk_from, walk_in, walk_items}
+use Rattle.site_means.specs.Walk.{Walk, ends_at, start, walk_from, walk_in}
 use Rattle.site_means.proofs.Found.{group_ends}
 use Rattle.site_means.proofs.OneSet.{walk_alone}
 use Rattle.site_means.proofs.Reaching.{MeantBy, meant_by}

@@ -75,9 +75,9 @@ module _ (run : Run) (t : Trace) (p : Paired) (text : List ℕ) (first a b : Pla
   pub paired_hears : HasPaired run t p text first b
   paired_hears = record {
     goes_on = hears_on run t (paired_lines run p) [] text first a b has.goes_on keeps;
+    is = has.is;
     short_start = has.short_start;
     short = has.short;
-    added = has.added;
   }
 
   module _ (session : List ℕ) (from time : ℕ) (row : PairRow) (row_is : p.row ≡ row) (time_is : p.time ≡ from) (session_is : run.session ≡ session) (next : IsNext from text (end_line session time) first a) where

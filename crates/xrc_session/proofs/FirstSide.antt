@@ -29,7 +29,7 @@ use Rattle.epoch.proofs.GivenEntries.{entries_from_one}
 use Rattle.epoch.proofs.GivenTraces.{failed_trace, given_break, given_primary, given_unbroken}
 use Rattle.epoch.proofs.RisingEntries.{entries_rise, rise_lower}
 use Rattle.xrc_status.specs.declared.stop.Stop.TheVariants.{HeaderFault}
-use Rattle.xrc_session.specs.Runs.{EndsInHeader, IsRefused}
+use Rattle.xrc_session.specs.Runs.{EndsInHeader, GaveTrace, IsRefused}
 use Rattle.xrc_session.specs.StopsOf.{stop_of_header}
 use Rattle.xrc_session.specs.Traces.{Agrees}
 
@@ -124,6 +124,18 @@ module _ (given : List ℕ) (now : Option (List ℕ)) (header : Header) (reader 
         },
       )
 
+  -- Where the source fails later, it gave the bytes of a trace.
+  gives_first : (later : Option (List ℕ)) (limit upto : ℕ) → HasFailed limit upto now later (first_side reader) → GaveTrace given later
+  gives_first later limit upto failed =
+      let (rest, there, is, long) = reads.reads given refl in
+      let fails = failed rest (λ goes. there) in
+      record {
+        left = fails.left;
+        told = fails.told;
+        trace = failed_trace whole (ahead None reader fails.given);
+        given = given_trace given rest fails.given fails.left header reader is (sym long) (version_is header reads.kept) reads.volumes reads.last reads.goes_on fails.split fails.fault;
+      }
+
   -- Where the source fails later, the bytes that it gave are this trace.
   module _ (left : List ℕ) (limit upto : ℕ) (failed : HasFailed limit upto now (Some left) (first_side reader)) (t : Trace) (gave : trace_of 1 true (take (length given - length left) given) ≡ Ok t) where
     abbrev fails : FailsBelow limit upto (Some left) (front_of (first_side reader)) (reads.reads given refl).0
@@ -166,6 +178,11 @@ opened_fails given left before now header reader side limit upto told reads side
     let here = subst (λ (b : Option (List ℕ)). ReadsHeader b now header reader) told reads in
     let same = one_trace (whole given now header reader here) other (sym (whole_is given now header reader here) ∙ whole_other) in
     subst (λ (o : Trace). Agrees upto o t) same (fails_first given now header reader here left limit upto (subst (HasFailed limit upto now (Some left)) side_is failed) t gave)
+
+pub opened_gives : (given : List ℕ) (before now later : Option (List ℕ)) (header : Header) (reader : ReaderState) (side : SidefileState) (limit upto : ℕ) → before ≡ Some given → ReadsHeader before now header reader → side ≡ first_side reader
+    → HasFailed limit upto now later side → GaveTrace given later
+opened_gives given before now later header reader side limit upto told reads side_is failed =
+    gives_first given now header reader (subst (λ (b : Option (List ℕ)). ReadsHeader b now header reader) told reads) later limit upto (subst (HasFailed limit upto now later) side_is failed)
 
 pub opened_breaks : (given left : List ℕ) (before now : Option (List ℕ)) (header : Header) (reader : ReaderState) (side : SidefileState) (limit upto : ℕ) → before ≡ Some given → ReadsHeader before now header reader → side ≡ first_side reader
     → HasFailed limit upto now (Some left) side → (t : Trace) → trace_of 1 true (take (length given - length left) given) ≡ Ok t → has_broken t limit ≡ true

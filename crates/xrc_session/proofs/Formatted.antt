@@ -1,12 +1,12 @@
 -- What stands once a site is formatted and its label is read, with a lane at its time.
-use Rattle.std.proofs.Common.{◌≡◌, ◌≢◌, inl, inr, ℕ, List, [], false, replicate, slice_index_or, Result, Err, refl, sym, ap, subst, ◌∙◌, arith}
+use Rattle.std.proofs.Common.{◌≡◌, ◌≢◌, inl, inr, ℕ, ◌^◌, ◌<◌, List, [], false, replicate, slice_index_or, Result, Err, refl, sym, ap, subst, ◌∙◌, arith}
 use Rattle.std.specs.Prelude.{IsErrOf}
 use Rattle.std.proofs.lemmas.Bool.{cases_lt}
 use Rattle.std.proofs.lemmas.List.{get_or-replicate, get_or_past, length-replicate}
 use Rattle.tod_stamp.specs.declared.stamp.Stamp.{Stamp}
 use Rattle.crash_plant.specs.declared.device.Device.{Device}
-use Rattle.crash_plant.specs.declared.device.Device.TheVariants.{Control}
-use Rattle.crash_plant.specs.Calls.{WorksOn}
+use Rattle.crash_plant.specs.declared.device.Device.TheVariants.{Control, Journal}
+use Rattle.crash_plant.specs.Calls.{SameSite, WorksOn}
 use Rattle.crash_plant.specs.Moments.{Follows, PlantState, Same, on}
 use Rattle.crash_plant.proofs.Choices.{device_cases}
 use Rattle.pair_table.specs.declared.level.Level.TheVariants.{Volume}
@@ -20,7 +20,9 @@ use Rattle.site_store.proofs.ReadsFirst.{stands_mid}
 use Rattle.epoch.specs.declared.lane.Lane.{Lane}
 use Rattle.epoch.specs.declared.lane_error.LaneError.{LaneError}
 use Rattle.epoch.specs.declared.lane_error.LaneError.TheVariants as lane
+use Rattle.epoch.specs.Counted.{IsCounted}
 use Rattle.epoch.specs.Lanes.{IsLane}
+use Rattle.epoch.proofs.Counted.{counted_first}
 use Rattle.xrc_status.specs.declared.stop.Stop.{Stop}
 use Rattle.xrc_status.specs.declared.stop.Stop.TheVariants.{EarlyBreak, EarlyVolume}
 use Rattle.xrc_session.specs.Between.{IsBetween}
@@ -43,6 +45,13 @@ stands_read tells told device rows site old new works same moments = stands_mid 
     follows : (d : Device) → Follows Same (on old d) (on new d)
     follows d = elim (device_cases d device) [ inl here ↦ subst (λ (x : Device). Follows Same (on old x) (on new x)) (sym here) moments | inr other ↦ (works.others told d other).images ]
 
+-- The numbers begin with 1, in a journal of a length that the plant told before.
+pub counted_read : (site : SiteState) (volumes : ℕ) (session : List ℕ) (at : Stamp) (old mid new : PlantState) → site ≡ new_site 1 volumes session Volume at → old.lengths (Journal 0) < 2 ^ 64 → SameSite old mid → SameSite mid new → IsCounted site new
+counted_read site volumes session at old mid new is short first then =
+    let one = first.lengths (Journal 0) in
+    let two = then.lengths (Journal 0) in
+    subst (λ (s : SiteState). IsCounted s new) (sym is) (counted_first 1 volumes session Volume at new (omega (arith, short, one, two)))
+
 not_spent : (v : ℕ) → ¬ (store.Volume v ≡ store.Spent)
 not_spent v = λ is. cc is
 
@@ -59,8 +68,8 @@ none_true : (n i : ℕ) → slice_index_or (replicate n false) i false ≡ false
 none_true n i = elim (cases_lt i n) [ inl lt ↦ get_or-replicate n i false false lt | inr past ↦ get_or_past (replicate n false) i false (omega (arith, length-replicate n false, past)) ]
 
 pub set_between : (tells : Type 0) (lane : Lane) (site : SiteState) (volumes : ℕ) (session : List ℕ) (at : Stamp) (plant : PlantState) → site ≡ new_site 1 volumes session Volume at → IsLane lane → lane.queue.waiting ≡ [] → lane.primary.time ≡ at.0
-    → Fits site plant → (tells → Stands [] site plant) → IsBetween tells lane site plant
-set_between tells lane site volumes session at plant is goes_on empty time fits stands = record {
+    → Fits site plant → IsCounted site plant → (tells → Stands [] site plant) → IsBetween tells lane site plant
+set_between tells lane site volumes session at plant is goes_on empty time fits counted stands = record {
   lane_goes_on = goes_on;
   none_waits = empty;
   same_time = ap (λ (s : SiteState). s.time) is ∙ sym time;
@@ -71,6 +80,7 @@ set_between tells lane site volumes session at plant is goes_on empty time fits 
   good = subst NoneFailed (sym is) (none_true volumes);
   goes_on = ap (λ (s : SiteState). s.mark.ended) is;
   fits = fits;
+  counted = counted;
   stands = λ told. subst (λ (rows : List PairRow). Stands rows site plant) (sym (ap (λ (s : SiteState). s.table.rows) is)) (stands told);
 }
 

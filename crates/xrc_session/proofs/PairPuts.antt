@@ -1,24 +1,26 @@
 -- A row that is put into a site without one, and logged.
-use Rattle.std.proofs.Common.{◌≡◌, ◌≢◌, inl, inr, ℕ, ◌+◌, ◌*◌, ◌<◌, ◌&&◌, Bool, true, cond, nat_le, nat_lt, List, [], ◌∷◌, ◌++◌, length, Option, Some, None, refl, sym, ap, subst, ◌∙◌, arith}
+use Rattle.std.proofs.Common.{◌≡◌, ◌≢◌, ℕ, ◌+◌, ◌*◌, ◌<◌, ◌≤◌, ◌&&◌, Bool, true, cond, nat_le, nat_lt, List, [], ◌∷◌, ◌++◌, length, Option, Some, None, refl, sym, ap, subst, ◌∙◌, arith}
 use Rattle.std.specs.Prelude.{IsErrOf, IsTrue, Result}
+use Rattle.std.specs.List.{list_all}
 use Rattle.std.proofs.lemmas.Bool.{and_parts, eq-eqb}
-use Rattle.crash_plant.specs.declared.device.Device.{Device}
-use Rattle.crash_plant.specs.declared.device.Device.TheVariants.{Control, Journal, Volume}
-use Rattle.crash_plant.specs.Moments.{PlantState, Stays, on}
+use Rattle.std.proofs.lemmas.List.{append-nil}
+use Rattle.crash_plant.specs.declared.device.Device.TheVariants.{Journal, Volume}
+use Rattle.crash_plant.specs.Calls.{SameSite}
+use Rattle.crash_plant.specs.Moments.{PlantState}
 use Rattle.pair_table.specs.declared.command.Change.TheVariants.{Added}
 use Rattle.pair_table.specs.declared.row.PairRow.{PairRow}
-use Rattle.pair_table.specs.Tables.{with_row, with_rows}
-use Rattle.xrc_journal.specs.Items.{Item, body_spelling}
+use Rattle.pair_table.specs.Rows.{is_row}
+use Rattle.pair_table.specs.Tables.{KeepsRows, with_row, with_rows}
+use Rattle.xrc_journal.specs.Items.{Item, body_spelling, item_spelling}
 use Rattle.xrc_journal.specs.Items.Item.{Pair}
 use Rattle.site_store.specs.declared.store_error.StoreError.{StoreError}
 use Rattle.site_store.specs.declared.store_error.StoreError.TheVariants.{JournalEnd, Spent}
-use Rattle.site_store.specs.Changes.{IsAhead, LeavesWhereRefused, RefusesRecord, changed_items, pair_of}
+use Rattle.site_store.specs.Changes.{IsAhead, RefusesRecord, behind_record, changed_items, pair_of}
 use Rattle.site_store.specs.Sites.{SiteState, with_table}
-use Rattle.site_store.specs.Standing.{Stands, has_volume}
-use Rattle.site_store.proofs.ReadsFirst.{stands_mid}
-use Rattle.epoch.specs.Ends.{IsSpent}
-use Rattle.epoch.specs.Works.{WorksSilently}
-use Rattle.xrc_session.specs.Stopping.{IsFullForRow}
+use Rattle.site_store.specs.Standing.{Fits, Stands, has_volume}
+use Rattle.site_store.proofs.Putting.{pair_length}
+use Rattle.epoch.specs.Counted.{IsCounted}
+use Rattle.epoch.proofs.Counted.{counted_behind_record, record_number_goes_on}
 
 -- the site with the row alone
 abbrev pub site_with : PairRow → SiteState → SiteState
@@ -71,26 +73,29 @@ module _ (row : PairRow) (site put : SiteState) (rows : site.table.rows ≡ []) 
   some_items : changed_items (Added row.device) put.table.rows ≢ []
   some_items none = let no : Pair row ∷ [] ≡ [] = sym put_items ∙ none in absurd cc
 
-  -- ---- a record that is refused
+  -- ---- the numbers
 
-  module _ (tells : Type 0) (told : tells) (old new : PlantState) (works : WorksSilently tells old new) (stands : Stands [] site old) (result : Result (Unit {0}) StoreError) (untouched : LeavesWhereRefused tells old new result) where
-    -- What stood stands.
-    stands_untouched : ((d : Device) → Stays (on old d) (on new d)) → Stands [] site new
-    stands_untouched stays = stands_mid old new works.site (λ d. (stays d).bytes) (λ d. (stays d).images) ((works.elapses told).kept Control).later [] site stands
+  -- They go on behind its record.
+  pub put_counted : (time : ℕ) (next : SiteState) (old new : PlantState) → next ≡ behind_record time (changed_items (Added row.device) put.table.rows) put → SameSite old new → IsCounted site old → IsCounted next new
+  put_counted time next old new behind same counted =
+      let before = subst (λ (s : SiteState). IsCounted s old) (sym put_is) (record { records = counted.records; marks = counted.marks; length = counted.length }) in
+      subst (λ (s : SiteState). IsCounted s new) (sym behind) (counted_behind_record time (changed_items (Added row.device) put.table.rows) put old new same before)
 
-    -- Its number would be the last.
-    pub put_spent : (changed_items (Added row.device) put.table.rows ≢ [] → RefusesRecord (old.lengths (Journal put.at.set)) put.at (changed_items (Added row.device) put.table.rows) result) → IsErrOf result Spent → IsSpent new
-    put_spent refuses spent = record {
-      site = site;
-      stands = subst (λ (l : List PairRow). Stands l site new) (sym rows) (stands_untouched (untouched told (inr spent)));
-      last = inl (sym (ap (λ (s : SiteState). s.at.number) put_is) ∙ (refuses some_items).spent.0 spent);
-    }
+  -- So none is the last.
+  pub put_unspent : (old : PlantState) (result : Result (Unit {0}) StoreError) → IsCounted site old → Fits site old
+      → (changed_items (Added row.device) put.table.rows ≢ [] → RefusesRecord (old.lengths (Journal put.at.set)) put.at (changed_items (Added row.device) put.table.rows) result) → ¬ IsErrOf result Spent
+  put_unspent old result counted fits refuses spent = record_number_goes_on site old counted fits (sym (ap (λ (s : SiteState). s.at.number) put_is) ∙ (refuses some_items).spent.0 spent)
 
-    -- It doesn't fit.
-    pub put_full : (changed_items (Added row.device) put.table.rows ≢ [] → RefusesRecord (old.lengths (Journal put.at.set)) put.at (changed_items (Added row.device) put.table.rows) result) → IsErrOf result JournalEnd → IsFullForRow new
-    put_full refuses end =
-        let short : old.lengths (Journal put.at.set) < put.at.place + 22 + length (body_spelling (changed_items (Added row.device) put.table.rows)) + 24 = ((refuses some_items).journal_end.0 end).1 in
-        let of_row : old.lengths (Journal put.at.set) < put.at.place + 22 + length (body_spelling (Pair row ∷ [])) + 24 = subst (λ (l : List Item). old.lengths (Journal put.at.set) < put.at.place + 22 + length (body_spelling l) + 24) put_items short in
-        let of_site : old.lengths (Journal site.at.set) < site.at.place + 22 + length (body_spelling (Pair row ∷ [])) + 24 = subst (λ (s : SiteState). old.lengths (Journal s.at.set) < s.at.place + 22 + length (body_spelling (Pair row ∷ [])) + 24) put_is of_row in
-        let same = works.site.lengths (Journal site.at.set) in
-        record { site = site; row = row; stands = stands_untouched (untouched told (inl end)); short = omega (arith, of_site, same) }
+  -- ---- the room
+
+  -- Its record fits where at most a group without entries stands before it.
+  pub put_fits : (old : PlantState) (result : Result (Unit {0}) StoreError) → KeepsRows put.table.rows → site.at.place ≤ 22 → Fits site old
+      → (changed_items (Added row.device) put.table.rows ≢ [] → RefusesRecord (old.lengths (Journal put.at.set)) put.at (changed_items (Added row.device) put.table.rows) result) → ¬ IsErrOf result JournalEnd
+  put_fits old result keeps begins fits refuses end =
+      let is : is_row row ≡ true = (and_parts (is_row row) true (subst (λ (l : List PairRow). IsTrue (list_all is_row l)) (ap (λ (s : SiteState). s.table.rows) put_is) keeps.each)).0 in
+      let long : length (body_spelling (Pair row ∷ [])) ≡ 31 = ap length (append-nil (item_spelling (Pair row))) ∙ pair_length row is in
+      let short : old.lengths (Journal put.at.set) < put.at.place + 22 + length (body_spelling (changed_items (Added row.device) put.table.rows)) + 24 = ((refuses some_items).journal_end.0 end).1 in
+      let of_row : old.lengths (Journal put.at.set) < put.at.place + 22 + length (body_spelling (Pair row ∷ [])) + 24 = subst (λ (l : List Item). old.lengths (Journal put.at.set) < put.at.place + 22 + length (body_spelling l) + 24) put_items short in
+      let of_site : old.lengths (Journal site.at.set) < site.at.place + 22 + length (body_spelling (Pair row ∷ [])) + 24 = subst (λ (s : SiteState). old.lengths (Journal s.at.set) < s.at.place + 22 + length (body_spelling (Pair row ∷ [])) + 24) put_is of_row in
+      let room = fits.lengths.journal site.at.set fits.set in
+      absurd (omega (arith, of_site, long, room, begins))

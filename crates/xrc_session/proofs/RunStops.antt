@@ -1,5 +1,5 @@
 -- How a run over a whole script stops: its calls one after another.
-use Rattle.std.proofs.Common.{◌≡◌, ◌≢◌, inl, inr, ℕ, ◌<◌, ◌-◌, true, false, List, [], ◌∷◌, length, take, Option, Some, Result, Ok, Err, refl, sym, ap, subst, ◌∙◌, arith}
+use Rattle.std.proofs.Common.{◌≡◌, ◌≢◌, inl, inr, ℕ, ◌<◌, ◌-◌, ◌^◌, true, false, List, [], ◌∷◌, length, take, Option, Some, Result, Ok, Err, refl, sym, ap, subst, ◌∙◌, arith}
 use Rattle.std.specs.Prelude.{IfErr, IsErrOf}
 use Rattle.std.proofs.lemmas.Bool.{lt-ltb}
 use Rattle.xrc_edge.specs.Causes.{Rose}
@@ -7,47 +7,55 @@ use Rattle.crash_plant.specs.Moments.{PlantState}
 use Rattle.trace_grammar.specs.declared.trace.Trace.{Trace}
 use Rattle.trace_grammar.specs.Good.{trace_of}
 use Rattle.sidefile.specs.Breaks.{has_broken, is_below}
-use Rattle.pair_table.specs.declared.row.PairRow.{PairRow}
+use Rattle.pair_table.specs.declared.row.PairState.TheVariants.{Duplex}
+use Rattle.pair_table.specs.Tables.{in_state}
+use Rattle.site_means.specs.Images.{shape_of}
 use Rattle.consistency.specs.Bears.{Run}
+use Rattle.pair_course.specs.Course.{MeansRows}
+use Rattle.consistency.specs.Keeping.{Keeps}
 use Rattle.epoch.specs.declared.lane.Lane.{Lane}
 use Rattle.epoch.specs.Lanes.{IsLane}
 use Rattle.epoch.specs.Taken.{FailsAsBefore, HasFailed, HasReached, HasTaken}
+use Rattle.script_lines.specs.Grammars.{line_grammar}
 use Rattle.script_lines.specs.Hearing.{HearsText, KeepsHearing}
 use Rattle.session_lines.specs.Behind.{HasHearingCause, HearsMore}
-use Rattle.session_lines.specs.Runs.{Ended, GoesOn, ended_lines}
+use Rattle.session_lines.specs.Meanings.{NowMeans}
+use Rattle.session_lines.specs.Runs.{Ended, HasFinished, Paired, ended_lines, paired_lines}
 use Rattle.session_lines.proofs.Going.{hears_on}
 use Rattle.xrc_status.specs.declared.stop.Stop.{Stop}
 use Rattle.xrc_status.specs.declared.stop.Stop.TheVariants.{ConsoleFault, JournalFault, ControlFault, StateFault, EarlyVolume, EarlyBreak, NotBuilt, JournalEnd, Spent, NoMemory, BadWords, BadHeader, HeaderFault, NoSession, OtherSession, Damaged, VolumeFault, TooSmall, BadSite}
-use Rattle.xrc_session.specs.Expected.{StopsAt}
+use Rattle.xrc_session.specs.Expected.{DueLine, KeepsExpected, StopsAt, lines_before}
 use Rattle.xrc_session.specs.Expected.AreAnswered.{AnEnd}
+use Rattle.xrc_session.specs.Expected.DueLine.{DueEnd, DuePair, DueStart}
 use Rattle.xrc_session.specs.Expected.IsUnexpected.{More}
 use Rattle.xrc_session.specs.Full.{IsFullBehind, IsFullFrom}
-use Rattle.xrc_session.specs.Runs.{HasBrokenBy}
 use Rattle.xrc_session.specs.Stopping.{BreaksBelow, StopsSo}
 use Rattle.xrc_session.specs.Traces.{Agrees, Foresees, IsTraceOf}
 use Rattle.xrc_session.specs.Traces.IsTraceOf.{Failed, Whole}
 use Rattle.xrc_session.proofs.BothTaken.{reached_both}
+use Rattle.xrc_session.proofs.Completeness.{paired_once}
 use Rattle.xrc_session.proofs.FirstSide.{Opens}
 use Rattle.xrc_session.proofs.Saying.{answers_so_far}
 use Rattle.xrc_session.proofs.WholeRuns.{agrees_with, foresees_first, one_told, one_trace}
 
 -- ---- less is said
 
--- A line that stopped so by its time stopped by what follows from that.
-at_more : (run : Run) (so more : (time : ℕ) → Type 0) (first now : PlantState) → ((time : ℕ) → so time → more time) → StopsAt run so first now → StopsAt run more first now
-at_more run so more first now wider stops = record { line = stops.line; why = wider stops.line.time stops.why }
+-- A line that stopped so by what is due stopped by what follows from that.
+at_more : (run : Run) (t : Trace) (so more : DueLine → Type 0) (first now : PlantState) → ((line : KeepsExpected run t first now) → so line.due → more line.due) → StopsAt run t so first now → StopsAt run t more first now
+at_more run t so more first now wider stops = record { line = stops.line; why = wider stops.line stops.why }
 
 -- A run that stopped so stopped so by what follows of breaks, and of full journals.
-module _ (run : Run) (breaks full less rest : (time : ℕ) → Type 0) (first now : PlantState) where
-  pub stop_so : (stop : Stop) → (stop ≡ EarlyBreak → (time : ℕ) → breaks time → less time) → (stop ≡ JournalEnd → (time : ℕ) → full time → rest time) → StopsSo run breaks full first now stop → StopsSo run less rest first now stop
+module _ (run : Run) (t : Trace) (breaks full less rest : DueLine → Type 0) (first now : PlantState) where
+  pub stop_so : (stop : Stop) → (stop ≡ EarlyBreak → (line : KeepsExpected run t first now) → breaks line.due → less line.due) → (stop ≡ JournalEnd → (line : KeepsExpected run t first now) → full line.due → rest line.due) → StopsSo run t breaks full first now stop
+      → StopsSo run t less rest first now stop
   stop_so ConsoleFault broken ended so = so
   stop_so (JournalFault j) broken ended so = so
   stop_so ControlFault broken ended so = so
   stop_so StateFault broken ended so = so
   stop_so EarlyVolume broken ended so = so
-  stop_so EarlyBreak broken ended so = at_more run breaks less first now (broken refl) so
+  stop_so EarlyBreak broken ended so = at_more run t breaks less first now (broken refl) so
   stop_so NotBuilt broken ended so = so
-  stop_so JournalEnd broken ended so = at_more run full rest first now (ended refl) so
+  stop_so JournalEnd broken ended so = at_more run t full rest first now (ended refl) so
   stop_so Spent broken ended so = so
   stop_so NoMemory broken ended so = so
   stop_so BadWords broken ended so = so
@@ -60,7 +68,8 @@ module _ (run : Run) (breaks full less rest : (time : ℕ) → Type 0) (first no
   stop_so (TooSmall d needed) broken ended so = so
   stop_so BadSite broken ended so = so
 
-  pub stops_so : {T : Type 0} (result : Result T Stop) → (IsErrOf result EarlyBreak → (time : ℕ) → breaks time → less time) → (IsErrOf result JournalEnd → (time : ℕ) → full time → rest time) → IfErr result (StopsSo run breaks full first now) → IfErr result (StopsSo run less rest first now)
+  pub stops_so : {T : Type 0} (result : Result T Stop) → (IsErrOf result EarlyBreak → (line : KeepsExpected run t first now) → breaks line.due → less line.due) → (IsErrOf result JournalEnd → (line : KeepsExpected run t first now) → full line.due → rest line.due)
+      → IfErr result (StopsSo run t breaks full first now) → IfErr result (StopsSo run t less rest first now)
   stops_so (Ok x) broken ended so = tt
   stops_so (Err e) broken ended so = stop_so e (λ is. broken (ap (λ (s : Stop). Err s) is)) (λ is. ended (ap (λ (s : Stop). Err s) is)) so
 
@@ -72,14 +81,21 @@ pub breaks_before : (limit : ℕ) (told mid now : Option (List ℕ)) (faults bet
 breaks_before limit told mid now faults between risen old lane new same fails taken (inl failed) = inl (subst (λ (n : ℕ). Rose n risen) same failed.0, fails limit new.side.upto now failed.1)
 breaks_before limit told mid now faults between risen old lane new same fails taken (inr will) = inr (will.0 ∙ same, λ t before. will.1 t (taken t before))
 
--- A journal that is full while a pair is brought to its end is full by each trace that the lane took from its start on.
-pub full_before : (told mid : Option (List ℕ)) (old lane : Lane) (row : PairRow) (paired upto : ℕ) (now : PlantState) (t : Trace) → ((other : Trace) → HasTaken told other old.side old.primary → HasTaken mid other lane.side lane.primary) → Foresees mid lane upto t → IsLane lane
-    → paired ≡ lane.primary.time → 0 < paired → (time : ℕ) → IsFullBehind mid lane row paired now time → IsFullFrom told old now time
-full_before told mid old lane row paired upto now t takes f goes same some time full other taken =
-    let here = takes other taken in
-    let even = goes.even in
-    let reached : HasReached paired f.other lane.primary = subst (λ (n : ℕ). HasReached n f.other lane.primary) (sym same) (f.reached (omega (arith, same, some))) in
-    inr (row, paired, full other here (reached_both mid lane.side lane.primary paired (omega (arith, even, same)) f.other other f.taken here reached))
+-- A journal that is full while a run's pair is brought to its end is full by each trace that the lane took from its start on.
+module _ (told mid : Option (List ℕ)) (old lane : Lane) (upto : ℕ) (run : Run) (t : Trace) (p : Paired) (first paired now : PlantState) (takes : (other : Trace) → HasTaken told other old.side old.primary → HasTaken mid other lane.side lane.primary) (f : Foresees mid lane upto t)
+    (goes : IsLane lane) (keeps : Keeps run line_grammar (paired_lines run p) [] first paired) (same : p.time ≡ lane.primary.time) (some : 0 < lane.primary.time) where
+  full_by : (due : DueLine) (text : List ℕ) → Keeps run line_grammar (lines_before run due) text first now → IsFullBehind mid lane now due → IsFullFrom told old now due
+  full_by (DueStart time) text heard full other taken = absurd full
+  full_by (DuePair start row time) text heard full other taken = absurd full
+  full_by (DueEnd pair time) text heard full other taken =
+      let here = takes other taken in
+      let even = goes.even in
+      let at : lane.primary.time ≡ pair.time = sym same ∙ paired_once run first p pair [] text paired now keeps heard in
+      let reached : HasReached pair.time f.other lane.primary = subst (λ (n : ℕ). HasReached n f.other lane.primary) at (f.reached some) in
+      full other here (reached_both mid lane.side lane.primary pair.time (omega (arith, even, at)) f.other other f.taken here reached)
+
+  pub full_before : (line : KeepsExpected run t first now) → IsFullBehind mid lane now line.due → IsFullFrom told old now line.due
+  full_before line full = full_by line.due line.text line.keeps full
 
 -- ---- the trace of the run
 
@@ -109,7 +125,7 @@ failed_by before mid now faults opened risen limit lane new t given (Failed diff
 
 -- Where a lane breaks at a time, the trace of its run has broken by then.
 pub broken_by : (before mid now : Option (List ℕ)) (faults opened risen limit : ℕ) (lane new : Lane) (t : Trace) (given : List ℕ) → IsTraceOf before now faults risen t → opened ≡ faults → before ≡ Some given → Opens given mid lane.side lane.primary
-    → ((left : List ℕ) → HasFailed limit new.side.upto mid (Some left) lane.side → (t : Trace) → trace_of 1 true (take (length given - length left) given) ≡ Ok t → has_broken t limit ≡ true) → BreaksBelow limit mid now opened risen lane new → HasBrokenBy t risen limit
+    → ((left : List ℕ) → HasFailed limit new.side.upto mid (Some left) lane.side → (t : Trace) → trace_of 1 true (take (length given - length left) given) ≡ Ok t → has_broken t limit ≡ true) → BreaksBelow limit mid now opened risen lane new → risen ≢ 2 ^ 64 - 1 → has_broken t limit ≡ true
 broken_by before mid now faults opened risen limit lane new t given is counted held opens breaks (inl failed) last = elim failed.0 [
   | inl rose ↦ failed_by before mid now faults opened risen limit lane new t given is rose counted held breaks failed.1
   | inr end ↦ absurd (last end)
@@ -122,17 +138,18 @@ broken_by before mid now faults opened risen limit lane new t given is counted h
 -- ---- behind the last line
 
 -- What isn't the end of the script is one byte more.
-pub nothing_stops : {T : Type 0} (result : Result T Stop) (run : Run) (t : Trace) (end : Ended) (breaks full : (time : ℕ) → Type 0) (first mid new : PlantState) → GoesOn run t (ended_lines run end) [] first mid → HasHearingCause mid.console_faults new.console_faults result
-    → (IsErrOf result NotBuilt → HearsMore mid new) → (IsErrOf result ConsoleFault → HearsText [] mid new) → ((text : List ℕ) → HearsText text mid new → KeepsHearing [] text first mid new) → IfErr result (StopsSo run breaks full first new)
-nothing_stops (Ok x) run t end breaks full first mid new goes cause more failed keeps = tt
-nothing_stops (Err e) run t end breaks full first mid new goes cause more failed keeps = elim cause.stops [
+pub nothing_stops : {T : Type 0} (result : Result T Stop) (run : Run) (t : Trace) (end : Ended) (breaks full : DueLine → Type 0) (first mid new : PlantState) → HasFinished run t end [] first mid → HasHearingCause mid.console_faults new.console_faults result
+    → (IsErrOf result NotBuilt → HearsMore mid new) → (IsErrOf result ConsoleFault → HearsText [] mid new) → ((text : List ℕ) → HearsText text mid new → KeepsHearing [] text first mid new)
+    → NowMeans new (λ c. MeansRows run (shape_of new) c (in_state Duplex end.pair.row ∷ []) end.time true) → IfErr result (StopsSo run t breaks full first new)
+nothing_stops (Ok x) run t end breaks full first mid new has cause more failed keeps means = tt
+nothing_stops (Err e) run t end breaks full first mid new has cause more failed keeps means = elim cause.stops [
   | inl refused ↦
       let one = more (ap (λ (s : Stop). Err s) refused) in
       let text = one.byte ∷ [] in
-      let heard = hears_on run t (ended_lines run end) [] text first mid new goes (keeps text one.heard) in
-      subst (λ (s : Stop). StopsSo run breaks full first new s) (sym refused) (More end text heard.keeps (λ none. cc none))
+      let heard = hears_on run t (ended_lines run end) [] text first mid new has.goes_on (keeps text one.heard) in
+      subst (λ (s : Stop). StopsSo run t breaks full first new s) (sym refused) (More end one.byte has.is heard.keeps means)
   | inr fault ↦
       let none = failed (ap (λ (s : Stop). Err s) fault) in
-      let heard = hears_on run t (ended_lines run end) [] [] first mid new goes (keeps [] none) in
-      subst (λ (s : Stop). StopsSo run breaks full first new s) (sym fault) (answers_so_far run (ended_lines run end) [] first new (AnEnd end refl) heard.keeps (λ none. absurd (cc none)))
+      let heard = hears_on run t (ended_lines run end) [] [] first mid new has.goes_on (keeps [] none) in
+      subst (λ (s : Stop). StopsSo run t breaks full first new s) (sym fault) (answers_so_far run t (ended_lines run end) [] first new (AnEnd end has.is refl) heard.keeps (λ none. absurd (cc none)))
 ]

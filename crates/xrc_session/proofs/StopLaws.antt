@@ -20,21 +20,22 @@ use Rattle.xrc_session.specs.StopsOf.{IsOfEpoch, IsOfStore, stop_of_device, stop
 -- ---- why
 
 -- Where each fault is one of a count that rose, so is its stop.
-pub store_cause : (old new : PlantState) (e : StoreError) → ((d : Device) → e ≡ store.Fault d → Rose (old.faults d) (new.faults d)) → ((v : ℕ) → e ≡ store.Volume v → Rose (old.faults (Volume v)) (new.faults (Volume v)))
+pub store_cause : (old new : PlantState) (e : StoreError) → ((d : Device) → e ≡ store.Fault d → Rose (old.faults d) (new.faults d)) → ((v : ℕ) → e ≡ store.Volume v → Rose (old.faults (Volume v)) (new.faults (Volume v))) → ¬ (e ≡ store.Spent)
     → HasStopCause old new (stop_of_store e)
-store_cause old new (store.Fault Control) fault volume = fault Control refl
-store_cause old new (store.Fault State) fault volume = fault State refl
-store_cause old new (store.Fault (Journal j)) fault volume = fault (Journal j) refl
-store_cause old new (store.Fault (Volume v)) fault volume = (v, fault (Volume v) refl)
-store_cause old new (store.Volume v) fault volume = (v, volume v refl)
-store_cause old new store.JournalEnd fault volume = tt
-store_cause old new store.Spent fault volume = tt
-store_cause old new store.NoMemory fault volume = tt
+store_cause old new (store.Fault Control) fault volume unspent = fault Control refl
+store_cause old new (store.Fault State) fault volume unspent = fault State refl
+store_cause old new (store.Fault (Journal j)) fault volume unspent = fault (Journal j) refl
+store_cause old new (store.Fault (Volume v)) fault volume unspent = (v, fault (Volume v) refl)
+store_cause old new (store.Volume v) fault volume unspent = (v, volume v refl)
+store_cause old new store.JournalEnd fault volume unspent = tt
+store_cause old new store.Spent fault volume unspent = absurd (unspent refl)
+store_cause old new store.NoMemory fault volume unspent = tt
 
-pub epoch_cause : (old new : PlantState) (e : EpochError) → ((d : Device) → e ≡ epoch.Store (store.Fault d) → Rose (old.faults d) (new.faults d)) → ((v : ℕ) → e ≡ epoch.Store (store.Volume v) → Rose (old.faults (Volume v)) (new.faults (Volume v)))
+pub epoch_cause : (old new : PlantState) (e : EpochError) → ((d : Device) → e ≡ epoch.Store (store.Fault d) → Rose (old.faults d) (new.faults d)) → ((v : ℕ) → e ≡ epoch.Store (store.Volume v) → Rose (old.faults (Volume v)) (new.faults (Volume v))) → ¬ (e ≡ epoch.Store store.Spent)
     → HasStopCause old new (stop_of_epoch e)
-epoch_cause old new epoch.Broken fault volume = tt
-epoch_cause old new (epoch.Store e) fault volume = store_cause old new e (λ d is. fault d (ap (λ (x : StoreError). epoch.Store x) is)) (λ v is. volume v (ap (λ (x : StoreError). epoch.Store x) is))
+epoch_cause old new epoch.Broken fault volume unspent = tt
+epoch_cause old new (epoch.Store e) fault volume unspent =
+    store_cause old new e (λ d is. fault d (ap (λ (x : StoreError). epoch.Store x) is)) (λ v is. volume v (ap (λ (x : StoreError). epoch.Store x) is)) (λ is. unspent (ap (λ (x : StoreError). epoch.Store x) is))
 
 pub lane_cause : (old new : PlantState) (e : LaneError) → HasStopCause old new (stop_of_lane e)
 lane_cause old new lane.Broken = tt
@@ -42,14 +43,14 @@ lane_cause old new lane.NoMemory = tt
 
 -- The same of the error of a call.
 pub store_caused : (old new : PlantState) (result : Result (Unit {0}) StoreError) (e : StoreError) (stop : Stop) → result ≡ Err e → stop ≡ stop_of_store e → ((d : Device) → IsErrOf result (store.Fault d) → Rose (old.faults d) (new.faults d))
-    → ((v : ℕ) → IsErrOf result (store.Volume v) → Rose (old.faults (Volume v)) (new.faults (Volume v))) → HasStopCause old new stop
-store_caused old new result e stop is so fault volume =
-    subst (λ (s : Stop). HasStopCause old new s) (sym so) (store_cause old new e (λ d same. fault d (is ∙ ap Err same)) (λ v same. volume v (is ∙ ap Err same)))
+    → ((v : ℕ) → IsErrOf result (store.Volume v) → Rose (old.faults (Volume v)) (new.faults (Volume v))) → ¬ IsErrOf result store.Spent → HasStopCause old new stop
+store_caused old new result e stop is so fault volume unspent =
+    subst (λ (s : Stop). HasStopCause old new s) (sym so) (store_cause old new e (λ d same. fault d (is ∙ ap Err same)) (λ v same. volume v (is ∙ ap Err same)) (λ same. unspent (is ∙ ap Err same)))
 
 pub epoch_caused : (old new : PlantState) (result : Result (Unit {0}) EpochError) (e : EpochError) (stop : Stop) → result ≡ Err e → stop ≡ stop_of_epoch e → ((d : Device) → IsErrOf result (epoch.Store (store.Fault d)) → Rose (old.faults d) (new.faults d))
-    → ((v : ℕ) → IsErrOf result (epoch.Store (store.Volume v)) → Rose (old.faults (Volume v)) (new.faults (Volume v))) → HasStopCause old new stop
-epoch_caused old new result e stop is so fault volume =
-    subst (λ (s : Stop). HasStopCause old new s) (sym so) (epoch_cause old new e (λ d same. fault d (is ∙ ap Err same)) (λ v same. volume v (is ∙ ap Err same)))
+    → ((v : ℕ) → IsErrOf result (epoch.Store (store.Volume v)) → Rose (old.faults (Volume v)) (new.faults (Volume v))) → ¬ IsErrOf result (epoch.Store store.Spent) → HasStopCause old new stop
+epoch_caused old new result e stop is so fault volume unspent =
+    subst (λ (s : Stop). HasStopCause old new s) (sym so) (epoch_cause old new e (λ d same. fault d (is ∙ ap Err same)) (λ v same. volume v (is ∙ ap Err same)) (λ same. unspent (is ∙ ap Err same)))
 
 -- Behind calls in which no count fell the cause is one of all of them.
 store_cause_later : (old mid new : PlantState) → ((d : Device) → old.faults d ≤ mid.faults d) → (e : StoreError) → HasStopCause mid new (stop_of_store e) → HasStopCause old new (stop_of_store e)
@@ -59,7 +60,7 @@ store_cause_later old mid new le (store.Fault (Journal j)) cause = rose_later (o
 store_cause_later old mid new le (store.Fault (Volume v)) cause = (cause.0, rose_later (old.faults (Volume cause.0)) (mid.faults (Volume cause.0)) (new.faults (Volume cause.0)) (le (Volume cause.0)) cause.1)
 store_cause_later old mid new le (store.Volume v) cause = (cause.0, rose_later (old.faults (Volume cause.0)) (mid.faults (Volume cause.0)) (new.faults (Volume cause.0)) (le (Volume cause.0)) cause.1)
 store_cause_later old mid new le store.JournalEnd cause = tt
-store_cause_later old mid new le store.Spent cause = tt
+store_cause_later old mid new le store.Spent cause = cause
 store_cause_later old mid new le store.NoMemory cause = tt
 
 epoch_cause_later : (old mid new : PlantState) → ((d : Device) → old.faults d ≤ mid.faults d) → (e : EpochError) → HasStopCause mid new (stop_of_epoch e) → HasStopCause old new (stop_of_epoch e)
@@ -137,10 +138,6 @@ store_not_refused store.JournalEnd = λ is. cc is
 store_not_refused store.Spent = λ is. cc is
 store_not_refused store.NoMemory = λ is. cc is
 
-pub epoch_spent : (e : EpochError) → stop_of_epoch e ≡ Spent → e ≡ epoch.Store store.Spent
-epoch_spent epoch.Broken is = cc is
-epoch_spent (epoch.Store e) is = ap (λ (x : StoreError). epoch.Store x) (store_spent e is)
-
 pub epoch_end : (e : EpochError) → stop_of_epoch e ≡ JournalEnd → e ≡ epoch.Store store.JournalEnd
 epoch_end epoch.Broken is = cc is
 epoch_end (epoch.Store e) is = ap (λ (x : StoreError). epoch.Store x) (store_end e is)
@@ -158,9 +155,6 @@ epoch_not_refused epoch.Broken = λ is. cc is
 epoch_not_refused (epoch.Store e) = store_not_refused e
 
 -- The error of a call whose stop is one of these.
-pub was_spent : (result : Result (Unit {0}) StoreError) (e : StoreError) (stop : Stop) → result ≡ Err e → stop ≡ stop_of_store e → IsErrOf {T = Unit {0}} (Err stop) Spent → IsErrOf result store.Spent
-was_spent result e stop is so spent = let same : stop ≡ Spent = cc spent in is ∙ ap Err (store_spent e (sym so ∙ same))
-
 pub was_end : (result : Result (Unit {0}) StoreError) (e : StoreError) (stop : Stop) → result ≡ Err e → stop ≡ stop_of_store e → IsErrOf {T = Unit {0}} (Err stop) JournalEnd → IsErrOf result store.JournalEnd
 was_end result e stop is so ended = let same : stop ≡ JournalEnd = cc ended in is ∙ ap Err (store_end e (sym so ∙ same))
 

@@ -19,6 +19,7 @@ use Rattle.site_means.proofs.Shorts.{are_long}
 use Rattle.site_store.specs.Sites.{SiteState}
 use Rattle.site_store.specs.Standing.{HasLengths, Stands}
 use Rattle.consistency.specs.Bears.{Run}
+use Rattle.consistency.specs.Keeping.{Keeps}
 use Rattle.consistency.proofs.Keeping.{keeps_begins}
 use Rattle.pair_course.specs.Course.{HoldsTracks, MeansRows}
 use Rattle.epoch.specs.declared.lane.Lane.{Lane}
@@ -28,17 +29,18 @@ use Rattle.script_lines.specs.Grammars.{line_grammar}
 use Rattle.script_lines.specs.Hearing.{KeepsHearing}
 use Rattle.session_lines.specs.Behind.{HasHearingCause, HearsEnd}
 use Rattle.session_lines.specs.Meanings.{NowMeans}
-use Rattle.session_lines.specs.Runs.{GoesOn, Paired, ended_at, ended_lines}
+use Rattle.session_lines.specs.Runs.{GoesOn, HasFinished, Paired, ended_at, ended_lines}
 use Rattle.session_lines.proofs.Going.{hears_on}
 use Rattle.xrc_status.specs.declared.stop.Stop.{Stop}
 use Rattle.xrc_status.specs.declared.stop.Stop.TheVariants.{ConsoleFault, JournalFault, ControlFault, StateFault, EarlyVolume, EarlyBreak, NotBuilt, JournalEnd, Spent, NoMemory, BadWords, BadHeader, HeaderFault, NoSession, OtherSession, Damaged, VolumeFault, TooSmall, BadSite}
 use Rattle.xrc_session.specs.Between.{IsRunOf}
 use Rattle.xrc_session.specs.Numbers.{HasNumbers}
-use Rattle.xrc_session.specs.Runs.{EndsSession, IsSessionRun}
-use Rattle.xrc_session.specs.Stopping.{BreaksBelow, HasStopCause, KeepsSome, NoneFell}
+use Rattle.xrc_session.specs.Runs.{EndsSession, IsSessionRun, WasCopied}
+use Rattle.xrc_session.specs.Stopping.{BreaksBelow, HasStopCause, NoneFell}
 use Rattle.xrc_session.specs.Traces.{Agrees, Foresees, IsTraceOf}
 use Rattle.xrc_session.specs.Traces.IsTraceOf.{Failed, Whole}
 use Rattle.xrc_session.proofs.Between.{now_heard}
+use Rattle.xrc_session.proofs.Copied.{copied_on}
 use Rattle.xrc_session.proofs.EmptyWalks.{none_is_walked}
 use Rattle.xrc_session.proofs.EndSlots.{slots_begin}
 use Rattle.xrc_session.proofs.Ended.{ended_rows}
@@ -109,7 +111,7 @@ cause_since old mid new EarlyVolume fell cause = (cause.0, rose_later (old.fault
 cause_since old mid new EarlyBreak fell cause = tt
 cause_since old mid new NotBuilt fell cause = tt
 cause_since old mid new JournalEnd fell cause = tt
-cause_since old mid new Spent fell cause = tt
+cause_since old mid new Spent fell cause = absurd cause
 cause_since old mid new NoMemory fell cause = tt
 cause_since old mid new BadWords fell cause = absurd cause
 cause_since old mid new (BadHeader trace place) fell cause = absurd cause
@@ -147,15 +149,18 @@ nothing_is (Err e) before now other cause one two is =
 module _ (run : Run) (t : Trace) (pair : Paired) (text : List ℕ) (first mid new : PlantState) (site : SiteState) (tells : Type 0) (told : tells) (only : WorksOnConsole tells mid new) (end : HearsEnd mid new)
     (keeps : KeepsHearing [] [] first mid new) where
   -- The script was heard to its end.
-  pub ends_session : GoesOn run t (ended_lines run (ended_at pair site.time text)) [] first mid → Stands site.table.rows site mid → site.table.session ≡ run.session → site.level ≡ run.level → site.table.rows ≡ in_state Duplex pair.row ∷ [] → site.mark.ended ≡ true
+  pub ends_session : HasFinished run t (ended_at pair site.time text) [] first mid → WasCopied run t pair first mid → Stands site.table.rows site mid → site.table.session ≡ run.session → site.level ≡ run.level → site.table.rows ≡ in_state Duplex pair.row ∷ [] → site.mark.ended ≡ true
       → site.at ≡ site.mark.at → NowMeans mid (λ c. HoldsTracks t (shape_of mid) c pair.row site.time) → IsChoice new new.clock new.bytes → pair.row.device ≡ 0 → EndsSession run t first new
-  ends_session goes stands session level rows ended empty holds reads device =
+  ends_session has copied stands session level rows ended empty holds reads device =
       let last = ended_at pair site.time text in
+      let goes = has.goes_on in
       let walk = now_heard tells mid new only told (λ s c. walked_by (meaning_in s c) ≡ []) (none_is_walked site.table.rows site mid stands empty) in
       let held = now_heard tells mid new only told (λ s c. HoldsTracks t s c pair.row site.time) holds in
       record {
         end = last;
+        is = has.is;
         goes_on = hears_on run t (ended_lines run last) [] [] first mid new goes keeps;
+        copied = copied_on run t pair first mid new goes.up only.site (only.elapses told) copied;
         at_end = end.at_end;
         means = now_heard tells mid new only told (λ s c. MeansRows run s c (in_state Duplex pair.row ∷ []) site.time true) (ended_rows run pair.row site.time site mid stands session level rows refl ended);
         walk = walk;
@@ -182,9 +187,9 @@ has_lengths plant numbers none =
 pub goes_first : (session : List ℕ) (before now : Option (List ℕ)) (faults risen : ℕ) (plant : PlantState) (t : Trace) (run : Run) → IsSessionRun session before now faults risen plant t run → GoesOn run t [] [] plant plant
 goes_first session before now faults risen plant t run is = record { up = is.past; pair_run = is.pair_run; keeps = keeps_begins run line_grammar plant }
 
--- A run that has made no call yet stands so.
-pub keeps_first : (run : Run) (plant : PlantState) → KeepsSome run plant plant
-keeps_first run plant = record { lines = []; text = []; keeps = keeps_begins run line_grammar plant }
+-- A run that has made no call yet has answered nothing.
+pub keeps_first : (run : Run) (plant : PlantState) → Keeps run line_grammar [] [] plant plant
+keeps_first run plant = keeps_begins run line_grammar plant
 
 -- A run of a session with a label has it where its start read it.
 pub run_with : (session : List ℕ) (label read : Option Label) (run : Run) → read ≡ label → IsRunOf session label run → IsRunOf session read run

@@ -10,6 +10,7 @@ use Rattle.site_store.specs.Sites.{SiteState}
 use Rattle.site_store.specs.Standing.{Fits, Stands}
 use Rattle.consistency.specs.Bears.{Run}
 use Rattle.epoch.specs.declared.lane.Lane.{Lane}
+use Rattle.epoch.specs.Counted.{IsCounted}
 use Rattle.epoch.specs.Lanes.{IsLane}
 
 -- A lane has come to the site's time, nothing waits, and the site, made for one control, is applied and not ended.
@@ -24,6 +25,7 @@ pub record IsBetween (tells : Type 0) (lane : Lane) (site : SiteState) (plant : 
   pub good : NoneFailed site
   pub goes_on : site.mark.ended ≡ false
   pub fits : Fits site plant
+  pub counted : IsCounted site plant
   pub stands : tells → Stands site.table.rows site plant
 
 -- the label of device 0 as a run has it

@@ -14,6 +14,7 @@ use Rattle.consistency.specs.Bears.{Run}
 use Rattle.pair_course.specs.Course.{pair_line}
 use Rattle.session_lines.specs.Runs.{HasStarted, Started, line_heard, started_lines}
 use Rattle.epoch.specs.declared.lane.Lane.{Lane}
+use Rattle.epoch.specs.Counted.{IsCounted}
 use Rattle.epoch.specs.Lanes.{IsLane, IsRowOf}
 use Rattle.xrc_session.specs.Between.{IsLabelled}
 
@@ -55,4 +56,5 @@ pub record IsBehind (tells : Type 0) (lane : Lane) (site : SiteState) (plant : P
   pub good : NoneFailed site
   pub goes_on : site.mark.ended ≡ false
   pub fits : Fits site plant
+  pub counted : IsCounted site plant
   pub stands : tells → Stands site.table.rows site plant

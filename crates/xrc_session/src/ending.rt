@@ -15,18 +15,20 @@ ghost use Rattle.site_store.specs.Standing.{Fits, Stands};
 ghost use Rattle.consistency.specs.Bears.{Run};
 ghost use Rattle.consistency.specs.Steps.{TimedCommand};
 ghost use Rattle.pair_course.specs.Course.{HoldsTracks};
-ghost use Rattle.epoch.specs.Ends.{IsFullForCopy, IsFullForWrites, IsSpent};
+ghost use Rattle.epoch.specs.Counted.{IsCounted};
+ghost use Rattle.epoch.specs.Ends.{IsFullForCopy, IsFullForWrites};
 ghost use Rattle.epoch.specs.Frames.{KeepsOthers};
 ghost use Rattle.epoch.specs.Lanes.{IsRowOf, tracks_of};
 ghost use Rattle.epoch.specs.Taken.{FailsAsBefore, HasReached, HasTaken};
 ghost use Rattle.epoch.specs.Works.{WorksSilently};
 ghost use Rattle.session_lines.specs.Asking.{AsksEnd};
 ghost use Rattle.session_lines.specs.Meanings.{EachMeans, MeanPair, NowMeans};
-ghost use Rattle.session_lines.specs.Runs.{GoesOn, HasPaired, Paired as PairedLine, ended_at, ended_lines};
-ghost use Rattle.xrc_status.specs.declared.stop.Stop.TheVariants.{EarlyBreak, JournalEnd, NotBuilt, Spent};
+ghost use Rattle.session_lines.specs.Runs.{HasFinished, HasPaired, Paired as PairedLine, ended_at};
+ghost use Rattle.xrc_status.specs.declared.stop.Stop.TheVariants.{EarlyBreak, JournalEnd, NotBuilt};
 ghost use Rattle.xrc_session.specs.Between.{IsBetween};
 ghost use Rattle.xrc_session.specs.Ending.{HoldsLane, HoldsNow, IsRunAt, MeanEnding};
 ghost use Rattle.xrc_session.specs.Full.{IsFullBehind, IsFullForEnd};
+ghost use Rattle.xrc_session.specs.Runs.{WasCopied};
 ghost use Rattle.xrc_session.specs.Stopping.{BreaksAt, BreaksBelow, HasStopCause, NoneFell, StopsSo};
 ghost use Rattle.xrc_session.specs.StopsOf.{IsOfEpoch, IsOfStore};
 ghost use Rattle.xrc_session.specs.Traces.{Foresees};
@@ -71,7 +73,6 @@ fn copy<R: Threads + Sync, P: Plant>(
     // Why it stops.
     ensures of_store { IfErr result IsOfStore }
     ensures cause { IfErr result (HasStopCause (P.state plant.old) (P.state plant.new)) }
-    ensures spent { P.tells → IsErrOf result Spent → IsSpent (P.state plant.new) }
     ensures journal_end { P.tells → IsErrOf result JournalEnd → IsFullForCopy row.now (track_of lane.old.primary row.now.volume) site.old.time (P.state plant.new) }
 {
     match lane.copy_pair(rt, alloc, plant, site, row) {
@@ -115,7 +116,6 @@ fn follow<R: Threads + Sync, S: Source, P: Plant>(
     ensures cause { IfErr result (HasStopCause (P.state plant.old) (P.state plant.new)) }
     ensures broken { IsErrOf result EarlyBreak → BreaksBelow at.0 (S.left source.old) (S.left source.new) (S.faults source.old) (S.faults source.new) lane.old lane.new }
     ensures count { ¬ IsErrOf result EarlyBreak → S.faults source.new ≡ S.faults source.old }
-    ensures spent { P.tells → IsErrOf result Spent → IsSpent (P.state plant.new) }
     ensures journal_end { P.tells → IsErrOf result JournalEnd → (t : TraceValue) → HasTaken (S.left source.old) t lane.old.side lane.old.primary → IsFullForWrites t (in_state Duplex row.now) site.old.time at.0 (P.state plant.new) }
 {
     let duplex = PairRow {
@@ -136,6 +136,7 @@ fn mark_end<R: Threads + Sync, P: Plant>(
     site: &mut Site<P::Volume>,
 ) -> Result<(), Stop>
     requires fits { Fits site.old (P.state plant.old) }
+    requires counted { IsCounted site.old (P.state plant.old) }
     requires first_set { site.old.at.set ≡ 0 }
     requires applied { site.old.waiting ≡ [] }
     requires good { NoneFailed site.old }
@@ -157,7 +158,6 @@ fn mark_end<R: Threads + Sync, P: Plant>(
     // Why it stops.
     ensures of_store { IfErr result IsOfStore }
     ensures cause { IfErr result (HasStopCause (P.state plant.old) (P.state plant.new)) }
-    ensures spent { P.tells → IsErrOf result Spent → IsSpent (P.state plant.new) }
     ensures no_journal_end { ¬ IsErrOf result JournalEnd }
 {
     match site.mark(rt, alloc, plant, true) {
@@ -196,6 +196,8 @@ fn bring_to_end<R: Threads + Sync, S: Source, P: Plant>(
     // At every moment the pair waits, is copied or holds its primary's tracks at one time; the end is marked once they are those at the
     // end's time, by which the trace hasn't broken.
     ensures moments { P.tells → (run : Run) (t : TraceValue) → IsRunAt site.old.table.session run → Foresees (S.left source.old) lane.old lane.new.side.upto t → EachMeans (P.state plant.old) (P.state plant.new) (λ c. MeanEnding run t site.old.time at.0 row.now (shape_of (P.state plant.new)) c) }
+    // Where the plant keeps its past, the pair was copied as it stood at its time.
+    ensures copied { P.tells → 0 < (P.state plant.old).clock → (run : Run) (t : TraceValue) (pair : PairedLine) → IsRunAt site.old.table.session run → pair.row ≡ row.now → pair.time ≡ site.old.time → Foresees (S.left source.old) lane.old lane.new.side.upto t → OnOk result (WasCopied run t pair (P.state plant.old) (P.state plant.new)) }
     ensures whole { (t : TraceValue) → Foresees (S.left source.old) lane.old lane.new.side.upto t → OnOk result (has_broken t at.0 ≡ false) }
     ensures holds { P.tells → (t : TraceValue) → Foresees (S.left source.old) lane.old lane.new.side.upto t → OnOk result (HoldsNow t row.now at.0 (P.state plant.new)) }
     ensures home { NoneLent (P.state plant.new) }
@@ -205,7 +207,6 @@ fn bring_to_end<R: Threads + Sync, S: Source, P: Plant>(
     ensures cause { IfErr result (HasStopCause (P.state plant.old) (P.state plant.new)) }
     ensures broken { IsErrOf result EarlyBreak → BreaksBelow at.0 (S.left source.old) (S.left source.new) (S.faults source.old) (S.faults source.new) lane.old lane.new }
     ensures count { ¬ IsErrOf result EarlyBreak → S.faults source.new ≡ S.faults source.old }
-    ensures spent { P.tells → IsErrOf result Spent → IsSpent (P.state plant.new) }
     ensures journal_end { P.tells → IsErrOf result JournalEnd → (t : TraceValue) → HasTaken (S.left source.old) t lane.old.side lane.old.primary → HasReached site.old.time t lane.old.primary → IsFullForEnd t row.now site.old.time (P.state plant.new) at.0 }
 {
     copy(rt, alloc, lane, plant, site, row)?;
@@ -245,8 +246,9 @@ pub(crate) fn end<R: Threads + Sync, S: Source, P: Plant>(
     ensures empty { OnOk result (site.new.at ≡ site.new.mark.at) }
     ensures stands { P.tells → OnOk result (Stands site.new.table.rows site.new (P.state plant.new)) }
     // The line is answered, and each moment bears. The device holds its primary's tracks.
-    ensures ends { P.tells → (first : P) (run : Run) (t : TraceValue) (pair : PairedLine) → HasPaired run t pair [] (P.state first) (P.state plant.old) → pair.row ≡ row → pair.time ≡ site.old.time → run.session ≡ session → Foresees (S.left source.old) lane.old lane.new.side.upto t → OnOk result (GoesOn run t (ended_lines run (ended_at pair site.new.time text.new)) [] (P.state first) (P.state plant.new)) }
-    ensures stops { P.tells → (first : P) (run : Run) (t : TraceValue) (pair : PairedLine) → HasPaired run t pair [] (P.state first) (P.state plant.old) → pair.row ≡ row → pair.time ≡ site.old.time → run.session ≡ session → Foresees (S.left source.old) lane.old lane.new.side.upto t → IfErr result (StopsSo run (BreaksAt (S.left source.old) (S.left source.new) (S.faults source.old) (S.faults source.new) lane.old lane.new) (IsFullBehind (S.left source.old) lane.old row site.old.time (P.state plant.new)) (P.state first) (P.state plant.new)) }
+    ensures ends { P.tells → (first : P) (run : Run) (t : TraceValue) (pair : PairedLine) → HasPaired run t pair [] (P.state first) (P.state plant.old) → pair.row ≡ row → pair.time ≡ site.old.time → run.session ≡ session → Foresees (S.left source.old) lane.old lane.new.side.upto t → OnOk result (HasFinished run t (ended_at pair site.new.time text.new) [] (P.state first) (P.state plant.new)) }
+    ensures copied { P.tells → (first : P) (run : Run) (t : TraceValue) (pair : PairedLine) → HasPaired run t pair [] (P.state first) (P.state plant.old) → pair.row ≡ row → pair.time ≡ site.old.time → run.session ≡ session → Foresees (S.left source.old) lane.old lane.new.side.upto t → OnOk result (WasCopied run t pair (P.state first) (P.state plant.new)) }
+    ensures stops { P.tells → (first : P) (run : Run) (t : TraceValue) (pair : PairedLine) → HasPaired run t pair [] (P.state first) (P.state plant.old) → pair.row ≡ row → pair.time ≡ site.old.time → run.session ≡ session → Foresees (S.left source.old) lane.old lane.new.side.upto t → IfErr result (StopsSo run t (BreaksAt (S.left source.old) (S.left source.new) (S.faults source.old) (S.faults source.new) lane.old lane.new) (IsFullBehind (S.left source.old) lane.old (P.state plant.new)) (P.state first) (P.state plant.new)) }
     ensures holds { P.tells → (t : TraceValue) → Foresees (S.left source.old) lane.old lane.new.side.upto t → OnOk result (NowMeans (P.state plant.new) (λ c. HoldsTracks t (shape_of (P.state plant.new)) c row site.new.time)) }
     // Why it stops.
     ensures cause { IfErr result (HasStopCause (P.state plant.old) (P.state plant.new)) }
@@ -254,7 +256,6 @@ pub(crate) fn end<R: Threads + Sync, S: Source, P: Plant>(
     ensures broken { IsErrOf result EarlyBreak → (time : ℕ) × AsksEnd session text.new site.old.time time × BreaksBelow time (S.left source.old) (S.left source.new) (S.faults source.old) (S.faults source.new) lane.old lane.new }
     ensures counts { OnOk result (NoneFell (P.state plant.old) (P.state plant.new)) }
     ensures count { ¬ IsErrOf result EarlyBreak → S.faults source.new ≡ S.faults source.old }
-    ensures spent { P.tells → IsErrOf result Spent → IsSpent (P.state plant.new) }
 {
     let at = hear_end(plant, text, session, site.time())?;
     bring_to_end(rt, alloc, lane, source, plant, site, &row, at)?;

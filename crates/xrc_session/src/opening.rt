@@ -1,6 +1,6 @@
 //! The header of the trace.
 
-ghost use Rattle.std.specs.Prelude.{◌≡◌, ◌≢◌, ◌⊎◌, ℕ, ◌≤◌, ◌-◌, List, [], length, take, Some, true, false, Ok, Err, IfOk, IfErr, IsOk, IsTrue};
+ghost use Rattle.std.specs.Prelude.{◌≡◌, ◌≢◌, ◌⊎◌, ℕ, ◌≤◌, ◌-◌, List, [], length, take, Option, Some, true, false, Ok, Err, IfOk, IfErr, IsOk, IsTrue};
 ghost use Rattle.xrc_edge.specs.Causes.{Rose};
 ghost use Rattle.trace_grammar.specs.declared.trace.Trace.{Trace as TraceValue};
 ghost use Rattle.trace_grammar.specs.Good.{trace_of};
@@ -9,7 +9,7 @@ ghost use Rattle.sidefile.specs.Breaks.{has_broken};
 ghost use Rattle.epoch.specs.Lanes.{IsLane};
 ghost use Rattle.epoch.specs.Taken.{HasFailed, HasTaken};
 ghost use Rattle.xrc_status.specs.declared.stop.Stop.TheVariants.{BadHeader, HeaderFault};
-ghost use Rattle.xrc_session.specs.Runs.{EndsInHeader, IsRefused};
+ghost use Rattle.xrc_session.specs.Runs.{EndsInHeader, GaveTrace, IsRefused};
 ghost use Rattle.xrc_session.specs.StopsOf.{stop_of_header};
 ghost use Rattle.xrc_session.specs.Traces.{Agrees};
 
@@ -48,6 +48,8 @@ pub(crate) fn open_trace<S: Source>(alloc: Global, source: &mut S) -> Result<Ope
     ensures ahead { (given : List ℕ) → S.left source.old ≡ Some given → IfOk result (λ opened. (t : TraceValue) × (trace_of 1 false given ≡ Ok t) × (t.header.volumes ≡ opened.lane.primary.volumes) × IsTrue (is_header_of 1 t.header) × HasTaken (S.left source.new) t opened.lane.side opened.lane.primary) }
     // Where the source fails later, the bytes that it gave are a trace with which that one agrees up to its break.
     ensures fails { (given left : List ℕ) (limit upto : ℕ) → S.left source.old ≡ Some given → IfOk result (λ opened. HasFailed limit upto (S.left source.new) (Some left) opened.lane.side → (other t : TraceValue) → trace_of 1 false given ≡ Ok other → trace_of 1 true (take (length given - length left) given) ≡ Ok t → Agrees upto other t) }
+    // They are one.
+    ensures gives { (given : List ℕ) (now : Option (List ℕ)) (limit upto : ℕ) → S.left source.old ≡ Some given → IfOk result (λ opened. HasFailed limit upto (S.left source.new) now opened.lane.side → GaveTrace given now) }
     // So they break at a time below the limit at which the source fails.
     ensures breaks { (given left : List ℕ) (limit upto : ℕ) → S.left source.old ≡ Some given → IfOk result (λ opened. HasFailed limit upto (S.left source.new) (Some left) opened.lane.side → (t : TraceValue) → trace_of 1 true (take (length given - length left) given) ≡ Ok t → has_broken t limit ≡ true) }
     // Why it stops.

@@ -18,7 +18,7 @@ ghost use Rattle.site_store.specs.Changes.{behind_record};
 ghost use Rattle.site_store.specs.Sites.{with_table};
 ghost use Rattle.site_store.specs.Standing.{Fits, Stands, has_volume};
 ghost use Rattle.consistency.specs.Bears.{Run};
-ghost use Rattle.epoch.specs.Ends.{IsFullForTime, IsSpent};
+ghost use Rattle.epoch.specs.Counted.{IsCounted};
 ghost use Rattle.epoch.specs.Frames.{KeepsOthers};
 ghost use Rattle.epoch.specs.Lanes.{IsLane, IsRowOf};
 ghost use Rattle.epoch.specs.Taken.{FailsAsBefore, HasTaken};
@@ -28,11 +28,10 @@ ghost use Rattle.script_lines.specs.Hearing.{KeepsHearing};
 ghost use Rattle.session_lines.specs.Asking.{AsksPair, HasEnded, IsNext, named_line};
 ghost use Rattle.session_lines.specs.Behind.{HasHearingCause};
 ghost use Rattle.session_lines.specs.Runs.{HasPaired, HasStarted, Started as StartedLine, paired_at};
-ghost use Rattle.xrc_status.specs.declared.stop.Stop.TheVariants.{EarlyBreak, JournalEnd, NoMemory as MemoryStop, NotBuilt, Spent};
+ghost use Rattle.xrc_status.specs.declared.stop.Stop.TheVariants.{EarlyBreak, JournalEnd, NoMemory as MemoryStop, NotBuilt};
 ghost use Rattle.xrc_session.specs.Between.{IsBetween, IsRunOf};
 ghost use Rattle.xrc_session.specs.Pairing.{HasHeardPair, IsBehind, IsNewRow, IsStandingAt};
-ghost use Rattle.xrc_session.specs.Full.{IsFullForPair};
-ghost use Rattle.xrc_session.specs.Stopping.{BreaksAt, BreaksBelow, HasStopCause, IsFullForRow, NoneFell, StopsSo};
+ghost use Rattle.xrc_session.specs.Stopping.{BreaksAt, BreaksBelow, HasStopCause, NoneFell, StopsSo};
 ghost use Rattle.xrc_session.specs.StopsOf.{IsOfStore};
 ghost use Rattle.xrc_session.specs.Traces.{Foresees};
 
@@ -187,11 +186,13 @@ fn keep<R: Threads + Sync, P: Plant>(
 ) -> Result<(), Stop>
     requires behind { IsBehind P.tells lane.old site.old (P.state plant.old) }
     requires rows { site.old.table.rows ≡ [] }
+    requires begins { site.old.at.place ≡ 0 }
     requires there { 1 ≤ (P.state plant.old).volumes }
     requires time { lane.old.primary.time ≡ at.0 }
     ensures between { OnOk result (IsBetween P.tells lane.new site.new (P.state plant.new)) }
     ensures time { OnOk result (site.new.time ≡ at.0) }
     ensures table { OnOk result (site.new.table ≡ site.old.table) }
+    ensures at { OnOk result (site.new.at.place ≤ 22) }
     ensures side { lane.new.side ≡ lane.old.side }
     ensures primary { lane.new.primary ≡ lane.old.primary }
     ensures works { WorksSilently P.tells (P.state plant.old) (P.state plant.new) }
@@ -202,8 +203,7 @@ fn keep<R: Threads + Sync, P: Plant>(
     // Why it stops.
     ensures of_store { IfErr result IsOfStore }
     ensures cause { IfErr result (HasStopCause (P.state plant.old) (P.state plant.new)) }
-    ensures spent { P.tells → IsErrOf result Spent → IsSpent (P.state plant.new) }
-    ensures journal_end { P.tells → IsErrOf result JournalEnd → IsFullForTime at.0 (P.state plant.new) }
+    ensures has_room { ¬ IsErrOf result JournalEnd }
 {
     if site.time() == at {
         return Ok(());
@@ -226,11 +226,13 @@ fn wait_for<R: Threads + Sync, S: Source, P: Plant>(
 ) -> Result<(), Stop>
     requires between { IsBetween P.tells lane.old site.old (P.state plant.old) }
     requires rows { site.old.table.rows ≡ [] }
+    requires begins { site.old.at.place ≡ 0 }
     requires there { 1 ≤ (P.state plant.old).volumes }
     requires later { site.old.time ≤ at.0 }
     ensures between { OnOk result (IsBetween P.tells lane.new site.new (P.state plant.new)) }
     ensures time { OnOk result (site.new.time ≡ at.0) }
     ensures table { OnOk result (site.new.table ≡ site.old.table) }
+    ensures at { OnOk result (site.new.at.place ≤ 22) }
     ensures volumes { OnOk result (lane.new.primary.volumes ≡ lane.old.primary.volumes) }
     ensures unbroken { OnOk result ((t : TraceValue) → Foresees (S.left source.old) lane.old lane.new.side.upto t → has_broken t at.0 ≡ false) }
     ensures foresees { OnOk result ((t : TraceValue) (upto : ℕ) → Foresees (S.left source.old) lane.old upto t → Foresees (S.left source.new) lane.new upto t) }
@@ -247,8 +249,7 @@ fn wait_for<R: Threads + Sync, S: Source, P: Plant>(
     ensures built { ¬ IsErrOf result NotBuilt }
     ensures broken { IsErrOf result EarlyBreak → BreaksBelow at.0 (S.left source.old) (S.left source.new) (S.faults source.old) (S.faults source.new) lane.old lane.new }
     ensures count { ¬ IsErrOf result EarlyBreak → S.faults source.new ≡ S.faults source.old }
-    ensures spent { P.tells → IsErrOf result Spent → IsSpent (P.state plant.new) }
-    ensures journal_end { P.tells → IsErrOf result JournalEnd → IsFullForTime at.0 (P.state plant.new) }
+    ensures has_room { ¬ IsErrOf result JournalEnd }
 {
     pass(alloc, lane, source, at)?;
     keep(rt, alloc, lane, plant, site, at)
@@ -265,14 +266,17 @@ fn put_pair<P: Plant>(
     requires rows { site.old.table.rows ≡ [] }
     requires time { site.old.time ≡ at.0 }
     requires first_set { site.old.at.set ≡ 0 }
+    requires begins { site.old.at.place ≤ 22 }
     requires applied { site.old.waiting ≡ [] }
     requires fits { Fits site.old (P.state plant.old) }
+    requires counted { IsCounted site.old (P.state plant.old) }
     requires stands { P.tells → Stands [] site.old (P.state plant.old) }
     requires rules { IsTrue (keeps_rules row) }
     requires device { row.device ≡ 0 }
     requires room { IsTrue (has_volume (P.state plant.old) row) }
     ensures ok { OnOk result (site.new ≡ behind_record at.0 (Pair row ∷ []) (with_table (with_rows site.old.table (row ∷ [])) site.old)) }
     ensures fits { OnOk result (Fits site.new (P.state plant.new)) }
+    ensures counted { OnOk result (IsCounted site.new (P.state plant.new)) }
     ensures stands { P.tells → OnOk result (Stands site.new.table.rows site.new (P.state plant.new)) }
     ensures works { WorksSilently P.tells (P.state plant.old) (P.state plant.new) }
     // Each moment bears: a crash leaves the session without the pair, or its row.
@@ -282,14 +286,15 @@ fn put_pair<P: Plant>(
     // Why it stops.
     ensures of_store { IfErr result IsOfStore }
     ensures cause { IfErr result (HasStopCause (P.state plant.old) (P.state plant.new)) }
-    ensures spent { P.tells → IsErrOf result Spent → IsSpent (P.state plant.new) }
-    ensures journal_end { P.tells → IsErrOf result JournalEnd → IsFullForRow (P.state plant.new) }
+    ensures has_room { ¬ IsErrOf result JournalEnd }
 {
     let device = row.device;
     match site.put_row(alloc, row) {
         Ok(()) => {}
         Err(NoMemory) => return Err(Stop::NoMemory),
     }
+    // The row keeps its rules by the table's type.
+    let _valid = site.table().len();
     match site.log_change(alloc, plant, at, &Change::Added(device)) {
         Ok(()) => Ok(()),
         Err(error) => Err(of_store(error)),
@@ -309,6 +314,7 @@ fn take_pair<R: Threads + Sync, S: Source, P: Plant>(
 ) -> Result<(), Stop>
     requires between { IsBetween P.tells lane.old site.old (P.state plant.old) }
     requires rows { site.old.table.rows ≡ [] }
+    requires begins { site.old.at.place ≡ 0 }
     requires there { 1 ≤ (P.state plant.old).volumes }
     requires later { site.old.time ≤ at.0 }
     requires rules { IsTrue (keeps_rules row.now) }
@@ -333,8 +339,7 @@ fn take_pair<R: Threads + Sync, S: Source, P: Plant>(
     ensures built { ¬ IsErrOf result NotBuilt }
     ensures broken { IsErrOf result EarlyBreak → BreaksBelow at.0 (S.left source.old) (S.left source.new) (S.faults source.old) (S.faults source.new) lane.old lane.new }
     ensures count { ¬ IsErrOf result EarlyBreak → S.faults source.new ≡ S.faults source.old }
-    ensures spent { P.tells → IsErrOf result Spent → IsSpent (P.state plant.new) }
-    ensures journal_end { P.tells → IsErrOf result JournalEnd → IsFullForPair (P.state plant.new) at.0 }
+    ensures has_room { ¬ IsErrOf result JournalEnd }
 {
     wait_for(rt, alloc, lane, source, plant, site, at)?;
     put_pair(alloc, plant, site, *row, at)
@@ -358,6 +363,8 @@ pub(crate) fn add_pair<R: Threads + Sync, S: Source, P: Plant>(
     requires few { length volumes.now ≤ 32 }
     requires rows { started.old.site.table.rows ≡ [] }
     requires session { started.old.site.table.session ≡ session }
+    // No record was logged yet, so the journal has room for the line's time and for the row.
+    requires begins { started.old.site.at.place ≡ 0 }
     requires room { IfSome started.old.label (λ l. IsTrue (has_room ((P.state plant.old).lengths (VolumeDevice 0)) l.cylinders)) }
     requires there { 1 ≤ (P.state plant.old).volumes }
     ensures between { OnOk result (IsBetween P.tells lane.new started.new.site (P.state plant.new)) }
@@ -376,14 +383,14 @@ pub(crate) fn add_pair<R: Threads + Sync, S: Source, P: Plant>(
     ensures elapses { P.tells → Elapses (P.state plant.old) (P.state plant.new) }
     // The line is answered, and each moment bears.
     ensures pairs { P.tells → (first : P) (run : Run) (t : TraceValue) (start : StartedLine) → HasStarted run t start [] (P.state first) (P.state plant.old) → start.time ≡ started.old.site.time → IsRunOf session started.old.label run → Foresees (S.left source.old) lane.old lane.new.side.upto t → IfOk result (λ row. HasPaired run t (paired_at start row (15 * row.cylinders) started.new.site.time text.new) [] (P.state first) (P.state plant.new)) }
-    ensures stops { P.tells → (first : P) (run : Run) (t : TraceValue) (start : StartedLine) → HasStarted run t start [] (P.state first) (P.state plant.old) → start.time ≡ started.old.site.time → IsRunOf session started.old.label run → Foresees (S.left source.old) lane.old lane.new.side.upto t → IfErr result (StopsSo run (BreaksAt (S.left source.old) (S.left source.new) (S.faults source.old) (S.faults source.new) lane.old lane.new) (IsFullForPair (P.state plant.new)) (P.state first) (P.state plant.new)) }
+    ensures stops { P.tells → (first : P) (run : Run) (t : TraceValue) (start : StartedLine) → HasStarted run t start [] (P.state first) (P.state plant.old) → start.time ≡ started.old.site.time → IsRunOf session started.old.label run → Foresees (S.left source.old) lane.old lane.new.side.upto t → IfErr result (StopsSo run t (BreaksAt (S.left source.old) (S.left source.new) (S.faults source.old) (S.faults source.new) lane.old lane.new) (λ due. ⊥) (P.state first) (P.state plant.new)) }
     // Why it stops.
     ensures cause { IfErr result (HasStopCause (P.state plant.old) (P.state plant.new)) }
     ensures counts { OnOk result (NoneFell (P.state plant.old) (P.state plant.new)) }
     ensures refused { (row : RowValue) (time : ℕ) → IsErrOf result NotBuilt → IsNewRow lane.old.primary.volumes started.old.label row → ¬ AsksPair session text.new started.old.site.time time row.primary row.secondary }
     ensures broken { IsErrOf result EarlyBreak → (time : ℕ) × (primary : List ℕ) × (secondary : List ℕ) × AsksPair session text.new started.old.site.time time primary secondary × BreaksBelow time (S.left source.old) (S.left source.new) (S.faults source.old) (S.faults source.new) lane.old lane.new }
     ensures count { ¬ IsErrOf result EarlyBreak → S.faults source.new ≡ S.faults source.old }
-    ensures spent { P.tells → IsErrOf result Spent → IsSpent (P.state plant.new) }
+    ensures has_room { ¬ IsErrOf result JournalEnd }
 {
     let label = started.label;
     let before = started.site.time();

@@ -11,17 +11,16 @@ ghost use Rattle.pair_table.specs.declared.row.PairState.TheVariants.{Pending};
 ghost use Rattle.site_means.specs.Answers.{first_short, need};
 ghost use Rattle.site_store.specs.Standing.{HasLengths};
 ghost use Rattle.consistency.specs.Bears.{Run};
-ghost use Rattle.epoch.specs.Ends.{IsSpent};
 ghost use Rattle.epoch.specs.Frames.{KeepsOthers};
 ghost use Rattle.epoch.specs.Lanes.{IsLane, IsRowOf, tracks_of};
 ghost use Rattle.epoch.specs.Taken.{FailsAsBefore, HasFailed, HasTaken};
 ghost use Rattle.session_lines.specs.Runs.{GoesOn, HasPaired, Paired as PairedLine};
-ghost use Rattle.xrc_status.specs.declared.stop.Stop.TheVariants.{BadHeader, BadSite, EarlyBreak, HeaderFault, JournalEnd, NoMemory, Spent, TooSmall};
+ghost use Rattle.xrc_status.specs.declared.stop.Stop.TheVariants.{BadHeader, BadSite, EarlyBreak, HeaderFault, JournalEnd, NoMemory, TooSmall};
 ghost use Rattle.xrc_session.specs.Between.{IsBetween, IsRunOf};
-ghost use Rattle.xrc_session.specs.Full.{IsFullBehind, IsFullForPair, IsFullFrom, IsJournalFull};
+ghost use Rattle.xrc_session.specs.Full.{IsFullBehind, IsFullFrom, IsJournalFull};
 ghost use Rattle.xrc_session.specs.Leaving.{LeavesOthers};
 ghost use Rattle.xrc_session.specs.Numbers.{HasNumbers};
-ghost use Rattle.xrc_session.specs.Runs.{AsksSession, EndsInHeader, EndsSession, HasBrokenBy, IsEarly, IsOfHeader, IsRefused, IsSessionRun, NoneFailed, StopsEarlyOr, first_label};
+ghost use Rattle.xrc_session.specs.Runs.{AsksSession, EndsInHeader, EndsSession, GaveTrace, HasBrokenBy, IsEarly, IsOfHeader, IsOfSite, IsRefused, IsSessionRun, NoneFailed, StopsEarlyOr, first_label};
 ghost use Rattle.xrc_session.specs.Stopping.{BreaksAt, HasStopCause, NoneFell, StopsSo};
 ghost use Rattle.xrc_session.specs.Traces.{Foresees};
 
@@ -84,13 +83,12 @@ fn begin<R: Threads + Sync, S: Source, P: Plant>(
     ensures elapses { P.tells → Elapses (P.state plant.old) (P.state plant.new) }
     // Two lines are answered, and each moment bears.
     ensures pairs { P.tells → (run : Run) (t : TraceValue) → GoesOn run t [] [] (P.state plant.old) (P.state plant.old) → IsRunOf session (first_label (P.state plant.old)) run → Foresees (S.left source.old) lane.old lane.new.side.upto t → IfOk result (λ paired. (pair : PairedLine) × HasPaired run t pair [] (P.state plant.old) (P.state plant.new) × (pair.row ≡ paired.row) × (pair.time ≡ paired.started.site.time)) }
-    ensures stops { P.tells → (run : Run) (t : TraceValue) → GoesOn run t [] [] (P.state plant.old) (P.state plant.old) → IsRunOf session (first_label (P.state plant.old)) run → Foresees (S.left source.old) lane.old lane.new.side.upto t → IfErr result (StopsSo run (BreaksAt (S.left source.old) (S.left source.new) (S.faults source.old) (S.faults source.new) lane.old lane.new) (IsFullForPair (P.state plant.new)) (P.state plant.old) (P.state plant.new)) }
+    ensures stops { P.tells → (run : Run) (t : TraceValue) → GoesOn run t [] [] (P.state plant.old) (P.state plant.old) → IsRunOf session (first_label (P.state plant.old)) run → Foresees (S.left source.old) lane.old lane.new.side.upto t → IfErr result (StopsSo run t (BreaksAt (S.left source.old) (S.left source.new) (S.faults source.old) (S.faults source.new) lane.old lane.new) (λ due. ⊥) (P.state plant.old) (P.state plant.new)) }
     // Why it stops.
     ensures cause { IfErr result (HasStopCause (P.state plant.old) (P.state plant.new)) }
     ensures failed { IsErrOf result EarlyBreak → S.faults source.new ≢ S.faults source.old → (limit : ℕ) × HasFailed limit lane.new.side.upto (S.left source.old) (S.left source.new) lane.old.side }
     ensures counts { OnOk result (NoneFell (P.state plant.old) (P.state plant.new)) }
     ensures count { ¬ IsErrOf result EarlyBreak → S.faults source.new ≡ S.faults source.old }
-    ensures spent { P.tells → IsErrOf result Spent → IsSpent (P.state plant.new) }
 {
     let mut started = start(alloc, session, text, lane, source, plant)?;
     let row = add_pair(
@@ -130,13 +128,12 @@ fn finish<R: Threads + Sync, S: Source, P: Plant>(
     ensures elapses { P.tells → Elapses (P.state plant.old) (P.state plant.new) }
     // The script was heard to its end, and each moment bears.
     ensures ends { P.tells → (first : P) (run : Run) (t : TraceValue) (pair : PairedLine) → HasPaired run t pair [] (P.state first) (P.state plant.old) → pair.row ≡ paired.old.row → pair.time ≡ paired.old.started.site.time → run.session ≡ session → Foresees (S.left source.old) lane.old lane.new.side.upto t → OnOk result (EndsSession run t (P.state first) (P.state plant.new)) }
-    ensures stops { P.tells → (first : P) (run : Run) (t : TraceValue) (pair : PairedLine) → HasPaired run t pair [] (P.state first) (P.state plant.old) → pair.row ≡ paired.old.row → pair.time ≡ paired.old.started.site.time → run.session ≡ session → Foresees (S.left source.old) lane.old lane.new.side.upto t → IfErr result (StopsSo run (BreaksAt (S.left source.old) (S.left source.new) (S.faults source.old) (S.faults source.new) lane.old lane.new) (IsFullBehind (S.left source.old) lane.old paired.old.row paired.old.started.site.time (P.state plant.new)) (P.state first) (P.state plant.new)) }
+    ensures stops { P.tells → (first : P) (run : Run) (t : TraceValue) (pair : PairedLine) → HasPaired run t pair [] (P.state first) (P.state plant.old) → pair.row ≡ paired.old.row → pair.time ≡ paired.old.started.site.time → run.session ≡ session → Foresees (S.left source.old) lane.old lane.new.side.upto t → IfErr result (StopsSo run t (BreaksAt (S.left source.old) (S.left source.new) (S.faults source.old) (S.faults source.new) lane.old lane.new) (IsFullBehind (S.left source.old) lane.old (P.state plant.new)) (P.state first) (P.state plant.new)) }
     // Why it stops.
     ensures cause { IfErr result (HasStopCause (P.state plant.old) (P.state plant.new)) }
     ensures failed { IsErrOf result EarlyBreak → S.faults source.new ≢ S.faults source.old → (limit : ℕ) × HasFailed limit lane.new.side.upto (S.left source.old) (S.left source.new) lane.old.side }
     ensures count { ¬ IsErrOf result EarlyBreak → S.faults source.new ≡ S.faults source.old }
     ensures rises { lane.old.side.upto ≤ lane.new.side.upto }
-    ensures spent { P.tells → IsErrOf result Spent → IsSpent (P.state plant.new) }
 {
     let row = paired.row;
     end(
@@ -176,12 +173,11 @@ fn run_lines<R: Threads + Sync, S: Source, P: Plant>(
     ensures others { P.tells → (run : Run) (t : TraceValue) → GoesOn run t [] [] (P.state plant.old) (P.state plant.old) → IsRunOf session (first_label (P.state plant.old)) run → Foresees (S.left source.old) lane.old lane.new.side.upto t → LeavesOthers run (P.state plant.old) (P.state plant.new) }
     ensures site { SameSite (P.state plant.old) (P.state plant.new) }
     ensures ends { P.tells → (run : Run) (t : TraceValue) → GoesOn run t [] [] (P.state plant.old) (P.state plant.old) → IsRunOf session (first_label (P.state plant.old)) run → Foresees (S.left source.old) lane.old lane.new.side.upto t → OnOk result (EndsSession run t (P.state plant.old) (P.state plant.new)) }
-    ensures stops { P.tells → (run : Run) (t : TraceValue) → GoesOn run t [] [] (P.state plant.old) (P.state plant.old) → IsRunOf session (first_label (P.state plant.old)) run → Foresees (S.left source.old) lane.old lane.new.side.upto t → IfErr result (StopsSo run (BreaksAt (S.left source.old) (S.left source.new) (S.faults source.old) (S.faults source.new) lane.old lane.new) (IsFullFrom (S.left source.old) lane.old (P.state plant.new)) (P.state plant.old) (P.state plant.new)) }
+    ensures stops { P.tells → (run : Run) (t : TraceValue) → GoesOn run t [] [] (P.state plant.old) (P.state plant.old) → IsRunOf session (first_label (P.state plant.old)) run → Foresees (S.left source.old) lane.old lane.new.side.upto t → IfErr result (StopsSo run t (BreaksAt (S.left source.old) (S.left source.new) (S.faults source.old) (S.faults source.new) lane.old lane.new) (IsFullFrom (S.left source.old) lane.old (P.state plant.new)) (P.state plant.old) (P.state plant.new)) }
     // Why it stops.
     ensures cause { IfErr result (HasStopCause (P.state plant.old) (P.state plant.new)) }
     ensures failed { IsErrOf result EarlyBreak → S.faults source.new ≢ S.faults source.old → (limit : ℕ) × HasFailed limit lane.new.side.upto (S.left source.old) (S.left source.new) lane.old.side }
     ensures count { ¬ IsErrOf result EarlyBreak → S.faults source.new ≡ S.faults source.old }
-    ensures spent { P.tells → IsErrOf result Spent → IsSpent (P.state plant.new) }
 {
     let mut text = LineText::make();
     let mut paired = begin(rt, alloc, session, volumes, &mut text, lane, source, plant)?;
@@ -214,7 +210,7 @@ fn run_trace<R: Threads + Sync, S: Source, P: Plant>(
     ensures header_fault { result ≡ Err (HeaderFault 0) → Rose (S.faults source.old) (S.faults source.new) }
     ensures cut { result ≡ Err (HeaderFault 0) → (all left : List ℕ) → S.left source.old ≡ Some all → S.left source.new ≡ Some left → (given : List ℕ) × EndsInHeader all left given }
     ensures ends { P.tells → (run : Run) (t : TraceValue) → IsSessionRun session (S.left source.old) (S.left source.new) (S.faults source.old) (S.faults source.new) (P.state plant.old) t run → OnOk result (EndsSession run t (P.state plant.old) (P.state plant.new)) }
-    ensures stops { P.tells → (run : Run) (t : TraceValue) → IsSessionRun session (S.left source.old) (S.left source.new) (S.faults source.old) (S.faults source.new) (P.state plant.old) t run → IfErr result (StopsEarlyOr (plant.new ≡ plant.old) run (HasBrokenBy t (S.faults source.new)) (IsJournalFull t (P.state plant.new)) (P.state plant.old) (P.state plant.new)) }
+    ensures stops { P.tells → (run : Run) (t : TraceValue) → IsSessionRun session (S.left source.old) (S.left source.new) (S.faults source.old) (S.faults source.new) (P.state plant.old) t run → IfErr result (StopsEarlyOr (plant.new ≡ plant.old) run t (HasBrokenBy t (S.faults source.new)) (IsJournalFull t (P.state plant.new)) (P.state plant.old) (P.state plant.new)) }
     ensures home { NoneLent (P.state plant.new) }
     // Of the journals the first alone is worked on, and of the volumes the first alone, in the slots of the pair's tracks.
     ensures others { P.tells → (run : Run) (t : TraceValue) → IsSessionRun session (S.left source.old) (S.left source.new) (S.faults source.old) (S.faults source.new) (P.state plant.old) t run → LeavesOthers run (P.state plant.old) (P.state plant.new) }
@@ -223,7 +219,8 @@ fn run_trace<R: Threads + Sync, S: Source, P: Plant>(
     ensures causes { IfErr result (λ stop. IsOfHeader stop ⊎ HasStopCause (P.state plant.old) (P.state plant.new) stop) }
     ensures untouched { IfErr result (λ stop. IsEarly stop → plant.new ≡ plant.old) }
     ensures source_count { result ≢ Err (HeaderFault 0) → result ≢ Err EarlyBreak → S.faults source.new ≡ S.faults source.old }
-    ensures spent { P.tells → result ≡ Err Spent → IsSpent (P.state plant.new) }
+    // Where the source failed behind the header, what it gave is a trace.
+    ensures trace_given { result ≡ Err EarlyBreak → S.faults source.new ≢ S.faults source.old → (all : List ℕ) → S.left source.old ≡ Some all → GaveTrace all (S.left source.new) }
 {
     let mut opened = open_trace(alloc, source)?;
     run_lines(
@@ -258,7 +255,7 @@ pub fn run_script<R: Threads + Sync, S: Source, P: Plant>(
     ensures cut { result ≡ Err (HeaderFault 0) → (all left : List ℕ) → S.left source.old ≡ Some all → S.left source.new ≡ Some left → (given : List ℕ) × EndsInHeader all left given }
     // Done: the script was heard to its end and its three lines were answered. Each moment bears, at every exit.
     ensures ends { P.tells → (run : Run) (t : TraceValue) → IsSessionRun session (S.left source.old) (S.left source.new) (S.faults source.old) (S.faults source.new) (P.state plant.old) t run → OnOk result (EndsSession run t (P.state plant.old) (P.state plant.new)) }
-    ensures stops { P.tells → (run : Run) (t : TraceValue) → IsSessionRun session (S.left source.old) (S.left source.new) (S.faults source.old) (S.faults source.new) (P.state plant.old) t run → IfErr result (StopsEarlyOr (plant.new ≡ plant.old) run (HasBrokenBy t (S.faults source.new)) (IsJournalFull t (P.state plant.new)) (P.state plant.old) (P.state plant.new)) }
+    ensures stops { P.tells → (run : Run) (t : TraceValue) → IsSessionRun session (S.left source.old) (S.left source.new) (S.faults source.old) (S.faults source.new) (P.state plant.old) t run → IfErr result (StopsEarlyOr (plant.new ≡ plant.old) run t (HasBrokenBy t (S.faults source.new)) (IsJournalFull t (P.state plant.new)) (P.state plant.old) (P.state plant.new)) }
     ensures home { NoneLent (P.state plant.new) }
     // Of the journals the first alone is worked on, and of the volumes the first alone, in the slots of the pair's tracks.
     ensures others { P.tells → (run : Run) (t : TraceValue) → IsSessionRun session (S.left source.old) (S.left source.new) (S.faults source.old) (S.faults source.new) (P.state plant.old) t run → LeavesOthers run (P.state plant.old) (P.state plant.new) }
@@ -267,9 +264,11 @@ pub fn run_script<R: Threads + Sync, S: Source, P: Plant>(
     ensures causes { IfErr result (λ stop. IsEarly stop ⊎ HasStopCause (P.state plant.old) (P.state plant.new) stop) }
     ensures untouched { IfErr result (λ stop. IsEarly stop → plant.new ≡ plant.old) }
     ensures source_count { result ≢ Err (HeaderFault 0) → result ≢ Err EarlyBreak → S.faults source.new ≡ S.faults source.old }
-    ensures spent { P.tells → result ≡ Err Spent → IsSpent (P.state plant.new) }
-    // Where nothing calls for a stop, there is none but for want of memory, a full journal or spent numbers.
-    ensures complete { P.tells → HasNumbers (P.state plant.old) → first_short (P.state plant.old) ≡ None → NoneFailed (P.state plant.old) (P.state plant.new) → S.faults source.new ≡ S.faults source.old → S.faults source.new ≢ 2 ^ 64 - 1 → (run : Run) (t : TraceValue) → IsSessionRun session (S.left source.old) (S.left source.new) (S.faults source.old) (S.faults source.new) (P.state plant.old) t run → (asks : AsksSession run (P.state plant.old).script) → has_broken t asks.end.time ≡ false → IfErr result (λ stop. (stop ≡ NoMemory) ⊎ (stop ≡ JournalEnd) ⊎ (stop ≡ Spent)) }
+    ensures unpulled { IfErr result (λ stop. IsOfSite stop → source.new ≡ source.old) }
+    // Where the source failed behind the header, what it gave is a trace.
+    ensures trace_given { result ≡ Err EarlyBreak → S.faults source.new ≢ S.faults source.old → (all : List ℕ) → S.left source.old ≡ Some all → GaveTrace all (S.left source.new) }
+    // Where nothing calls for a stop, there is none but for want of memory or a full journal.
+    ensures complete { P.tells → HasNumbers (P.state plant.old) → first_short (P.state plant.old) ≡ None → NoneFailed (P.state plant.old) (P.state plant.new) → S.faults source.new ≡ S.faults source.old → S.faults source.new ≢ 2 ^ 64 - 1 → (run : Run) (t : TraceValue) → IsSessionRun session (S.left source.old) (S.left source.new) (S.faults source.old) (S.faults source.new) (P.state plant.old) t run → (asks : AsksSession run (P.state plant.old).script) → has_broken t asks.end.time ≡ false → IfErr result (λ stop. (stop ≡ NoMemory) ⊎ (stop ≡ JournalEnd)) }
 {
     check_site(plant)?;
     run_trace(rt, alloc, session, source, plant)

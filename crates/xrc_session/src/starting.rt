@@ -7,9 +7,10 @@ ghost use Rattle.trace_grammar.specs.declared.trace.Trace.{Trace as TraceValue};
 ghost use Rattle.sidefile.specs.Breaks.{has_broken};
 ghost use Rattle.pair_table.specs.declared.level.Level.TheVariants.{Volume};
 ghost use Rattle.volume_label.specs.Labels.{has_room, label_of};
-ghost use Rattle.site_store.specs.Sites.{new_site};
+ghost use Rattle.site_store.specs.Sites.{first_spot, new_site};
 ghost use Rattle.site_store.specs.Standing.{Fits, HasLengths, Stands};
 ghost use Rattle.consistency.specs.Bears.{Run};
+ghost use Rattle.epoch.specs.Counted.{IsCounted};
 ghost use Rattle.epoch.specs.Lanes.{IsLane};
 ghost use Rattle.epoch.specs.Frames.{KeepsOthers};
 ghost use Rattle.epoch.specs.Taken.{FailsAsBefore, HasTaken};
@@ -24,7 +25,7 @@ ghost use Rattle.xrc_session.specs.StopsOf.{IsOfStart};
 ghost use Rattle.xrc_session.specs.Traces.{Foresees};
 
 use crate::stops::{of_lane, of_store};
-use crash_plant::Plant;
+use crash_plant::{Device, Plant};
 use epoch::Lane;
 use pair_table::Level;
 use script_lines::LineText;
@@ -59,6 +60,7 @@ fn format<P: Plant>(
     requires there { 1 ≤ (P.state plant.old).volumes }
     ensures site { IfOk result (λ started. started.site ≡ new_site 1 (P.state plant.old).volumes session Volume at) }
     ensures fits { IfOk result (λ started. Fits started.site (P.state plant.new)) }
+    ensures counted { IfOk result (λ started. IsCounted started.site (P.state plant.new)) }
     ensures stands { P.tells → IfOk result (λ started. Stands [] started.site (P.state plant.new)) }
     ensures label { P.tells → IfOk result (λ started. started.label ≡ label_of ((P.state plant.old).lengths (VolumeDevice 0)) (take 14 ((P.state plant.old).bytes (VolumeDevice 0)))) }
     ensures room { IfOk result (λ started. IfSome started.label (λ l. IsTrue (has_room ((P.state plant.old).lengths (VolumeDevice 0)) l.cylinders))) }
@@ -70,6 +72,8 @@ fn format<P: Plant>(
     ensures unbroken { ¬ IsErrOf result EarlyBreak }
     ensures cause { IfErr result (HasStopCause (P.state plant.old) (P.state plant.new)) }
 {
+    // A journal's length is below 2^64 by its type.
+    let _length = plant.length(Device::Journal(0));
     let site = match Site::format(alloc, plant, session, Level::Volume, 1, at) {
         Ok(site) => site,
         Err(error) => return Err(of_store(error)),
@@ -100,6 +104,7 @@ fn set_up<S: Source, P: Plant>(
     ensures rows { IfOk result (λ started. started.site.table.rows ≡ []) }
     ensures session { IfOk result (λ started. started.site.table.session ≡ session) }
     ensures time { IfOk result (λ started. started.site.time ≡ at.0) }
+    ensures at { IfOk result (λ started. started.site.at ≡ first_spot) }
     ensures volumes { OnOk result (lane.new.primary.volumes ≡ lane.old.primary.volumes) }
     ensures label { P.tells → IfOk result (λ started. started.label ≡ label_of ((P.state plant.old).lengths (VolumeDevice 0)) (take 14 ((P.state plant.old).bytes (VolumeDevice 0)))) }
     ensures room { IfOk result (λ started. IfSome started.label (λ l. IsTrue (has_room ((P.state plant.old).lengths (VolumeDevice 0)) l.cylinders))) }
@@ -146,6 +151,8 @@ pub(crate) fn start<S: Source, P: Plant>(
     ensures volumes { OnOk result (lane.new.primary.volumes ≡ lane.old.primary.volumes) }
     ensures label { P.tells → IfOk result (λ started. started.label ≡ label_of ((P.state plant.old).lengths (VolumeDevice 0)) (take 14 ((P.state plant.old).bytes (VolumeDevice 0)))) }
     ensures room { IfOk result (λ started. IfSome started.label (λ l. IsTrue (has_room ((P.state plant.old).lengths (VolumeDevice 0)) l.cylinders))) }
+    // No record was logged yet.
+    ensures at { IfOk result (λ started. started.site.at ≡ first_spot) }
     ensures asked { IfOk result (λ started. AsksStart session text.new started.site.time) }
     ensures foresees { OnOk result ((t : TraceValue) (upto : ℕ) → Foresees (S.left source.old) lane.old upto t → Foresees (S.left source.new) lane.new upto t) }
     ensures fails { OnOk result (FailsAsBefore (S.left source.old) (S.left source.new) lane.old.side lane.new.side) }
@@ -157,7 +164,7 @@ pub(crate) fn start<S: Source, P: Plant>(
     ensures elapses { P.tells → Elapses (P.state plant.old) (P.state plant.new) }
     // The line is answered, and each moment bears.
     ensures starts { P.tells → (first : P) (run : Run) (t : TraceValue) → GoesOn run t [] [] (P.state first) (P.state plant.old) → run.session ≡ session → Foresees (S.left source.old) lane.old lane.new.side.upto t → IfOk result (λ started. HasStarted run t (started_at started.site.time text.new) [] (P.state first) (P.state plant.new)) }
-    ensures stops { P.tells → (first : P) (run : Run) (t : TraceValue) → GoesOn run t [] [] (P.state first) (P.state plant.old) → LeavesAll (P.state first) (P.state plant.old) → run.session ≡ session → Foresees (S.left source.old) lane.old lane.new.side.upto t → IfErr result (StopsSo run (BreaksAt (S.left source.old) (S.left source.new) (S.faults source.old) (S.faults source.new) lane.old lane.new) (λ time. ⊥) (P.state first) (P.state plant.new)) }
+    ensures stops { P.tells → (first : P) (run : Run) (t : TraceValue) → GoesOn run t [] [] (P.state first) (P.state plant.old) → LeavesAll (P.state first) (P.state plant.old) → run.session ≡ session → Foresees (S.left source.old) lane.old lane.new.side.upto t → IfErr result (StopsSo run t (BreaksAt (S.left source.old) (S.left source.new) (S.faults source.old) (S.faults source.new) lane.old lane.new) (λ due. ⊥) (P.state first) (P.state plant.new)) }
     // Why it stops.
     ensures cause { IfErr result (HasStopCause (P.state plant.old) (P.state plant.new)) }
     ensures refused { (time : ℕ) → IsErrOf result NotBuilt → ¬ AsksStart session text.new time }

@@ -1,4 +1,4 @@
-use Rattle.std.proofs.Common.{rules, ◌≡◌, sym, ap, ◌∙◌, arith}
+use Rattle.std.proofs.Common.{rules, ◌≡◌, false, sym, ap, ◌∙◌, arith}
 use Rattle.crash_plant.specs.declared.device.Device.TheVariants.{Volume}
 use Rattle.crash_plant.proofs.Steps.{none_lent_then}
 use Rattle.lending.proofs.Works.{none_lent_lent}
@@ -6,6 +6,7 @@ use Rattle.site_store.specs.declared.store_error.StoreError.TheVariants.{Fault, 
 use Rattle.site_store.specs.Sites.{SiteState}
 use Rattle.epoch.specs.Lanes.{tracks_of}
 use Rattle.epoch.proofs.CopySights.{on_always, on_ok, rose_later}
+use Rattle.epoch.proofs.Counted.{counted_applied, counted_kept, mark_number_goes_on, record_number_goes_on}
 use Rattle.epoch.proofs.KeptErrors.{full_logged, mark_failed, none_logged, only_read, read_failed, spent_logged, spent_marked}
 use Rattle.epoch.proofs.KeptFrames.{items_none, items_own, keeps_applied, keeps_logged, keeps_marked, keeps_three}
 use Rattle.epoch.proofs.KeptGroups.{keep_all, keep_each, log_each}
@@ -50,6 +51,11 @@ returns-in_err-log-clause-spent g c = λ told is.
     let b = g.P.Plant.state c.log.new.plant in
     spent_logged tells told a b c.args.site.now (silent_lent tells _ a b c.log.ensures.only) (only_read tells a b c.log.result Spent (λ d e. cc e) (same ∙ is) c.log.ensures.untouched) (c.requires.stands told) (c.log.ensures.spent.0 (same ∙ is)).1
 
+pub returns-in_err-log-clause-unspent : goal.returns-in_err-log-clause-unspent
+returns-in_err-log-clause-unspent g c = λ counted is.
+    let same : c.log.result ≡ c.from_residual.result = search rules in
+    record_number_goes_on c.args.site.now (g.P.Plant.state c.args.plant.now) counted c.requires.fits (c.log.ensures.spent.0 (same ∙ is)).1
+
 pub returns-in_err-log-clause-journal_end : goal.returns-in_err-log-clause-journal_end
 returns-in_err-log-clause-journal_end g c = λ told is.
     let same : c.log.result ≡ c.from_residual.result = search rules in
@@ -58,13 +64,18 @@ returns-in_err-log-clause-journal_end g c = λ told is.
     let b = g.P.Plant.state c.log.new.plant in
     (full_logged tells told a b c.args.site.now c.args.formed.now (silent_lent tells _ a b c.log.ensures.only) (only_read tells a b c.log.result JournalEnd (λ d e. cc e) (same ∙ is) c.log.ensures.untouched) (c.requires.stands told) c.requires.entries (c.log.ensures.journal_end (same ∙ is))).full
 
-pub returns-in_err-log-clause-full_at : goal.returns-in_err-log-clause-full_at
-returns-in_err-log-clause-full_at g c = λ told is.
+pub returns-in_err-log-clause-full_of : goal.returns-in_err-log-clause-full_of
+returns-in_err-log-clause-full_of g c = λ told is.
     let same : c.log.result ≡ c.from_residual.result = search rules in
     let tells = g.P.Plant.tells in
     let a = g.P.Plant.state c.args.plant.now in
     let b = g.P.Plant.state c.log.new.plant in
     full_logged tells told a b c.args.site.now c.args.formed.now (silent_lent tells _ a b c.log.ensures.only) (only_read tells a b c.log.result JournalEnd (λ d e. cc e) (same ∙ is) c.log.ensures.untouched) (c.requires.stands told) c.requires.entries (c.log.ensures.journal_end (same ∙ is))
+
+pub returns-in_err-log-clause-ends : goal.returns-in_err-log-clause-ends
+returns-in_err-log-clause-ends g c = λ is.
+    let same : c.log.result ≡ c.from_residual.result = search rules in
+    c.log.ensures.journal_end (same ∙ is)
 
 -- ---- it is logged, applied and marked
 
@@ -98,6 +109,11 @@ pub returns-clause-set : goal.returns-clause-set
 returns-clause-set g c =
     let before = ap (λ (s : SiteState). s.at.set) c.apply.ensures.site ∙ ap (λ (s : SiteState). s.at.set) c.in_ok-log.ensures.ok in
     on_ok c.mark.result _ _ (λ is. ap (λ (s : SiteState). s.at.set) is ∙ before) c.mark.ensures.marked
+
+pub returns-clause-at : goal.returns-clause-at
+returns-clause-at g c =
+    let before = ap (λ (s : SiteState). s.at) c.apply.ensures.site ∙ ap (λ (s : SiteState). s.at) c.in_ok-log.ensures.ok in
+    on_ok c.mark.result _ _ (λ is. (c.log.new.self.waiting, c.in_ok-log.ensures.items, ap (λ (s : SiteState). s.at) is ∙ before)) c.mark.ensures.marked
 
 pub returns-clause-home : goal.returns-clause-home
 returns-clause-home g c = none_lent_then g.P.Plant.tells _ (g.P.Plant.state c.apply.new.plant) (g.P.Plant.state c.mark.new.plant) c.mark.ensures.only c.apply.ensures.fits.home
@@ -198,8 +214,33 @@ returns-clause-spent g c = λ told is.
     let why = c.mark.ensures.error Spent is in
     spent_marked tells told m d c.apply.new.self why.1 (c.mark.ensures.volumes told) (c.mark.ensures.images told) (c.apply.ensures.stands told) why.0
 
+pub returns-clause-unspent : goal.returns-clause-unspent
+returns-clause-unspent g c = λ counted is.
+    let a = g.P.Plant.state c.args.plant.now in
+    let b = g.P.Plant.state c.log.new.plant in
+    let m = g.P.Plant.state c.apply.new.plant in
+    let at = ap (λ (s : SiteState). s.at) c.apply.ensures.site in
+    let mark = ap (λ (s : SiteState). s.mark) c.apply.ensures.site in
+    let here = counted_applied c.args.formed.now c.log.new.self.waiting c.args.site.now c.log.new.self c.apply.new.self a b m c.in_ok-log.ensures.ok at mark c.log.ensures.only.site c.apply.ensures.only.site counted in
+    mark_number_goes_on c.apply.new.self m here c.apply.ensures.fits (c.mark.ensures.error Spent is).0
+
+pub returns-clause-counted : goal.returns-clause-counted
+returns-clause-counted g c = λ counted.
+    let a = g.P.Plant.state c.args.plant.now in
+    let b = g.P.Plant.state c.log.new.plant in
+    let m = g.P.Plant.state c.apply.new.plant in
+    let d = g.P.Plant.state c.mark.new.plant in
+    let at = ap (λ (s : SiteState). s.at) c.apply.ensures.site in
+    let mark = ap (λ (s : SiteState). s.mark) c.apply.ensures.site in
+    on_ok c.mark.result _ _
+    (λ is. counted_kept c.args.formed.now c.log.new.self.waiting c.args.site.now c.log.new.self c.apply.new.self a b m c.in_ok-log.ensures.ok at mark c.log.ensures.only.site c.apply.ensures.only.site counted false c.mark.new.self d is c.mark.ensures.only.site)
+    c.mark.ensures.marked
+
 pub returns-clause-journal_end : goal.returns-clause-journal_end
 returns-clause-journal_end g c = λ told is. absurd (c.mark.ensures.error JournalEnd is)
 
-pub returns-clause-full_at : goal.returns-clause-full_at
-returns-clause-full_at g c = λ told is. absurd (c.mark.ensures.error JournalEnd is)
+pub returns-clause-full_of : goal.returns-clause-full_of
+returns-clause-full_of g c = λ told is. absurd (c.mark.ensures.error JournalEnd is)
+
+pub returns-clause-ends : goal.returns-clause-ends
+returns-clause-ends g c = λ is. absurd (c.mark.ensures.error JournalEnd is)

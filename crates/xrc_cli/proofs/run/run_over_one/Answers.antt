@@ -1,4 +1,4 @@
-use Rattle.std.proofs.Common.{ℕ, Ok, Err, sym, subst}
+use Rattle.std.proofs.Common.{◌≡◌, ℕ, Ok, Err, sym, subst}
 use Rattle.xrc_cli.specs.Statuses.{EndsRun}
 use Rattle.xrc_cli.proofs.Ending.{Ran, ends_done, ends_stopped}
 use Rattle.xrc_cli.proofs.run.run_over_one.Goals as goal
@@ -9,7 +9,8 @@ returns-in-Ok g c =
     let mid = c.run_script.new.plant in
     let left = g.S.Source.left in
     let faults = g.S.Source.faults in
-    let r : Ran g.P.Plant.tells g.P.Plant.state c.args.session (left c.args.source.now) (left c.run_script.new.source) (faults c.args.source.now) (faults c.run_script.new.source) old mid (Ok c.in-Ok.field-0) = record {
+    let same = c.run_script.new.source ≡ c.args.source.now in
+    let r : Ran g.P.Plant.tells g.P.Plant.state c.args.session same (left c.args.source.now) (left c.run_script.new.source) (faults c.args.source.now) (faults c.run_script.new.source) old mid (Ok c.in-Ok.field-0) = record {
       site = c.in-Ok.ensures.site;
       short = c.in-Ok.ensures.short;
       too_small = c.in-Ok.ensures.too_small;
@@ -26,10 +27,11 @@ returns-in-Ok g c =
       causes = c.in-Ok.ensures.causes;
       untouched = c.in-Ok.ensures.untouched;
       source_count = c.in-Ok.ensures.source_count;
-      spent = c.in-Ok.ensures.spent;
+      not_pulled = c.in-Ok.ensures.unpulled;
+      trace_given = c.in-Ok.ensures.trace_given;
       complete = c.in-Ok.ensures.complete;
     } in
-    ends_done g.P.Plant.tells g.P.Plant.state c.args.session (left c.args.source.now) (left c.run_script.new.source) (faults c.args.source.now) (faults c.run_script.new.source) old mid c.in-Ok.field-0 r
+    ends_done g.P.Plant.tells g.P.Plant.state c.args.session same (left c.args.source.now) (left c.run_script.new.source) (faults c.args.source.now) (faults c.run_script.new.source) old mid c.in-Ok.field-0 r
 
 pub returns-in-Err : goal.returns-in-Err
 returns-in-Err g c =
@@ -39,7 +41,8 @@ returns-in-Err g c =
     let stop = c.in-Err.stop in
     let left = g.S.Source.left in
     let faults = g.S.Source.faults in
-    let r : Ran g.P.Plant.tells g.P.Plant.state c.args.session (left c.args.source.now) (left c.run_script.new.source) (faults c.args.source.now) (faults c.run_script.new.source) old mid (Err stop) = record {
+    let same = c.run_script.new.source ≡ c.args.source.now in
+    let r : Ran g.P.Plant.tells g.P.Plant.state c.args.session same (left c.args.source.now) (left c.run_script.new.source) (faults c.args.source.now) (faults c.run_script.new.source) old mid (Err stop) = record {
       site = c.in-Err.ensures.site;
       short = c.in-Err.ensures.short;
       too_small = c.in-Err.ensures.too_small;
@@ -56,8 +59,9 @@ returns-in-Err g c =
       causes = c.in-Err.ensures.causes;
       untouched = c.in-Err.ensures.untouched;
       source_count = c.in-Err.ensures.source_count;
-      spent = c.in-Err.ensures.spent;
+      not_pulled = c.in-Err.ensures.unpulled;
+      trace_given = c.in-Err.ensures.trace_given;
       complete = c.in-Err.ensures.complete;
     } in
-    subst (λ (n : ℕ). EndsRun g.P.Plant.tells g.P.Plant.state c.args.session old new n (left c.args.source.now) (left c.run_script.new.source) (faults c.args.source.now) (faults c.run_script.new.source)) (sym c.say_stop.ensures.status)
-    (ends_stopped g.P.Plant.tells g.P.Plant.state c.args.session (left c.args.source.now) (left c.run_script.new.source) (faults c.args.source.now) (faults c.run_script.new.source) old mid stop new r c.say_stop.ensures.said c.say_stop.ensures.silent)
+    subst (λ (n : ℕ). EndsRun g.P.Plant.tells g.P.Plant.state c.args.session old new n same (left c.args.source.now) (left c.run_script.new.source) (faults c.args.source.now) (faults c.run_script.new.source)) (sym c.say_stop.ensures.status)
+    (ends_stopped g.P.Plant.tells g.P.Plant.state c.args.session same (left c.args.source.now) (left c.run_script.new.source) (faults c.args.source.now) (faults c.run_script.new.source) old mid stop new r c.say_stop.ensures.said c.say_stop.ensures.silent)

@@ -1,5 +1,6 @@
-use Rattle.std.proofs.Common.{rules, ◌≡◌, ◌≤◌, inl, inr, ℕ, ◌∷◌, [], false, Some, ap, sym, subst, ◌∙◌, arith}
+use Rattle.std.proofs.Common.{rules, ◌≡◌, ◌<◌, ◌≤◌, inl, inr, ℕ, ◌∷◌, [], false, Some, ap, sym, subst, ◌∙◌, arith}
 use Rattle.std.specs.Prelude.{IfErr, IsErrOf, Result}
+use Rattle.crash_plant.specs.declared.device.Device.TheVariants.{Control}
 use Rattle.sidefile.specs.Breaks.{has_broken}
 use Rattle.sidefile.specs.States.{SidefileState}
 use Rattle.pair_table.specs.declared.row.PairState.TheVariants.{Duplex}
@@ -10,12 +11,13 @@ use Rattle.xrc_status.specs.declared.stop.Stop.{Stop}
 use Rattle.xrc_status.specs.declared.stop.Stop.TheVariants.{JournalEnd}
 use Rattle.xrc_session.specs.StopsOf.{IsOfEpoch}
 use Rattle.pair_course.specs.Course.{end_line}
-use Rattle.epoch.proofs.CopySights.{on_ok}
+use Rattle.epoch.proofs.CopySights.{on_always, on_ok}
 use Rattle.epoch.specs.Ends.{IsFullForWrites}
 use Rattle.epoch.specs.Lanes.{tracks_of}
 use Rattle.epoch.proofs.Frames.{keeps_then}
 use Rattle.epoch.proofs.Working.{silent_then}
 use Rattle.xrc_session.specs.Ending.{HoldsNow}
+use Rattle.xrc_session.proofs.Copied.{copied_now, copied_on, copied_rows, copied_tracks}
 use Rattle.xrc_session.proofs.EndStops.{copy_full}
 use Rattle.xrc_session.proofs.Foreseeing.{foresees_same, reached_own, taken_same}
 use Rattle.xrc_session.proofs.StopLaws.{store_errs_of_epoch}
@@ -128,6 +130,38 @@ returns-clause-moments g c = λ told run t at_run f.
     (subst (λ (n : ℕ). EachMeans (state c.copy.new.plant) (state c.follow.new.plant) (λ x. MeanPair run t (Some (end_line run.session end)) n row false (shape_of (state c.follow.new.plant)) x)) same
     (c.follow.ensures.moments told (c.in_ok-copy.ensures.holds told) run t (end_line run.session end) (run_at site.table.session mid.table.session run (sym table) at_run) g_copied (omega arith)))))
     (c.mark_end.ensures.moments told run t row site.time end (run_at site.table.session last.table.session run (sym second) at_run) rows whole holds (omega (arith, at, later)) (omega (arith, at)))
+
+pub returns-clause-copied : goal.returns-clause-copied
+returns-clause-copied g c = λ told up run t pair at_run row_is time_is f.
+    let state = g.P.Plant.state in
+    let a = state c.args.plant.now in
+    let b = state c.copy.new.plant in
+    let d = state c.follow.new.plant in
+    let e = state c.mark_end.new.plant in
+    let site = c.args.site.now in
+    let row = c.args.row.now in
+    let mid = c.copy.new.site in
+    let lane = c.copy.new.lane in
+    let last = c.follow.new.lane.side.upto in
+    let copied = c.in_ok-copy.ensures in
+    let between = copied.between in
+    let even = between.lane_goes_on.even in
+    let rises = c.follow.ensures.rises in
+    let upto : lane.primary.time ≤ last = omega (arith, even, rises) in
+    let same : pair.time ≡ mid.time = time_is ∙ sym copied.time in
+    let at : pair.time ≡ lane.primary.time = same ∙ between.same_time in
+    let positive = between.fits.time in
+    let some : 0 < lane.primary.time = omega (arith, positive, between.same_time) in
+    let reached = reached_own _ lane last t (foresees_same (g.S.Source.left c.args.source.now) c.args.lane.now lane c.copy.ensures.side c.copy.ensures.primary t last f) upto some in
+    let name : mid.table.session ≡ site.table.session = ap (λ (x : Table). x.session) copied.table in
+    let rows : mid.table.rows ≡ in_state Duplex row ∷ [] = ap (λ (x : Table). x.rows) copied.table in
+    let past = c.copy.ensures.works.elapses told in
+    let more = silent_then g.P.Plant.tells b d e c.follow.ensures.works c.mark_end.ensures.works in
+    on_always c.mark_end.result _
+    (copied_on run t pair a b e up more.site (more.elapses told)
+    (copied_now run t pair a b (past.kept Control).later
+    (copied_rows run t pair b mid row (between.stands told) (run_at site.table.session mid.table.session run (sym name) at_run) between.level rows between.goes_on row_is same)
+    (copied_tracks run t pair b lane row (copied.holds told) reached row_is at)))
 
 pub returns-clause-holds : goal.returns-clause-holds
 returns-clause-holds g c = λ told t f.

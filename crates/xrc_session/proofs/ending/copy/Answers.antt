@@ -40,7 +40,7 @@ returns-in-Ok-clause-holds g c = λ told.
 pub returns-in-Err-clause-cause : goal.returns-in-Err-clause-cause
 returns-in-Err-clause-cause g c =
     store_caused (g.P.Plant.state c.args.plant.now) (g.P.Plant.state c.copy_pair.new.plant) c.copy_pair.result c.in-Err.error c.of_store.result c.in-Err.is c.of_store.ensures
-    c.copy_pair.ensures.fault (c.copy_pair.ensures.volume c.requires.between.good)
+    c.copy_pair.ensures.fault (c.copy_pair.ensures.volume c.requires.between.good) (c.copy_pair.ensures.unspent c.requires.between.counted)
 
 pub returns-in-Ok-clause-others : goal.returns-in-Ok-clause-others
 returns-in-Ok-clause-others g c = λ told.

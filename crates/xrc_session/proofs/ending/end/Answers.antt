@@ -1,6 +1,7 @@
-use Rattle.std.proofs.Common.{rules, ◌≡◌, ℕ, ◌∷◌, [], Err, refl, ap, sym, subst, ◌∙◌}
+use Rattle.std.proofs.Common.{rules, ◌≡◌, ℕ, ◌<◌, false, ◌∷◌, [], Err, refl, ap, sym, subst, ◌∙◌, arith}
 use Rattle.std.specs.Prelude.{OnOk}
 use Rattle.crash_plant.proofs.Steps.{none_lent_console}
+use Rattle.pair_table.specs.declared.row.PairRow.{PairRow}
 use Rattle.pair_table.specs.declared.row.PairState.TheVariants.{Duplex}
 use Rattle.pair_table.specs.Tables.{Table, in_state}
 use Rattle.pair_course.specs.Course.{HoldsTracks, end_line}
@@ -8,16 +9,18 @@ use Rattle.epoch.specs.Lanes.{tracks_of}
 use Rattle.epoch.proofs.CopySights.{on_always}
 use Rattle.epoch.proofs.Frames.{keeps_console}
 use Rattle.session_lines.specs.Asking.{IsNext}
-use Rattle.session_lines.specs.Runs.{GoesOn, end_of, ended_at, ended_lines, paired_lines}
+use Rattle.session_lines.specs.Runs.{HasFinished, IsEnd, end_of, ended_at, paired_lines}
 use Rattle.xrc_session.specs.Ending.{HoldsNow}
 use Rattle.xrc_session.specs.Expected.AreAnswered.{AnEnd, APair}
 use Rattle.xrc_session.specs.Full.{IsFullBehind}
 use Rattle.xrc_session.specs.Stopping.{BreaksAt, HasStopCause, StopsSo}
 use Rattle.xrc_session.specs.StopsOf.{IsOfEpoch}
 use Rattle.xrc_session.proofs.Begun.{err_of}
-use Rattle.xrc_session.proofs.Between.{between_heard, now_heard, stands_heard}
+use Rattle.xrc_session.proofs.Between.{between_heard, heard_later, now_heard, stands_heard}
+use Rattle.xrc_session.proofs.Copied.{copied_on, copied_since}
+use Rattle.xrc_session.proofs.EndStops.{end_full}
 use Rattle.xrc_session.proofs.Ended.{end_goes_on, end_is_heard, ended_rows, hear_cause, hearing, may_end, paired_hears, runs_at}
-use Rattle.xrc_session.proofs.Hearing.{expected_stops, expects_end, hear_stops, no_end}
+use Rattle.xrc_session.proofs.Hearing.{expected_stops, expects_end, hear_stops, no_end, site_means}
 use Rattle.xrc_session.proofs.Leaves.{answered_keeps, answered_past, heard_keeps, heard_past}
 use Rattle.xrc_session.proofs.Saying.{answers_so_far, say_stops}
 use Rattle.xrc_session.proofs.StopLaws.{if_err, of_epoch_not_console, of_epoch_not_refused}
@@ -40,13 +43,17 @@ returns-in_err-at-clause-stops g c = λ told first run t pair has row_is time_is
     let is : c.from_residual.result ≡ Err stop = search rules in
     let keeps = (paired_hears run t pair text (state first) a b has (c.hear_end.ensures.keeps told first)).goes_on.keeps in
     let breaks = BreaksAt told_left told_left faults faults lane lane in
-    let full = IsFullBehind told_left lane c.args.row c.args.site.now.time b in
-    if_err c.from_residual.result stop (StopsSo run breaks full (state first) b) is
-    (hear_stops stop (hearing _ _ c.hear_end.result stop c.hear_end.ensures.cause was) run breaks full (state first) b
+    let full = IsFullBehind told_left lane b in
+    let site = c.args.site.now in
+    let between = between_heard g.P.Plant.tells a b c.hear_end.ensures.only lane site c.requires.between in
+    let means =
+    site_means run (pair.row ∷ []) pair.time false site b (between.stands told) (c.requires.session ∙ sym session_is) (between.level ∙ sym has.goes_on.pair_run.level) (c.requires.rows ∙ ap (λ (r : PairRow). r ∷ []) (sym row_is)) (sym time_is) between.goes_on in
+    if_err c.from_residual.result stop (StopsSo run t breaks full (state first) b) is
+    (hear_stops stop (hearing _ _ c.hear_end.result stop c.hear_end.ensures.cause was) run t breaks full (state first) b
     (λ refused.
     let no = was ∙ ap Err refused in
-    no_end g.P.Plant.tells told c.args.session run session_is text (state first) b (c.hear_end.ensures.ended no) pair c.time.result.0 (time_is ∙ sym c.time.ensures) keeps (c.hear_end.ensures.refused no))
-    (answers_so_far run (paired_lines run pair) text (state first) b (APair pair refl) keeps (λ none. absurd (cc none))))
+    no_end g.P.Plant.tells told c.args.session run t session_is text (state first) b (c.hear_end.ensures.ended no) pair c.time.result.0 has.is (time_is ∙ sym c.time.ensures) keeps (c.hear_end.ensures.refused no) means)
+    (answers_so_far run t (paired_lines run pair) text (state first) b (APair pair has.is refl) keeps (λ none. absurd (cc none))))
 
 pub returns-in_err-at-clause-cause : goal.returns-in_err-at-clause-cause
 returns-in_err-at-clause-cause g c =
@@ -90,13 +97,13 @@ returns-in_err-bring_to_end-clause-stops g c = λ told first run t pair has row_
     let means = work.moments told run t (run_at session site.table.session run (sym c.requires.session) (runs_at run t pair [] (state first) a session has session_is)) f in
     let keeps = c.hear_end.ensures.keeps told first in
     let on = end_goes_on run t pair text (state first) a b has keeps session site.time end c.args.row row_is time_is session_is next g.P.Plant.tells told d work.works means in
-    let line = expects_end run text end (state first) d pair on.goes_on.keeps (end_is_heard run t pair text (state first) a b has keeps session site.time end c.args.row row_is time_is session_is next) in
+    let line = expects_end run t text end (state first) d pair on.is on.goes_on.keeps (end_is_heard run t pair text (state first) a b has keeps session site.time end c.args.row row_is time_is session_is next) in
     let breaks = BreaksAt (left c.args.source.now) (left c.bring_to_end.new.source) (faults c.args.source.now) (faults c.bring_to_end.new.source) c.args.lane.now c.bring_to_end.new.lane in
-    let full = IsFullBehind (left c.args.source.now) c.args.lane.now c.args.row site.time d in
+    let full = IsFullBehind (left c.args.source.now) c.args.lane.now d in
     let of = err_of c.bring_to_end.result stop IsOfEpoch was work.of_epoch in
-    if_err c.from_residual-in_err-bring_to_end.result stop (StopsSo run breaks full (state first) d) is
-    (expected_stops run breaks full (state first) b d line stop (err_of c.bring_to_end.result stop (HasStopCause b d) was work.cause) (λ console. absurd (of_epoch_not_console stop of console)) (of_epoch_not_refused stop of)
-    (λ broken. work.broken (was ∙ ap Err broken)) (λ ended. work.journal_end told (was ∙ ap Err ended)))
+    if_err c.from_residual-in_err-bring_to_end.result stop (StopsSo run t breaks full (state first) d) is
+    (expected_stops run t breaks full (state first) b d line stop (err_of c.bring_to_end.result stop (HasStopCause b d) was work.cause) (λ console. absurd (of_epoch_not_console stop of console)) (of_epoch_not_refused stop of)
+    (λ broken. work.broken (was ∙ ap Err broken)) (λ ended. end_full (left c.args.source.now) c.args.lane.now d pair c.args.row site.time end row_is time_is (work.journal_end told (was ∙ ap Err ended))))
 
 pub returns-in_err-bring_to_end-clause-others : goal.returns-in_err-bring_to_end-clause-others
 returns-in_err-bring_to_end-clause-others g c = λ told.
@@ -132,7 +139,25 @@ returns-clause-ends g c = λ told first run t pair has row_is time_is session_is
     let rows : last.table.rows ≡ in_state Duplex c.args.row ∷ [] = ap (λ (x : Table). x.rows) done.table in
     let may = may_end run t pair text (state first) a b has (c.hear_end.ensures.keeps told first) session site.time end c.args.row row_is time_is session_is next g.P.Plant.tells told d c.bring_to_end.ensures.works means (done.whole t f)
     (ended_rows run c.args.row end last d (done.stands told) name (done.level ∙ sym runs.level) rows done.time done.ended) (done.holds told t f) in
-    subst (λ (n : ℕ). OnOk c.say_ended.result (GoesOn run t (ended_lines run (ended_at pair n text)) [] (state first) e)) (sym done.time) (c.say_ended.ensures.goes_on told first run t pair text may)
+    subst (λ (n : ℕ). OnOk c.say_ended.result (HasFinished run t (ended_at pair n text) [] (state first) e)) (sym done.time) (c.say_ended.ensures.goes_on told first run t pair text may)
+
+pub returns-clause-copied : goal.returns-clause-copied
+returns-clause-copied g c = λ told first run t pair has row_is time_is session_is f.
+    let state = g.P.Plant.state in
+    let a = state c.args.plant.now in
+    let b = state c.hear_end.new.plant in
+    let d = state c.bring_to_end.new.plant in
+    let e = state c.say_ended.new.plant in
+    let session = c.args.session in
+    let up = has.goes_on.up in
+    let since = has.goes_on.keeps.later in
+    let later = heard_later g.P.Plant.tells a b c.hear_end.ensures.only told in
+    let some : 0 < b.clock = omega (arith, up, since, later) in
+    let only = c.say_ended.ensures.said.front.only in
+    let at_run = run_at session c.args.site.now.table.session run (sym c.requires.session) (runs_at run t pair [] (state first) a session has session_is) in
+    on_always c.say_ended.result _
+    (copied_since run t pair (state first) b e (omega (arith, since, later))
+    (copied_on run t pair b d e some only.site (only.elapses told) (c.in_ok-bring_to_end.ensures.copied told some run t pair at_run row_is time_is f)))
 
 pub returns-clause-stops : goal.returns-clause-stops
 returns-clause-stops g c = λ told first run t pair has row_is time_is session_is f.
@@ -160,9 +185,10 @@ returns-clause-stops g c = λ told first run t pair has row_is time_is session_i
     let may = may_end run t pair text (state first) a b has keeps session site.time end c.args.row row_is time_is session_is next g.P.Plant.tells told d works means (done.whole t f)
     (ended_rows run c.args.row end last d (done.stands told) name (done.level ∙ sym runs.level) rows done.time done.ended) (done.holds told t f) in
     let breaks = BreaksAt (left c.args.source.now) (left c.bring_to_end.new.source) (faults c.args.source.now) (faults c.bring_to_end.new.source) c.args.lane.now c.bring_to_end.new.lane in
-    let full = IsFullBehind (left c.args.source.now) c.args.lane.now c.args.row site.time e in
+    let full = IsFullBehind (left c.args.source.now) c.args.lane.now e in
     let last_line = ended_at pair end text in
-    say_stops c.say_ended.result run breaks full (paired_lines run pair) (end_of run last_line) text (state first) d e (AnEnd last_line refl) on.goes_on.keeps g.P.Plant.tells told c.say_ended.ensures.said c.say_ended.ensures.stop
+    let is_end : IsEnd run t last_line = record { pair = has.is; whole = done.whole t f } in
+    say_stops c.say_ended.result run t breaks full (paired_lines run pair) (end_of run last_line) text (state first) d e refl (AnEnd last_line is_end refl) on.goes_on.keeps g.P.Plant.tells told c.say_ended.ensures.said c.say_ended.ensures.stop
     (c.say_ended.ensures.bears told first run t pair text may)
 
 pub returns-clause-holds : goal.returns-clause-holds

@@ -46,6 +46,7 @@ returns-in-Ok-clause-holds g c = λ told holds t f.
 pub returns-in-Err-clause-cause : goal.returns-in-Err-clause-cause
 returns-in-Err-clause-cause g c =
     epoch_caused (g.P.Plant.state c.args.plant.now) (g.P.Plant.state c.follow.new.plant) c.follow.result c.in-Err.error c.of_epoch.result c.in-Err.is c.of_epoch.ensures c.follow.ensures.fault (c.follow.ensures.volume c.requires.between.good)
+    (c.follow.ensures.unspent c.requires.between.counted)
 
 pub returns-in-Ok-clause-others : goal.returns-in-Ok-clause-others
 returns-in-Ok-clause-others g c = λ told.

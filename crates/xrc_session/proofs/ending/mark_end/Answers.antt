@@ -2,10 +2,10 @@ use Rattle.crash_plant.specs.declared.device.Device.TheVariants.{Control}
 use Rattle.site_store.specs.declared.store_error.StoreError.TheVariants.{Fault, JournalEnd, Spent, Volume as VolumeError}
 use Rattle.crash_plant.proofs.Steps.{none_lent_then}
 use Rattle.site_store.specs.Marking.{IsTouched}
-use Rattle.epoch.proofs.KeptErrors.{spent_marked}
+use Rattle.epoch.proofs.Counted.{mark_number_goes_on}
 use Rattle.xrc_session.proofs.EndLeaves.{mark_leaves}
 use Rattle.xrc_session.proofs.Marked.{mark_holds, mark_moments}
-use Rattle.xrc_session.proofs.StopLaws.{store_caused, was_end, was_spent}
+use Rattle.xrc_session.proofs.StopLaws.{store_caused, was_end}
 use Rattle.xrc_session.proofs.ending.mark_end.Goals as goal
 
 pub returns-in-Ok-clause-moments : goal.returns-in-Ok-clause-moments
@@ -26,11 +26,7 @@ pub returns-in-Err-clause-cause : goal.returns-in-Err-clause-cause
 returns-in-Err-clause-cause g c =
     store_caused (g.P.Plant.state c.args.plant.now) (g.P.Plant.state c.mark.new.plant) c.mark.result c.in-Err.error c.of_store.result c.in-Err.is c.of_store.ensures
     (λ d is. (c.mark.ensures.error (Fault d) is).1) (λ v is. ((c.mark.ensures.error (VolumeError v) is).1 c.requires.good).1)
-
-pub returns-in-Err-clause-spent : goal.returns-in-Err-clause-spent
-returns-in-Err-clause-spent g c = λ told is.
-    let why = c.mark.ensures.error Spent (was_spent c.mark.result c.in-Err.error c.of_store.result c.in-Err.is c.of_store.ensures is) in
-    spent_marked g.P.Plant.tells told (g.P.Plant.state c.args.plant.now) (g.P.Plant.state c.mark.new.plant) c.args.site.now why.1 (c.mark.ensures.volumes told) (c.mark.ensures.images told) (c.requires.stands told) why.0
+    (λ is. mark_number_goes_on c.args.site.now (g.P.Plant.state c.args.plant.now) c.requires.counted c.requires.fits (c.mark.ensures.error Spent is).0)
 
 pub returns-in-Err-clause-no_journal_end : goal.returns-in-Err-clause-no_journal_end
 returns-in-Err-clause-no_journal_end g c = λ is. c.mark.ensures.error JournalEnd (was_end c.mark.result c.in-Err.error c.of_store.result c.in-Err.is c.of_store.ensures is)

@@ -1,5 +1,5 @@
 use Rattle.std.proofs.Common.{◌∙◌, sym}
-use Rattle.xrc_session.proofs.FirstSide.{cut_in, opened_breaks, opened_fails, opens, same_err}
+use Rattle.xrc_session.proofs.FirstSide.{cut_in, opened_breaks, opened_fails, opened_gives, opens, same_err}
 use Rattle.xrc_session.proofs.opening.open_trace.Goals as goal
 
 pub returns-in-Err-clause-cut : goal.returns-in-Err-clause-cut
@@ -15,6 +15,10 @@ returns-in-Ok-make-clause-ahead g c = λ given told.
 pub returns-in-Ok-make-clause-fails : goal.returns-in-Ok-make-clause-fails
 returns-in-Ok-make-clause-fails g c = λ given left limit upto told failed other t whole gave.
     opened_fails given left (g.S.Source.left c.args.source.now) (g.S.Source.left c.start.new.source) c.in-Ok.started.0 c.in-Ok.started.1 c.in-Ok-make.lane.side limit upto told c.in-Ok.ensures.0 c.in-Ok-make.ensures.side failed other t whole gave
+
+pub returns-in-Ok-make-clause-gives : goal.returns-in-Ok-make-clause-gives
+returns-in-Ok-make-clause-gives g c = λ given now limit upto told failed.
+    opened_gives given (g.S.Source.left c.args.source.now) (g.S.Source.left c.start.new.source) now c.in-Ok.started.0 c.in-Ok.started.1 c.in-Ok-make.lane.side limit upto told c.in-Ok.ensures.0 c.in-Ok-make.ensures.side failed
 
 pub returns-in-Ok-make-clause-breaks : goal.returns-in-Ok-make-clause-breaks
 returns-in-Ok-make-clause-breaks g c = λ given left limit upto told failed t gave.

@@ -1,16 +1,15 @@
-use Rattle.std.proofs.Common.{rules, ◌≡◌, ◌*◌, ℕ, [], Ok, Err, refl, sym, ap, subst, ◌∙◌, arith}
+use Rattle.std.proofs.Common.{rules, ◌≡◌, ◌*◌, ℕ, false, [], Ok, Err, refl, sym, ap, subst, ◌∙◌, arith}
 use Rattle.crash_plant.proofs.Steps.{none_lent_console}
 use Rattle.pair_table.specs.Tables.{Table}
 use Rattle.epoch.proofs.Frames.{keeps_console}
 use Rattle.session_lines.specs.Runs.{HasPaired, pair_of, paired_at, started_lines}
 use Rattle.xrc_session.specs.Expected.AreAnswered.{APair, AStart}
-use Rattle.xrc_session.specs.Full.{IsFullForPair}
 use Rattle.xrc_session.specs.Stopping.{BreaksAt, HasStopCause, StopsSo}
 use Rattle.xrc_session.proofs.AddedRows.{added_is_new}
 use Rattle.xrc_session.proofs.Begun.{err_of, hear_counted, none_fell}
 use Rattle.xrc_session.proofs.Between.{between_heard}
 use Rattle.xrc_session.proofs.Ended.{hearing}
-use Rattle.xrc_session.proofs.Hearing.{expected_stops, expects_pair, hear_stops, no_pair}
+use Rattle.xrc_session.proofs.Hearing.{expected_stops, expects_pair, hear_stops, no_pair, site_means}
 use Rattle.xrc_session.proofs.Leaves.{answered_keeps, answered_past, heard_keeps, heard_past}
 use Rattle.xrc_session.proofs.PairLines.{hears_pair, may_pair, started_hears}
 use Rattle.xrc_session.proofs.PairRows.{new_is_added}
@@ -35,11 +34,14 @@ returns-in_err-asked-clause-stops g c = λ told first run t start has time of_ru
     let was : c.hear_row.result ≡ Err stop = search rules in
     let is : c.from_residual.result ≡ Err stop = search rules in
     let on = started_hears run t start text (state first) a b has (c.hear_row.ensures.keeps told first) in
-    if_err c.from_residual.result stop (StopsSo run breaks (IsFullForPair b) (state first) b) is
-    (hear_stops stop (hearing _ _ c.hear_row.result stop c.hear_row.ensures.cause was) run breaks (IsFullForPair b) (state first) b
-    (λ refused. no_pair g.P.Plant.tells told c.args.session run of_run.session_is text (state first) b (c.hear_row.ensures.ended (was ∙ ap Err refused)) start c.time-before.result.0 (time ∙ sym c.time-before.ensures) on.goes_on.keeps
-    (λ row n added. c.hear_row.ensures.refused (was ∙ ap Err refused) row n (added_is_new c.args.session c.args.volumes.now label row run t source lane lane.side.upto added has.goes_on.pair_run of_run c.requires.volumes f)))
-    (answers_so_far run (started_lines run start) text (state first) b (AStart start refl) on.goes_on.keeps (λ none. absurd (cc none))))
+    let site = c.args.started.now.site in
+    let between = between_heard g.P.Plant.tells a b c.hear_row.ensures.only lane site c.requires.between in
+    let means = site_means run [] start.time false site b (between.stands told) (c.requires.session ∙ sym of_run.session_is) (between.level ∙ sym has.goes_on.pair_run.level) c.requires.rows (sym time) between.goes_on in
+    if_err c.from_residual.result stop (StopsSo run t breaks (λ due. ⊥) (state first) b) is
+    (hear_stops stop (hearing _ _ c.hear_row.result stop c.hear_row.ensures.cause was) run t breaks (λ due. ⊥) (state first) b
+    (λ refused. no_pair g.P.Plant.tells told c.args.session run t of_run.session_is text (state first) b (c.hear_row.ensures.ended (was ∙ ap Err refused)) start c.time-before.result.0 has.is (time ∙ sym c.time-before.ensures) on.goes_on.keeps
+    (λ row n added. c.hear_row.ensures.refused (was ∙ ap Err refused) row n (added_is_new c.args.session c.args.volumes.now label row run t source lane lane.side.upto added has.goes_on.pair_run of_run c.requires.volumes f)) means)
+    (answers_so_far run t (started_lines run start) text (state first) b (AStart start has.is refl) on.goes_on.keeps (λ none. absurd (cc none))))
 
 -- ---- the pair isn't taken
 
@@ -64,10 +66,10 @@ returns-in_err-take_pair-clause-stops g c = λ told first run t start has time o
     let added = new_is_added c.args.session c.args.volumes.now c.args.started.now.label row run t (g.S.Source.left c.args.source.now) c.args.lane.now c.take_pair.new.lane.side.upto c.in_ok-asked.ensures.row has.goes_on.pair_run of_run c.requires.volumes f in
     let on = c.take_pair.ensures.heard told first run t start text heard time (of_run.session_is ∙ sym c.requires.session) added f in
     let keeps = on.started.goes_on.keeps in
-    if_err c.from_residual-in_err-take_pair.result stop (StopsSo run breaks (IsFullForPair d) (state first) d) is
-    (expected_stops run breaks (IsFullForPair d) (state first) b d (expects_pair run text at (state first) d start row keeps added on.heard) stop (err_of c.take_pair.result stop (HasStopCause b d) was c.take_pair.ensures.cause)
-    (λ console. answers_so_far run (started_lines run start) text (state first) d (AStart start refl) keeps (λ none. absurd (cc none))) (λ refused. c.take_pair.ensures.built (was ∙ ap Err refused))
-    (λ broken. c.take_pair.ensures.broken (was ∙ ap Err broken)) (λ end. c.take_pair.ensures.journal_end told (was ∙ ap Err end)))
+    if_err c.from_residual-in_err-take_pair.result stop (StopsSo run t breaks (λ due. ⊥) (state first) d) is
+    (expected_stops run t breaks (λ due. ⊥) (state first) b d (expects_pair run t text at (state first) d start row has.is keeps added on.heard) stop (err_of c.take_pair.result stop (HasStopCause b d) was c.take_pair.ensures.cause)
+    (λ console. answers_so_far run t (started_lines run start) text (state first) d (AStart start has.is refl) keeps (λ none. absurd (cc none))) (λ refused. c.take_pair.ensures.built (was ∙ ap Err refused))
+    (λ broken. c.take_pair.ensures.broken (was ∙ ap Err broken)) (λ end. c.take_pair.ensures.has_room (was ∙ ap Err end)))
 
 -- ---- the reply isn't said
 
@@ -94,10 +96,10 @@ returns-in_err-say_added-clause-stops g c =
     let added = new_is_added c.args.session c.args.volumes.now c.args.started.now.label row run t (g.S.Source.left c.args.source.now) c.args.lane.now c.take_pair.new.lane.side.upto c.in_ok-asked.ensures.row has.goes_on.pair_run of_run c.requires.volumes f in
     let on = c.take_pair.ensures.heard told first run t start text heard time session added f in
     let may = may_pair g.P.Plant.tells told c.take_pair.new.lane c.take_pair.new.site run t start row tracks at text (state first) d done.between (ap (λ (x : Table). x.rows) done.table) done.time
-    (session ∙ sym (ap (λ (x : Table). x.session) done.table)) on added (done.unbroken t f) in
-    if_err c.from_residual-in_err-say_added.result stop (StopsSo run breaks (IsFullForPair e) (state first) e) is
-    (err_of c.say_added.result stop (StopsSo run breaks (IsFullForPair e) (state first) e) was
-    (say_stops c.say_added.result run breaks (IsFullForPair e) (started_lines run start) (pair_of run pair) text (state first) d e (APair pair refl) on.started.goes_on.keeps g.P.Plant.tells told c.say_added.ensures.said c.say_added.ensures.stop
+    (session ∙ sym (ap (λ (x : Table). x.session) done.table)) on added c.tracks_of.ensures (done.unbroken t f) in
+    if_err c.from_residual-in_err-say_added.result stop (StopsSo run t breaks (λ due. ⊥) (state first) e) is
+    (err_of c.say_added.result stop (StopsSo run t breaks (λ due. ⊥) (state first) e) was
+    (say_stops c.say_added.result run t breaks (λ due. ⊥) (started_lines run start) (pair_of run pair) text (state first) d e refl (APair pair (record { start = has.is; added = added; counted = c.tracks_of.ensures; whole = done.unbroken t f }) refl) on.started.goes_on.keeps g.P.Plant.tells told c.say_added.ensures.said c.say_added.ensures.stop
     (c.say_added.ensures.bears told first run t start row text may)))
 
 -- ---- the line is answered
@@ -123,7 +125,7 @@ returns-clause-pairs g c = λ told first run t start has time of_run f.
     let added = new_is_added c.args.session c.args.volumes.now c.args.started.now.label row run t (g.S.Source.left c.args.source.now) c.args.lane.now c.take_pair.new.lane.side.upto c.in_ok-asked.ensures.row has.goes_on.pair_run of_run c.requires.volumes f in
     let on = c.take_pair.ensures.heard told first run t start text heard time session added f in
     let may = may_pair g.P.Plant.tells told c.take_pair.new.lane c.take_pair.new.site run t start row tracks at text (state first) d done.between (ap (λ (x : Table). x.rows) done.table) done.time
-    (session ∙ sym (ap (λ (x : Table). x.session) done.table)) on added (done.unbroken t f) in
+    (session ∙ sym (ap (λ (x : Table). x.session) done.table)) on added c.tracks_of.ensures (done.unbroken t f) in
     subst (λ (n : ℕ). HasPaired run t (paired_at start row (15 * row.cylinders) n text) [] (state first) e) (sym done.time)
     (subst (λ (n : ℕ). HasPaired run t (paired_at start row n at text) [] (state first) e) c.tracks_of.ensures (c.in_ok-say_added.ensures.goes_on told first run t start row text may))
 

@@ -1,5 +1,5 @@
-use Rattle.std.proofs.Common.{ℕ, arith, subst}
-use Rattle.epoch.specs.Ends.{IsFullForTime}
+use Rattle.std.proofs.Common.{ℕ, ap, arith, subst}
+use Rattle.crash_plant.specs.declared.spot.Spot.{Spot}
 use Rattle.epoch.specs.Frames.{KeepsOthers}
 use Rattle.epoch.proofs.Frames.{keeps_here}
 use Rattle.xrc_session.proofs.PairWaits.{kept_heard}
@@ -20,12 +20,21 @@ returns-in-Err-clause-heard g c = λ told first run t start row text heard stand
 
 pub returns-in-Err-clause-cause : goal.returns-in-Err-clause-cause
 returns-in-Err-clause-cause g c =
-    store_caused (g.P.Plant.state c.args.plant.now) (g.P.Plant.state c.keep_time.new.plant) c.keep_time.result c.in-Err.error c.of_store.result c.in-Err.is c.of_store.ensures c.keep_time.ensures.fault (c.keep_time.ensures.volume c.requires.behind.good)
+    store_caused (g.P.Plant.state c.args.plant.now) (g.P.Plant.state c.keep_time.new.plant) c.keep_time.result c.in-Err.error c.of_store.result c.in-Err.is c.of_store.ensures c.keep_time.ensures.fault (c.keep_time.ensures.volume c.requires.behind.good) (c.keep_time.ensures.unspent c.requires.behind.counted)
 
-pub returns-in-Err-clause-journal_end : goal.returns-in-Err-clause-journal_end
-returns-in-Err-clause-journal_end g c = λ told is.
-    subst (λ (n : ℕ). IsFullForTime n (g.P.Plant.state c.keep_time.new.plant)) c.requires.time
-    (c.keep_time.ensures.journal_end told (was_end c.keep_time.result c.in-Err.error c.of_store.result c.in-Err.is c.of_store.ensures is))
+pub returns-in-Ok-clause-at : goal.returns-in-Ok-clause-at
+returns-in-Ok-clause-at g c =
+    let place = ap (λ (s : Spot). s.place) c.in-Ok.ensures.at in
+    let begins = c.requires.begins in
+    omega (arith, place, begins)
+
+pub returns-in-Err-clause-has_room : goal.returns-in-Err-clause-has_room
+returns-in-Err-clause-has_room g c = λ is.
+    let site = c.args.site.now in
+    let fits = c.requires.behind.fits in
+    let room = fits.lengths.journal site.at.set fits.set in
+    let begins = c.requires.begins in
+    c.keep_time.ensures.has_room (omega (arith, room, begins)) (was_end c.keep_time.result c.in-Err.error c.of_store.result c.in-Err.is c.of_store.ensures is)
 
 pub returns-then-eq-clause-others : goal.returns-then-eq-clause-others
 returns-then-eq-clause-others g c = λ told. keeps_here 0 0 0 (g.P.Plant.state c.args.plant.now)

@@ -2,15 +2,16 @@ use Rattle.std.proofs.Common.{List, ap, subst, ◌∙◌}
 use Rattle.crash_plant.specs.Choices.{AllFollow}
 use Rattle.crash_plant.proofs.Steps.{none_lent_then}
 use Rattle.pair_table.specs.declared.row.PairRow.{PairRow}
+use Rattle.pair_table.specs.Tables.{KeepsRows, Table}
 use Rattle.site_store.specs.Changes.{SeesRows}
 use Rattle.site_store.specs.Sees.{SeesSameOr}
 use Rattle.site_store.specs.Sites.{SiteState}
 use Rattle.epoch.proofs.Frames.{keeps_here}
 use Rattle.epoch.proofs.Working.{silent_on}
 use Rattle.xrc_session.proofs.Leaves.{log_keeps}
-use Rattle.xrc_session.proofs.PairPuts.{put_ahead, put_full, put_is, put_spent}
+use Rattle.xrc_session.proofs.PairPuts.{put_ahead, put_counted, put_fits, put_is, put_unspent}
 use Rattle.xrc_session.proofs.PairWaits.{logged_heard}
-use Rattle.xrc_session.proofs.StopLaws.{store_caused, was_end, was_spent}
+use Rattle.xrc_session.proofs.StopLaws.{store_caused, was_end}
 use Rattle.xrc_session.proofs.pairing.put_pair.Goals as goal
 
 pub log_change-requires-clause-stands : goal.log_change-requires-clause-stands
@@ -38,20 +39,17 @@ returns-clause-heard g c = λ told first run t start text heard standing added w
 pub returns-clause-cause : goal.returns-clause-cause
 returns-clause-cause g c =
     store_caused (g.P.Plant.state c.args.plant.now) (g.P.Plant.state c.log_change.new.plant) c.log_change.result c.in-Err-log_change.error c.of_store.result c.in-Err-log_change.is c.of_store.ensures (λ d is. (c.log_change.ensures.cause.fault d is).1) (λ v is. absurd (c.log_change.ensures.cause.volume v is))
+    (put_unspent c.args.row c.args.site.now c.put_row.new.self c.requires.rows c.in-Ok.ensures.ok (g.P.Plant.state c.args.plant.now) c.log_change.result c.requires.counted c.requires.fits c.log_change.ensures.refuses)
 
-pub returns-clause-spent : goal.returns-clause-spent
-returns-clause-spent g c = λ told is.
-    let a = g.P.Plant.state c.args.plant.now in
-    let b = g.P.Plant.state c.log_change.new.plant in
-    put_spent c.args.row c.args.site.now c.put_row.new.self c.requires.rows c.in-Ok.ensures.ok g.P.Plant.tells told a b (silent_on g.P.Plant.tells _ a b c.log_change.ensures.only) (c.requires.stands told) c.log_change.result c.log_change.ensures.untouched c.log_change.ensures.refuses
-    (was_spent c.log_change.result c.in-Err-log_change.error c.of_store.result c.in-Err-log_change.is c.of_store.ensures is)
-
-pub returns-clause-journal_end : goal.returns-clause-journal_end
-returns-clause-journal_end g c = λ told is.
-    let a = g.P.Plant.state c.args.plant.now in
-    let b = g.P.Plant.state c.log_change.new.plant in
-    put_full c.args.row c.args.site.now c.put_row.new.self c.requires.rows c.in-Ok.ensures.ok g.P.Plant.tells told a b (silent_on g.P.Plant.tells _ a b c.log_change.ensures.only) (c.requires.stands told) c.log_change.result c.log_change.ensures.untouched c.log_change.ensures.refuses
+pub returns-clause-has_room : goal.returns-clause-has_room
+returns-clause-has_room g c = λ is.
+    put_fits c.args.row c.args.site.now c.put_row.new.self c.requires.rows c.in-Ok.ensures.ok (g.P.Plant.state c.args.plant.now) c.log_change.result (subst (λ (t : Table). KeepsRows t.rows) c.table.ensures c.len-valid.ensures.rules) c.requires.begins c.requires.fits c.log_change.ensures.refuses
     (was_end c.log_change.result c.in-Err-log_change.error c.of_store.result c.in-Err-log_change.is c.of_store.ensures is)
+
+pub returns-in-Ok-log_change-clause-counted : goal.returns-in-Ok-log_change-clause-counted
+returns-in-Ok-log_change-clause-counted g c =
+    put_counted c.args.row c.args.site.now c.put_row.new.self c.requires.rows c.in-Ok.ensures.ok c.args.at.0 c.log_change.new.self (g.P.Plant.state c.args.plant.now) (g.P.Plant.state c.log_change.new.plant) c.in-Ok-log_change.ensures.ok
+    c.log_change.ensures.only.site c.requires.counted
 
 pub returns-in-Ok-log_change-clause-home : goal.returns-in-Ok-log_change-clause-home
 returns-in-Ok-log_change-clause-home g c = none_lent_then g.P.Plant.tells _ (g.P.Plant.state c.args.plant.now) (g.P.Plant.state c.log_change.new.plant) c.log_change.ensures.only c.requires.fits.home

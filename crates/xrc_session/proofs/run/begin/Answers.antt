@@ -6,8 +6,8 @@ use Rattle.epoch.proofs.Frames.{keeps_then}
 use Rattle.epoch.proofs.TakenLaws.{then_fails}
 use Rattle.session_lines.specs.Runs.{paired_at, started_at}
 use Rattle.xrc_status.specs.declared.stop.Stop.TheVariants.{EarlyBreak}
+use Rattle.xrc_session.specs.Expected.{time_of}
 use Rattle.xrc_session.specs.Runs.{first_label}
-use Rattle.xrc_session.specs.Full.{IsFullForPair}
 use Rattle.xrc_session.specs.Stopping.{BreaksAt, HasStopCause, StopsSo}
 use Rattle.xrc_session.proofs.Begun.{err_of}
 use Rattle.xrc_session.proofs.RunStops.{breaks_before, stop_so}
@@ -27,9 +27,9 @@ returns-in_err-started-clause-stops g c = λ told run t goes of f.
     let was : c.start.result ≡ Err e = search rules in
     let is : c.from_residual.result ≡ Err e = search rules in
     let breaks = BreaksAt (left c.args.source.now) (left c.start.new.source) (faults c.args.source.now) (faults c.start.new.source) c.args.lane.now c.start.new.lane in
-    if_err c.from_residual.result e (StopsSo run breaks (IsFullForPair b) a b) is
-    (stop_so run breaks (λ time. ⊥) breaks (IsFullForPair b) a b e (λ broken time so. so) (λ ended time none. absurd none)
-    (err_of c.start.result e (StopsSo run breaks (λ time. ⊥) a b) was (c.start.ensures.stops told c.args.plant.now run t goes (λ d. stays_here (on a d)) of.session_is f)))
+    if_err c.from_residual.result e (StopsSo run t breaks (λ due. ⊥) a b) is
+    (stop_so run t breaks (λ due. ⊥) breaks (λ due. ⊥) a b e (λ broken line so. so) (λ ended line none. absurd none)
+    (err_of c.start.result e (StopsSo run t breaks (λ due. ⊥) a b) was (c.start.ensures.stops told c.args.plant.now run t goes (λ d. stays_here (on a d)) of.session_is f)))
 
 pub returns-in_err-started-clause-failed : goal.returns-in_err-started-clause-failed
 returns-in_err-started-clause-failed g c = λ broken differ.
@@ -63,10 +63,10 @@ returns-in_err-row-clause-stops g c = λ told run t goes of f.
     let counted = c.start.ensures.count (ok_not_err c.start.result started EarlyBreak ok) in
     let later = BreaksAt (left mid) (left last) (faults mid) (faults last) c.start.new.lane c.add_pair.new.lane in
     let breaks = BreaksAt (left source) (left last) (faults source) (faults last) c.args.lane.now c.add_pair.new.lane in
-    if_err c.from_residual-in_err-row.result e (StopsSo run breaks (IsFullForPair d) a d) is
-    (stop_so run later (IsFullForPair d) breaks (IsFullForPair d) a d e
-    (λ broken time so. breaks_before time (left source) (left mid) (left last) (faults source) (faults mid) (faults last) c.args.lane.now c.start.new.lane c.add_pair.new.lane counted made.fails made.taken so) (λ ended time so. so)
-    (err_of c.add_pair.result e (StopsSo run later (IsFullForPair d) a d) was
+    if_err c.from_residual-in_err-row.result e (StopsSo run t breaks (λ due. ⊥) a d) is
+    (stop_so run t later (λ due. ⊥) breaks (λ due. ⊥) a d e
+    (λ broken line so. breaks_before (time_of line.due) (left source) (left mid) (left last) (faults source) (faults mid) (faults last) c.args.lane.now c.start.new.lane c.add_pair.new.lane counted made.fails made.taken so) (λ ended line so. so)
+    (err_of c.add_pair.result e (StopsSo run t later (λ due. ⊥) a d) was
     (c.add_pair.ensures.stops told c.args.plant.now run t (started_at started.site.time c.start.new.text) has refl (run_with c.args.session (first_label a) started.label run (made.label told) of) (made.foresees t upto f))))
 
 pub returns-in_err-row-clause-cause : goal.returns-in_err-row-clause-cause

@@ -1,4 +1,4 @@
-use Rattle.std.proofs.Common.{rules, ◌≡◌, ℕ, ◌∷◌, [], Err, ap, sym, subst, ◌∙◌}
+use Rattle.std.proofs.Common.{rules, ◌≡◌, ℕ, ◌∷◌, [], true, Err, refl, ap, sym, subst, ◌∙◌}
 use Rattle.crash_plant.specs.declared.device.Device.TheVariants.{Control}
 use Rattle.crash_plant.proofs.Steps.{elapses_trans, none_lent_console}
 use Rattle.pair_table.specs.declared.row.PairRow.{PairRow}
@@ -6,7 +6,7 @@ use Rattle.pair_table.specs.declared.row.PairState.TheVariants.{Duplex}
 use Rattle.pair_table.specs.Tables.{Table, in_state}
 use Rattle.site_means.specs.Images.{shape_of}
 use Rattle.site_store.proofs.Fitting.{reads_choice}
-use Rattle.pair_course.specs.Course.{HoldsTracks}
+use Rattle.pair_course.specs.Course.{HoldsTracks, MeansRows}
 use Rattle.epoch.specs.Frames.{KeepsOthers}
 use Rattle.epoch.specs.Lanes.{tracks_of}
 use Rattle.epoch.proofs.Frames.{keeps_console, keeps_then}
@@ -17,6 +17,8 @@ use Rattle.xrc_session.specs.Full.{IsFullBehind}
 use Rattle.xrc_session.specs.Runs.{EndsSession}
 use Rattle.xrc_session.specs.Stopping.{BreaksAt, StopsSo}
 use Rattle.xrc_session.proofs.Begun.{err_of}
+use Rattle.xrc_session.proofs.Between.{now_heard}
+use Rattle.xrc_session.proofs.Hearing.{site_means}
 use Rattle.xrc_session.proofs.RunStops.{nothing_stops}
 use Rattle.xrc_session.proofs.StopLaws.{if_err}
 use Rattle.xrc_session.proofs.WholeRuns.{ends_session, ok_more}
@@ -32,9 +34,8 @@ returns-in_err-end-clause-stops g c = λ told first run t pair has row_is time_i
     let was : c.end.result ≡ Err e = search rules in
     let is : c.from_residual.result ≡ Err e = search rules in
     let breaks = BreaksAt (left c.args.source.now) (left c.end.new.source) (faults c.args.source.now) (faults c.end.new.source) c.args.lane.now c.end.new.lane in
-    let paired = c.args.paired.now in
-    let full = IsFullBehind (left c.args.source.now) c.args.lane.now paired.row paired.started.site.time b in
-    if_err c.from_residual.result e (StopsSo run breaks full (state first) b) is (err_of c.end.result e (StopsSo run breaks full (state first) b) was (c.end.ensures.stops told first run t pair has row_is time_is session_is f))
+    let full = IsFullBehind (left c.args.source.now) c.args.lane.now b in
+    if_err c.from_residual.result e (StopsSo run t breaks full (state first) b) is (err_of c.end.result e (StopsSo run t breaks full (state first) b) was (c.end.ensures.stops told first run t pair has row_is time_is session_is f))
 
 pub returns-in_err-end-clause-others : goal.returns-in_err-end-clause-others
 returns-in_err-end-clause-others g c = λ told.
@@ -56,7 +57,8 @@ returns-clause-ends g c = λ told first run t pair has row_is time_is session_is
     let reads = reads_choice d home (λ x there. g.met.P.Plant.read_is_image c.expect_nothing.new.plant x told there) in
     ok_more c.expect_nothing.result (HearsEnd b d) (EndsSession run t (state first) d)
     (λ end.
-    ends_session run t pair text (state first) b d site g.P.Plant.tells told nothing.only end (nothing.keeps told first [] end.nothing) (done.ends told first run t pair has row_is time_is session_is f) (done.stands told) name
+    ends_session run t pair text (state first) b d site g.P.Plant.tells told nothing.only end (nothing.keeps told first [] end.nothing) (done.ends told first run t pair has row_is time_is session_is f)
+    (done.copied told first run t pair has row_is time_is session_is f) (done.stands told) name
     (done.level ∙ sym has.goes_on.pair_run.level) rows done.ended done.empty holds reads (ap (λ (r : PairRow). r.device) row_is ∙ c.requires.device))
     (nothing.end told)
 
@@ -69,10 +71,16 @@ returns-clause-stops g c = λ told first run t pair has row_is time_is session_i
     let last = ended_at pair c.end.new.site.time c.end.new.text in
     let nothing = c.expect_nothing.ensures in
     let breaks = BreaksAt (left c.args.source.now) (left c.end.new.source) (faults c.args.source.now) (faults c.end.new.source) c.args.lane.now c.end.new.lane in
-    let paired = c.args.paired.now in
-    let full = IsFullBehind (left c.args.source.now) c.args.lane.now paired.row paired.started.site.time d in
+    let full = IsFullBehind (left c.args.source.now) c.args.lane.now d in
+    let b = state c.end.new.plant in
+    let site = c.end.new.site in
+    let done = c.in_ok-end.ensures in
+    let rows = ap (λ (x : Table). x.rows) done.table ∙ ap (λ (r : PairRow). in_state Duplex r ∷ []) (sym row_is) in
+    let name = ap (λ (x : Table). x.session) done.table ∙ c.requires.session ∙ sym session_is in
+    let was = site_means run (in_state Duplex pair.row ∷ []) site.time true site b (done.stands told) name (done.level ∙ sym has.goes_on.pair_run.level) rows refl done.ended in
+    let means = now_heard g.P.Plant.tells b d nothing.only told (λ s x. MeansRows run s x (in_state Duplex pair.row ∷ []) site.time true) was in
     nothing_stops c.expect_nothing.result run t last breaks full (state first) (state c.end.new.plant) d (c.in_ok-end.ensures.ends told first run t pair has row_is time_is session_is f)
-    nothing.cause (nothing.refused told) (nothing.failed told) (λ heard is. nothing.keeps told first heard is)
+    nothing.cause (nothing.refused told) (nothing.failed told) (λ heard is. nothing.keeps told first heard is) means
 
 pub returns-clause-home : goal.returns-clause-home
 returns-clause-home g c = none_lent_console g.P.Plant.tells (g.P.Plant.state c.end.new.plant) (g.P.Plant.state c.expect_nothing.new.plant) c.expect_nothing.ensures.only c.end.ensures.home

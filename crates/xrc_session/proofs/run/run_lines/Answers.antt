@@ -1,7 +1,8 @@
-use Rattle.std.proofs.Common.{rules, ◌≡◌, inl, Ok, Err, ◌∙◌}
+use Rattle.std.proofs.Common.{rules, ◌≡◌, ◌<◌, Ok, Err, ◌∙◌, arith}
 use Rattle.crash_plant.proofs.Steps.{site_trans}
 use Rattle.xrc_status.specs.declared.stop.Stop.TheVariants.{EarlyBreak}
-use Rattle.xrc_session.specs.Full.{IsFullBehind, IsFullForPair, IsFullFrom}
+use Rattle.xrc_session.specs.Expected.{time_of}
+use Rattle.xrc_session.specs.Full.{IsFullBehind, IsFullFrom}
 use Rattle.xrc_session.specs.Leaving.LeavesOthers.{Unpaired}
 use Rattle.xrc_session.specs.Stopping.{BreaksAt, StopsSo}
 use Rattle.xrc_session.proofs.Begun.{err_of}
@@ -24,8 +25,8 @@ returns-in_err-paired-clause-stops g c = λ told run t goes of f.
     let is : c.from_residual.result ≡ Err e = search (rules, c.from_residual.ensures) in
     let breaks = BreaksAt (left source) (left c.begin.new.source) (faults source) (faults c.begin.new.source) lane c.begin.new.lane in
     let full = IsFullFrom (left source) lane b in
-    if_err c.from_residual.result e (StopsSo run breaks full a b) is
-    (stop_so run breaks (IsFullForPair b) breaks full a b e (λ broken time so. so) (λ ended time so other taken. inl so) (err_of c.begin.result e (StopsSo run breaks (IsFullForPair b) a b) was (c.begin.ensures.stops told run t goes of f)))
+    if_err c.from_residual.result e (StopsSo run t breaks full a b) is
+    (stop_so run t breaks (λ due. ⊥) breaks full a b e (λ broken line so. so) (λ ended line none. absurd none) (err_of c.begin.result e (StopsSo run t breaks (λ due. ⊥) a b) was (c.begin.ensures.stops told run t goes of f)))
 
 pub returns-in_err-paired-clause-others : goal.returns-in_err-paired-clause-others
 returns-in_err-paired-clause-others g c = λ told run t goes of f. Unpaired (c.begin.ensures.others told)
@@ -60,10 +61,12 @@ returns-clause-stops g c = λ told run t goes of f.
     let ok : c.begin.result ≡ Ok paired = search rules in
     let counted = c.begin.ensures.count (ok_not_err c.begin.result paired EarlyBreak ok) in
     let later = BreaksAt (left mid) (left last) (faults mid) (faults last) next end in
-    let behind = IsFullBehind (left mid) next paired.row paired.started.site.time d in
-    stops_so run later behind (BreaksAt (left source) (left last) (faults source) (faults last) lane end) (IsFullFrom (left source) lane d) a d c.finish.result
-    (λ broken time so. breaks_before time (left source) (left mid) (left last) (faults source) (faults mid) (faults last) lane next end counted begun.fails begun.taken so)
-    (λ ended time so. full_before (left source) (left mid) lane next paired.row paired.started.site.time end.side.upto d t begun.taken here between.lane_goes_on between.same_time between.fits.time time so)
+    let behind = IsFullBehind (left mid) next d in
+    let positive = between.fits.time in
+    let some : 0 < next.primary.time = omega (arith, positive, between.same_time) in
+    stops_so run t later behind (BreaksAt (left source) (left last) (faults source) (faults last) lane end) (IsFullFrom (left source) lane d) a d c.finish.result
+    (λ broken line so. breaks_before (time_of line.due) (left source) (left mid) (left last) (faults source) (faults mid) (faults last) lane next end counted begun.fails begun.taken so)
+    (λ ended line so. full_before (left source) (left mid) lane next end.side.upto run t p.0 a (g.P.Plant.state c.begin.new.plant) d begun.taken here between.lane_goes_on p.1.goes_on.keeps (p.3 ∙ between.same_time) some line so)
     (c.finish.ensures.stops told c.args.plant.now run t p.0 p.1 p.2 p.3 of.session_is here)
 
 pub returns-clause-others : goal.returns-clause-others

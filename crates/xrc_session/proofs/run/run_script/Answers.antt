@@ -2,7 +2,7 @@ use Rattle.std.proofs.Common.{◌≡◌}
 use Rattle.epoch.proofs.Frames.{keeps_here}
 use Rattle.xrc_session.specs.Full.{IsJournalFull}
 use Rattle.xrc_session.specs.Leaving.LeavesOthers.{Unpaired}
-use Rattle.xrc_session.proofs.Completeness.{answers_for_want, no_header_stop}
+use Rattle.xrc_session.proofs.Completeness.{answers_for_want, no_header_stop, no_site_stop}
 use Rattle.xrc_session.proofs.WholeRuns.{has_lengths}
 use Rattle.xrc_session.proofs.run.run_script.Goals as goal
 
@@ -24,3 +24,6 @@ returns-clause-complete g c = λ told numbers none good same up run t is asks wh
     let risen = faults c.run_trace.new.source in
     answers_for_want run t risen (IsJournalFull t new) old new asks whole up good c.run_trace.result (c.run_trace.new.plant ≡ c.args.plant.now) (c.run_trace.ensures.stops told run t is) c.run_trace.ensures.causes
     (no_header_stop c.run_trace.result (left c.args.source.now) (left c.run_trace.new.source) (faults c.args.source.now) risen t is.trace same up c.run_trace.ensures.refused c.run_trace.ensures.header_fault)
+
+pub returns-clause-unpulled : goal.returns-clause-unpulled
+returns-clause-unpulled g c = no_site_stop (g.P.Plant.state c.args.plant.now) (g.P.Plant.state c.run_trace.new.plant) c.run_trace.result (c.run_trace.new.source ≡ c.args.source.now) c.run_trace.ensures.causes

@@ -1,15 +1,23 @@
-use Rattle.std.proofs.Common.{[]}
+use Rattle.std.proofs.Common.{[], arith}
 use Rattle.crash_plant.specs.declared.device.Device.TheVariants.{Volume}
 use Rattle.crash_plant.proofs.Steps.{none_lent_then}
 use Rattle.epoch.proofs.Frames.{keeps_then}
 use Rattle.epoch.proofs.Working.{silent_on, silent_then}
-use Rattle.xrc_session.proofs.Formatted.{early_volume, fits_read, stands_read}
+use Rattle.xrc_session.proofs.Formatted.{counted_read, early_volume, fits_read, stands_read}
 use Rattle.xrc_session.proofs.Leaves.{format_keeps, read_keeps}
 use Rattle.xrc_session.proofs.starting.format.Goals as goal
 
 pub returns-in-Ok-read_label-clause-fits : goal.returns-in-Ok-read_label-clause-fits
 returns-in-Ok-read_label-clause-fits g c =
     fits_read g.P.Plant.tells _ c.in-Ok.site (g.P.Plant.state c.format.new.plant) (g.P.Plant.state c.read_label.new.plant) c.read_label.ensures.only c.in-Ok.ensures.fits
+
+pub returns-in-Ok-read_label-clause-counted : goal.returns-in-Ok-read_label-clause-counted
+returns-in-Ok-read_label-clause-counted g c =
+    let a = g.P.Plant.state c.args.plant.now in
+    let b = g.P.Plant.state c.format.new.plant in
+    let d = g.P.Plant.state c.read_label.new.plant in
+    let told = c.length-length.ensures in
+    counted_read c.in-Ok.site a.volumes c.args.session c.args.at a b d c.in-Ok.ensures.site (omega (arith, told)) c.format.ensures.only.site c.read_label.ensures.only.site
 
 pub returns-in-Ok-read_label-clause-stands : goal.returns-in-Ok-read_label-clause-stands
 returns-in-Ok-read_label-clause-stands g c = λ told.

@@ -1,4 +1,5 @@
-use Rattle.std.proofs.Common.{◌≡◌, sym, subst, ◌∙◌}
+use Rattle.std.proofs.Common.{◌≡◌, ap, sym, subst, ◌∙◌}
+use Rattle.site_store.specs.Sites.{SiteState}
 use Rattle.xrc_status.specs.declared.stop.Stop.{Stop}
 use Rattle.xrc_session.specs.Stopping.{HasStopCause}
 use Rattle.xrc_session.proofs.Foreseeing.{foresees_on}
@@ -11,7 +12,10 @@ returns-in-Ok-clause-between g c =
     let made = c.in_ok-started.ensures in
     let same : c.pass_to.new.self.queue.waiting ≡ c.args.lane.now.queue.waiting = λ i. (c.pass_to.ensures.queue i).waiting in
     set_between g.P.Plant.tells c.pass_to.new.self c.in_ok-started.started.site (g.P.Plant.state c.args.plant.now).volumes c.args.session c.args.at (g.P.Plant.state c.format.new.plant) made.site c.in-Ok.ensures.lane
-    (same ∙ c.requires.empty) c.in-Ok.ensures.time made.fits made.stands
+    (same ∙ c.requires.empty) c.in-Ok.ensures.time made.fits made.counted made.stands
+
+pub returns-in-Ok-clause-at : goal.returns-in-Ok-clause-at
+returns-in-Ok-clause-at g c = ap (λ (s : SiteState). s.at) c.in_ok-started.ensures.site
 
 pub returns-in-Ok-clause-foresees : goal.returns-in-Ok-clause-foresees
 returns-in-Ok-clause-foresees g c = λ t upto f.

@@ -1,9 +1,10 @@
-use Rattle.std.proofs.Common.{rules, ◌≡◌, ℕ, [], Ok, Err, refl, ap, sym, subst, ◌∙◌}
+use Rattle.std.proofs.Common.{rules, ◌≡◌, ℕ, List, [], Ok, Err, refl, ap, sym, subst, ◌∙◌}
 use Rattle.std.specs.Prelude.{IfSome, IsTrue}
 use Rattle.crash_plant.specs.declared.device.Device.TheVariants.{Volume}
 use Rattle.crash_plant.proofs.Steps.{none_lent_console, site_trans}
 use Rattle.volume_label.specs.Labels.{has_room}
 use Rattle.epoch.proofs.Frames.{keeps_console}
+use Rattle.session_lines.specs.Asking.{AsksStart}
 use Rattle.session_lines.specs.Runs.{HasStarted, start_of, started_at}
 use Rattle.session_lines.proofs.Going.{hears_on}
 use Rattle.xrc_session.specs.Expected.AreAnswered.{AStart, Nothing}
@@ -35,10 +36,10 @@ returns-in_err-at-clause-stops g c = λ told first run t goes leaves session_is 
     let is : c.from_residual.result ≡ Err e = search rules in
     let on = hears_on run t [] [] text (state first) a b goes (c.hear_start.ensures.keeps told first) in
     let left = leaves_heard g.P.Plant.tells told (state first) a b goes.keeps.later leaves c.hear_start.ensures.only in
-    if_err c.from_residual.result e (StopsSo run breaks (λ time. ⊥) (state first) b) is
-    (hear_stops e (hearing _ _ c.hear_start.result e c.hear_start.ensures.cause was) run breaks (λ time. ⊥) (state first) b
-    (λ refused. no_start g.P.Plant.tells told c.args.session run session_is text (state first) b (c.hear_start.ensures.ended (was ∙ ap Err refused)) on.keeps (c.hear_start.ensures.refused (was ∙ ap Err refused)) left)
-    (answers_so_far run [] text (state first) b (Nothing refl) on.keeps (λ none. left)))
+    if_err c.from_residual.result e (StopsSo run t breaks (λ due. ⊥) (state first) b) is
+    (hear_stops e (hearing _ _ c.hear_start.result e c.hear_start.ensures.cause was) run t breaks (λ due. ⊥) (state first) b
+    (λ refused. no_start g.P.Plant.tells told c.args.session run t session_is text (state first) b (c.hear_start.ensures.ended (was ∙ ap Err refused)) on.keeps (c.hear_start.ensures.refused (was ∙ ap Err refused)) left)
+    (answers_so_far run t [] text (state first) b (Nothing refl) on.keeps (λ none. left)))
 
 -- ---- the work stops
 
@@ -60,9 +61,10 @@ returns-in_err-started-clause-stops g c = λ told first run t goes leaves sessio
     let keeps = c.hear_start.ensures.keeps told first in
     let on = begun_works run t text (state first) a b goes keeps g.P.Plant.tells told d c.set_up.ensures.works in
     let next = start_is_heard run t text (state first) a b goes keeps c.args.session at session_is (c.in_ok-at.ensures.next told first) in
+    let asks = subst (λ (s : List ℕ). AsksStart s text at) (sym session_is) c.in_ok-at.ensures.asked in
     let of = err_of c.set_up.result e IsOfStart was c.set_up.ensures.of_start in
-    if_err c.from_residual-in_err-started.result e (StopsSo run breaks (λ time. ⊥) (state first) d) is
-    (expected_stops run breaks (λ time. ⊥) (state first) b d (expects_start run text at (state first) d on.keeps next) e (err_of c.set_up.result e (HasStopCause b d) was c.set_up.ensures.cause)
+    if_err c.from_residual-in_err-started.result e (StopsSo run t breaks (λ due. ⊥) (state first) d) is
+    (expected_stops run t breaks (λ due. ⊥) (state first) b d (expects_start run t text at (state first) d on.keeps next asks) e (err_of c.set_up.result e (HasStopCause b d) was c.set_up.ensures.cause)
     (λ console. absurd (start_not_console e of console)) (start_not_refused e of) (λ broken. c.set_up.ensures.broken (was ∙ ap Err broken)) (start_not_end e of))
 
 -- ---- the start is answered, or the reply fails
@@ -84,10 +86,10 @@ returns-in_err-say_started-clause-stops g c = λ told first run t goes leaves se
     let was : c.say_started.result ≡ Err e = search rules in
     let is = residual_is c.from_residual-in_err-say_started.result e c.from_residual-in_err-say_started.ensures.1 in
     let rows = started_rows run at site d (made.between.stands told) (made.session ∙ sym session_is) (made.between.level ∙ sym goes.pair_run.level) made.rows made.time made.between.goes_on in
-    let may = may_start run t text (state first) a b goes (c.hear_start.ensures.keeps told first) c.args.session at session_is (c.in_ok-at.ensures.next told first) g.P.Plant.tells told d c.set_up.ensures.works (made.whole t f) rows in
-    if_err c.from_residual-in_err-say_started.result e (StopsSo run breaks (λ time. ⊥) (state first) last) is
-    (err_of c.say_started.result e (StopsSo run breaks (λ time. ⊥) (state first) last) was
-    (say_stops c.say_started.result run breaks (λ time. ⊥) [] (start_of run start) text (state first) d last (AStart start refl) may.begun.keeps g.P.Plant.tells told c.say_started.ensures.said c.say_started.ensures.stop
+    let may = may_start run t text (state first) a b goes (c.hear_start.ensures.keeps told first) c.args.session at session_is (c.in_ok-at.ensures.next told first) g.P.Plant.tells told d c.set_up.ensures.works c.in_ok-at.ensures.asked (made.whole t f) rows in
+    if_err c.from_residual-in_err-say_started.result e (StopsSo run t breaks (λ due. ⊥) (state first) last) is
+    (err_of c.say_started.result e (StopsSo run t breaks (λ due. ⊥) (state first) last) was
+    (say_stops c.say_started.result run t breaks (λ due. ⊥) [] (start_of run start) text (state first) d last refl (AStart start (record { asks = may.asks; whole = may.whole }) refl) may.begun.keeps g.P.Plant.tells told c.say_started.ensures.said c.say_started.ensures.stop
     (c.say_started.ensures.bears told first run t text may)))
 
 pub returns-clause-starts : goal.returns-clause-starts
@@ -102,7 +104,7 @@ returns-clause-starts g c = λ told first run t goes session_is f.
     let made = c.in_ok-started.ensures in
     let site = c.in_ok-started.started.site in
     let rows = started_rows run at site d (made.between.stands told) (made.session ∙ sym session_is) (made.between.level ∙ sym goes.pair_run.level) made.rows made.time made.between.goes_on in
-    let may = may_start run t text (state first) a b goes (c.hear_start.ensures.keeps told first) c.args.session at session_is (c.in_ok-at.ensures.next told first) g.P.Plant.tells told d c.set_up.ensures.works (made.whole t f) rows in
+    let may = may_start run t text (state first) a b goes (c.hear_start.ensures.keeps told first) c.args.session at session_is (c.in_ok-at.ensures.next told first) g.P.Plant.tells told d c.set_up.ensures.works c.in_ok-at.ensures.asked (made.whole t f) rows in
     subst (λ (n : ℕ). HasStarted run t (started_at n text) [] (state first) last) (sym made.time) (c.in_ok-say_started.ensures.goes_on told first run t text may)
 
 pub returns-clause-between : goal.returns-clause-between

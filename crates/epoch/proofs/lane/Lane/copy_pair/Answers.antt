@@ -18,6 +18,7 @@ loop-first-init g c = record {
   primary = refl;
   empty = c.requires.empty;
   upto = omega arith;
+  from = (0, refl);
   time = refl;
   controls = refl;
   level = refl;
@@ -27,6 +28,7 @@ loop-first-init g c = record {
   stands = c.requires.stands;
   copied = copied_none g.P.Plant.tells c.args.row.now (track_of c.args.self.now.primary c.args.row.now.volume) c.args.self.now.primary.time c.args.site.now (g.P.Plant.state c.args.plant.now) c.requires.rows c.requires.state;
   others = λ told. let row = c.args.row.now in keeps_here c.args.site.now.at.set row.device (tracks_of row) (g.P.Plant.state c.args.plant.now);
+  counted = λ counted. counted;
 }
 
 pub returns-in_err-copy_part-clause-moments : goal.returns-in_err-copy_part-clause-moments
@@ -59,6 +61,7 @@ loop-first-preserved g c =
       primary = each.primary ∙ inv.primary;
       empty = ok.empty;
       upto = omega arith;
+      from = (let parts = inv.from.1 in (inv.from.0 + 1, omega (arith, parts)));
       time = ok.time ∙ inv.time;
       controls = ok.controls ∙ inv.controls;
       level = ok.level ∙ inv.level;
@@ -71,6 +74,7 @@ loop-first-preserved g c =
           (subst (λ (p : PrimaryState). g.P.Plant.tells → PartShows row c.loop-first.site.table.rows (track_of p row.volume) p.time part mid new) inv.primary ok.shows) ok.table ok.good;
       others = λ told.
           keeps_next g.P.Plant.tells told c.args.site.now.at.set c.loop-first.site.at.set row.device (tracks_of row) (g.P.Plant.state c.args.plant.now) mid new inv.copied.works each.works inv.set inv.others each.others;
+      counted = λ counted. ok.counted (inv.counted counted);
     }
 
 pub returns-clause-moments : goal.returns-clause-moments
@@ -127,3 +131,14 @@ pub returns-clause-journal_end : goal.returns-clause-journal_end
 returns-clause-journal_end g c = λ told end.
     let row = c.args.row.now in
     subst (λ (p : PrimaryState). IsFullForCopy row (track_of p row.volume) p.time (g.P.Plant.state c.copy_part-2.new.plant)) c.loop-first.invariant.primary (c.copy_part-2.ensures.journal_end told end)
+
+pub returns-in_err-copy_part-clause-unspent : goal.returns-in_err-copy_part-clause-unspent
+returns-in_err-copy_part-clause-unspent g c = λ counted is.
+    let same : c.copy_part.result ≡ c.from_residual.result = search rules in
+    c.copy_part.ensures.unspent (c.loop-first.invariant.counted counted) (same ∙ is)
+
+pub returns-clause-unspent : goal.returns-clause-unspent
+returns-clause-unspent g c = λ counted. c.copy_part-2.ensures.unspent (c.loop-first.invariant.counted counted)
+
+pub returns-clause-counted : goal.returns-clause-counted
+returns-clause-counted g c = λ counted. c.copy_part-2.ensures.counted (c.loop-first.invariant.counted counted)

@@ -1,6 +1,7 @@
-use Rattle.std.proofs.Common.{◌≡◌, ◌≤◌, ◌-◌, []}
+use Rattle.std.proofs.Common.{◌≡◌, ◌≤◌, ◌-◌, ◌*◌, ℕ, []}
 use Rattle.primary_ctl.specs.States.{track_of}
 use Rattle.site_store.specs.Standing.{Fits, Stands}
+use Rattle.epoch.specs.Counted.{IsCounted}
 use Rattle.epoch.specs.Frames.{KeepsOthers}
 use Rattle.epoch.specs.Lanes.{IsFeed, tracks_of}
 use Rattle.epoch.proofs.CopySights.{HasCopied}
@@ -16,6 +17,7 @@ invariant-loop-first g l =
       primary : l.self.primary ≡ begun.self.primary;
       empty : l.self.queue.waiting ≡ [];
       upto : l.first ≤ l.tracks;
+      from : (parts : ℕ) × (l.first ≡ 32 * parts);
       time : l.site.time ≡ begun.site.time;
       controls : l.site.controls ≡ begun.site.controls;
       level : l.site.level ≡ begun.site.level;
@@ -25,6 +27,7 @@ invariant-loop-first g l =
       stands : g.P.Plant.tells → Stands l.site.table.rows l.site (g.P.Plant.state l.plant);
       copied : HasCopied g.P.Plant.tells l.row (track_of begun.self.primary l.row.volume) begun.self.primary.time l.first begun.site l.site (g.P.Plant.state begun.plant) (g.P.Plant.state l.plant);
       others : g.P.Plant.tells → KeepsOthers begun.site.at.set l.row.device (tracks_of l.row) (g.P.Plant.state begun.plant) (g.P.Plant.state l.plant);
+      counted : IsCounted begun.site (g.P.Plant.state begun.plant) → IsCounted l.site (g.P.Plant.state l.plant);
     }
 
 abbrev pub decreases-loop-first : goal.decreases-loop-first

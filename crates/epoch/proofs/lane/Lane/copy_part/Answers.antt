@@ -1,13 +1,14 @@
-use Rattle.std.proofs.Common.{◌≡◌, ◌+◌, ◌*◌, sym, ap, subst, ◌∙◌, arith}
+use Rattle.std.proofs.Common.{◌≡◌, ◌+◌, ◌*◌, List, sym, ap, subst, ◌∙◌, arith}
 use Rattle.std.specs.Prelude.{OnOk}
 use Rattle.tod_stamp.specs.declared.stamp.Stamp.{Stamp}
+use Rattle.pair_table.specs.declared.row.PairRow.{PairRow}
 use Rattle.pair_table.specs.declared.row.PairState.{PairState}
 use Rattle.pair_table.specs.Tables.{in_state, with_rows}
 use Rattle.pending_queue.specs.Groups.{FormedGroup}
 use Rattle.primary_ctl.specs.States.{track_of}
 use Rattle.site_means.specs.declared.means.Means.{Means}
-use Rattle.epoch.specs.Copying.{IsPart, ShowsBefore, group_of, in_row, state_after}
-use Rattle.epoch.specs.Ends.{IsFullFor}
+use Rattle.epoch.specs.Copying.{IsPart, IsUncopiedIn, ShowsBefore, group_of, in_row, state_after}
+use Rattle.epoch.specs.Ends.{IsFullOf}
 use Rattle.epoch.specs.Lanes.{tracks_of}
 use Rattle.epoch.specs.Sights.{AllShow}
 use Rattle.epoch.proofs.CopySights.{device_there, group_behind, group_live, group_makes, group_moments, group_rows, ok_shows, on_always, on_ok, part_here}
@@ -104,4 +105,11 @@ returns-clause-journal_end g c = λ told end.
     let tracks = track_of lane.primary row.volume in
     let at : lane.time ≡ record { 0 = lane.primary.time } = (let time = c.requires.feed.time in λ i. record { 0 = time i }) in
     let is = c.in_ok-form_part.ensures.formed ∙ ap (λ (s : Stamp). group_of row.volume s tracks c.args.part) at in
-    record { part = c.args.part; is_part = c.requires.part; full = subst (λ (f : FormedGroup). IsFullFor f (g.P.Plant.state c.keep_group.new.plant)) is (c.keep_group.ensures.journal_end told end) }
+    let f = subst (λ (f : FormedGroup). IsFullOf c.args.site.now f (g.P.Plant.state c.keep_group.new.plant)) is (c.keep_group.ensures.full_of told end) in
+    record {
+      part = c.args.part;
+      is_part = c.requires.part;
+      full = f.full;
+      time_is = f.time_is ∙ c.requires.time;
+      uncopied = subst (λ (rs : List PairRow). IsUncopiedIn rs row) (sym f.rows_are) c.requires.rows;
+    }

@@ -1,13 +1,14 @@
-use Rattle.std.proofs.Common.{◌≡◌, ◌∙◌, ◌≤◌, ◌<◌, ℕ, List, Some, Err, refl, sym, ap, subst, arith, inl, inr}
+use Rattle.std.proofs.Common.{◌≡◌, ◌∙◌, ◌<◌, ℕ, List, Some, Err, refl, sym, ap, subst, arith, inl, inr}
 use Rattle.std.proofs.lemmas.Result.{err_from_is_err_and}
 use Rattle.xrc_edge.specs.Causes.{Rose}
 use Rattle.trace_grammar.specs.declared.header.VolumeHead.{VolumeHead}
 use Rattle.trace_grammar.specs.declared.trace.Trace.{Trace}
+use Rattle.pair_table.specs.Tables.{Table}
 use Rattle.primary_ctl.specs.States.{PrimaryState, track_of}
 use Rattle.sidefile.specs.Breaks.{break_time}
 use Rattle.sidefile.specs.States.{SidefileState}
 use Rattle.site_means.specs.Images.{shape_of}
-use Rattle.site_store.specs.declared.store_error.StoreError.TheVariants.{JournalEnd}
+use Rattle.site_store.specs.declared.store_error.StoreError.TheVariants.{JournalEnd, Spent}
 use Rattle.epoch.specs.Following.{IsFollowing}
 use Rattle.epoch.specs.Lanes.{IsRowOf, tracks_of}
 use Rattle.epoch.specs.Taken.{FailsAsBefore, HasFailed, HasReached, HasTaken}
@@ -17,7 +18,7 @@ use Rattle.epoch.proofs.Reached.{reached_now}
 use Rattle.epoch.proofs.Steps.{holds_here, waits_none}
 use Rattle.epoch.proofs.TakenLaws.{batch_fails, limit_fails, take_batch, take_broken, take_limit, then_fails}
 use Rattle.epoch.proofs.TraceWaits.{full_writes, traced_batch, traced_limit, waits_at}
-use Rattle.epoch.proofs.Turns.{follows_later, follows_side, moments_more, moments_then, run_of_lane, waits_later, waits_side, with_side}
+use Rattle.epoch.proofs.Turns.{follows_later, follows_side, moments_more, moments_then, run_of_lane, waits_side, with_side}
 use Rattle.epoch.proofs.Working.{silent_here, silent_then}
 use Rattle.epoch.proofs.lane.Lane.follow.Goals as goal
 
@@ -52,6 +53,7 @@ loop-batch-init g c =
       fails = λ limit upto later failed. failed;
       count = refl;
       good = λ none. none;
+      counted = λ counted. counted;
     }
 
 pub take_batch-requires-clause-run : goal.take_batch-requires-clause-run
@@ -129,6 +131,7 @@ loop-batch-preserved g c =
           (then_fails (g.S.Source.left c.args.source.now) told_now told_next first.side before.side side inv.fails (batch_fails told_now told_next before.side side before.side.control c.args.limit.0 c.in-Batch.batch (h.due lane.goes_on)));
       count = h.fault lane.goes_on ∙ inv.count;
       good = λ none. ok.good (inv.good none);
+      counted = λ counted. ok.counted (inv.counted counted);
     }
 
 pub returns-in_err-take_batch-in-Batch-clause-works : goal.returns-in_err-take_batch-in-Batch-clause-works
@@ -166,8 +169,14 @@ returns-in_err-take_batch-in-Batch-clause-journal_end g c = λ told is t taken.
     let later = inv.later in
     let p = err_from_is_err_and c.from_residual.result c.from_residual.ensures.1 in
     let same : c.in_err-take_batch-in-Batch.field-0.0 ≡ JournalEnd = cc (p.1, p.2, is) in
-    full_writes t c.args.row.now (with_side c.handover.new.self before) c.args.site.now.time c.loop-batch.site.time c.args.limit.0 (g.P.Plant.state c.take_batch.new.plant) inv.from inv.cut (omega (arith, even, later)) (inv.traced t taken)
+    full_writes t c.args.row.now (with_side c.handover.new.self before) c.args.site.now.time c.loop-batch.site.time c.args.limit.0 c.loop-batch.site.table.rows (g.P.Plant.state c.take_batch.new.plant) (ap (λ (table : Table). table.rows) inv.table ∙ c.requires.rows) inv.from inv.cut (omega (arith, even, later)) (inv.traced t taken)
     (c.in_err-take_batch-in-Batch.ensures.journal_end told (λ i. Err (same i)))
+
+pub returns-in_err-take_batch-in-Batch-clause-unspent : goal.returns-in_err-take_batch-in-Batch-clause-unspent
+returns-in_err-take_batch-in-Batch-clause-unspent g c = λ counted is.
+    let p = err_from_is_err_and c.from_residual.result c.from_residual.ensures.1 in
+    let same : c.in_err-take_batch-in-Batch.field-0.0 ≡ Spent = cc (p.1, p.2, is) in
+    c.in_err-take_batch-in-Batch.ensures.unspent (c.loop-batch.invariant.counted counted) (λ i. Err (same i))
 
 -- ---- at the limit
 
@@ -309,7 +318,16 @@ returns-in_err-keep_waiting-in-AtLimit-clause-journal_end g c = λ told is t tak
     c.pass.ensures.queue at cut (inv.traced t taken) in
     let p = err_from_is_err_and c.from_residual-in_err-keep_waiting-in-AtLimit.result c.from_residual-in_err-keep_waiting-in-AtLimit.ensures.1 in
     let same : c.in_err-keep_waiting-in-AtLimit.field-0.0 ≡ JournalEnd = cc (p.1, p.2, is) in
-    full_writes t row passed c.args.site.now.time since limit (g.P.Plant.state c.keep_waiting.new.plant) inv.from (omega (arith, cut, even, later, at)) (omega (arith, at)) waits (c.in_err-keep_waiting-in-AtLimit.ensures.journal_end told (λ i. Err (same i)))
+    full_writes t row passed c.args.site.now.time since limit c.loop-batch.site.table.rows (g.P.Plant.state c.keep_waiting.new.plant) (ap (λ (table : Table). table.rows) inv.table ∙ c.requires.rows) inv.from (omega (arith, cut, even, later, at)) (omega (arith, at)) waits (c.in_err-keep_waiting-in-AtLimit.ensures.journal_end told (λ i. Err (same i)))
+
+pub returns-in_err-keep_waiting-in-AtLimit-clause-unspent : goal.returns-in_err-keep_waiting-in-AtLimit-clause-unspent
+returns-in_err-keep_waiting-in-AtLimit-clause-unspent g c = λ counted is.
+    let p = err_from_is_err_and c.from_residual-in_err-keep_waiting-in-AtLimit.result c.from_residual-in_err-keep_waiting-in-AtLimit.ensures.1 in
+    let same : c.in_err-keep_waiting-in-AtLimit.field-0.0 ≡ Spent = cc (p.1, p.2, is) in
+    c.in_err-keep_waiting-in-AtLimit.ensures.unspent (c.loop-batch.invariant.counted counted) (λ i. Err (same i))
+
+pub returns-in-AtLimit-clause-counted : goal.returns-in-AtLimit-clause-counted
+returns-in-AtLimit-clause-counted g c = λ counted. c.in_ok-keep_waiting-in-AtLimit.ensures.counted (c.loop-batch.invariant.counted counted)
 
 -- ---- a break, and the want of memory
 

@@ -1,9 +1,10 @@
-use Rattle.std.proofs.Common.{◌≡◌, ◌≤◌, ◌<◌, ◌-◌, [], ◌∷◌}
+use Rattle.std.proofs.Common.{◌≡◌, ◌≤◌, ◌-◌, []}
 use Rattle.trace_grammar.specs.declared.trace.Trace.{Trace}
 use Rattle.site_means.specs.declared.means.Means.{Means}
 use Rattle.site_means.specs.Images.{shape_of}
 use Rattle.site_store.specs.Marking.{NoneFailed}
 use Rattle.site_store.specs.Standing.{Fits, Stands}
+use Rattle.epoch.specs.Counted.{IsCounted}
 use Rattle.epoch.specs.Following.{IsFollowing, ShowsPrimary}
 use Rattle.epoch.specs.Frames.{KeepsOthers}
 use Rattle.epoch.specs.Lanes.{IsLane, Waits, tracks_of}
@@ -43,6 +44,7 @@ invariant-loop-batch g l =
       fails : FailsAsBefore (g.S.Source.left l.initial.source) (g.S.Source.left l.source) first.side l.self.side;
       count : g.S.Source.faults l.source ≡ g.S.Source.faults l.initial.source;
       good : NoneFailed l.initial.site → NoneFailed l.site;
+      counted : IsCounted l.initial.site old → IsCounted l.site now;
     }
 
 abbrev pub decreases-loop-batch : goal.decreases-loop-batch

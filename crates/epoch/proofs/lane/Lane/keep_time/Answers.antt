@@ -1,10 +1,10 @@
-use Rattle.std.proofs.Common.{◌≤◌, ◌<◌, length, sym, ap, subst, ◌∙◌, arith}
+use Rattle.std.proofs.Common.{◌<◌, sym, ap, subst, ◌∙◌, arith}
 use Rattle.std.specs.Prelude.{OnOk}
 use Rattle.pending_queue.specs.Groups.{FormedGroup}
 use Rattle.site_means.specs.declared.means.Means.{Means}
 use Rattle.epoch.specs.Sights.{AllShow}
 use Rattle.epoch.proofs.CopySights.{on_ok}
-use Rattle.epoch.proofs.KeptNone.{none_behind, none_live, none_makes, none_moments, none_table}
+use Rattle.epoch.proofs.KeptNone.{none_at, none_behind, none_fits, none_full, none_live, none_makes, none_moments, none_table}
 use Rattle.epoch.proofs.lane.Lane.keep_time.Goals as goal
 
 pub keep_group-requires-clause-formed : goal.keep_group-requires-clause-formed
@@ -54,9 +54,17 @@ pub returns-clause-others : goal.returns-clause-others
 returns-clause-others g c = λ told. c.keep_group.ensures.alone told c.requires.rows
 
 pub returns-clause-journal_end : goal.returns-clause-journal_end
-returns-clause-journal_end g c = λ told end. record {
-  group = c.begin.new.self;
-  at = ap (λ (f : FormedGroup). f.cut.0) c.begin.ensures ∙ c.requires.feed.time;
-  none = ap (λ (f : FormedGroup). f.entries) c.begin.ensures;
-  full = c.keep_group.ensures.journal_end told end;
-}
+returns-clause-journal_end g c = λ told end.
+    let lane = c.args.self.now in
+    none_full lane.time lane.formed.controls c.begin.new.self c.begin.ensures lane.primary.time (g.P.Plant.state c.keep_group.new.plant) c.requires.feed.formed c.requires.feed.time (c.keep_group.ensures.journal_end told end)
+
+pub returns-clause-at : goal.returns-clause-at
+returns-clause-at g c =
+    let lane = c.args.self.now in
+    let site = c.args.site.now in
+    on_ok c.keep_group.result _ _ (none_at lane.time lane.formed.controls c.begin.new.self c.begin.ensures g.P.Plant.tells site.table.rows (g.P.Plant.state c.args.plant.now) site.at c.keep_group.new.site.at c.requires.rows) c.keep_group.ensures.at
+
+pub returns-clause-has_room : goal.returns-clause-has_room
+returns-clause-has_room g c = λ room end.
+    let lane = c.args.self.now in
+    none_fits lane.time lane.formed.controls c.begin.new.self c.begin.ensures g.P.Plant.tells c.args.site.now (g.P.Plant.state c.args.plant.now) c.requires.rows room (c.keep_group.ensures.ends end)

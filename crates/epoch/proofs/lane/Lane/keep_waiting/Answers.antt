@@ -119,4 +119,4 @@ returns-clause-journal_end g c = λ told end.
     let w = c.requires.waits.1 in
     let is = waiting_group c.requires.waits.0 row.volume (tracks_of row) lane w lane.time c.requires.feed.time c.begin.new.self c.pop_upto.new.out lane.formed.controls c.requires.feed.formed c.begin.ensures c.pop_upto.ensures.popped in
     let few : length lane.queue.waiting ≤ 32 = omega (arith, c.len-few.ensures.count, c.len-few.ensures.within, c.requires.feed.records) in
-    waiting_full c.requires.waits.0 row.volume (tracks_of row) lane w lane.time c.requires.feed.time c.pop_upto.new.out c.args.site.now.time (g.P.Plant.state c.keep_group.new.plant) is few (c.keep_group.ensures.full_at told end)
+    waiting_full c.requires.waits.0 row.volume (tracks_of row) lane w lane.time c.requires.feed.time c.pop_upto.new.out c.args.site.now (g.P.Plant.state c.keep_group.new.plant) is few (c.keep_group.ensures.full_of told end)

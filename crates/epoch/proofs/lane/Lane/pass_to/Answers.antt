@@ -1,4 +1,4 @@
-use Rattle.std.proofs.Common.{◌≡◌, ◌∙◌, ◌<◌, ℕ, Some, length, sym, ap, subst, arith, inl, inr}
+use Rattle.std.proofs.Common.{◌≡◌, ◌∙◌, ◌<◌, ℕ, Some, sym, ap, subst, arith, inl, inr}
 use Rattle.xrc_edge.specs.Causes.{Rose}
 use Rattle.primary_ctl.specs.States.{PrimaryState, track_of}
 use Rattle.sidefile.specs.Breaks.{break_time}

@@ -1,8 +1,7 @@
-use Rattle.std.proofs.Common.{◌≡◌, ◌∙◌, length, Bool, true, false, Ok, sym, ap, arith}
-use Rattle.pending_queue.specs.Entries.{WaitingEntry}
+use Rattle.std.proofs.Common.{◌∙◌, length, Bool, Ok, sym, ap, arith}
 use Rattle.pending_queue.specs.Queues.{free_room}
 use Rattle.pending_queue.specs.Rooms.{blocks_taken}
-use Rattle.epoch.specs.Lanes.{is_of, most_blocks, most_records}
+use Rattle.epoch.specs.Lanes.{is_of}
 use Rattle.epoch.proofs.Rooms.{kinds_keep, run_has_room}
 use Rattle.epoch.proofs.lane.Lane.put_first.Goals as goal
 

@@ -1,4 +1,4 @@
-use Rattle.std.proofs.Common.{rules, ◌≡◌, ◌∙◌, ℕ, Bool, Ok, filter, ap, subst, sym}
+use Rattle.std.proofs.Common.{rules, ◌≡◌, ◌∙◌, Bool, Ok, filter, ap, subst, sym}
 use Rattle.pending_queue.specs.Entries.{all_keep_rules, entries_of}
 use Rattle.primary_ctl.specs.States.{PrimaryState}
 use Rattle.site_means.specs.Images.{shape_of}
@@ -79,4 +79,4 @@ returns-in_err-keep_waiting-clause-journal_end g c = λ told end.
     let full = c.in_ok-put_batch.was ∙ ap (λ (b : Bool). Ok b) c.if-branch.false in
     let queue = c.put_batch.ensures.same (not_put c.put_batch.result full) in
     let same : c.keep_waiting.result ≡ c.from_residual-in_err-keep_waiting.result = search rules in
-    full_same c.args.self.now c.put_batch.new.self c.args.site.now.time (g.P.Plant.state c.keep_waiting.new.plant) queue c.put_batch.ensures.others.1 (c.keep_waiting.ensures.journal_end told (same ∙ end))
+    full_same c.args.self.now c.put_batch.new.self c.args.site.now.time c.args.site.now.table.rows (g.P.Plant.state c.keep_waiting.new.plant) queue c.put_batch.ensures.others.1 (c.keep_waiting.ensures.journal_end told (same ∙ end))
