@@ -7,6 +7,7 @@ pub mod Frames
 pub mod GivenEntries
 pub mod GivenTraces
 pub mod HandLaws
+pub mod KeptCounts
 pub mod KeptErrors
 pub mod KeptFrames
 pub mod KeptGroups

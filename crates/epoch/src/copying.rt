@@ -5,7 +5,7 @@ ghost use Rattle.xrc_edge.specs.Causes.{Rose};
 ghost use Rattle.ckd_track.specs.Tracks.{IsTrack};
 ghost use Rattle.crash_plant.specs.declared.device.Device.{Device as DeviceValue};
 ghost use Rattle.crash_plant.specs.declared.device.Device.TheVariants.{Volume as VolumeDevice};
-ghost use Rattle.crash_plant.specs.Calls.{NoneLent};
+ghost use Rattle.crash_plant.specs.Calls.{IsPart as IsDevice, NoneLent};
 ghost use Rattle.pair_table.specs.declared.row.PairState.TheVariants.{Duplex, Pending};
 ghost use Rattle.pair_table.specs.Tables.{in_state, with_rows};
 ghost use Rattle.pending_queue.specs.Entries.{copy_head, copy_of, last_stamp};
@@ -179,6 +179,7 @@ impl Lane {
         ensures spent { P.tells → IsErrOf result Spent → IsSpent (P.state plant.new) }
         ensures unspent { IsCounted site.old (P.state plant.old) → ¬ IsErrOf result Spent }
         ensures counted { IsCounted site.old (P.state plant.old) → OnOk result (IsCounted site.new (P.state plant.new)) }
+        ensures quiet { NoneFailed site.old → OnOk result ((d : DeviceValue) → IsDevice (P.state plant.old) d → (P.state plant.new).faults d ≡ (P.state plant.old).faults d) }
         ensures journal_end { P.tells → IsErrOf result JournalEnd → IsFullForCopy row.now (track_of self.old.primary row.now.volume) self.old.primary.time (P.state plant.new) }
         ensures good { OnOk result (NoneFailed site.new) }
     {
@@ -232,6 +233,7 @@ impl Lane {
         ensures spent { P.tells → IsErrOf result Spent → IsSpent (P.state plant.new) }
         ensures unspent { IsCounted site.old (P.state plant.old) → ¬ IsErrOf result Spent }
         ensures counted { IsCounted site.old (P.state plant.old) → OnOk result (IsCounted site.new (P.state plant.new)) }
+        ensures quiet { NoneFailed site.old → OnOk result ((d : DeviceValue) → IsDevice (P.state plant.old) d → (P.state plant.new).faults d ≡ (P.state plant.old).faults d) }
         ensures journal_end { P.tells → IsErrOf result JournalEnd → IsFullForCopy row.now (track_of self.old.primary row.now.volume) self.old.primary.time (P.state plant.new) }
         ensures good { OnOk result (NoneFailed site.new) }
     {

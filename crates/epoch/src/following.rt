@@ -5,7 +5,7 @@ ghost use Rattle.xrc_edge.specs.Causes.{Rose};
 ghost use Rattle.ckd_track.specs.Effects.{is_kind};
 ghost use Rattle.crash_plant.specs.declared.device.Device.{Device as DeviceValue};
 ghost use Rattle.crash_plant.specs.declared.device.Device.TheVariants.{Volume as VolumeDevice};
-ghost use Rattle.crash_plant.specs.Calls.{NoneLent};
+ghost use Rattle.crash_plant.specs.Calls.{IsPart, NoneLent};
 ghost use Rattle.trace_grammar.specs.declared.trace.Trace.{Trace as TraceValue};
 ghost use Rattle.pair_table.specs.declared.row.PairState.TheVariants.{Duplex};
 ghost use Rattle.pending_queue.specs.Entries.{all_keep_rules, entries_of, last_stamp, writes_never_fall};
@@ -124,6 +124,7 @@ impl Lane {
         ensures spent { P.tells → IsErrOf result Spent → IsSpent (P.state plant.new) }
         ensures unspent { IsCounted site.old (P.state plant.old) → ¬ IsErrOf result Spent }
         ensures counted { IsCounted site.old (P.state plant.old) → OnOk result (IsCounted site.new (P.state plant.new)) }
+        ensures quiet { NoneFailed site.old → OnOk result ((d : DeviceValue) → IsPart (P.state plant.old) d → (P.state plant.new).faults d ≡ (P.state plant.old).faults d) }
         ensures journal_end { P.tells → IsErrOf result JournalEnd → IsFullForWaiting self.old site.old.time site.old.table.rows (P.state plant.new) }
         ensures good { NoneFailed site.old → OnOk result (NoneFailed site.new) }
     {
@@ -183,6 +184,7 @@ impl Lane {
         ensures spent { P.tells → IsErrOf result Spent → IsSpent (P.state plant.new) }
         ensures unspent { IsCounted site.old (P.state plant.old) → ¬ IsErrOf result Spent }
         ensures counted { IsCounted site.old (P.state plant.old) → OnOk result (IsCounted site.new (P.state plant.new)) }
+        ensures quiet { NoneFailed site.old → OnOk result ((d : DeviceValue) → IsPart (P.state plant.old) d → (P.state plant.new).faults d ≡ (P.state plant.old).faults d) }
         ensures journal_end { P.tells → IsErrOf result JournalEnd → IsFullForWaiting self.old site.old.time site.old.table.rows (P.state plant.new) }
         ensures good { NoneFailed site.old → OnOk result (NoneFailed site.new) }
     {
@@ -247,6 +249,7 @@ impl Lane {
         ensures spent { P.tells → IsErrOf result (Store Spent) → IsSpent (P.state plant.new) }
         ensures unspent { IsCounted site.old (P.state plant.old) → ¬ IsErrOf result (Store Spent) }
         ensures counted { IsCounted site.old (P.state plant.old) → OnOk result (IsCounted site.new (P.state plant.new)) }
+        ensures quiet { NoneFailed site.old → OnOk result ((d : DeviceValue) → IsPart (P.state plant.old) d → (P.state plant.new).faults d ≡ (P.state plant.old).faults d) }
         ensures journal_end { P.tells → IsErrOf result (Store JournalEnd) → (t : TraceValue) → HasTaken (S.left source.old) t self.old.side self.old.primary → IsFullForWrites t row.now site.old.time limit.0 (P.state plant.new) }
         ensures good { NoneFailed site.old → OnOk result (NoneFailed site.new) }
     {

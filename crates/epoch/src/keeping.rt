@@ -6,7 +6,7 @@ ghost use Rattle.xrc_edge.specs.Causes.{Rose};
 ghost use Rattle.ckd_track.specs.declared.rec.Rec.{Rec as RecValue};
 ghost use Rattle.crash_plant.specs.declared.device.Device.{Device as DeviceValue};
 ghost use Rattle.crash_plant.specs.declared.device.Device.TheVariants.{Volume as VolumeDevice};
-ghost use Rattle.crash_plant.specs.Calls.{NoneLent, SameSite, Elapses, Silent};
+ghost use Rattle.crash_plant.specs.Calls.{IsPart, NoneLent, SameSite, Elapses, Silent};
 ghost use Rattle.pair_table.specs.declared.row.PairRow.{PairRow as PairRowValue};
 ghost use Rattle.pair_table.specs.Tables.{with_rows};
 ghost use Rattle.xrc_journal.specs.Items.{Item, body_spelling};
@@ -72,6 +72,7 @@ pub fn keep_group<R: Threads + Sync, P: Plant>(
     ensures spent { P.tells → IsErrOf result Spent → IsSpent (P.state plant.new) }
     ensures unspent { IsCounted site.old (P.state plant.old) → ¬ IsErrOf result Spent }
     ensures counted { IsCounted site.old (P.state plant.old) → OnOk result (IsCounted site.new (P.state plant.new)) }
+    ensures quiet { NoneFailed site.old → OnOk result ((d : DeviceValue) → IsPart (P.state plant.old) d → (P.state plant.new).faults d ≡ (P.state plant.old).faults d) }
     ensures journal_end { P.tells → IsErrOf result JournalEnd → IsFullFor formed.now (P.state plant.new) }
     ensures full_of { P.tells → IsErrOf result JournalEnd → IsFullOf site.old formed.now (P.state plant.new) }
     ensures ends { IsErrOf result JournalEnd → EndsBefore P.tells formed.now site.old (P.state plant.old) }

@@ -5,7 +5,7 @@ ghost use Rattle.xrc_edge.specs.Causes.{Rose};
 ghost use Rattle.ckd_track.specs.declared.rec.Rec.{Rec as RecValue};
 ghost use Rattle.crash_plant.specs.declared.device.Device.{Device as DeviceValue};
 ghost use Rattle.crash_plant.specs.declared.device.Device.TheVariants.{Journal as JournalDevice, Volume as VolumeDevice};
-ghost use Rattle.crash_plant.specs.Calls.{NoneLent};
+ghost use Rattle.crash_plant.specs.Calls.{IsPart, NoneLent};
 ghost use Rattle.pair_table.specs.declared.row.PairState.TheVariants.{Duplex};
 ghost use Rattle.trace_grammar.specs.declared.trace.Trace.{Trace as TraceValue};
 ghost use Rattle.xrc_journal.specs.Records.{spot_after};
@@ -76,6 +76,7 @@ impl Lane {
         ensures spent { P.tells → IsErrOf result Spent → IsSpent (P.state plant.new) }
         ensures unspent { IsCounted site.old (P.state plant.old) → ¬ IsErrOf result Spent }
         ensures counted { IsCounted site.old (P.state plant.old) → OnOk result (IsCounted site.new (P.state plant.new)) }
+        ensures quiet { NoneFailed site.old → OnOk result ((d : DeviceValue) → IsPart (P.state plant.old) d → (P.state plant.new).faults d ≡ (P.state plant.old).faults d) }
         ensures journal_end { P.tells → IsErrOf result JournalEnd → IsFullForWaiting self.old site.old.time site.old.table.rows (P.state plant.new) }
         ensures good { OnOk result (NoneFailed site.new) }
     {
@@ -129,6 +130,7 @@ impl Lane {
         ensures spent { P.tells → IsErrOf result Spent → IsSpent (P.state plant.new) }
         ensures unspent { IsCounted site.old (P.state plant.old) → ¬ IsErrOf result Spent }
         ensures counted { IsCounted site.old (P.state plant.old) → OnOk result (IsCounted site.new (P.state plant.new)) }
+        ensures quiet { NoneFailed site.old → OnOk result ((d : DeviceValue) → IsPart (P.state plant.old) d → (P.state plant.new).faults d ≡ (P.state plant.old).faults d) }
         ensures journal_end { P.tells → IsErrOf result JournalEnd → IsFullForTime self.old.primary.time (P.state plant.new) }
         ensures has_room { site.old.at.place + 46 ≤ (P.state plant.old).lengths (JournalDevice site.old.at.set) → ¬ IsErrOf result JournalEnd }
         ensures good { OnOk result (NoneFailed site.new) }

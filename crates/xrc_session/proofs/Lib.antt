@@ -4,6 +4,7 @@ mod Between
 mod BothTaken
 mod Completeness
 mod Copied
+mod Counts
 mod EarlyStops
 mod EmptyWalks
 mod EndLeaves

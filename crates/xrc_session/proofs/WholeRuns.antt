@@ -1,6 +1,6 @@
 -- A run of a whole script: its trace, and its calls one after another.
 use Rattle.std.proofs.Common.{◌≡◌, ◌≢◌, inl, inr, ℕ, ◌≤◌, ◌-◌, List, [], ◌∷◌, length, take, true, false, Option, Some, None, Result, Ok, Err, refl, sym, ap, subst, ◌∙◌, arith}
-use Rattle.std.specs.Prelude.{IfErr, IsErrOf, OnOk}
+use Rattle.std.specs.Prelude.{IfErr, IsErrOf}
 use Rattle.crash_plant.specs.declared.device.Device.TheVariants.{Control, State, Journal, Volume}
 use Rattle.crash_plant.specs.Calls.{WorksOnConsole}
 use Rattle.crash_plant.specs.Choices.{IsChoice}
@@ -36,11 +36,12 @@ use Rattle.xrc_status.specs.declared.stop.Stop.TheVariants.{ConsoleFault, Journa
 use Rattle.xrc_session.specs.Between.{IsRunOf}
 use Rattle.xrc_session.specs.Numbers.{HasNumbers}
 use Rattle.xrc_session.specs.Runs.{EndsSession, IsSessionRun, WasCopied}
-use Rattle.xrc_session.specs.Stopping.{BreaksBelow, HasStopCause, NoneFell}
+use Rattle.xrc_session.specs.Stopping.{BreaksBelow, HasStopCause, NoneFell, NoneRose}
 use Rattle.xrc_session.specs.Traces.{Agrees, Foresees, IsTraceOf}
 use Rattle.xrc_session.specs.Traces.IsTraceOf.{Failed, Whole}
 use Rattle.xrc_session.proofs.Between.{now_heard}
 use Rattle.xrc_session.proofs.Copied.{copied_on}
+use Rattle.xrc_session.proofs.Counts.{console_quiet, rose_then}
 use Rattle.xrc_session.proofs.EmptyWalks.{none_is_walked}
 use Rattle.xrc_session.proofs.EndSlots.{slots_begin}
 use Rattle.xrc_session.proofs.Ended.{ended_rows}
@@ -149,9 +150,9 @@ nothing_is (Err e) before now other cause one two is =
 module _ (run : Run) (t : Trace) (pair : Paired) (text : List ℕ) (first mid new : PlantState) (site : SiteState) (tells : Type 0) (told : tells) (only : WorksOnConsole tells mid new) (end : HearsEnd mid new)
     (keeps : KeepsHearing [] [] first mid new) where
   -- The script was heard to its end.
-  pub ends_session : HasFinished run t (ended_at pair site.time text) [] first mid → WasCopied run t pair first mid → Stands site.table.rows site mid → site.table.session ≡ run.session → site.level ≡ run.level → site.table.rows ≡ in_state Duplex pair.row ∷ [] → site.mark.ended ≡ true
+  pub ends_session : HasFinished run t (ended_at pair site.time text) [] first mid → WasCopied run t pair first mid → NoneRose first mid → new.console_faults ≡ mid.console_faults → Stands site.table.rows site mid → site.table.session ≡ run.session → site.level ≡ run.level → site.table.rows ≡ in_state Duplex pair.row ∷ [] → site.mark.ended ≡ true
       → site.at ≡ site.mark.at → NowMeans mid (λ c. HoldsTracks t (shape_of mid) c pair.row site.time) → IsChoice new new.clock new.bytes → pair.row.device ≡ 0 → EndsSession run t first new
-  ends_session has copied stands session level rows ended empty holds reads device =
+  ends_session has copied quiet counted stands session level rows ended empty holds reads device =
       let last = ended_at pair site.time text in
       let goes = has.goes_on in
       let walk = now_heard tells mid new only told (λ s c. walked_by (meaning_in s c) ≡ []) (none_is_walked site.table.rows site mid stands empty) in
@@ -159,6 +160,7 @@ module _ (run : Run) (t : Trace) (pair : Paired) (text : List ℕ) (first mid ne
       record {
         end = last;
         is = has.is;
+        quiet = rose_then first mid new quiet (console_quiet tells mid new only counted);
         goes_on = hears_on run t (ended_lines run last) [] [] first mid new goes keeps;
         copied = copied_on run t pair first mid new goes.up only.site (only.elapses told) copied;
         at_end = end.at_end;
@@ -196,10 +198,6 @@ pub run_with : (session : List ℕ) (label read : Option Label) (run : Run) → 
 run_with session label read run same of = subst (λ (l : Option Label). IsRunOf session l run) (sym same) of
 
 -- ---- what was answered
-
-pub ok_more : {T E : Type 0} (result : Result T E) (A B : Type 0) → (A → B) → OnOk result A → OnOk result B
-ok_more (Ok x) A B more a = more a
-ok_more (Err e) A B more a = tt
 
 pub ok_not_err : {T : Type 0} (result : Result T Stop) (x : T) (other : Stop) → result ≡ Ok x → ¬ IsErrOf result other
 ok_not_err result x other ok is = cc (ok, is)

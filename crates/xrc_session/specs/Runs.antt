@@ -29,7 +29,7 @@ use Rattle.session_lines.specs.Meanings.{NowMeans}
 use Rattle.session_lines.specs.Runs.{Ended, GoesOn, IsEnd, Paired, ended_lines}
 use Rattle.xrc_session.specs.Between.{IsRunOf}
 use Rattle.xrc_session.specs.Expected.{DueLine, time_of}
-use Rattle.xrc_session.specs.Stopping.{StopsSo}
+use Rattle.xrc_session.specs.Stopping.{NoneRose, StopsSo}
 use Rattle.xrc_session.specs.Traces.{IsTraceOf}
 use Rattle.xrc_status.specs.declared.stop.Stop.{Stop}
 use Rattle.xrc_status.specs.declared.stop.Stop.TheVariants.{BadHeader, BadSite, HeaderFault, TooSmall}
@@ -55,13 +55,14 @@ pub record WasCopied (run : Run) (t : Trace) (p : Paired) (first now : PlantStat
   pub means : (c : Choice) → IsChoice now moment c → MeansRows run (shape_of now) c (in_state Duplex p.row ∷ []) p.time false
   pub holds : (c : Choice) → IsChoice now moment c → HoldsTracks t (shape_of now) c p.row p.time
 
--- The script was heard to its end, and each of its three lines was answered; each moment bears, and at one of them the pair was copied as
--- it stood at its time. Now whatever a crash leaves means the
--- ended session at the time of its end, by no record of the journal, with the pair duplex and its primary's tracks in its slots. Each of
--- these, as a read gives it, begins with its image.
+-- No call on a device or the console failed, the script was heard to its end, and each of its three lines was answered; each moment
+-- bears, and at one of them the pair was copied as it stood at its time. Now whatever a crash leaves means the ended session at the time
+-- of its end, by no record of the journal, with the pair duplex and its primary's tracks in its slots. Each of these, as a read gives it,
+-- begins with its image.
 pub record EndsSession (run : Run) (t : Trace) (old new : PlantState) : Type 0 where
   pub end : Ended
   pub is : IsEnd run t end
+  pub quiet : NoneRose old new
   pub goes_on : GoesOn run t (ended_lines run end) [] old new
   pub copied : WasCopied run t end.pair old new
   pub at_end : new.script ≡ []

@@ -3,6 +3,7 @@ use Rattle.std.specs.Prelude.{◌≡◌, ◌⊎◌, ℕ, ◌≤◌, List, Option
 use Rattle.xrc_edge.specs.Causes.{Rose}
 use Rattle.crash_plant.specs.declared.device.Device.{Device}
 use Rattle.crash_plant.specs.declared.device.Device.TheVariants.{Control, State, Journal, Volume}
+use Rattle.crash_plant.specs.Calls.{IsPart, SameSite}
 use Rattle.crash_plant.specs.Moments.{PlantState}
 use Rattle.trace_grammar.specs.declared.trace.Trace.{Trace}
 use Rattle.consistency.specs.Bears.{Run}
@@ -57,6 +58,12 @@ HasStopCause old new (Damaged d place) = ⊥
 HasStopCause old new VolumeFault = ⊥
 HasStopCause old new (TooSmall d needed) = ⊥
 HasStopCause old new BadSite = ⊥
+
+-- No count of faults rose, of the console or of a device of the plant.
+pub record NoneRose (old new : PlantState) : Type 0 where
+  pub site : SameSite old new
+  pub console : new.console_faults ≡ old.console_faults
+  pub devices : (d : Device) → IsPart old d → new.faults d ≡ old.faults d
 
 -- No count of faults fell.
 pub record NoneFell (old new : PlantState) : Type 0 where

@@ -29,7 +29,7 @@ ghost use Rattle.xrc_session.specs.Between.{IsBetween};
 ghost use Rattle.xrc_session.specs.Ending.{HoldsLane, HoldsNow, IsRunAt, MeanEnding};
 ghost use Rattle.xrc_session.specs.Full.{IsFullBehind, IsFullForEnd};
 ghost use Rattle.xrc_session.specs.Runs.{WasCopied};
-ghost use Rattle.xrc_session.specs.Stopping.{BreaksAt, BreaksBelow, HasStopCause, NoneFell, StopsSo};
+ghost use Rattle.xrc_session.specs.Stopping.{BreaksAt, BreaksBelow, HasStopCause, NoneFell, NoneRose, StopsSo};
 ghost use Rattle.xrc_session.specs.StopsOf.{IsOfEpoch, IsOfStore};
 ghost use Rattle.xrc_session.specs.Traces.{Foresees};
 
@@ -64,6 +64,7 @@ fn copy<R: Threads + Sync, P: Plant>(
     ensures primary { lane.new.primary ≡ lane.old.primary }
     ensures table { OnOk result (site.new.table ≡ with_rows site.old.table (in_state Duplex row.now ∷ [])) }
     ensures time { OnOk result (site.new.time ≡ site.old.time) }
+    ensures quiet { OnOk result (NoneRose (P.state plant.old) (P.state plant.new)) }
     ensures works { WorksSilently P.tells (P.state plant.old) (P.state plant.new) }
     // At every moment the pair waits or is copied, or it is duplex and holds its primary's tracks.
     ensures moments { P.tells → (run : Run) (t : TraceValue) (line : TimedCommand) → IsRunAt site.old.table.session run → HasReached lane.old.primary.time t lane.old.primary → site.old.time ≤ line.time → EachMeans (P.state plant.old) (P.state plant.new) (λ c. MeanPair run t (Some line) site.old.time row.now false (shape_of (P.state plant.new)) c) }
@@ -104,6 +105,7 @@ fn follow<R: Threads + Sync, S: Source, P: Plant>(
     ensures fails { OnOk result (FailsAsBefore (S.left source.old) (S.left source.new) lane.old.side lane.new.side) }
     ensures rises { lane.old.side.upto ≤ lane.new.side.upto }
     ensures upto { OnOk result (lane.new.side.upto ≡ at.0) }
+    ensures quiet { OnOk result (NoneRose (P.state plant.old) (P.state plant.new)) }
     ensures works { WorksSilently P.tells (P.state plant.old) (P.state plant.new) }
     // At every moment it holds its primary's tracks at one time, by which the trace hasn't broken.
     ensures moments { P.tells → HoldsLane lane.old row.now (P.state plant.old) → (run : Run) (t : TraceValue) (line : TimedCommand) → IsRunAt site.old.table.session run → Foresees (S.left source.old) lane.old lane.new.side.upto t → at.0 ≤ line.time → EachMeans (P.state plant.old) (P.state plant.new) (λ c. MeanPair run t (Some line) site.old.time row.now false (shape_of (P.state plant.new)) c) }
@@ -149,6 +151,7 @@ fn mark_end<R: Threads + Sync, P: Plant>(
     ensures ended { OnOk result (site.new.mark.ended ≡ true) }
     ensures empty { OnOk result (site.new.at ≡ site.new.mark.at) }
     ensures stands { P.tells → OnOk result (Stands site.new.table.rows site.new (P.state plant.new)) }
+    ensures quiet { OnOk result (NoneRose (P.state plant.old) (P.state plant.new)) }
     ensures works { WorksSilently P.tells (P.state plant.old) (P.state plant.new) }
     // At every moment the duplex pair holds its primary's tracks at the site's time, and the session has ended or it hasn't.
     ensures moments { P.tells → (run : Run) (t : TraceValue) (row : PairRowValue) (from end : ℕ) → IsRunAt site.old.table.session run → site.old.table.rows ≡ in_state Duplex row ∷ [] → has_broken t site.old.time ≡ false → HoldsNow t row site.old.time (P.state plant.old) → from ≤ site.old.time → site.old.time ≤ end → EachMeans (P.state plant.old) (P.state plant.new) (λ c. MeanEnding run t from end row (shape_of (P.state plant.new)) c) }
@@ -192,6 +195,7 @@ fn bring_to_end<R: Threads + Sync, S: Source, P: Plant>(
     ensures foresees { OnOk result ((t : TraceValue) (upto : ℕ) → Foresees (S.left source.old) lane.old upto t → Foresees (S.left source.new) lane.new upto t) }
     ensures fails { OnOk result (FailsAsBefore (S.left source.old) (S.left source.new) lane.old.side lane.new.side) }
     ensures rises { lane.old.side.upto ≤ lane.new.side.upto }
+    ensures quiet { OnOk result (NoneRose (P.state plant.old) (P.state plant.new)) }
     ensures works { WorksSilently P.tells (P.state plant.old) (P.state plant.new) }
     // At every moment the pair waits, is copied or holds its primary's tracks at one time; the end is marked once they are those at the
     // end's time, by which the trace hasn't broken.
@@ -238,6 +242,7 @@ pub(crate) fn end<R: Threads + Sync, S: Source, P: Plant>(
     ensures rises { lane.old.side.upto ≤ lane.new.side.upto }
     ensures home { NoneLent (P.state plant.new) }
     ensures others { P.tells → KeepsOthers 0 row.device (tracks_of row) (P.state plant.old) (P.state plant.new) }
+    ensures quiet { OnOk result (NoneRose (P.state plant.old) (P.state plant.new)) }
     ensures site { SameSite (P.state plant.old) (P.state plant.new) }
     ensures elapses { P.tells → Elapses (P.state plant.old) (P.state plant.new) }
     ensures table { OnOk result (site.new.table ≡ with_rows site.old.table (in_state Duplex row ∷ [])) }

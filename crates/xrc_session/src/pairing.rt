@@ -31,7 +31,7 @@ ghost use Rattle.session_lines.specs.Runs.{HasPaired, HasStarted, Started as Sta
 ghost use Rattle.xrc_status.specs.declared.stop.Stop.TheVariants.{EarlyBreak, JournalEnd, NoMemory as MemoryStop, NotBuilt};
 ghost use Rattle.xrc_session.specs.Between.{IsBetween, IsRunOf};
 ghost use Rattle.xrc_session.specs.Pairing.{HasHeardPair, IsBehind, IsNewRow, IsStandingAt};
-ghost use Rattle.xrc_session.specs.Stopping.{BreaksAt, BreaksBelow, HasStopCause, NoneFell, StopsSo};
+ghost use Rattle.xrc_session.specs.Stopping.{BreaksAt, BreaksBelow, HasStopCause, NoneFell, NoneRose, StopsSo};
 ghost use Rattle.xrc_session.specs.StopsOf.{IsOfStore};
 ghost use Rattle.xrc_session.specs.Traces.{Foresees};
 
@@ -195,6 +195,7 @@ fn keep<R: Threads + Sync, P: Plant>(
     ensures at { OnOk result (site.new.at.place ≤ 22) }
     ensures side { lane.new.side ≡ lane.old.side }
     ensures primary { lane.new.primary ≡ lane.old.primary }
+    ensures quiet { OnOk result (NoneRose (P.state plant.old) (P.state plant.new)) }
     ensures works { WorksSilently P.tells (P.state plant.old) (P.state plant.new) }
     // Each moment bears: a crash leaves the session without a pair, at the site's time or the lane's.
     ensures heard { P.tells → (first : P) (run : Run) (t : TraceValue) (start : StartedLine) (row : RowValue) (text : List ℕ) → HasHeardPair run t start row at.0 text (P.state first) (P.state plant.old) → IsStandingAt run start site.old → has_broken t at.0 ≡ false → HasHeardPair run t start row at.0 text (P.state first) (P.state plant.new) }
@@ -238,6 +239,7 @@ fn wait_for<R: Threads + Sync, S: Source, P: Plant>(
     ensures foresees { OnOk result ((t : TraceValue) (upto : ℕ) → Foresees (S.left source.old) lane.old upto t → Foresees (S.left source.new) lane.new upto t) }
     ensures fails { OnOk result (FailsAsBefore (S.left source.old) (S.left source.new) lane.old.side lane.new.side) }
     ensures rises { lane.old.side.upto ≤ lane.new.side.upto }
+    ensures quiet { OnOk result (NoneRose (P.state plant.old) (P.state plant.new)) }
     ensures works { WorksSilently P.tells (P.state plant.old) (P.state plant.new) }
     // Each moment bears: a crash leaves the session without a pair, at a time up to the line's.
     ensures heard { P.tells → (first : P) (run : Run) (t : TraceValue) (start : StartedLine) (row : RowValue) (text : List ℕ) → HasHeardPair run t start row at.0 text (P.state first) (P.state plant.old) → start.time ≡ site.old.time → run.session ≡ site.old.table.session → Foresees (S.left source.old) lane.old lane.new.side.upto t → HasHeardPair run t start row at.0 text (P.state first) (P.state plant.new) }
@@ -278,6 +280,7 @@ fn put_pair<P: Plant>(
     ensures fits { OnOk result (Fits site.new (P.state plant.new)) }
     ensures counted { OnOk result (IsCounted site.new (P.state plant.new)) }
     ensures stands { P.tells → OnOk result (Stands site.new.table.rows site.new (P.state plant.new)) }
+    ensures quiet { OnOk result (NoneRose (P.state plant.old) (P.state plant.new)) }
     ensures works { WorksSilently P.tells (P.state plant.old) (P.state plant.new) }
     // Each moment bears: a crash leaves the session without the pair, or its row.
     ensures heard { P.tells → (first : P) (run : Run) (t : TraceValue) (start : StartedLine) (text : List ℕ) → HasHeardPair run t start row at.0 text (P.state first) (P.state plant.old) → IsStandingAt run start site.old → IsAdded run row → has_broken t at.0 ≡ false → HasHeardPair run t start row at.0 text (P.state first) (P.state plant.new) }
@@ -328,6 +331,7 @@ fn take_pair<R: Threads + Sync, S: Source, P: Plant>(
     ensures foresees { OnOk result ((t : TraceValue) (upto : ℕ) → Foresees (S.left source.old) lane.old upto t → Foresees (S.left source.new) lane.new upto t) }
     ensures fails { OnOk result (FailsAsBefore (S.left source.old) (S.left source.new) lane.old.side lane.new.side) }
     ensures rises { lane.old.side.upto ≤ lane.new.side.upto }
+    ensures quiet { OnOk result (NoneRose (P.state plant.old) (P.state plant.new)) }
     ensures works { WorksSilently P.tells (P.state plant.old) (P.state plant.new) }
     // Each moment bears.
     ensures heard { P.tells → (first : P) (run : Run) (t : TraceValue) (start : StartedLine) (text : List ℕ) → HasHeardPair run t start row.now at.0 text (P.state first) (P.state plant.old) → start.time ≡ site.old.time → run.session ≡ site.old.table.session → IsAdded run row.now → Foresees (S.left source.old) lane.old lane.new.side.upto t → HasHeardPair run t start row.now at.0 text (P.state first) (P.state plant.new) }
@@ -379,6 +383,7 @@ pub(crate) fn add_pair<R: Threads + Sync, S: Source, P: Plant>(
     ensures taken { OnOk result ((t : TraceValue) → HasTaken (S.left source.old) t lane.old.side lane.old.primary → HasTaken (S.left source.new) t lane.new.side lane.new.primary) }
     ensures home { NoneLent (P.state plant.new) }
     ensures others { P.tells → KeepsOthers 0 0 0 (P.state plant.old) (P.state plant.new) }
+    ensures quiet { OnOk result (NoneRose (P.state plant.old) (P.state plant.new)) }
     ensures site { SameSite (P.state plant.old) (P.state plant.new) }
     ensures elapses { P.tells → Elapses (P.state plant.old) (P.state plant.new) }
     // The line is answered, and each moment bears.

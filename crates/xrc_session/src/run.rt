@@ -21,7 +21,7 @@ ghost use Rattle.xrc_session.specs.Full.{IsFullBehind, IsFullFrom, IsJournalFull
 ghost use Rattle.xrc_session.specs.Leaving.{LeavesOthers};
 ghost use Rattle.xrc_session.specs.Numbers.{HasNumbers};
 ghost use Rattle.xrc_session.specs.Runs.{AsksSession, EndsInHeader, EndsSession, GaveTrace, HasBrokenBy, IsEarly, IsOfHeader, IsOfSite, IsRefused, IsSessionRun, NoneFailed, StopsEarlyOr, first_label};
-ghost use Rattle.xrc_session.specs.Stopping.{BreaksAt, HasStopCause, NoneFell, StopsSo};
+ghost use Rattle.xrc_session.specs.Stopping.{BreaksAt, HasStopCause, NoneFell, NoneRose, StopsSo};
 ghost use Rattle.xrc_session.specs.Traces.{Foresees};
 
 use crate::ending::end;
@@ -79,6 +79,7 @@ fn begin<R: Threads + Sync, S: Source, P: Plant>(
     ensures taken { OnOk result ((t : TraceValue) → HasTaken (S.left source.old) t lane.old.side lane.old.primary → HasTaken (S.left source.new) t lane.new.side lane.new.primary) }
     ensures home { NoneLent (P.state plant.new) }
     ensures others { P.tells → KeepsOthers 0 0 0 (P.state plant.old) (P.state plant.new) }
+    ensures quiet { OnOk result (NoneRose (P.state plant.old) (P.state plant.new)) }
     ensures site { SameSite (P.state plant.old) (P.state plant.new) }
     ensures elapses { P.tells → Elapses (P.state plant.old) (P.state plant.new) }
     // Two lines are answered, and each moment bears.
@@ -127,7 +128,7 @@ fn finish<R: Threads + Sync, S: Source, P: Plant>(
     ensures site { SameSite (P.state plant.old) (P.state plant.new) }
     ensures elapses { P.tells → Elapses (P.state plant.old) (P.state plant.new) }
     // The script was heard to its end, and each moment bears.
-    ensures ends { P.tells → (first : P) (run : Run) (t : TraceValue) (pair : PairedLine) → HasPaired run t pair [] (P.state first) (P.state plant.old) → pair.row ≡ paired.old.row → pair.time ≡ paired.old.started.site.time → run.session ≡ session → Foresees (S.left source.old) lane.old lane.new.side.upto t → OnOk result (EndsSession run t (P.state first) (P.state plant.new)) }
+    ensures ends { P.tells → (first : P) (run : Run) (t : TraceValue) (pair : PairedLine) → HasPaired run t pair [] (P.state first) (P.state plant.old) → NoneRose (P.state first) (P.state plant.old) → pair.row ≡ paired.old.row → pair.time ≡ paired.old.started.site.time → run.session ≡ session → Foresees (S.left source.old) lane.old lane.new.side.upto t → OnOk result (EndsSession run t (P.state first) (P.state plant.new)) }
     ensures stops { P.tells → (first : P) (run : Run) (t : TraceValue) (pair : PairedLine) → HasPaired run t pair [] (P.state first) (P.state plant.old) → pair.row ≡ paired.old.row → pair.time ≡ paired.old.started.site.time → run.session ≡ session → Foresees (S.left source.old) lane.old lane.new.side.upto t → IfErr result (StopsSo run t (BreaksAt (S.left source.old) (S.left source.new) (S.faults source.old) (S.faults source.new) lane.old lane.new) (IsFullBehind (S.left source.old) lane.old (P.state plant.new)) (P.state first) (P.state plant.new)) }
     // Why it stops.
     ensures cause { IfErr result (HasStopCause (P.state plant.old) (P.state plant.new)) }

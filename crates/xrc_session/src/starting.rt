@@ -20,7 +20,7 @@ ghost use Rattle.session_lines.specs.Runs.{GoesOn, HasStarted, started_at};
 ghost use Rattle.xrc_status.specs.declared.stop.Stop.TheVariants.{EarlyBreak, JournalEnd, NotBuilt, Spent};
 ghost use Rattle.xrc_session.specs.Between.{IsBetween};
 ghost use Rattle.xrc_session.specs.Expected.{LeavesAll};
-ghost use Rattle.xrc_session.specs.Stopping.{BreaksAt, BreaksBelow, HasStopCause, NoneFell, StopsSo};
+ghost use Rattle.xrc_session.specs.Stopping.{BreaksAt, BreaksBelow, HasStopCause, NoneFell, NoneRose, StopsSo};
 ghost use Rattle.xrc_session.specs.StopsOf.{IsOfStart};
 ghost use Rattle.xrc_session.specs.Traces.{Foresees};
 
@@ -64,6 +64,7 @@ fn format<P: Plant>(
     ensures stands { P.tells → IfOk result (λ started. Stands [] started.site (P.state plant.new)) }
     ensures label { P.tells → IfOk result (λ started. started.label ≡ label_of ((P.state plant.old).lengths (VolumeDevice 0)) (take 14 ((P.state plant.old).bytes (VolumeDevice 0)))) }
     ensures room { IfOk result (λ started. IfSome started.label (λ l. IsTrue (has_room ((P.state plant.old).lengths (VolumeDevice 0)) l.cylinders))) }
+    ensures quiet { OnOk result (NoneRose (P.state plant.old) (P.state plant.new)) }
     ensures works { WorksSilently P.tells (P.state plant.old) (P.state plant.new) }
     ensures home { NoneLent (P.state plant.new) }
     ensures others { P.tells → KeepsOthers 0 0 0 (P.state plant.old) (P.state plant.new) }
@@ -111,6 +112,7 @@ fn set_up<S: Source, P: Plant>(
     ensures foresees { OnOk result ((t : TraceValue) (upto : ℕ) → Foresees (S.left source.old) lane.old upto t → Foresees (S.left source.new) lane.new upto t) }
     ensures fails { OnOk result (FailsAsBefore (S.left source.old) (S.left source.new) lane.old.side lane.new.side) }
     ensures rises { lane.old.side.upto ≤ lane.new.side.upto }
+    ensures quiet { OnOk result (NoneRose (P.state plant.old) (P.state plant.new)) }
     ensures works { WorksSilently P.tells (P.state plant.old) (P.state plant.new) }
     // The run's trace hasn't broken by the start's time.
     ensures whole { OnOk result ((t : TraceValue) → Foresees (S.left source.old) lane.old lane.new.side.upto t → has_broken t at.0 ≡ false) }
@@ -160,6 +162,7 @@ pub(crate) fn start<S: Source, P: Plant>(
     ensures taken { OnOk result ((t : TraceValue) → HasTaken (S.left source.old) t lane.old.side lane.old.primary → HasTaken (S.left source.new) t lane.new.side lane.new.primary) }
     ensures home { NoneLent (P.state plant.new) }
     ensures others { P.tells → KeepsOthers 0 0 0 (P.state plant.old) (P.state plant.new) }
+    ensures quiet { OnOk result (NoneRose (P.state plant.old) (P.state plant.new)) }
     ensures site { SameSite (P.state plant.old) (P.state plant.new) }
     ensures elapses { P.tells → Elapses (P.state plant.old) (P.state plant.new) }
     // The line is answered, and each moment bears.

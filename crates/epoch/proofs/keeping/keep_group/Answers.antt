@@ -7,6 +7,7 @@ use Rattle.site_store.specs.Sites.{SiteState}
 use Rattle.epoch.specs.Lanes.{tracks_of}
 use Rattle.epoch.proofs.CopySights.{on_always, on_ok, rose_later}
 use Rattle.epoch.proofs.Counted.{counted_applied, counted_kept, mark_number_goes_on, record_number_goes_on}
+use Rattle.epoch.proofs.KeptCounts.{quiet_applied, quiet_kept, quiet_logged}
 use Rattle.epoch.proofs.KeptErrors.{full_logged, mark_failed, none_logged, only_read, read_failed, spent_logged, spent_marked}
 use Rattle.epoch.proofs.KeptFrames.{items_none, items_own, keeps_applied, keeps_logged, keeps_marked, keeps_three}
 use Rattle.epoch.proofs.KeptGroups.{keep_all, keep_each, log_each}
@@ -235,6 +236,19 @@ returns-clause-counted g c = λ counted.
     on_ok c.mark.result _ _
     (λ is. counted_kept c.args.formed.now c.log.new.self.waiting c.args.site.now c.log.new.self c.apply.new.self a b m c.in_ok-log.ensures.ok at mark c.log.ensures.only.site c.apply.ensures.only.site counted false c.mark.new.self d is c.mark.ensures.only.site)
     c.mark.ensures.marked
+
+pub returns-clause-quiet : goal.returns-clause-quiet
+returns-clause-quiet g c = λ none.
+    let tells = g.P.Plant.tells in
+    let a = g.P.Plant.state c.args.plant.now in
+    let b = g.P.Plant.state c.log.new.plant in
+    let m = g.P.Plant.state c.apply.new.plant in
+    let d = g.P.Plant.state c.mark.new.plant in
+    let site = c.args.site.now in
+    let fine = none_logged c.log.new.self (λ w first. cc ((c.in_ok-log.ensures.volume w).1 first)) in
+    let journal = c.in_ok-log.ensures.no_fault (λ e is. absurd (cc is)) in
+    let logged = quiet_logged tells site.at.set site.table.rows c.args.formed.now.entries a b site.failed c.log.new.self.failed c.log.ensures.only c.log.ensures.fails c.requires.fits.failed none fine journal in
+    quiet_kept a b m d c.apply.new.self c.mark.result c.log.ensures.only.site c.apply.ensures.only.site logged (quiet_applied tells c.log.new.self c.apply.new.self b m c.apply.ensures.only c.apply.ensures.volumes) c.mark.ensures.no_failed c.mark.ensures.others
 
 pub returns-clause-journal_end : goal.returns-clause-journal_end
 returns-clause-journal_end g c = λ told is. absurd (c.mark.ensures.error JournalEnd is)

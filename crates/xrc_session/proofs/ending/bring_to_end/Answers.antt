@@ -17,7 +17,9 @@ use Rattle.epoch.specs.Lanes.{tracks_of}
 use Rattle.epoch.proofs.Frames.{keeps_then}
 use Rattle.epoch.proofs.Working.{silent_then}
 use Rattle.xrc_session.specs.Ending.{HoldsNow}
+use Rattle.xrc_session.specs.Stopping.{NoneRose}
 use Rattle.xrc_session.proofs.Copied.{copied_now, copied_on, copied_rows, copied_tracks}
+use Rattle.xrc_session.proofs.Counts.{rose_then}
 use Rattle.xrc_session.proofs.EndStops.{copy_full}
 use Rattle.xrc_session.proofs.Foreseeing.{foresees_same, reached_own, taken_same}
 use Rattle.xrc_session.proofs.StopLaws.{store_errs_of_epoch}
@@ -193,3 +195,12 @@ returns-clause-others g c = λ told.
 
 pub returns-clause-journal_end : goal.returns-clause-journal_end
 returns-clause-journal_end g c = λ told is t taken reached. absurd (c.mark_end.ensures.no_journal_end is)
+
+pub returns-clause-quiet : goal.returns-clause-quiet
+returns-clause-quiet g c =
+    let state = g.P.Plant.state in
+    let a = state c.args.plant.now in
+    let b = state c.copy.new.plant in
+    let d = state c.follow.new.plant in
+    let e = state c.mark_end.new.plant in
+    on_ok c.mark_end.result (NoneRose d e) (NoneRose a e) (rose_then a d e (rose_then a b d c.in_ok-copy.ensures.quiet c.in_ok-follow.ensures.quiet)) c.mark_end.ensures.quiet

@@ -1,4 +1,4 @@
-use Rattle.std.proofs.Common.{rules, ◌≡◌, ℕ, ◌<◌, false, ◌∷◌, [], Err, refl, ap, sym, subst, ◌∙◌, arith}
+use Rattle.std.proofs.Common.{rules, ◌≡◌, ℕ, ◌<◌, false, ◌∷◌, [], Ok, Err, refl, ap, sym, subst, ◌∙◌, arith}
 use Rattle.std.specs.Prelude.{OnOk}
 use Rattle.crash_plant.proofs.Steps.{none_lent_console}
 use Rattle.pair_table.specs.declared.row.PairRow.{PairRow}
@@ -6,18 +6,19 @@ use Rattle.pair_table.specs.declared.row.PairState.TheVariants.{Duplex}
 use Rattle.pair_table.specs.Tables.{Table, in_state}
 use Rattle.pair_course.specs.Course.{HoldsTracks, end_line}
 use Rattle.epoch.specs.Lanes.{tracks_of}
-use Rattle.epoch.proofs.CopySights.{on_always}
+use Rattle.epoch.proofs.CopySights.{on_always, on_ok}
 use Rattle.epoch.proofs.Frames.{keeps_console}
 use Rattle.session_lines.specs.Asking.{IsNext}
 use Rattle.session_lines.specs.Runs.{HasFinished, IsEnd, end_of, ended_at, paired_lines}
 use Rattle.xrc_session.specs.Ending.{HoldsNow}
 use Rattle.xrc_session.specs.Expected.AreAnswered.{AnEnd, APair}
 use Rattle.xrc_session.specs.Full.{IsFullBehind}
-use Rattle.xrc_session.specs.Stopping.{BreaksAt, HasStopCause, StopsSo}
+use Rattle.xrc_session.specs.Stopping.{BreaksAt, HasStopCause, NoneRose, StopsSo}
 use Rattle.xrc_session.specs.StopsOf.{IsOfEpoch}
-use Rattle.xrc_session.proofs.Begun.{err_of}
+use Rattle.xrc_session.proofs.Begun.{err_of, hear_counted}
 use Rattle.xrc_session.proofs.Between.{between_heard, heard_later, now_heard, stands_heard}
 use Rattle.xrc_session.proofs.Copied.{copied_on, copied_since}
+use Rattle.xrc_session.proofs.Counts.{line_quiet}
 use Rattle.xrc_session.proofs.EndStops.{end_full}
 use Rattle.xrc_session.proofs.Ended.{end_goes_on, end_is_heard, ended_rows, hear_cause, hearing, may_end, paired_hears, runs_at}
 use Rattle.xrc_session.proofs.Hearing.{expected_stops, expects_end, hear_stops, no_end, site_means}
@@ -222,3 +223,14 @@ returns-clause-others g c = λ told.
     let work = c.bring_to_end.ensures in
     answered_keeps g.P.Plant.tells told (state c.args.plant.now) (state c.hear_end.new.plant) (state c.bring_to_end.new.plant) c.hear_end.ensures.only work.works (state c.say_ended.new.plant) c.say_ended.ensures.said.front.only row.device (tracks_of row)
     (work.others told)
+
+pub returns-clause-quiet : goal.returns-clause-quiet
+returns-clause-quiet g c =
+    let a = g.P.Plant.state c.args.plant.now in
+    let b = g.P.Plant.state c.hear_end.new.plant in
+    let d = g.P.Plant.state c.bring_to_end.new.plant in
+    let e = g.P.Plant.state c.say_ended.new.plant in
+    let was : c.hear_end.result ≡ Ok c.in_ok-at.at = search rules in
+    let said = c.say_ended.ensures.said in
+    on_ok c.say_ended.result (e.console_faults ≡ d.console_faults) (NoneRose a e)
+    (line_quiet g.P.Plant.tells a b d e c.hear_end.ensures.only (hear_counted a.console_faults b.console_faults c.hear_end.result c.in_ok-at.at c.hear_end.ensures.cause was) c.in_ok-bring_to_end.ensures.quiet said.front.only) said.cause.ok

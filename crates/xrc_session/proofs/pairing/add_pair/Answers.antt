@@ -8,6 +8,7 @@ use Rattle.xrc_session.specs.Stopping.{BreaksAt, HasStopCause, StopsSo}
 use Rattle.xrc_session.proofs.AddedRows.{added_is_new}
 use Rattle.xrc_session.proofs.Begun.{err_of, hear_counted, none_fell}
 use Rattle.xrc_session.proofs.Between.{between_heard}
+use Rattle.xrc_session.proofs.Counts.{line_quiet, ok_holds}
 use Rattle.xrc_session.proofs.Ended.{hearing}
 use Rattle.xrc_session.proofs.Hearing.{expected_stops, expects_pair, hear_stops, no_pair, site_means}
 use Rattle.xrc_session.proofs.Leaves.{answered_keeps, answered_past, heard_keeps, heard_past}
@@ -137,6 +138,18 @@ returns-clause-counts g c =
     let e = g.P.Plant.state c.say_added.new.plant in
     let was : c.hear_row.result ≡ Ok c.in_ok-asked.asked = search rules in
     none_fell g.P.Plant.tells a b d e c.hear_row.ensures.only (hear_counted a.console_faults b.console_faults c.hear_row.result c.in_ok-asked.asked c.hear_row.ensures.cause was) c.take_pair.ensures.works c.say_added.ensures.said.front.only c.say_added.ensures.said.cause.later
+
+pub returns-clause-quiet : goal.returns-clause-quiet
+returns-clause-quiet g c =
+    let a = g.P.Plant.state c.args.plant.now in
+    let b = g.P.Plant.state c.hear_row.new.plant in
+    let d = g.P.Plant.state c.take_pair.new.plant in
+    let e = g.P.Plant.state c.say_added.new.plant in
+    let was : c.hear_row.result ≡ Ok c.in_ok-asked.asked = search rules in
+    let spoke : c.say_added.result ≡ Ok tt = search rules in
+    let said = c.say_added.ensures.said in
+    line_quiet g.P.Plant.tells a b d e c.hear_row.ensures.only (hear_counted a.console_faults b.console_faults c.hear_row.result c.in_ok-asked.asked c.hear_row.ensures.cause was) c.in_ok-take_pair.ensures.quiet said.front.only
+    (ok_holds c.say_added.result tt (e.console_faults ≡ d.console_faults) spoke said.cause.ok)
 
 -- ---- what it leaves
 

@@ -1,8 +1,11 @@
 use Rattle.std.proofs.Common.{◌∙◌, sym, ap, arith}
 use Rattle.pair_table.specs.Tables.{Table}
+use Rattle.epoch.proofs.CopySights.{on_ok}
 use Rattle.epoch.proofs.Frames.{keeps_then}
 use Rattle.epoch.proofs.Working.{silent_then}
 use Rattle.xrc_session.specs.Pairing.{IsStandingAt}
+use Rattle.xrc_session.specs.Stopping.{NoneRose}
+use Rattle.xrc_session.proofs.Counts.{rose_then}
 use Rattle.xrc_session.proofs.pairing.take_pair.Goals as goal
 
 pub returns-in_err-wait_for-clause-heard : goal.returns-in_err-wait_for-clause-heard
@@ -27,3 +30,11 @@ returns-clause-heard g c = λ told first run t start text heard time session add
 pub returns-clause-others : goal.returns-clause-others
 returns-clause-others g c = λ told.
     keeps_then 0 0 0 (g.P.Plant.state c.args.plant.now) (g.P.Plant.state c.wait_for.new.plant) (g.P.Plant.state c.put_pair.new.plant) c.wait_for.ensures.works.site (c.wait_for.ensures.works.elapses told) (c.put_pair.ensures.works.elapses told) (c.wait_for.ensures.others told) (c.put_pair.ensures.others told)
+
+pub returns-clause-quiet : goal.returns-clause-quiet
+returns-clause-quiet g c =
+    let state = g.P.Plant.state in
+    let a = state c.args.plant.now in
+    let b = state c.wait_for.new.plant in
+    let d = state c.put_pair.new.plant in
+    on_ok c.put_pair.result (NoneRose b d) (NoneRose a d) (rose_then a b d c.in_ok-wait_for.ensures.quiet) c.put_pair.ensures.quiet

@@ -10,6 +10,7 @@ use Rattle.xrc_session.specs.Expected.{time_of}
 use Rattle.xrc_session.specs.Runs.{first_label}
 use Rattle.xrc_session.specs.Stopping.{BreaksAt, HasStopCause, StopsSo}
 use Rattle.xrc_session.proofs.Begun.{err_of}
+use Rattle.xrc_session.proofs.Counts.{rose_then}
 use Rattle.xrc_session.proofs.RunStops.{breaks_before, stop_so}
 use Rattle.xrc_session.proofs.StopLaws.{if_err}
 use Rattle.xrc_session.proofs.WholeRuns.{cause_since, failed_so, fell_then, foresees_less, ok_not_err, run_with, same_stop}
@@ -129,6 +130,10 @@ returns-clause-foresees g c = λ t upto f. c.in_ok-row.ensures.foresees t upto (
 pub returns-clause-counts : goal.returns-clause-counts
 returns-clause-counts g c =
     fell_then (g.P.Plant.state c.args.plant.now) (g.P.Plant.state c.start.new.plant) (g.P.Plant.state c.add_pair.new.plant) c.in_ok-started.ensures.counts c.in_ok-row.ensures.counts
+
+pub returns-clause-quiet : goal.returns-clause-quiet
+returns-clause-quiet g c =
+    rose_then (g.P.Plant.state c.args.plant.now) (g.P.Plant.state c.start.new.plant) (g.P.Plant.state c.add_pair.new.plant) c.in_ok-started.ensures.quiet c.in_ok-row.ensures.quiet
 
 pub returns-clause-taken : goal.returns-clause-taken
 returns-clause-taken g c = λ t taken. c.in_ok-row.ensures.taken t (c.in_ok-started.ensures.taken t taken)

@@ -18,10 +18,11 @@ use Rattle.xrc_session.specs.Runs.{EndsSession}
 use Rattle.xrc_session.specs.Stopping.{BreaksAt, StopsSo}
 use Rattle.xrc_session.proofs.Begun.{err_of}
 use Rattle.xrc_session.proofs.Between.{now_heard}
+use Rattle.xrc_session.proofs.Counts.{heard_same, ok_with, rose_then}
 use Rattle.xrc_session.proofs.Hearing.{site_means}
 use Rattle.xrc_session.proofs.RunStops.{nothing_stops}
 use Rattle.xrc_session.proofs.StopLaws.{if_err}
-use Rattle.xrc_session.proofs.WholeRuns.{ends_session, ok_more}
+use Rattle.xrc_session.proofs.WholeRuns.{ends_session}
 use Rattle.xrc_session.proofs.run.finish.Goals as goal
 
 pub returns-in_err-end-clause-stops : goal.returns-in_err-end-clause-stops
@@ -42,7 +43,7 @@ returns-in_err-end-clause-others g c = λ told.
     subst (λ (n : ℕ). KeepsOthers 0 n (tracks_of c.args.paired.now.row) (g.P.Plant.state c.args.plant.now) (g.P.Plant.state c.end.new.plant)) c.requires.device (c.end.ensures.others told)
 
 pub returns-clause-ends : goal.returns-clause-ends
-returns-clause-ends g c = λ told first run t pair has row_is time_is session_is f.
+returns-clause-ends g c = λ told first run t pair has quiet row_is time_is session_is f.
     let state = g.P.Plant.state in
     let b = state c.end.new.plant in
     let d = state c.expect_nothing.new.plant in
@@ -55,12 +56,12 @@ returns-clause-ends g c = λ told first run t pair has row_is time_is session_is
     let holds = subst (λ (r : PairRow). NowMeans b (λ x. HoldsTracks t (shape_of b) x r site.time)) (sym row_is) (done.holds told t f) in
     let home = none_lent_console g.P.Plant.tells b d nothing.only c.end.ensures.home in
     let reads = reads_choice d home (λ x there. g.met.P.Plant.read_is_image c.expect_nothing.new.plant x told there) in
-    ok_more c.expect_nothing.result (HearsEnd b d) (EndsSession run t (state first) d)
-    (λ end.
+    ok_with c.expect_nothing.result (HearsEnd b d) (d.console_faults ≡ b.console_faults) (EndsSession run t (state first) d)
+    (λ end counted.
     ends_session run t pair text (state first) b d site g.P.Plant.tells told nothing.only end (nothing.keeps told first [] end.nothing) (done.ends told first run t pair has row_is time_is session_is f)
-    (done.copied told first run t pair has row_is time_is session_is f) (done.stands told) name
+    (done.copied told first run t pair has row_is time_is session_is f) (rose_then (state first) (state c.args.plant.now) b quiet done.quiet) counted (done.stands told) name
     (done.level ∙ sym has.goes_on.pair_run.level) rows done.ended done.empty holds reads (ap (λ (r : PairRow). r.device) row_is ∙ c.requires.device))
-    (nothing.end told)
+    (nothing.end told) (heard_same b.console_faults d.console_faults c.expect_nothing.result nothing.cause)
 
 pub returns-clause-stops : goal.returns-clause-stops
 returns-clause-stops g c = λ told first run t pair has row_is time_is session_is f.

@@ -39,7 +39,7 @@ returns-clause-ends g c = λ told run t goes of f.
     let upto = c.finish.new.lane.side.upto in
     let begun = c.in_ok-paired.ensures in
     let p = begun.pairs told run t goes of (foresees_less (g.S.Source.left c.args.source.now) c.args.lane.now upto c.begin.new.lane.side.upto t c.finish.ensures.rises f) in
-    c.finish.ensures.ends told c.args.plant.now run t p.0 p.1 p.2 p.3 of.session_is (begun.foresees t upto f)
+    c.finish.ensures.ends told c.args.plant.now run t p.0 p.1 begun.quiet p.2 p.3 of.session_is (begun.foresees t upto f)
 
 pub returns-clause-stops : goal.returns-clause-stops
 returns-clause-stops g c = λ told run t goes of f.

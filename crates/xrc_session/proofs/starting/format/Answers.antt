@@ -1,8 +1,10 @@
 use Rattle.std.proofs.Common.{[], arith}
 use Rattle.crash_plant.specs.declared.device.Device.TheVariants.{Volume}
 use Rattle.crash_plant.proofs.Steps.{none_lent_then}
+use Rattle.site_store.specs.Marking.{error_of}
 use Rattle.epoch.proofs.Frames.{keeps_then}
 use Rattle.epoch.proofs.Working.{silent_on, silent_then}
+use Rattle.xrc_session.proofs.Counts.{ok_holds, ok_no_err, read_quiet, rose_then, works_on_quiet}
 use Rattle.xrc_session.proofs.Formatted.{counted_read, early_volume, fits_read, stands_read}
 use Rattle.xrc_session.proofs.Leaves.{format_keeps, read_keeps}
 use Rattle.xrc_session.proofs.starting.format.Goals as goal
@@ -36,6 +38,16 @@ returns-in-Err-read_label-clause-works g c =
     let b = g.P.Plant.state c.format.new.plant in
     let d = g.P.Plant.state c.read_label.new.plant in
     silent_then g.P.Plant.tells a b d (silent_on g.P.Plant.tells _ a b c.format.ensures.only) (silent_on g.P.Plant.tells _ b d c.read_label.ensures.only)
+
+pub returns-in-Ok-read_label-clause-quiet : goal.returns-in-Ok-read_label-clause-quiet
+returns-in-Ok-read_label-clause-quiet g c =
+    let a = g.P.Plant.state c.args.plant.now in
+    let b = g.P.Plant.state c.format.new.plant in
+    let d = g.P.Plant.state c.read_label.new.plant in
+    let made = c.format.ensures in
+    let read = c.read_label.ensures in
+    rose_then a b d (works_on_quiet g.P.Plant.tells _ a b made.only (λ x. made.others x (ok_no_err c.format.result c.in-Ok.site (error_of x) c.in-Ok.is)))
+    (read_quiet g.P.Plant.tells (Volume 0) b d read.only (ok_holds c.read_label.result c.in-Ok-read_label.label _ c.in-Ok-read_label.is read.cause.ok))
 
 pub returns-in-Err-read_label-clause-of_start : goal.returns-in-Err-read_label-clause-of_start
 returns-in-Err-read_label-clause-of_start g c = early_volume

@@ -12,6 +12,7 @@ use Rattle.xrc_session.specs.Stopping.{BreaksAt, HasStopCause, StopsSo}
 use Rattle.xrc_session.specs.StopsOf.{IsOfStart}
 use Rattle.xrc_session.proofs.Begun.{begun_works, err_of, hear_counted, may_start, none_fell, residual_is, start_is_heard, start_late, start_not_console, start_not_end, start_not_refused, started_rows}
 use Rattle.xrc_session.proofs.Between.{between_heard}
+use Rattle.xrc_session.proofs.Counts.{line_quiet, ok_holds}
 use Rattle.xrc_session.proofs.Ended.{hearing}
 use Rattle.xrc_session.proofs.Hearing.{expected_stops, expects_start, hear_stops, leaves_heard, no_start}
 use Rattle.xrc_session.proofs.Leaves.{answered_keeps, answered_past, heard_keeps, heard_past}
@@ -130,6 +131,18 @@ returns-clause-counts g c =
     let e = g.P.Plant.state c.say_started.new.plant in
     let was : c.hear_start.result ≡ Ok c.in_ok-at.at = search rules in
     none_fell g.P.Plant.tells a b d e c.hear_start.ensures.only (hear_counted a.console_faults b.console_faults c.hear_start.result c.in_ok-at.at c.hear_start.ensures.cause was) c.set_up.ensures.works c.say_started.ensures.said.front.only c.say_started.ensures.said.cause.later
+
+pub returns-clause-quiet : goal.returns-clause-quiet
+returns-clause-quiet g c =
+    let a = g.P.Plant.state c.args.plant.now in
+    let b = g.P.Plant.state c.hear_start.new.plant in
+    let d = g.P.Plant.state c.set_up.new.plant in
+    let e = g.P.Plant.state c.say_started.new.plant in
+    let was : c.hear_start.result ≡ Ok c.in_ok-at.at = search rules in
+    let spoke : c.say_started.result ≡ Ok tt = search rules in
+    let said = c.say_started.ensures.said in
+    line_quiet g.P.Plant.tells a b d e c.hear_start.ensures.only (hear_counted a.console_faults b.console_faults c.hear_start.result c.in_ok-at.at c.hear_start.ensures.cause was) c.in_ok-started.ensures.quiet said.front.only
+    (ok_holds c.say_started.result tt (e.console_faults ≡ d.console_faults) spoke said.cause.ok)
 
 -- ---- what it leaves
 

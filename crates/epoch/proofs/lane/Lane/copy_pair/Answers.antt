@@ -7,6 +7,7 @@ use Rattle.epoch.specs.Lanes.{tracks_of}
 use Rattle.epoch.specs.Ends.{IsFullForCopy}
 use Rattle.epoch.proofs.CopySights.{copied_more, copied_none, moments_then, on_ok, shows_last}
 use Rattle.epoch.proofs.Frames.{keeps_here}
+use Rattle.epoch.proofs.KeptCounts.{quiet_here, quiet_then}
 use Rattle.epoch.proofs.KeptFrames.{keeps_next}
 use Rattle.epoch.proofs.Working.{silent_then}
 use Rattle.epoch.proofs.lane.Lane.copy_pair.Goals as goal
@@ -28,6 +29,7 @@ loop-first-init g c = record {
   stands = c.requires.stands;
   copied = copied_none g.P.Plant.tells c.args.row.now (track_of c.args.self.now.primary c.args.row.now.volume) c.args.self.now.primary.time c.args.site.now (g.P.Plant.state c.args.plant.now) c.requires.rows c.requires.state;
   others = λ told. let row = c.args.row.now in keeps_here c.args.site.now.at.set row.device (tracks_of row) (g.P.Plant.state c.args.plant.now);
+  quiet = λ none. quiet_here (g.P.Plant.state c.args.plant.now);
   counted = λ counted. counted;
 }
 
@@ -74,6 +76,7 @@ loop-first-preserved g c =
           (subst (λ (p : PrimaryState). g.P.Plant.tells → PartShows row c.loop-first.site.table.rows (track_of p row.volume) p.time part mid new) inv.primary ok.shows) ok.table ok.good;
       others = λ told.
           keeps_next g.P.Plant.tells told c.args.site.now.at.set c.loop-first.site.at.set row.device (tracks_of row) (g.P.Plant.state c.args.plant.now) mid new inv.copied.works each.works inv.set inv.others each.others;
+      quiet = λ none. quiet_then (g.P.Plant.state c.args.plant.now) mid new inv.copied.works.site (inv.quiet none) (ok.quiet (inv.copied.good none));
       counted = λ counted. ok.counted (inv.counted counted);
     }
 
@@ -142,3 +145,11 @@ returns-clause-unspent g c = λ counted. c.copy_part-2.ensures.unspent (c.loop-f
 
 pub returns-clause-counted : goal.returns-clause-counted
 returns-clause-counted g c = λ counted. c.copy_part-2.ensures.counted (c.loop-first.invariant.counted counted)
+
+pub returns-clause-quiet : goal.returns-clause-quiet
+returns-clause-quiet g c = λ none.
+    let old = g.P.Plant.state c.args.plant.now in
+    let mid = g.P.Plant.state c.loop-first.plant in
+    let new = g.P.Plant.state c.copy_part-2.new.plant in
+    let inv = c.loop-first.invariant in
+    on_ok c.copy_part-2.result _ _ (quiet_then old mid new inv.copied.works.site (inv.quiet none)) (c.copy_part-2.ensures.quiet (inv.copied.good none))

@@ -1,10 +1,12 @@
 use Rattle.std.proofs.Common.{◌≡◌, ◌≤◌, ◌-◌, ◌*◌, ℕ, []}
 use Rattle.primary_ctl.specs.States.{track_of}
+use Rattle.site_store.specs.Marking.{NoneFailed}
 use Rattle.site_store.specs.Standing.{Fits, Stands}
 use Rattle.epoch.specs.Counted.{IsCounted}
 use Rattle.epoch.specs.Frames.{KeepsOthers}
 use Rattle.epoch.specs.Lanes.{IsFeed, tracks_of}
 use Rattle.epoch.proofs.CopySights.{HasCopied}
+use Rattle.epoch.proofs.KeptCounts.{AreQuiet}
 use Rattle.epoch.proofs.lane.Lane.copy_pair.Given as goal
 
 -- the parts so far are copied
@@ -27,6 +29,7 @@ invariant-loop-first g l =
       stands : g.P.Plant.tells → Stands l.site.table.rows l.site (g.P.Plant.state l.plant);
       copied : HasCopied g.P.Plant.tells l.row (track_of begun.self.primary l.row.volume) begun.self.primary.time l.first begun.site l.site (g.P.Plant.state begun.plant) (g.P.Plant.state l.plant);
       others : g.P.Plant.tells → KeepsOthers begun.site.at.set l.row.device (tracks_of l.row) (g.P.Plant.state begun.plant) (g.P.Plant.state l.plant);
+      quiet : NoneFailed begun.site → AreQuiet (g.P.Plant.state begun.plant) (g.P.Plant.state l.plant);
       counted : IsCounted begun.site (g.P.Plant.state begun.plant) → IsCounted l.site (g.P.Plant.state l.plant);
     }
 

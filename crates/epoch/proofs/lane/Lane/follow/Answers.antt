@@ -13,6 +13,7 @@ use Rattle.epoch.specs.Following.{IsFollowing}
 use Rattle.epoch.specs.Lanes.{IsRowOf, tracks_of}
 use Rattle.epoch.specs.Taken.{FailsAsBefore, HasFailed, HasReached, HasTaken}
 use Rattle.epoch.proofs.Frames.{keeps_here}
+use Rattle.epoch.proofs.KeptCounts.{quiet_here, quiet_then}
 use Rattle.epoch.proofs.KeptFrames.{keeps_next}
 use Rattle.epoch.proofs.Reached.{reached_now}
 use Rattle.epoch.proofs.Steps.{holds_here, waits_none}
@@ -53,6 +54,7 @@ loop-batch-init g c =
       fails = λ limit upto later failed. failed;
       count = refl;
       good = λ none. none;
+      quiet = λ none. quiet_here (g.P.Plant.state c.args.plant.now);
       counted = λ counted. counted;
     }
 
@@ -131,6 +133,7 @@ loop-batch-preserved g c =
           (then_fails (g.S.Source.left c.args.source.now) told_now told_next first.side before.side side inv.fails (batch_fails told_now told_next before.side side before.side.control c.args.limit.0 c.in-Batch.batch (h.due lane.goes_on)));
       count = h.fault lane.goes_on ∙ inv.count;
       good = λ none. ok.good (inv.good none);
+      quiet = λ none. quiet_then old now next inv.works.site (inv.quiet none) (ok.quiet (inv.good none));
       counted = λ counted. ok.counted (inv.counted counted);
     }
 
@@ -328,6 +331,11 @@ returns-in_err-keep_waiting-in-AtLimit-clause-unspent g c = λ counted is.
 
 pub returns-in-AtLimit-clause-counted : goal.returns-in-AtLimit-clause-counted
 returns-in-AtLimit-clause-counted g c = λ counted. c.in_ok-keep_waiting-in-AtLimit.ensures.counted (c.loop-batch.invariant.counted counted)
+
+pub returns-in-AtLimit-clause-quiet : goal.returns-in-AtLimit-clause-quiet
+returns-in-AtLimit-clause-quiet g c = λ none.
+    let inv = c.loop-batch.invariant in
+    quiet_then (g.P.Plant.state c.args.plant.now) (g.P.Plant.state c.loop-batch.plant) (g.P.Plant.state c.keep_waiting.new.plant) inv.works.site (inv.quiet none) (c.in_ok-keep_waiting-in-AtLimit.ensures.quiet (inv.good none))
 
 -- ---- a break, and the want of memory
 

@@ -11,6 +11,7 @@ use Rattle.epoch.specs.Lanes.{IsLane, Waits, tracks_of}
 use Rattle.epoch.specs.Sights.{EachIs}
 use Rattle.epoch.specs.Taken.{HasTaken, FailsAsBefore}
 use Rattle.epoch.specs.Works.{WorksSilently}
+use Rattle.epoch.proofs.KeptCounts.{AreQuiet}
 use Rattle.epoch.proofs.TraceWaits.{WaitsOf}
 use Rattle.epoch.proofs.lane.Lane.follow.Given as goal
 
@@ -44,6 +45,7 @@ invariant-loop-batch g l =
       fails : FailsAsBefore (g.S.Source.left l.initial.source) (g.S.Source.left l.source) first.side l.self.side;
       count : g.S.Source.faults l.source ≡ g.S.Source.faults l.initial.source;
       good : NoneFailed l.initial.site → NoneFailed l.site;
+      quiet : NoneFailed l.initial.site → AreQuiet old now;
       counted : IsCounted l.initial.site old → IsCounted l.site now;
     }
 
