@@ -5,4 +5,3 @@ pub mod Writing
 pub mod Contents
 pub mod Going
 pub mod Volumes
-pub mod Low

@@ -5,6 +5,3 @@ mod applying;
 
 pub use applying::apply_volume;
 pub use xrc_journal::VolumeJob;
-
-#[cfg(test)]
-mod tests;

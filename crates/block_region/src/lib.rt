@@ -12,6 +12,3 @@ pub use laws::{
     none_are_out, taken_chains_are_out, takes_keep_chains,
 };
 pub use region::Region;
-
-#[cfg(test)]
-mod tests;

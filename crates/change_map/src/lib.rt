@@ -9,6 +9,3 @@ mod words;
 
 pub use laws::{changes_keep_length, least_is_least, sets_have_their_tracks, sizes_follow_changes};
 pub use map::ChangeMap;
-
-#[cfg(test)]
-mod tests;

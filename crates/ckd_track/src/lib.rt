@@ -25,8 +25,3 @@ pub use rec::{Rec, RecList};
 pub use slot::Slot;
 pub use track::Track;
 pub use write::{Batch, Cause, Kind, Write, WriteList};
-
-#[cfg(test)]
-mod effect_tests;
-#[cfg(test)]
-mod tests;

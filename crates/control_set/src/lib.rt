@@ -15,6 +15,3 @@ pub use laws::{
 };
 pub use marking::mark;
 pub use value::Mark;
-
-#[cfg(test)]
-mod tests;

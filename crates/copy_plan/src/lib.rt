@@ -4,6 +4,3 @@
 mod plan;
 
 pub use plan::CopyPlan;
-
-#[cfg(test)]
-mod tests;

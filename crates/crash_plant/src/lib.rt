@@ -3,8 +3,6 @@
 
 mod clock;
 mod console;
-#[cfg(test)]
-mod crash_tests;
 mod device;
 mod disk;
 mod entry;
@@ -24,8 +22,6 @@ mod plain_plant;
 mod plant;
 mod shelf;
 mod spot;
-#[cfg(test)]
-mod tests;
 mod turn;
 
 pub use device::{Device, Heard};

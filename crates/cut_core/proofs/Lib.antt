@@ -14,4 +14,3 @@ pub mod Plain
 pub mod Maps
 pub mod Steps
 pub mod Stands
-pub mod Rows

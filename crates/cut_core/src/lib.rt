@@ -14,6 +14,3 @@ pub use laws::{
     cut_theorem, each_entry_once, least_floors_are_cuts, maps_hold, movers_events_keep_floors,
     shares_wait,
 };
-
-#[cfg(test)]
-mod tests;

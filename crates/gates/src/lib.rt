@@ -5,6 +5,3 @@
 mod gate;
 
 pub use gate::{close_gate, put_behind_gate, put_down};
-
-#[cfg(test)]
-mod tests;

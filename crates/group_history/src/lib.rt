@@ -8,6 +8,3 @@ pub mod vectors;
 pub use laws::{
     forms_give_groups, resumes_owe_mapped, runs_are_histories, runs_keep_to_cuts, sizes_are_told,
 };
-
-#[cfg(test)]
-mod tests;

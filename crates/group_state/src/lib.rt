@@ -14,6 +14,3 @@ mod volumes;
 pub use joining::{CopyJoin, Forming, Joining};
 pub use laws::nothing_changes;
 pub use state::GroupState;
-
-#[cfg(test)]
-mod tests;

@@ -7,4 +7,3 @@ pub mod Bodying
 pub mod OneEntry
 pub mod AllEntries
 pub mod Writes
-pub mod Low

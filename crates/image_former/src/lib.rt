@@ -8,6 +8,3 @@ mod tracks;
 
 pub use forming::form_body;
 pub use laws::kinds_of_entries;
-
-#[cfg(test)]
-mod tests;

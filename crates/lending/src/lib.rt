@@ -7,6 +7,3 @@ mod loans;
 pub use laws::volumes_stay_out;
 pub use loans::{give_back_all, lend_all};
 pub use xrc_journal::VolumeJob;
-
-#[cfg(test)]
-mod tests;

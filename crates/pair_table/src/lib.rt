@@ -20,6 +20,3 @@ pub use laws::{
 pub use level::Level;
 pub use row::{PairRow, PairState, SuspendCause};
 pub use table::PairTable;
-
-#[cfg(test)]
-mod tests;

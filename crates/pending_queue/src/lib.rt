@@ -21,6 +21,3 @@ pub use laws::{
 };
 pub use queue::Queue;
 pub use room::{PushError, Room};
-
-#[cfg(test)]
-mod tests;

@@ -7,6 +7,3 @@ mod primary;
 
 pub use laws::{batches_make_the_primary, own_writes_decide};
 pub use primary::Primary;
-
-#[cfg(test)]
-mod tests;

@@ -6,8 +6,6 @@ mod hearing;
 mod laws;
 mod line_end;
 mod line_text;
-#[cfg(test)]
-mod tests;
 
 pub use asking::asked_line;
 pub use hearing::hear_line;

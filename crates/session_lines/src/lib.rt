@@ -7,8 +7,6 @@ mod hearing;
 mod laws;
 mod named_pair;
 mod replies;
-#[cfg(test)]
-mod tests;
 
 pub use behind::expect_nothing;
 pub use hearing::{hear_end, hear_pair, hear_start};

@@ -16,6 +16,3 @@ pub use laws::{
     trace_up_to_a_fault,
 };
 pub use sidefile::Sidefile;
-
-#[cfg(test)]
-mod tests;

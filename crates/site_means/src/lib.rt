@@ -20,6 +20,3 @@ pub use laws::{
 pub use lengths::longest_body;
 pub use means::Means;
 pub use site_error::SiteError;
-
-#[cfg(test)]
-mod tests;

@@ -32,4 +32,3 @@ pub mod Wanted
 pub mod RecordAnswers
 pub mod BreakTimes
 pub mod Formatted
-pub mod PairAdded

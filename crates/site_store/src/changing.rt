@@ -117,6 +117,3 @@ impl<V> Site<V> {
         }
     }
 }
-
-#[cfg(test)]
-mod tests;

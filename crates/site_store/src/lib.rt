@@ -17,8 +17,4 @@ pub use site::Site;
 pub use store_error::StoreError;
 
 #[cfg(test)]
-mod log_tests;
-#[cfg(test)]
-mod refusal_tests;
-#[cfg(test)]
-mod tests;
+mod spent_tests;

@@ -11,6 +11,3 @@ pub mod vectors;
 pub use laws::{others_are_not_read, states_are_spelled, states_read_back, zeros_hold_none};
 pub use slots::{get, put};
 pub use state_error::StateError;
-
-#[cfg(test)]
-mod tests;

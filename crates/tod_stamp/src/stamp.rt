@@ -76,36 +76,3 @@ fn hex_value(byte: u8) -> Option<u8>
         _ => None,
     }
 }
-
-#[cfg(test)]
-mod tests {
-    use super::*;
-
-    #[test]
-    fn texts_have_sixteen_digits(rt: HostRuntime) {
-        assert_eq!(rt; Stamp(0x64).text(), *b"0000000000000064");
-        assert_eq!(rt; Stamp(0x0123_4567_89AB_CDEF).text(), *b"0123456789ABCDEF");
-        assert_eq!(rt; Stamp(u64::MAX).text(), *b"FFFFFFFFFFFFFFFF");
-    }
-
-    #[test]
-    fn digits_of_either_case_are_read(rt: HostRuntime) {
-        assert_eq!(rt; Stamp::read(b"0000000000000064"), Ok(Stamp(0x64)));
-        assert_eq!(rt; Stamp::read(b"00000000000000aB"), Ok(Stamp(171)));
-        assert_eq!(rt; Stamp::read(b"ffffffffffffffff"), Ok(Stamp(u64::MAX)));
-    }
-
-    #[test]
-    fn other_bytes_are_refused_at_their_place(rt: HostRuntime) {
-        assert_eq!(rt; Stamp::read(b"64"), Err(StampError::Length));
-        assert_eq!(rt; Stamp::read(b"00000000000000064"), Err(StampError::Length));
-        assert_eq!(rt;
-            Stamp::read(b"000000000000006G"),
-            Err(StampError::NotHex(15))
-        );
-        assert_eq!(rt;
-            Stamp::read(b"@0000000:0000064"),
-            Err(StampError::NotHex(0))
-        );
-    }
-}

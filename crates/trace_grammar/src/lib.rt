@@ -14,6 +14,3 @@ pub use laws::{
     headers_read_back, traces_are_found,
 };
 pub use trace::{HeaderError, Trace, TraceEnd};
-
-#[cfg(test)]
-mod tests;

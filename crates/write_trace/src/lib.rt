@@ -21,8 +21,3 @@ pub use trace_grammar::{
     VolumeList,
 };
 pub use writer::TraceWriter;
-
-#[cfg(test)]
-mod large_tests;
-#[cfg(test)]
-mod tests;

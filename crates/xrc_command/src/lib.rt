@@ -21,6 +21,3 @@ mod parts;
 
 pub use laws::lines_are_told_apart;
 pub use line::{Line, read_line};
-
-#[cfg(test)]
-mod tests;

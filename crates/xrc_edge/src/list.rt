@@ -96,25 +96,3 @@ impl<T> List<T> {
         self.items.as_slice()
     }
 }
-
-#[cfg(test)]
-mod tests {
-    use super::*;
-    use std::test::Fail;
-
-    #[test]
-    fn a_list_grows_at_its_end(rt: HostRuntime) -> Result<(), Fail> {
-        let alloc = rt.alloc();
-        let mut bytes = Bytes::make(alloc);
-        assert!(rt; bytes.is_empty());
-        bytes.push(alloc, b'a')?;
-        bytes.extend_from_slice(alloc, b"bcd")?;
-        assert_eq!(rt; bytes.as_slice(), b"abcd".as_slice());
-        assert_eq!(rt; bytes.len(), 4);
-        assert_eq!(rt; bytes.get(3), Some(&b'd'));
-        assert_eq!(rt; bytes.get(4), None);
-        bytes.truncate(2);
-        assert_eq!(rt; bytes.as_slice(), b"ab".as_slice());
-        Ok(())
-    }
-}

@@ -14,5 +14,4 @@ pub mod Scans
 pub mod Fronts
 pub mod Fills
 pub mod Spots
-pub mod Ends
 pub mod Told

@@ -24,10 +24,3 @@ pub use laws::{
 };
 pub use reading::{BodyItem, first_item};
 pub use spot::{WalkError, Walked, walk};
-
-#[cfg(test)]
-mod append_tests;
-#[cfg(test)]
-mod reading_tests;
-#[cfg(test)]
-mod tests;

@@ -6,8 +6,6 @@ mod lines;
 mod recovery;
 mod reporting;
 mod stops;
-#[cfg(test)]
-mod tests;
 
 pub use command::recover_site;
 pub use recovery::run_recover;

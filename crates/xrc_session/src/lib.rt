@@ -9,8 +9,6 @@ mod pairing;
 mod run;
 mod starting;
 mod stops;
-#[cfg(test)]
-mod tests;
 
 pub use laws::{one_row_is_asked, one_session_is_asked};
 pub use run::run_script;

@@ -5,8 +5,6 @@ mod line;
 mod say;
 mod status;
 mod stop;
-#[cfg(test)]
-mod tests;
 
 pub use line::Line;
 pub use say::{say_text, say_three};

@@ -13,6 +13,3 @@ pub use device_list::DeviceList;
 pub use outcome::Outcome;
 pub use recover_error::RecoverError;
 pub use recovering::recover;
-
-#[cfg(test)]
-mod tests;

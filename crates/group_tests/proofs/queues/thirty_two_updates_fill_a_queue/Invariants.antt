@@ -1,0 +1,10 @@
+use Rattle.std.proofs.Common.{◌≡◌, ◌≤◌}
+use Rattle.pending_queue.specs.Entries.{last_stamp}
+use Rattle.group_tests.proofs.queues.thirty_two_updates_fill_a_queue.Given as goal
+
+abbrev pub invariant-loop-track : goal.invariant-loop-track
+invariant-loop-track g l = record {
+  last : last_stamp l.queue.waiting ≤ 9;
+  control : l.queue.control ≡ 0;
+  records : l.queue.records ≡ 32;
+}

@@ -1,0 +1,321 @@
+//! Worked runs of the shared state, with ample memory.
+
+ghost use Rattle.std.specs.Prelude.{◌≡◌, ◌<◌, ◌≤◌, ◌∷◌, [], length, IfOk, IsTrue};
+ghost use Rattle.pending_queue.specs.Entries.{all_keep_rules};
+ghost use Rattle.group_state.specs.Groups.{control_at};
+ghost use Rattle.group_state.specs.Sound.{MayJoin, MayCarry};
+ghost use Rattle.group_state.specs.Machine.{after};
+ghost use Rattle.group_state.specs.Machine.Call.{Join, Copied, Form, Carry};
+ghost use Rattle.group_history.specs.Runs.{MayCopy};
+ghost use Rattle.group_state.specs.Vectors.{whole_on, batch, none_wanted, both_wanted, update_of};
+
+use crate::fixtures::{batch_of, filled, one_write, slot_of_one, whole};
+use change_map::ChangeMap;
+use ckd_track::{Batch, Cause, Kind, Slot, Write, WriteList};
+use copy_plan::CopyPlan;
+use group_state::{CopyJoin, Forming, GroupState, Joining};
+use pending_queue::{Formed, Room};
+use std::alloc::Global;
+use std::process::Abort;
+use std::test::Fail;
+use tod_stamp::Stamp;
+use xrc_edge::NoMemory;
+
+/// Joins a batch that fits.
+fn join(rt: &impl Abort, alloc: Global, state: &mut GroupState, batch: Batch)
+    requires control { batch.control < length state.old.controls }
+    requires rules { IsTrue (all_keep_rules batch.writes) }
+    requires legal { MayJoin (control_at state.old batch.control) batch }
+    ensures { state.new ≡ after state.old (Join batch) }
+{
+    let joined = state.join(alloc, batch);
+    assert!(rt; matches!(&joined, Joining::Joined));
+}
+
+/// Volume 0 of a control begins to be carried with a plan of two tracks that wants none.
+fn carry(alloc: Global, state: &mut GroupState, control: u16) -> Result<(), NoMemory>
+    requires control { control < length state.old.controls }
+    requires may { MayCarry (control_at state.old control) 0 none_wanted }
+    ensures { IfOk result (λ done. state.new ≡ after state.old (Carry control 0 none_wanted)) }
+{
+    let plan = CopyPlan::owed(ChangeMap::make(alloc, 2)?);
+    state.carry(alloc, control, 0, plan, ChangeMap::make(alloc, 2)?)
+}
+
+/// Forms a group, which has a cut.
+fn form(rt: &impl Abort, alloc: Global, state: &mut GroupState, limit: u64, out: &mut Formed)
+    requires limit { state.old.last.0 ≤ limit }
+    requires room { length state.old.controls ≤ out.old.controls }
+    ensures state { state.new ≡ after state.old (Form (record { 0 = limit })) }
+    ensures room { out.new.controls ≡ out.old.controls }
+{
+    let formed = state.form(alloc, Stamp(limit), out);
+    assert_eq!(rt; formed, Forming::Formed);
+}
+
+/// The cut that a form took, and control and track of each entry that it gave.
+fn assert_shown(rt: &impl Abort, out: &Formed, cut: u64, shown: &[(u16, u32)]) {
+    assert_eq!(rt;
+        (out.cut(), out.count() as usize),
+        (Stamp(cut), shown.len())
+    );
+    for place in 0..out.count() {
+        let head = out.head(place);
+        assert_eq!(rt;
+            Some(&(head.control, head.track)),
+            shown.get(place as usize)
+        );
+    }
+}
+
+/// A batch of an update of 495 bytes, which needs two blocks.
+fn long_update(alloc: Global) -> Result<Batch, NoMemory>
+    ensures { IfOk result (λ made. made ≡ batch 0 (update_of 495 9 ∷ []) 9) }
+{
+    let kind = Kind::Update {
+        number: 1,
+        bytes: filled(alloc, 495)?,
+    };
+    let write = Write {
+        volume: 0,
+        track: 0,
+        stamp: Stamp(9),
+        kind,
+    };
+    batch_of(alloc, 0, write, 9)
+}
+
+/// A volume of control 0 begins to be carried with a plan that wants both of its tracks.
+fn carry_wanted(alloc: Global, state: &mut GroupState, volume: u16) -> Result<(), NoMemory>
+    requires control { 0 < length state.old.controls }
+    requires may { MayCarry (control_at state.old 0) volume both_wanted }
+    ensures { IfOk result (λ done. state.new ≡ after state.old (Carry 0 volume both_wanted)) }
+{
+    let plan = CopyPlan::first(alloc, 2)?;
+    state.carry(alloc, 0, volume, plan, ChangeMap::make(alloc, 2)?)
+}
+
+/// A wanted track of control 0 that fits is copied at the floor.
+fn copy(
+    rt: &impl Abort,
+    alloc: Global,
+    state: &mut GroupState,
+    volume: u16,
+    track: u32,
+    at: u64,
+    slot: &Slot,
+)
+    requires control { 0 < length state.old.controls }
+    requires may { MayCopy (control_at state.old 0) volume track (record { 0 = at }) }
+    ensures { state.new ≡ after state.old (Copied 0 volume track (record { 0 = at }) slot.now) }
+{
+    let copied = state.copied(alloc, 0, volume, track, Stamp(at), slot);
+    assert_eq!(rt; copied, CopyJoin::Joined);
+}
+
+/// A batch of three writes that empty tracks.
+fn three_writes(alloc: Global) -> Result<Batch, NoMemory>
+    ensures { IfOk result (λ made. made ≡ batch 0 (whole_on 0 0x10 ∷ whole_on 1 0x11 ∷ whole_on 0 0x12 ∷ []) 0x12) }
+{
+    let mut writes = WriteList::make(alloc);
+    writes.push(alloc, whole(alloc, 0, 0x10))?;
+    writes.push(alloc, whole(alloc, 1, 0x11))?;
+    writes.push(alloc, whole(alloc, 0, 0x12))?;
+    Ok(Batch {
+        control: 0,
+        writes,
+        upto: Stamp(0x12),
+    })
+}
+
+/// The slower control holds the cut back.
+#[test]
+fn the_cut_follows_the_slower_control(rt: HostRuntime) -> Result<(), Fail> {
+    let alloc = rt.alloc();
+    let mut state = GroupState::make(alloc, 2, 32, 3_552)?;
+    let mut out = Formed::make(alloc, 2)?;
+    carry(alloc, &mut state, 0)?;
+    join(&rt, alloc, &mut state, one_write(alloc, 0, 0, 0x10, 0x1F)?);
+    join(&rt, alloc, &mut state, one_write(alloc, 0, 1, 0x20, 0x40)?);
+    state.raise(1, Stamp(0x15));
+    form(&rt, alloc, &mut state, 0x40, &mut out);
+    assert_shown(&rt, &out, 0x15, &[(0, 0)]);
+    state.raise(1, Stamp(0x40));
+    form(&rt, alloc, &mut state, 0x40, &mut out);
+    assert_shown(&rt, &out, 0x40, &[(0, 1)]);
+    Ok(())
+}
+
+/// A batch of two blocks is held where one is free, and joins where two are.
+#[test]
+fn a_batch_is_held_by_its_blocks(rt: HostRuntime) -> Result<(), Fail> {
+    let alloc = rt.alloc();
+    let mut one = GroupState::make(alloc, 1, 2, 1)?;
+    carry(alloc, &mut one, 0)?;
+    let held = one.join(alloc, long_update(alloc)?);
+    assert!(rt;
+        matches!(
+            &held,
+            Joining::Held {
+                room: Room {
+                    records: 2,
+                    blocks: 1
+                },
+                ..
+            }
+        )
+    );
+    let mut two = GroupState::make(alloc, 1, 2, 2)?;
+    carry(alloc, &mut two, 0)?;
+    join(&rt, alloc, &mut two, long_update(alloc)?);
+    Ok(())
+}
+
+/// A track that isn't wanted is stale, and takes no room.
+#[test]
+fn a_copied_track_that_is_not_wanted_is_stale(rt: HostRuntime) -> Result<(), Fail> {
+    let alloc = rt.alloc();
+    let mut state = GroupState::make(alloc, 1, 1, 1)?;
+    let slot = Slot::make(alloc)?;
+    carry(alloc, &mut state, 0)?;
+    let copied = state.copied(alloc, 0, 0, 1, Stamp(0), &slot);
+    assert_eq!(rt; copied, CopyJoin::Stale);
+    join(&rt, alloc, &mut state, one_write(alloc, 0, 0, 9, 9)?);
+    Ok(())
+}
+
+/// The second copied track is held where one record is all the room.
+#[test]
+fn a_copied_track_is_held_without_room(rt: HostRuntime) -> Result<(), Fail> {
+    let alloc = rt.alloc();
+    let mut state = GroupState::make(alloc, 1, 1, 1)?;
+    let slot = Slot::make(alloc)?;
+    carry_wanted(alloc, &mut state, 0)?;
+    let first = state.next_wanted(0);
+    copy(&rt, alloc, &mut state, 0, 0, 0, &slot);
+    let second = state.next_wanted(0);
+    let copied = state.copied(alloc, 0, 0, 1, Stamp(0), &slot);
+    let none = Room {
+        records: 0,
+        blocks: 0,
+    };
+    assert_eq!(rt;
+        (first, second, copied),
+        (Some((0, 0)), Some((0, 1)), CopyJoin::Held(none))
+    );
+    Ok(())
+}
+
+/// What waited at a drop and what is written before the resume is wanted then, and copied.
+#[test]
+fn a_resumed_volume_copies_what_was_written(rt: HostRuntime) -> Result<(), Fail> {
+    let alloc = rt.alloc();
+    let mut state = GroupState::make(alloc, 1, 32, 3_552)?;
+    let mut out = Formed::make(alloc, 1)?;
+    let slot = Slot::make(alloc)?;
+    carry(alloc, &mut state, 0)?;
+    join(&rt, alloc, &mut state, one_write(alloc, 0, 0, 0x10, 0x10)?);
+    state.drop_volume(0, 0, false);
+    join(&rt, alloc, &mut state, one_write(alloc, 0, 1, 0x20, 0x20)?);
+    let owed = state.resume(0, 0);
+    copy(&rt, alloc, &mut state, 0, 0, 0x20, &slot);
+    let second = state.next_wanted(0);
+    copy(&rt, alloc, &mut state, 0, 1, 0x20, &slot);
+    form(&rt, alloc, &mut state, 0x20, &mut out);
+    assert_shown(&rt, &out, 0x20, &[(0, 0), (0, 1)]);
+    assert_eq!(rt;
+        (owed, second, out.done_at(0)),
+        (2, Some((0, 1)), Some((0, 0)))
+    );
+    Ok(())
+}
+
+/// Entries of one stamp stand by control, in whichever order they were joined.
+#[test]
+fn entries_of_one_stamp_stand_by_control(rt: HostRuntime) -> Result<(), Fail> {
+    let alloc = rt.alloc();
+    let mut state = GroupState::make(alloc, 4, 32, 3_552)?;
+    let mut out = Formed::make(alloc, 4)?;
+    carry(alloc, &mut state, 0)?;
+    carry(alloc, &mut state, 1)?;
+    carry(alloc, &mut state, 2)?;
+    carry(alloc, &mut state, 3)?;
+    join(&rt, alloc, &mut state, one_write(alloc, 3, 0, 9, 9)?);
+    join(&rt, alloc, &mut state, one_write(alloc, 1, 1, 9, 9)?);
+    join(&rt, alloc, &mut state, one_write(alloc, 0, 1, 9, 9)?);
+    join(&rt, alloc, &mut state, one_write(alloc, 2, 0, 9, 9)?);
+    form(&rt, alloc, &mut state, 9, &mut out);
+    assert_shown(&rt, &out, 9, &[(0, 1), (1, 1), (2, 0), (3, 0)]);
+    Ok(())
+}
+
+/// A break is reported once, with the form whose cut is its time, below the limit and at it.
+#[test]
+fn a_break_is_reported_once(rt: HostRuntime) -> Result<(), Fail> {
+    let alloc = rt.alloc();
+    let mut state = GroupState::make(alloc, 2, 32, 3_552)?;
+    let mut out = Formed::make(alloc, 2)?;
+    state.broken(0, Stamp(0x40), Cause::ReadFault);
+    state.broken(1, Stamp(0x15), Cause::ReadFault);
+    form(&rt, alloc, &mut state, 0x40, &mut out);
+    let first = (out.cut(), out.break_at(0), out.break_at(1));
+    form(&rt, alloc, &mut state, 0x40, &mut out);
+    let second = (out.cut(), out.break_at(0), out.break_at(1));
+    form(&rt, alloc, &mut state, 0x50, &mut out);
+    let third = (out.cut(), out.break_at(0), out.break_at(1));
+    let slower = Some((1, Stamp(0x15), Cause::ReadFault));
+    let faster = Some((0, Stamp(0x40), Cause::ReadFault));
+    assert_eq!(rt;
+        [first, second, third],
+        [
+            (Stamp(0x15), slower, None),
+            (Stamp(0x40), faster, None),
+            (Stamp(0x50), None, None),
+        ]
+    );
+    Ok(())
+}
+
+/// One form has all writes of a batch on one volume, the copied track of another, and two breaks at one time.
+#[test]
+fn two_volumes_and_two_breaks(rt: HostRuntime) -> Result<(), Fail> {
+    let alloc = rt.alloc();
+    let mut state = GroupState::make(alloc, 3, 32, 3_552)?;
+    let mut out = Formed::make(alloc, 3)?;
+    let slot = slot_of_one(&rt, alloc, 3)?;
+    carry(alloc, &mut state, 0)?;
+    carry_wanted(alloc, &mut state, 1)?;
+    join(&rt, alloc, &mut state, three_writes(alloc)?);
+    let first = state.next_wanted(0);
+    state.broken(1, Stamp(0x12), Cause::ReadFault);
+    state.broken(2, Stamp(0x12), Cause::ReadFault);
+    copy(&rt, alloc, &mut state, 1, 0, 0x12, &slot);
+    let second = state.next_wanted(0);
+    form(&rt, alloc, &mut state, 0x40, &mut out);
+    assert_eq!(rt;
+        (state.controls(), first, second),
+        (3, Some((1, 0)), Some((1, 1)))
+    );
+    assert_shown(&rt, &out, 0x12, &[(0, 0), (0, 1), (0, 0), (0, 0)]);
+    assert!(rt; out.count() == 4);
+    assert!(rt; 15 < out.entry(3).len());
+    assert_eq!(rt;
+        (out.head(2).volume, out.head(3).volume, &out.entry(3)[15..]),
+        (0, 1, slot.bytes())
+    );
+    let breaks = [out.break_at(0), out.break_at(1), out.break_at(2)];
+    let broken = Stamp(0x12);
+    assert_eq!(rt;
+        (breaks, out.done_at(0), out.done_at(1)),
+        (
+            [
+                Some((1, broken, Cause::ReadFault)),
+                Some((2, broken, Cause::ReadFault)),
+                None,
+            ],
+            Some((0, 0)),
+            None
+        )
+    );
+    Ok(())
+}

@@ -1,5 +1,0 @@
-use Rattle.lending.specs.Out.{AreWorkedOn}
-use Rattle.lending.proofs.tests.work_all.Given as goal
-
-abbrev pub invariant-loop-job : goal.invariant-loop-job
-invariant-loop-job g l = AreWorkedOn g.D.Disk.tells g.D.Disk.state l.initial.jobs l.jobs

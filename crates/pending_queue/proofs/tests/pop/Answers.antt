@@ -1,6 +1,0 @@
-use Rattle.std.proofs.Common.{arith}
-use Rattle.pending_queue.proofs.EntryLaws.{due_within}
-use Rattle.pending_queue.proofs.tests.pop.Goals as goal
-
-pub pop_upto-requires : goal.pop_upto-requires
-pop_upto-requires g c = record { room = omega (arith, due_within (record { 0 = c.args.cut }) c.args.queue.now.waiting, c.free-free.ensures.records) }

@@ -1,5 +1,0 @@
-use Rattle.std.proofs.Common.{◌≤◌}
-use Rattle.sidefile.proofs.tests.hands_are.Given as goal
-
-abbrev pub invariant-loop-limit : goal.invariant-loop-limit
-invariant-loop-limit l = l.side.upto ≤ l.last

@@ -1,0 +1,4 @@
+mod LowItems
+mod LowEntries
+mod PairAdded
+mod PutRow

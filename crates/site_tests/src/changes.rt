@@ -1,0 +1,220 @@
+//! The records of changes of every kind, byte for byte, on a plant that tells no bytes.
+
+ghost use Rattle.std.specs.Prelude.{◌≡◌, ◌≤◌, [], vec_len, IfOk, OnOk};
+ghost use Rattle.crash_plant.specs.Calls.{NoneLent};
+ghost use Rattle.site_store.specs.Changes.{named};
+ghost use Rattle.site_store.specs.Standing.{Fits};
+
+use crate::fixtures::{JOURNAL, PAIR, first_row, read, second_row};
+use crate::sites::start;
+use crash_plant::{Device, FileDisk, FilePlant, Plant};
+use pair_table::{Change, DeviceList, PairRow, PairState, SuspendCause};
+use site_store::{Site, StoreError};
+use std::alloc::Global;
+use std::fs::{self, File, OpenOptions};
+use std::io;
+use std::process::Abort;
+use std::rt::Files;
+use tod_stamp::Stamp;
+
+/// The item of PRIM02 and SEC002, control 0, volume 1, device 5, two cylinders, suspended by a command since 80.
+const SECOND: [u8; 31] = [
+    3, 0x50, 0x52, 0x49, 0x4D, 0x30, 0x32, 0x53, 0x45, 0x43, 0x30, 0x30, 0x32, 0, 0, 0, 1, 0, 5, 0,
+    2, 3, 1, 0, 0, 0, 0, 0, 0, 0, 0x80,
+];
+
+/// The place in the journal of the last byte of the length of the second record's items, behind a record of 25 bytes.
+const ITEMS: u64 = 46;
+
+/// What stands from there on.
+type Tail = [u8; 64];
+
+/// The length of these items, they themselves, and zeros.
+fn tail(rt: &impl Abort, items: &[u8]) -> Tail {
+    let mut tail = [0; 64];
+    assert!(rt; items.len() <= 63);
+    tail[0] = items.len() as u8;
+    tail[1..1 + items.len()].copy_from_slice(items);
+    tail
+}
+
+/// Puts a row whose device has its slots.
+fn put<P: Plant>(
+    rt: &impl Abort,
+    alloc: Global,
+    site: &mut Site<P::Volume>,
+    plant: &P,
+    row: PairRow,
+)
+    requires idle { site.old.waiting ≡ [] }
+    requires fits { Fits site.old (P.state plant.now) }
+    ensures idle { site.new.waiting ≡ [] }
+    ensures fits { Fits site.new (P.state plant.now) }
+{
+    assert!(rt; site.table().may_put(&row));
+    assert!(rt; row.device < plant.volumes());
+    let size = plant.length(Device::Volume(row.device));
+    assert!(rt; 512 + u64::from(row.cylinders) * 860_160 <= size);
+    site.put_row(alloc, row).expect(rt, "memory");
+}
+
+/// Logs a change at the time 60.
+fn log<P: Plant>(
+    rt: &impl Abort,
+    alloc: Global,
+    site: &mut Site<P::Volume>,
+    plant: &mut P,
+    change: &Change,
+) -> Result<(), StoreError>
+    requires mute { ¬ P.tells }
+    requires few { named change.now ≤ 3 }
+    requires idle { site.old.waiting ≡ [] }
+    requires fits { Fits site.old (P.state plant.old) }
+    ensures idle { OnOk result (site.new.waiting ≡ []) }
+    ensures fits { OnOk result (Fits site.new (P.state plant.new)) }
+{
+    assert!(rt; site.time().0 <= 0x60);
+    site.log_change(alloc, plant, Stamp(0x60), change)
+}
+
+/// What a change's record holds, where two rows stand in the table, behind the record of another change: that the row of device
+/// 1234 goes.
+fn record_of<P: Plant>(rt: &impl Abort, alloc: Global, plant: &mut P, change: &Change) -> Tail
+    requires home { NoneLent (P.state plant.old) }
+    requires mute { ¬ P.tells }
+    requires few { named change.now ≤ 3 }
+{
+    let mut site = start(rt, alloc, plant).expect(rt, "a site");
+    let first = first_row(rt, 0, PairState::Duplex);
+    put(rt, alloc, &mut site, plant, first);
+    let suspended = PairState::Suspended {
+        cause: SuspendCause::Command,
+        since: Stamp(0x80),
+    };
+    let second = second_row(rt, 1, 5, 2, suspended);
+    put(rt, alloc, &mut site, plant, second);
+    let others = devices(rt, alloc, &[0x1234]);
+    assert!(rt; others.len() <= 3);
+    let gone = Change::Gone(others);
+    log(rt, alloc, &mut site, plant, &gone).expect(rt, "a record");
+    log(rt, alloc, &mut site, plant, change).expect(rt, "a record");
+    read(rt, plant, Device::Journal(0), ITEMS)
+}
+
+fn devices(rt: &impl Abort, alloc: Global, numbers: &[u16]) -> DeviceList {
+    let mut devices = DeviceList::make(alloc);
+    devices
+        .extend_from_slice(alloc, numbers)
+        .expect(rt, "memory");
+    devices
+}
+
+const FILES: [&str; 12] = [
+    "change.control",
+    "change.state",
+    "change.journal.0",
+    "change.journal.1",
+    "change.volume.0",
+    "change.volume.1",
+    "change.volume.2",
+    "change.volume.3",
+    "change.volume.4",
+    "change.volume.5",
+    "change.script",
+    "change.said",
+];
+
+fn open<R: Files<File = File>>(rt: &R, name: &str, length: u64) -> io::Result<File> {
+    let file = OpenOptions::new()
+        .read(true)
+        .write(true)
+        .create(true)
+        .truncate(true)
+        .open(rt, name)?;
+    file.set_len(length)?;
+    Ok(file)
+}
+
+fn open_disk<R: Files<File = File>>(rt: &R, name: &str, length: u64) -> io::Result<FileDisk> {
+    Ok(FileDisk::new(open(rt, name, length)?, length))
+}
+
+fn open_journals<R: Files<File = File>>(rt: &R, alloc: Global) -> io::Result<Vec<FileDisk>>
+    ensures { IfOk result (λ disks. vec_len disks ≡ 2) }
+{
+    let mut disks = Vec::new(alloc);
+    disks.push(open_disk(rt, FILES[2], JOURNAL)?)?;
+    disks.push(open_disk(rt, FILES[3], JOURNAL)?)?;
+    Ok(disks)
+}
+
+/// Six volumes of two cylinders.
+fn open_volumes<R: Files<File = File>>(rt: &R, alloc: Global) -> io::Result<Vec<FileDisk>>
+    ensures { IfOk result (λ disks. vec_len disks ≡ 6) }
+{
+    let mut disks = Vec::new(alloc);
+    disks.push(open_disk(rt, FILES[4], 1_720_832)?)?;
+    disks.push(open_disk(rt, FILES[5], 1_720_832)?)?;
+    disks.push(open_disk(rt, FILES[6], 1_720_832)?)?;
+    disks.push(open_disk(rt, FILES[7], 1_720_832)?)?;
+    disks.push(open_disk(rt, FILES[8], 1_720_832)?)?;
+    disks.push(open_disk(rt, FILES[9], 1_720_832)?)?;
+    Ok(disks)
+}
+
+/// Files of zeros.
+fn files<R: Files<File = File> + Abort>(rt: &R, alloc: Global) -> io::Result<FilePlant<File, File>>
+    ensures { IfOk result (λ plant. NoneLent (⟦<FilePlant<File, File> as Plant>⟧.state plant)) }
+{
+    let plant = FilePlant::new(
+        alloc,
+        open_disk(rt, FILES[0], 1_024)?,
+        open_disk(rt, FILES[1], 16_384)?,
+        open_journals(rt, alloc)?,
+        open_volumes(rt, alloc)?,
+        open(rt, FILES[10], 0)?,
+        open(rt, FILES[11], 0)?,
+    );
+    Ok(plant.expect(rt, "memory"))
+}
+
+/// The items of a change are spelled by these bytes, whatever was there before.
+fn assert_items<R: Files<File = File> + Abort>(
+    rt: &R,
+    alloc: Global,
+    change: &Change,
+    items: &[u8],
+) -> io::Result<()>
+    requires { named change.now ≤ 3 }
+{
+    let mut plant = files(rt, alloc)?;
+    let found = record_of(rt, alloc, &mut plant, change);
+    assert!(rt; found == tail(rt, items));
+    Ok(())
+}
+
+#[test]
+fn each_change_has_the_items_of_its_rows(rt: HostRuntime) -> io::Result<()> {
+    let alloc = rt.alloc();
+    // A change without rows has no item, and no record.
+    assert_items(&rt, alloc, &Change::Nothing, &[])?;
+    assert_items(&rt, alloc, &Change::Started, &[])?;
+    assert_items(&rt, alloc, &Change::Ended, &[])?;
+    assert_items(&rt, alloc, &Change::Added(0), &PAIR)?;
+    assert_items(&rt, alloc, &Change::Resumed(5), &SECOND)?;
+    // Rows that are suspended are items in their order.
+    let suspended = devices(&rt, alloc, &[5, 0]);
+    assert!(&rt; suspended.len() <= 3);
+    let mut both = [0; 62];
+    both[..31].copy_from_slice(&SECOND);
+    both[31..].copy_from_slice(&PAIR);
+    assert_items(&rt, alloc, &Change::Suspended(suspended), &both)?;
+    // Rows that go are named by their devices.
+    let gone = devices(&rt, alloc, &[0x0102, 0]);
+    assert!(&rt; gone.len() <= 3);
+    assert_items(&rt, alloc, &Change::Gone(gone), &[4, 1, 2, 4, 0, 0])?;
+    for name in FILES {
+        fs::remove_file(&rt, name)?;
+    }
+    Ok(())
+}

@@ -1,7 +1,0 @@
-use Rattle.crash_plant.specs.MemoryPlant.{memory_state}
-use Rattle.crash_plant.specs.PlainPlant.{plain_state}
-use Rattle.crash_plant.proofs.Resize.{none_lent_same}
-use Rattle.xrc_session.proofs.tests.site.Goals as goal
-
-pub returns : goal.returns
-returns c = none_lent_same (plain_state c.label.new.plant) (memory_state c.in_ok-plant.plant) c.in_ok-plant.ensures.devices c.label.ensures
