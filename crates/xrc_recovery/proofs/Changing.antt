@@ -1,6 +1,6 @@
 -- What is said after a recovery, and what stays of the recovery then.
 use Rattle.std.proofs.Common.{◌≡◌, ◌≢◌, ◌≤◌, ◌<◌, ◌++◌, inl, inr, ℕ, List, [], ◌∷◌, true, length, take, refl, sym, ◌∙◌, ap, subst, arith, length-append}
-use Rattle.std.specs.Prelude.{Contains, filter}
+use Rattle.std.specs.Prelude.{Contains, filter, slice_index_or}
 use Rattle.std.proofs.lemmas.Bool.{cases_lt}
 use Rattle.std.proofs.lemmas.List.{append-nil}
 use Rattle.std.proofs.lemmas.List.Elements.{All-head, All-same, All-weaker, filter_passes}
@@ -17,8 +17,9 @@ use Rattle.xrc_journal.specs.Items.{Item}
 use Rattle.site_means.proofs.ReadAll.{reads_none}
 use Rattle.xrecover.specs.Pairs.{AreFaulty, duplex_devices, is_duplex}
 use Rattle.xrecover.specs.Redone.{Draws, IsRedone, Recovers, Redone}
-use Rattle.xrecover.specs.Works.{LabelsLast, Nothing, Works}
-use Rattle.xrecover.proofs.Labels.{last_before}
+use Rattle.xrecover.specs.Works.{Nothing, Works}
+use Rattle.xrecover.specs.Labels.{AreNamed, LabelsLast}
+use Rattle.xrecover.proofs.Labels.{last_before, named_still}
 use Rattle.xrecover.proofs.Relations.{recovers_same}
 use Rattle.xrecover.proofs.Works.{works_more, works_reads}
 use Rattle.xrc_recovery.specs.Reports.{Changes, IsDoneBefore}
@@ -103,8 +104,13 @@ follow_then R tells a b c told later f o t from to z is = elim (cases_lt t b.clo
 ]
 
 -- Calls on the console change no label.
-pub labels_then : (tells : Type 0) (a b c : PlantState) → tells → a.clock ≤ b.clock → ((v : ℕ) → LabelsLast (on a (Volume v)) (on b (Volume v))) → WorksOnConsole tells b c → (v : ℕ) → LabelsLast (on a (Volume v)) (on c (Volume v))
-labels_then tells a b c told later last o v = last_before (on a (Volume v)) (on b (Volume v)) (on c (Volume v)) later (last v) ((o.elapses told).kept (Volume v)) (o.devices told (Volume v)).images (o.devices told (Volume v)).bytes
+pub labels_then : (tells : Type 0) (items : List Item) (a b c : PlantState) → tells → a.clock ≤ b.clock → ((v : ℕ) → LabelsLast v items (on a (Volume v)) (on b (Volume v))) → WorksOnConsole tells b c → (v : ℕ) → LabelsLast v items (on a (Volume v)) (on c (Volume v))
+labels_then tells items a b c told later last o v = last_before v items (on a (Volume v)) (on b (Volume v)) (on c (Volume v)) later (last v) ((o.elapses told).kept (Volume v)) (o.devices told (Volume v)).images (o.devices told (Volume v)).bytes
+
+pub named_console : (tells : Type 0) (rows : List PairRow) (a b c : PlantState) → tells → AreNamed rows a b → WorksOnConsole tells b c → AreNamed rows a c
+named_console tells rows a b c told named o k d lt duplex =
+    let row = slice_index_or rows k d in
+    named_still row a b c (o.devices told (Volume row.device)).bytes (o.faults (Volume row.device)) (named k d lt duplex)
 
 -- ---- what was redone
 

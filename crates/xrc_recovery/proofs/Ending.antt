@@ -18,9 +18,10 @@ use Rattle.xrecover.specs.Answers as recovery
 use Rattle.xrecover.specs.Pairs.{AreFaulty}
 use Rattle.xrecover.specs.Redone.{Recovers, Redone, meant_rows}
 use Rattle.xrecover.specs.Sees.{IsSettled, SeesSame}
-use Rattle.xrecover.specs.Works.{LabelsLast, Nothing, Works}
+use Rattle.xrecover.specs.Works.{Nothing, Works}
+use Rattle.xrecover.specs.Labels.{AreNamed, LabelsLast}
 use Rattle.site_means.proofs.ReadAll.{reads_none}
-use Rattle.xrecover.proofs.Labels.{labels_read}
+use Rattle.xrecover.proofs.Labels.{labels_read, named_same}
 use Rattle.xrecover.proofs.Seen.{sees_moments}
 use Rattle.xrc_status.specs.Saying.{SaysFront, SaysWhole}
 use Rattle.xrc_status.specs.declared.stop.Stop.{Stop}
@@ -28,7 +29,7 @@ use Rattle.xrc_status.specs.declared.stop.Stop.TheVariants.{BadSite, ConsoleFaul
 use Rattle.xrc_recovery.specs.Stops.{CallsFor, HasLines, HasRisen, IsEarly, IsReady, IsSite, NoneRose, stop_of}
 use Rattle.xrc_recovery.specs.Reports.{Changes, RedoesPairs, Reports, ReportsAll}
 use Rattle.xrc_recovery.specs.Texts.{recovered_text}
-use Rattle.xrc_recovery.proofs.Changing.{changes_of, changes_then, done_before, faulty_then, follow_then, has_failure, labels_then, nothing_here, redone_then, says_after, works_here}
+use Rattle.xrc_recovery.proofs.Changing.{changes_of, changes_then, done_before, faulty_then, follow_then, has_failure, labels_then, named_console, nothing_here, redone_then, says_after, works_here}
 use Rattle.xrc_recovery.proofs.Stopping.{calls_for, has_risen, is_early, not_console, not_site, not_volume, only_memory, rows_meant}
 
 -- the step of the volumes
@@ -48,7 +49,8 @@ pub record Ends (tells : Type 0) (session : List ℕ) (a c : PlantState) (r : Re
   pub silent : IfErr r (λ stop. ¬ HasLines stop → Works tells (Step a) a c)
   pub console_count : r ≢ Err ConsoleFault → c.console_faults ≡ a.console_faults
   pub changes : Changes tells (Step a) a c
-  pub labels : tells → (v : ℕ) → LabelsLast (on a (Volume v)) (on c (Volume v))
+  pub labels : tells → (v : ℕ) → LabelsLast v (walked a a.bytes) (on a (Volume v)) (on c (Volume v))
+  pub named : tells → AreNamed (meant_rows a a.bytes) a c
   pub moments : tells → IsSettled a → AllFollow (SeesSame a) a c
   pub unwritten : IfErr r (λ stop. IsEarly stop → Works tells Nothing a c)
 
@@ -67,7 +69,8 @@ at_site tells session a other = record {
   silent = λ quiet. works_here tells (meant_rows a a.bytes) (walked a a.bytes) a;
   console_count = λ no. refl;
   changes = changes_of tells (Step a) a a (works_here tells (meant_rows a a.bytes) (walked a a.bytes) a);
-  labels = λ told v. labels_read tells told a a (reads_none tells a) v;
+  labels = λ told v. labels_read tells told (walked a a.bytes) a a (reads_none tells a) v;
+  named = λ told. named_same (meant_rows a a.bytes) a a (λ v. refl);
   moments = λ told settled. sees_moments tells told (meant_rows a a.bytes) a a (works_here tells (meant_rows a a.bytes) (walked a a.bytes) a) settled;
   unwritten = λ early. nothing_here tells a;
 }
@@ -76,9 +79,9 @@ at_site tells session a other = record {
 
 module _ (tells : Type 0) (session : List ℕ) (a b : PlantState) (e : RecoverError) (stop : Stop) (is : stop ≡ stop_of e) where
   pub at_error : IsSite a → (tells → Says {X = Outcome} a session (λ o. IsRecoverable a session o.means) (Err e)) → ((d : Device) → first_short a ≡ Some d → e ≡ Site (TooSmallError d (need d)))
-      → ((d : Device) → e ≡ Site (Fault d) → Rose (a.faults d) (b.faults d)) → Works tells (Step a) a b → (tells → (v : ℕ) → LabelsLast (on a (Volume v)) (on b (Volume v))) → (tells → IsSettled a → AllFollow (SeesSame a) a b)
+      → ((d : Device) → e ≡ Site (Fault d) → Rose (a.faults d) (b.faults d)) → Works tells (Step a) a b → (tells → (v : ℕ) → LabelsLast v (walked a a.bytes) (on a (Volume v)) (on b (Volume v))) → (tells → AreNamed (meant_rows a a.bytes) a b) → (tells → IsSettled a → AllFollow (SeesSame a) a b)
       → (recovery.IsEarly e → Works tells Nothing a b) → Ends tells session a b (Err stop)
-  at_error site says short fault works labels moments unwritten = record {
+  at_error site says short fault works labels named moments unwritten = record {
     site = (λ bad. absurd (not_site e (sym is ∙ let same = bad in cc)), λ no. absurd (no site));
     short = λ again d first. ap (λ (s : Stop). Err s) (is ∙ ap stop_of (short d first));
     called_for = λ told. subst (λ (s : Stop). CallsFor a session s) (sym is) (calls_for a session (λ (o : Outcome). IsRecoverable a session o.means) e short (says told));
@@ -92,6 +95,7 @@ module _ (tells : Type 0) (session : List ℕ) (a b : PlantState) (e : RecoverEr
     console_count = λ no. works.console_faults;
     changes = changes_of tells (Step a) a b works;
     labels = labels;
+    named = named;
     moments = moments;
     unwritten = λ early. unwritten (is_early e (subst (λ (s : Stop). IsEarly s) is early));
   }
@@ -106,7 +110,8 @@ pub record Told (tells : Type 0) (session : List ℕ) (a b c : PlantState) (mean
   pub faulty : AreFaulty means.table.rows a.faults b.faults failed
   pub redone : tells → Redone (meant_rows a a.bytes) (walked a a.bytes) failed a b
   pub works : Works tells (Step a) a b
-  pub labels : tells → (v : ℕ) → LabelsLast (on a (Volume v)) (on b (Volume v))
+  pub labels : tells → (v : ℕ) → LabelsLast v (walked a a.bytes) (on a (Volume v)) (on b (Volume v))
+  pub named : tells → AreNamed (meant_rows a a.bytes) a b
   pub moments : tells → IsSettled a → AllFollow (SeesSame a) a b
   pub ok : OnOk r (failed ≡ [])
   pub lines : IfErr r (λ stop. HasLines stop)
@@ -174,7 +179,8 @@ module _ (tells : Type 0) (session : List ℕ) (a b c : PlantState) (means : Mea
     silent = tt;
     console_count = λ no. (k.whole no).count ∙ k.works.console_faults;
     changes = changes_then tells (Step a) a b c k.works k.front.only k.later;
-    labels = λ told. labels_then tells a b c told ((k.works.elapses told).kept Control).later (k.labels told) k.front.only;
+    labels = λ told. labels_then tells (walked a a.bytes) a b c told ((k.works.elapses told).kept Control).later (k.labels told) k.front.only;
+    named = λ told. named_console tells (meant_rows a a.bytes) a b c told (k.named told) k.front.only;
     moments = λ told settled. follow_then (SeesSame a) tells a b c told ((k.works.elapses told).kept Control).later (k.moments told settled) k.front.only;
     unwritten = tt;
   }
@@ -190,7 +196,8 @@ module _ (tells : Type 0) (session : List ℕ) (a b c : PlantState) (means : Mea
     silent = λ quiet. absurd (quiet k.lines);
     console_count = λ no. (k.whole no).count ∙ k.works.console_faults;
     changes = changes_then tells (Step a) a b c k.works k.front.only k.later;
-    labels = λ told. labels_then tells a b c told ((k.works.elapses told).kept Control).later (k.labels told) k.front.only;
+    labels = λ told. labels_then tells (walked a a.bytes) a b c told ((k.works.elapses told).kept Control).later (k.labels told) k.front.only;
+    named = λ told. named_console tells (meant_rows a a.bytes) a b c told (k.named told) k.front.only;
     moments = λ told settled. follow_then (SeesSame a) tells a b c told ((k.works.elapses told).kept Control).later (k.moments told settled) k.front.only;
     unwritten = λ early. absurd (lines_late stop k.lines early);
   }

@@ -10,6 +10,7 @@ use Rattle.crash_plant.specs.Moments.{PlantState}
 use Rattle.crash_plant.specs.Calls.{Elapses, Says, WorksOnConsole}
 use Rattle.site_means.specs.Answers.{need}
 use Rattle.site_means.specs.Sight.{walked}
+use Rattle.xrecover.specs.Redone.{meant_rows}
 use Rattle.xrecover.specs.Sees.{SeesSame}
 use Rattle.xrecover.specs.Works.{Nothing, Works}
 use Rattle.xrecover.proofs.Works.{rose_later}
@@ -20,7 +21,7 @@ use Rattle.xrc_status.specs.Stops.{last_line, status_of}
 use Rattle.xrc_recovery.specs.Stops.{HasRisen, IsEarly, NoneRose}
 use Rattle.xrc_recovery.specs.Reports.{Reports, ReportsAll, report_of}
 use Rattle.xrc_recovery.specs.Statuses.{EndsRecovery, EndsSo, ReportsThen, SaysThen, ends_recovery}
-use Rattle.xrc_recovery.proofs.Changing.{changes_more, changes_of, done_more, faulty_then, follow_then, labels_then, redone_then, says_after}
+use Rattle.xrc_recovery.proofs.Changing.{changes_more, changes_of, done_more, faulty_then, follow_then, labels_then, named_console, redone_then, says_after}
 use Rattle.xrc_recovery.proofs.Ending.{Ends, Step}
 
 -- ---- statuses of stops
@@ -303,6 +304,7 @@ ends_done tells session a b v e = record {
   console_count = λ is. e.console_count (λ is. cc);
   changes = e.changes;
   labels = e.labels;
+  named = e.named;
   moments = e.moments;
   unwritten = λ other. absurd (other refl);
 }
@@ -337,7 +339,8 @@ module _ (tells : Type 0) (session : List ℕ) (a b c : PlantState) (stop : Stop
             (f.0, subst (λ (s : PlantState). Reports session f.0 a s) (sym (quiet same)) f.1);
         console_count = λ is. absurd (not_done stop is);
         changes = changes_more tells (Step a) a b c e.changes o last.later;
-        labels = λ told. labels_then tells a b c told ((e.changes.elapses told).kept Control).later (e.labels told) o;
+        labels = λ told. labels_then tells (walked a a.bytes) a b c told ((e.changes.elapses told).kept Control).later (e.labels told) o;
+        named = λ told. named_console tells (meant_rows a a.bytes) a b c told (e.named told) o;
         moments = λ told settled. follow_then (SeesSame a) tells a b c told ((e.changes.elapses told).kept Control).later (e.moments told settled) o;
         unwritten = λ other three five thirteen. changes_more tells Nothing a b c (changes_of tells Nothing a b (e.unwritten (is_early_stop stop three five thirteen))) o last.later;
       }

@@ -10,7 +10,8 @@ use Rattle.site_means.specs.Answers.{first_short, need}
 use Rattle.site_means.specs.Sight.{walked}
 use Rattle.xrecover.specs.Redone.{Recovers, meant_rows}
 use Rattle.xrecover.specs.Sees.{IsSettled, SeesSame}
-use Rattle.xrecover.specs.Works.{LabelsLast, Nothing}
+use Rattle.xrecover.specs.Works.{Nothing}
+use Rattle.xrecover.specs.Labels.{AreNamed, LabelsLast}
 use Rattle.xrc_status.specs.declared.stop.Stop.{Stop}
 use Rattle.xrc_status.specs.declared.stop.Stop.TheVariants.{TooSmall, VolumeFault}
 use Rattle.xrc_status.specs.Saying.{SaidWhole}
@@ -74,6 +75,8 @@ pub record EndsRecovery (tells : Type 0) (session : List ℕ) (old new : PlantSt
   -- what means the same, with the same tracks. At most statuses nothing was written.
   pub changes : Changes tells (Recovers (meant_rows old old.bytes) (walked old old.bytes)) old new
   pub moments : tells → IsSettled old → AllFollow (SeesSame old) old new
-  -- A label is written once the slots of its volume are durable.
-  pub labels : tells → (v : ℕ) → LabelsLast (on old (Volume v)) (on new (Volume v))
+  -- A label is written once the slots of its volume are redone and durable, and at each status a duplex pair's volume has the label that
+  -- it had, or its primary's, but where its count rose.
+  pub labels : tells → (v : ℕ) → LabelsLast v (walked old old.bytes) (on old (Volume v)) (on new (Volume v))
+  pub named : tells → AreNamed (meant_rows old old.bytes) old new
   pub unwritten : status ≢ 0 → status ≢ 3 → status ≢ 5 → status ≢ 13 → Changes tells Nothing old new

@@ -10,7 +10,8 @@ ghost use Rattle.site_means.specs.Answers.{first_short, need};
 ghost use Rattle.site_means.specs.Sight.{walked};
 ghost use Rattle.xrecover.specs.Redone.{Recovers, meant_rows};
 ghost use Rattle.xrecover.specs.Sees.{IsSettled, SeesSame};
-ghost use Rattle.xrecover.specs.Works.{LabelsLast, Nothing, Works};
+ghost use Rattle.xrecover.specs.Works.{Nothing, Works};
+ghost use Rattle.xrecover.specs.Labels.{AreNamed, LabelsLast};
 ghost use Rattle.xrc_status.specs.declared.stop.Stop.TheVariants.{BadSite, ConsoleFault, NoMemory, TooSmall, VolumeFault};
 ghost use Rattle.xrc_recovery.specs.Stops.{CallsFor, HasLines, HasRisen, IsEarly, IsReady, IsSite, NoneRose};
 ghost use Rattle.xrc_recovery.specs.Reports.{Changes, Reports, ReportsAll};
@@ -56,8 +57,10 @@ pub fn run_recover<R: Threads + Sync, P: Plant>(
     // At every moment only labels of duplex pairs' volumes, and slots of tracks of which the walk has an item, differ; a crash leaves
     // what means the same, with the same tracks. Want of memory comes before anything is written, as most stops do.
     ensures changes { Changes P.tells (Recovers (meant_rows (P.state plant.old) (P.state plant.old).bytes) (walked (P.state plant.old) (P.state plant.old).bytes)) (P.state plant.old) (P.state plant.new) }
-    // A label is written once the slots of its volume are durable.
-    ensures labels { P.tells → (v : ℕ) → LabelsLast (on (P.state plant.old) (Volume v)) (on (P.state plant.new) (Volume v)) }
+    // A label is written once the slots of its volume are redone and durable, and in the end a duplex pair's volume has the label that it
+    // had, or its primary's, but where its count rose.
+    ensures labels { P.tells → (v : ℕ) → LabelsLast v (walked (P.state plant.old) (P.state plant.old).bytes) (on (P.state plant.old) (Volume v)) (on (P.state plant.new) (Volume v)) }
+    ensures named { P.tells → AreNamed (meant_rows (P.state plant.old) (P.state plant.old).bytes) (P.state plant.old) (P.state plant.new) }
     ensures moments { P.tells → IsSettled (P.state plant.old) → AllFollow (SeesSame (P.state plant.old)) (P.state plant.old) (P.state plant.new) }
     ensures unwritten { IfErr result (λ stop. IsEarly stop → Works P.tells Nothing (P.state plant.old) (P.state plant.new)) }
 {

@@ -1,6 +1,6 @@
 -- A recovery by its steps: what was read first, and the pairs that were redone then.
-use Rattle.std.proofs.Common.{◌≡◌, ℕ, List, Result, Ok, Err, None, refl, sym, ap, subst, ◌∙◌, arith}
-use Rattle.std.specs.Prelude.{All, Contains, IsErrOf, slice_index_or}
+use Rattle.std.proofs.Common.{◌≡◌, ℕ, List, Result, Err, sym, ap, subst}
+use Rattle.std.specs.Prelude.{slice_index_or}
 use Rattle.xrc_edge.specs.Causes.{Rose}
 use Rattle.crash_plant.specs.declared.device.Device.{Device}
 use Rattle.crash_plant.specs.declared.device.Device.TheVariants.{Control, State, Journal, Volume}
@@ -8,7 +8,6 @@ use Rattle.crash_plant.specs.Moments.{PlantState}
 use Rattle.control_set.specs.declared.value.Mark.{Mark}
 use Rattle.pair_table.specs.declared.row.PairRow.{PairRow}
 use Rattle.site_means.specs.declared.means.Means.{Means}
-use Rattle.site_means.specs.declared.site_error.SiteError.{SiteError}
 use Rattle.site_means.specs.declared.site_error.SiteError.TheVariants.{NoSession, Damaged, Fault, TooSmall, NoMemory}
 use Rattle.site_means.specs.Answers.{ReadsAll}
 use Rattle.site_means.specs.Meaning.{Meaning}
@@ -17,10 +16,12 @@ use Rattle.site_means.proofs.Meanings.{same_seen, seen_meaning, seen_reached}
 use Rattle.xrc_journal.specs.Items.{Item}
 use Rattle.xrecover.specs.declared.recover_error.RecoverError.{RecoverError}
 use Rattle.xrecover.specs.declared.recover_error.RecoverError.TheVariants.{Site, Other}
-use Rattle.xrecover.specs.Answers.{EndsLate, HasWalk, IsEarly, IsLate, IsOf, IsRecoverable, Says}
-use Rattle.xrecover.specs.Pairs.{AreFaulty, is_duplex}
-use Rattle.xrecover.specs.Redone.{Draws, IsRedone, Recovers, Redone, meant_rows, rows_of}
+use Rattle.xrecover.specs.Answers.{EndsLate, HasWalk, IsLate, IsOf, IsRecoverable, Says}
+use Rattle.xrecover.specs.Pairs.{AreFaulty}
+use Rattle.xrecover.specs.Redone.{Draws, Recovers, Redone, meant_rows, rows_of}
 use Rattle.xrecover.specs.Works.{Nothing, Works}
+use Rattle.xrecover.specs.Labels.{AreNamed}
+use Rattle.xrecover.proofs.Labels.{named_behind}
 use Rattle.xrecover.proofs.Later.{walk_later}
 use Rattle.xrecover.proofs.Relations.{recovers_same}
 use Rattle.xrecover.proofs.Works.{works_more, works_reads, works_trans}
@@ -82,6 +83,9 @@ module _ (tells : Type 0) (old one : PlantState) (reads : ReadsAll tells old one
           label = done.label;
           durable = done.durable;
         })
+
+    pub all_named : tells → AreNamed means.table.rows one new → AreNamed (meant_rows old old.bytes) old new
+    all_named told named = subst (λ (r : List PairRow). AreNamed r old new) (sym (rows_are told)) (named_behind means.table.rows old one new (λ v. reads.same told (Volume v)) (λ v. reads.only.faults (Volume v)) named)
 
 -- ---- counts, where none rose while it was read
 

@@ -1,15 +1,16 @@
 -- Duplex pairs redone one after another.
-use Rattle.std.proofs.Common.{◌≡◌, ◌≢◌, ◌≤◌, ◌<◌, ◌==◌, ◌&&◌, ◌||◌, ◌+◌, ◌++◌, ◌∷◌, ◌⊎◌, inl, inr, ℕ, zero, suc, Bool, true, false, not, cond, List, [], length, take, Option, Some, None, refl, sym, ◌∙◌, ap, subst, arith}
+use Rattle.std.proofs.Common.{◌≡◌, ◌≢◌, ◌<◌, ◌==◌, ◌&&◌, ◌||◌, ◌+◌, ◌++◌, ◌∷◌, ◌⊎◌, inl, inr, ℕ, zero, suc, Bool, true, false, not, cond, List, [], length, take, Some, refl, sym, ◌∙◌, ap, subst, arith}
 use Rattle.std.specs.Prelude.{All, Contains, filter, map, slice_get, slice_index_or}
 use Rattle.std.specs.List.{list_any}
 use Rattle.std.proofs.lemmas.Bool.{and_parts, and_from, cases_eq, eq-eqb, eqb-false, eqb-true}
 use Rattle.std.proofs.lemmas.List.{append-nil, map-append}
 use Rattle.std.proofs.lemmas.List.Elements.{All-nil, All-cons, All-head, All-tail, All-push, All-contains_itself, filter-append}
 use Rattle.std.proofs.lemmas.List.Folds.{list_any-append}
+use Rattle.std.proofs.lemmas.Option.{slice_get-get_or}
 use Rattle.xrc_edge.specs.Causes.{Rose}
 use Rattle.crash_plant.specs.declared.device.Device.{Device}
 use Rattle.crash_plant.specs.declared.device.Device.TheVariants.{Control, State, Journal, Volume}
-use Rattle.crash_plant.specs.Moments.{PlantState, on, IsDurable}
+use Rattle.crash_plant.specs.Moments.{PlantState}
 use Rattle.pair_table.specs.declared.row.PairRow.{PairRow}
 use Rattle.pair_table.specs.Tables.{clashes, is_of, none_clash}
 use Rattle.site_means.proofs.ReadAll.{reads_none}
@@ -17,7 +18,7 @@ use Rattle.xrc_journal.specs.Items.{Item}
 use Rattle.xrecover.specs.Pairs.{AreFaulty, HasDuplex, duplex_devices, is_duplex, is_duplex_of}
 use Rattle.xrecover.specs.Works.{Nothing, OnVolume, Works}
 use Rattle.xrecover.specs.Redone.{Draws, IsRedone, Recovers, Redoes, Redone}
-use Rattle.xrecover.proofs.Relations.{recovers_same, redoes_same, redoes_then}
+use Rattle.xrecover.proofs.Relations.{recovers_same, redoes_same}
 use Rattle.xrecover.proofs.Rows.{recovers_one}
 use Rattle.xrecover.proofs.Works.{rose_later, works_more, works_reads, works_trans}
 
@@ -67,6 +68,20 @@ take_next (q ∷ rows) (suc i) r is = ap (λ (l : List PairRow). q ∷ l) (take_
 
 pub take_more : (rows : List PairRow) (i : ℕ) (r : PairRow) → slice_get rows i ≡ Some r → take (i + 1) rows ≡ take i rows ++ r ∷ []
 take_more rows i r is = let on : i + 1 ≡ suc i = omega arith in ap (λ (n : ℕ). take n rows) on ∙ take_next rows i r is
+
+-- A row of the same device is the same row.
+pub same_row : (rows : List PairRow) (i : ℕ) (r : PairRow) (k : ℕ) (d : PairRow) → none_clash rows ≡ true → slice_get rows i ≡ Some r → k < length rows → (slice_index_or rows k d).device ≡ r.device → slice_index_or rows k d ≡ r
+same_row [] i r k d none is lt own = absurd cc
+same_row (q ∷ rows) zero r zero d none is lt own = let same : q ≡ r = cc in same
+same_row (q ∷ rows) zero r (suc k) d none is lt own =
+    let parts = and_parts (not (list_any (clashes q) rows)) (none_clash rows) none in
+    let same : q ≡ r = cc in
+    let there : slice_get rows k ≡ Some (slice_index_or rows k d) = slice_get-get_or rows k d (omega (arith, lt)) in
+    absurd (clash_apart q (slice_index_or rows k d) (none_of q (slice_index_or rows k d) rows k (not_false (list_any (clashes q) rows) parts.0) there) (ap (λ (p : PairRow). p.device) same ∙ sym own))
+same_row (q ∷ rows) (suc i) r zero d none is lt own =
+    let parts = and_parts (not (list_any (clashes q) rows)) (none_clash rows) none in
+    absurd (clash_apart q r (none_of q r rows i (not_false (list_any (clashes q) rows) parts.0) is) own)
+same_row (q ∷ rows) (suc i) r (suc k) d none is lt own = same_row rows i r k d (and_parts (not (list_any (clashes q) rows)) (none_clash rows) none).1 is (omega (arith, lt)) own
 
 -- ---- duplex pairs of more rows
 

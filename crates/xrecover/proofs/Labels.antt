@@ -1,98 +1,190 @@
 -- Labels, from call to call.
-use Rattle.std.proofs.Common.{◌≡◌, ◌≤◌, inl, inr, ℕ, List, drop, take, refl, sym, ◌∙◌, ap, subst, arith}
+use Rattle.std.proofs.Common.{◌≡◌, ◌≢◌, ◌≤◌, ◌+◌, ◌-◌, inl, inr, ℕ, true, List, [], length, drop, take, Option, Some, None, Result, Ok, Err, OnOk, refl, sym, ◌∙◌, ap, subst, arith}
+use Rattle.std.specs.Prelude.{slice_get, slice_index_or, slice_range}
 use Rattle.std.proofs.lemmas.Bool.{cases_eq, cases_lt}
+use Rattle.std.proofs.lemmas.List.{drop-drop}
+use Rattle.xrc_edge.specs.Causes.{HasCause, Rose}
+use Rattle.ckd_track.specs.declared.rec.Rec.{Rec}
+use Rattle.ckd_track.specs.Images.{image}
 use Rattle.crash_plant.specs.declared.device.Device.TheVariants.{Volume}
 use Rattle.crash_plant.specs.Bytes.{Torn}
 use Rattle.crash_plant.specs.Moments.{Standing, PlantState, on, Follows, IsDurable, Kept, Same}
 use Rattle.crash_plant.proofs.Steps.{follows_here, follows_then}
-use Rattle.applier.specs.Slots.{DiffersInSlots}
+use Rattle.applier.specs.Slots.{BeginsWithTrack, DiffersInSlots}
 use Rattle.pair_table.specs.declared.row.PairRow.{PairRow}
+use Rattle.pair_table.specs.Tables.{none_clash}
 use Rattle.site_means.specs.Answers.{ReadsAll}
+use Rattle.site_means.specs.Content.{content_through, slot_place, slot_track}
+use Rattle.site_means.specs.Sight.{walked, walked_by}
+use Rattle.site_means.proofs.Meanings.{same_seen, seen_meaning}
+use Rattle.volume_label.specs.Labels.{label_spelling}
 use Rattle.xrc_journal.specs.Items.{Item}
-use Rattle.xrecover.specs.Redone.{Recovers}
-use Rattle.xrecover.specs.Works.{LabelsLast, OnVolume, SameLabel, Works}
-use Rattle.xrecover.proofs.Going.{Apart, none_duplex}
+use Rattle.xrecover.specs.Redone.{Draws, Recovers}
+use Rattle.xrecover.specs.Works.{OnVolume, Works}
+use Rattle.xrecover.specs.Labels.{AreNamed, IsNamed, KeepsLabel, LabelsLast, SameLabel}
+use Rattle.xrecover.proofs.Going.{Apart, none_duplex, same_row}
+use Rattle.xrecover.proofs.Works.{rose_later}
+
+-- ---- slots lie behind the label
+
+range_behind : (place from to : ℕ) (b c : List ℕ) → drop place c ≡ drop place b → place ≤ from → slice_range c from to ≡ slice_range b from to
+range_behind place from to b c same le =
+    let at : place + (from - place) ≡ from = omega (arith, le) in
+    ap (λ (k : ℕ). take (to - from) (drop k c)) (sym at)
+    ∙ ap (λ (l : List ℕ). take (to - from) l) (sym (drop-drop (from - place) place c) ∙ ap (λ (l : List ℕ). drop (from - place) l) same ∙ drop-drop (from - place) place b)
+    ∙ ap (λ (k : ℕ). take (to - from) (drop k b)) at
+
+begins_by : (x : ℕ) (b c : List ℕ) (t : Option (List Rec)) → drop 14 c ≡ drop 14 b → BeginsWithTrack b x t → BeginsWithTrack c x t
+begins_by x b c (Some recs) same begins = range_behind 14 (slot_place x) (slot_place x + length (image recs)) b c same (omega arith) ∙ begins
+begins_by x b c None same begins = begins
+
+-- What is the same behind the label has the same slots.
+draws_by : (device : ℕ) (items : List Item) (a b c : List ℕ) → drop 14 c ≡ drop 14 b → Draws device items a b → Draws device items a c
+draws_by device items a b c same draws x has = begins_by x b c (content_through device x items (slot_track a x)) same (draws x has)
+
+slots_label : (v : ℕ) (items : List Item) (b c : List ℕ) → DiffersInSlots v items b c → SameLabel b c
+slots_label v items b c d = d.others 0 14 (omega arith) (λ x has. inl (omega arith))
 
 -- ---- on one device
 
--- Where no label changes
-pub label_kept : (a b : Standing) → Follows SameLabel a b → LabelsLast a b
-label_kept a b f t from to z left = inl (f t from to z left)
-
--- and where nothing does.
+-- Where nothing changes no label does.
 pub label_same : (a b : Standing) → Follows Same a b → Follows SameLabel a b
 label_same a b f t from to z left = let start = f t from to z left in (start.0, start.1, ap (λ (l : List ℕ). take 14 l) start.2)
 
--- No label changed before
-pub last_behind : (a b c : Standing) → a.clock ≤ b.clock → Follows SameLabel a b → Kept b c → LabelsLast b c → LabelsLast a c
-last_behind a b c le f k last t from to z left = elim (cases_lt t b.clock) [
-  | inl early ↦ inl (f t from (omega (arith, early)) z (k.same t (omega (arith, early)) (omega (arith, early)) z left))
-  | inr late ↦ elim (last t late to z left) [
-    | inl was ↦ let start = f b.clock le (omega arith) was.0 was.1 in inl (start.0, start.1, was.2 ∙ start.2)
-    | inr is ↦ inr is
-  ]
-]
+module _ (device : ℕ) (items : List Item) where
+  -- No label changes,
+  pub label_kept : (a b : Standing) → Follows SameLabel a b → LabelsLast device items a b
+  label_kept a b f t from to z left = inl (f t from to z left)
 
--- or nothing changes afterwards.
-pub last_before : (a b c : Standing) → a.clock ≤ b.clock → LabelsLast a b → Kept b c → Follows Same b c → c.bytes ≡ b.bytes → LabelsLast a c
-last_before a b c le last k f same t from to z left = elim (cases_lt t b.clock) [
-  | inl early ↦ elim (last t from (omega (arith, early)) z (k.same t (omega (arith, early)) (omega (arith, early)) z left)) [
-    | inl was ↦ inl was
-    | inr is ↦ inr (is ∙ ap (λ (l : List ℕ). drop 14 l) (sym same))
+  -- or nothing changed before,
+  pub last_behind : (a b c : Standing) → a.clock ≤ b.clock → Follows Same a b → b.bytes ≡ a.bytes → Kept b c → LabelsLast device items b c → LabelsLast device items a c
+  last_behind a b c le f same k last t from to z left = elim (cases_lt t b.clock) [
+    | inl early ↦ inl (label_same a b f t from (omega (arith, early)) z (k.same t (omega (arith, early)) (omega (arith, early)) z left))
+    | inr late ↦ elim (last t late to z left) [
+      | inl was ↦ let start = label_same a b f b.clock le (omega arith) was.0 was.1 in inl (start.0, start.1, was.2 ∙ start.2)
+      | inr is ↦ inr (subst (λ (l : List ℕ). Draws device items l z) same is.0, is.1)
+    ]
   ]
-  | inr late ↦
-      let mid = f t late to z left in
-      elim (last b.clock le (omega arith) mid.0 mid.1) [
-        | inl was ↦ inl (was.0, was.1, ap (λ (l : List ℕ). take 14 l) mid.2 ∙ was.2)
-        | inr is ↦ inr (ap (λ (l : List ℕ). drop 14 l) mid.2 ∙ is ∙ ap (λ (l : List ℕ). drop 14 l) (sym same))
-      ]
-]
+
+  -- or nothing changes afterwards.
+  pub last_before : (a b c : Standing) → a.clock ≤ b.clock → LabelsLast device items a b → Kept b c → Follows Same b c → c.bytes ≡ b.bytes → LabelsLast device items a c
+  last_before a b c le last k f same t from to z left = elim (cases_lt t b.clock) [
+    | inl early ↦ elim (last t from (omega (arith, early)) z (k.same t (omega (arith, early)) (omega (arith, early)) z left)) [
+      | inl was ↦ inl was
+      | inr is ↦ inr (is.0, is.1 ∙ ap (λ (l : List ℕ). drop 14 l) (sym same))
+    ]
+    | inr late ↦
+        let mid = f t late to z left in
+        elim (last b.clock le (omega arith) mid.0 mid.1) [
+          | inl was ↦ inl (was.0, was.1, ap (λ (l : List ℕ). take 14 l) mid.2 ∙ was.2)
+          | inr is ↦ inr (subst (λ (l : List ℕ). Draws device items a.bytes l) (sym mid.2) is.0, ap (λ (l : List ℕ). drop 14 l) mid.2 ∙ is.1 ∙ ap (λ (l : List ℕ). drop 14 l) (sym same))
+        ]
+  ]
+
+  -- The slots were redone before, and hold their content in the end.
+  pub last_redone : (a b c : Standing) → a.clock ≤ b.clock → Follows SameLabel a b → Draws device items a.bytes c.bytes → Kept b c → LabelsLast device [] b c → LabelsLast device items a c
+  last_redone a b c le f draws k last t from to z left = elim (cases_lt t b.clock) [
+    | inl early ↦ inl (f t from (omega (arith, early)) z (k.same t (omega (arith, early)) (omega (arith, early)) z left))
+    | inr late ↦ elim (last t late to z left) [
+      | inl was ↦ let start = f b.clock le (omega arith) was.0 was.1 in inl (start.0, start.1, was.2 ∙ start.2)
+      | inr is ↦ inr (draws_by device items a.bytes c.bytes z is.1 draws, is.1)
+    ]
+  ]
 
 -- A label is written behind a sync.
-pub label_last : (a b c : Standing) → a.clock ≤ b.clock → Follows Same a b → IsDurable b → Kept b c → Follows (Torn 0 14) b c → Torn 0 14 b.bytes c.bytes → LabelsLast a c
-label_last a b c le f durable k torn now = last_behind a b c le (label_same a b f) k
-    (λ t from to z left. let start = torn t from to z left in inr (start.2.after ∙ ap (λ (l : List ℕ). drop 14 l) (durable start.0 start.1) ∙ sym now.after))
-
--- Slots lie behind the label.
-slots_label : (v : ℕ) (items : List Item) (b c : List ℕ) → DiffersInSlots v items b c → SameLabel b c
-slots_label v items b c d = d.others 0 14 (omega arith) (λ x has. inl (omega arith))
+pub label_last : (device : ℕ) (a b c : Standing) → a.clock ≤ b.clock → Follows Same a b → b.bytes ≡ a.bytes → IsDurable b → Kept b c → Follows (Torn 0 14) b c → Torn 0 14 b.bytes c.bytes → LabelsLast device [] a c
+label_last device a b c le f same durable k torn now = last_behind device [] a b c le f same k
+    (λ t from to z left. let start = torn t from to z left in inr ((λ x none. absurd cc), start.2.after ∙ ap (λ (l : List ℕ). drop 14 l) (durable start.0 start.1) ∙ sym now.after))
 
 -- ---- on a plant
 
 module _ (tells : Type 0) (told : tells) where
-  pub label_here : (a : PlantState) (v : ℕ) → Follows SameLabel (on a (Volume v)) (on a (Volume v))
-  label_here a v = follows_here (on a (Volume v)) SameLabel (λ b now. refl)
+  pub label_here : (a : PlantState) (v : ℕ) → KeepsLabel (on a (Volume v)) (on a (Volume v))
+  label_here a v = record { bytes = refl; moments = follows_here (on a (Volume v)) SameLabel (λ b now. refl) }
 
   -- a record read once more, behind what was done so far
-  pub label_read : (v : ℕ) (a b c : PlantState) → a.clock ≤ b.clock → Follows SameLabel (on a (Volume v)) (on b (Volume v)) → ReadsAll tells b c → Follows SameLabel (on a (Volume v)) (on c (Volume v))
-  label_read v a b c le f r = follows_then (on a (Volume v)) (on b (Volume v)) (on c (Volume v)) SameLabel Same SameLabel le f ((r.only.elapses told).kept (Volume v)) (r.moments told (Volume v))
-      (λ p q here s. s) (λ p q s here there e e2. ap (λ (l : List ℕ). take 14 l) e2 ∙ e)
+  pub label_read : (v : ℕ) (a b c : PlantState) → a.clock ≤ b.clock → KeepsLabel (on a (Volume v)) (on b (Volume v)) → ReadsAll tells b c → KeepsLabel (on a (Volume v)) (on c (Volume v))
+  label_read v a b c le k r = record {
+    bytes = ap (λ (l : List ℕ). take 14 l) (r.same told (Volume v)) ∙ k.bytes;
+    moments = follows_then (on a (Volume v)) (on b (Volume v)) (on c (Volume v)) SameLabel Same SameLabel le k.moments ((r.only.elapses told).kept (Volume v)) (r.moments told (Volume v))
+        (λ p q here s. s) (λ p q s here there e e2. ap (λ (l : List ℕ). take 14 l) e2 ∙ e);
+  }
 
   -- and its items applied
-  pub label_applied : (v : ℕ) (its : List Item) (a b c : PlantState) → a.clock ≤ b.clock → Follows SameLabel (on a (Volume v)) (on b (Volume v)) → Works tells (OnVolume v (DiffersInSlots v its)) b c → Follows SameLabel (on a (Volume v)) (on c (Volume v))
-  label_applied v its a b c le f w = follows_then (on a (Volume v)) (on b (Volume v)) (on c (Volume v)) SameLabel (OnVolume v (DiffersInSlots v its) (Volume v)) SameLabel le f ((w.elapses told).kept (Volume v)) (w.moments told (Volume v))
-      (λ p q here s. s) (λ p q s here there e d. slots_label v its q s (d.0 refl) ∙ e)
+  pub label_applied : (v : ℕ) (its : List Item) (a b c : PlantState) → a.clock ≤ b.clock → KeepsLabel (on a (Volume v)) (on b (Volume v)) → Works tells (OnVolume v (DiffersInSlots v its)) b c → KeepsLabel (on a (Volume v)) (on c (Volume v))
+  label_applied v its a b c le k w = record {
+    bytes = slots_label v its (b.bytes (Volume v)) (c.bytes (Volume v)) ((w.bytes told (Volume v)).0 refl) ∙ k.bytes;
+    moments = follows_then (on a (Volume v)) (on b (Volume v)) (on c (Volume v)) SameLabel (OnVolume v (DiffersInSlots v its) (Volume v)) SameLabel le k.moments ((w.elapses told).kept (Volume v)) (w.moments told (Volume v))
+        (λ p q here s. s) (λ p q s here there e d. slots_label v its q s (d.0 refl) ∙ e);
+  }
 
   -- reads, and what follows them
-  pub labels_read : (a b : PlantState) → ReadsAll tells a b → (v : ℕ) → LabelsLast (on a (Volume v)) (on b (Volume v))
-  labels_read a b r v = label_kept (on a (Volume v)) (on b (Volume v)) (label_same (on a (Volume v)) (on b (Volume v)) (r.moments told (Volume v)))
+  pub labels_read : (items : List Item) (a b : PlantState) → ReadsAll tells a b → (v : ℕ) → LabelsLast v items (on a (Volume v)) (on b (Volume v))
+  labels_read items a b r v = label_kept v items (on a (Volume v)) (on b (Volume v)) (label_same (on a (Volume v)) (on b (Volume v)) (r.moments told (Volume v)))
 
-  pub labels_behind : (step : _) (a b c : PlantState) → ReadsAll tells a b → Works tells step b c → ((v : ℕ) → LabelsLast (on b (Volume v)) (on c (Volume v))) → (v : ℕ) → LabelsLast (on a (Volume v)) (on c (Volume v))
-  labels_behind step a b c r w last v = last_behind (on a (Volume v)) (on b (Volume v)) (on c (Volume v)) ((r.only.elapses told).kept (Volume v)).later
-      (label_same (on a (Volume v)) (on b (Volume v)) (r.moments told (Volume v))) ((w.elapses told).kept (Volume v)) (last v)
+  pub labels_behind : (step : _) (a b c : PlantState) → ReadsAll tells a b → Works tells step b c → ((v : ℕ) → LabelsLast v (walked b b.bytes) (on b (Volume v)) (on c (Volume v))) → (v : ℕ) → LabelsLast v (walked a a.bytes) (on a (Volume v)) (on c (Volume v))
+  labels_behind step a b c r w last v = last_behind v (walked a a.bytes) (on a (Volume v)) (on b (Volume v)) (on c (Volume v)) ((r.only.elapses told).kept (Volume v)).later
+      (r.moments told (Volume v)) (r.same told (Volume v)) ((w.elapses told).kept (Volume v))
+      (subst (λ (l : List Item). LabelsLast v l (on b (Volume v)) (on c (Volume v))) (ap walked_by (seen_meaning a b (same_seen tells a b r told))) (last v))
 
   -- One pair more: its volume was as at first, and the others stay.
-  pub labels_pair : (front : List PairRow) (r : PairRow) (items : List Item) (step : List ℕ → List ℕ → Type 0) (a b c : PlantState) → Apart front r → Works tells (Recovers front items) a b → Works tells (OnVolume r.device step) b c
-      → ((v : ℕ) → LabelsLast (on a (Volume v)) (on b (Volume v))) → LabelsLast (on b (Volume r.device)) (on c (Volume r.device)) → (v : ℕ) → LabelsLast (on a (Volume v)) (on c (Volume v))
-  labels_pair front r items step a b c apart before works last here v = elim (cases_eq v r.device) [
-    | inl is ↦ subst (λ (n : ℕ). LabelsLast (on a (Volume n)) (on c (Volume n))) (sym is)
-        (last_behind (on a (Volume r.device)) (on b (Volume r.device)) (on c (Volume r.device)) ((before.elapses told).kept (Volume r.device)).later
-        (label_same (on a (Volume r.device)) (on b (Volume r.device))
-        (λ t from to z left.
-        let start = before.moments told (Volume r.device) t from to z left in
-        (start.0, start.1, (start.2).1 (λ has. let none = none_duplex front r apart in absurd (cc (has, none))))))
-        ((works.elapses told).kept (Volume r.device)) here)
-    | inr differ ↦
-        last_before (on a (Volume v)) (on b (Volume v)) (on c (Volume v)) ((before.elapses told).kept (Volume v)).later (last v) ((works.elapses told).kept (Volume v))
-        (λ t from to z left. let start = works.moments told (Volume v) t from to z left in (start.0, start.1, (start.2).1 differ)) ((works.bytes told (Volume v)).1 differ)
-  ]
+  module _ (front : List PairRow) (r : PairRow) (items : List Item) (step : List ℕ → List ℕ → Type 0) (a b c : PlantState) (apart : Apart front r) (before : Works tells (Recovers front items) a b) (works : Works tells (OnVolume r.device step) b c) where
+    untouched : (x y : List ℕ) → Recovers front items (Volume r.device) x y → y ≡ x
+    untouched x y p = p.1 (λ has. let none = none_duplex front r apart in absurd (cc (has, none)))
+
+    pub labels_pair : (own : List Item) → own ≡ items → ((v : ℕ) → LabelsLast v items (on a (Volume v)) (on b (Volume v))) → LabelsLast r.device own (on b (Volume r.device)) (on c (Volume r.device)) → (v : ℕ) → LabelsLast v items (on a (Volume v)) (on c (Volume v))
+    labels_pair own same last here v = elim (cases_eq v r.device) [
+      | inl is ↦ subst (λ (n : ℕ). LabelsLast n items (on a (Volume n)) (on c (Volume n))) (sym is)
+          (last_behind r.device items (on a (Volume r.device)) (on b (Volume r.device)) (on c (Volume r.device)) ((before.elapses told).kept (Volume r.device)).later
+          (λ t from to z left. let start = before.moments told (Volume r.device) t from to z left in (start.0, start.1, untouched start.0 z start.2))
+          (untouched (a.bytes (Volume r.device)) (b.bytes (Volume r.device)) (before.bytes told (Volume r.device))) ((works.elapses told).kept (Volume r.device))
+          (subst (λ (l : List Item). LabelsLast r.device l (on b (Volume r.device)) (on c (Volume r.device))) same here))
+      | inr differ ↦
+          last_before v items (on a (Volume v)) (on b (Volume v)) (on c (Volume v)) ((before.elapses told).kept (Volume v)).later (last v) ((works.elapses told).kept (Volume v))
+          (λ t from to z left. let start = works.moments told (Volume v) t from to z left in (start.0, start.1, (start.2).1 differ)) ((works.bytes told (Volume v)).1 differ)
+    ]
+
+-- ---- the labels in the end
+
+-- A label that was kept before
+pub named_then : (row : PairRow) (a b c : PlantState) → SameLabel (a.bytes (Volume row.device)) (b.bytes (Volume row.device)) → a.faults (Volume row.device) ≤ b.faults (Volume row.device) → IsNamed row b c → IsNamed row a c
+named_then row a b c same le named quiet = elim (named (λ rose. quiet (rose_later (a.faults (Volume row.device)) (b.faults (Volume row.device)) (c.faults (Volume row.device)) le rose))) [
+  | inl kept ↦ inl (kept ∙ same)
+  | inr is ↦ inr is
+]
+
+-- and a volume that stays afterwards.
+pub named_still : (row : PairRow) (a b c : PlantState) → c.bytes (Volume row.device) ≡ b.bytes (Volume row.device) → c.faults (Volume row.device) ≡ b.faults (Volume row.device) → IsNamed row a b → IsNamed row a c
+named_still row a b c same count named quiet = elim (named (λ rose. quiet (subst (λ (n : ℕ). Rose (a.faults (Volume row.device)) n) (sym count) rose))) [
+  | inl kept ↦ inl (ap (λ (l : List ℕ). take 14 l) same ∙ kept)
+  | inr is ↦ inr (ap (λ (l : List ℕ). take 14 l) same ∙ is)
+]
+
+-- A label was written, or the count rose.
+pub named_by : {E : Type 0} (row : PairRow) (a b c : PlantState) (r : Result (Unit {0}) E) → a.faults (Volume row.device) ≤ b.faults (Volume row.device) → HasCause (b.faults (Volume row.device)) (c.faults (Volume row.device)) r
+    → OnOk r (take 14 (c.bytes (Volume row.device)) ≡ label_spelling (record { serial = row.primary; cylinders = row.cylinders })) → IsNamed row a c
+named_by row a b c (Ok v) le cause label quiet = inr label
+named_by row a b c (Err e) le cause label quiet = absurd (quiet (rose_later (a.faults (Volume row.device)) (b.faults (Volume row.device)) (c.faults (Volume row.device)) le cause.failed))
+
+-- Where the bytes are the same so are labels.
+pub named_same : (rows : List PairRow) (a b : PlantState) → ((v : ℕ) → b.bytes (Volume v) ≡ a.bytes (Volume v)) → AreNamed rows a b
+named_same rows a b same k d lt duplex quiet = inl (ap (λ (l : List ℕ). take 14 l) (same (slice_index_or rows k d).device))
+
+-- Calls behind others that only read
+pub named_behind : (rows : List PairRow) (a b c : PlantState) → ((v : ℕ) → b.bytes (Volume v) ≡ a.bytes (Volume v)) → ((v : ℕ) → a.faults (Volume v) ≤ b.faults (Volume v)) → AreNamed rows b c → AreNamed rows a c
+named_behind rows a b c same le named k d lt duplex =
+    let row = slice_index_or rows k d in
+    named_then row a b c (ap (λ (l : List ℕ). take 14 l) (same row.device)) (le row.device) (named k d lt duplex)
+
+-- One pair more, of whose device no other row is.
+pub named_pair : (tells : Type 0) (told : tells) (rows : List PairRow) (i : ℕ) (r : PairRow) (items : List Item) (step : List ℕ → List ℕ → Type 0) (a b c : PlantState) → none_clash rows ≡ true → slice_get rows i ≡ Some r → Apart (take i rows) r
+    → Works tells (Recovers (take i rows) items) a b → Works tells (OnVolume r.device step) b c → ((v : ℕ) → v ≢ r.device → c.faults (Volume v) ≡ b.faults (Volume v)) → AreNamed rows a b → IsNamed r b c → AreNamed rows a c
+named_pair tells told rows i r items step a b c keeps is apart before works counts named here k d lt duplex =
+    let row = slice_index_or rows k d in
+    elim (cases_eq row.device r.device) [
+      | inl own ↦ subst (λ (q : PairRow). IsNamed q a c) (sym (same_row rows i r k d keeps is lt own))
+          (named_then r a b c
+          (ap (λ (l : List ℕ). take 14 l) (untouched tells told (take i rows) r items step a b c apart before works (a.bytes (Volume r.device)) (b.bytes (Volume r.device)) (before.bytes told (Volume r.device))))
+          (before.faults (Volume r.device)) here)
+      | inr differ ↦ named_still row a b c ((works.bytes told (Volume row.device)).1 differ) (counts row.device differ) (named k d lt duplex)
+    ]

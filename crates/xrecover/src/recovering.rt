@@ -17,8 +17,9 @@ ghost use Rattle.xrecover.specs.declared.recover_error.RecoverError.{RecoverErro
 ghost use Rattle.xrecover.specs.declared.recover_error.RecoverError.TheVariants.{Site};
 ghost use Rattle.xrecover.specs.Pairs.{AreFaulty, first_small};
 ghost use Rattle.xrecover.specs.Answers.{HasWalk, IsEarly, IsLate, IsRecoverable, Says};
-ghost use Rattle.xrecover.specs.Works.{LabelsLast, Nothing, Works};
+ghost use Rattle.xrecover.specs.Works.{Nothing, Works};
 ghost use Rattle.xrecover.specs.Redone.{Recovers, Redone, meant_rows};
+ghost use Rattle.xrecover.specs.Labels.{AreNamed, LabelsLast};
 ghost use Rattle.xrecover.specs.Sees.{IsSettled, SeesSame};
 
 use crate::meaning::{Meant, is_duplex, read_meant};
@@ -59,7 +60,8 @@ fn redo_pairs<P: Plant>(
     ensures works { Works P.tells (Recovers meant.now.means.table.rows (walked (P.state plant.old) (P.state plant.old).bytes)) (P.state plant.old) (P.state plant.new) }
     ensures failed { IfOk result (AreFaulty meant.now.means.table.rows (P.state plant.old).faults (P.state plant.new).faults) }
     ensures redone { P.tells → IfOk result (λ failed. Redone meant.now.means.table.rows (walked (P.state plant.old) (P.state plant.old).bytes) failed (P.state plant.old) (P.state plant.new)) }
-    ensures labels { P.tells → (v : ℕ) → LabelsLast (on (P.state plant.old) (Volume v)) (on (P.state plant.new) (Volume v)) }
+    ensures labels { P.tells → (v : ℕ) → LabelsLast v (walked (P.state plant.old) (P.state plant.old).bytes) (on (P.state plant.old) (Volume v)) (on (P.state plant.new) (Volume v)) }
+    ensures named { P.tells → AreNamed meant.now.means.table.rows (P.state plant.old) (P.state plant.new) }
     ensures late { P.tells → (e : RecoverErrorValue) → IsErrOf result e → IsLate (P.state plant.old) e }
     ensures fault { (d : AnyDevice) → IsErrOf result (Site (Fault d)) → Rose ((P.state plant.old).faults d) ((P.state plant.new).faults d) }
 {
@@ -103,8 +105,10 @@ pub fn recover<R: Threads + Sync, P: Plant>(
     ensures redone { P.tells → IfOk result (λ o. Redone (meant_rows (P.state plant.old) (P.state plant.old).bytes) (walked (P.state plant.old) (P.state plant.old).bytes) o.failed (P.state plant.old) (P.state plant.new)) }
     // At every moment only labels of duplex pairs' volumes, and slots of tracks of which the walk has an item, differ.
     ensures works { Works P.tells (Recovers (meant_rows (P.state plant.old) (P.state plant.old).bytes) (walked (P.state plant.old) (P.state plant.old).bytes)) (P.state plant.old) (P.state plant.new) }
-    // A label is written once the slots are durable.
-    ensures labels { P.tells → (v : ℕ) → LabelsLast (on (P.state plant.old) (Volume v)) (on (P.state plant.new) (Volume v)) }
+    // A label is written once the slots are redone and durable.
+    ensures labels { P.tells → (v : ℕ) → LabelsLast v (walked (P.state plant.old) (P.state plant.old).bytes) (on (P.state plant.old) (Volume v)) (on (P.state plant.new) (Volume v)) }
+    // Whatever it answers, a duplex pair's volume has the label that it had, or its primary's, but where its count rose.
+    ensures named { P.tells → AreNamed (meant_rows (P.state plant.old) (P.state plant.old).bytes) (P.state plant.old) (P.state plant.new) }
     // At every moment a crash leaves what means the same, with the same tracks, so that a second recovery gives what the first would.
     ensures moments { P.tells → IsSettled (P.state plant.old) → AllFollow (SeesSame (P.state plant.old)) (P.state plant.old) (P.state plant.new) }
     // All answers but a journal's fault come before anything is written, want of memory too.

@@ -4,7 +4,7 @@ ghost use Rattle.std.specs.Prelude.{◌≡◌, ◌≢◌, ◌≤◌, ◌<◌, �
 ghost use Rattle.xrc_edge.specs.Causes.{Rose};
 ghost use Rattle.crash_plant.specs.declared.device.Device.{Device as AnyDevice};
 ghost use Rattle.crash_plant.specs.declared.device.Device.TheVariants.{Journal, Volume};
-ghost use Rattle.crash_plant.specs.Moments.{Follows, on};
+ghost use Rattle.crash_plant.specs.Moments.{on};
 ghost use Rattle.crash_plant.specs.Calls.{NoneLent};
 ghost use Rattle.xrc_journal.specs.Items.{AreItems, form_of};
 ghost use Rattle.xrc_journal.specs.Records.{most_body, walk_one};
@@ -15,8 +15,9 @@ ghost use Rattle.site_means.specs.Sight.{walked};
 ghost use Rattle.site_means.specs.Steps.{HasRoom};
 ghost use Rattle.xrecover.specs.Answers.{HasWalk};
 ghost use Rattle.xrecover.specs.Again.{FoundAgain, IsBehind, IsWalkFault};
-ghost use Rattle.xrecover.specs.Works.{LabelsLast, OnVolume, SameLabel, Works};
+ghost use Rattle.xrecover.specs.Works.{OnVolume, Works};
 ghost use Rattle.xrecover.specs.Redone.{Draws, IsRedone, Redoes};
+ghost use Rattle.xrecover.specs.Labels.{IsNamed, KeepsLabel, LabelsLast};
 
 use crate::volumes::{Tools, apply_body, finish_volume};
 use control_set::Mark;
@@ -73,7 +74,7 @@ pub(crate) fn redo_items<P: Plant>(
     ensures works { Works P.tells (OnVolume device (Redoes device (walked (P.state plant.old) (P.state plant.old).bytes))) (P.state plant.old) (P.state plant.new) }
     ensures failed { IfOk result (λ r. r.1 ≡ true → Rose ((P.state plant.old).faults (Volume device)) ((P.state plant.new).faults (Volume device))) }
     ensures counts { (v : ℕ) → v ≢ device → (P.state plant.new).faults (Volume v) ≡ (P.state plant.old).faults (Volume v) }
-    ensures label { P.tells → Follows SameLabel (on (P.state plant.old) (Volume device)) (on (P.state plant.new) (Volume device)) }
+    ensures label { P.tells → KeepsLabel (on (P.state plant.old) (Volume device)) (on (P.state plant.new) (Volume device)) }
     ensures content { P.tells → IfOk result (λ r. r.1 ≡ false → Draws device (walked (P.state plant.old) (P.state plant.old).bytes) ((P.state plant.old).bytes (Volume device)) ((P.state plant.new).bytes (Volume device))) }
     ensures memory { ¬ IsErrOf result NoMemory }
     ensures told { P.tells → (e : SiteErrorValue) → IsErrOf result e → IsWalkFault (P.state plant.old) e }
@@ -114,7 +115,8 @@ pub(crate) fn redo_pair<P: Plant>(
     ensures works { Works P.tells (OnVolume row.now.device (Redoes row.now.device (walked (P.state plant.old) (P.state plant.old).bytes))) (P.state plant.old) (P.state plant.new) }
     ensures failed { IfOk result (λ r. r.1 ≡ true → Rose ((P.state plant.old).faults (Volume row.now.device)) ((P.state plant.new).faults (Volume row.now.device))) }
     ensures counts { (v : ℕ) → v ≢ row.now.device → (P.state plant.new).faults (Volume v) ≡ (P.state plant.old).faults (Volume v) }
-    ensures lasts { P.tells → LabelsLast (on (P.state plant.old) (Volume row.now.device)) (on (P.state plant.new) (Volume row.now.device)) }
+    ensures lasts { P.tells → LabelsLast row.now.device (walked (P.state plant.old) (P.state plant.old).bytes) (on (P.state plant.old) (Volume row.now.device)) (on (P.state plant.new) (Volume row.now.device)) }
+    ensures named { P.tells → IsNamed row.now (P.state plant.old) (P.state plant.new) }
     ensures redone { P.tells → IfOk result (λ r. r.1 ≡ false → IsRedone row.now (walked (P.state plant.old) (P.state plant.old).bytes) (P.state plant.old) (P.state plant.new)) }
     ensures memory { ¬ IsErrOf result NoMemory }
     ensures told { P.tells → (e : SiteErrorValue) → IsErrOf result e → IsWalkFault (P.state plant.old) e }

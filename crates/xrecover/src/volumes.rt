@@ -9,8 +9,9 @@ ghost use Rattle.xrc_journal.specs.Items.{AreItems, form_of};
 ghost use Rattle.applier.specs.Slots.{DiffersInSlots, HasItem, HoldsContent, slot_end};
 ghost use Rattle.applier.specs.Jobs.{FailsByCount};
 ghost use Rattle.volume_label.specs.Labels.{label_spelling};
-ghost use Rattle.xrecover.specs.Works.{LabelsLast, OnVolume, Works};
+ghost use Rattle.xrecover.specs.Works.{OnVolume, Works};
 ghost use Rattle.xrecover.specs.Redone.{Redoes};
+ghost use Rattle.xrecover.specs.Labels.{IsNamed, LabelsLast};
 
 use applier::{VolumeJob, apply_volume};
 use ckd_track::Slot;
@@ -97,7 +98,8 @@ pub(crate) fn finish_volume<P: Plant>(plant: &mut P, row: &PairRow) -> bool
     ensures counts { (v : ℕ) → v ≢ row.now.device → (P.state plant.new).faults (Volume v) ≡ (P.state plant.old).faults (Volume v) }
     ensures label { P.tells → result ≡ false → take 14 ((P.state plant.new).bytes (Volume row.now.device)) ≡ label_spelling (record { serial = row.now.primary; cylinders = row.now.cylinders }) }
     ensures durable { P.tells → result ≡ false → IsDurable (on (P.state plant.new) (Volume row.now.device)) }
-    ensures lasts { P.tells → LabelsLast (on (P.state plant.old) (Volume row.now.device)) (on (P.state plant.new) (Volume row.now.device)) }
+    ensures lasts { P.tells → LabelsLast row.now.device [] (on (P.state plant.old) (Volume row.now.device)) (on (P.state plant.new) (Volume row.now.device)) }
+    ensures named { P.tells → IsNamed row.now (P.state plant.old) (P.state plant.new) }
 {
     let label = Label {
         serial: row.primary,

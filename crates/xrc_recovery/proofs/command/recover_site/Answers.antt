@@ -22,6 +22,7 @@ returns-in-Ok g c =
       console_count = c.in-Ok.ensures.console_count;
       changes = c.in-Ok.ensures.changes;
       labels = c.in-Ok.ensures.labels;
+      named = c.in-Ok.ensures.named;
       moments = c.in-Ok.ensures.moments;
       unwritten = c.in-Ok.ensures.unwritten;
     } in
@@ -46,6 +47,7 @@ returns-in-Err g c =
       console_count = c.in-Err.ensures.console_count;
       changes = c.in-Err.ensures.changes;
       labels = c.in-Err.ensures.labels;
+      named = c.in-Err.ensures.named;
       moments = c.in-Err.ensures.moments;
       unwritten = c.in-Err.ensures.unwritten;
     } in

@@ -22,6 +22,7 @@ returns-then-not-is_site g c =
       console_count = k.console_count;
       changes = k.changes;
       labels = k.labels;
+      named = k.named;
       moments = k.moments;
       unwritten = k.unwritten;
     }
@@ -33,7 +34,7 @@ returns-in-Err g c =
     let site = c.is_site.ensures.0 c.if-not-is_site.false in
     let e = c.in-Err.error in
     let k = at_error g.P.Plant.tells c.args.session a b e c.stop_of.result c.stop_of.ensures site c.in-Err.ensures.says (λ d first. let same = c.in-Err.ensures.short d first in cc) (λ d is. c.in-Err.ensures.fault d (λ i. Err (is i)))
-    c.recover.ensures.works c.recover.ensures.labels c.recover.ensures.moments (λ early. c.in-Err.ensures.unwritten e refl early) in
+    c.recover.ensures.works c.recover.ensures.labels c.recover.ensures.named c.recover.ensures.moments (λ early. c.in-Err.ensures.unwritten e refl early) in
     record {
       site = k.site;
       untouched = λ is. absurd (k.site.0 is site);
@@ -48,6 +49,7 @@ returns-in-Err g c =
       console_count = k.console_count;
       changes = k.changes;
       labels = k.labels;
+      named = k.named;
       moments = k.moments;
       unwritten = k.unwritten;
     }
@@ -66,6 +68,7 @@ returns-in-Ok g c =
       redone = c.in-Ok.ensures.redone;
       works = c.recover.ensures.works;
       labels = c.recover.ensures.labels;
+      named = c.recover.ensures.named;
       moments = c.recover.ensures.moments;
       ok = c.report.ensures.ok;
       lines = c.report.ensures.lines;
@@ -89,6 +92,7 @@ returns-in-Ok g c =
       console_count = k.console_count;
       changes = k.changes;
       labels = k.labels;
+      named = k.named;
       moments = k.moments;
       unwritten = k.unwritten;
     }

@@ -1,14 +1,17 @@
-use Rattle.std.proofs.Common.{◌≡◌, ◌≤◌, ◌<◌, ℕ, List, [], Result, Ok, Err, refl, sym, subst, ◌∙◌, arith, rules}
+use Rattle.std.proofs.Common.{◌≡◌, [], Result, Err, refl, sym, ap, subst, arith, rules}
 use Rattle.std.proofs.lemmas.Result.{err_from_is_err_and}
-use Rattle.crash_plant.specs.declared.device.Device.TheVariants.{Journal}
+use Rattle.crash_plant.specs.declared.device.Device.TheVariants.{Journal, Volume}
 use Rattle.site_means.specs.Sight.{walked}
 use Rattle.site_means.proofs.Shorts.{are_long}
 use Rattle.xrecover.specs.declared.outcome.Outcome.{Outcome}
+use Rattle.site_means.specs.declared.site_error.SiteError.TheVariants.{Fault}
 use Rattle.xrecover.specs.declared.recover_error.RecoverError.{RecoverError}
+use Rattle.xrecover.specs.declared.recover_error.RecoverError.TheVariants.{Site}
 use Rattle.xrecover.specs.Answers.{EndsLate, IsRecoverable, Says}
 use Rattle.xrecover.specs.Redone.{Recovers, meant_rows}
-use Rattle.xrecover.proofs.Finish.{all_redone, all_works, ends_late, late_says, no_writes, read_works, walk_now}
-use Rattle.xrecover.proofs.Labels.{labels_behind, labels_read}
+use Rattle.xrecover.proofs.Fails.{so_good}
+use Rattle.xrecover.proofs.Finish.{all_named, all_redone, all_works, ends_late, late_says, no_writes, read_works, rose_since, walk_now}
+use Rattle.xrecover.proofs.Labels.{labels_behind, labels_read, named_same}
 use Rattle.xrecover.proofs.Seen.{sees_moments}
 use Rattle.xrecover.proofs.recovering.recover.Goals as goal
 
@@ -89,13 +92,19 @@ returns-clause-moments g c = λ told settled.
     (all_works g.P.Plant.tells old (g.P.Plant.state c.read_meant.new.plant) c.read_meant.ensures.reads c.args.session c.in_ok-meant.meant.means (λ told. (c.in_ok-meant.ensures.says told).0) new c.redo_pairs.ensures.works) settled
 
 pub returns-in_err-meant-clause-labels : goal.returns-in_err-meant-clause-labels
-returns-in_err-meant-clause-labels g c = λ told. labels_read g.P.Plant.tells told (g.P.Plant.state c.args.plant.now) (g.P.Plant.state c.read_meant.new.plant) c.read_meant.ensures.reads
+returns-in_err-meant-clause-labels g c = λ told.
+    let old = g.P.Plant.state c.args.plant.now in
+    labels_read g.P.Plant.tells told (walked old old.bytes) old (g.P.Plant.state c.read_meant.new.plant) c.read_meant.ensures.reads
 
 pub returns-in_err-tools-clause-labels : goal.returns-in_err-tools-clause-labels
-returns-in_err-tools-clause-labels g c = λ told. labels_read g.P.Plant.tells told (g.P.Plant.state c.args.plant.now) (g.P.Plant.state c.read_meant.new.plant) c.read_meant.ensures.reads
+returns-in_err-tools-clause-labels g c = λ told.
+    let old = g.P.Plant.state c.args.plant.now in
+    labels_read g.P.Plant.tells told (walked old old.bytes) old (g.P.Plant.state c.read_meant.new.plant) c.read_meant.ensures.reads
 
 pub returns-in_err-room-clause-labels : goal.returns-in_err-room-clause-labels
-returns-in_err-room-clause-labels g c = λ told. labels_read g.P.Plant.tells told (g.P.Plant.state c.args.plant.now) (g.P.Plant.state c.read_meant.new.plant) c.read_meant.ensures.reads
+returns-in_err-room-clause-labels g c = λ told.
+    let old = g.P.Plant.state c.args.plant.now in
+    labels_read g.P.Plant.tells told (walked old old.bytes) old (g.P.Plant.state c.read_meant.new.plant) c.read_meant.ensures.reads
 
 pub returns-in_err-failed-clause-labels : goal.returns-in_err-failed-clause-labels
 returns-in_err-failed-clause-labels g c = λ told.
@@ -104,3 +113,30 @@ returns-in_err-failed-clause-labels g c = λ told.
 pub returns-clause-labels : goal.returns-clause-labels
 returns-clause-labels g c = λ told.
     labels_behind g.P.Plant.tells told _ (g.P.Plant.state c.args.plant.now) (g.P.Plant.state c.read_meant.new.plant) (g.P.Plant.state c.redo_pairs.new.plant) c.read_meant.ensures.reads c.redo_pairs.ensures.works (c.redo_pairs.ensures.labels told)
+
+pub returns-in_err-meant-clause-named : goal.returns-in_err-meant-clause-named
+returns-in_err-meant-clause-named g c = λ told. named_same _ (g.P.Plant.state c.args.plant.now) (g.P.Plant.state c.read_meant.new.plant) (λ v. c.read_meant.ensures.reads.same told (Volume v))
+
+pub returns-in_err-tools-clause-named : goal.returns-in_err-tools-clause-named
+returns-in_err-tools-clause-named g c = λ told. named_same _ (g.P.Plant.state c.args.plant.now) (g.P.Plant.state c.read_meant.new.plant) (λ v. c.read_meant.ensures.reads.same told (Volume v))
+
+pub returns-in_err-room-clause-named : goal.returns-in_err-room-clause-named
+returns-in_err-room-clause-named g c = λ told. named_same _ (g.P.Plant.state c.args.plant.now) (g.P.Plant.state c.read_meant.new.plant) (λ v. c.read_meant.ensures.reads.same told (Volume v))
+
+pub returns-in_err-failed-clause-named : goal.returns-in_err-failed-clause-named
+returns-in_err-failed-clause-named g c = λ told.
+    all_named g.P.Plant.tells (g.P.Plant.state c.args.plant.now) (g.P.Plant.state c.read_meant.new.plant) c.read_meant.ensures.reads c.args.session c.in_ok-meant.meant.means (λ told. (c.in_ok-meant.ensures.says told).0) (g.P.Plant.state c.redo_pairs.new.plant) told
+    (c.redo_pairs.ensures.named told)
+
+pub returns-clause-named : goal.returns-clause-named
+returns-clause-named g c = λ told.
+    all_named g.P.Plant.tells (g.P.Plant.state c.args.plant.now) (g.P.Plant.state c.read_meant.new.plant) c.read_meant.ensures.reads c.args.session c.in_ok-meant.meant.means (λ told. (c.in_ok-meant.ensures.says told).0) (g.P.Plant.state c.redo_pairs.new.plant) told
+    (c.redo_pairs.ensures.named told)
+
+pub returns-in_err-failed-clause-fault : goal.returns-in_err-failed-clause-fault
+returns-in_err-failed-clause-fault g c = λ d is.
+    let old = g.P.Plant.state c.args.plant.now in
+    let one = g.P.Plant.state c.read_meant.new.plant in
+    let same : Site (Fault d) ≡ c.in_err-failed.field-0.0 = search rules in
+    rose_since old.faults one.faults (g.P.Plant.state c.redo_pairs.new.plant).faults (so_good old.faults one.faults c.in_ok-meant.meant c.in_ok-meant.ensures.fails) d
+    (c.in_err-failed.ensures.fault d (ap (λ (k : RecoverError). Err k) (sym same)))

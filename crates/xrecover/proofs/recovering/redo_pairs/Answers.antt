@@ -1,4 +1,4 @@
-use Rattle.std.proofs.Common.{◌≡◌, ◌++◌, ◌∷◌, ◌+◌, ◌<◌, ◌≤◌, inl, inr, ℕ, List, [], cond, true, false, length, take, vec_capacity, vec_len, Some, None, refl, sym, ap, subst, ◌∙◌, arith, rules}
+use Rattle.std.proofs.Common.{◌≡◌, ◌++◌, ◌∷◌, ◌+◌, ◌<◌, ℕ, List, [], true, false, length, take, vec_capacity, vec_len, Some, refl, sym, ap, subst, ◌∙◌, arith, rules}
 use Rattle.std.specs.Prelude.{slice_get}
 use Rattle.std.specs.Option.{option_copied}
 use Rattle.xrecover.specs.declared.volumes.Tools.{Tools}
@@ -6,17 +6,17 @@ use Rattle.xrecover.proofs.Rows.{some_there}
 use Rattle.std.proofs.lemmas.List.{append-nil, take_all}
 use Rattle.pair_table.specs.declared.row.PairRow.{PairRow}
 use Rattle.site_means.specs.Sight.{walked}
-use Rattle.xrc_journal.specs.Bodies.{Held}
 use Rattle.xrecover.specs.declared.recover_error.RecoverError.{RecoverError}
 use Rattle.xrecover.specs.declared.recover_error.RecoverError.TheVariants.{Site}
 use Rattle.xrecover.specs.Answers.{IsLate}
-use Rattle.xrecover.specs.Pairs.{AreFaulty, is_duplex}
-use Rattle.xrecover.specs.Redone.{IsRedone, Recovers, Redone}
-use Rattle.xrecover.specs.Works.{LabelsLast, Works}
+use Rattle.xrecover.specs.Pairs.{AreFaulty}
+use Rattle.xrecover.specs.Redone.{Recovers, Redone}
+use Rattle.xrecover.specs.Works.{Works}
+use Rattle.xrecover.specs.Labels.{AreNamed, LabelsLast}
 use Rattle.crash_plant.specs.declared.device.Device.TheVariants.{Volume}
 use Rattle.crash_plant.specs.Moments.{PlantState, on}
 use Rattle.xrecover.proofs.Going.{Going, apart_before, going_faulty, going_first, going_redone}
-use Rattle.xrecover.proofs.Labels.{label_here, label_kept, labels_pair}
+use Rattle.xrecover.proofs.Labels.{label_here, label_kept, labels_pair, named_pair, named_same}
 use Rattle.xrecover.proofs.Stepping.{late_before, other_going, pair_going, pair_long, pair_there, same_walk, stopped_works}
 use Rattle.xrecover.proofs.recovering.redo_pairs.Goals as goal
 use Rattle.xrecover.proofs.recovering.redo_pairs.Goals.{then-is_duplex+in_ok-again+then-has_failed, then-is_duplex+in_ok-again+else-has_failed, else-is_duplex}
@@ -26,7 +26,8 @@ loop-place-init g c =
     let old = g.P.Plant.state c.args.plant.now in
     record {
       going = subst (λ (l : List ℕ). Going g.P.Plant.tells (walked old old.bytes) [] l old old) (sym c.requires.empty) (going_first g.P.Plant.tells (walked old old.bytes) old);
-      labels = λ told v. label_kept (on old (Volume v)) (on old (Volume v)) (label_here g.P.Plant.tells told old v);
+      labels = λ told v. label_kept v (walked old old.bytes) (on old (Volume v)) (on old (Volume v)) (label_here g.P.Plant.tells told old v).moments;
+      named = λ told. named_same c.args.meant.now.means.table.rows old old (λ v. refl);
       room = refl;
       count = omega (arith, c.args.failed.ok.0, ap length c.requires.empty);
       places = c.requires.places;
@@ -75,8 +76,21 @@ returns-in_err-again-clause-labels g c = λ told.
     let old = g.P.Plant.state c.args.plant.now in
     let r = c.unwrap.result.now in
     let is : slice_get rows i ≡ Some r = sym c.row.ensures.row ∙ ap option_copied c.unwrap.ensures in
-    labels_pair g.P.Plant.tells told (take i rows) r (walked old old.bytes) _ old (g.P.Plant.state c.loop-place.plant) (g.P.Plant.state c.redo_pair.new.plant) (apart_before rows i r c.len-place-end.ensures.rules.apart is)
-    c.loop-place.invariant.going.works c.redo_pair.ensures.works (c.loop-place.invariant.labels told) (c.redo_pair.ensures.lasts told)
+    let cur = g.P.Plant.state c.loop-place.plant in
+    let going = c.loop-place.invariant.going in
+    labels_pair g.P.Plant.tells told (take i rows) r (walked old old.bytes) _ old cur (g.P.Plant.state c.redo_pair.new.plant) (apart_before rows i r c.len-place-end.ensures.rules.apart is)
+    going.works c.redo_pair.ensures.works _ (same_walk g.P.Plant.tells rows i c.loop-place.failed.items old cur going c.args.meant.now.mark c.requires.walk told).items (c.loop-place.invariant.labels told) (c.redo_pair.ensures.lasts told)
+
+pub returns-in_err-again-clause-named : goal.returns-in_err-again-clause-named
+returns-in_err-again-clause-named g c = λ told.
+    let rows = c.args.meant.now.means.table.rows in
+    let i = c.loop-place.place in
+    let old = g.P.Plant.state c.args.plant.now in
+    let r = c.unwrap.result.now in
+    let is : slice_get rows i ≡ Some r = sym c.row.ensures.row ∙ ap option_copied c.unwrap.ensures in
+    let keeps = c.len-place-end.ensures.rules.apart in
+    named_pair g.P.Plant.tells told rows i r (walked old old.bytes) _ old (g.P.Plant.state c.loop-place.plant) (g.P.Plant.state c.redo_pair.new.plant) keeps is (apart_before rows i r keeps is)
+    c.loop-place.invariant.going.works c.redo_pair.ensures.works c.redo_pair.ensures.counts (c.loop-place.invariant.named told) (c.redo_pair.ensures.named told)
 
 pub returns-in_err-again-clause-late : goal.returns-in_err-again-clause-late
 returns-in_err-again-clause-late g c = λ told e is.
@@ -96,6 +110,8 @@ loop-place-preserved g c =
     let going = c.loop-place.invariant.going in
     let r = c.unwrap.result.now in
     let is : slice_get rows i ≡ Some r = sym c.row.ensures.row ∙ ap option_copied c.unwrap.ensures in
+    let keeps = c.len-place-end.ensures.rules.apart in
+    let same = λ (told : g.P.Plant.tells). (same_walk g.P.Plant.tells rows i c.loop-place.failed.items old cur going c.args.meant.now.mark c.requires.walk told).items in
     elim c.if-is_duplex.branch [
       | then-is_duplex+in_ok-again+then-has_failed w ↦
           let new = g.P.Plant.state w.redo_pair.new.plant in
@@ -105,8 +121,10 @@ loop-place-preserved g c =
           record {
             going = subst (λ (p : PlantState). Going g.P.Plant.tells (walked old old.bytes) (take (i + 1) rows) c.if-is_duplex.failed.items old p) (ap g.P.Plant.state (sym w.plant-is))
                 (subst (λ (l : List ℕ). Going g.P.Plant.tells (walked old old.bytes) (take (i + 1) rows) l old new) (sym failed_is) done);
-            labels = λ told. subst (λ (p : PlantState). (v : ℕ) → LabelsLast (on old (Volume v)) (on p (Volume v))) (ap g.P.Plant.state (sym w.plant-is))
-                (labels_pair g.P.Plant.tells told (take i rows) r (walked old old.bytes) _ old cur new (apart_before rows i r c.len-place-end.ensures.rules.apart is) going.works w.redo_pair.ensures.works (c.loop-place.invariant.labels told) (w.redo_pair.ensures.lasts told));
+            labels = λ told. subst (λ (p : PlantState). (v : ℕ) → LabelsLast v (walked old old.bytes) (on old (Volume v)) (on p (Volume v))) (ap g.P.Plant.state (sym w.plant-is))
+                (labels_pair g.P.Plant.tells told (take i rows) r (walked old old.bytes) _ old cur new (apart_before rows i r keeps is) going.works w.redo_pair.ensures.works _ (same told) (c.loop-place.invariant.labels told) (w.redo_pair.ensures.lasts told));
+            named = λ told. subst (λ (p : PlantState). AreNamed rows old p) (ap g.P.Plant.state (sym w.plant-is))
+                (named_pair g.P.Plant.tells told rows i r (walked old old.bytes) _ old cur new keeps is (apart_before rows i r keeps is) going.works w.redo_pair.ensures.works w.redo_pair.ensures.counts (c.loop-place.invariant.named told) (w.redo_pair.ensures.named told));
             room = ap (λ (t : Tools). t.body.room) w.tools-is ∙ w.in_ok-again.ensures.room ∙ c.loop-place.invariant.room;
             count = omega (arith, ap vec_len w.failed-is, w.push_reserved.ensures.len, c.loop-place.invariant.count);
             places = omega (arith, ap vec_capacity w.failed-is, w.push_reserved.ensures.capacity, c.loop-place.invariant.places);
@@ -119,8 +137,10 @@ loop-place-preserved g c =
           record {
             going = subst (λ (p : PlantState). Going g.P.Plant.tells (walked old old.bytes) (take (i + 1) rows) c.if-is_duplex.failed.items old p) (ap g.P.Plant.state (sym w.plant-is))
                 (subst (λ (l : List ℕ). Going g.P.Plant.tells (walked old old.bytes) (take (i + 1) rows) l old new) (sym failed_is) done);
-            labels = λ told. subst (λ (p : PlantState). (v : ℕ) → LabelsLast (on old (Volume v)) (on p (Volume v))) (ap g.P.Plant.state (sym w.plant-is))
-                (labels_pair g.P.Plant.tells told (take i rows) r (walked old old.bytes) _ old cur new (apart_before rows i r c.len-place-end.ensures.rules.apart is) going.works w.redo_pair.ensures.works (c.loop-place.invariant.labels told) (w.redo_pair.ensures.lasts told));
+            labels = λ told. subst (λ (p : PlantState). (v : ℕ) → LabelsLast v (walked old old.bytes) (on old (Volume v)) (on p (Volume v))) (ap g.P.Plant.state (sym w.plant-is))
+                (labels_pair g.P.Plant.tells told (take i rows) r (walked old old.bytes) _ old cur new (apart_before rows i r keeps is) going.works w.redo_pair.ensures.works _ (same told) (c.loop-place.invariant.labels told) (w.redo_pair.ensures.lasts told));
+            named = λ told. subst (λ (p : PlantState). AreNamed rows old p) (ap g.P.Plant.state (sym w.plant-is))
+                (named_pair g.P.Plant.tells told rows i r (walked old old.bytes) _ old cur new keeps is (apart_before rows i r keeps is) going.works w.redo_pair.ensures.works w.redo_pair.ensures.counts (c.loop-place.invariant.named told) (w.redo_pair.ensures.named told));
             room = ap (λ (t : Tools). t.body.room) w.tools-is ∙ w.in_ok-again.ensures.room ∙ c.loop-place.invariant.room;
             count = omega (arith, ap vec_len w.failed-is, c.loop-place.invariant.count);
             places = omega (arith, ap vec_capacity w.failed-is, c.loop-place.invariant.places);
@@ -130,7 +150,8 @@ loop-place-preserved g c =
           record {
             going = subst (λ (p : PlantState). Going g.P.Plant.tells (walked old old.bytes) (take (i + 1) rows) c.if-is_duplex.failed.items old p) (ap g.P.Plant.state (sym w.plant-is))
                 (subst (λ (l : List ℕ). Going g.P.Plant.tells (walked old old.bytes) (take (i + 1) rows) l old cur) (λ i. (sym w.failed-is i).items) done);
-            labels = λ told. subst (λ (p : PlantState). (v : ℕ) → LabelsLast (on old (Volume v)) (on p (Volume v))) (ap g.P.Plant.state (sym w.plant-is)) (c.loop-place.invariant.labels told);
+            labels = λ told. subst (λ (p : PlantState). (v : ℕ) → LabelsLast v (walked old old.bytes) (on old (Volume v)) (on p (Volume v))) (ap g.P.Plant.state (sym w.plant-is)) (c.loop-place.invariant.labels told);
+            named = λ told. subst (λ (p : PlantState). AreNamed rows old p) (ap g.P.Plant.state (sym w.plant-is)) (c.loop-place.invariant.named told);
             room = ap (λ (t : Tools). t.body.room) w.tools-is ∙ c.loop-place.invariant.room;
             count = omega (arith, ap vec_len w.failed-is, c.loop-place.invariant.count);
             places = omega (arith, ap vec_capacity w.failed-is, c.loop-place.invariant.places);

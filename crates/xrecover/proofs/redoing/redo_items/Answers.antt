@@ -1,18 +1,17 @@
-use Rattle.std.proofs.Common.{◌≡◌, ◌≢◌, ◌<◌, ◌≤◌, ◌++◌, ℕ, List, Option, Some, None, IfSome, Result, Ok, Err, refl, sym, ap, subst, ◌∙◌, arith, rules}
+use Rattle.std.proofs.Common.{◌≡◌, ◌++◌, ℕ, List, Option, Some, None, IfSome, Result, Ok, Err, refl, sym, ap, subst, ◌∙◌, arith, rules}
 use Rattle.tod_stamp.specs.declared.stamp.Stamp.{Stamp}
 use Rattle.crash_plant.specs.declared.device.Device.TheVariants.{Journal, Volume}
 use Rattle.crash_plant.specs.declared.spot.Spot.{Spot}
-use Rattle.crash_plant.specs.Moments.{PlantState}
-use Rattle.xrc_journal.specs.Items.{Item, form_of, none_earlier}
+use Rattle.xrc_journal.specs.Items.{form_of, none_earlier}
 use Rattle.xrc_journal.specs.Records.{Found, walk_one}
 use Rattle.xrc_journal.specs.Bodies.{Held}
-use Rattle.applier.specs.Slots.{DiffersInSlots, HasItem, HoldsContent, slot_end}
+use Rattle.applier.specs.Slots.{DiffersInSlots, HoldsContent}
 use Rattle.site_means.specs.declared.site_error.SiteError.{SiteError}
 use Rattle.site_means.specs.Images.{shape_of}
 use Rattle.site_means.specs.Sight.{walked}
 use Rattle.xrecover.specs.Again.{FoundAgain, IsBehind}
 use Rattle.xrecover.specs.Redone.{Draws}
-use Rattle.xrecover.proofs.Again.{Next, Reads, all_again, fault_again, found_same, of_walk, reads_again, reads_first, reads_next}
+use Rattle.xrecover.proofs.Again.{Next, all_again, fault_again, found_same, of_walk, reads_again, reads_first, reads_next}
 use Rattle.xrecover.proofs.Contents.{Done, done_then}
 use Rattle.xrecover.proofs.Relations.{items_within}
 use Rattle.xrecover.proofs.Labels.{label_applied, label_here, label_read}

@@ -1,4 +1,4 @@
-use Rattle.std.proofs.Common.{◌≡◌, ◌∙◌, ℕ, List, [], refl, arith}
+use Rattle.std.proofs.Common.{◌∙◌, inl, [], refl}
 use Rattle.crash_plant.specs.declared.device.Device.TheVariants.{Volume}
 use Rattle.crash_plant.specs.Moments.{on}
 use Rattle.site_means.specs.Sight.{walked}
@@ -6,7 +6,7 @@ use Rattle.xrecover.specs.Works.{OnVolume}
 use Rattle.xrecover.specs.Redone.{Redoes}
 use Rattle.xrecover.proofs.Relations.{one_then, redoes_more, redoes_then}
 use Rattle.xrecover.proofs.Contents.{draws_behind}
-use Rattle.xrecover.proofs.Labels.{label_kept, last_behind}
+use Rattle.xrecover.proofs.Labels.{label_kept, last_redone, named_then}
 use Rattle.xrecover.proofs.Works.{works_trans}
 use Rattle.xrecover.proofs.redoing.redo_pair.Goals as goal
 
@@ -39,9 +39,40 @@ returns-clause-redone g c = λ told good.
       durable = c.finish_volume-failed.ensures.durable told good;
     }
 
+-- The label comes behind the items of the walk.
 pub returns-clause-lasts : goal.returns-clause-lasts
 returns-clause-lasts g c = λ told.
-    let d = Volume c.args.row.now.device in
-    let mid = c.redo_items.ensures in
+    let old = g.P.Plant.state c.args.plant.now in
+    let mid = g.P.Plant.state c.redo_items.new.plant in
+    let new = g.P.Plant.state c.finish_volume-failed.new.plant in
+    let v = c.args.row.now.device in
+    let items = walked old old.bytes in
+    let redo = c.redo_items.ensures in
     let fin = c.finish_volume-failed.ensures in
-    last_behind (on (g.P.Plant.state c.args.plant.now) d) (on (g.P.Plant.state c.redo_items.new.plant) d) (on (g.P.Plant.state c.finish_volume-failed.new.plant) d) ((mid.works.elapses told).kept d).later (mid.label told) ((fin.works.elapses told).kept d) (fin.lasts told)
+    last_redone v items (on old (Volume v)) (on mid (Volume v)) (on new (Volume v)) ((redo.works.elapses told).kept (Volume v)).later (redo.label told).moments
+    (draws_behind v items (old.bytes (Volume v)) (mid.bytes (Volume v)) (new.bytes (Volume v)) (c.in_ok-tools.ensures.content told c.if-failed.false) ((fin.works.bytes told (Volume v)).0 refl))
+    ((fin.works.elapses told).kept (Volume v)) (fin.lasts told)
+
+pub returns-in_err-tools-clause-lasts : goal.returns-in_err-tools-clause-lasts
+returns-in_err-tools-clause-lasts g c = λ told.
+    let old = g.P.Plant.state c.args.plant.now in
+    let v = c.args.row.now.device in
+    label_kept v (walked old old.bytes) (on old (Volume v)) (on (g.P.Plant.state c.redo_items.new.plant) (Volume v)) (c.redo_items.ensures.label told).moments
+
+pub returns-then-failed-clause-lasts : goal.returns-then-failed-clause-lasts
+returns-then-failed-clause-lasts g c = λ told.
+    let old = g.P.Plant.state c.args.plant.now in
+    let v = c.args.row.now.device in
+    label_kept v (walked old old.bytes) (on old (Volume v)) (on (g.P.Plant.state c.redo_items.new.plant) (Volume v)) (c.redo_items.ensures.label told).moments
+
+pub returns-clause-named : goal.returns-clause-named
+returns-clause-named g c = λ told.
+    let redo = c.redo_items.ensures in
+    named_then c.args.row.now (g.P.Plant.state c.args.plant.now) (g.P.Plant.state c.redo_items.new.plant) (g.P.Plant.state c.finish_volume-failed.new.plant) (redo.label told).bytes (redo.works.faults (Volume c.args.row.now.device))
+    (c.finish_volume-failed.ensures.named told)
+
+pub returns-in_err-tools-clause-named : goal.returns-in_err-tools-clause-named
+returns-in_err-tools-clause-named g c = λ told quiet. inl (c.redo_items.ensures.label told).bytes
+
+pub returns-then-failed-clause-named : goal.returns-then-failed-clause-named
+returns-then-failed-clause-named g c = λ told quiet. inl (c.redo_items.ensures.label told).bytes

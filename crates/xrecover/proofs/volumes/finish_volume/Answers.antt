@@ -1,11 +1,11 @@
-use Rattle.std.proofs.Common.{List, ℕ, [], subst, sym, ◌∙◌, rules}
+use Rattle.std.proofs.Common.{List, ℕ, [], inl, take, ap, ◌∙◌, rules}
 use Rattle.crash_plant.specs.declared.device.Device.TheVariants.{Volume}
-use Rattle.crash_plant.specs.Moments.{on, Same}
+use Rattle.crash_plant.specs.Moments.{on}
 use Rattle.xrecover.specs.Works.{OnVolume}
 use Rattle.xrecover.specs.Redone.{Redoes}
 use Rattle.xrecover.proofs.Relations.{label_redoes, one_then, redoes_same, redoes_then}
 use Rattle.xrecover.proofs.Works.{works_one, works_trans}
-use Rattle.xrecover.proofs.Labels.{label_kept, label_last, label_same}
+use Rattle.xrecover.proofs.Labels.{label_kept, label_last, label_same, named_by}
 use Rattle.xrecover.proofs.volumes.finish_volume.Goals as goal
 
 pub returns-in-Err-clause-works : goal.returns-in-Err-clause-works
@@ -32,14 +32,23 @@ returns-in-Ok-clause-counts g c = λ v differ. c.write_label.ensures.only.others
 
 pub returns-in-Err-clause-lasts : goal.returns-in-Err-clause-lasts
 returns-in-Err-clause-lasts g c = λ told.
-    let d = Volume c.args.row.now.device in
-    let old = on (g.P.Plant.state c.args.plant.now) d in
-    let new = on (g.P.Plant.state c.sync.new.self) d in
-    label_kept old new (label_same old new (c.sync.ensures.moments told))
+    let v = c.args.row.now.device in
+    let old = on (g.P.Plant.state c.args.plant.now) (Volume v) in
+    let new = on (g.P.Plant.state c.sync.new.self) (Volume v) in
+    label_kept v [] old new (label_same old new (c.sync.ensures.moments told))
 
 -- The slots are durable when the label is written.
 pub returns-in-Ok-clause-lasts : goal.returns-in-Ok-clause-lasts
 returns-in-Ok-clause-lasts g c = λ told.
-    let d = Volume c.args.row.now.device in
-    label_last (on (g.P.Plant.state c.args.plant.now) d) (on (g.P.Plant.state c.sync.new.self) d) (on (g.P.Plant.state c.write_label.new.plant) d) ((c.sync.ensures.only.elapses told).kept d).later (c.sync.ensures.moments told)
+    let v = c.args.row.now.device in
+    let d = Volume v in
+    label_last v (on (g.P.Plant.state c.args.plant.now) d) (on (g.P.Plant.state c.sync.new.self) d) (on (g.P.Plant.state c.write_label.new.plant) d) ((c.sync.ensures.only.elapses told).kept d).later (c.sync.ensures.moments told) (c.sync.ensures.same told)
     (search rules) ((c.write_label.ensures.only.elapses told).kept d) (c.write_label.ensures.moments told) (c.write_label.ensures.torn told)
+
+pub returns-in-Err-clause-named : goal.returns-in-Err-clause-named
+returns-in-Err-clause-named g c = λ told quiet. inl (ap (λ (l : List ℕ). take 14 l) (c.sync.ensures.same told))
+
+pub returns-in-Ok-clause-named : goal.returns-in-Ok-clause-named
+returns-in-Ok-clause-named g c = λ told.
+    named_by c.args.row.now (g.P.Plant.state c.args.plant.now) (g.P.Plant.state c.sync.new.self) (g.P.Plant.state c.write_label.new.plant) c.write_label.result (c.sync.ensures.only.faults (Volume c.args.row.now.device)) c.write_label.ensures.cause
+    (c.write_label.ensures.begins told)
