@@ -1,8 +1,9 @@
 -- How a run over one source ends: done, or by a stop whose line is said last.
-use Rattle.std.proofs.Common.{◌≡◌, ◌≢◌, ◌⊎◌, ◌↔◌, ◌-◌, ◌^◌, inl, inr, ℕ, List, [], Option, Some, None, Result, Ok, Err, OnOk, IfErr, IsTrue, true, false, refl, sym, ap, subst, arith}
+use Rattle.std.proofs.Common.{◌≡◌, ◌≢◌, ◌⊎◌, ◌↔◌, ◌-◌, ◌^◌, ◌<◌, inl, inr, ℕ, List, [], Option, Some, None, Result, Ok, Err, OnOk, IfErr, IsTrue, true, false, refl, sym, ap, subst, arith}
 use Rattle.xrc_edge.specs.Causes.{Rose}
 use Rattle.crash_plant.specs.declared.device.Device.{Device}
-use Rattle.crash_plant.specs.Moments.{PlantState}
+use Rattle.crash_plant.specs.declared.device.Device.TheVariants.{Control}
+use Rattle.crash_plant.specs.Moments.{IsDurable, PlantState, on}
 use Rattle.crash_plant.specs.Calls.{NoneLent, SameSite}
 use Rattle.crash_plant.proofs.Steps.{none_lent_console, site_trans}
 use Rattle.trace_grammar.specs.declared.trace.Trace.{Trace}
@@ -18,13 +19,15 @@ use Rattle.xrc_status.specs.declared.stop.Stop.TheVariants.{BadHeader, BadSite, 
 use Rattle.xrc_status.specs.Saying.{SaysLast}
 use Rattle.xrc_status.specs.Stops.{last_line, status_of}
 use Rattle.xrc_recovery.proofs.Lasting.{not_done}
+use Rattle.xrc_session.specs.Beginning.{Begins}
 use Rattle.xrc_session.specs.Expected.{AnswersInPart, IsUnexpected, KeepsExpected, StopsAt}
 use Rattle.xrc_session.specs.Expected.AreAnswered.{AnEnd}
 use Rattle.xrc_session.specs.Full.{IsJournalFull}
 use Rattle.xrc_session.specs.Leaving.{LeavesOthers}
 use Rattle.xrc_session.specs.Numbers.{HasNumbers}
 use Rattle.xrc_session.specs.Runs.{AsksSession, EndsInHeader, EndsSession, GaveTrace, HasBrokenBy, IsEarly, IsOfSite, IsRefused, IsSessionRun, NoneFailed, StopsEarlyOr}
-use Rattle.xrc_session.specs.Stopping.{HasStopCause, StopsSo}
+use Rattle.xrc_session.specs.Stopping.{HasStopCause, NoneRose, StopsSo}
+use Rattle.xrc_session.proofs.Beginnings.{begins_behind}
 use Rattle.xrc_cli.specs.Statuses.{AnswersThen, BearsAnswered, EndsRun, SaysOnly, StoodSo, WantsMemory, ends_by_site, ends_early, ends_in_work}
 use Rattle.xrc_cli.proofs.Answered.{KeepsAnswered, none_answered, stop_answered, work_expected}
 use Rattle.xrc_cli.proofs.Lasting.{bears_still, cause_still, none_before, others_still}
@@ -49,6 +52,8 @@ pub record Ran {P : Type 0} (tells : Type 0) (state : P → PlantState) (session
       → IfErr result (StopsEarlyOr (mid ≡ old) run t (HasBrokenBy t risen) (IsJournalFull t (state mid)) (state old) (state mid))
   pub home : NoneLent (state mid)
   pub others : tells → (run : Run) (t : Trace) → IsSessionRun session before now faults risen (state old) t run → LeavesOthers run (state old) (state mid)
+  pub begins : tells → 0 < (state old).clock → IsDurable (on (state old) Control) → Begins session (state old) (state mid)
+  pub quiet : OnOk result (NoneRose (state old) (state mid))
   pub works : SameSite (state old) (state mid)
   pub causes : IfErr result (λ stop. IsEarly stop ⊎ HasStopCause (state old) (state mid) stop)
   pub untouched : IfErr result (λ stop. IsEarly stop → mid ≡ old)
@@ -82,7 +87,9 @@ module _ {P : Type 0} (tells : Type 0) (state : P → PlantState) (session : Lis
     bears = λ told run t over.
         let done = r.ends told run t over in
         record { lines = ended_lines run done.end; are = AnEnd done.end done.is refl; bears = keeps_throughout run line_grammar (ended_lines run done.end) [] (state old) (state mid) done.goes_on.keeps };
+    begins = r.begins;
     done = λ told is run t over. r.ends told run t over;
+    quiet = λ is. r.quiet;
     in_part = λ told is. absurd (omega (arith, is));
     stopped = λ not. absurd (not refl);
     source_count = λ nine eighteen. r.source_count (λ is. cc) (λ is. cc);
@@ -189,6 +196,12 @@ module _ {P : Type 0} (tells : Type 0) (state : P → PlantState) (session : Lis
       | inr kept ↦ others_still tells told (last_line stop) (state old) (state mid) (state new) said run over.past kept.keeps.later (r.others told run t over)
     ]
 
+    begins_now : tells → 0 < (state old).clock → IsDurable (on (state old) Control) → Begins session (state old) (state new)
+    begins_now told past durable =
+        let later = ((said.front.only.elapses told).kept Control).later in
+        let front = (said.front.moments told).front (state new).clock later (omega arith) in
+        begins_behind tells told session (state old) (state mid) (state new) stop front.0 said.front.only front.2 past (r.begins told past durable)
+
     -- ---- how it stood
 
     late_at : tells → ¬ IsEarly stop → (run : Run) (t : Trace) → Over run t → Late run t
@@ -254,7 +267,9 @@ module _ {P : Type 0} (tells : Type 0) (state : P → PlantState) (session : Lis
       not_pulled = unpulled_now;
       early = λ is. (let early = is_early (state old) (state mid) stop is r.causes in (stop, early, says_only stop refl early));
       bears = bears_now;
+      begins = begins_now;
       done = λ told is. absurd (not_done stop is);
+      quiet = λ is. absurd (not_done stop is);
       in_part = in_part_now;
       stopped = λ not. record { stop = stop; is = refl; cause = cause_now; says = says_now; expected = expected_now };
       source_count = λ nine eighteen. r.source_count (λ is. nine (ap status_of (err_is is))) (λ is. eighteen (ap status_of (err_is is)));

@@ -2,7 +2,8 @@
 use Rattle.std.specs.Prelude.{◌≡◌, ◌≢◌, ◌⊎◌, ◌↔◌, ◌-◌, ◌^◌, ◌<◌, ◌==◌, ◌||◌, ℕ, List, [], ◌∷◌, Bool, Contains, IsTrue, None, Option, Some, false}
 use Rattle.xrc_edge.specs.Causes.{Rose}
 use Rattle.crash_plant.specs.declared.device.Device.{Device}
-use Rattle.crash_plant.specs.Moments.{PlantState}
+use Rattle.crash_plant.specs.declared.device.Device.TheVariants.{Control}
+use Rattle.crash_plant.specs.Moments.{IsDurable, PlantState, on}
 use Rattle.crash_plant.specs.Calls.{NoneLent, SameSite}
 use Rattle.trace_grammar.specs.declared.trace.Trace.{Trace}
 use Rattle.sidefile.specs.Breaks.{has_broken}
@@ -11,12 +12,13 @@ use Rattle.consistency.specs.Bears.{Run}
 use Rattle.consistency.specs.Courses.{Answered, replies_of}
 use Rattle.consistency.specs.Moments.{BearsThroughout}
 use Rattle.script_lines.specs.Grammars.{line_grammar}
+use Rattle.xrc_session.specs.Beginning.{Begins}
 use Rattle.xrc_session.specs.Expected.{AnswersInPart, AreAnswered, IsUnbegun, IsUnexpected, KeepsExpected, StopsAt}
 use Rattle.xrc_session.specs.Full.{IsJournalFull}
 use Rattle.xrc_session.specs.Leaving.{LeavesOthers}
 use Rattle.xrc_session.specs.Numbers.{HasNumbers}
 use Rattle.xrc_session.specs.Runs.{AsksSession, EndsInHeader, EndsSession, GaveTrace, HasBrokenBy, IsEarly, IsRefused, IsSessionRun, NoneFailed}
-use Rattle.xrc_session.specs.Stopping.{HasStopCause}
+use Rattle.xrc_session.specs.Stopping.{HasStopCause, NoneRose}
 use Rattle.xrc_status.specs.declared.stop.Stop.{Stop}
 use Rattle.xrc_status.specs.declared.stop.Stop.TheVariants.{BadHeader, BadSite, EarlyBreak, JournalEnd, NoMemory, NotBuilt, TooSmall}
 use Rattle.xrc_status.specs.Saying.{SaidWhole, SaysLast}
@@ -102,9 +104,14 @@ pub record EndsRun {P : Type 0} (tells : Type 0) (state : P → PlantState) (ses
   -- the session at one time, which isn't before any time that was said by then, and a duplex pair holds its primary's tracks after exactly
   -- the good writes up to that time.
   pub bears : tells → (run : Run) (t : Trace) → IsSessionRun session before now faults risen (state old) t run → BearsAnswered run t (state old) (state new)
+  -- With any status and over any source, until the start is answered slots of the control are closed, both of them before the state or the
+  -- first journal changes, until what a crash leaves means just the session that starts.
+  pub begins : tells → 0 < (state old).clock → IsDurable (on (state old) Control) → Begins session (state old) (state new)
   -- Done: the script was heard to its end, its three lines are answered, nothing was said behind their replies, and the slots hold the
   -- primary's tracks at the end's time.
   pub done : tells → status ≡ 0 → (run : Run) (t : Trace) → IsSessionRun session before now faults risen (state old) t run → EndsSession run t (state old) (state new)
+  -- Done: no count of faults rose, whatever the plant tells.
+  pub quiet : status ≡ 0 → NoneRose (state old) (state new)
   -- Not done: what was said is a front of the replies where the console failed, and else the replies and the line of the status.
   pub in_part : tells → status ≡ 3 → (run : Run) (t : Trace) → IsSessionRun session before now faults risen (state old) t run → AnswersInPart run t (state old) (state new)
   pub stopped : status ≢ 0 → EndsBy tells state session old new status before now faults risen

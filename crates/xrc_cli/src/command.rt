@@ -45,8 +45,8 @@ pub fn xrc<R: Threads + Wait + Sync, S: Source + Send, P: Plant>(
     ensures bad_words { (result ≡ 2) ↔ ((run_session (map string_bytes words.now) ≡ None) × (recover_session (map string_bytes words.now) ≡ None)) }
     ensures untouched { result ≡ 2 → (traces.new ≡ traces.old) × SaysOnly P.tells BadWordsStop (P.state plant.old) (P.state plant.new) result }
 
-    // With the words of a run: over one trace each moment bears one time, what was said, what holds where it is done, and each status
-    // with its cause and its line. Another number of traces is refused.
+    // With the words of a run: over one trace what a start leaves before its answer, that each moment behind it bears one time, what was
+    // said, what holds where it is done, and each status with its cause and its line. Another number of traces is refused.
     ensures ran { IfSome (run_session (map string_bytes words.now)) (λ session. IfOne (λ before now. EndsRun P.tells P.state session plant.old plant.new result (now ≡ before) (S.left before) (S.left now) (S.faults before) (S.faults now)) (RefusesSources P.tells (traces.new ≡ traces.old) (P.state plant.old) (P.state plant.new) result) traces.old.items traces.new.items) }
 
     // With those of a recovery: what was said, redone and changed, and each status with its cause and its line. No trace is read.

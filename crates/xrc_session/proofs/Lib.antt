@@ -1,4 +1,5 @@
 mod AddedRows
+pub mod Beginnings
 mod Begun
 mod Between
 mod BothTaken

@@ -2,6 +2,7 @@ pub mod Traces
 pub mod Between
 pub mod Pairing
 pub mod Expected
+pub mod Beginning
 pub mod Stopping
 pub mod Full
 pub mod Leaving

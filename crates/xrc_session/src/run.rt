@@ -3,7 +3,9 @@
 ghost use Rattle.std.specs.Prelude.{◌≡◌, ◌≢◌, ◌⊎◌, ◌↔◌, ◌<◌, ◌≤◌, ◌-◌, ◌^◌, ℕ, false, List, [], ◌∷◌, length, Err, None, Some, IfErr, IfOk, IfSome, IsErrOf, IsTrue, OnOk};
 ghost use Rattle.xrc_edge.specs.Causes.{Rose};
 ghost use Rattle.crash_plant.specs.declared.device.Device.{Device as AnyDevice};
+ghost use Rattle.crash_plant.specs.declared.device.Device.TheVariants.{Control};
 ghost use Rattle.crash_plant.specs.Calls.{Elapses, NoneLent, SameSite};
+ghost use Rattle.crash_plant.specs.Moments.{IsDurable, on};
 ghost use Rattle.trace_grammar.specs.declared.trace.Trace.{Trace as TraceValue};
 ghost use Rattle.trace_grammar.specs.Headers.{are_volumes};
 ghost use Rattle.sidefile.specs.Breaks.{has_broken};
@@ -16,6 +18,7 @@ ghost use Rattle.epoch.specs.Lanes.{IsLane, IsRowOf, tracks_of};
 ghost use Rattle.epoch.specs.Taken.{FailsAsBefore, HasFailed, HasTaken};
 ghost use Rattle.session_lines.specs.Runs.{GoesOn, HasPaired, Paired as PairedLine};
 ghost use Rattle.xrc_status.specs.declared.stop.Stop.TheVariants.{BadHeader, BadSite, EarlyBreak, HeaderFault, JournalEnd, NoMemory, TooSmall};
+ghost use Rattle.xrc_session.specs.Beginning.{Begins, HasBegun};
 ghost use Rattle.xrc_session.specs.Between.{IsBetween, IsRunOf};
 ghost use Rattle.xrc_session.specs.Full.{IsFullBehind, IsFullFrom, IsJournalFull};
 ghost use Rattle.xrc_session.specs.Leaving.{LeavesOthers};
@@ -85,6 +88,9 @@ fn begin<R: Threads + Sync, S: Source, P: Plant>(
     // Two lines are answered, and each moment bears.
     ensures pairs { P.tells → (run : Run) (t : TraceValue) → GoesOn run t [] [] (P.state plant.old) (P.state plant.old) → IsRunOf session (first_label (P.state plant.old)) run → Foresees (S.left source.old) lane.old lane.new.side.upto t → IfOk result (λ paired. (pair : PairedLine) × HasPaired run t pair [] (P.state plant.old) (P.state plant.new) × (pair.row ≡ paired.row) × (pair.time ≡ paired.started.site.time)) }
     ensures stops { P.tells → (run : Run) (t : TraceValue) → GoesOn run t [] [] (P.state plant.old) (P.state plant.old) → IsRunOf session (first_label (P.state plant.old)) run → Foresees (S.left source.old) lane.old lane.new.side.upto t → IfErr result (StopsSo run t (BreaksAt (S.left source.old) (S.left source.new) (S.faults source.old) (S.faults source.new) lane.old lane.new) (λ due. ⊥) (P.state plant.old) (P.state plant.new)) }
+    // Until the start is answered slots of the control are shut before what they name, at any exit.
+    ensures begins { P.tells → 0 < (P.state plant.old).clock → IsDurable (on (P.state plant.old) Control) → Begins session (P.state plant.old) (P.state plant.new) }
+    ensures begun { P.tells → 0 < (P.state plant.old).clock → IsDurable (on (P.state plant.old) Control) → OnOk result (HasBegun session (P.state plant.old) (P.state plant.new)) }
     // Why it stops.
     ensures cause { IfErr result (HasStopCause (P.state plant.old) (P.state plant.new)) }
     ensures failed { IsErrOf result EarlyBreak → S.faults source.new ≢ S.faults source.old → (limit : ℕ) × HasFailed limit lane.new.side.upto (S.left source.old) (S.left source.new) lane.old.side }
@@ -125,6 +131,7 @@ fn finish<R: Threads + Sync, S: Source, P: Plant>(
     requires session { paired.old.started.site.table.session ≡ session }
     ensures home { NoneLent (P.state plant.new) }
     ensures others { P.tells → KeepsOthers 0 0 (tracks_of paired.old.row) (P.state plant.old) (P.state plant.new) }
+    ensures quiet { OnOk result (NoneRose (P.state plant.old) (P.state plant.new)) }
     ensures site { SameSite (P.state plant.old) (P.state plant.new) }
     ensures elapses { P.tells → Elapses (P.state plant.old) (P.state plant.new) }
     // The script was heard to its end, and each moment bears.
@@ -172,9 +179,12 @@ fn run_lines<R: Threads + Sync, S: Source, P: Plant>(
     requires there { 1 ≤ (P.state plant.old).volumes }
     ensures home { NoneLent (P.state plant.new) }
     ensures others { P.tells → (run : Run) (t : TraceValue) → GoesOn run t [] [] (P.state plant.old) (P.state plant.old) → IsRunOf session (first_label (P.state plant.old)) run → Foresees (S.left source.old) lane.old lane.new.side.upto t → LeavesOthers run (P.state plant.old) (P.state plant.new) }
+    ensures quiet { OnOk result (NoneRose (P.state plant.old) (P.state plant.new)) }
     ensures site { SameSite (P.state plant.old) (P.state plant.new) }
     ensures ends { P.tells → (run : Run) (t : TraceValue) → GoesOn run t [] [] (P.state plant.old) (P.state plant.old) → IsRunOf session (first_label (P.state plant.old)) run → Foresees (S.left source.old) lane.old lane.new.side.upto t → OnOk result (EndsSession run t (P.state plant.old) (P.state plant.new)) }
     ensures stops { P.tells → (run : Run) (t : TraceValue) → GoesOn run t [] [] (P.state plant.old) (P.state plant.old) → IsRunOf session (first_label (P.state plant.old)) run → Foresees (S.left source.old) lane.old lane.new.side.upto t → IfErr result (StopsSo run t (BreaksAt (S.left source.old) (S.left source.new) (S.faults source.old) (S.faults source.new) lane.old lane.new) (IsFullFrom (S.left source.old) lane.old (P.state plant.new)) (P.state plant.old) (P.state plant.new)) }
+    // Until the start is answered slots of the control are shut before what they name, at any exit.
+    ensures begins { P.tells → 0 < (P.state plant.old).clock → IsDurable (on (P.state plant.old) Control) → Begins session (P.state plant.old) (P.state plant.new) }
     // Why it stops.
     ensures cause { IfErr result (HasStopCause (P.state plant.old) (P.state plant.new)) }
     ensures failed { IsErrOf result EarlyBreak → S.faults source.new ≢ S.faults source.old → (limit : ℕ) × HasFailed limit lane.new.side.upto (S.left source.old) (S.left source.new) lane.old.side }
@@ -215,7 +225,10 @@ fn run_trace<R: Threads + Sync, S: Source, P: Plant>(
     ensures home { NoneLent (P.state plant.new) }
     // Of the journals the first alone is worked on, and of the volumes the first alone, in the slots of the pair's tracks.
     ensures others { P.tells → (run : Run) (t : TraceValue) → IsSessionRun session (S.left source.old) (S.left source.new) (S.faults source.old) (S.faults source.new) (P.state plant.old) t run → LeavesOthers run (P.state plant.old) (P.state plant.new) }
+    ensures quiet { OnOk result (NoneRose (P.state plant.old) (P.state plant.new)) }
     ensures works { SameSite (P.state plant.old) (P.state plant.new) }
+    // Until the start is answered slots of the control are shut before what they name, at any exit.
+    ensures begins { P.tells → 0 < (P.state plant.old).clock → IsDurable (on (P.state plant.old) Control) → Begins session (P.state plant.old) (P.state plant.new) }
     // Why it stops.
     ensures causes { IfErr result (λ stop. IsOfHeader stop ⊎ HasStopCause (P.state plant.old) (P.state plant.new) stop) }
     ensures untouched { IfErr result (λ stop. IsEarly stop → plant.new ≡ plant.old) }
@@ -236,7 +249,8 @@ fn run_trace<R: Threads + Sync, S: Source, P: Plant>(
 }
 
 /// Runs the script of a session over the trace of control 0: a start, a pair and an end. Numbers and lengths of the site come first,
-/// and then the trace's header.
+/// and then the trace's header. Up to the start's reply a crash leaves what it could leave before, with slots of the control closed, or just
+/// the session that starts; from the reply on each moment bears.
 pub fn run_script<R: Threads + Sync, S: Source, P: Plant>(
     rt: &R,
     alloc: Global,
@@ -260,7 +274,11 @@ pub fn run_script<R: Threads + Sync, S: Source, P: Plant>(
     ensures home { NoneLent (P.state plant.new) }
     // Of the journals the first alone is worked on, and of the volumes the first alone, in the slots of the pair's tracks.
     ensures others { P.tells → (run : Run) (t : TraceValue) → IsSessionRun session (S.left source.old) (S.left source.new) (S.faults source.old) (S.faults source.new) (P.state plant.old) t run → LeavesOthers run (P.state plant.old) (P.state plant.new) }
+    // Done: no count rose, whatever the plant tells.
+    ensures quiet { OnOk result (NoneRose (P.state plant.old) (P.state plant.new)) }
     ensures works { SameSite (P.state plant.old) (P.state plant.new) }
+    // Until the start is answered slots of the control are shut before what they name, at any exit.
+    ensures begins { P.tells → 0 < (P.state plant.old).clock → IsDurable (on (P.state plant.old) Control) → Begins session (P.state plant.old) (P.state plant.new) }
     // Why it stops.
     ensures causes { IfErr result (λ stop. IsEarly stop ⊎ HasStopCause (P.state plant.old) (P.state plant.new) stop) }
     ensures untouched { IfErr result (λ stop. IsEarly stop → plant.new ≡ plant.old) }

@@ -1,8 +1,10 @@
 //! The start of the session.
 
 ghost use Rattle.std.specs.Prelude.{◌≡◌, ◌≢◌, ◌<◌, ◌≤◌, ℕ, List, [], false, take, Err, IfErr, IfOk, IfSome, IsErrOf, IsTrue, OnOk};
-ghost use Rattle.crash_plant.specs.declared.device.Device.TheVariants.{Volume as VolumeDevice};
+ghost use Rattle.crash_plant.specs.declared.device.Device.TheVariants.{Control, Volume as VolumeDevice};
 ghost use Rattle.crash_plant.specs.Calls.{Elapses, NoneLent, SameSite};
+ghost use Rattle.crash_plant.specs.Choices.{AllFollow};
+ghost use Rattle.crash_plant.specs.Moments.{IsDurable, on};
 ghost use Rattle.trace_grammar.specs.declared.trace.Trace.{Trace as TraceValue};
 ghost use Rattle.sidefile.specs.Breaks.{has_broken};
 ghost use Rattle.pair_table.specs.declared.level.Level.TheVariants.{Volume};
@@ -16,8 +18,10 @@ ghost use Rattle.epoch.specs.Frames.{KeepsOthers};
 ghost use Rattle.epoch.specs.Taken.{FailsAsBefore, HasTaken};
 ghost use Rattle.epoch.specs.Works.{WorksSilently};
 ghost use Rattle.session_lines.specs.Asking.{AsksStart};
+ghost use Rattle.session_lines.specs.Meanings.{NowMeans};
 ghost use Rattle.session_lines.specs.Runs.{GoesOn, HasStarted, started_at};
 ghost use Rattle.xrc_status.specs.declared.stop.Stop.TheVariants.{EarlyBreak, JournalEnd, NotBuilt, Spent};
+ghost use Rattle.xrc_session.specs.Beginning.{Begins, HasBegun, MeansStart, ShutsOrStarts};
 ghost use Rattle.xrc_session.specs.Between.{IsBetween};
 ghost use Rattle.xrc_session.specs.Expected.{LeavesAll};
 ghost use Rattle.xrc_session.specs.Stopping.{BreaksAt, BreaksBelow, HasStopCause, NoneFell, NoneRose, StopsSo};
@@ -68,6 +72,9 @@ fn format<P: Plant>(
     ensures works { WorksSilently P.tells (P.state plant.old) (P.state plant.new) }
     ensures home { NoneLent (P.state plant.new) }
     ensures others { P.tells → KeepsOthers 0 0 0 (P.state plant.old) (P.state plant.new) }
+    // At each moment slots of the control are shut before what they name, and once the site is made a crash leaves just the new one's.
+    ensures moments { P.tells → IsDurable (on (P.state plant.old) Control) → AllFollow (ShutsOrStarts session at (P.state plant.old)) (P.state plant.old) (P.state plant.new) }
+    ensures means { P.tells → OnOk result (NowMeans (P.state plant.new) (MeansStart session at (P.state plant.old))) }
     // Why it stops.
     ensures of_start { IfErr result IsOfStart }
     ensures unbroken { ¬ IsErrOf result EarlyBreak }
@@ -119,6 +126,9 @@ fn set_up<S: Source, P: Plant>(
     ensures taken { OnOk result ((t : TraceValue) → HasTaken (S.left source.old) t lane.old.side lane.old.primary → HasTaken (S.left source.new) t lane.new.side lane.new.primary) }
     ensures home { NoneLent (P.state plant.new) }
     ensures others { P.tells → KeepsOthers 0 0 0 (P.state plant.old) (P.state plant.new) }
+    // At each moment slots of the control are shut before what they name, and once the site is made a crash leaves just the new one's.
+    ensures moments { P.tells → IsDurable (on (P.state plant.old) Control) → AllFollow (ShutsOrStarts session at (P.state plant.old)) (P.state plant.old) (P.state plant.new) }
+    ensures means { P.tells → OnOk result (NowMeans (P.state plant.new) (MeansStart session at (P.state plant.old))) }
     // Why it stops.
     ensures of_start { IfErr result IsOfStart }
     ensures cause { IfErr result (HasStopCause (P.state plant.old) (P.state plant.new)) }
@@ -168,6 +178,9 @@ pub(crate) fn start<S: Source, P: Plant>(
     // The line is answered, and each moment bears.
     ensures starts { P.tells → (first : P) (run : Run) (t : TraceValue) → GoesOn run t [] [] (P.state first) (P.state plant.old) → run.session ≡ session → Foresees (S.left source.old) lane.old lane.new.side.upto t → IfOk result (λ started. HasStarted run t (started_at started.site.time text.new) [] (P.state first) (P.state plant.new)) }
     ensures stops { P.tells → (first : P) (run : Run) (t : TraceValue) → GoesOn run t [] [] (P.state first) (P.state plant.old) → LeavesAll (P.state first) (P.state plant.old) → run.session ≡ session → Foresees (S.left source.old) lane.old lane.new.side.upto t → IfErr result (StopsSo run t (BreaksAt (S.left source.old) (S.left source.new) (S.faults source.old) (S.faults source.new) lane.old lane.new) (λ due. ⊥) (P.state first) (P.state plant.new)) }
+    // Until it is answered slots of the control are shut before what they name, at any exit.
+    ensures begins { P.tells → 0 < (P.state plant.old).clock → IsDurable (on (P.state plant.old) Control) → Begins session (P.state plant.old) (P.state plant.new) }
+    ensures begun { P.tells → 0 < (P.state plant.old).clock → IsDurable (on (P.state plant.old) Control) → OnOk result (HasBegun session (P.state plant.old) (P.state plant.new)) }
     // Why it stops.
     ensures cause { IfErr result (HasStopCause (P.state plant.old) (P.state plant.new)) }
     ensures refused { (time : ℕ) → IsErrOf result NotBuilt → ¬ AsksStart session text.new time }

@@ -9,6 +9,7 @@ use Rattle.xrc_status.specs.declared.stop.Stop.TheVariants.{EarlyBreak}
 use Rattle.xrc_session.specs.Expected.{time_of}
 use Rattle.xrc_session.specs.Runs.{first_label}
 use Rattle.xrc_session.specs.Stopping.{BreaksAt, HasStopCause, StopsSo}
+use Rattle.xrc_session.proofs.Beginnings.{begins_of, begun_on}
 use Rattle.xrc_session.proofs.Begun.{err_of}
 use Rattle.xrc_session.proofs.Counts.{rose_then}
 use Rattle.xrc_session.proofs.RunStops.{breaks_before, stop_so}
@@ -147,3 +148,20 @@ pub returns-clause-others : goal.returns-clause-others
 returns-clause-others g c = λ told.
     let state = g.P.Plant.state in
     keeps_then 0 0 0 (state c.args.plant.now) (state c.start.new.plant) (state c.add_pair.new.plant) c.start.ensures.site (c.start.ensures.elapses told) (c.add_pair.ensures.elapses told) (c.start.ensures.others told) (c.add_pair.ensures.others told)
+
+pub returns-in_err-row-clause-begins : goal.returns-in_err-row-clause-begins
+returns-in_err-row-clause-begins g c = λ told past durable.
+    let state = g.P.Plant.state in
+    begins_of c.args.session (state c.args.plant.now) (state c.add_pair.new.plant)
+    (begun_on c.args.session (state c.args.plant.now) (state c.start.new.plant) (state c.add_pair.new.plant) c.add_pair.ensures.site (c.add_pair.ensures.elapses told) past (c.in_ok-started.ensures.begun told past durable))
+
+pub returns-clause-begins : goal.returns-clause-begins
+returns-clause-begins g c = λ told past durable.
+    let state = g.P.Plant.state in
+    begins_of c.args.session (state c.args.plant.now) (state c.add_pair.new.plant)
+    (begun_on c.args.session (state c.args.plant.now) (state c.start.new.plant) (state c.add_pair.new.plant) c.add_pair.ensures.site (c.add_pair.ensures.elapses told) past (c.in_ok-started.ensures.begun told past durable))
+
+pub returns-clause-begun : goal.returns-clause-begun
+returns-clause-begun g c = λ told past durable.
+    let state = g.P.Plant.state in
+    begun_on c.args.session (state c.args.plant.now) (state c.start.new.plant) (state c.add_pair.new.plant) c.add_pair.ensures.site (c.add_pair.ensures.elapses told) past (c.in_ok-started.ensures.begun told past durable)

@@ -15,10 +15,10 @@ use Rattle.session_lines.specs.Meanings.{NowMeans}
 use Rattle.session_lines.specs.Runs.{ended_at}
 use Rattle.xrc_session.specs.Full.{IsFullBehind}
 use Rattle.xrc_session.specs.Runs.{EndsSession}
-use Rattle.xrc_session.specs.Stopping.{BreaksAt, StopsSo}
+use Rattle.xrc_session.specs.Stopping.{BreaksAt, NoneRose, StopsSo}
 use Rattle.xrc_session.proofs.Begun.{err_of}
 use Rattle.xrc_session.proofs.Between.{now_heard}
-use Rattle.xrc_session.proofs.Counts.{heard_same, ok_with, rose_then}
+use Rattle.xrc_session.proofs.Counts.{console_quiet, heard_same, ok_with, rose_then}
 use Rattle.xrc_session.proofs.Hearing.{site_means}
 use Rattle.xrc_session.proofs.RunStops.{nothing_stops}
 use Rattle.xrc_session.proofs.StopLaws.{if_err}
@@ -99,3 +99,13 @@ returns-clause-others g c = λ told.
     let d = g.P.Plant.state c.expect_nothing.new.plant in
     let only = c.expect_nothing.ensures.only in
     keeps_then 0 0 tracks a b d c.end.ensures.site (c.end.ensures.elapses told) (only.elapses told) (subst (λ (n : ℕ). KeepsOthers 0 n tracks a b) c.requires.device (c.end.ensures.others told)) (keeps_console g.P.Plant.tells told 0 0 tracks b d only)
+
+pub returns-clause-quiet : goal.returns-clause-quiet
+returns-clause-quiet g c =
+    let a = g.P.Plant.state c.args.plant.now in
+    let b = g.P.Plant.state c.end.new.plant in
+    let d = g.P.Plant.state c.expect_nothing.new.plant in
+    let nothing = c.expect_nothing.ensures in
+    let same = d.console_faults ≡ b.console_faults in
+    let counted = heard_same b.console_faults d.console_faults c.expect_nothing.result nothing.cause in
+    ok_with c.expect_nothing.result same same (NoneRose a d) (λ is again. rose_then a b d c.in_ok-end.ensures.quiet (console_quiet g.P.Plant.tells b d nothing.only is)) counted counted

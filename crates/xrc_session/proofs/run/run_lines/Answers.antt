@@ -4,8 +4,10 @@ use Rattle.xrc_status.specs.declared.stop.Stop.TheVariants.{EarlyBreak}
 use Rattle.xrc_session.specs.Expected.{time_of}
 use Rattle.xrc_session.specs.Full.{IsFullBehind, IsFullFrom}
 use Rattle.xrc_session.specs.Leaving.LeavesOthers.{Unpaired}
-use Rattle.xrc_session.specs.Stopping.{BreaksAt, StopsSo}
+use Rattle.xrc_session.specs.Stopping.{BreaksAt, NoneRose, StopsSo}
+use Rattle.xrc_session.proofs.Beginnings.{begins_of, begun_on}
 use Rattle.xrc_session.proofs.Begun.{err_of}
+use Rattle.xrc_session.proofs.Counts.{ok_with, rose_then}
 use Rattle.xrc_session.proofs.EndLeaves.{leaves_pair}
 use Rattle.xrc_session.proofs.RunStops.{breaks_before, full_before, stop_so, stops_so}
 use Rattle.xrc_session.proofs.StopLaws.{if_err}
@@ -87,3 +89,16 @@ returns-clause-failed g c = λ broken differ.
     let counted = c.begin.ensures.count (ok_not_err c.begin.result c.in_ok-paired.paired EarlyBreak ok) in
     let b = c.finish.ensures.failed broken (λ same. differ (same ∙ counted)) in
     (b.0, c.in_ok-paired.ensures.fails b.0 c.finish.new.lane.side.upto (g.S.Source.left c.finish.new.source) b.1)
+
+pub returns-clause-begins : goal.returns-clause-begins
+returns-clause-begins g c = λ told past durable.
+    let state = g.P.Plant.state in
+    begins_of c.args.session (state c.args.plant.now) (state c.finish.new.plant)
+    (begun_on c.args.session (state c.args.plant.now) (state c.begin.new.plant) (state c.finish.new.plant) c.finish.ensures.site (c.finish.ensures.elapses told) past (c.in_ok-paired.ensures.begun told past durable))
+
+pub returns-clause-quiet : goal.returns-clause-quiet
+returns-clause-quiet g c =
+    let a = g.P.Plant.state c.args.plant.now in
+    let b = g.P.Plant.state c.begin.new.plant in
+    let d = g.P.Plant.state c.finish.new.plant in
+    ok_with c.finish.result (NoneRose b d) (NoneRose b d) (NoneRose a d) (λ rest again. rose_then a b d c.in_ok-paired.ensures.quiet rest) c.finish.ensures.quiet c.finish.ensures.quiet

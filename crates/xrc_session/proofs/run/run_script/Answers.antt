@@ -1,5 +1,8 @@
-use Rattle.std.proofs.Common.{◌≡◌}
+use Rattle.std.proofs.Common.{◌≡◌, arith}
+use Rattle.crash_plant.specs.Moments.{on}
+use Rattle.crash_plant.proofs.Steps.{stays_here}
 use Rattle.epoch.proofs.Frames.{keeps_here}
+use Rattle.xrc_session.specs.Beginning.Begins.{Unstarted}
 use Rattle.xrc_session.specs.Full.{IsJournalFull}
 use Rattle.xrc_session.specs.Leaving.LeavesOthers.{Unpaired}
 use Rattle.xrc_session.proofs.Completeness.{answers_for_want, no_header_stop, no_site_stop}
@@ -8,6 +11,9 @@ use Rattle.xrc_session.proofs.run.run_script.Goals as goal
 
 pub returns-in_err-check_site-clause-others : goal.returns-in_err-check_site-clause-others
 returns-in_err-check_site-clause-others g c = λ told run t is. Unpaired (keeps_here 0 0 0 (g.P.Plant.state c.args.plant.now))
+
+pub returns-in_err-check_site-clause-begins : goal.returns-in_err-check_site-clause-begins
+returns-in_err-check_site-clause-begins g c = λ told past durable. let plant = g.P.Plant.state c.args.plant.now in Unstarted (omega arith) (λ d. stays_here (on plant d))
 
 pub run_trace-requires-clause-lengths : goal.run_trace-requires-clause-lengths
 run_trace-requires-clause-lengths g c κs within = let ok = c.in_ok-check_site.ensures.ok in has_lengths (g.P.Plant.state c.args.plant.now) ok.0 ok.1

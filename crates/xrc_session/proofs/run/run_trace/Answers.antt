@@ -1,8 +1,11 @@
-use Rattle.std.proofs.Common.{rules, ◌≡◌, ◌⊎◌, Ok, Err, refl, sym, subst, ◌∙◌}
+use Rattle.std.proofs.Common.{rules, ◌≡◌, ◌⊎◌, Ok, Err, refl, sym, subst, ◌∙◌, arith}
+use Rattle.crash_plant.specs.Moments.{on}
+use Rattle.crash_plant.proofs.Steps.{stays_here}
 use Rattle.trace_grammar.specs.declared.trace.Trace.{Trace}
 use Rattle.epoch.specs.Taken.{HasTaken}
 use Rattle.epoch.proofs.Frames.{keeps_here}
 use Rattle.xrc_status.specs.declared.stop.Stop.TheVariants.{BadHeader, EarlyBreak, HeaderFault, NoMemory}
+use Rattle.xrc_session.specs.Beginning.Begins.{Unstarted}
 use Rattle.xrc_session.specs.Expected.{time_of}
 use Rattle.xrc_session.specs.Full.{IsFullFrom, IsJournalFull}
 use Rattle.xrc_session.specs.Leaving.LeavesOthers.{Unpaired}
@@ -30,6 +33,9 @@ returns-in_err-opened-clause-stops g c = λ told run t is.
 
 pub returns-in_err-opened-clause-others : goal.returns-in_err-opened-clause-others
 returns-in_err-opened-clause-others g c = λ told run t is. Unpaired (keeps_here 0 0 0 (g.P.Plant.state c.args.plant.now))
+
+pub returns-in_err-opened-clause-begins : goal.returns-in_err-opened-clause-begins
+returns-in_err-opened-clause-begins g c = λ told past durable. let plant = g.P.Plant.state c.args.plant.now in Unstarted (omega arith) (λ d. stays_here (on plant d))
 
 pub returns-in_err-opened-clause-refused : goal.returns-in_err-opened-clause-refused
 returns-in_err-opened-clause-refused g c = λ place is given told.

@@ -4,6 +4,8 @@ use Rattle.crash_plant.proofs.Steps.{none_lent_then}
 use Rattle.site_store.specs.Marking.{error_of}
 use Rattle.epoch.proofs.Frames.{keeps_then}
 use Rattle.epoch.proofs.Working.{silent_on, silent_then}
+use Rattle.xrc_session.specs.Beginning.{ShutsOrStarts}
+use Rattle.xrc_session.proofs.Beginnings.{follow_read, means_read}
 use Rattle.xrc_session.proofs.Counts.{ok_holds, ok_no_err, read_quiet, rose_then, works_on_quiet}
 use Rattle.xrc_session.proofs.Formatted.{counted_read, early_volume, fits_read, stands_read}
 use Rattle.xrc_session.proofs.Leaves.{format_keeps, read_keeps}
@@ -89,3 +91,24 @@ returns-in-Err-clause-home g c = none_lent_then g.P.Plant.tells _ (g.P.Plant.sta
 
 pub returns-in-Err-clause-others : goal.returns-in-Err-clause-others
 returns-in-Err-clause-others g c = λ told. format_keeps g.P.Plant.tells told 0 0 (g.P.Plant.state c.args.plant.now) (g.P.Plant.state c.format.new.plant) c.format.ensures.only
+
+pub returns-in-Ok-read_label-clause-moments : goal.returns-in-Ok-read_label-clause-moments
+returns-in-Ok-read_label-clause-moments g c = λ told durable.
+    let a = g.P.Plant.state c.args.plant.now in
+    let b = g.P.Plant.state c.format.new.plant in
+    let d = g.P.Plant.state c.read_label.new.plant in
+    follow_read g.P.Plant.tells told (Volume 0) (ShutsOrStarts c.args.session c.args.at a) a b d (c.format.ensures.only.elapses told) (c.format.ensures.moments told durable) c.read_label.ensures.only (c.read_label.ensures.moments told)
+
+pub returns-in-Err-read_label-clause-moments : goal.returns-in-Err-read_label-clause-moments
+returns-in-Err-read_label-clause-moments g c = λ told durable.
+    let a = g.P.Plant.state c.args.plant.now in
+    let b = g.P.Plant.state c.format.new.plant in
+    let d = g.P.Plant.state c.read_label.new.plant in
+    follow_read g.P.Plant.tells told (Volume 0) (ShutsOrStarts c.args.session c.args.at a) a b d (c.format.ensures.only.elapses told) (c.format.ensures.moments told durable) c.read_label.ensures.only (c.read_label.ensures.moments told)
+
+pub returns-in-Ok-read_label-clause-means : goal.returns-in-Ok-read_label-clause-means
+returns-in-Ok-read_label-clause-means g c = λ told.
+    let a = g.P.Plant.state c.args.plant.now in
+    let b = g.P.Plant.state c.format.new.plant in
+    let d = g.P.Plant.state c.read_label.new.plant in
+    means_read g.P.Plant.tells told (Volume 0) c.args.session c.args.at a b d c.format.ensures.only.site (c.in-Ok.ensures.means told) c.read_label.ensures.only (c.read_label.ensures.moments told)

@@ -1,15 +1,19 @@
-use Rattle.std.proofs.Common.{rules, ◌≡◌, ℕ, List, [], Ok, Err, refl, ap, sym, subst, ◌∙◌}
+use Rattle.std.proofs.Common.{rules, ◌≡◌, inr, ℕ, List, [], Ok, Err, refl, ap, sym, subst, ◌∙◌}
 use Rattle.std.specs.Prelude.{IfSome, IsTrue}
-use Rattle.crash_plant.specs.declared.device.Device.TheVariants.{Volume}
+use Rattle.crash_plant.specs.declared.device.Device.TheVariants.{Control, Volume}
 use Rattle.crash_plant.proofs.Steps.{none_lent_console, site_trans}
 use Rattle.volume_label.specs.Labels.{has_room}
 use Rattle.epoch.proofs.Frames.{keeps_console}
+use Rattle.pair_course.specs.Course.{start_reply}
 use Rattle.session_lines.specs.Asking.{AsksStart}
 use Rattle.session_lines.specs.Runs.{HasStarted, start_of, started_at}
 use Rattle.session_lines.proofs.Going.{hears_on}
+use Rattle.xrc_status.specs.Saying.{SaidWhole}
 use Rattle.xrc_session.specs.Expected.AreAnswered.{AStart, Nothing}
 use Rattle.xrc_session.specs.Stopping.{BreaksAt, HasStopCause, StopsSo}
 use Rattle.xrc_session.specs.StopsOf.{IsOfStart}
+use Rattle.xrc_session.specs.Beginning.Begins.{Starting, Unstarted}
+use Rattle.xrc_session.proofs.Beginnings.{begins_of, said_begun, said_safely, worked_safely}
 use Rattle.xrc_session.proofs.Begun.{begun_works, err_of, hear_counted, may_start, none_fell, residual_is, start_is_heard, start_late, start_not_console, start_not_end, start_not_refused, started_rows}
 use Rattle.xrc_session.proofs.Between.{between_heard}
 use Rattle.xrc_session.proofs.Counts.{line_quiet, ok_holds}
@@ -187,3 +191,65 @@ pub returns-clause-elapses : goal.returns-clause-elapses
 returns-clause-elapses g c = λ told.
     let state = g.P.Plant.state in
     answered_past g.P.Plant.tells told (state c.args.plant.now) (state c.hear_start.new.plant) (state c.set_up.new.plant) c.hear_start.ensures.only c.set_up.ensures.works (state c.say_started.new.plant) c.say_started.ensures.said.front.only
+
+-- ---- how the session begins
+
+pub returns-in_err-at-clause-begins : goal.returns-in_err-at-clause-begins
+returns-in_err-at-clause-begins g c = λ told past durable. let only = c.hear_start.ensures.only in Unstarted ((only.elapses told).kept Control).later (only.devices told)
+
+pub returns-in_err-started-clause-begins : goal.returns-in_err-started-clause-begins
+returns-in_err-started-clause-begins g c = λ told past durable.
+    let state = g.P.Plant.state in
+    let a = state c.args.plant.now in
+    let b = state c.hear_start.new.plant in
+    let d = state c.set_up.new.plant in
+    let text = c.hear_start.new.text in
+    let heard = c.hear_start.ensures in
+    let at = c.in_ok-at.at in
+    Starting at d.clock
+    (worked_safely g.P.Plant.tells told c.args.session text at a b heard.only (heard.silent told) (heard.heard told) c.in_ok-at.ensures.whole c.in_ok-at.ensures.asked d c.set_up.ensures.works past durable (c.set_up.ensures.moments told))
+
+pub returns-in_err-say_started-clause-begins : goal.returns-in_err-say_started-clause-begins
+returns-in_err-say_started-clause-begins g c = λ told past durable.
+    let state = g.P.Plant.state in
+    let a = state c.args.plant.now in
+    let b = state c.hear_start.new.plant in
+    let d = state c.set_up.new.plant in
+    let text = c.hear_start.new.text in
+    let heard = c.hear_start.ensures in
+    let at = c.in_ok-at.at in
+    let e = state c.say_started.new.plant in
+    Starting at e.clock
+    (said_safely g.P.Plant.tells told c.args.session text at a b heard.only (heard.silent told) (heard.heard told) c.in_ok-at.ensures.whole c.in_ok-at.ensures.asked d c.set_up.ensures.works past durable (c.set_up.ensures.moments told) e
+    c.say_started.ensures.said.front.only (c.in_ok-started.ensures.means told) (inr refl))
+
+pub returns-clause-begins : goal.returns-clause-begins
+returns-clause-begins g c = λ told past durable.
+    let state = g.P.Plant.state in
+    let a = state c.args.plant.now in
+    let b = state c.hear_start.new.plant in
+    let d = state c.set_up.new.plant in
+    let text = c.hear_start.new.text in
+    let heard = c.hear_start.ensures in
+    let at = c.in_ok-at.at in
+    let e = state c.say_started.new.plant in
+    let spoke : c.say_started.result ≡ Ok tt = search rules in
+    let said = c.say_started.ensures.said in
+    begins_of c.args.session a e
+    (said_begun g.P.Plant.tells told c.args.session text at a b heard.only (heard.silent told) (heard.heard told) c.in_ok-at.ensures.whole c.in_ok-at.ensures.asked d c.set_up.ensures.works past durable (c.set_up.ensures.moments told) e said.front.only
+    (c.in_ok-started.ensures.means told) (ok_holds c.say_started.result tt (SaidWhole (start_reply at.0) d e) spoke (said.whole told)))
+
+pub returns-clause-begun : goal.returns-clause-begun
+returns-clause-begun g c = λ told past durable.
+    let state = g.P.Plant.state in
+    let a = state c.args.plant.now in
+    let b = state c.hear_start.new.plant in
+    let d = state c.set_up.new.plant in
+    let text = c.hear_start.new.text in
+    let heard = c.hear_start.ensures in
+    let at = c.in_ok-at.at in
+    let e = state c.say_started.new.plant in
+    let spoke : c.say_started.result ≡ Ok tt = search rules in
+    let said = c.say_started.ensures.said in
+    said_begun g.P.Plant.tells told c.args.session text at a b heard.only (heard.silent told) (heard.heard told) c.in_ok-at.ensures.whole c.in_ok-at.ensures.asked d c.set_up.ensures.works past durable (c.set_up.ensures.moments told) e said.front.only
+    (c.in_ok-started.ensures.means told) (ok_holds c.say_started.result tt (SaidWhole (start_reply at.0) d e) spoke (said.whole told))
