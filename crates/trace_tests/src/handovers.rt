@@ -3,10 +3,10 @@
 use crate::fixtures::listed;
 use sidefile::{Cause, Hand, Sidefile};
 use std::alloc::Global;
-use std::test::Fail;
+use std::process::Abort;
 use tod_stamp::Stamp;
 use write_trace::start;
-use xrc_edge::{Bytes, MemorySource, NoMemory};
+use xrc_edge::{Bytes, MemorySource};
 
 /// The header of a trace of one volume of one cylinder, without base tracks.
 const HEADER: [u8; 18] = [
@@ -45,51 +45,51 @@ fn break_told(told: Told) -> Option<(Stamp, Cause)> {
     }
 }
 
+fn append(rt: &impl Abort, alloc: Global, out: &mut Bytes, bytes: &[u8]) {
+    out.extend_from_slice(alloc, bytes).expect(rt, "memory");
+}
+
 /// A trace of entries of these tags and stamps, each so many times.
-fn trace(alloc: Global, entries: &[(u8, u64, u32)]) -> Result<Bytes, NoMemory> {
-    let mut bytes = listed(alloc, &HEADER)?;
+fn trace(rt: &impl Abort, alloc: Global, entries: &[(u8, u64, u32)]) -> Bytes {
+    let mut bytes = listed(rt, alloc, &HEADER);
     for (tag, stamp, times) in entries {
         for _ in 0..*times {
-            bytes.push(alloc, *tag)?;
-            bytes.extend_from_slice(alloc, &stamp.to_be_bytes())?;
+            append(rt, alloc, &mut bytes, &[*tag]);
+            append(rt, alloc, &mut bytes, &stamp.to_be_bytes());
             if *tag == WRITE {
-                bytes.extend_from_slice(alloc, &UPDATE)?;
+                append(rt, alloc, &mut bytes, &UPDATE);
             }
         }
     }
-    Ok(bytes)
+    bytes
 }
 
 /// Whether these are the hands at these limits, which do not fall, where the marked pulls fail.
 fn hands_are(
+    rt: &impl Abort,
     alloc: Global,
     bytes: Bytes,
     fails: &[u8],
     expected: &[(u64, Told)],
-) -> Result<bool, NoMemory> {
-    let mut source = MemorySource::make(alloc, bytes, 7, listed(alloc, fails)?)?;
+) -> bool {
+    let made = MemorySource::make(alloc, bytes, 7, listed(rt, alloc, fails));
+    let mut source = made.expect(rt, "memory");
     let Ok((_, reader)) = start(alloc, &mut source) else {
-        return Ok(expected.is_empty());
+        return expected.is_empty();
     };
-    let mut side = Sidefile::make(alloc, 2, reader)?;
-    let mut last = 0;
+    let mut side = Sidefile::make(alloc, 2, reader).expect(rt, "memory");
+    let (mut last, mut same) = (0, true);
     for (limit, hand) in expected {
-        if *limit < last {
-            return Ok(false);
-        }
+        assert!(rt; last <= *limit);
         last = *limit;
-        if told_of(&side.handover(alloc, &mut source, Stamp(*limit))) != *hand {
-            return Ok(false);
-        }
-        if side.broken() != break_told(*hand) {
-            return Ok(false);
-        }
+        let told = told_of(&side.handover(alloc, &mut source, Stamp(last)));
+        same = same && told == *hand && side.broken() == break_told(*hand);
     }
-    Ok(true)
+    same
 }
 
 #[test]
-fn a_run_has_room_for_thirty_two_writes(rt: HostRuntime) -> Result<(), Fail> {
+fn a_run_has_room_for_thirty_two_writes(rt: HostRuntime) {
     let alloc = rt.alloc();
     let full = [
         (WRITE, 5, 16),
@@ -103,7 +103,7 @@ fn a_run_has_room_for_thirty_two_writes(rt: HostRuntime) -> Result<(), Fail> {
         (100, Told::Batch(0, 100)),
         (100, Told::AtLimit),
     ];
-    assert!(rt; hands_are(alloc, trace(alloc, &full)?, &[], &hands)?);
+    assert!(rt; hands_are(&rt, alloc, trace(&rt, alloc, &full), &[], &hands));
     let crowded = [(IDLE, 4, 1), (WRITE, 5, 16), (IDLE, 5, 1), (WRITE, 5, 17)];
     let crowd = Told::Broken(Cause::Crowded(Stamp(5)), 4);
     let hands = [
@@ -112,26 +112,26 @@ fn a_run_has_room_for_thirty_two_writes(rt: HostRuntime) -> Result<(), Fail> {
         (100, crowd),
         (200, crowd),
     ];
-    assert!(rt; hands_are(alloc, trace(alloc, &crowded)?, &[], &hands)?);
-    Ok(())
+    assert!(rt; hands_are(&rt, alloc, trace(&rt, alloc, &crowded), &[], &hands));
 }
 
 #[test]
-fn stamps_go_from_one_to_the_last_of_all(rt: HostRuntime) -> Result<(), Fail> {
+fn stamps_go_from_one_to_the_last_of_all(rt: HostRuntime) {
     let alloc = rt.alloc();
     let hands = [(7, Told::Broken(Cause::BadTrace(18), 0))];
-    assert!(rt; hands_are(alloc, trace(alloc, &[(IDLE, 0, 1)])?, &[], &hands)?);
+    let bytes = trace(&rt, alloc, &[(IDLE, 0, 1)]);
+    assert!(rt; hands_are(&rt, alloc, bytes, &[], &hands));
     let hands = [
         (u64::MAX - 1, Told::AtLimit),
         (u64::MAX, Told::Batch(1, u64::MAX)),
         (u64::MAX, Told::AtLimit),
     ];
-    assert!(rt; hands_are(alloc, trace(alloc, &[(WRITE, u64::MAX, 1)])?, &[], &hands)?);
-    Ok(())
+    let bytes = trace(&rt, alloc, &[(WRITE, u64::MAX, 1)]);
+    assert!(rt; hands_are(&rt, alloc, bytes, &[], &hands));
 }
 
 #[test]
-fn limits_lie_between_stamps_and_at_one(rt: HostRuntime) -> Result<(), Fail> {
+fn limits_lie_between_stamps_and_at_one(rt: HostRuntime) {
     let alloc = rt.alloc();
     let hands = [
         (4, Told::AtLimit),
@@ -140,21 +140,20 @@ fn limits_lie_between_stamps_and_at_one(rt: HostRuntime) -> Result<(), Fail> {
         (9, Told::Batch(1, 9)),
         (20, Told::AtLimit),
     ];
-    let bytes = trace(alloc, &[(WRITE, 5, 1), (WRITE, 9, 1)])?;
-    assert!(rt; hands_are(alloc, bytes, &[], &hands)?);
-    let mut cut = trace(alloc, &[(WRITE, 3, 1), (WRITE, 5, 2), (WRITE, 7, 1)])?;
+    let bytes = trace(&rt, alloc, &[(WRITE, 5, 1), (WRITE, 9, 1)]);
+    assert!(rt; hands_are(&rt, alloc, bytes, &[], &hands));
+    let mut cut = trace(&rt, alloc, &[(WRITE, 3, 1), (WRITE, 5, 2), (WRITE, 7, 1)]);
     cut.truncate(93);
     let hands = [
         (50, Told::Batch(1, 4)),
         (50, Told::Broken(Cause::BadTrace(75), 4)),
         (50, Told::Broken(Cause::BadTrace(75), 4)),
     ];
-    assert!(rt; hands_are(alloc, cut, &[], &hands)?);
-    Ok(())
+    assert!(rt; hands_are(&rt, alloc, cut, &[], &hands));
 }
 
 #[test]
-fn each_pull_may_fail(rt: HostRuntime) -> Result<(), Fail> {
+fn each_pull_may_fail(rt: HostRuntime) {
     let alloc = rt.alloc();
     let entries = [(WRITE, 5, 1), (WRITE, 7, 1), (IDLE, 9, 1)];
     let hands = [
@@ -179,8 +178,7 @@ fn each_pull_may_fail(rt: HostRuntime) -> Result<(), Fail> {
             10 => in_the_third.as_slice(),
             _ => hands.as_slice(),
         };
-        let right = hands_are(alloc, trace(alloc, &entries)?, &fails, expected)?;
+        let right = hands_are(&rt, alloc, trace(&rt, alloc, &entries), &fails, expected);
         assert!(rt; right, "at {pull}");
     }
-    Ok(())
 }

@@ -2,14 +2,13 @@
 
 ghost use Rattle.std.specs.Prelude.{◌<◌};
 
-use crate::fixtures::{TRACE, TWO_BASES, listed};
-use ckd_track::Kind;
+use crate::fixtures::{TRACE, TWO_BASES, is_format, listed};
 use std::alloc::Global;
-use std::test::Fail;
+use std::process::Abort;
 use tod_stamp::Stamp;
 use trace_grammar::{Entry, HeaderError, TraceEnd};
-use write_trace::{Next, read_entries, start};
-use xrc_edge::{Bytes, MemorySource, NoMemory};
+use write_trace::{Next, TraceReader, read_entries, start};
+use xrc_edge::{Bytes, MemorySource};
 
 /// What came of a whole trace.
 #[derive(Clone, Copy, Debug, PartialEq, Eq)]
@@ -37,38 +36,53 @@ fn end_of(next: &Next) -> Outcome {
     }
 }
 
+/// How a trace ends behind entries of these stamps, which its reader reads next.
+fn read_on(
+    reader: &mut TraceReader,
+    alloc: Global,
+    source: &mut MemorySource,
+    stamps: &[u64],
+) -> Outcome {
+    let mut same = true;
+    for stamp in stamps {
+        same = same && has_stamp(&reader.next(alloc, source), *stamp);
+    }
+    let end = end_of(&reader.next(alloc, source));
+    let again = end_of(&reader.next(alloc, source));
+    if same && end == again {
+        end
+    } else {
+        Outcome::Other
+    }
+}
+
 /// How a trace ends behind entries of these stamps, in pieces of at most `most` bytes, where the marked pulls fail.
 fn read_trace(
+    rt: &impl Abort,
     alloc: Global,
     most: u32,
     bytes: &[u8],
     fails: &[u8],
     stamps: &[u64],
-) -> Result<Outcome, NoMemory>
+) -> Outcome
     requires { 0 < most }
 {
-    let mut source = MemorySource::make(alloc, listed(alloc, bytes)?, most, listed(alloc, fails)?)?;
-    let mut reader = match start(alloc, &mut source) {
-        Ok((_, reader)) => reader,
-        Err(error) => return Ok(Outcome::Refused(error)),
-    };
-    for stamp in stamps {
-        if !has_stamp(&reader.next(alloc, &mut source), *stamp) {
-            return Ok(Outcome::Other);
-        }
+    let (bytes, fails) = (listed(rt, alloc, bytes), listed(rt, alloc, fails));
+    let mut source = MemorySource::make(alloc, bytes, most, fails).expect(rt, "memory");
+    match start(alloc, &mut source) {
+        Ok((_, mut reader)) => read_on(&mut reader, alloc, &mut source, stamps),
+        Err(error) => Outcome::Refused(error),
     }
-    let end = end_of(&reader.next(alloc, &mut source));
-    let again = end_of(&reader.next(alloc, &mut source));
-    Ok(if end == again { end } else { Outcome::Other })
 }
 
 /// The same with no failing pull, whole and in pieces of 1, 7 and 64 bytes.
-fn in_pieces(alloc: Global, bytes: &[u8], stamps: &[u64]) -> Result<Outcome, NoMemory> {
-    let whole = read_trace(alloc, 65_536, bytes, &[], stamps)?;
-    let same = read_trace(alloc, 1, bytes, &[], stamps)? == whole
-        && read_trace(alloc, 7, bytes, &[], stamps)? == whole
-        && read_trace(alloc, 64, bytes, &[], stamps)? == whole;
-    Ok(if same { whole } else { Outcome::Other })
+fn in_pieces(rt: &impl Abort, alloc: Global, bytes: &[u8], stamps: &[u64]) -> Outcome {
+    let whole = read_trace(rt, alloc, 65_536, bytes, &[], stamps);
+    let mut same = true;
+    for most in [1, 7, 64] {
+        same = same && read_trace(rt, alloc, most, bytes, &[], stamps) == whole;
+    }
+    if same { whole } else { Outcome::Other }
 }
 
 fn bad_header(place: u64) -> Outcome {
@@ -79,35 +93,38 @@ fn bad_trace(place: u64) -> Outcome {
     Outcome::Ends(TraceEnd::BadTrace(place))
 }
 
+/// How a trace ends, whole and in those pieces, where the byte at a place is another.
+fn read_changed(
+    rt: &impl Abort,
+    alloc: Global,
+    bytes: &[u8],
+    change: (usize, u8),
+    stamps: &[u64],
+) -> Outcome {
+    let (place, byte) = change;
+    let mut changed = listed(rt, alloc, bytes).into_vec();
+    assert!(rt; place < changed.len());
+    changed[place] = byte;
+    in_pieces(rt, alloc, &changed, stamps)
+}
+
 #[test]
-fn refused_traces_are_refused_at_their_place(rt: HostRuntime) -> Result<(), Fail> {
+fn refused_traces_are_refused_at_their_place(rt: HostRuntime) {
     let alloc = rt.alloc();
-    let mut no_volume = TRACE;
-    no_volume[5] = 0;
-    let mut second_version = TRACE;
-    second_version[3] = 0x32;
-    let mut bad_tag = TRACE;
-    bad_tag[41] = 7;
-    let mut falling = TRACE;
-    falling[49] = 0x63;
-    let mut out_of_order = TWO_BASES;
-    out_of_order[35] = 0;
-    let mut same_serials = TWO_BASES;
-    same_serials[14] = 0x41;
     let headers = [
-        (second_version.as_slice(), bad_header(0)),
-        (no_volume.as_slice(), bad_header(4)),
-        (same_serials.as_slice(), bad_header(14)),
-        (out_of_order.as_slice(), bad_header(34)),
+        (TRACE.as_slice(), (3, 0x32), 0, "second version"),
+        (TRACE.as_slice(), (5, 0), 4, "no volume"),
+        (TWO_BASES.as_slice(), (14, 0x41), 14, "same serials"),
+        (TWO_BASES.as_slice(), (35, 0), 34, "out of order"),
     ];
-    for (bytes, outcome) in headers {
-        assert_eq!(rt; in_pieces(alloc, bytes, &[])?, outcome);
+    for (bytes, change, place, case) in headers {
+        let read = read_changed(&rt, alloc, bytes, change, &[]);
+        assert_eq!(rt; read, bad_header(place), "{case}");
     }
-    for (bytes, case) in [(bad_tag, "bad tag"), (falling, "falling stamp")] {
-        let read = in_pieces(alloc, &bytes, &[0x64])?;
+    for (change, case) in [((41, 7), "bad tag"), ((49, 0x63), "falling stamp")] {
+        let read = read_changed(&rt, alloc, &TRACE, change, &[0x64]);
         assert_eq!(rt; read, bad_trace(41), "{case}");
     }
-    Ok(())
 }
 
 /// How the trace ends where only so many of its bytes are given.
@@ -133,13 +150,12 @@ fn stamps_within(length: usize) -> &'static [u64] {
 }
 
 #[test]
-fn a_trace_is_cut_at_every_length(rt: HostRuntime) -> Result<(), Fail> {
+fn a_trace_is_cut_at_every_length(rt: HostRuntime) {
     let alloc = rt.alloc();
     for length in 0..61 {
-        let read = in_pieces(alloc, &TRACE[..length], stamps_within(length))?;
+        let read = in_pieces(&rt, alloc, &TRACE[..length], stamps_within(length));
         assert_eq!(rt; read, cut_outcome(length), "at {length}");
     }
-    Ok(())
 }
 
 /// How the trace ends in pieces of 7 bytes where one pull fails.
@@ -160,23 +176,22 @@ fn stamps_before(call: usize) -> &'static [u64] {
 }
 
 #[test]
-fn each_pull_fails_in_turn(rt: HostRuntime) -> Result<(), Fail> {
+fn each_pull_fails_in_turn(rt: HostRuntime) {
     let alloc = rt.alloc();
     for call in 0..10 {
         let mut fails = [0; 10];
         fails[call] = 1;
-        let read = read_trace(alloc, 7, &TRACE, &fails, stamps_before(call))?;
+        let read = read_trace(&rt, alloc, 7, &TRACE, &fails, stamps_before(call));
         assert_eq!(rt; read, failed_outcome(call), "at {call}");
     }
     let mut behind_the_end = [0; 11];
     behind_the_end[10] = 1;
-    let read = read_trace(alloc, 7, &TRACE, &behind_the_end, &[0x64, 0x6E])?;
+    let read = read_trace(&rt, alloc, 7, &TRACE, &behind_the_end, &[0x64, 0x6E]);
     assert_eq!(rt; read, Outcome::Ends(TraceEnd::Ended));
     let mut bad_tag = TRACE;
     bad_tag[41] = 7;
-    let read = read_trace(alloc, 7, &bad_tag, &[0, 0, 0, 0, 0, 0, 1], &[0x64])?;
+    let read = read_trace(&rt, alloc, 7, &bad_tag, &[0, 0, 0, 0, 0, 0, 1], &[0x64]);
     assert_eq!(rt; read, bad_trace(41));
-    Ok(())
 }
 
 /// A header of one volume of one cylinder, a format of track 3 by record 2 behind record 1, an idle entry, and the first
@@ -188,33 +203,28 @@ const ALL_ENTRIES: [u8; 57] = [
 ];
 
 fn is_the_format(entry: &Entry) -> bool {
-    let Entry::Written(write) = entry else {
-        return false;
-    };
-    let Kind::Format { after, recs } = &write.kind else {
-        return false;
-    };
-    let [rec] = recs.as_slice() else {
-        return false;
-    };
-    (write.volume, write.track, write.stamp, *after) == (0, 3, Stamp(0x64), 1)
-        && (rec.number, rec.key.as_slice(), rec.content.as_slice()) == (2, b"K", b"AB")
+    match entry {
+        Entry::Written(write) => {
+            write.volume == 0
+                && write.track == 3
+                && write.stamp == Stamp(0x64)
+                && is_format(&write.kind, b"K", b"AB")
+        }
+        Entry::Idle(_) => false,
+    }
 }
 
 #[test]
-fn all_entries_are_read_and_the_end(rt: HostRuntime) -> Result<(), Fail> {
+fn all_entries_are_read_and_the_end(rt: HostRuntime) {
     let alloc = rt.alloc();
-    let mut source = MemorySource::make(
-        alloc,
-        listed(alloc, &ALL_ENTRIES)?,
-        5,
-        Bytes::make(alloc),
-    )?;
-    let (_, mut reader) = start(alloc, &mut source)?;
-    let (entries, end) = read_entries(alloc, &mut reader, &mut source)?;
+    let bytes = listed(&rt, alloc, &ALL_ENTRIES);
+    let made = MemorySource::make(alloc, bytes, 5, Bytes::make(alloc));
+    let mut source = made.expect(&rt, "memory");
+    let (_, mut reader) = start(alloc, &mut source).expect(&rt, "a header");
+    let read = read_entries(alloc, &mut reader, &mut source);
+    let (entries, end) = read.expect(&rt, "memory");
     assert_eq!(rt; end, TraceEnd::BadTrace(51));
     assert_eq!(rt; entries.len(), 2);
     assert!(rt; is_the_format(&entries.as_slice()[0]));
     assert!(rt; matches!(entries.as_slice()[1], Entry::Idle(Stamp(0x6E))));
-    Ok(())
 }

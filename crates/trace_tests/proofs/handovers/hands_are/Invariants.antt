@@ -2,4 +2,4 @@ use Rattle.std.proofs.Common.{◌≤◌}
 use Rattle.trace_tests.proofs.handovers.hands_are.Given as goal
 
 abbrev pub invariant-loop-limit : goal.invariant-loop-limit
-invariant-loop-limit l = l.side.upto ≤ l.last
+invariant-loop-limit g l = l.side.upto ≤ l.last
