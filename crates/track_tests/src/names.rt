@@ -1,11 +1,12 @@
 //! Serials of volumes and names of sessions: what is read and spelled, what is refused, and their order.
 
+use crate::fixtures::{serial, session};
 use tod_stamp::{NameError, Serial, Session};
 
 #[test]
 fn serials_are_read_and_spelled(rt: HostRuntime) {
-    assert_eq!(rt; Serial::read(b"PRIM01").map(Serial::field), Ok(*b"PRIM01"));
-    assert_eq!(rt; Serial::read(b"A@#$9").map(Serial::field), Ok(*b"A@#$9 "));
+    assert_eq!(rt; serial(&rt, b"PRIM01").field(), *b"PRIM01");
+    assert_eq!(rt; serial(&rt, b"A@#$9").field(), *b"A@#$9 ");
     assert_eq!(rt; Serial::from_field(b"A@#$9 "), Serial::read(b"A@#$9").ok());
 }
 
@@ -36,25 +37,21 @@ fn other_fields_have_no_serial(rt: HostRuntime) {
 }
 
 #[test]
-fn order_is_that_of_the_names(rt: HostRuntime) -> Result<(), NameError> {
-    assert!(rt; Serial::read(b"PRIM0")? < Serial::read(b"PRIM01")?);
-    assert!(rt; Serial::read(b"PRIM1")? > Serial::read(b"PRIM01")?);
-    Ok(())
+fn order_is_that_of_the_names(rt: HostRuntime) {
+    let second = serial(&rt, b"PRIM01");
+    assert!(rt; serial(&rt, b"PRIM0") < second);
+    assert!(rt; serial(&rt, b"PRIM1") > second);
 }
 
 #[test]
 fn sessions_are_read_and_spelled(rt: HostRuntime) {
     let fill = [0x41, 0x42, 0x43, 0x20, 0x20, 0x20, 0x20, 0x20];
-    assert_eq!(rt; Session::read(b"ABC").map(Session::field), Ok(fill));
+    assert_eq!(rt; session(&rt, b"ABC").field(), fill);
     assert_eq!(rt; Session::from_field(&fill), Session::read(b"ABC").ok());
-    assert_eq!(rt;
-        Session::read(b"GENERATE").map(Session::field),
-        Ok(*b"GENERATE")
-    );
+    assert_eq!(rt; session(&rt, b"GENERATE").field(), *b"GENERATE");
 }
 
 #[test]
-fn the_own_bytes_have_no_spaces(rt: HostRuntime) -> Result<(), NameError> {
-    assert_eq!(rt; Session::read(b"ABC")?.as_bytes(), b"ABC".as_slice());
-    Ok(())
+fn the_own_bytes_have_no_spaces(rt: HostRuntime) {
+    assert_eq!(rt; session(&rt, b"ABC").as_bytes(), b"ABC".as_slice());
 }

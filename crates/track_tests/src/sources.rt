@@ -2,7 +2,6 @@
 
 use crate::fixtures::listed;
 use std::io::{Error, ErrorKind, Read, Result as ReadResult};
-use std::test::Fail;
 use xrc_edge::{Bytes, Failed, FileSource, MemorySource, Source};
 
 // A reader whose first reads are interrupted, and whose next ones fail.
@@ -51,10 +50,11 @@ fn an_interrupted_read_is_tried_again(rt: HostRuntime) {
 }
 
 #[test]
-fn bytes_come_in_pieces_and_the_end_again_and_again(rt: HostRuntime) -> Result<(), Fail> {
+fn bytes_come_in_pieces_and_the_end_again_and_again(rt: HostRuntime) {
     let alloc = rt.alloc();
-    let bytes = listed(alloc, b"0123456789")?;
-    let mut source = MemorySource::make(alloc, bytes, 7, Bytes::make(alloc))?;
+    let bytes = listed(&rt, alloc, b"0123456789");
+    let made = MemorySource::make(alloc, bytes, 7, Bytes::make(alloc));
+    let mut source = made.expect(&rt, "memory");
     let mut piece = [0; 8];
     assert_eq!(rt; source.pull(&mut piece), Ok(7));
     assert_eq!(rt; piece, *b"0123456\0");
@@ -64,15 +64,14 @@ fn bytes_come_in_pieces_and_the_end_again_and_again(rt: HostRuntime) -> Result<(
     for _ in 0..2 {
         assert_eq!(rt; source.pull(&mut piece), Ok(0));
     }
-    Ok(())
 }
 
 #[test]
-fn marked_calls_fail_and_give_nothing(rt: HostRuntime) -> Result<(), Fail> {
+fn marked_calls_fail_and_give_nothing(rt: HostRuntime) {
     let alloc = rt.alloc();
-    let bytes = listed(alloc, b"ab")?;
-    let fails = listed(alloc, &[0, 1, 1])?;
-    let mut source = MemorySource::make(alloc, bytes, 1, fails)?;
+    let (bytes, fails) = (listed(&rt, alloc, b"ab"), listed(&rt, alloc, &[0, 1, 1]));
+    let made = MemorySource::make(alloc, bytes, 1, fails);
+    let mut source = made.expect(&rt, "memory");
     let mut piece = [0; 8];
     for pulled in [Ok(1), Err(Failed), Err(Failed)] {
         assert_eq!(rt; source.pull(&mut piece), pulled);
@@ -81,5 +80,4 @@ fn marked_calls_fail_and_give_nothing(rt: HostRuntime) -> Result<(), Fail> {
     assert_eq!(rt; source.pull(&mut piece), Ok(1));
     assert_eq!(rt; piece[0], b'b');
     assert_eq!(rt; source.pull(&mut piece), Ok(0));
-    Ok(())
 }

@@ -1,4 +1,4 @@
-use Rattle.std.proofs.Common.{ℕ, List, refl, [], ◌∷◌}
+use Rattle.std.proofs.Common.{refl, [], ◌∷◌}
 use Rattle.ckd_track.specs.declared.rec.Rec.{Rec}
 use Rattle.ckd_track.specs.declared.write.Kind.{Kind}
 use Rattle.ckd_track.specs.declared.write.Kind.TheVariants.{Update, Format, Whole}
