@@ -1,18 +1,17 @@
 //! The records of changes of every kind, byte for byte, on a plant that tells no bytes.
 
-ghost use Rattle.std.specs.Prelude.{◌≡◌, ◌≤◌, [], vec_len, IfOk, OnOk};
+ghost use Rattle.std.specs.Prelude.{◌≡◌, ◌≤◌, [], length, vec_len, OnOk};
 ghost use Rattle.crash_plant.specs.Calls.{NoneLent};
 ghost use Rattle.site_store.specs.Changes.{named};
 ghost use Rattle.site_store.specs.Standing.{Fits};
 
-use crate::fixtures::{JOURNAL, PAIR, first_row, read, second_row};
+use crate::fixtures::{JOURNAL, PAIR, assert_holds, first_row, second_row};
 use crate::sites::start;
 use crash_plant::{Device, FileDisk, FilePlant, Plant};
 use pair_table::{Change, DeviceList, PairRow, PairState, SuspendCause};
 use site_store::{Site, StoreError};
 use std::alloc::Global;
 use std::fs::{self, File, OpenOptions};
-use std::io;
 use std::process::Abort;
 use std::rt::Files;
 use tod_stamp::Stamp;
@@ -77,35 +76,51 @@ fn log<P: Plant>(
     site.log_change(alloc, plant, Stamp(0x60), change)
 }
 
-/// What a change's record holds, where two rows stand in the table, behind the record of another change: that the row of device
+/// Puts two rows, of which the second one is suspended.
+fn put_both<P: Plant>(rt: &impl Abort, alloc: Global, site: &mut Site<P::Volume>, plant: &P)
+    requires idle { site.old.waiting ≡ [] }
+    requires fits { Fits site.old (P.state plant.now) }
+    ensures idle { site.new.waiting ≡ [] }
+    ensures fits { Fits site.new (P.state plant.now) }
+{
+    let suspended = PairState::Suspended {
+        cause: SuspendCause::Command,
+        since: Stamp(0x80),
+    };
+    put(rt, alloc, site, plant, first_row(rt, 0, PairState::Duplex));
+    put(rt, alloc, site, plant, second_row(rt, 1, 5, 2, suspended));
+}
+
+/// A change's record holds this, where two rows stand in the table, behind the record of another change: that the row of device
 /// 1234 goes.
-fn record_of<P: Plant>(rt: &impl Abort, alloc: Global, plant: &mut P, change: &Change) -> Tail
+fn assert_record<P: Plant>(
+    rt: &impl Abort,
+    alloc: Global,
+    plant: &mut P,
+    change: &Change,
+    expected: &Tail,
+)
     requires home { NoneLent (P.state plant.old) }
     requires mute { ¬ P.tells }
     requires few { named change.now ≤ 3 }
 {
     let mut site = start(rt, alloc, plant).expect(rt, "a site");
-    let first = first_row(rt, 0, PairState::Duplex);
-    put(rt, alloc, &mut site, plant, first);
-    let suspended = PairState::Suspended {
-        cause: SuspendCause::Command,
-        since: Stamp(0x80),
-    };
-    let second = second_row(rt, 1, 5, 2, suspended);
-    put(rt, alloc, &mut site, plant, second);
-    let others = devices(rt, alloc, &[0x1234]);
-    assert!(rt; others.len() <= 3);
-    let gone = Change::Gone(others);
+    put_both(rt, alloc, &mut site, plant);
+    let gone = Change::Gone(devices(rt, alloc, &[0x1234]));
     log(rt, alloc, &mut site, plant, &gone).expect(rt, "a record");
     log(rt, alloc, &mut site, plant, change).expect(rt, "a record");
-    read(rt, plant, Device::Journal(0), ITEMS)
+    assert_holds(rt, plant, Device::Journal(0), ITEMS, expected);
 }
 
-fn devices(rt: &impl Abort, alloc: Global, numbers: &[u16]) -> DeviceList {
+/// A few devices.
+fn devices(rt: &impl Abort, alloc: Global, numbers: &[u16]) -> DeviceList
+    ensures { length result ≤ 3 }
+{
     let mut devices = DeviceList::make(alloc);
     devices
         .extend_from_slice(alloc, numbers)
         .expect(rt, "memory");
+    assert!(rt; devices.len() <= 3);
     devices
 }
 
@@ -124,97 +139,82 @@ const FILES: [&str; 12] = [
     "change.said",
 ];
 
-fn open<R: Files<File = File>>(rt: &R, name: &str, length: u64) -> io::Result<File> {
+fn open<R: Files<File = File> + Abort>(rt: &R, name: &str, length: u64) -> File {
     let file = OpenOptions::new()
         .read(true)
         .write(true)
         .create(true)
         .truncate(true)
-        .open(rt, name)?;
-    file.set_len(length)?;
-    Ok(file)
+        .open(rt, name)
+        .expect(rt, "a file");
+    file.set_len(length).expect(rt, "room");
+    file
 }
 
-fn open_disk<R: Files<File = File>>(rt: &R, name: &str, length: u64) -> io::Result<FileDisk> {
-    Ok(FileDisk::new(open(rt, name, length)?, length))
+fn open_disk<R: Files<File = File> + Abort>(rt: &R, name: &str, length: u64) -> FileDisk {
+    FileDisk::new(open(rt, name, length), length)
 }
 
-fn open_journals<R: Files<File = File>>(rt: &R, alloc: Global) -> io::Result<Vec<FileDisk>>
-    ensures { IfOk result (λ disks. vec_len disks ≡ 2) }
+fn open_disks<R: Files<File = File> + Abort>(
+    rt: &R,
+    alloc: Global,
+    names: &[&str],
+    length: u64,
+) -> Vec<FileDisk>
+    ensures { vec_len result ≤ 6 }
 {
     let mut disks = Vec::new(alloc);
-    disks.push(open_disk(rt, FILES[2], JOURNAL)?)?;
-    disks.push(open_disk(rt, FILES[3], JOURNAL)?)?;
-    Ok(disks)
+    for name in names {
+        disks.push(open_disk(rt, name, length)).expect(rt, "memory");
+    }
+    assert!(rt; disks.len() <= 6);
+    disks
 }
 
-/// Six volumes of two cylinders.
-fn open_volumes<R: Files<File = File>>(rt: &R, alloc: Global) -> io::Result<Vec<FileDisk>>
-    ensures { IfOk result (λ disks. vec_len disks ≡ 6) }
-{
-    let mut disks = Vec::new(alloc);
-    disks.push(open_disk(rt, FILES[4], 1_720_832)?)?;
-    disks.push(open_disk(rt, FILES[5], 1_720_832)?)?;
-    disks.push(open_disk(rt, FILES[6], 1_720_832)?)?;
-    disks.push(open_disk(rt, FILES[7], 1_720_832)?)?;
-    disks.push(open_disk(rt, FILES[8], 1_720_832)?)?;
-    disks.push(open_disk(rt, FILES[9], 1_720_832)?)?;
-    Ok(disks)
-}
-
-/// Files of zeros.
-fn files<R: Files<File = File> + Abort>(rt: &R, alloc: Global) -> io::Result<FilePlant<File, File>>
-    ensures { IfOk result (λ plant. NoneLent (⟦<FilePlant<File, File> as Plant>⟧.state plant)) }
+/// Files of zeros, with six volumes of two cylinders.
+fn files<R: Files<File = File> + Abort>(rt: &R, alloc: Global) -> FilePlant<File, File>
+    ensures { NoneLent (⟦<FilePlant<File, File> as Plant>⟧.state result) }
 {
     let plant = FilePlant::new(
         alloc,
-        open_disk(rt, FILES[0], 1_024)?,
-        open_disk(rt, FILES[1], 16_384)?,
-        open_journals(rt, alloc)?,
-        open_volumes(rt, alloc)?,
-        open(rt, FILES[10], 0)?,
-        open(rt, FILES[11], 0)?,
+        open_disk(rt, FILES[0], 1_024),
+        open_disk(rt, FILES[1], 16_384),
+        open_disks(rt, alloc, &FILES[2..4], JOURNAL),
+        open_disks(rt, alloc, &FILES[4..10], 1_720_832),
+        open(rt, FILES[10], 0),
+        open(rt, FILES[11], 0),
     );
-    Ok(plant.expect(rt, "memory"))
+    plant.expect(rt, "memory")
 }
 
 /// The items of a change are spelled by these bytes, whatever was there before.
-fn assert_items<R: Files<File = File> + Abort>(
-    rt: &R,
-    alloc: Global,
-    change: &Change,
-    items: &[u8],
-) -> io::Result<()>
+fn assert_items<R: Files<File = File> + Abort>(rt: &R, alloc: Global, change: &Change, items: &[u8])
     requires { named change.now ≤ 3 }
 {
-    let mut plant = files(rt, alloc)?;
-    let found = record_of(rt, alloc, &mut plant, change);
-    assert!(rt; found == tail(rt, items));
-    Ok(())
+    let expected = tail(rt, items);
+    let mut plant = files(rt, alloc);
+    assert_record(rt, alloc, &mut plant, change, &expected);
 }
 
 #[test]
-fn each_change_has_the_items_of_its_rows(rt: HostRuntime) -> io::Result<()> {
+fn each_change_has_the_items_of_its_rows(rt: HostRuntime) {
     let alloc = rt.alloc();
     // A change without rows has no item, and no record.
-    assert_items(&rt, alloc, &Change::Nothing, &[])?;
-    assert_items(&rt, alloc, &Change::Started, &[])?;
-    assert_items(&rt, alloc, &Change::Ended, &[])?;
-    assert_items(&rt, alloc, &Change::Added(0), &PAIR)?;
-    assert_items(&rt, alloc, &Change::Resumed(5), &SECOND)?;
+    assert_items(&rt, alloc, &Change::Nothing, &[]);
+    assert_items(&rt, alloc, &Change::Started, &[]);
+    assert_items(&rt, alloc, &Change::Ended, &[]);
+    assert_items(&rt, alloc, &Change::Added(0), &PAIR);
+    assert_items(&rt, alloc, &Change::Resumed(5), &SECOND);
     // Rows that are suspended are items in their order.
-    let suspended = devices(&rt, alloc, &[5, 0]);
-    assert!(&rt; suspended.len() <= 3);
+    let suspended = Change::Suspended(devices(&rt, alloc, &[5, 0]));
     let mut both = [0; 62];
     both[..31].copy_from_slice(&SECOND);
     both[31..].copy_from_slice(&PAIR);
-    assert_items(&rt, alloc, &Change::Suspended(suspended), &both)?;
+    assert_items(&rt, alloc, &suspended, &both);
     // Rows that go are named by their devices.
-    let gone = devices(&rt, alloc, &[0x0102, 0]);
-    assert!(&rt; gone.len() <= 3);
-    assert_items(&rt, alloc, &Change::Gone(gone), &[4, 1, 2, 4, 0, 0])?;
+    let gone = Change::Gone(devices(&rt, alloc, &[0x0102, 0]));
+    assert_items(&rt, alloc, &gone, &[4, 1, 2, 4, 0, 0]);
     for name in FILES {
-        fs::remove_file(&rt, name)?;
+        fs::remove_file(&rt, name).expect(&rt, "a file");
     }
-    Ok(())
 }

@@ -1,6 +1,6 @@
 //! What the tests of a site share: the session ABC, pairs, plants whose calls fail, and what is examined.
 
-ghost use Rattle.std.specs.Prelude.{◌≡◌, IfOk};
+ghost use Rattle.std.specs.Prelude.{◌≡◌};
 ghost use Rattle.crash_plant.specs.Calls.{IsThere, NoneLent};
 ghost use Rattle.crash_plant.specs.declared.device.Device.TheVariants.{Volume};
 ghost use Rattle.crash_plant.specs.MemoryPlant.{memory_state};
@@ -8,11 +8,12 @@ ghost use Rattle.crash_plant.specs.PlainPlant.{plain_state};
 
 use crash_plant::{Device, Fail, FailList, MemoryPlant, PlainPlant, Plant, Spot};
 use pair_table::{Level, PairRow, PairState, PairTable};
-use site_means::{SiteError, examine};
+use site_means::{Means, SiteError, examine};
 use std::alloc::Global;
+use std::fmt::Debug;
 use std::process::Abort;
 use tod_stamp::{Serial, Session, Stamp};
-use xrc_edge::{Bytes, NoMemory};
+use xrc_edge::Bytes;
 
 /// The first mark of the session ABC, begun at the time 50.
 pub(crate) const MARK: [u8; 49] = [
@@ -96,11 +97,14 @@ pub(crate) fn table_of(
     second: PairRow,
 ) -> PairTable {
     let mut table = PairTable::make(alloc, session(rt)).expect(rt, "memory");
-    assert!(rt; table.may_put(&first));
-    assert!(rt; table.put_row(alloc, first).is_ok());
-    assert!(rt; table.may_put(&second));
-    assert!(rt; table.put_row(alloc, second).is_ok());
+    put_row(rt, alloc, &mut table, first);
+    put_row(rt, alloc, &mut table, second);
     table
+}
+
+fn put_row(rt: &impl Abort, alloc: Global, table: &mut PairTable, row: PairRow) {
+    assert!(rt; table.may_put(&row));
+    table.put_row(alloc, row).expect(rt, "memory");
 }
 
 /// Zeros, with two journals, and volumes of one length.
@@ -116,16 +120,10 @@ pub(crate) fn zeros(
     PlainPlant::make(alloc, 2, journal, volumes, length, Bytes::make(alloc)).expect(rt, "memory")
 }
 
-fn made(alloc: Global, plain: PlainPlant, fails: &[Fail]) -> Result<MemoryPlant, NoMemory>
-    requires { NoneLent (plain_state plain) }
-    ensures { IfOk result (λ plant. NoneLent (memory_state plant)) }
-{
+fn fail_list(rt: &impl Abort, alloc: Global, fails: &[Fail]) -> FailList {
     let mut list = FailList::make(alloc);
-    for fail in fails {
-        list.push(alloc, *fail)?;
-    }
-    let plant = MemoryPlant::make(alloc, plain, list)?;
-    Ok(plant)
+    list.extend_from_slice(alloc, fails).expect(rt, "memory");
+    list
 }
 
 /// The same plant, of which these calls fail.
@@ -138,7 +136,8 @@ pub(crate) fn failing(
     requires { NoneLent (plain_state plain) }
     ensures { NoneLent (memory_state result) }
 {
-    made(alloc, plain, fails).expect(rt, "memory")
+    let list = fail_list(rt, alloc, fails);
+    MemoryPlant::make(alloc, plain, list).expect(rt, "memory")
 }
 
 /// The call of this number on a device fails, and with `stop` all later calls do.
@@ -190,23 +189,24 @@ pub(crate) fn write<P: Plant>(
     assert!(rt; plant.write(device, place, bytes).is_ok());
 }
 
-/// So many bytes from a place of a device.
+/// The device holds these bytes at a place.
 #[tactic(auto, using(crash_plant::proofs::Steps::none_lent_then))]
-pub(crate) fn read<P: Plant, const N: usize>(
+pub(crate) fn assert_holds<P: Plant, const N: usize>(
     rt: &impl Abort,
     plant: &mut P,
     device: Device,
     place: u64,
-) -> [u8; N]
+    bytes: &[u8; N],
+)
     requires { NoneLent (P.state plant.old) }
     ensures { NoneLent (P.state plant.new) }
 {
-    let mut bytes = [9; N];
     assert_there(rt, plant, device);
     let length = plant.length(device);
     assert!(rt; place <= length && N as u64 <= length - place);
-    assert!(rt; plant.read(device, place, &mut bytes).is_ok());
-    bytes
+    let mut found = [9; N];
+    assert!(rt; plant.read(device, place, &mut found).is_ok());
+    assert_eq!(rt; found, *bytes, "{device:?} at {place}");
 }
 
 /// What was examined, with the first row where there is one.
@@ -221,17 +221,12 @@ pub(crate) struct Seen {
     pub(crate) ended: bool,
 }
 
-pub(crate) fn examined<P: Plant>(
-    rt: &impl Abort,
-    alloc: Global,
-    plant: &mut P,
-) -> Result<Seen, SiteError>
-    requires { NoneLent (P.state plant.old) }
-    ensures { NoneLent (P.state plant.new) }
-{
-    let means = examine(alloc, plant)?;
+/// What a site means, or why it means nothing.
+pub(crate) type Meant = Result<Seen, SiteError>;
+
+fn seen_of(rt: &impl Abort, means: &Means) -> Seen {
     assert_eq!(rt; means.table.session(), means.session);
-    Ok(Seen {
+    Seen {
         session: means.session,
         level: means.level,
         time: means.time,
@@ -239,5 +234,30 @@ pub(crate) fn examined<P: Plant>(
         first: means.table.row(0).copied(),
         from: means.from,
         ended: means.ended,
-    })
+    }
+}
+
+fn examined<P: Plant>(rt: &impl Abort, alloc: Global, plant: &mut P) -> Meant
+    requires { NoneLent (P.state plant.old) }
+    ensures { NoneLent (P.state plant.new) }
+{
+    match examine(alloc, plant) {
+        Ok(means) => Ok(seen_of(rt, &means)),
+        Err(error) => Err(error),
+    }
+}
+
+/// The site is examined with this answer.
+pub(crate) fn assert_examined<P: Plant>(
+    rt: &impl Abort,
+    alloc: Global,
+    plant: &mut P,
+    expected: &Meant,
+    case: &impl Debug,
+)
+    requires { NoneLent (P.state plant.old) }
+    ensures { NoneLent (P.state plant.new) }
+{
+    let found = examined(rt, alloc, plant);
+    assert_eq!(rt; found, *expected, "{case:?}");
 }

@@ -1,19 +1,20 @@
 //! A worked session with one pair, by steps on a queue and a site: its tracks are copied, one of them is replaced, and then updated.
 //! While the update is logged the journal stops, and a crash leaves the times that the gate allows.
 
-ghost use Rattle.std.specs.Prelude.{◌≡◌, ◌≤◌, ◌<◌, []};
+ghost use Rattle.std.specs.Prelude.{◌≡◌, ◌≤◌, []};
 ghost use Rattle.crash_plant.specs.Calls.{NoneLent};
-ghost use Rattle.crash_plant.specs.MemoryPlant.{memory_state};
 ghost use Rattle.pending_queue.specs.Entries.{last_stamp};
 ghost use Rattle.site_store.specs.Standing.{Fits, Stands};
 
 use crate::entries::{add, update, whole, write_to};
-use crate::fixtures::Seen;
-use crate::sites::{CYLINDER, RECORD, answer, duplex, leaves, log_group, meant, paired, stopping};
+use crate::fixtures::Meant;
+use crate::sites::{
+    CYLINDER, RECORD, answer, assert_logged, duplex, leaves, log_group, meant, paired, stopping,
+};
 use ckd_track::{Slot, Write};
-use crash_plant::{Device, MemoryPlant, Plant, Spot};
+use crash_plant::{Device, Plant, Spot};
 use pending_queue::{Formed, Queue};
-use site_store::{Site, StoreError};
+use site_store::Site;
 use std::alloc::Global;
 use std::process::Abort;
 use std::thread::Threads;
@@ -28,7 +29,7 @@ const BEHIND: Spot = Spot {
 };
 
 /// What the session means at a time, behind the mark there.
-fn meant_at(rt: &impl Abort, time: u64) -> Seen {
+fn meant_at(rt: &impl Abort, time: u64) -> Meant {
     meant(rt, time, duplex(rt, 0), BEHIND, false)
 }
 
@@ -92,35 +93,51 @@ fn log_to_mark<R: Threads + Sync + Abort, P: Plant>(
     site.mark(rt, alloc, plant, false).expect(rt, "a mark");
 }
 
-/// The answer to the update's group, where the journal stops at this call of its record. The start makes two calls of the journal,
-/// and each of the three records before it five.
-fn log_update<R: Threads + Sync + Abort>(
+/// The worked session up to the second mark.
+fn replaced<R: Threads + Sync + Abort, P: Plant>(
     rt: &R,
     alloc: Global,
-    call: usize,
-) -> (Result<(), StoreError>, MemoryPlant)
-    requires { call < 6 }
-    ensures { NoneLent (memory_state result.1) }
+    plant: &mut P,
+) -> Site<P::Volume>
+    requires { NoneLent (P.state plant.old) }
+    ensures idle { result.waiting ≡ [] }
+    ensures fits { Fits result (P.state plant.new) }
+    ensures stands { P.tells → Stands result.table.rows result (P.state plant.new) }
 {
-    let mut plant = stopping(rt, alloc, 1, CYLINDER, Device::Journal(0), 17 + call as u64);
-    let mut site = paired(rt, alloc, &mut plant, 0, Stamp(0x60));
-    log_to_mark(rt, alloc, &mut site, &mut plant, &copied(rt, alloc));
+    let mut site = paired(rt, alloc, plant, 0, Stamp(0x60));
+    log_to_mark(rt, alloc, &mut site, plant, &copied(rt, alloc));
     let replaced = write_to(0, 3, 0x64, whole(rt, alloc, *b"AB"));
     let group = written(rt, alloc, 0x6D, replaced);
-    log_to_mark(rt, alloc, &mut site, &mut plant, &group);
-    let updated = write_to(0, 3, 0x6E, update(rt, alloc, b"Z"));
-    let group = written(rt, alloc, 0x90, updated);
-    let logged = log_group(rt, alloc, &mut site, &mut plant, &group);
-    (logged, plant)
+    log_to_mark(rt, alloc, &mut site, plant, &group);
+    site
 }
 
+/// The update's group is answered so where the journal stops at this call of its record.
+fn answers_update<R: Threads + Sync + Abort, P: Plant>(
+    rt: &R,
+    alloc: Global,
+    plant: &mut P,
+    call: usize,
+)
+    requires { NoneLent (P.state plant.old) }
+    ensures { NoneLent (P.state plant.new) }
+{
+    let mut site = replaced(rt, alloc, plant);
+    let updated = write_to(0, 3, 0x6E, update(rt, alloc, b"Z"));
+    let group = written(rt, alloc, 0x90, updated);
+    assert_logged(rt, alloc, &mut site, plant, &group, answer(call), &call);
+}
+
+// The start makes two calls of the journal, and each of the three records before the update's five.
 #[test]
 fn a_crash_at_a_gate_leaves_one_of_two_times(rt: HostRuntime) {
     let alloc = rt.alloc();
+    let old = meant_at(&rt, 0x6D);
+    let new = meant_at(&rt, 0x90);
     for call in 0..6 {
-        let (logged, plant) = log_update(&rt, alloc, call);
-        assert_eq!(&rt; logged, answer(call), "{call}");
-        let old = Some(meant_at(&rt, 0x6D));
-        leaves(&rt, alloc, &plant, RECORD[call], &old, &meant_at(&rt, 0x90));
+        let last = 17 + call as u64;
+        let mut plant = stopping(&rt, alloc, 1, CYLINDER, Device::Journal(0), last);
+        answers_update(&rt, alloc, &mut plant, call);
+        leaves(&rt, alloc, &plant, RECORD[call], &old, &new);
     }
 }

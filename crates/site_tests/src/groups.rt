@@ -7,13 +7,17 @@ ghost use Rattle.crash_plant.specs.MemoryPlant.{memory_state};
 ghost use Rattle.site_store.specs.Standing.{Fits, Stands};
 
 use crate::entries::{add, format, whole, write_to};
-use crate::fixtures::{JOURNAL, START, Seen, examined, fail_at, failing, read, zeros};
+use crate::fixtures::{
+    JOURNAL, Meant, START, assert_examined, assert_holds, fail_at, failing, zeros,
+};
 use crate::sites::{
-    CHOICES, CYLINDER, Counts, NEW, OLD, OPEN, RECORD, answer, duplex, leaves, log_group, log_pair,
-    meant, meant_new, paired, pending, start, stopping,
+    CHOICES, CYLINDER, Counts, NEW, OLD, OPEN, RECORD, answer, assert_logged, assert_pair_logged,
+    duplex, leaves, log_group, meant, meant_new, paired, pending, start, stopping,
 };
 use crash_plant::{Device, Fail, MemoryPlant, Plant, Spot};
+use pair_table::PairRow;
 use pending_queue::Formed;
+use site_means::SiteError;
 use site_store::{Site, StoreError};
 use std::alloc::Global;
 use std::process::Abort;
@@ -49,17 +53,17 @@ const VOLUME: u16 = 7;
 const PAIRED: Stamp = Stamp(0x58);
 
 /// With the pair.
-fn meant_paired(rt: &impl Abort) -> Seen {
+fn meant_paired(rt: &impl Abort) -> Meant {
     meant(rt, 0x58, pending(rt, VOLUME), START, false)
 }
 
 /// With the group.
-fn meant_grouped(rt: &impl Abort) -> Seen {
+fn meant_grouped(rt: &impl Abort) -> Meant {
     meant(rt, 0x60, duplex(rt, VOLUME), START, false)
 }
 
 /// With a mark behind it that ends the session.
-fn meant_ended(rt: &impl Abort) -> Seen {
+fn meant_ended(rt: &impl Abort) -> Meant {
     meant(rt, 0x60, duplex(rt, VOLUME), BEHIND, true)
 }
 
@@ -98,11 +102,8 @@ fn holds_images<P: Plant>(rt: &impl Abort, plant: &mut P)
     requires { NoneLent (P.state plant.old) }
     ensures { NoneLent (P.state plant.new) }
 {
-    let found: [[u8; 8]; 2] = [
-        read(rt, plant, Device::Volume(0), SLOTS[0]),
-        read(rt, plant, Device::Volume(0), SLOTS[1]),
-    ];
-    assert_eq!(rt; found, IMAGES);
+    assert_holds(rt, plant, Device::Volume(0), SLOTS[0], &IMAGES[0]);
+    assert_holds(rt, plant, Device::Volume(0), SLOTS[1], &IMAGES[1]);
     surrounds(rt, plant);
 }
 
@@ -111,43 +112,76 @@ fn surrounds<P: Plant>(rt: &impl Abort, plant: &mut P)
     requires { NoneLent (P.state plant.old) }
     ensures { NoneLent (P.state plant.new) }
 {
-    let before: [u8; 512] = read(rt, plant, Device::Volume(0), 0);
-    let behind: [u8; 512] = read(rt, plant, Device::Volume(0), 115_200);
-    assert!(rt; before == [0; 512] && behind == [0; 512]);
+    assert_holds(rt, plant, Device::Volume(0), 0, &[0; 512]);
+    assert_holds(rt, plant, Device::Volume(0), 115_200, &[0; 512]);
+}
+
+/// The site's time, and how many groups were logged since its mark.
+fn assert_times<V>(rt: &impl Abort, site: &Site<V>, expected: (Stamp, u32)) {
+    assert_eq!(rt; (site.time(), site.since()), expected);
+}
+
+/// The row of device 0.
+fn assert_row<V>(rt: &impl Abort, site: &Site<V>, expected: Option<PairRow>) {
+    assert_eq!(rt; site.table().row_of(0).copied(), expected);
+}
+
+/// Logs the pair, whose record the journal holds then.
+fn log_worked_pair<P: Plant>(rt: &impl Abort, alloc: Global, plant: &mut P)
+    requires { NoneLent (P.state plant.old) }
+    ensures { NoneLent (P.state plant.new) }
+{
+    let site = paired(rt, alloc, plant, VOLUME, PAIRED);
+    assert_times(rt, &site, (Stamp(0x58), 0));
+    assert_holds(rt, plant, Device::Journal(0), 0, &ADDED);
 }
 
 #[test]
 fn a_pair_is_logged(rt: HostRuntime) {
     let alloc = rt.alloc();
     let mut plant = zeros(&rt, alloc, JOURNAL, 1, CYLINDER);
-    let site = paired(&rt, alloc, &mut plant, VOLUME, PAIRED);
-    assert_eq!(&rt; (site.time(), site.since()), (Stamp(0x58), 0));
-    let record: [u8; 53] = read(&rt, &mut plant, Device::Journal(0), 0);
-    assert!(&rt; record == ADDED);
-    assert_eq!(&rt; examined(&rt, alloc, &mut plant), Ok(meant_paired(&rt)));
+    log_worked_pair(&rt, alloc, &mut plant);
+    assert_examined(&rt, alloc, &mut plant, &meant_paired(&rt), &"paired");
+}
+
+/// Logs and applies the pair and the group, whose images the volume holds then.
+fn apply_worked<R: Threads + Sync + Abort, P: Plant>(rt: &R, alloc: Global, plant: &mut P)
+    requires { NoneLent (P.state plant.old) }
+    ensures { NoneLent (P.state plant.new) }
+{
+    let site = applied(rt, alloc, plant);
+    assert_times(rt, &site, (Stamp(0x60), 1));
+    assert_row(rt, &site, duplex(rt, VOLUME));
+    holds_images(rt, plant);
 }
 
 #[test]
 fn a_group_is_logged_and_applied(rt: HostRuntime) {
     let alloc = rt.alloc();
     let mut plant = zeros(&rt, alloc, JOURNAL, 1, CYLINDER);
-    let site = applied(&rt, alloc, &mut plant);
-    assert_eq!(&rt; (site.time(), site.since()), (Stamp(0x60), 1));
-    assert_eq!(&rt; site.table().row_of(0).copied(), duplex(&rt, VOLUME));
-    holds_images(&rt, &mut plant);
-    assert_eq!(&rt; examined(&rt, alloc, &mut plant), Ok(meant_grouped(&rt)));
+    apply_worked(&rt, alloc, &mut plant);
+    assert_examined(&rt, alloc, &mut plant, &meant_grouped(&rt), &"grouped");
+}
+
+/// The pair's record is answered so where the journal stops at this call of it.
+fn answers_pair<P: Plant>(rt: &impl Abort, alloc: Global, plant: &mut P, call: usize)
+    requires { NoneLent (P.state plant.old) }
+    ensures { NoneLent (P.state plant.new) }
+{
+    let mut site = start(rt, alloc, plant).expect(rt, "a site");
+    let expected = answer(call);
+    assert_pair_logged(rt, alloc, &mut site, plant, VOLUME, PAIRED, expected, &call);
 }
 
 /// Where the pair's record stops at this call of the journal, of which the start makes two, it answers so, and a crash leaves this.
 fn stop_pair(rt: &impl Abort, alloc: Global, call: usize)
     requires { call < 6 }
 {
+    let old = meant_new(rt);
+    let new = meant_paired(rt);
     let mut plant = stopping(rt, alloc, 1, CYLINDER, Device::Journal(0), 2 + call as u64);
-    let mut site = start(rt, alloc, &mut plant).expect(rt, "a site");
-    let logged = log_pair(rt, alloc, &mut site, &mut plant, VOLUME, PAIRED);
-    assert_eq!(rt; logged, answer(call), "{call}");
-    let old = Some(meant_new(rt));
-    leaves(rt, alloc, &plant, RECORD[call], &old, &meant_paired(rt));
+    answers_pair(rt, alloc, &mut plant, call);
+    leaves(rt, alloc, &plant, RECORD[call], &old, &new);
 }
 
 #[test]
@@ -157,40 +191,55 @@ fn a_change_that_stops_leaves_the_old_rows_or_the_new_ones(rt: HostRuntime) {
     }
 }
 
-/// What the group's record answers where a call fails.
-fn log_failing(rt: &impl Abort, alloc: Global, fail: Fail) -> (Result<(), StoreError>, MemoryPlant)
-    ensures { NoneLent (memory_state result.1) }
+/// The group's record behind the pair's is answered so.
+fn answers_group<P: Plant>(
+    rt: &impl Abort,
+    alloc: Global,
+    plant: &mut P,
+    expected: Result<(), StoreError>,
+    call: usize,
+)
+    requires { NoneLent (P.state plant.old) }
+    ensures { NoneLent (P.state plant.new) }
 {
+    let mut site = paired(rt, alloc, plant, VOLUME, PAIRED);
+    let formed = group(rt, alloc);
+    assert_logged(rt, alloc, &mut site, plant, &formed, expected, &call);
+}
+
+/// Where this call fails, the group's record is answered so, and a crash leaves what counts.
+fn stop_group(
+    rt: &impl Abort,
+    alloc: Global,
+    fail: Fail,
+    expected: Result<(), StoreError>,
+    call: usize,
+    counts: Counts,
+) {
+    let old = meant_paired(rt);
+    let new = meant_grouped(rt);
     let plain = zeros(rt, alloc, JOURNAL, 1, CYLINDER);
     let mut plant = failing(rt, alloc, plain, &[fail]);
-    let mut site = paired(rt, alloc, &mut plant, VOLUME, PAIRED);
-    let formed = group(rt, alloc);
-    let logged = log_group(rt, alloc, &mut site, &mut plant, &formed);
-    (logged, plant)
+    answers_group(rt, alloc, &mut plant, expected, call);
+    leaves(rt, alloc, &plant, counts, &old, &new);
 }
 
 // In the body's write, in the gate's write, after the gate's sync, and at each other call. The start makes two calls of the journal,
 // and the pair's record five.
 #[test]
 fn a_group_that_stops_leaves_the_old_cut_or_the_new_one(rt: HostRuntime) {
-    let alloc = rt.alloc();
     for call in 0..6 {
         let fail = fail_at(Device::Journal(0), 7 + call as u64, true);
-        let (logged, plant) = log_failing(&rt, alloc, fail);
-        assert_eq!(&rt; logged, answer(call), "{call}");
-        let old = Some(meant_paired(&rt));
-        leaves(&rt, alloc, &plant, RECORD[call], &old, &meant_grouped(&rt));
+        stop_group(&rt, rt.alloc(), fail, answer(call), call, RECORD[call]);
     }
 }
 
 #[test]
 fn a_read_that_fails_ends_the_call_before_the_journal(rt: HostRuntime) {
-    let alloc = rt.alloc();
     for stop in [false, true] {
-        let (logged, plant) = log_failing(&rt, alloc, fail_at(Device::Volume(0), 0, stop));
-        assert_eq!(&rt; logged, Err(StoreError::Volume(0)));
-        let old = Some(meant_paired(&rt));
-        leaves(&rt, alloc, &plant, OLD, &old, &meant_grouped(&rt));
+        let fail = fail_at(Device::Volume(0), 0, stop);
+        let failed = Err(StoreError::Volume(0));
+        stop_group(&rt, rt.alloc(), fail, failed, 0, OLD);
     }
 }
 
@@ -198,35 +247,34 @@ fn a_read_that_fails_ends_the_call_before_the_journal(rt: HostRuntime) {
 fn leaves_group(rt: &impl Abort, alloc: Global, plant: &MemoryPlant)
     requires { NoneLent (memory_state plant.now) }
 {
-    leaves(rt, alloc, plant, NEW, &None, &meant_grouped(rt));
+    let none = Err(SiteError::NoSession);
+    leaves(rt, alloc, plant, NEW, &none, &meant_grouped(rt));
     for choice in CHOICES {
         let mut plain = plant.crash(alloc, choice).expect(rt, "memory");
         surrounds(rt, &mut plain);
     }
 }
 
-/// What a mark answers behind a group that stops at this call of the volume while it is applied.
-fn mark_behind_failed<R: Threads + Sync + Abort>(
-    rt: &R,
-    alloc: Global,
-    call: u64,
-) -> Result<(), StoreError> {
-    let mut plant = stopping(rt, alloc, 1, CYLINDER, Device::Volume(0), call);
-    let mut site = applied(rt, alloc, &mut plant);
+/// Where the volume stops at this call while the group is applied, a crash leaves the group.
+fn stop_apply<R: Threads + Sync + Abort>(rt: &R, alloc: Global, at: (Device, u64)) {
+    let mut plant = stopping(rt, alloc, 1, CYLINDER, at.0, at.1);
+    applied(rt, alloc, &mut plant);
     leaves_group(rt, alloc, &plant);
-    site.mark(rt, alloc, &mut plant, false)
 }
 
-/// What the next group answers then.
-fn log_behind_failed<R: Threads + Sync + Abort>(
+/// Where it stops so, the next group fails.
+fn fails_next<R: Threads + Sync + Abort, P: Plant>(
     rt: &R,
     alloc: Global,
-    call: u64,
-) -> Result<(), StoreError> {
-    let mut plant = stopping(rt, alloc, 1, CYLINDER, Device::Volume(0), call);
-    let mut site = applied(rt, alloc, &mut plant);
+    plant: &mut P,
+    at: (Device, u64),
+)
+    requires { NoneLent (P.state plant.old) }
+{
+    let mut site = applied(rt, alloc, plant);
     let formed = group(rt, alloc);
-    log_group(rt, alloc, &mut site, &mut plant, &formed)
+    let failed = Err(StoreError::Volume(0));
+    assert_logged(rt, alloc, &mut site, plant, &formed, failed, &at);
 }
 
 // The volume is read once for the group, and written twice.
@@ -234,9 +282,19 @@ fn log_behind_failed<R: Threads + Sync + Abort>(
 fn a_stop_while_a_group_is_applied_leaves_it_logged(rt: HostRuntime) {
     let alloc = rt.alloc();
     for call in 1..3 {
-        let failed = Err(StoreError::Volume(0));
-        assert_eq!(&rt; mark_behind_failed(&rt, alloc, call), failed, "{call}");
-        assert_eq!(&rt; log_behind_failed(&rt, alloc, call), failed, "{call}");
+        let at = (Device::Volume(0), call);
+        stop_apply(&rt, alloc, at);
+        let mut plant = stopping(&rt, alloc, 1, CYLINDER, at.0, at.1);
+        answers_mark(
+            &rt,
+            alloc,
+            &mut plant,
+            false,
+            Err(StoreError::Volume(0)),
+            at,
+        );
+        let mut plant = stopping(&rt, alloc, 1, CYLINDER, at.0, at.1);
+        fails_next(&rt, alloc, &mut plant, at);
     }
 }
 
@@ -268,31 +326,62 @@ const MARKS: [(Device, u64, u64, Result<(), StoreError>, Counts); 5] = [
     (Device::Control, 15, 16, Ok(()), NEW),
 ];
 
-/// What a mark that ends the session answers where a device stops at a call.
+/// A mark with this flag is answered so.
 #[tactic(auto, using(crash_plant::proofs::Steps::none_lent_then))]
-fn mark_failing<R: Threads + Sync + Abort>(
+fn assert_marked<R: Threads + Sync + Abort, P: Plant>(
     rt: &R,
     alloc: Global,
-    device: Device,
-    call: u64,
-) -> (Result<(), StoreError>, MemoryPlant)
-    ensures { NoneLent (memory_state result.1) }
+    site: &mut Site<P::Volume>,
+    plant: &mut P,
+    ended: bool,
+    expected: Result<(), StoreError>,
+    at: (Device, u64),
+)
+    requires fits { Fits site.old (P.state plant.old) }
+    requires stands { P.tells → Stands site.old.table.rows site.old (P.state plant.old) }
+    requires idle { site.old.waiting ≡ [] }
+    ensures { NoneLent (P.state plant.new) }
 {
-    let mut plant = stopping(rt, alloc, 1, CYLINDER, device, call);
-    let mut site = applied(rt, alloc, &mut plant);
-    let marked = site.mark(rt, alloc, &mut plant, true);
-    (marked, plant)
+    let marked = site.mark(rt, alloc, plant, ended);
+    assert_eq!(rt; marked, expected, "{at:?}");
+}
+
+/// A mark behind the group is answered so where a device stops at a call.
+fn answers_mark<R: Threads + Sync + Abort, P: Plant>(
+    rt: &R,
+    alloc: Global,
+    plant: &mut P,
+    ended: bool,
+    expected: Result<(), StoreError>,
+    at: (Device, u64),
+)
+    requires { NoneLent (P.state plant.old) }
+    ensures { NoneLent (P.state plant.new) }
+{
+    let mut site = applied(rt, alloc, plant);
+    assert_marked(rt, alloc, &mut site, plant, ended, expected, at);
+}
+
+/// Where a device stops at a call, a mark that ends the session is answered so, and a crash leaves what counts.
+fn stop_mark<R: Threads + Sync + Abort>(
+    rt: &R,
+    alloc: Global,
+    at: (Device, u64),
+    expected: Result<(), StoreError>,
+    counts: Counts,
+) {
+    let old = meant_grouped(rt);
+    let new = meant_ended(rt);
+    let mut plant = stopping(rt, alloc, 1, CYLINDER, at.0, at.1);
+    answers_mark(rt, alloc, &mut plant, true, expected, at);
+    leaves(rt, alloc, &plant, counts, &old, &new);
 }
 
 #[test]
 fn a_mark_that_stops_leaves_the_old_one_or_the_new_one(rt: HostRuntime) {
-    let alloc = rt.alloc();
     for (device, from, to, expected, counts) in MARKS {
         for call in from..to {
-            let (marked, plant) = mark_failing(&rt, alloc, device, call);
-            assert_eq!(&rt; marked, expected, "{device:?} {call}");
-            let old = Some(meant_grouped(&rt));
-            leaves(&rt, alloc, &plant, counts, &old, &meant_ended(&rt));
+            stop_mark(&rt, rt.alloc(), (device, call), expected, counts);
         }
     }
 }
@@ -300,8 +389,9 @@ fn a_mark_that_stops_leaves_the_old_one_or_the_new_one(rt: HostRuntime) {
 #[test]
 fn what_was_applied_is_durable_behind_a_mark(rt: HostRuntime) {
     let alloc = rt.alloc();
-    let (marked, plant) = mark_failing(&rt, alloc, Device::Control, 15);
-    assert_eq!(&rt; marked, Ok(()));
+    let at = (Device::Control, 15);
+    let mut plant = stopping(&rt, alloc, 1, CYLINDER, at.0, at.1);
+    answers_mark(&rt, alloc, &mut plant, true, Ok(()), at);
     for choice in CHOICES {
         let mut plain = plant.crash(alloc, choice).expect(&rt, "memory");
         holds_images(&rt, &mut plain);

@@ -135,11 +135,18 @@ fn plain(rt: &impl Abort, alloc: Global) -> PlainPlant
     ensures { NoneLent (plain_state result) }
 {
     let mut plant = zeros(rt, alloc, 200, 2, FOUR_TRACKS);
-    write(rt, &mut plant, Device::Volume(0), 512, &image(0x41, 0x42));
-    write(rt, &mut plant, Device::Volume(1), 512, &image(0x41, 0x42));
-    write(rt, &mut plant, Device::Volume(0), 57_856, &[7; 8]);
-    write(rt, &mut plant, Device::Volume(1), 57_856, &[7; 8]);
+    fill(rt, &mut plant, 0);
+    fill(rt, &mut plant, 1);
     plant
+}
+
+fn fill<P: Plant>(rt: &impl Abort, plant: &mut P, device: u16)
+    requires { NoneLent (P.state plant.old) }
+    ensures { NoneLent (P.state plant.new) }
+{
+    let volume = Device::Volume(device);
+    write(rt, plant, volume, 512, &image(0x41, 0x42));
+    write(rt, plant, volume, 57_856, &[7; 8]);
 }
 
 /// Such a plant in memory, of which this call of a volume fails, where one is given.
@@ -158,19 +165,22 @@ fn with_fail(rt: &impl Abort, alloc: Global, device: u16, call: Option<u64>) -> 
     }
 }
 
-/// A job on a lent volume, which ends with the slot of track 3.
-fn job_on<D: Disk>(
+/// A job on a volume that is lent, which ends with the slot of track 3.
+fn job_on<P: Plant>(
     rt: &impl Abort,
     alloc: Global,
+    plant: &mut P,
     device: u16,
-    volume: D,
     failed: bool,
-) -> VolumeJob<D>
+) -> VolumeJob<P::Volume>
+    requires { NoneLent (P.state plant.old) }
     ensures device { result.device ≡ device }
-    ensures disk { IsSomeAnd result.disk (λ volume. (D.state volume).length_is ≡ FOUR_TRACKS) }
+    ensures disk { IsSomeAnd result.disk (λ volume. (P.Volume.state volume).length_is ≡ FOUR_TRACKS) }
 {
-    assert!(rt; volume.length() == FOUR_TRACKS);
+    assert_volume(rt, plant, device);
     let slot = Slot::make(alloc).expect(rt, "memory");
+    let volume = plant.lend(device);
+    assert!(rt; volume.length() == FOUR_TRACKS);
     VolumeJob {
         device,
         disk: Some(volume),
@@ -191,24 +201,7 @@ fn failing_job(
     ensures disk { IsSomeAnd result.disk (λ volume. (volume_standing volume).length_is ≡ FOUR_TRACKS) }
 {
     let mut plant = with_fail(rt, alloc, device, call);
-    assert_volume(rt, &plant, device);
-    job_on(rt, alloc, device, plant.lend(device), failed)
-}
-
-/// Which jobs have failed at their end.
-fn marks_of(jobs: [VolumeJob<MemoryVolume>; 2]) -> (bool, bool) {
-    let [first, second] = jobs;
-    (mark_of(first), mark_of(second))
-}
-
-fn mark_of(job: VolumeJob<MemoryVolume>) -> bool {
-    let VolumeJob {
-        device: _,
-        disk: _,
-        slot: _,
-        failed,
-    } = job;
-    failed
+    job_on(rt, alloc, &mut plant, device, failed)
 }
 
 /// Forms a group over two volumes of which these calls fail. The body and the jobs' marks end so.
@@ -230,7 +223,7 @@ fn forms(
     let mut body = Body::make(alloc, ROOM).expect(rt, "memory");
     form_body(formed, &table, &mut jobs, &mut body);
     assert!(rt; body.bytes() == expected);
-    assert!(rt; marks_of(jobs) == marks);
+    assert!(rt; (jobs[0].failed, jobs[1].failed) == marks);
 }
 
 /// With these calls of the volumes that fail, the worked group makes this body, and the jobs end with these marks.

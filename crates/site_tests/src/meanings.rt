@@ -7,8 +7,8 @@ ghost use Rattle.crash_plant.specs.MemoryPlant.{memory_state};
 ghost use Rattle.crash_plant.specs.PlainPlant.{plain_state};
 
 use crate::fixtures::{
-    FOUR_TRACKS, JOURNAL, MARK, PAIR, START, STATE as LATER_STATE, Seen, assert_there, examined,
-    fail_at, failing, first_row, session, write, zeros,
+    FOUR_TRACKS, JOURNAL, MARK, Meant, PAIR, START, STATE as LATER_STATE, Seen, assert_examined,
+    assert_there, fail_at, failing, first_row, session, write, zeros,
 };
 use crash_plant::{Device, MemoryPlant, PlainPlant, Plant, Spot};
 use pair_table::{Level, PairRow, PairState};
@@ -33,12 +33,7 @@ const GROUP: [u8; 37] = [
 const GONE: [u8; 3] = [4, 0, 0];
 
 /// What the session ABC means at a time, with these rows.
-fn meant_at(
-    rt: &impl Abort,
-    time: u64,
-    count: u16,
-    first: Option<PairRow>,
-) -> Result<Seen, SiteError> {
+fn meant_at(rt: &impl Abort, time: u64, count: u16, first: Option<PairRow>) -> Meant {
     Ok(Seen {
         session: session(rt),
         level: Level::Volume,
@@ -55,7 +50,7 @@ fn row(rt: &impl Abort) -> Option<PairRow> {
     Some(first_row(rt, 0, PairState::Duplex))
 }
 
-fn damaged(set: u16, place: u64) -> Result<Seen, SiteError> {
+fn damaged(set: u16, place: u64) -> Meant {
     Err(SiteError::Damaged(Device::Journal(set), place))
 }
 
@@ -91,44 +86,62 @@ fn begun(rt: &impl Abort, alloc: Global) -> PlainPlant
     plant
 }
 
-/// What is examined where these bodies are those of groups one after another, at 80, 90 and so on.
-fn examined_with(rt: &impl Abort, alloc: Global, bodies: &[&[u8]]) -> Result<Seen, SiteError> {
-    let mut plant = begun(rt, alloc);
+/// Writes records of groups with these bodies, at 80, 90 and so on.
+fn log_groups<P: Plant>(rt: &impl Abort, plant: &mut P, bodies: &[&[u8]])
+    requires { NoneLent (P.state plant.old) }
+    ensures { NoneLent (P.state plant.new) }
+{
     let mut at = START;
     let mut time = 0x80;
     for body in bodies {
-        log(rt, &mut plant, at, 1, time, body);
+        log(rt, plant, at, 1, time, body);
         assert!(rt; at.place < 1000 && at.number < 1000 && time < 1000 && body.len() < 1000);
         at.place += 22 + body.len() as u64;
         at.number += 1;
         time += 0x10;
     }
-    examined(rt, alloc, &mut plant)
+}
+
+/// Where these bodies are those of groups one after another, the site is examined with this answer.
+fn means_with(rt: &impl Abort, alloc: Global, bodies: &[&[u8]], expected: Meant) {
+    let mut plant = begun(rt, alloc);
+    log_groups(rt, &mut plant, bodies);
+    assert_examined(rt, alloc, &mut plant, &expected, &bodies);
 }
 
 #[test]
 fn the_worked_site_means_what_it_says(rt: HostRuntime) {
     let alloc = rt.alloc();
     let mut plant = begun(&rt, alloc);
-    let first = examined(&rt, alloc, &mut plant);
+    assert_examined(
+        &rt,
+        alloc,
+        &mut plant,
+        &meant_at(&rt, 0x50, 0, None),
+        &"begun",
+    );
     write(&rt, &mut plant, Device::Journal(0), 0, &GROUP);
-    let second = examined(&rt, alloc, &mut plant);
-    assert_eq!(&rt;
-        [first, second],
-        [meant_at(&rt, 0x50, 0, None), meant_at(&rt, 0x80, 0, None)]
+    assert_examined(
+        &rt,
+        alloc,
+        &mut plant,
+        &meant_at(&rt, 0x80, 0, None),
+        &"a group",
     );
 }
 
-/// What is examined where one byte of the worked group is another.
-fn changed(rt: &impl Abort, alloc: Global, place: u64, value: u8) -> Result<Seen, SiteError> {
-    let mut plant = begun(rt, alloc);
-    write(rt, &mut plant, Device::Journal(0), 0, &GROUP);
-    write(rt, &mut plant, Device::Journal(0), place, &[value]);
-    examined(rt, alloc, &mut plant)
+/// Writes the worked group, of which one byte is another.
+fn log_changed<P: Plant>(rt: &impl Abort, plant: &mut P, place: u64, value: u8)
+    requires { NoneLent (P.state plant.old) }
+    ensures { NoneLent (P.state plant.new) }
+{
+    write(rt, plant, Device::Journal(0), 0, &GROUP);
+    write(rt, plant, Device::Journal(0), place, &[value]);
 }
 
 #[test]
 fn changed_bytes_are_found(rt: HostRuntime) {
+    let alloc = rt.alloc();
     for (place, value, expected) in [
         (0, 2, meant_at(&rt, 0x50, 0, None)),
         (1, 3, damaged(0, 0)),
@@ -136,30 +149,23 @@ fn changed_bytes_are_found(rt: HostRuntime) {
         (31, 0, damaged(0, 22)),
         (37, 1, damaged(0, 37)),
     ] {
-        assert_eq!(&rt;
-            changed(&rt, rt.alloc(), place, value),
-            expected,
-            "at {place}"
-        );
+        let mut plant = begun(&rt, alloc);
+        log_changed(&rt, &mut plant, place, value);
+        assert_examined(&rt, alloc, &mut plant, &expected, &place);
     }
 }
 
 #[test]
 fn rows_come_and_go(rt: HostRuntime) {
     let alloc = rt.alloc();
-    let found = [
-        examined_with(&rt, alloc, &[&PAIR]),
-        examined_with(&rt, alloc, &[&PAIR, &PAIR]),
-        examined_with(&rt, alloc, &[&PAIR, &GONE]),
-    ];
-    assert_eq!(&rt;
-        found,
-        [
-            meant_at(&rt, 0x80, 1, row(&rt)),
-            meant_at(&rt, 0x90, 1, row(&rt)),
-            meant_at(&rt, 0x90, 0, None)
-        ]
+    means_with(&rt, alloc, &[&PAIR], meant_at(&rt, 0x80, 1, row(&rt)));
+    means_with(
+        &rt,
+        alloc,
+        &[&PAIR, &PAIR],
+        meant_at(&rt, 0x90, 1, row(&rt)),
     );
+    means_with(&rt, alloc, &[&PAIR, &GONE], meant_at(&rt, 0x90, 0, None));
 }
 
 #[test]
@@ -170,26 +176,13 @@ fn rows_that_do_not_fit_are_damage(rt: HostRuntime) {
     clashing[18] = 1;
     let mut absent = PAIR;
     absent[18] = 2;
-    let found = [
-        examined_with(&rt, alloc, &[&GONE]),
-        examined_with(&rt, alloc, &[&PAIR, &GONE, &GONE]),
-        examined_with(&rt, alloc, &[&PAIR, &clashing]),
-        examined_with(&rt, alloc, &[&absent]),
-        // The first place of a record that breaks rules of both kinds.
-        examined_with(&rt, alloc, &[&[4, 0, 0, 9]]),
-        examined_with(&rt, alloc, &[&PAIR, &[4, 0, 0, 9]]),
-    ];
-    assert_eq!(&rt;
-        found,
-        [
-            damaged(0, 22),
-            damaged(0, 100),
-            damaged(0, 75),
-            damaged(0, 22),
-            damaged(0, 22),
-            damaged(0, 78)
-        ]
-    );
+    means_with(&rt, alloc, &[&GONE], damaged(0, 22));
+    means_with(&rt, alloc, &[&PAIR, &GONE, &GONE], damaged(0, 100));
+    means_with(&rt, alloc, &[&PAIR, &clashing], damaged(0, 75));
+    means_with(&rt, alloc, &[&absent], damaged(0, 22));
+    // The first place of a record that breaks rules of both kinds.
+    means_with(&rt, alloc, &[&[4, 0, 0, 9]], damaged(0, 22));
+    means_with(&rt, alloc, &[&PAIR, &[4, 0, 0, 9]], damaged(0, 78));
 }
 
 /// The spot of record 2 in a data set.
@@ -201,47 +194,83 @@ fn second(set: u16) -> Spot {
     }
 }
 
+/// Writes a record, after which the site is examined with this answer.
+fn log_meant<P: Plant>(
+    rt: &impl Abort,
+    alloc: Global,
+    plant: &mut P,
+    record: (Spot, u8, u64),
+    body: &[u8],
+    expected: Meant,
+)
+    requires { NoneLent (P.state plant.old) }
+    ensures { NoneLent (P.state plant.new) }
+{
+    log(rt, plant, record.0, record.1, record.2, body);
+    assert_examined(rt, alloc, plant, &expected, &record);
+}
+
 #[test]
 fn switches_lead_on(rt: HostRuntime) {
     let alloc = rt.alloc();
     let mut plant = begun(&rt, alloc);
-    log(&rt, &mut plant, START, 2, 0x90, &[0, 1]);
+    let unpaired = meant_at(&rt, 0x50, 0, None);
+    let paired = meant_at(&rt, 0x90, 1, row(&rt));
     // A switch's time is none of the meaning, but times never fall.
-    let switched = examined(&rt, alloc, &mut plant);
-    log(&rt, &mut plant, second(1), 1, 0x80, &PAIR);
-    let earlier = examined(&rt, alloc, &mut plant);
-    log(&rt, &mut plant, second(1), 1, 0x90, &PAIR);
-    let paired = examined(&rt, alloc, &mut plant);
-    // No data set is entered twice.
-    log(&rt, &mut plant, second(1), 2, 0x90, &[0, 0]);
-    let back = examined(&rt, alloc, &mut plant);
-    assert_eq!(&rt;
-        [switched, earlier, paired, back],
-        [
-            meant_at(&rt, 0x50, 0, None),
-            damaged(1, 0),
-            meant_at(&rt, 0x90, 1, row(&rt)),
-            damaged(1, 0)
-        ]
+    log_meant(&rt, alloc, &mut plant, (START, 2, 0x90), &[0, 1], unpaired);
+    log_meant(
+        &rt,
+        alloc,
+        &mut plant,
+        (second(1), 1, 0x80),
+        &PAIR,
+        damaged(1, 0),
     );
+    log_meant(&rt, alloc, &mut plant, (second(1), 1, 0x90), &PAIR, paired);
+    // No data set is entered twice.
+    log_meant(
+        &rt,
+        alloc,
+        &mut plant,
+        (second(1), 2, 0x90),
+        &[0, 0],
+        damaged(1, 0),
+    );
+}
+
+/// Writes the mark to a slot of the control, after which the site is examined with this answer.
+fn mark_meant<P: Plant>(
+    rt: &impl Abort,
+    alloc: Global,
+    plant: &mut P,
+    place: u64,
+    expected: SiteError,
+)
+    requires { NoneLent (P.state plant.old) }
+    ensures { NoneLent (P.state plant.new) }
+{
+    write(rt, plant, Device::Control, place, &MARK);
+    assert_examined(rt, alloc, plant, &Err(expected), &place);
 }
 
 #[test]
 fn slots_are_damaged_and_absent(rt: HostRuntime) {
     let alloc = rt.alloc();
     let mut plant = zeros(&rt, alloc, JOURNAL, 2, FOUR_TRACKS);
-    let absent = examined(&rt, alloc, &mut plant);
-    write(&rt, &mut plant, Device::Control, 0, &MARK);
-    let without_state = examined(&rt, alloc, &mut plant);
-    write(&rt, &mut plant, Device::Control, 512, &MARK);
-    let twice = examined(&rt, alloc, &mut plant);
-    assert_eq!(&rt;
-        [absent, without_state, twice],
-        [
-            Err(SiteError::NoSession),
-            Err(SiteError::Damaged(Device::State, 0)),
-            Err(SiteError::Damaged(Device::Control, 512))
-        ]
+    assert_examined(&rt, alloc, &mut plant, &Err(SiteError::NoSession), &"zeros");
+    mark_meant(
+        &rt,
+        alloc,
+        &mut plant,
+        0,
+        SiteError::Damaged(Device::State, 0),
+    );
+    mark_meant(
+        &rt,
+        alloc,
+        &mut plant,
+        512,
+        SiteError::Damaged(Device::Control, 512),
     );
 }
 
@@ -258,35 +287,48 @@ fn resize(rt: &impl Abort, alloc: Global, plant: &mut PlainPlant, device: Device
     }
 }
 
+/// A device that is shorter by one byte is too small.
+fn needs(rt: &impl Abort, alloc: Global, plant: &mut PlainPlant, device: Device, need: u64)
+    requires { NoneLent (plain_state plant.old) }
+    ensures { NoneLent (plain_state plant.new) }
+{
+    assert!(rt; need >= 1);
+    resize(rt, alloc, plant, device, need - 1);
+    assert_examined(
+        rt,
+        alloc,
+        plant,
+        &Err(SiteError::TooSmall(device, need)),
+        &device,
+    );
+}
+
 #[test]
 fn devices_need_their_lengths(rt: HostRuntime) {
     let alloc = rt.alloc();
     let mut plant = begun(&rt, alloc);
-    let devices = [
-        (Device::Journal(1), JOURNAL),
-        (Device::Journal(0), JOURNAL),
-        (Device::State, 16_384),
-        (Device::Control, 1_024),
-    ];
-    for (device, need) in devices {
-        assert!(&rt; need >= 1);
-        resize(&rt, alloc, &mut plant, device, need - 1);
-        assert_eq!(&rt;
-            examined(&rt, alloc, &mut plant),
-            Err(SiteError::TooSmall(device, need))
-        );
-    }
+    needs(&rt, alloc, &mut plant, Device::Journal(1), JOURNAL);
+    needs(&rt, alloc, &mut plant, Device::Journal(0), JOURNAL);
+    needs(&rt, alloc, &mut plant, Device::State, 16_384);
+    needs(&rt, alloc, &mut plant, Device::Control, 1_024);
 }
 
-/// The worked site with its group, where the call of this number on a device fails. The first call on each of the control, the state
-/// and the journal 0 writes it.
+/// Begins the worked site with its group. The first call on each of the control, the state and the journal 0 writes it.
+fn begin_grouped<P: Plant>(rt: &impl Abort, plant: &mut P)
+    requires { NoneLent (P.state plant.old) }
+    ensures { NoneLent (P.state plant.new) }
+{
+    begin(rt, plant);
+    write(rt, plant, Device::Journal(0), 0, &GROUP);
+}
+
+/// Such a site, where the call of this number on a device fails.
 fn grouped(rt: &impl Abort, alloc: Global, device: Device, call: u64) -> MemoryPlant
     ensures { NoneLent (memory_state result) }
 {
     let plain = zeros(rt, alloc, JOURNAL, 2, FOUR_TRACKS);
     let mut plant = failing(rt, alloc, plain, &[fail_at(device, call, false)]);
-    begin(rt, &mut plant);
-    write(rt, &mut plant, Device::Journal(0), 0, &GROUP);
+    begin_grouped(rt, &mut plant);
     plant
 }
 
@@ -304,8 +346,7 @@ fn each_read_fails_in_turn(rt: HostRuntime) {
                 expected = meant_at(&rt, 0x80, 0, None);
             }
             let mut plant = grouped(&rt, alloc, device, call);
-            let found = examined(&rt, alloc, &mut plant);
-            assert_eq!(&rt; found, expected, "{device:?} {call}");
+            assert_examined(&rt, alloc, &mut plant, &expected, &(device, call));
         }
     }
 }
@@ -318,12 +359,10 @@ fn damage_is_answered_before_a_later_read_fails(rt: HostRuntime) {
         (Device::Control, 1, 3, 0),
         (Device::Journal(0), 22, 5, 22),
     ] {
+        let expected = Err(SiteError::Damaged(device, damage));
         let mut plant = grouped(&rt, alloc, device, call);
         write(&rt, &mut plant, device, place, &[9]);
-        assert_eq!(&rt;
-            examined(&rt, alloc, &mut plant),
-            Err(SiteError::Damaged(device, damage))
-        );
+        assert_examined(&rt, alloc, &mut plant, &expected, &device);
     }
 }
 
@@ -343,12 +382,7 @@ const LATER: Spot = Spot {
 };
 
 /// What it means at a time, with these rows.
-fn meant_later(
-    rt: &impl Abort,
-    time: u64,
-    count: u16,
-    first: Option<PairRow>,
-) -> Result<Seen, SiteError> {
+fn meant_later(rt: &impl Abort, time: u64, count: u16, first: Option<PairRow>) -> Meant {
     Ok(Seen {
         session: session(rt),
         level: Level::Session,
@@ -360,22 +394,24 @@ fn meant_later(
     })
 }
 
+/// Writes the later mark and its state behind the first ones.
+fn mark_later<P: Plant>(rt: &impl Abort, plant: &mut P)
+    requires { NoneLent (P.state plant.old) }
+    ensures { NoneLent (P.state plant.new) }
+{
+    begin(rt, plant);
+    write(rt, plant, Device::Control, 512, &LATER_MARK);
+    write(rt, plant, Device::State, 8_192, &LATER_STATE);
+}
+
 #[test]
 fn a_later_mark_counts_with_its_slot_and_spot(rt: HostRuntime) {
     let alloc = rt.alloc();
+    let marked = meant_later(&rt, 0x60, 0, None);
+    let paired = meant_later(&rt, 0x70, 1, row(&rt));
     let made = PlainPlant::make(alloc, 3, JOURNAL, 2, FOUR_TRACKS, Bytes::make(alloc));
     let mut plant = made.expect(&rt, "memory");
-    begin(&rt, &mut plant);
-    write(&rt, &mut plant, Device::Control, 512, &LATER_MARK);
-    write(&rt, &mut plant, Device::State, 8_192, &LATER_STATE);
-    let marked = examined(&rt, alloc, &mut plant);
-    log(&rt, &mut plant, LATER, 1, 0x70, &PAIR);
-    let paired = examined(&rt, alloc, &mut plant);
-    assert_eq!(&rt;
-        [marked, paired],
-        [
-            meant_later(&rt, 0x60, 0, None),
-            meant_later(&rt, 0x70, 1, row(&rt))
-        ]
-    );
+    mark_later(&rt, &mut plant);
+    assert_examined(&rt, alloc, &mut plant, &marked, &"marked");
+    log_meant(&rt, alloc, &mut plant, (LATER, 1, 0x70), &PAIR, paired);
 }

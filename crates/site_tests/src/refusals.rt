@@ -4,8 +4,8 @@ ghost use Rattle.std.specs.Prelude.{◌≡◌, [], OnOk};
 ghost use Rattle.crash_plant.specs.Calls.{NoneLent};
 ghost use Rattle.site_store.specs.Standing.{Fits, Stands};
 
-use crate::fixtures::{JOURNAL, START, examined, zeros};
-use crate::sites::{CYLINDER, log_pair, meant, start};
+use crate::fixtures::{JOURNAL, START, assert_examined, zeros};
+use crate::sites::{CYLINDER, assert_pair_logged, meant, start};
 use crash_plant::Plant;
 use pending_queue::Formed;
 use site_store::{Site, StoreError};
@@ -73,15 +73,46 @@ fn filled<R: Threads + Sync + Abort, P: Plant>(
     site
 }
 
+/// Behind as many groups without entries as fit, the next one is refused.
+fn refuses_group<R: Threads + Sync + Abort, P: Plant>(rt: &R, alloc: Global, plant: &mut P)
+    requires { NoneLent (P.state plant.old) }
+    ensures { NoneLent (P.state plant.new) }
+{
+    let mut site = filled(rt, alloc, plant, MOST);
+    let logged = log_empty(rt, alloc, &mut site, plant, &empty(rt, alloc));
+    assert_eq!(rt; logged, Err(StoreError::JournalEnd));
+}
+
 #[test]
 fn a_group_that_does_not_fit_is_refused(rt: HostRuntime) {
     let alloc = rt.alloc();
-    let mut plant = zeros(&rt, alloc, JOURNAL, 0, 0);
-    let mut site = filled(&rt, alloc, &mut plant, MOST);
-    let logged = log_empty(&rt, alloc, &mut site, &mut plant, &empty(&rt, alloc));
-    assert_eq!(&rt; logged, Err(StoreError::JournalEnd));
     let seen = meant(&rt, 0x52, None, START, false);
-    assert_eq!(&rt; examined(&rt, alloc, &mut plant), Ok(seen));
+    let mut plant = zeros(&rt, alloc, JOURNAL, 0, 0);
+    refuses_group(&rt, alloc, &mut plant);
+    assert_examined(&rt, alloc, &mut plant, &seen, &"refused");
+}
+
+/// The pair's record is answered so behind so many groups without entries.
+fn answers_pair<R: Threads + Sync + Abort, P: Plant>(
+    rt: &R,
+    alloc: Global,
+    plant: &mut P,
+    count: u32,
+    expected: Result<(), StoreError>,
+)
+    requires { NoneLent (P.state plant.old) }
+{
+    let mut site = filled(rt, alloc, plant, count);
+    assert_pair_logged(
+        rt,
+        alloc,
+        &mut site,
+        plant,
+        7,
+        Stamp(0x58),
+        expected,
+        &count,
+    );
 }
 
 // The pair's record has 53 bytes.
@@ -90,8 +121,6 @@ fn a_change_that_does_not_fit_is_refused(rt: HostRuntime) {
     let alloc = rt.alloc();
     for (count, expected) in [(MOST - 3, Ok(())), (MOST - 2, Err(StoreError::JournalEnd))] {
         let mut plant = zeros(&rt, alloc, JOURNAL, 1, CYLINDER);
-        let mut site = filled(&rt, alloc, &mut plant, count);
-        let logged = log_pair(&rt, alloc, &mut site, &mut plant, 7, Stamp(0x58));
-        assert_eq!(&rt; logged, expected);
+        answers_pair(&rt, alloc, &mut plant, count, expected);
     }
 }

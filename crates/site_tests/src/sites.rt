@@ -10,14 +10,14 @@ ghost use Rattle.site_store.specs.Standing.{Fits, HasLengths, Stands};
 
 use crate::entries::is_row_of;
 use crate::fixtures::{
-    JOURNAL, START, Seen, examined, fail_at, failing, first_row, session, zeros,
+    JOURNAL, Meant, START, Seen, assert_examined, fail_at, failing, first_row, session, zeros,
 };
 use crash_plant::{Device, MemoryPlant, Plant, Spot};
 use pair_table::{Change, Level, PairRow, PairState, PairTable};
 use pending_queue::{EntryHead, Formed};
-use site_means::SiteError;
 use site_store::{Site, StoreError};
 use std::alloc::Global;
+use std::fmt::Debug;
 use std::process::Abort;
 use tod_stamp::Stamp;
 
@@ -59,8 +59,8 @@ pub(crate) fn meant(
     first: Option<PairRow>,
     from: Spot,
     ended: bool,
-) -> Seen {
-    Seen {
+) -> Meant {
+    Ok(Seen {
         session: session(rt),
         level: Level::Session,
         time: Stamp(time),
@@ -68,48 +68,29 @@ pub(crate) fn meant(
         first,
         from,
         ended,
-    }
+    })
 }
 
 /// What it means after its start.
-pub(crate) fn meant_new(rt: &impl Abort) -> Seen {
+pub(crate) fn meant_new(rt: &impl Abort) -> Meant {
     meant(rt, 0x50, None, START, false)
 }
 
-/// What is examined, or None where no session has begun.
-fn seen<P: Plant>(rt: &impl Abort, alloc: Global, plant: &mut P) -> Option<Seen>
-    requires { NoneLent (P.state plant.old) }
-    ensures { NoneLent (P.state plant.new) }
-{
-    match examined(rt, alloc, plant) {
-        Ok(seen) => Some(seen),
-        Err(SiteError::NoSession) => None,
-        Err(error) => panic!(rt; "{error:?}"),
-    }
-}
-
-fn meant_where(is_new: bool, old: &Option<Seen>, new: &Seen) -> Option<Seen> {
-    if is_new {
-        return Some(*new);
-    }
-    *old
-}
-
-/// By each choice, a crash leaves the new meaning where that counts, and else the old one, or no session.
+/// By each choice, a crash leaves the new meaning where that counts, and else the old one.
 pub(crate) fn leaves(
     rt: &impl Abort,
     alloc: Global,
     plant: &MemoryPlant,
     counts: Counts,
-    old: &Option<Seen>,
-    new: &Seen,
+    old: &Meant,
+    new: &Meant,
 )
     requires { NoneLent (memory_state plant.now) }
 {
     for (choice, is_new) in CHOICES.iter().zip(counts.iter()) {
+        let expected = if *is_new { new } else { old };
         let mut plain = plant.crash(alloc, choice).expect(rt, "memory");
-        let found = seen(rt, alloc, &mut plain);
-        assert_eq!(rt; found, meant_where(*is_new, old, new), "{choice:?}");
+        assert_examined(rt, alloc, &mut plain, expected, choice);
     }
 }
 
@@ -269,4 +250,44 @@ pub(crate) fn log_group<P: Plant>(
     assert_live(rt, site.table(), formed);
     assert!(rt; formed.controls() <= 1 && site.time().0 <= formed.cut().0);
     site.log(alloc, plant, formed)
+}
+
+/// A group's record is answered so.
+pub(crate) fn assert_logged<P: Plant>(
+    rt: &impl Abort,
+    alloc: Global,
+    site: &mut Site<P::Volume>,
+    plant: &mut P,
+    formed: &Formed,
+    expected: Result<(), StoreError>,
+    case: &impl Debug,
+)
+    requires idle { site.old.waiting ≡ [] }
+    requires fits { Fits site.old (P.state plant.old) }
+    requires stands { P.tells → Stands site.old.table.rows site.old (P.state plant.old) }
+    ensures { NoneLent (P.state plant.new) }
+{
+    let logged = log_group(rt, alloc, site, plant, formed);
+    assert_eq!(rt; logged, expected, "{case:?}");
+}
+
+/// The record of the pair of a volume is answered so.
+pub(crate) fn assert_pair_logged<P: Plant>(
+    rt: &impl Abort,
+    alloc: Global,
+    site: &mut Site<P::Volume>,
+    plant: &mut P,
+    volume: u16,
+    cut: Stamp,
+    expected: Result<(), StoreError>,
+    case: &impl Debug,
+)
+    requires rows { site.old.table.rows ≡ [] }
+    requires idle { site.old.waiting ≡ [] }
+    requires fits { Fits site.old (P.state plant.old) }
+    requires stands { P.tells → Stands site.old.table.rows site.old (P.state plant.old) }
+    ensures { NoneLent (P.state plant.new) }
+{
+    let logged = log_pair(rt, alloc, site, plant, volume, cut);
+    assert_eq!(rt; logged, expected, "{case:?}");
 }

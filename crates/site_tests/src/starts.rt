@@ -2,13 +2,13 @@
 
 ghost use Rattle.std.specs.Prelude.{◌≡◌, []};
 ghost use Rattle.crash_plant.specs.Calls.{NoneLent};
-ghost use Rattle.crash_plant.specs.PlainPlant.{plain_state};
 ghost use Rattle.site_store.specs.Standing.{Fits, Stands};
 
-use crate::fixtures::{JOURNAL, MARK, START, STATE, examined, read, write, zeros};
+use crate::fixtures::{JOURNAL, MARK, START, STATE, assert_examined, assert_holds, write, zeros};
 use crate::sites::{Counts, OLD, OPEN, leaves, meant, meant_new, start, stopping};
-use crash_plant::{Device, PlainPlant, Plant};
+use crash_plant::{Device, Plant};
 use pair_table::Level;
+use site_means::SiteError;
 use site_store::{Site, StoreError};
 use std::alloc::Global;
 use std::process::Abort;
@@ -23,49 +23,69 @@ const ENDED: [u8; 49] = [
     0x01,
 ];
 
-/// Zeros with no volume, but for ones at the control, the state and the front of the first journal.
-fn ones(rt: &impl Abort, alloc: Global) -> PlainPlant
-    ensures { NoneLent (plain_state result) }
+/// Ones at the control, the state and the front of the first journal.
+fn fill<P: Plant>(rt: &impl Abort, plant: &mut P)
+    requires { NoneLent (P.state plant.old) }
+    ensures { NoneLent (P.state plant.new) }
 {
-    let mut plant = zeros(rt, alloc, JOURNAL, 0, 0);
-    for block in 0..16 {
-        write(rt, &mut plant, Device::State, block * 1_024, &[1; 1_024]);
-    }
-    write(rt, &mut plant, Device::Control, 0, &[1; 1_024]);
-    write(rt, &mut plant, Device::Journal(0), 0, &[1; 64]);
-    plant
+    write(rt, plant, Device::State, 0, &[1; 16_384]);
+    write(rt, plant, Device::Control, 0, &[1; 1_024]);
+    write(rt, plant, Device::Journal(0), 0, &[1; 64]);
+}
+
+/// The control and the state are those of a session that has started, and it means so.
+fn assert_started<P: Plant>(rt: &impl Abort, alloc: Global, plant: &mut P)
+    requires { NoneLent (P.state plant.old) }
+    ensures { NoneLent (P.state plant.new) }
+{
+    assert_holds(rt, plant, Device::Control, 0, &MARK);
+    assert_holds(rt, plant, Device::State, 0, &STATE);
+    assert_examined(rt, alloc, plant, &meant_new(rt), &"started");
+}
+
+/// Starts a session, which has no row.
+fn start_without_rows<P: Plant>(rt: &impl Abort, alloc: Global, plant: &mut P)
+    requires { NoneLent (P.state plant.old) }
+    ensures { NoneLent (P.state plant.new) }
+{
+    let site = start(rt, alloc, plant).expect(rt, "a site");
+    assert_fresh(rt, &site);
+}
+
+/// The site has no row, and its time is that of its start.
+fn assert_fresh<V>(rt: &impl Abort, site: &Site<V>) {
+    assert_eq!(rt;
+        (site.table().len(), site.level(), site.time(), site.since()),
+        (0, Level::Session, Stamp(0x50), 0)
+    );
 }
 
 #[test]
 fn a_session_starts_on_zeros(rt: HostRuntime) {
     let alloc = rt.alloc();
     let mut plant = zeros(&rt, alloc, JOURNAL, 2, 1_024);
-    let site = start(&rt, alloc, &mut plant).expect(&rt, "a site");
-    assert_eq!(&rt;
-        (site.table().len(), site.level(), site.time(), site.since()),
-        (0, Level::Session, Stamp(0x50), 0)
-    );
-    let mark: [u8; 49] = read(&rt, &mut plant, Device::Control, 0);
-    let state: [u8; 15] = read(&rt, &mut plant, Device::State, 0);
-    assert!(&rt; mark == MARK && state == STATE);
-    assert_eq!(&rt; examined(&rt, alloc, &mut plant), Ok(meant_new(&rt)));
+    start_without_rows(&rt, alloc, &mut plant);
+    assert_started(&rt, alloc, &mut plant);
+}
+
+/// Behind what a start writes the ones are left.
+fn assert_ones_behind<P: Plant>(rt: &impl Abort, plant: &mut P)
+    requires { NoneLent (P.state plant.old) }
+    ensures { NoneLent (P.state plant.new) }
+{
+    assert_holds(rt, plant, Device::Control, 49, &[1; 64]);
+    assert_holds(rt, plant, Device::Control, 511, &[1, 0, 1]);
+    assert_holds(rt, plant, Device::Journal(0), 0, &[0, 1, 1]);
 }
 
 #[test]
 fn a_session_starts_on_ones(rt: HostRuntime) {
     let alloc = rt.alloc();
-    let mut plant = ones(&rt, alloc);
-    let site = start(&rt, alloc, &mut plant);
-    assert!(&rt; site.is_ok());
-    let mark: [u8; 49] = read(&rt, &mut plant, Device::Control, 0);
-    let state: [u8; 15] = read(&rt, &mut plant, Device::State, 0);
-    assert!(&rt; mark == MARK && state == STATE);
-    let behind: [u8; 64] = read(&rt, &mut plant, Device::Control, 49);
-    assert!(&rt; behind == [1; 64]);
-    let gate: [u8; 3] = read(&rt, &mut plant, Device::Control, 511);
-    let first: [u8; 3] = read(&rt, &mut plant, Device::Journal(0), 0);
-    assert_eq!(&rt; [gate, first], [[1, 0, 1], [0, 1, 1]]);
-    assert_eq!(&rt; examined(&rt, alloc, &mut plant), Ok(meant_new(&rt)));
+    let mut plant = zeros(&rt, alloc, JOURNAL, 0, 0);
+    fill(&rt, &mut plant);
+    start_without_rows(&rt, alloc, &mut plant);
+    assert_started(&rt, alloc, &mut plant);
+    assert_ones_behind(&rt, &mut plant);
 }
 
 /// The calls of a start on each device, and what a crash leaves where one of them is the first that fails. The control is read
@@ -77,12 +97,22 @@ const STARTS: [(Device, u64, u64, Counts); 4] = [
     (Device::Journal(0), 0, 2, OLD),
 ];
 
+/// A start fails at a device.
+fn assert_stops<P: Plant>(rt: &impl Abort, alloc: Global, plant: &mut P, device: Device)
+    requires { NoneLent (P.state plant.old) }
+    ensures { NoneLent (P.state plant.new) }
+{
+    let started = start(rt, alloc, plant);
+    assert!(rt; matches!(started, Err(StoreError::Fault(at)) if at == device));
+}
+
 /// Starts a session that stops at a call, and crashes in each way.
 fn stop_start(rt: &impl Abort, alloc: Global, device: Device, call: u64, counts: Counts) {
+    let none = Err(SiteError::NoSession);
+    let new = meant_new(rt);
     let mut plant = stopping(rt, alloc, 0, 0, device, call);
-    let started = start(rt, alloc, &mut plant);
-    assert!(rt; matches!(started, Err(StoreError::Fault(at)) if at == device));
-    leaves(rt, alloc, &plant, counts, &None, &meant_new(rt));
+    assert_stops(rt, alloc, &mut plant, device);
+    leaves(rt, alloc, &plant, counts, &none, &new);
 }
 
 #[test]
@@ -112,17 +142,32 @@ fn mark<R: Threads + Sync + Abort, P: Plant>(
     site.mark(rt, alloc, plant, ended).expect(rt, "a mark");
 }
 
-/// The devices after the session's start and a mark that ends it, with another mark behind it or without.
-fn marked<R: Threads + Sync + Abort>(rt: &R, alloc: Global, again: bool) -> PlainPlant
-    ensures { NoneLent (plain_state result) }
+/// Starts a session and ends it by a mark, with another mark behind it or without.
+fn start_to_mark<R: Threads + Sync + Abort, P: Plant>(
+    rt: &R,
+    alloc: Global,
+    plant: &mut P,
+    again: bool,
+)
+    requires { NoneLent (P.state plant.old) }
+    ensures { NoneLent (P.state plant.new) }
 {
-    let mut plant = zeros(rt, alloc, JOURNAL, 1, 1_024);
-    let mut site = start(rt, alloc, &mut plant).expect(rt, "a site");
-    mark(rt, alloc, &mut site, &mut plant, true);
+    let mut site = start(rt, alloc, plant).expect(rt, "a site");
+    mark(rt, alloc, &mut site, plant, true);
     if again {
-        mark(rt, alloc, &mut site, &mut plant, false);
+        mark(rt, alloc, &mut site, plant, false);
     }
-    plant
+}
+
+/// The first slot has this mark, the second one the mark by which the session has ended, and both have the state.
+fn assert_marks<P: Plant>(rt: &impl Abort, plant: &mut P, first: &[u8; 49])
+    requires { NoneLent (P.state plant.old) }
+    ensures { NoneLent (P.state plant.new) }
+{
+    assert_holds(rt, plant, Device::Control, 0, first);
+    assert_holds(rt, plant, Device::Control, 512, &ENDED);
+    assert_holds(rt, plant, Device::State, 0, &STATE);
+    assert_holds(rt, plant, Device::State, 8_192, &STATE);
 }
 
 #[test]
@@ -131,18 +176,10 @@ fn marks_take_the_slots_in_turn(rt: HostRuntime) {
     let mut third = MARK;
     third[12] = 3;
     for (again, first) in [(false, MARK), (true, third)] {
-        let mut plant = marked(&rt, alloc, again);
-        let marks: [[u8; 49]; 2] = [
-            read(&rt, &mut plant, Device::Control, 0),
-            read(&rt, &mut plant, Device::Control, 512),
-        ];
-        assert!(&rt; marks == [first, ENDED]);
-        let states: [[u8; 15]; 2] = [
-            read(&rt, &mut plant, Device::State, 0),
-            read(&rt, &mut plant, Device::State, 8_192),
-        ];
-        assert!(&rt; states == [STATE, STATE]);
         let seen = meant(&rt, 0x50, None, START, !again);
-        assert_eq!(&rt; examined(&rt, alloc, &mut plant), Ok(seen));
+        let mut plant = zeros(&rt, alloc, JOURNAL, 1, 1_024);
+        start_to_mark(&rt, alloc, &mut plant, again);
+        assert_marks(&rt, &mut plant, &first);
+        assert_examined(&rt, alloc, &mut plant, &seen, &again);
     }
 }

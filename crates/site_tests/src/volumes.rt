@@ -11,7 +11,7 @@ ghost use Rattle.xrc_journal.specs.Bodies.{are_late, have_image, with_item};
 ghost use Rattle.applier.specs.Slots.{HasItem};
 
 use crate::fixtures::{
-    FOUR_TRACKS, assert_volume, fail_at, failing, first_row, read, write, zeros,
+    FOUR_TRACKS, assert_holds, assert_volume, fail_at, failing, first_row, write, zeros,
 };
 use applier::{VolumeJob, apply_volume};
 use ckd_track::Slot;
@@ -122,13 +122,10 @@ fn assert_slots<P: Plant>(rt: &impl Abort, plant: &mut P, device: u16, expected:
     ensures { NoneLent (P.state plant.new) }
 {
     let volume = Device::Volume(device);
-    let found: [Front; 4] = [
-        read(rt, plant, volume, SLOTS[0]),
-        read(rt, plant, volume, SLOTS[1]),
-        read(rt, plant, volume, SLOTS[2]),
-        read(rt, plant, volume, SLOTS[3]),
-    ];
-    assert_eq!(rt; found, *expected);
+    assert_holds(rt, plant, volume, SLOTS[0], &expected[0]);
+    assert_holds(rt, plant, volume, SLOTS[1], &expected[1]);
+    assert_holds(rt, plant, volume, SLOTS[2], &expected[2]);
+    assert_holds(rt, plant, volume, SLOTS[3], &expected[3]);
 }
 
 /// Applies a body to a volume by a job, and says whether that has failed.
@@ -166,7 +163,7 @@ fn apply_own<D: Disk>(
     }
 }
 
-/// Lends a volume, applies a body to it, and gives it back.
+/// Lends a volume, applies a body to it, and gives it back. The job ends so.
 fn apply<P: Plant>(
     rt: &impl Abort,
     alloc: Global,
@@ -174,7 +171,8 @@ fn apply<P: Plant>(
     device: u16,
     body: &Body,
     failed: bool,
-) -> bool
+    ends: bool,
+)
     requires home { NoneLent (P.state plant.old) }
     requires low { (device x : ℕ) → HasItem device x body.now.items → x ≤ 3 }
     ensures { NoneLent (P.state plant.new) }
@@ -183,7 +181,7 @@ fn apply<P: Plant>(
     let volume = plant.lend(device);
     let (volume, failed) = apply_own(rt, alloc, body, device, volume, failed);
     plant.give_back(device, volume);
-    failed
+    assert_eq!(rt; failed, ends);
 }
 
 /// Applies the worked body to both volumes.
@@ -192,8 +190,8 @@ fn apply_worked<P: Plant>(rt: &impl Abort, alloc: Global, plant: &mut P)
     ensures { NoneLent (P.state plant.new) }
 {
     let body = worked_body(rt, alloc);
-    assert!(rt; !apply(rt, alloc, plant, 0, &body, false));
-    assert!(rt; !apply(rt, alloc, plant, 1, &body, false));
+    apply(rt, alloc, plant, 0, &body, false, false);
+    apply(rt, alloc, plant, 1, &body, false, false);
     let first = front(FIRST);
     let second = front(SECOND);
     assert_slots(rt, plant, 0, &[second, BEFORE, BEFORE, first]);
@@ -232,7 +230,7 @@ fn calls_nothing(rt: &impl Abort, alloc: Global, body: &Body, failed: bool)
     requires { (device x : ℕ) → HasItem device x body.now.items → x ≤ 3 }
 {
     let mut plant = with_fails(rt, alloc, &[fail_at(Device::Volume(0), 0, true)]);
-    assert!(rt; apply(rt, alloc, &mut plant, 0, body, failed) == failed);
+    apply(rt, alloc, &mut plant, 0, body, failed, failed);
     leaves(rt, alloc, &plant, &[0xff], &[BEFORE; 4]);
 }
 
@@ -262,7 +260,7 @@ fn leaves(rt: &impl Abort, alloc: Global, plant: &MemoryPlant, choice: &[u8], ex
 fn ends(rt: &impl Abort, alloc: Global, call: u64, failed: bool, expected: &[Front; 4]) {
     let body = worked_body(rt, alloc);
     let mut plant = with_fails(rt, alloc, &[fail_at(Device::Volume(0), call, false)]);
-    assert!(rt; apply(rt, alloc, &mut plant, 0, &body, false) == failed);
+    apply(rt, alloc, &mut plant, 0, &body, false, failed);
     assert_slots(rt, &mut plant, 0, expected);
     assert_slots(rt, &mut plant, 1, &[BEFORE; 4]);
 }
@@ -281,11 +279,11 @@ fn at_the_first_failing_write_the_job_ends(rt: HostRuntime) {
 
 /// After a stop at a call of volume 0, a crash fills the slots of the writes that were begun, and leaves all others.
 fn crashes(rt: &impl Abort, alloc: Global, call: u64, choice: &[u8], byte: u8) {
-    let body = worked_body(rt, alloc);
-    let mut plant = with_fails(rt, alloc, &[fail_at(Device::Volume(0), call, true)]);
-    assert!(rt; apply(rt, alloc, &mut plant, 0, &body, false) == (call < 2));
     let open = front([byte; 8]);
     let second = if call == 0 { BEFORE } else { open };
+    let body = worked_body(rt, alloc);
+    let mut plant = with_fails(rt, alloc, &[fail_at(Device::Volume(0), call, true)]);
+    apply(rt, alloc, &mut plant, 0, &body, false, call < 2);
     leaves(rt, alloc, &plant, choice, &[second, BEFORE, BEFORE, open]);
 }
 
