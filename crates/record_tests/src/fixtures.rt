@@ -1,16 +1,17 @@
-//! Plants of which a call fails, what a crash leaves of them, and the names and the row that all the tests use.
+//! Plants of which a call fails, what a crash leaves of them, their bytes, and the names and the row that all the tests use.
 
 ghost use Rattle.std.specs.Prelude.{◌≡◌, ◌<◌};
-ghost use Rattle.crash_plant.specs.Calls.{NoneLent};
+ghost use Rattle.crash_plant.specs.Calls.{IsThere, NoneLent, SameSite};
 ghost use Rattle.crash_plant.specs.Made.{SameDevices};
 ghost use Rattle.crash_plant.specs.MemoryPlant.{memory_state};
 ghost use Rattle.crash_plant.specs.Moments.{on, IsDurable};
 ghost use Rattle.crash_plant.specs.PlainPlant.{plain_state};
 ghost use Rattle.crash_plant.specs.declared.device.Device.{Device as DeviceValue};
 
-use crash_plant::{Device, Fail, FailList, MemoryPlant, PlainPlant};
+use crash_plant::{Device, Fail, FailList, MemoryPlant, PlainPlant, Plant};
 use pair_table::{PairRow, PairState};
 use std::alloc::Global;
+use std::fmt::Debug;
 use std::process::Abort;
 use tod_stamp::{Serial, Session};
 use xrc_edge::Bytes;
@@ -20,6 +21,21 @@ pub(crate) const NEVER: u64 = 1000;
 
 /// What a crash leaves in a range that is open.
 pub(crate) const CHOICES: [&[u8]; 3] = [&[], &[1], &[0xff]];
+
+/// It is so. The message names the case.
+pub(crate) fn assert_so(rt: &impl Abort, is_so: bool, case: &impl Debug) {
+    assert!(rt; is_so, "{case:?}");
+}
+
+/// The two are the same. The message names the case.
+pub(crate) fn assert_same<T: PartialEq + Debug>(
+    rt: &impl Abort,
+    found: &T,
+    expected: &T,
+    case: &impl Debug,
+) {
+    assert_eq!(rt; found, expected, "{case:?}");
+}
 
 /// A new plant of two journals and so many volumes.
 pub(crate) fn plain(
@@ -56,6 +72,42 @@ pub(crate) fn failing(
     };
     fails.push(alloc, fail).expect(rt, "memory");
     MemoryPlant::make(alloc, plain, fails).expect(rt, "memory")
+}
+
+/// Writes bytes at a place of a device.
+#[tactic(auto, using(crash_plant::proofs::Steps::none_lent_then))]
+pub(crate) fn write<P: Plant>(
+    rt: &impl Abort,
+    plant: &mut P,
+    device: Device,
+    place: u64,
+    bytes: &[u8],
+)
+    requires { IsThere (P.state plant.old) device }
+    ensures home { NoneLent (P.state plant.old) → NoneLent (P.state plant.new) }
+    ensures site { SameSite (P.state plant.old) (P.state plant.new) }
+{
+    let length = plant.length(device);
+    assert!(rt; place <= length && bytes.len() as u64 <= length - place);
+    assert!(rt; plant.write(device, place, bytes).is_ok());
+}
+
+/// So many bytes from a place of a device on.
+#[tactic(auto, using(crash_plant::proofs::Steps::none_lent_then))]
+pub(crate) fn content<P: Plant, const N: usize>(
+    rt: &impl Abort,
+    plant: &mut P,
+    device: Device,
+    place: u64,
+) -> [u8; N]
+    requires { IsThere (P.state plant.old) device }
+    ensures { NoneLent (P.state plant.old) → NoneLent (P.state plant.new) }
+{
+    let mut bytes = [9; N];
+    let length = plant.length(device);
+    assert!(rt; place <= length && N as u64 <= length - place);
+    assert!(rt; plant.read(device, place, &mut bytes).is_ok());
+    bytes
 }
 
 /// A number of eight bytes, the last one given and the others 0, in which one byte is another.

@@ -9,7 +9,8 @@ ghost use Rattle.xrc_journal.specs.Items.{AreItems, body_spelling, form_of};
 ghost use Rattle.xrc_journal.specs.Records.{most_body};
 ghost use Rattle.xrc_journal.specs.Walks.{AllEnd};
 
-use crate::fixtures::{CHOICES, NEVER, failing};
+use crate::fixtures;
+use crate::fixtures::{CHOICES, NEVER, assert_same, assert_so, failing};
 use crate::worked::{
     BEFORE, GROUP, ITEM, LENGTH, SECOND, TIME, empty, first_body, is_walked, second_body, spot,
     write, write_items,
@@ -52,9 +53,11 @@ fn assert_room(rt: &impl Abort, plant: &PlainPlant, at: Spot)
     ensures long { (plain_state plant.now).lengths (JournalDevice at.set) ≡ LENGTH }
     ensures room { at.place + 24 ≤ (plain_state plant.now).lengths (JournalDevice at.set) }
 {
-    assert!(rt; at.set < plant.journals());
-    assert!(rt; plant.length(Device::Journal(at.set)) == LENGTH);
-    assert!(rt; at.place <= LENGTH - 24);
+    assert!(rt;
+        at.set < plant.journals()
+            && plant.length(Device::Journal(at.set)) == LENGTH
+            && at.place <= LENGTH - 24
+    );
 }
 
 /// Where a walk from a spot ends at once, the journal ends there.
@@ -88,10 +91,8 @@ fn content<P: Plant>(rt: &impl Abort, plant: &mut P, set: u16) -> Fill
     requires { NoneLent (P.state plant.old) }
     ensures { NoneLent (P.state plant.new) }
 {
-    let mut bytes = [9; 200];
     assert!(rt; set < plant.journals() && plant.length(Device::Journal(set)) == LENGTH);
-    assert!(rt; plant.read(Device::Journal(set), 0, &mut bytes).is_ok());
-    bytes
+    fixtures::content(rt, plant, Device::Journal(set), 0)
 }
 
 /// The body of a group with these items, as it is walked over on a plant.
@@ -139,31 +140,42 @@ fn append(
     assert_items(rt, alloc, plant, body);
     assert!(rt; journal.at.set < plant.journals());
     let length = plant.length(Device::Journal(journal.at.set));
-    assert!(rt; journal.at.place <= length && length - journal.at.place >= 24);
-    assert!(rt; journal.at.number < u64::MAX);
+    assert!(rt;
+        journal.at.place <= length
+            && length - journal.at.place >= 24
+            && journal.at.number < u64::MAX
+    );
     journal.append(plant, cut, body)
+}
+
+/// Puts the worked group at a spot. The journal then ends behind it.
+fn put_first(rt: &impl Abort, alloc: Global, plant: &mut MemoryPlant, at: Spot, after: Spot)
+    requires home { NoneLent (memory_state plant.old) }
+    requires end { AllEnd (memory_state plant.old) at at TIME.0 }
+    ensures { NoneLent (memory_state plant.new) }
+{
+    let mut journal = Journal { at, marked: at };
+    let body = first_body(rt, alloc);
+    let appended = append(rt, alloc, plant, &mut journal, TIME, &body);
+    assert_same(rt, &appended, &Ok(()), &"the group");
+    let ended = Journal {
+        at: after,
+        marked: at,
+    };
+    assert_same(rt, &journal, &ended, &"the journal");
 }
 
 /// Puts the worked group over these bytes.
 fn put_worked(rt: &impl Abort, alloc: Global, fill: &Fill) {
     let at = spot(0, 0, 1);
     let mut plant = made(rt, alloc, fill, at, NEVER);
-    let mut journal = Journal { at, marked: at };
-    let body = first_body(rt, alloc);
-    let appended = append(rt, alloc, &mut plant, &mut journal, TIME, &body);
-    assert_eq!(rt; appended, Ok(()));
-    let after = spot(0, 37, 2);
-    assert_eq!(rt;
-        journal,
-        Journal {
-            at: after,
-            marked: at
-        }
-    );
+    put_first(rt, alloc, &mut plant, at, spot(0, 37, 2));
     let bytes = content(rt, &mut plant, 0);
-    assert!(rt; bytes.starts_with(&GROUP) && bytes.get(37) == Some(&0));
-    assert!(rt; bytes.get(38..) == fill.get(38..));
-    assert_eq!(rt; content(rt, &mut plant, 1), [0; 200]);
+    let is_put = bytes.starts_with(&GROUP) && bytes.get(37) == Some(&0);
+    assert_so(rt, is_put, &"the group");
+    assert_so(rt, bytes.get(38..) == fill.get(38..), &"behind it");
+    let other = content(rt, &mut plant, 1);
+    assert_same(rt, &other, &[0; 200], &"the other journal");
 }
 
 #[test]
@@ -195,43 +207,82 @@ fn append_both(
     append(rt, alloc, plant, journal, LATER, &second_body(rt, alloc))
 }
 
+/// Behind the first group, and behind the second.
+const NEXT: Spot = Spot {
+    set: 1,
+    place: 37,
+    number: 2,
+};
+
+const END: Spot = Spot {
+    set: 1,
+    place: 108,
+    number: 3,
+};
+
+/// The first of the two groups stands there.
+fn first_stands(rt: &impl Abort, alloc: Global, plant: &mut PlainPlant) -> bool
+    requires { NoneLent (plain_state plant.old) }
+    ensures { NoneLent (plain_state plant.new) }
+{
+    let first = Ok(Walked::Group {
+        time: TIME,
+        after: NEXT,
+    });
+    is_walked(rt, alloc, plant, START, BEFORE, first, &ITEM)
+}
+
+/// The second group stands behind it.
+fn second_stands(rt: &impl Abort, alloc: Global, plant: &mut PlainPlant) -> bool
+    requires { NoneLent (plain_state plant.old) }
+    ensures { NoneLent (plain_state plant.new) }
+{
+    let second = Ok(Walked::Group {
+        time: LATER,
+        after: END,
+    });
+    is_walked(rt, alloc, plant, NEXT, TIME, second, &SECOND)
+}
+
+/// No record stands at a spot.
+fn none_stands(
+    rt: &impl Abort,
+    alloc: Global,
+    plant: &mut PlainPlant,
+    at: Spot,
+    last: Stamp,
+) -> bool
+    requires { NoneLent (plain_state plant.old) }
+    ensures { NoneLent (plain_state plant.new) }
+{
+    is_walked(rt, alloc, plant, at, last, Ok(Walked::End), &[])
+}
+
 /// So many of the two groups stand there, each whole, and nothing else.
 fn groups_stand(rt: &impl Abort, alloc: Global, plant: &mut PlainPlant, count: usize) -> bool
     requires { NoneLent (plain_state plant.old) }
 {
-    let next = spot(1, 37, 2);
-    let end = spot(1, 108, 3);
-    let first = Ok(Walked::Group {
-        time: TIME,
-        after: next,
-    });
-    let second = Ok(Walked::Group {
-        time: LATER,
-        after: end,
-    });
-    let none = Ok(Walked::End);
-    match count {
-        0 => is_walked(rt, alloc, plant, START, BEFORE, none, &[]),
-        1 => {
-            is_walked(rt, alloc, plant, START, BEFORE, first, &ITEM)
-                && is_walked(rt, alloc, plant, next, TIME, none, &[])
-        }
-        _ => {
-            is_walked(rt, alloc, plant, START, BEFORE, first, &ITEM)
-                && is_walked(rt, alloc, plant, next, TIME, second, &SECOND)
-                && is_walked(rt, alloc, plant, end, LATER, none, &[])
-        }
+    if count == 0 {
+        return none_stands(rt, alloc, plant, START, BEFORE);
     }
+    if !first_stands(rt, alloc, plant) {
+        return false;
+    }
+    if count == 1 {
+        return none_stands(rt, alloc, plant, NEXT, TIME);
+    }
+    second_stands(rt, alloc, plant) && none_stands(rt, alloc, plant, END, LATER)
 }
 
 /// A crash leaves so many groups by each choice: nothing, 01 and FF.
 fn leaves(rt: &impl Abort, alloc: Global, plant: &MemoryPlant, call: u64, counts: [usize; 3])
     requires { NoneLent (memory_state plant.now) }
 {
-    for (choice, count) in CHOICES.iter().zip(counts.iter()) {
+    for place in 0..3 {
+        let choice = CHOICES[place];
         let mut left = plant.crash(alloc, choice).expect(rt, "memory");
-        let is_so = groups_stand(rt, alloc, &mut left, *count);
-        assert!(rt; is_so, "stopped at call {call}, by {choice:?}");
+        let is_so = groups_stand(rt, alloc, &mut left, counts[place]);
+        assert_so(rt, is_so, &(call, choice));
     }
 }
 
@@ -248,13 +299,13 @@ fn stop_at(rt: &impl Abort, alloc: Global, fill: &Fill, call: u64, counts: [usiz
     } else {
         Ok(())
     };
-    assert_eq!(rt; appended, expected, "at call {call}");
+    assert_same(rt, &appended, &expected, &call);
     let number = match call {
         0..5 => 1,
         5..10 => 2,
         _ => 3,
     };
-    assert_eq!(rt; journal.at.number, number, "at call {call}");
+    assert_same(rt, &journal.at.number, &number, &call);
     leaves(rt, alloc, &plant, call, counts);
 }
 
@@ -281,21 +332,13 @@ fn a_group_that_fits_exactly_is_put(rt: HostRuntime) {
     let alloc = rt.alloc();
     let at = spot(0, 139, 1);
     let mut plant = made(&rt, alloc, &filled(0), at, NEVER);
-    let mut journal = Journal { at, marked: at };
-    let body = first_body(&rt, alloc);
-    let appended = append(&rt, alloc, &mut plant, &mut journal, TIME, &body);
-    assert_eq!(rt; appended, Ok(()));
     let after = spot(0, 176, 2);
-    assert_eq!(rt;
-        journal,
-        Journal {
-            at: after,
-            marked: at
-        }
-    );
+    put_first(&rt, alloc, &mut plant, at, after);
     let group = Ok(Walked::Group { time: TIME, after });
-    assert!(rt; is_walked(&rt, alloc, &mut plant, at, BEFORE, group, &ITEM));
-    assert!(rt; is_walked(&rt, alloc, &mut plant, after, TIME, Ok(Walked::End), &[]));
+    let is_put = is_walked(&rt, alloc, &mut plant, at, BEFORE, group, &ITEM);
+    assert_so(&rt, is_put, &"the group");
+    let is_end = is_walked(&rt, alloc, &mut plant, after, TIME, Ok(Walked::End), &[]);
+    assert_so(&rt, is_end, &"the end");
 }
 
 #[test]
@@ -312,8 +355,8 @@ fn a_group_that_is_one_byte_longer_is_refused(rt: HostRuntime) {
         needed: 61,
         free: 60,
     };
-    assert_eq!(rt; appended, Err(no_room));
-    assert_eq!(rt; journal, Journal { at, marked: at });
+    assert_same(&rt, &appended, &Err(no_room), &"the group");
+    assert_same(&rt, &journal, &Journal { at, marked: at }, &"the journal");
     let mut left = plant.crash(alloc, &[1]).expect(&rt, "memory");
-    assert_eq!(rt; content(&rt, &mut left, 0), old);
+    assert_same(&rt, &content(&rt, &mut left, 0), &old, &"what is left");
 }

@@ -7,7 +7,9 @@ ghost use Rattle.crash_plant.specs.Moments.{on, IsDurable};
 ghost use Rattle.control_set.specs.Marks.{IsMark, has_room};
 ghost use Rattle.control_set.specs.Slots.{IsNext, chosen_mark, lengths_of};
 
-use crate::fixtures::{CHOICES, NEVER, failing, number_with, plain, session};
+use crate::fixtures::{
+    CHOICES, NEVER, assert_same, content, failing, number_with, plain, session, write,
+};
 use control_set::{ChooseError, Mark, choose, mark};
 use crash_plant::{Device, MemoryPlant, PlainPlant, Plant, Spot};
 use std::alloc::Global;
@@ -67,12 +69,9 @@ fn chosen<P: Plant>(rt: &impl Abort, plant: &mut P) -> Result<Option<Mark>, Choo
     choose(plant)
 }
 
-/// The 49 bytes at a place of the control.
-fn content(rt: &impl Abort, plant: &mut MemoryPlant, place: u64) -> [u8; 49] {
-    let mut bytes = [9; 49];
-    assert!(rt; plant.length(Device::Control) >= 1024 && place <= 512);
-    assert!(rt; plant.read(Device::Control, place, &mut bytes).is_ok());
-    bytes
+/// The bytes of the slot at a place.
+fn slot_at(rt: &impl Abort, plant: &mut MemoryPlant, place: u64) -> [u8; 49] {
+    content(rt, plant, Device::Control, place)
 }
 
 /// What is chosen where the slots begin with these bytes.
@@ -82,10 +81,8 @@ fn chosen_of(
     first: &[u8; 49],
     second: &[u8; 49],
 ) -> Result<Option<Mark>, ChooseError> {
-    assert!(rt; plant.length(Device::Control) >= 1024);
-    assert!(rt; plant.write(Device::Control, 0, first).is_ok());
-    assert!(rt; plant.length(Device::Control) >= 1024);
-    assert!(rt; plant.write(Device::Control, 512, second).is_ok());
+    write(rt, plant, Device::Control, 0, first);
+    write(rt, plant, Device::Control, 512, second);
     chosen(rt, plant)
 }
 
@@ -107,11 +104,8 @@ fn assert_mark(rt: &impl Abort, plant: &MemoryPlant, value: &Mark)
     ensures { IsMark (lengths_of (memory_state plant.now)) value.now }
 {
     assert!(rt; has_room(plant, value.at));
-    assert!(rt; value.number >= 1);
-    assert!(rt; value.number <= u64::MAX - 1);
-    assert!(rt; value.state_slot <= 1);
-    assert!(rt; value.at.number >= 1);
-    assert!(rt; value.time.0 >= 1);
+    assert!(rt; value.number >= 1 && value.number <= u64::MAX - 1 && value.state_slot <= 1);
+    assert!(rt; value.at.number >= 1 && value.time.0 >= 1);
 }
 
 /// The number of the next mark.
@@ -147,7 +141,7 @@ fn sync_before(plant: &mut MemoryPlant, number: u64) -> Result<(), Failed>
 fn put(rt: &impl Abort, plant: &mut MemoryPlant, value: &Mark) -> Result<(), Failed> {
     assert!(rt; plant.length(Device::Control) >= 1024);
     let number = next_number(rt, plant)?;
-    assert_eq!(rt; value.number, number);
+    assert!(rt; value.number == number);
     sync_before(plant, number)?;
     assert_mark(rt, plant, value);
     mark(plant, value)
@@ -159,10 +153,26 @@ fn the_worked_slot_is_written_and_read(rt: HostRuntime) {
     let before = chosen(&rt, &mut plant);
     let put = put(&rt, &mut plant, &worked(&rt));
     let after = chosen(&rt, &mut plant);
-    assert_eq!(rt; put, Ok(()));
-    assert_eq!(rt; [before, after], [Ok(None), Ok(Some(worked(&rt)))]);
-    let slots = [content(&rt, &mut plant, 0), content(&rt, &mut plant, 512)];
-    assert_eq!(rt; slots, [WORKED, ZEROS]);
+    assert_same(&rt, &put, &Ok(()), &"the mark");
+    let expected = [Ok(None), Ok(Some(worked(&rt)))];
+    assert_same(&rt, &[before, after], &expected, &"before and after");
+    let slots = [slot_at(&rt, &mut plant, 0), slot_at(&rt, &mut plant, 512)];
+    assert_same(&rt, &slots, &[WORKED, ZEROS], &"the slots");
+}
+
+/// Puts the mark with this number, which goes into one slot. The other one holds the last mark. Gives the slot's bytes.
+fn put_next(rt: &impl Abort, plant: &mut MemoryPlant, number: u8, last: &[u8; 49]) -> [u8; 49]
+    requires { number ≤ 4 }
+{
+    let value = numbered(rt, number);
+    assert_same(rt, &put(rt, plant, &value), &Ok(()), &number);
+    assert_same(rt, &chosen(rt, plant), &Ok(Some(value)), &number);
+    let (here, there) = if number % 2 == 1 { (0, 512) } else { (512, 0) };
+    assert_same(rt, &slot_at(rt, plant, there), last, &number);
+    let bytes = slot_at(rt, plant, here);
+    let found = [bytes[0], bytes[12], bytes[47]];
+    assert_same(rt, &found, &[1, number, 0x50 + number], &number);
+    bytes
 }
 
 #[test]
@@ -170,13 +180,7 @@ fn marks_go_from_slot_to_slot(rt: HostRuntime) {
     let mut plant = made(&rt, rt.alloc(), NEVER);
     let mut last = ZEROS;
     for number in 1..=4 {
-        let value = numbered(&rt, number);
-        assert_eq!(rt; put(&rt, &mut plant, &value), Ok(()));
-        assert_eq!(rt; chosen(&rt, &mut plant), Ok(Some(value)));
-        let (here, there) = if number % 2 == 1 { (0, 512) } else { (512, 0) };
-        assert_eq!(rt; content(&rt, &mut plant, there), last);
-        last = content(&rt, &mut plant, here);
-        assert!(rt; last[0] == 1 && last[12] == number && last[47] == 0x50 + number);
+        last = put_next(&rt, &mut plant, number, &last);
     }
 }
 
@@ -222,40 +226,41 @@ fn answer(rt: &impl Abort, offset: usize, value: u8) -> Result<Option<Mark>, Cho
     }
 }
 
+/// One byte of the worked slot in slot 0 is another.
+fn change_byte(rt: &impl Abort, plant: &mut MemoryPlant, offset: usize, value: u8)
+    requires { offset < 49 }
+{
+    let mut bytes = WORKED;
+    bytes[offset] = value;
+    let found = chosen_of(rt, plant, &bytes, &ZEROS);
+    assert_same(rt, &found, &answer(rt, offset, value), &(offset, value));
+}
+
 #[test]
 fn each_byte_counts(rt: HostRuntime) {
     let mut plant = made(&rt, rt.alloc(), NEVER);
     for offset in 0..49 {
         for value in [0, 1, 254, 255] {
             if value != WORKED[offset] {
-                let mut bytes = WORKED;
-                bytes[offset] = value;
-                let found = chosen_of(&rt, &mut plant, &bytes, &ZEROS);
-                assert_eq!(rt; found, answer(&rt, offset, value), "at {offset}, {value}");
+                change_byte(&rt, &mut plant, offset, value);
             }
         }
     }
 }
 
-#[test]
-fn other_fields_are_read(rt: HostRuntime) {
-    let mut plant = made(&rt, rt.alloc(), NEVER);
-    let mut bytes = WORKED;
-    bytes[5..13].fill(255);
-    assert_eq!(rt;
-        chosen_of(&rt, &mut plant, &bytes, &ZEROS),
-        Err(ChooseError::Damaged(0))
-    );
-    bytes[12] = 254;
-    bytes[13..21].copy_from_slice(b"Z@#$9876");
-    bytes[21] = 1;
-    bytes[22..24].copy_from_slice(&[0, 1]);
-    bytes[32..40].copy_from_slice(&[1, 2, 3, 4, 5, 6, 7, 8]);
-    bytes[40..48].copy_from_slice(&[9, 8, 7, 6, 5, 4, 3, 2]);
-    bytes[48] = 1;
-    let value = Mark {
+/// A slot in which all fields are others.
+const OTHER: [u8; 49] = [
+    0x01, 0x58, 0x43, 0x54, 0x4C, 0xff, 0xff, 0xff, 0xff, 0xff, 0xff, 0xff, 0xfe, b'Z', b'@', b'#',
+    b'$', b'9', b'8', b'7', b'6', 0x01, 0x00, 0x01, 0x00, 0x00, 0x00, 0x00, 0x00, 0x00, 0x00, 0x00,
+    0x01, 0x02, 0x03, 0x04, 0x05, 0x06, 0x07, 0x08, 0x09, 0x08, 0x07, 0x06, 0x05, 0x04, 0x03, 0x02,
+    0x01,
+];
+
+/// The mark in that slot.
+fn other(rt: &impl Abort) -> Mark {
+    Mark {
         number: u64::MAX - 1,
-        session: Session::read(b"Z@#$9876").expect(&rt, "a name"),
+        session: Session::read(b"Z@#$9876").expect(rt, "a name"),
         state_slot: 1,
         at: Spot {
             set: 1,
@@ -264,13 +269,40 @@ fn other_fields_are_read(rt: HostRuntime) {
         },
         time: Stamp(0x0908_0706_0504_0302),
         ended: true,
-    };
-    assert_eq!(rt; chosen_of(&rt, &mut plant, &bytes, &ZEROS), Ok(Some(value)));
+    }
+}
+
+#[test]
+fn other_fields_are_read(rt: HostRuntime) {
+    let mut plant = made(&rt, rt.alloc(), NEVER);
+    let damaged = Err(ChooseError::Damaged(0));
+    let mut bytes = WORKED;
+    bytes[5..13].fill(255);
+    let found = chosen_of(&rt, &mut plant, &bytes, &ZEROS);
+    assert_same(&rt, &found, &damaged, &"the last number of all");
+    let found = chosen_of(&rt, &mut plant, &OTHER, &ZEROS);
+    assert_same(&rt, &found, &Ok(Some(other(&rt))), &"other fields");
+    bytes = OTHER;
     bytes[16] = b' ';
-    assert_eq!(rt;
-        chosen_of(&rt, &mut plant, &bytes, &ZEROS),
+    let found = chosen_of(&rt, &mut plant, &bytes, &ZEROS);
+    assert_same(&rt, &found, &damaged, &"a space in a name");
+}
+
+/// Whether a mark at a place of a journal is chosen.
+fn assert_fits(rt: &impl Abort, plant: &mut MemoryPlant, set: u8, place: u8, fits: bool) {
+    let mut bytes = WORKED;
+    bytes[23] = set;
+    bytes[31] = place;
+    let mut mark = worked(rt);
+    mark.at.set = u16::from(set);
+    mark.at.place = u64::from(place);
+    let expected = if fits {
+        Ok(Some(mark))
+    } else {
         Err(ChooseError::Damaged(0))
-    );
+    };
+    let found = chosen_of(rt, plant, &bytes, &ZEROS);
+    assert_same(rt, &found, &expected, &(set, place));
 }
 
 #[test]
@@ -283,54 +315,61 @@ fn room_for_a_switch_is_left(rt: HostRuntime) {
         (1, 77, false),
         (2, 0, false),
     ] {
-        let mut bytes = WORKED;
-        bytes[23] = set;
-        bytes[31] = place;
-        let mut mark = worked(&rt);
-        mark.at.set = u16::from(set);
-        mark.at.place = u64::from(place);
-        let expected = if fits {
-            Ok(Some(mark))
-        } else {
-            Err(ChooseError::Damaged(0))
-        };
-        let found = chosen_of(&rt, &mut plant, &bytes, &ZEROS);
-        assert_eq!(rt; found, expected, "at {place} of {set}");
+        assert_fits(&rt, &mut plant, set, place, fits);
     }
 }
 
-/// The worked slot with another number.
-fn slot(number: u8) -> [u8; 49] {
+/// The worked slot with another number, or zeros.
+fn slot(number: Option<u8>) -> [u8; 49] {
+    let Some(number) = number else {
+        return ZEROS;
+    };
     let mut bytes = WORKED;
     bytes[12] = number;
     bytes
 }
 
-/// The worked mark with another number is chosen.
-fn found(rt: &impl Abort, number: u8) -> Result<Option<Mark>, ChooseError> {
-    Ok(Some(Mark {
-        number: u64::from(number),
+/// The worked mark with another number, or none.
+fn numbered_only(rt: &impl Abort, number: Option<u8>) -> Option<Mark> {
+    let number = u64::from(number?);
+    Some(Mark {
+        number,
         ..worked(rt)
-    }))
+    })
+}
+
+/// Slots with these numbers, or zeros, and the number of the mark that is chosen, or the place that is damaged.
+type Numbers = (Option<u8>, Option<u8>, Result<Option<u8>, u64>);
+
+const NUMBERS: [Numbers; 10] = [
+    (None, None, Ok(None)),
+    (None, Some(7), Ok(Some(7))),
+    (Some(7), None, Ok(Some(7))),
+    (Some(7), Some(8), Ok(Some(8))),
+    (Some(8), Some(7), Ok(Some(8))),
+    (Some(7), Some(7), Err(512)),
+    (Some(7), Some(0), Err(512)),
+    (None, Some(0), Err(512)),
+    (Some(0), Some(7), Err(0)),
+    (Some(0), Some(0), Err(0)),
+];
+
+/// The whole mark is the worked one but for its number.
+fn assert_chosen(rt: &impl Abort, plant: &mut MemoryPlant, numbers: &Numbers) {
+    let (first, second, chosen) = *numbers;
+    let expected = match chosen {
+        Ok(number) => Ok(numbered_only(rt, number)),
+        Err(place) => Err(ChooseError::Damaged(place)),
+    };
+    let found = chosen_of(rt, plant, &slot(first), &slot(second));
+    assert_same(rt, &found, &expected, numbers);
 }
 
 #[test]
 fn the_greater_number_counts(rt: HostRuntime) {
     let mut plant = made(&rt, rt.alloc(), NEVER);
-    for (first, second, expected) in [
-        (ZEROS, ZEROS, Ok(None)),
-        (ZEROS, slot(7), found(&rt, 7)),
-        (slot(7), ZEROS, found(&rt, 7)),
-        (slot(7), slot(8), found(&rt, 8)),
-        (slot(8), slot(7), found(&rt, 8)),
-        (slot(7), slot(7), Err(ChooseError::Damaged(512))),
-        (slot(7), slot(0), Err(ChooseError::Damaged(512))),
-        (ZEROS, slot(0), Err(ChooseError::Damaged(512))),
-        (slot(0), slot(7), Err(ChooseError::Damaged(0))),
-        (slot(0), slot(0), Err(ChooseError::Damaged(0))),
-    ] {
-        let chosen = chosen_of(&rt, &mut plant, &first, &second);
-        assert_eq!(rt; chosen, expected, "{first:?}, {second:?}");
+    for numbers in &NUMBERS {
+        assert_chosen(&rt, &mut plant, numbers);
     }
 }
 
@@ -340,11 +379,8 @@ fn a_read_that_fails_is_a_fault(rt: HostRuntime) {
         let mut plant = made(&rt, rt.alloc(), call);
         let first = chosen(&rt, &mut plant);
         let again = chosen(&rt, &mut plant);
-        assert_eq!(rt;
-            [first, again],
-            [Err(ChooseError::Fault), Ok(None)],
-            "at call {call}"
-        );
+        let expected = [Err(ChooseError::Fault), Ok(None)];
+        assert_same(&rt, &[first, again], &expected, &call);
     }
 }
 
@@ -352,10 +388,21 @@ fn a_read_that_fails_is_a_fault(rt: HostRuntime) {
 fn the_first_slot_is_examined_first(rt: HostRuntime) {
     let mut plant = made(&rt, rt.alloc(), 3);
     // Two writes, and the first slot's read. The second slot's read would fail.
-    assert_eq!(rt;
-        chosen_of(&rt, &mut plant, &slot(0), &slot(7)),
-        Err(ChooseError::Damaged(0))
+    let found = chosen_of(&rt, &mut plant, &slot(Some(0)), &slot(Some(7)));
+    assert_same(
+        &rt,
+        &found,
+        &Err(ChooseError::Damaged(0)),
+        &"the first slot",
     );
+}
+
+/// The number of the mark that counts.
+fn chosen_number(rt: &impl Abort, plant: &mut MemoryPlant) -> Option<u64> {
+    match chosen(rt, plant).expect(rt, "not damaged") {
+        Some(mark) => Some(mark.number),
+        None => None,
+    }
 }
 
 /// Three marks are put, of which one meets the call that fails. Gives the number of the mark that counts then.
@@ -363,9 +410,7 @@ fn number_after(rt: &impl Abort, alloc: Global, call: u64) -> Option<u64> {
     let mut plant = made(rt, alloc, call);
     for number in 1..=3 {
         if put(rt, &mut plant, &numbered(rt, number)).is_err() {
-            return chosen(rt, &mut plant)
-                .expect(rt, "not damaged")
-                .map(|mark| mark.number);
+            return chosen_number(rt, &mut plant);
         }
     }
     None
@@ -382,11 +427,8 @@ fn the_old_mark_or_the_new_one_counts(rt: HostRuntime) {
             17..=27 => Some(2),
             _ => Some(3),
         };
-        assert_eq!(rt;
-            number_after(&rt, rt.alloc(), call),
-            expected,
-            "at call {call}"
-        );
+        let found = number_after(&rt, rt.alloc(), call);
+        assert_same(&rt, &found, &expected, &call);
     }
 }
 
@@ -440,17 +482,24 @@ impl Case {
     /// A plant with this control.
     fn plant(&self, rt: &impl Abort, alloc: Global) -> PlainPlant {
         let mut plant = empty(rt, alloc);
-        write(rt, &mut plant, 0, &[self.filler; 1024]);
-        write(rt, &mut plant, 0, &self.slot(self.first));
-        write(rt, &mut plant, 512, &self.slot(self.second));
+        write(rt, &mut plant, Device::Control, 0, &[self.filler; 1024]);
+        write(rt, &mut plant, Device::Control, 0, &self.slot(self.first));
+        write(
+            rt,
+            &mut plant,
+            Device::Control,
+            512,
+            &self.slot(self.second),
+        );
         plant
     }
 
     /// The mark that counts.
     fn old(&self, rt: &impl Abort, alloc: Global) -> Option<Mark> {
         let old = chosen(rt, &mut self.plant(rt, alloc)).expect(rt, "not damaged");
-        let number = old.as_ref().map_or(0, |mark| mark.number % 256);
-        assert_eq!(rt; number, u64::from(self.first.max(self.second).unwrap_or(0)));
+        let number = number_of(old.as_ref()) % 256;
+        let greater = u64::from(self.first.max(self.second).unwrap_or(0));
+        assert_same(rt, &number, &greater, &"the mark before");
         old
     }
 
@@ -463,22 +512,47 @@ impl Case {
         let new = next(rt, old.as_ref());
         let before = self.plant(rt, alloc);
         let mut plant = failing(rt, alloc, before, Device::Control, BEFORE + calls, true);
-        assert_eq!(rt; put(rt, &mut plant, &new).is_ok(), calls == all);
+        assert_same(
+            rt,
+            &put(rt, &mut plant, &new).is_ok(),
+            &(calls == all),
+            &calls,
+        );
         for choice in CHOICES {
-            let mut left = left(rt, alloc, &plant, choice);
             // The gate's write and its sync come last.
             let is_new = calls == all || calls + 2 >= all && choice == [1].as_slice();
-            let expected = if is_new { Some(&new) } else { old.as_ref() };
-            let found = chosen(rt, &mut left).expect(rt, "not damaged");
-            assert_eq!(rt; found.as_ref(), expected, "{calls} of {all}, {choice:?}");
-            assert_elsewhere(rt, &mut left, &mut self.plant(rt, alloc), self.free_place());
+            let expected = if is_new { Some(new) } else { old };
+            let mut left = left(rt, alloc, &plant, choice);
+            self.assert_left(rt, alloc, &mut left, expected, (calls, choice));
         }
+    }
+
+    /// This mark counts, and nothing else is changed.
+    fn assert_left(
+        &self,
+        rt: &impl Abort,
+        alloc: Global,
+        left: &mut PlainPlant,
+        expected: Option<Mark>,
+        stop: (u64, &[u8]),
+    ) {
+        let found = chosen(rt, left).expect(rt, "not damaged");
+        assert_same(rt, &found, &expected, &stop);
+        assert_elsewhere(rt, left, &mut self.plant(rt, alloc), self.free_place());
+    }
+}
+
+/// The number of a mark, or 0 where there is none.
+fn number_of(mark: Option<&Mark>) -> u64 {
+    match mark {
+        Some(mark) => mark.number,
+        None => 0,
     }
 }
 
 /// The mark behind another one, or the first.
 fn next(rt: &impl Abort, old: Option<&Mark>) -> Mark {
-    let last = old.map_or(0, |mark| mark.number);
+    let last = number_of(old);
     assert!(rt; last < u64::MAX);
     Mark {
         number: last + 1,
@@ -505,11 +579,6 @@ const CASES: [(u8, Option<u8>, Option<u8>); 12] = [
 /// The calls before those of the mark: two reads of `choose` and a sync.
 const BEFORE: u64 = 3;
 
-fn write(rt: &impl Abort, plant: &mut PlainPlant, place: u64, bytes: &[u8]) {
-    assert!(rt; place <= 512 && place + bytes.len() as u64 <= plant.length(Device::Control));
-    assert!(rt; plant.write(Device::Control, place, bytes).is_ok());
-}
-
 /// What a crash leaves.
 fn left(rt: &impl Abort, alloc: Global, plant: &MemoryPlant, choice: &[u8]) -> PlainPlant {
     // No volume is lent where there is none.
@@ -519,10 +588,8 @@ fn left(rt: &impl Abort, alloc: Global, plant: &MemoryPlant, choice: &[u8]) -> P
 
 /// All bytes of the control.
 fn whole(rt: &impl Abort, plant: &mut PlainPlant) -> [u8; 1024] {
-    let mut bytes = [9; 1024];
     assert!(rt; plant.length(Device::Control) == 1024);
-    assert!(rt; plant.read(Device::Control, 0, &mut bytes).is_ok());
-    bytes
+    content(rt, plant, Device::Control, 0)
 }
 
 /// Only the 49 bytes of the free slot are others.
@@ -532,7 +599,7 @@ fn assert_elsewhere(rt: &impl Abort, left: &mut PlainPlant, old: &mut PlainPlant
     let expected = whole(rt, old);
     let mut found = whole(rt, left);
     found[free..free + 49].copy_from_slice(&expected[free..free + 49]);
-    assert_eq!(rt; found, expected);
+    assert_same(rt, &found, &expected, &free);
 }
 
 #[test]

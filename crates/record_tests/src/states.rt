@@ -6,7 +6,10 @@ ghost use Rattle.crash_plant.specs.Calls.{NoneLent};
 ghost use Rattle.crash_plant.specs.MemoryPlant.{memory_state};
 ghost use Rattle.crash_plant.specs.PlainPlant.{plain_state};
 
-use crate::fixtures::{CHOICES, NEVER, failing, plain, row, serial, session};
+use crate::fixtures;
+use crate::fixtures::{
+    CHOICES, NEVER, assert_same, assert_so, failing, plain, row, serial, session,
+};
 use crash_plant::{Device, MemoryPlant, PlainPlant, Plant};
 use pair_table::{Level, PairRow, PairState, PairTable};
 use state_set::{StateError, get, put};
@@ -78,6 +81,12 @@ fn put_table<P: Plant>(
     put(alloc, plant, slot, level, table)
 }
 
+/// Puts a row into a table.
+fn add_row(rt: &impl Abort, alloc: Global, table: &mut PairTable, row: &PairRow) {
+    assert!(rt; table.may_put(row));
+    table.put_row(alloc, *row).expect(rt, "memory");
+}
+
 /// Puts a state of ABC with one row, or none, into a slot.
 fn put_state<P: Plant>(
     rt: &impl Abort,
@@ -91,10 +100,19 @@ fn put_state<P: Plant>(
 {
     let mut table = PairTable::make(alloc, session(rt)).expect(rt, "memory");
     if let Some(row) = first {
-        assert!(rt; table.may_put(row));
-        table.put_row(alloc, *row).expect(rt, "memory");
+        add_row(rt, alloc, &mut table, row);
     }
     put_table(rt, alloc, plant, slot, level, &table)
+}
+
+/// What is seen of a table.
+fn seen_of(level: Level, table: &PairTable) -> Seen {
+    Seen {
+        level,
+        session: table.session(),
+        count: table.len(),
+        first: table.row(0).copied(),
+    }
 }
 
 /// Gets what a slot holds of a session.
@@ -106,13 +124,10 @@ fn get_state_of<P: Plant>(
     session: Session,
 ) -> Result<Seen, StateError> {
     assert!(rt; slot <= 1 && plant.length(Device::State) >= 16_384);
-    let (level, table) = get(alloc, plant, slot, session)?;
-    Ok(Seen {
-        level,
-        session: table.session(),
-        count: table.len(),
-        first: table.row(0).copied(),
-    })
+    match get(alloc, plant, slot, session) {
+        Ok((level, table)) => Ok(seen_of(level, &table)),
+        Err(error) => Err(error),
+    }
 }
 
 /// Gets what a slot holds of ABC.
@@ -144,49 +159,54 @@ fn goes_through(
     level: Level,
     first: Option<&PairRow>,
 ) {
-    assert_eq!(rt; put_state(rt, alloc, plant, slot, level, first), Ok(()));
-    assert_eq!(rt;
-        get_state(rt, alloc, plant, slot),
-        Ok(held(rt, level, first))
-    );
+    let put = put_state(rt, alloc, plant, slot, level, first);
+    assert_same(rt, &put, &Ok(()), &slot);
+    let found = get_state(rt, alloc, plant, slot);
+    assert_same(rt, &found, &Ok(held(rt, level, first)), &slot);
 }
 
 /// Writes bytes at a place of the state.
-fn write(rt: &impl Abort, plant: &mut MemoryPlant, place: u64, bytes: &[u8]) {
-    assert!(rt; place <= 9_000 && bytes.len() <= 100 && plant.length(Device::State) >= 16_384);
-    assert!(rt; plant.write(Device::State, place, bytes).is_ok());
+fn write<P: Plant>(rt: &impl Abort, plant: &mut P, place: u64, bytes: &[u8])
+    ensures { NoneLent (P.state plant.old) → NoneLent (P.state plant.new) }
+{
+    fixtures::write(rt, plant, Device::State, place, bytes);
 }
 
 /// The bytes from a place of the state on.
 fn content<P: Plant>(rt: &impl Abort, plant: &mut P, place: u64) -> [u8; 46] {
-    let mut bytes = [9; 46];
-    assert!(rt; place <= 9_000 && plant.length(Device::State) >= 16_384);
-    assert!(rt; plant.read(Device::State, place, &mut bytes).is_ok());
-    bytes
+    fixtures::content(rt, plant, Device::State, place)
+}
+
+/// The bytes at a place begin so.
+fn assert_begins(rt: &impl Abort, plant: &mut MemoryPlant, place: u64, front: &[u8]) {
+    assert_so(rt, content(rt, plant, place).starts_with(front), &place);
+}
+
+/// The slot at a place holds the worked states. The next state goes into the other slot.
+fn assert_worked(rt: &impl Abort, alloc: Global, slot: u8, place: u64, other: u64)
+    requires { slot ≤ 1 }
+{
+    let row = row(rt, PairState::Duplex);
+    let mut plant = made(rt, alloc, NEVER);
+    goes_through(rt, alloc, &mut plant, slot, Level::Volume, None);
+    let bytes = content(rt, &mut plant, place);
+    assert_so(
+        rt,
+        bytes.starts_with(&STARTED) && bytes.ends_with(&[0; 31]),
+        &place,
+    );
+    goes_through(rt, alloc, &mut plant, slot, Level::Volume, Some(&row));
+    assert_begins(rt, &mut plant, place, &PAIRED);
+    assert_begins(rt, &mut plant, other, &[0; 46]);
+    goes_through(rt, alloc, &mut plant, 1 - slot, Level::Session, None);
+    assert_begins(rt, &mut plant, other, b"XST1ABC     \x01\0\0\0");
+    assert_begins(rt, &mut plant, place, &PAIRED);
 }
 
 #[test]
 fn the_worked_states_are_written_and_read(rt: HostRuntime) {
-    let alloc = rt.alloc();
-    let row = row(&rt, PairState::Duplex);
-    for (slot, place, next, other) in [(0, 0, 1, 8_192), (1, 8_192, 0, 0)] {
-        let mut plant = made(&rt, alloc, NEVER);
-        goes_through(&rt, alloc, &mut plant, slot, Level::Volume, None);
-        let bytes = content(&rt, &mut plant, place);
-        assert!(rt; bytes.starts_with(&STARTED) && bytes.ends_with(&[0; 31]));
-        goes_through(&rt, alloc, &mut plant, slot, Level::Volume, Some(&row));
-        let (bytes, beside) = (
-            content(&rt, &mut plant, place),
-            content(&rt, &mut plant, other),
-        );
-        assert!(rt; bytes.starts_with(&PAIRED) && beside == [0; 46]);
-        goes_through(&rt, alloc, &mut plant, next, Level::Session, None);
-        let (bytes, beside) = (
-            content(&rt, &mut plant, place),
-            content(&rt, &mut plant, other),
-        );
-        assert!(rt; beside.starts_with(b"XST1ABC     \x01\0\0\0") && bytes.starts_with(&PAIRED));
-    }
+    assert_worked(&rt, rt.alloc(), 0, 0, 8_192);
+    assert_worked(&rt, rt.alloc(), 1, 8_192, 0);
 }
 
 /// What is read where one byte of the worked state with a row is another. No such value is a character of a name.
@@ -244,7 +264,7 @@ fn change_byte(rt: &impl Abort, alloc: Global, plant: &mut MemoryPlant, offset: 
     for (slot, place) in [(0, 0), (1, 8_192)] {
         let expected = answer(rt, offset, value).ok_or(StateError::Damaged(place));
         let found = get_state(rt, alloc, plant, slot);
-        assert_eq!(rt; found, expected, "at {offset}, {value}");
+        assert_same(rt, &found, &expected, &(offset, value));
     }
 }
 
@@ -270,9 +290,10 @@ fn another_session_is_not_read(rt: HostRuntime) {
     for name in names {
         let other = Session::read(name).expect(&rt, "a name");
         let found = get_state_of(&rt, alloc, &mut plant, 1, other);
-        assert_eq!(rt; found, Err(StateError::Damaged(8_192)));
+        assert_same(&rt, &found, &Err(StateError::Damaged(8_192)), &name);
     }
-    assert!(rt; get_state(&rt, alloc, &mut plant, 1).is_ok());
+    let is_read = get_state(&rt, alloc, &mut plant, 1).is_ok();
+    assert_so(&rt, is_read, &"its own session");
 }
 
 /// The table of ABC with 64 rows, the last device's first.
@@ -280,10 +301,19 @@ fn full_table(rt: &impl Abort, alloc: Global) -> PairTable {
     let mut table = PairTable::make(alloc, session(rt)).expect(rt, "memory");
     for number in 0..64 {
         let row = numbered(rt, 63 - number);
-        assert!(rt; table.may_put(&row));
-        table.put_row(alloc, row).expect(rt, "memory");
+        add_row(rt, alloc, &mut table, &row);
     }
     table
+}
+
+/// Slot 0 holds the rows of that table.
+fn assert_all_rows(rt: &impl Abort, alloc: Global, plant: &mut MemoryPlant, full: &PairTable) {
+    assert!(rt; plant.length(Device::State) >= 16_384);
+    let (_, found) = get(alloc, plant, 0, session(rt)).expect(rt, "a state");
+    assert_same(rt, &found.len(), &64, &"rows");
+    for place in 0..64 {
+        assert_so(rt, found.row(place) == full.row(place), &place);
+    }
 }
 
 #[test]
@@ -291,17 +321,13 @@ fn sixty_four_rows_are_the_most(rt: HostRuntime) {
     let alloc = rt.alloc();
     let mut plant = made(&rt, alloc, NEVER);
     let full = full_table(&rt, alloc);
-    assert!(rt; put_table(&rt, alloc, &mut plant, 0, Level::Volume, &full).is_ok());
-    assert!(rt; plant.length(Device::State) >= 16_384);
-    let (_, found) = get(alloc, &mut plant, 0, session(&rt)).expect(&rt, "a state");
-    assert!(rt; found.len() == 64);
-    for place in 0..64 {
-        assert!(rt; found.row(place) == full.row(place), "at {place}");
-    }
+    let put = put_table(&rt, alloc, &mut plant, 0, Level::Volume, &full);
+    assert_same(&rt, &put, &Ok(()), &"all rows");
+    assert_all_rows(&rt, alloc, &mut plant, &full);
     for count in [65, 66, 255] {
         write(&rt, &mut plant, 14, &[count]);
         let found = get_state(&rt, alloc, &mut plant, 0);
-        assert_eq!(rt; found, Err(StateError::Damaged(0)), "{count}");
+        assert_same(&rt, &found, &Err(StateError::Damaged(0)), &count);
     }
 }
 
@@ -313,12 +339,15 @@ fn count_of_two(
     second: &PairRow,
 ) -> Result<u16, StateError> {
     let mut plant = made(rt, alloc, NEVER);
-    put_state(rt, alloc, &mut plant, 0, Level::Volume, Some(second))?;
+    goes_through(rt, alloc, &mut plant, 0, Level::Volume, Some(second));
     let copied = content(rt, &mut plant, 0);
-    put_state(rt, alloc, &mut plant, 1, Level::Volume, Some(first))?;
+    goes_through(rt, alloc, &mut plant, 1, Level::Volume, Some(first));
     write(rt, &mut plant, 8_192 + 14, &[2]);
     write(rt, &mut plant, 8_192 + 45, &copied[15..45]);
-    Ok(get_state(rt, alloc, &mut plant, 1)?.count)
+    match get_state(rt, alloc, &mut plant, 1) {
+        Ok(seen) => Ok(seen.count),
+        Err(error) => Err(error),
+    }
 }
 
 #[test]
@@ -343,7 +372,7 @@ fn rows_that_clash_are_damaged(rt: HostRuntime) {
         (another_control, Ok(2)),
     ] {
         let count = count_of_two(&rt, alloc, &first, &row);
-        assert_eq!(rt; count, expected, "{row:?}");
+        assert_same(&rt, &count, &expected, &row);
     }
 }
 
@@ -360,7 +389,7 @@ fn a_call_that_fails_is_a_fault(rt: HostRuntime) {
         } else {
             put.is_ok() && found == Err(StateError::Fault)
         };
-        assert!(rt; is_fault, "at call {call}");
+        assert_so(&rt, is_fault, &call);
         goes_through(&rt, alloc, &mut plant, 0, Level::Session, None);
     }
 }
@@ -417,8 +446,8 @@ impl Case {
         if self.is_held {
             let row = row(rt, PairState::Duplex);
             let level = Level::Volume;
-            assert!(rt; put_state(rt, alloc, &mut plant, 0, level, Some(&row)).is_ok());
-            assert!(rt; put_state(rt, alloc, &mut plant, 1, level, Some(&row)).is_ok());
+            put_state(rt, alloc, &mut plant, 0, level, Some(&row)).expect(rt, "slot 0");
+            put_state(rt, alloc, &mut plant, 1, level, Some(&row)).expect(rt, "slot 1");
         }
         plant
     }
@@ -428,24 +457,22 @@ impl Case {
         let mut old = self.plant(rt, alloc);
         let other = self.other_slot();
         let before = get_state(rt, alloc, &mut old, other);
-        assert_eq!(rt; before.is_ok(), self.is_held);
-        assert_eq!(rt; get_state(rt, alloc, left, other), before);
+        assert_same(rt, &before.is_ok(), &self.is_held, &other);
+        assert_same(rt, &get_state(rt, alloc, left, other), &before, &other);
         let behind = self.place() + self.length();
         for place in [8_192 - self.place(), behind] {
             let bytes = content(rt, left, place);
-            assert_eq!(rt; bytes, content(rt, &mut old, place), "at {place}");
+            assert_same(rt, &bytes, &content(rt, &mut old, place), &place);
         }
     }
 }
 
 /// A plant whose state has such bytes alone.
-#[tactic(auto, using(crash_plant::proofs::Steps::none_lent_then))]
 fn filled(rt: &impl Abort, alloc: Global, filler: u8) -> PlainPlant
     ensures { NoneLent (plain_state result) }
 {
     let mut plant = empty(rt, alloc);
-    assert!(rt; plant.length(Device::State) >= 16_384);
-    assert!(rt; plant.write(Device::State, 0, &[filler; 16_384]).is_ok());
+    write(rt, &mut plant, 0, &[filler; 16_384]);
     plant
 }
 
@@ -469,22 +496,22 @@ fn stopped(rt: &impl Abort, alloc: Global, case: &Case, calls: u64) -> MemoryPla
     } else {
         Err(StateError::Fault)
     };
-    assert_eq!(rt; put, answer, "{calls}");
+    assert_same(rt, &put, &answer, &calls);
     plant
 }
 
 /// Stops after so many calls of the `put`, crashes in each way, and looks at both slots.
 fn stop_after(rt: &impl Abort, alloc: Global, case: &Case, calls: u64) {
     let plant = stopped(rt, alloc, case, calls);
+    let expected = if calls == 2 {
+        Ok(held(rt, Level::Session, case.first(rt).as_ref()))
+    } else {
+        Err(StateError::Damaged(case.place()))
+    };
     for choice in CHOICES {
         let mut left = left(rt, alloc, &plant, choice);
         let found = get_state(rt, alloc, &mut left, case.slot());
-        let expected = if calls == 2 {
-            Ok(held(rt, Level::Session, case.first(rt).as_ref()))
-        } else {
-            Err(StateError::Damaged(case.place()))
-        };
-        assert_eq!(rt; found, expected, "{calls}, {choice:?}");
+        assert_same(rt, &found, &expected, &(calls, choice));
         case.assert_elsewhere(rt, alloc, &mut left);
     }
 }

@@ -5,7 +5,7 @@ ghost use Rattle.std.specs.Prelude.{◌≤◌, ◌<◌};
 ghost use Rattle.crash_plant.specs.Calls.{NoneLent};
 ghost use Rattle.crash_plant.specs.MemoryPlant.{memory_state};
 
-use crate::fixtures::{failing, number_with};
+use crate::fixtures::{assert_same, assert_so, failing, number_with};
 use crate::worked::{
     Answer, BEFORE, GROUP, ITEM, LENGTH, ROW, SWITCH, TIME, empty, is_walked, joined, spot, write,
     write_items,
@@ -31,7 +31,7 @@ fn assert_walked<P: Plant>(
     ensures { NoneLent (P.state plant.new) }
 {
     let is_so = is_walked(rt, alloc, plant, at, last, expected, items);
-    assert!(rt; is_so, "from {at:?} behind {last:?}, not {expected:?}");
+    assert_so(rt, is_so, &(at, last, expected));
 }
 
 /// The same where these bytes stand at the spot.
@@ -47,7 +47,7 @@ fn assert_bytes_walked(
     let mut plant = empty(rt, alloc);
     write(rt, &mut plant, at, bytes);
     let is_so = is_walked(rt, alloc, &mut plant, at, last, expected, items);
-    assert!(rt; is_so, "{bytes:?} at {at:?}, not {expected:?}");
+    assert_so(rt, is_so, &(bytes, at, expected));
 }
 
 fn damaged(place: u64) -> Answer {
@@ -206,7 +206,9 @@ fn a_switch_goes_to_the_next_data_set(rt: HostRuntime) {
 }
 
 /// These are the items of a group in which these bytes stand behind them, which begin no item.
-fn items_end(rt: &impl Abort, alloc: Global, items: &[u8], bad: &[u8]) {
+fn items_end(rt: &impl Abort, alloc: Global, parts: &[&[u8]], bad: &[u8]) {
+    let joined = joined(rt, alloc, parts);
+    let items = joined.as_slice();
     let mut plant = empty(rt, alloc);
     write_items(rt, alloc, &mut plant, &[items, bad]);
     assert!(rt; items.len() < 120);
@@ -224,64 +226,69 @@ fn items_end(rt: &impl Abort, alloc: Global, items: &[u8], bad: &[u8]) {
         expected,
         items,
     );
-    assert!(rt; is_so, "{items:?}, then {bad:?}");
+    assert_so(rt, is_so, &(items, bad));
 }
 
-/// The worked item with another device, and with another track.
-fn item_of(device: u8, track: u8) -> [u8; 15] {
-    let mut bytes = ITEM;
-    bytes[2] = device;
-    bytes[6] = track;
-    bytes
-}
+/// The worked item with another device.
+const OTHER: [u8; 15] = [1, 0, 1, 0, 0, 0, 3, 0, 1, 1, 0, 0, 2, 0x5A, 0];
+
+/// The worked item with another track.
+const BEFORE_IT: [u8; 15] = [1, 0, 0, 0, 0, 0, 2, 0, 1, 1, 0, 0, 2, 0x5A, 0];
+
+/// The worked item with a device that isn't there, and with a track that isn't there.
+const NO_DEVICE: [u8; 15] = [1, 0, 2, 0, 0, 0, 3, 0, 1, 1, 0, 0, 2, 0x5A, 0];
+
+const NO_TRACK: [u8; 15] = [1, 0, 1, 0, 0, 0, 4, 0, 1, 1, 0, 0, 2, 0x5A, 0];
 
 const GONE: [u8; 3] = [4, 0x12, 0x34];
 
+/// A change of a track.
+const CHANGE: [u8; 12] = [2, 0, 0, 0, 0, 0, 3, 2, 1, 0, 1, 0x52];
+
+const TAKEN: [&[&[u8]]; 5] = [
+    &[],
+    &[&GONE],
+    &[&ITEM, &OTHER, &BEFORE_IT],
+    &[&ITEM, &ROW, &GONE],
+    &[&ITEM, &GONE, &ROW, &GONE, &ROW],
+];
+
 #[test]
 fn items_of_all_kinds_are_taken(rt: HostRuntime) {
-    let alloc = rt.alloc();
-    let images = joined(&rt, alloc, &[&ITEM, &item_of(1, 3), &item_of(0, 2)]);
-    let kinds = joined(&rt, alloc, &[&ITEM, &ROW, &GONE]);
-    let rows = joined(&rt, alloc, &[&ITEM, &GONE, &ROW, &GONE, &ROW]);
-    let bodies: [&[u8]; 5] = [
-        &[],
-        &GONE,
-        images.as_slice(),
-        kinds.as_slice(),
-        rows.as_slice(),
-    ];
-    for items in bodies {
-        items_end(&rt, alloc, items, &[]);
+    for items in &TAKEN {
+        items_end(&rt, rt.alloc(), items, &[]);
     }
 }
 
+/// A track's second image, and images behind a row.
+const BAD_IMAGES: [(&[&[u8]], &[u8]); 6] = [
+    (&[&ITEM], &ITEM),
+    (&[&ITEM, &OTHER], &ITEM),
+    (&[&OTHER, &ITEM], &OTHER),
+    (&[&ITEM, &GONE], &OTHER),
+    (&[&ROW], &OTHER),
+    (&[&ROW, &GONE], &OTHER),
+];
+
 #[test]
 fn an_image_that_breaks_a_rule_is_named(rt: HostRuntime) {
-    let alloc = rt.alloc();
-    let second = item_of(1, 3);
-    let images = joined(&rt, alloc, &[&ITEM, &second]);
-    let turned = joined(&rt, alloc, &[&second, &ITEM]);
-    let late = joined(&rt, alloc, &[&ITEM, &GONE]);
-    let rows = joined(&rt, alloc, &[&ROW, &GONE]);
-    // A track's second image, and images behind a row.
-    items_end(&rt, alloc, &ITEM, &ITEM);
-    items_end(&rt, alloc, &images, &ITEM);
-    items_end(&rt, alloc, &turned, &second);
-    items_end(&rt, alloc, &late, &second);
-    items_end(&rt, alloc, &ROW, &second);
-    items_end(&rt, alloc, &rows, &second);
+    for (items, bad) in &BAD_IMAGES {
+        items_end(&rt, rt.alloc(), items, bad);
+    }
 }
+
+const BAD_TRACKS: [(&[&[u8]], &[u8]); 4] = [
+    (&[], &CHANGE),
+    (&[&ITEM], &CHANGE),
+    (&[&ITEM], &NO_DEVICE),
+    (&[&ITEM], &NO_TRACK),
+];
 
 #[test]
 fn an_item_of_a_track_that_may_not_be_is_named(rt: HostRuntime) {
-    let alloc = rt.alloc();
-    // A change of a track.
-    let change = [2, 0, 0, 0, 0, 0, 3, 2, 1, 0, 1, 0x52];
-    items_end(&rt, alloc, &[], &change);
-    items_end(&rt, alloc, &ITEM, &change);
-    // A device or a track that isn't there.
-    items_end(&rt, alloc, &ITEM, &item_of(2, 3));
-    items_end(&rt, alloc, &ITEM, &item_of(1, 4));
+    for (items, bad) in &BAD_TRACKS {
+        items_end(&rt, rt.alloc(), items, bad);
+    }
 }
 
 #[test]
@@ -290,18 +297,16 @@ fn a_row_that_breaks_a_rule_is_named(rt: HostRuntime) {
     for (offset, value) in [(14, 16), (20, 0), (21, 4)] {
         let mut bad = ROW;
         bad[offset] = value;
-        items_end(&rt, rt.alloc(), &ROW, &bad);
+        items_end(&rt, rt.alloc(), &[&ROW], &bad);
     }
 }
 
 #[test]
 fn an_item_that_is_cut_is_named(rt: HostRuntime) {
     // Items that are cut, and no tag.
-    let alloc = rt.alloc();
-    let items = joined(&rt, alloc, &[&ITEM, &GONE]);
     let cases: [&[u8]; 4] = [&ROW[..30], &GONE[..2], &[0], &[5, 0, 0]];
     for bad in cases {
-        items_end(&rt, alloc, &items, bad);
+        items_end(&rt, rt.alloc(), &[&ITEM, &GONE], bad);
     }
 }
 
@@ -366,7 +371,8 @@ fn answer_of_long(rt: &impl Abort, alloc: Global, length: u32) -> Answer {
 #[test]
 fn a_body_has_a_longest_length(rt: HostRuntime) {
     for (length, expected) in [(MOST, damaged(22)), (MOST + 1, damaged(0))] {
-        assert_eq!(rt; answer_of_long(&rt, rt.alloc(), length), expected);
+        let found = answer_of_long(&rt, rt.alloc(), length);
+        assert_same(&rt, &found, &expected, &length);
     }
 }
 

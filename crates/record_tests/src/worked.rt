@@ -1,10 +1,11 @@
 //! The worked records of a journal, walks from a spot, and the bodies of groups.
 
-ghost use Rattle.std.specs.Prelude.{◌≡◌, ◌≤◌};
+ghost use Rattle.std.specs.Prelude.{◌≡◌, ◌≤◌, []};
 ghost use Rattle.crash_plant.specs.Calls.{NoneLent, SameSite};
 ghost use Rattle.crash_plant.specs.PlainPlant.{plain_state};
 
-use crate::fixtures::{plain, row};
+use crate::fixtures;
+use crate::fixtures::{assert_so, plain, row};
 use ckd_track::Slot;
 use crash_plant::{Device, PlainPlant, Plant, Spot};
 use pair_table::{PairRow, PairState, encode_row};
@@ -72,11 +73,8 @@ pub(crate) fn write<P: Plant>(rt: &impl Abort, plant: &mut P, at: Spot, bytes: &
     ensures home { NoneLent (P.state plant.new) }
     ensures site { SameSite (P.state plant.old) (P.state plant.new) }
 {
-    let device = Device::Journal(at.set);
     assert!(rt; at.set < plant.journals());
-    let length = plant.length(device);
-    assert!(rt; at.place <= length && bytes.len() as u64 <= length - at.place);
-    assert!(rt; plant.write(device, at.place, bytes).is_ok());
+    fixtures::write(rt, plant, Device::Journal(at.set), at.place, bytes);
 }
 
 /// Parts one behind the other.
@@ -117,8 +115,11 @@ pub(crate) fn is_walked<P: Plant>(
 {
     let mut body = Body::make(alloc, LENGTH as u32).expect(rt, "memory");
     body.put_gone(9);
-    assert!(rt; at.set < plant.journals());
-    assert!(rt; plant.length(Device::Journal(at.set)) == LENGTH && at.place < LENGTH);
+    assert!(rt;
+        at.set < plant.journals()
+            && plant.length(Device::Journal(at.set)) == LENGTH
+            && at.place < LENGTH
+    );
     walk(plant, at, last, &mut body) == expected && body.bytes() == items
 }
 
@@ -134,9 +135,16 @@ pub(crate) fn worked_slot(rt: &impl Abort, alloc: Global) -> Slot {
     slot
 }
 
+/// A body with no items yet.
+pub(crate) fn empty_body(rt: &impl Abort, alloc: Global) -> Body
+    ensures { result ≡ record { items = []; room = 200 } }
+{
+    Body::make(alloc, 200).expect(rt, "memory")
+}
+
 /// A body with an image.
 pub(crate) fn first_body(rt: &impl Abort, alloc: Global) -> Body {
-    let mut body = Body::make(alloc, 200).expect(rt, "memory");
+    let mut body = empty_body(rt, alloc);
     let slot = worked_slot(rt, alloc);
     assert!(rt; slot.bytes().len() <= 100);
     body.put_image(0, 3, &slot);
@@ -149,16 +157,17 @@ pub(crate) fn put_row(rt: &impl Abort, body: &mut Body)
     ensures { body.new.room ≡ body.old.room }
 {
     let row = worked_row(rt);
-    assert!(rt; row.control <= 15 && row.volume <= 31);
-    assert!(rt; row.cylinders >= 1 && row.cylinders <= 65_520);
-    assert!(rt; ROW.ends_with(&encode_row(&row)));
+    assert!(rt;
+        row.control <= 15 && row.volume <= 31 && row.cylinders >= 1 && row.cylinders <= 65_520
+    );
+    assert_so(rt, ROW.ends_with(&encode_row(&row)), &"the row");
     assert!(rt; body.bytes().len() <= 150);
     body.put_row(&row);
 }
 
 /// A body with an image, a row, and a row that goes.
 pub(crate) fn second_body(rt: &impl Abort, alloc: Global) -> Body {
-    let mut body = Body::make(alloc, 200).expect(rt, "memory");
+    let mut body = empty_body(rt, alloc);
     let slot = worked_slot(rt, alloc);
     assert!(rt; slot.bytes().len() <= 100);
     body.put_image(1, 2, &slot);
