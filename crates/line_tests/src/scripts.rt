@@ -1,12 +1,11 @@
 //! Lines of scripts, heard one after another.
 
-use crate::plants::{failing, plain};
+use crate::plants::{assert_same, failing, plain, session};
 use crash_plant::Plant;
 use pair_table::{Choice, Command};
 use script_lines::{LineEnd, LineText, asked_line, hear_line};
 use std::process::Abort;
-use std::test::Fail;
-use tod_stamp::{Session, Stamp};
+use tod_stamp::Stamp;
 use xrc_command::Line;
 use xrc_edge::Failed;
 
@@ -19,13 +18,13 @@ fn assert_heard<P: Plant>(
 ) {
     for line in lines {
         let end = hear_line(plant, text);
-        assert_eq!(rt; &(end, text.as_bytes(), text.line()), line);
+        assert_same(rt, &(end, text.as_bytes(), text.line()), line);
     }
 }
 
 #[test]
-fn lines_are_heard_one_after_another(rt: HostRuntime) -> Result<(), Fail> {
-    let mut plant = plain(rt.alloc(), b"AB\n\nC")?;
+fn lines_are_heard_one_after_another(rt: HostRuntime) {
+    let mut plant = plain(&rt, rt.alloc(), b"AB\n\nC");
     assert_heard(
         &rt,
         &mut plant,
@@ -38,15 +37,14 @@ fn lines_are_heard_one_after_another(rt: HostRuntime) -> Result<(), Fail> {
             (Ok(LineEnd::Nothing), b"", b""),
         ],
     );
-    Ok(())
 }
 
 #[test]
-fn a_line_has_256_bytes_at_most(rt: HostRuntime) -> Result<(), Fail> {
+fn a_line_has_256_bytes_at_most(rt: HostRuntime) {
     let mut text = LineText::make();
     let mut script = [b'X'; 514];
     script[256] = b'\n';
-    let mut plant = plain(rt.alloc(), &script)?;
+    let mut plant = plain(&rt, rt.alloc(), &script);
     assert_heard(
         &rt,
         &mut plant,
@@ -57,20 +55,19 @@ fn a_line_has_256_bytes_at_most(rt: HostRuntime) -> Result<(), Fail> {
             (Ok(LineEnd::Nothing), b"", b""),
         ],
     );
-    plant = plain(rt.alloc(), &script[257..513])?;
+    plant = plain(&rt, rt.alloc(), &script[257..513]);
     assert_heard(
         &rt,
         &mut plant,
         &mut text,
         &[(Ok(LineEnd::Whole), &[b'X'; 256], &[b'X'; 256])],
     );
-    Ok(())
 }
 
 #[test]
-fn a_call_fails_within_a_line(rt: HostRuntime) -> Result<(), Fail> {
+fn a_call_fails_within_a_line(rt: HostRuntime) {
     let mut text = LineText::make();
-    let mut plant = failing(rt.alloc(), b"ABC\nD\n", 2)?;
+    let mut plant = failing(&rt, rt.alloc(), b"ABC\nD\n", 2);
     assert_heard(
         &rt,
         &mut plant,
@@ -81,7 +78,7 @@ fn a_call_fails_within_a_line(rt: HostRuntime) -> Result<(), Fail> {
             (Ok(LineEnd::Whole), b"D\n", b"D"),
         ],
     );
-    plant = failing(rt.alloc(), b"AB", 2)?;
+    plant = failing(&rt, rt.alloc(), b"AB", 2);
     assert_heard(
         &rt,
         &mut plant,
@@ -91,24 +88,24 @@ fn a_call_fails_within_a_line(rt: HostRuntime) -> Result<(), Fail> {
             (Ok(LineEnd::Nothing), b"", b""),
         ],
     );
-    Ok(())
 }
 
 #[test]
-fn what_stands_before_the_line_feed_is_read(rt: HostRuntime) -> Result<(), Fail> {
+fn what_stands_before_the_line_feed_is_read(rt: HostRuntime) {
     let mut text = LineText::make();
     let mut plant = plain(
+        &rt,
         rt.alloc(),
         b"0000000000000050 XSUSPEND ABC VOLUME(ALL)\nXEND ABC",
-    )?;
+    );
     let line = Line {
         time: Stamp(0x50),
-        session: Session::read(b"ABC")?,
+        session: session(&rt, b"ABC"),
         command: Command::Suspend(Choice::All),
     };
     for asked in [Some(line), None] {
         let end = hear_line(&mut plant, &mut text);
-        assert_eq!(rt; (end, asked_line(&text)), (Ok(LineEnd::Whole), asked));
+        let found = (end, asked_line(&text));
+        assert_same(&rt, &found, &(Ok(LineEnd::Whole), asked));
     }
-    Ok(())
 }

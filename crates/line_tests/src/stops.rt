@@ -1,30 +1,23 @@
 //! The last line of each stop.
 
-use crate::plants::{failing, plain};
+use crate::plants::{assert_same, failing, plain, session};
 use crash_plant::Device;
 use std::alloc::Global;
 use std::process::Abort;
-use std::test::Fail;
-use tod_stamp::Session;
-use xrc_edge::{Failed, NoMemory};
+use xrc_edge::Failed;
 use xrc_status::{Stop, say_stop, say_three};
 
 /// Each stop ends with its status and says its line.
-fn assert_lines(
-    rt: &impl Abort,
-    alloc: Global,
-    stops: &[(Stop, u8, &[u8])],
-) -> Result<(), NoMemory> {
+fn assert_lines(rt: &impl Abort, alloc: Global, stops: &[(Stop, u8, &[u8])]) {
     for (stop, status, line) in stops {
-        let mut plant = plain(alloc, b"")?;
+        let mut plant = plain(rt, alloc, b"");
         let ended = say_stop(&mut plant, *stop);
-        assert_eq!(rt; (ended, plant.said()), (*status, *line));
+        assert_same(rt, &(ended, plant.said()), &(*status, *line));
     }
-    Ok(())
 }
 
 #[test]
-fn statuses_alone(rt: HostRuntime) -> Result<(), Fail> {
+fn statuses_alone(rt: HostRuntime) {
     assert_lines(
         &rt,
         rt.alloc(),
@@ -42,13 +35,12 @@ fn statuses_alone(rt: HostRuntime) -> Result<(), Fail> {
             (Stop::EarlyVolume, 19, b"STATUS 19\n"),
             (Stop::Spent, 24, b"STATUS 24\n"),
         ],
-    )?;
-    Ok(())
+    );
 }
 
 #[test]
-fn statuses_with_their_places(rt: HostRuntime) -> Result<(), Fail> {
-    let abc = Session::read(b"ABC")?;
+fn statuses_with_their_places(rt: HostRuntime) {
+    let abc = session(&rt, b"ABC");
     let journal = Device::Journal(1);
     let volume = Device::Volume(63);
     assert_lines(
@@ -72,30 +64,26 @@ fn statuses_with_their_places(rt: HostRuntime) -> Result<(), Fail> {
                 b"STATUS 14 VOLUME 63 860672\n",
             ),
         ],
-    )?;
-    Ok(())
+    );
 }
 
 #[test]
-fn a_failed_console_says_no_line(rt: HostRuntime) -> Result<(), Fail> {
-    assert_lines(&rt, rt.alloc(), &[(Stop::ConsoleFault, 3, b"")])?;
-    Ok(())
+fn a_failed_console_says_no_line(rt: HostRuntime) {
+    assert_lines(&rt, rt.alloc(), &[(Stop::ConsoleFault, 3, b"")]);
 }
 
 #[test]
-fn the_status_stands_where_the_line_fails(rt: HostRuntime) -> Result<(), Fail> {
-    let mut plant = failing(rt.alloc(), b"", 0)?;
+fn the_status_stands_where_the_line_fails(rt: HostRuntime) {
+    let mut plant = failing(&rt, rt.alloc(), b"", 0);
     let ended = say_stop(&mut plant, Stop::NoSession);
-    assert_eq!(rt; (ended, plant.said()), (10, b"STATU".as_slice()));
-    Ok(())
+    assert_same(&rt, &(ended, plant.said()), &(10, b"STATU".as_slice()));
 }
 
 #[test]
-fn texts_are_said_up_to_the_first_that_fails(rt: HostRuntime) -> Result<(), Fail> {
-    let mut plant = failing(rt.alloc(), b"", 0)?;
+fn texts_are_said_up_to_the_first_that_fails(rt: HostRuntime) {
+    let mut plant = failing(&rt, rt.alloc(), b"", 0);
     for (said, text) in [(Err(Failed), b"ab".as_slice()), (Ok(()), b"ababcdefg")] {
         let three = say_three(&mut plant, b"abcd", b"ef", b"g");
-        assert_eq!(rt; (three, plant.said()), (said, text));
+        assert_same(&rt, &(three, plant.said()), &(said, text));
     }
-    Ok(())
 }
