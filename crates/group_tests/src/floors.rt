@@ -1,18 +1,17 @@
 //! Floors after worked histories: the cut that a form takes at a limit, and the last cut.
 
-ghost use Rattle.std.specs.Prelude.{◌≡◌, ◌≤◌, ◌∷◌, [], map, IfOk, IsTrue};
+ghost use Rattle.std.specs.Prelude.{◌≡◌, ◌≤◌, ◌∷◌, [], map, IsTrue};
 ghost use Rattle.cut_core.specs.Events.Event.{Raise, Break, Form};
 ghost use Rattle.cut_core.specs.Legal.{are_legal};
 ghost use Rattle.cut_core.specs.Seen.{seen};
 ghost use Rattle.cut_core.specs.Standing.{StandsAfter};
 ghost use Rattle.cut_core.specs.Vectors.{join, whole_on};
 
-use crate::fixtures::one_write;
+use crate::fixtures::{assert_same, one_write};
 use cut_core::{Event, Floors, movers_events_keep_floors};
 use std::alloc::Global;
-use std::test::Fail;
+use std::process::Abort;
 use tod_stamp::Stamp;
-use xrc_edge::NoMemory;
 
 /// The floors after these events.
 fn after(controls: u16, events: &[Event]) -> Floors
@@ -80,11 +79,9 @@ fn a_break_below_the_limit_counts_until_its_cut(rt: HostRuntime) {
         Stamp(0x40),
         Stamp(0x30),
     ];
-    assert_eq!(rt; cuts, expected);
-    assert_eq!(rt;
-        [told.last(), before.last(), done.last()],
-        [Stamp(0), Stamp(0x15), Stamp(0x16)]
-    );
+    assert_same(&rt, "cuts", cuts, expected);
+    let last = [told.last(), before.last(), done.last()];
+    assert_same(&rt, "last", last, [Stamp(0), Stamp(0x15), Stamp(0x16)]);
 }
 
 /// A break at the limit is reported by the form at the limit; the next limit is the other control's alone.
@@ -101,7 +98,8 @@ fn a_break_at_the_limit_is_reported_there(rt: HostRuntime) {
         done.least(Stamp(0x50)),
         done.least(Stamp(0x70)),
     ];
-    assert_eq!(rt; cuts, [Stamp(0x40), Stamp(0x40), Stamp(0x50), Stamp(0x60)]);
+    let expected = [Stamp(0x40), Stamp(0x40), Stamp(0x50), Stamp(0x60)];
+    assert_same(&rt, "cuts", cuts, expected);
 }
 
 /// A cut at a break's time before the break doesn't report it.
@@ -121,10 +119,8 @@ fn a_cut_before_the_break_does_not_report_it(rt: HostRuntime) {
             form(0x15),
         ],
     );
-    assert_eq!(rt;
-        [broke.least(Stamp(0x50)), done.least(Stamp(0x50))],
-        [Stamp(0x15), Stamp(0x40)]
-    );
+    let cuts = [broke.least(Stamp(0x50)), done.least(Stamp(0x50))];
+    assert_same(&rt, "cuts", cuts, [Stamp(0x15), Stamp(0x40)]);
 }
 
 /// Where every control has broken, each counts until its break was a cut; then the cut is the limit.
@@ -142,7 +138,8 @@ fn the_cut_is_the_limit_once_all_have_broken(rt: HostRuntime) {
         none.least(Stamp(0x99)),
         none.last(),
     ];
-    assert_eq!(rt; cuts, [Stamp(0x16), Stamp(0x40), Stamp(0x99), Stamp(0x40)]);
+    let expected = [Stamp(0x16), Stamp(0x40), Stamp(0x99), Stamp(0x40)];
+    assert_same(&rt, "cuts", cuts, expected);
 }
 
 /// The last of sixteen controls counts as the first does.
@@ -168,39 +165,34 @@ fn sixteen_controls_count(rt: HostRuntime) {
     ];
     let all = after(16, &events);
     let others = after(16, &events[..15]);
-    assert_eq!(rt;
-        [all.least(Stamp(50)), others.least(Stamp(50))],
-        [Stamp(7), Stamp(0)]
-    );
+    let cuts = [all.least(Stamp(50)), others.least(Stamp(50))];
+    assert_same(&rt, "cuts", cuts, [Stamp(7), Stamp(0)]);
 }
 
 /// A batch of one write on volume 0 joins.
-fn joined(alloc: Global, control: u16, stamp: u64, upto: u64) -> Result<Event, NoMemory>
-    ensures { IfOk result (λ event. seen event ≡ join control (whole_on 3 stamp ∷ []) upto) }
+fn joined(rt: &impl Abort, alloc: Global, control: u16, stamp: u64, upto: u64) -> Event
+    ensures { seen result ≡ join control (whole_on 3 stamp ∷ []) upto }
 {
-    let batch = one_write(alloc, control, 3, stamp, upto)?;
-    Ok(Event::Join { batch })
+    let batch = one_write(rt, alloc, control, 3, stamp, upto);
+    Event::Join { batch }
 }
 
 /// Batches raise the floor, and a drop leaves it.
 #[test]
-fn batches_raise_the_floor(rt: HostRuntime) -> Result<(), Fail> {
+fn batches_raise_the_floor(rt: HostRuntime) {
     let alloc = rt.alloc();
     let drop = Event::Drop {
         control: 0,
         volume: 0,
     };
     let events = [
-        joined(alloc, 0, 0x10, 0x1F)?,
-        joined(alloc, 0, 0x20, 0x20)?,
+        joined(&rt, alloc, 0, 0x10, 0x1F),
+        joined(&rt, alloc, 0, 0x20, 0x20),
         drop,
     ];
     let floors = after(1, &events);
-    assert_eq!(rt;
-        [floors.least(Stamp(0x50)), floors.last()],
-        [Stamp(0x20), Stamp(0)]
-    );
-    Ok(())
+    let cuts = [floors.least(Stamp(0x50)), floors.last()];
+    assert_same(&rt, "cuts", cuts, [Stamp(0x20), Stamp(0)]);
 }
 
 /// A track that a carry made wanted is copied at the floor, which stays.
@@ -214,5 +206,5 @@ fn a_copied_track_leaves_the_floor(rt: HostRuntime) {
         track: 5,
         stamp: Stamp(0x1F),
     });
-    assert_eq!(rt; floors.least(Stamp(0x50)), Stamp(0x1F));
+    assert_same(&rt, "cut", floors.least(Stamp(0x50)), Stamp(0x1F));
 }

@@ -1,17 +1,16 @@
 //! Queues and groups at their limits, and each call with ample memory.
 
-ghost use Rattle.std.specs.Prelude.{◌≡◌, ◌≤◌, IfOk, IsTrue};
+ghost use Rattle.std.specs.Prelude.{◌≡◌, ◌≤◌, IsTrue};
 ghost use Rattle.ckd_track.specs.Effects.{keeps_rules};
 ghost use Rattle.pending_queue.specs.Entries.{last_stamp};
 
-use crate::fixtures::{filled, slot_of_one};
+use crate::fixtures::{assert_same, batch_of, filled, slot_of_one};
 use ckd_track::{Batch, Cause, Kind, Rec, RecList, Track, Write, WriteList};
 use pending_queue::{Formed, PushError, Queue, Room};
 use std::alloc::Global;
 use std::process::Abort;
-use std::test::Fail;
 use tod_stamp::Stamp;
-use xrc_edge::{Bytes, NoMemory};
+use xrc_edge::Bytes;
 
 /// No room.
 const NONE: Room = Room {
@@ -20,7 +19,13 @@ const NONE: Room = Room {
 };
 
 /// Pushes a batch of one write.
-fn push_write(alloc: Global, queue: &mut Queue, control: u16, write: Write) -> Result<(), PushError>
+fn push_write(
+    rt: &impl Abort,
+    alloc: Global,
+    queue: &mut Queue,
+    control: u16,
+    write: Write,
+) -> Result<(), PushError>
     requires control { queue.old.control ≡ control }
     requires rules { IsTrue (keeps_rules write.kind) }
     requires last { last_stamp queue.old.waiting ≤ write.stamp.0 }
@@ -28,20 +33,15 @@ fn push_write(alloc: Global, queue: &mut Queue, control: u16, write: Write) -> R
     ensures control { queue.new.control ≡ control }
     ensures records { queue.new.records ≡ queue.old.records }
 {
-    let upto = write.stamp;
-    let mut writes = WriteList::make(alloc);
-    writes.push(alloc, write)?;
-    let batch = Batch {
-        control,
-        writes,
-        upto,
-    };
+    let upto = write.stamp.0;
+    let batch = batch_of(rt, alloc, control, write, upto);
     queue.push_all(alloc, &batch)?;
     Ok(())
 }
 
 /// Pushes an update of so many bytes.
 fn push(
+    rt: &impl Abort,
     alloc: Global,
     queue: &mut Queue,
     control: u16,
@@ -62,20 +62,14 @@ fn push(
         stamp: Stamp(stamp),
         kind: Kind::Update {
             number: 1,
-            bytes: filled(alloc, count)?,
+            bytes: filled(rt, alloc, count),
         },
     };
-    push_write(alloc, queue, control, write)
+    push_write(rt, alloc, queue, control, write)
 }
 
 /// Pops a queue of at most 32 records into a group of two controls that has at most 32 entries.
-fn pop(
-    rt: &impl Abort,
-    alloc: Global,
-    queue: &mut Queue,
-    cut: u64,
-    out: &mut Formed,
-) -> Result<(), NoMemory>
+fn pop(rt: &impl Abort, alloc: Global, queue: &mut Queue, cut: u64, out: &mut Formed)
     requires controls { out.old.controls ≡ 2 }
     requires records { queue.old.records ≤ 32 }
     ensures controls { out.new.controls ≡ 2 }
@@ -84,14 +78,15 @@ fn pop(
     let free = queue.free();
     assert!(rt; free.records <= 32);
     assert!(rt; out.count() <= 32);
-    queue.pop_upto(alloc, Stamp(cut), out)
+    queue.pop_upto(alloc, Stamp(cut), out).expect(rt, "memory");
 }
 
 /// Control, stamp, track and length of the entry at a place.
 fn shown(rt: &impl Abort, out: &Formed, place: u32) -> (u16, u64, u32, usize) {
     assert!(rt; place < out.count());
     let head = out.head(place);
-    assert_eq!(rt; (head.volume, head.whole), (5, false));
+    assert_same(rt, "volume", head.volume, 5);
+    assert!(rt; !head.whole);
     (
         head.control,
         head.stamp.0,
@@ -101,9 +96,9 @@ fn shown(rt: &impl Abort, out: &Formed, place: u32) -> (u16, u64, u32, usize) {
 }
 
 #[test]
-fn an_entry_of_513_bytes_needs_two_blocks(rt: HostRuntime) -> Result<(), Fail> {
+fn an_entry_of_513_bytes_needs_two_blocks(rt: HostRuntime) {
     let alloc = rt.alloc();
-    let mut queue = Queue::make(alloc, 3, 2, 1)?;
+    let mut queue = Queue::make(alloc, 3, 2, 1).expect(&rt, "memory");
     let room = Room {
         records: 2,
         blocks: 1,
@@ -112,118 +107,117 @@ fn an_entry_of_513_bytes_needs_two_blocks(rt: HostRuntime) -> Result<(), Fail> {
         records: 1,
         blocks: 0,
     };
-    let refused = push(alloc, &mut queue, 3, 9, 0, 495);
+    let refused = push(&rt, alloc, &mut queue, 3, 9, 0, 495);
     let free = queue.free();
-    let pushed = push(alloc, &mut queue, 3, 9, 0, 494);
-    assert_eq!(rt;
-        (refused, free, pushed, queue.free()),
-        (Err(PushError::Full(room)), room, Ok(()), rest)
-    );
-    let mut queue = Queue::make(alloc, 3, 2, 2)?;
-    let pushed = push(alloc, &mut queue, 3, 9, 0, 495);
-    assert_eq!(rt; (pushed, queue.free()), (Ok(()), rest));
-    Ok(())
+    let pushed = push(&rt, alloc, &mut queue, 3, 9, 0, 494);
+    assert_same(&rt, "refused", refused, Err(PushError::Full(room)));
+    assert_same(&rt, "pushed", pushed, Ok(()));
+    assert_same(&rt, "free", [free, queue.free()], [room, rest]);
+    let mut queue = Queue::make(alloc, 3, 2, 2).expect(&rt, "memory");
+    let pushed = push(&rt, alloc, &mut queue, 3, 9, 0, 495);
+    assert_same(&rt, "pushed to two blocks", pushed, Ok(()));
+    assert_same(&rt, "free of two blocks", queue.free(), rest);
 }
 
 /// A write of a whole track with one record that fills it.
-fn longest(rt: &impl Abort, alloc: Global) -> Result<Write, NoMemory>
-    ensures { IfOk result (λ write. IsTrue (keeps_rules write.kind)) }
+fn longest(rt: &impl Abort, alloc: Global) -> Write
+    ensures { IsTrue (keeps_rules result.kind) }
 {
     let mut track = Track::make(alloc);
     let rec = Rec {
         number: 1,
         key: Bytes::make(alloc),
-        content: filled(alloc, 56_656)?,
+        content: filled(rt, alloc, 56_656),
     };
     assert!(rt; track.fits(&rec));
-    track.push(alloc, rec)?;
-    Ok(Write {
+    track.push(alloc, rec).expect(rt, "memory");
+    Write {
         volume: 5,
         track: 0,
         stamp: Stamp(9),
         kind: Kind::Whole { track },
-    })
+    }
 }
 
 #[test]
-fn the_longest_entry_needs_111_blocks(rt: HostRuntime) -> Result<(), Fail> {
+fn the_longest_entry_needs_111_blocks(rt: HostRuntime) {
     let alloc = rt.alloc();
-    let mut queue = Queue::make(alloc, 0, 1, 110)?;
+    let mut queue = Queue::make(alloc, 0, 1, 110).expect(&rt, "memory");
     let room = queue.free();
-    let write = longest(&rt, alloc)?;
-    assert_eq!(rt;
-        push_write(alloc, &mut queue, 0, write),
-        Err(PushError::Full(room))
-    );
-    let mut queue = Queue::make(alloc, 0, 1, 111)?;
-    let write = longest(&rt, alloc)?;
-    let pushed = push_write(alloc, &mut queue, 0, write);
-    assert_eq!(rt; (pushed, queue.free()), (Ok(()), NONE));
-    let mut out = Formed::make(alloc, 2)?;
-    pop(&rt, alloc, &mut queue, 9, &mut out)?;
+    let write = longest(&rt, alloc);
+    let refused = push_write(&rt, alloc, &mut queue, 0, write);
+    assert_same(&rt, "refused", refused, Err(PushError::Full(room)));
+    let mut queue = Queue::make(alloc, 0, 1, 111).expect(&rt, "memory");
+    let write = longest(&rt, alloc);
+    let pushed = push_write(&rt, alloc, &mut queue, 0, write);
+    assert_same(&rt, "pushed", pushed, Ok(()));
+    assert_same(&rt, "free", queue.free(), NONE);
+    let mut out = Formed::make(alloc, 2).expect(&rt, "memory");
+    pop(&rt, alloc, &mut queue, 9, &mut out);
     assert!(rt; out.count() == 1);
-    assert_eq!(rt; (out.head(0).whole, out.entry(0).len()), (true, 56_677));
-    Ok(())
+    assert!(rt; out.head(0).whole);
+    assert_same(&rt, "length", out.entry(0).len(), 56_677);
 }
 
 #[test]
-fn thirty_two_updates_fill_a_queue(rt: HostRuntime) -> Result<(), Fail> {
+fn thirty_two_updates_fill_a_queue(rt: HostRuntime) {
     let alloc = rt.alloc();
-    let mut queue = Queue::make(alloc, 0, 32, 3_552)?;
+    let mut queue = Queue::make(alloc, 0, 32, 3_552).expect(&rt, "memory");
     for track in 0..32 {
-        assert_eq!(rt; push(alloc, &mut queue, 0, 9, track, 56_656), Ok(()));
+        let pushed = push(&rt, alloc, &mut queue, 0, 9, track, 56_656);
+        assert_same(&rt, "pushed", pushed, Ok(()));
     }
     let free = queue.free();
-    let refused = push(alloc, &mut queue, 0, 9, 32, 0);
-    assert_eq!(rt; (free, refused), (NONE, Err(PushError::Full(NONE))));
-    let mut out = Formed::make(alloc, 2)?;
-    pop(&rt, alloc, &mut queue, 9, &mut out)?;
+    let refused = push(&rt, alloc, &mut queue, 0, 9, 32, 0);
+    assert_same(&rt, "free", free, NONE);
+    assert_same(&rt, "refused", refused, Err(PushError::Full(NONE)));
+    let mut out = Formed::make(alloc, 2).expect(&rt, "memory");
+    pop(&rt, alloc, &mut queue, 9, &mut out);
     let all = Room {
         records: 32,
         blocks: 3_552,
     };
-    assert_eq!(rt;
-        (queue.free(), out.count(), shown(&rt, &out, 31)),
-        (all, 32, (0, 9, 31, 56_674))
-    );
-    Ok(())
+    assert_same(&rt, "free again", queue.free(), all);
+    assert_same(&rt, "count", out.count(), 32);
+    assert_same(&rt, "last", shown(&rt, &out, 31), (0, 9, 31, 56_674));
 }
 
 /// The queue of control 0, with updates at 15 and 20.
-fn first_queue(alloc: Global) -> Result<Queue, PushError>
-    ensures { IfOk result (λ queue. queue.records ≡ 32) }
+fn first_queue(rt: &impl Abort, alloc: Global) -> Queue
+    ensures { result.records ≡ 32 }
 {
-    let mut queue = Queue::make(alloc, 0, 32, 3_552)?;
-    push(alloc, &mut queue, 0, 15, 5, 4)?;
-    push(alloc, &mut queue, 0, 20, 6, 5)?;
-    Ok(queue)
+    let mut queue = Queue::make(alloc, 0, 32, 3_552).expect(rt, "memory");
+    push(rt, alloc, &mut queue, 0, 15, 5, 4).expect(rt, "room");
+    push(rt, alloc, &mut queue, 0, 20, 6, 5).expect(rt, "room");
+    queue
 }
 
 /// The queue of control 1, with updates at 10, 20, 20 and 30.
-fn second_queue(alloc: Global) -> Result<Queue, PushError>
-    ensures { IfOk result (λ queue. queue.records ≡ 32) }
+fn second_queue(rt: &impl Abort, alloc: Global) -> Queue
+    ensures { result.records ≡ 32 }
 {
-    let mut queue = Queue::make(alloc, 1, 32, 3_552)?;
-    push(alloc, &mut queue, 1, 10, 1, 0)?;
-    push(alloc, &mut queue, 1, 20, 2, 1)?;
-    push(alloc, &mut queue, 1, 20, 3, 2)?;
-    push(alloc, &mut queue, 1, 30, 4, 3)?;
-    Ok(queue)
+    let mut queue = Queue::make(alloc, 1, 32, 3_552).expect(rt, "memory");
+    push(rt, alloc, &mut queue, 1, 10, 1, 0).expect(rt, "room");
+    push(rt, alloc, &mut queue, 1, 20, 2, 1).expect(rt, "room");
+    push(rt, alloc, &mut queue, 1, 20, 3, 2).expect(rt, "room");
+    push(rt, alloc, &mut queue, 1, 30, 4, 3).expect(rt, "room");
+    queue
 }
 
 #[test]
-fn two_queues_are_popped_into_one_group(rt: HostRuntime) -> Result<(), Fail> {
+fn two_queues_are_popped_into_one_group(rt: HostRuntime) {
     let alloc = rt.alloc();
-    let mut second = second_queue(alloc)?;
-    let mut first = first_queue(alloc)?;
-    let mut out = Formed::make(alloc, 2)?;
+    let mut second = second_queue(&rt, alloc);
+    let mut first = first_queue(&rt, alloc);
+    let mut out = Formed::make(alloc, 2).expect(&rt, "memory");
     out.begin(Stamp(9));
-    pop(&rt, alloc, &mut second, 9, &mut out)?;
+    pop(&rt, alloc, &mut second, 9, &mut out);
     let early = out.count();
     out.begin(Stamp(20));
-    pop(&rt, alloc, &mut second, 20, &mut out)?;
-    pop(&rt, alloc, &mut first, 20, &mut out)?;
-    assert_eq!(rt; (early, out.cut(), out.count()), (0, Stamp(20), 5));
+    pop(&rt, alloc, &mut second, 20, &mut out);
+    pop(&rt, alloc, &mut first, 20, &mut out);
+    assert_same(&rt, "counts", [early, out.count()], [0, 5]);
+    assert_same(&rt, "cut", out.cut(), Stamp(20));
     let left = Room {
         records: 31,
         blocks: 3_551,
@@ -232,7 +226,7 @@ fn two_queues_are_popped_into_one_group(rt: HostRuntime) -> Result<(), Fail> {
         records: 32,
         blocks: 3_552,
     };
-    assert_eq!(rt; [second.free(), first.free()], [left, all]);
+    assert_same(&rt, "free", [second.free(), first.free()], [left, all]);
     let entries = [
         (1, 10, 1, 18),
         (0, 15, 5, 22),
@@ -241,36 +235,33 @@ fn two_queues_are_popped_into_one_group(rt: HostRuntime) -> Result<(), Fail> {
         (1, 20, 3, 20),
     ];
     for place in 0..5 {
-        assert_eq!(rt; Some(&shown(&rt, &out, place)), entries.get(place as usize));
+        let entry = shown(&rt, &out, place);
+        assert_same(&rt, "entry", entry, entries[place as usize]);
     }
     out.begin(Stamp(99));
-    pop(&rt, alloc, &mut second, 99, &mut out)?;
-    assert_eq!(rt; (out.count(), shown(&rt, &out, 0)), (1, (1, 30, 4, 21)));
-    Ok(())
+    pop(&rt, alloc, &mut second, 99, &mut out);
+    assert_same(&rt, "count at the end", out.count(), 1);
+    assert_same(&rt, "entry at the end", shown(&rt, &out, 0), (1, 30, 4, 21));
 }
 
 #[test]
-fn breaks_and_done_plans_are_shown(rt: HostRuntime) -> Result<(), Fail> {
+fn breaks_and_done_plans_are_shown(rt: HostRuntime) {
     let alloc = rt.alloc();
-    let mut out = Formed::make(alloc, 2)?;
-    let before = (out.break_at(0), out.done_at(0));
-    out.add_break(alloc, 1, Stamp(99), Cause::BadTrace(63))?;
-    out.add_done(alloc, 0, 7)?;
-    out.add_done(alloc, 1, 2)?;
-    assert_eq!(rt;
-        [out.break_at(0), out.break_at(1)],
-        [Some((1, Stamp(99), Cause::BadTrace(63))), None]
-    );
-    assert_eq!(rt;
-        [out.done_at(0), out.done_at(1), out.done_at(2)],
-        [Some((0, 7)), Some((1, 2)), None]
-    );
+    let mut out = Formed::make(alloc, 2).expect(&rt, "memory");
+    assert_same(&rt, "break before", out.break_at(0), None);
+    assert_same(&rt, "done before", out.done_at(0), None);
+    out.add_break(alloc, 1, Stamp(99), Cause::BadTrace(63))
+        .expect(&rt, "memory");
+    out.add_done(alloc, 0, 7).expect(&rt, "memory");
+    out.add_done(alloc, 1, 2).expect(&rt, "memory");
+    let told = Some((1, Stamp(99), Cause::BadTrace(63)));
+    let breaks = [out.break_at(0), out.break_at(1)];
+    assert_same(&rt, "breaks", breaks, [told, None]);
+    let done = [out.done_at(0), out.done_at(1), out.done_at(2)];
+    assert_same(&rt, "done", done, [Some((0, 7)), Some((1, 2)), None]);
     out.begin(Stamp(100));
-    assert_eq!(rt;
-        [before, (out.break_at(0), out.done_at(0))],
-        [(None, None); 2]
-    );
-    Ok(())
+    assert_same(&rt, "break of the next", out.break_at(0), None);
+    assert_same(&rt, "done of the next", out.done_at(0), None);
 }
 
 /// A write of this kind to a track, with the stamp 9.
@@ -288,23 +279,23 @@ fn at_nine(rt: &impl Abort, track: u32, kind: Kind) -> Write
 }
 
 /// A format of two records behind record 1.
-fn format_of_two(alloc: Global) -> Result<Kind, NoMemory> {
+fn format_of_two(rt: &impl Abort, alloc: Global) -> Kind {
     let mut recs = RecList::make(alloc);
     for number in 2..4 {
         let rec = Rec {
             number,
-            key: filled(alloc, 3)?,
-            content: filled(alloc, 500)?,
+            key: filled(rt, alloc, 3),
+            content: filled(rt, alloc, 500),
         };
-        recs.push(alloc, rec)?;
+        recs.push(alloc, rec).expect(rt, "memory");
     }
-    Ok(Kind::Format { after: 1, recs })
+    Kind::Format { after: 1, recs }
 }
 
 #[test]
-fn batches_of_none_and_of_several_are_pushed(rt: HostRuntime) -> Result<(), Fail> {
+fn batches_of_none_and_of_several_are_pushed(rt: HostRuntime) {
     let alloc = rt.alloc();
-    let mut queue = Queue::make(alloc, 3, 7, 100)?;
+    let mut queue = Queue::make(alloc, 3, 7, 100).expect(&rt, "memory");
     let none = Batch {
         control: 3,
         writes: WriteList::make(alloc),
@@ -312,11 +303,17 @@ fn batches_of_none_and_of_several_are_pushed(rt: HostRuntime) -> Result<(), Fail
     };
     let nothing = queue.push_all(alloc, &none);
     let mut writes = WriteList::make(alloc);
-    let bytes = filled(alloc, 80)?;
-    writes.push(alloc, at_nine(&rt, 1, Kind::Update { number: 1, bytes }))?;
-    writes.push(alloc, at_nine(&rt, 2, format_of_two(alloc)?))?;
+    let bytes = filled(&rt, alloc, 80);
+    writes
+        .push(alloc, at_nine(&rt, 1, Kind::Update { number: 1, bytes }))
+        .expect(&rt, "memory");
+    writes
+        .push(alloc, at_nine(&rt, 2, format_of_two(&rt, alloc)))
+        .expect(&rt, "memory");
     let track = Track::make(alloc);
-    writes.push(alloc, at_nine(&rt, 3, Kind::Whole { track }))?;
+    writes
+        .push(alloc, at_nine(&rt, 3, Kind::Whole { track }))
+        .expect(&rt, "memory");
     let batch = Batch {
         control: 3,
         writes,
@@ -327,62 +324,57 @@ fn batches_of_none_and_of_several_are_pushed(rt: HostRuntime) -> Result<(), Fail
         records: 4,
         blocks: 100 - 1 - 3 - 1,
     };
-    assert_eq!(rt; ([nothing, several], queue.free()), ([Ok(()); 2], rest));
-    Ok(())
+    assert_same(&rt, "pushed", [nothing, several], [Ok(()); 2]);
+    assert_same(&rt, "free", queue.free(), rest);
 }
 
 #[test]
-fn a_group_of_sixteen_controls_shows_all_its_breaks(rt: HostRuntime) -> Result<(), Fail> {
+fn a_group_of_sixteen_controls_shows_all_its_breaks(rt: HostRuntime) {
     let alloc = rt.alloc();
-    let mut out = Formed::make(alloc, 16)?;
+    let mut out = Formed::make(alloc, 16).expect(&rt, "memory");
     for control in 0..16u16 {
-        out.add_break(alloc, control, Stamp(7), Cause::ReadFault)?;
-        out.add_done(alloc, control, 31)?;
+        out.add_break(alloc, control, Stamp(7), Cause::ReadFault)
+            .expect(&rt, "memory");
+        out.add_done(alloc, control, 31).expect(&rt, "memory");
     }
     for control in 0..16u16 {
         let told = (control, Stamp(7), Cause::ReadFault);
-        assert_eq!(rt;
-            (out.break_at(control), out.done_at(control)),
-            (Some(told), Some((control, 31)))
-        );
+        assert_same(&rt, "break", out.break_at(control), Some(told));
+        assert_same(&rt, "done", out.done_at(control), Some((control, 31)));
     }
-    assert_eq!(rt; (out.break_at(16), out.done_at(16)), (None, None));
-    Ok(())
+    assert_same(&rt, "break at 16", out.break_at(16), None);
+    assert_same(&rt, "done at 16", out.done_at(16), None);
 }
 
 #[test]
-fn a_copied_track_waits_as_a_whole_write(rt: HostRuntime) -> Result<(), Fail> {
+fn a_copied_track_waits_as_a_whole_write(rt: HostRuntime) {
     let alloc = rt.alloc();
-    let mut queue = Queue::make(alloc, 3, 1, 1)?;
+    let mut queue = Queue::make(alloc, 3, 1, 1).expect(&rt, "memory");
     // 15 bytes before the image, 2 of its count, and 4 before the record's content
-    let slot = slot_of_one(&rt, alloc, 492)?;
+    let slot = slot_of_one(&rt, alloc, 492);
     let room = queue.free();
     let long = queue.push_track(alloc, 5, 7, Stamp(9), &slot);
-    let slot = slot_of_one(&rt, alloc, 491)?;
+    let slot = slot_of_one(&rt, alloc, 491);
     let pushed = queue.push_track(alloc, 5, 7, Stamp(9), &slot);
     let second = queue.push_track(alloc, 5, 8, Stamp(9), &slot);
-    assert_eq!(rt;
-        [long, pushed, second],
-        [
-            Err(PushError::Full(room)),
-            Ok(()),
-            Err(PushError::Full(NONE))
-        ]
-    );
+    assert_same(&rt, "long", long, Err(PushError::Full(room)));
+    assert_same(&rt, "pushed", pushed, Ok(()));
+    assert_same(&rt, "second", second, Err(PushError::Full(NONE)));
     assert!(rt; queue.has_copies_left(5, Stamp(8)) && !queue.has_copies_left(5, Stamp(9)));
-    let mut out = Formed::make(alloc, 2)?;
-    pop(&rt, alloc, &mut queue, 9, &mut out)?;
+    let mut out = Formed::make(alloc, 2).expect(&rt, "memory");
+    pop(&rt, alloc, &mut queue, 9, &mut out);
     assert!(rt; 0 < out.count());
     let head = out.head(0);
-    assert_eq!(rt;
-        (head.whole, head.control, head.volume, head.track),
-        (true, 3, 5, 7)
+    assert!(rt; head.whole);
+    assert_same(
+        &rt,
+        "control and volume",
+        [head.control, head.volume],
+        [3, 5],
     );
+    assert_same(&rt, "track", head.track, 7);
     let before = [4, 0, 0, 0, 0, 0, 0, 0, 9, 0, 5, 0, 0, 0, 7];
     assert!(rt; out.entry(0).len() == 512);
-    assert_eq!(rt;
-        (&out.entry(0)[..15], &out.entry(0)[15..]),
-        (before.as_slice(), slot.bytes())
-    );
-    Ok(())
+    assert_same(&rt, "before", &out.entry(0)[..15], before.as_slice());
+    assert_same(&rt, "image", &out.entry(0)[15..], slot.bytes());
 }

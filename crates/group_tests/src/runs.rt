@@ -1,6 +1,6 @@
 //! Worked runs of the shared state, with ample memory.
 
-ghost use Rattle.std.specs.Prelude.{◌≡◌, ◌<◌, ◌≤◌, ◌∷◌, [], length, IfOk, IsTrue};
+ghost use Rattle.std.specs.Prelude.{◌≡◌, ◌<◌, ◌≤◌, ◌∷◌, [], length, IsTrue};
 ghost use Rattle.pending_queue.specs.Entries.{all_keep_rules};
 ghost use Rattle.group_state.specs.Groups.{control_at};
 ghost use Rattle.group_state.specs.Sound.{MayJoin, MayCarry};
@@ -9,7 +9,7 @@ ghost use Rattle.group_state.specs.Machine.Call.{Join, Copied, Form, Carry};
 ghost use Rattle.group_history.specs.Runs.{MayCopy};
 ghost use Rattle.group_state.specs.Vectors.{whole_on, batch, none_wanted, both_wanted, update_of};
 
-use crate::fixtures::{batch_of, filled, one_write, slot_of_one, whole};
+use crate::fixtures::{assert_same, batch_of, filled, one_write, slot_of_one, whole};
 use change_map::ChangeMap;
 use ckd_track::{Batch, Cause, Kind, Slot, Write, WriteList};
 use copy_plan::CopyPlan;
@@ -17,9 +17,7 @@ use group_state::{CopyJoin, Forming, GroupState, Joining};
 use pending_queue::{Formed, Room};
 use std::alloc::Global;
 use std::process::Abort;
-use std::test::Fail;
 use tod_stamp::Stamp;
-use xrc_edge::NoMemory;
 
 /// Joins a batch that fits.
 fn join(rt: &impl Abort, alloc: Global, state: &mut GroupState, batch: Batch)
@@ -33,13 +31,15 @@ fn join(rt: &impl Abort, alloc: Global, state: &mut GroupState, batch: Batch)
 }
 
 /// Volume 0 of a control begins to be carried with a plan of two tracks that wants none.
-fn carry(alloc: Global, state: &mut GroupState, control: u16) -> Result<(), NoMemory>
+fn carry(rt: &impl Abort, alloc: Global, state: &mut GroupState, control: u16)
     requires control { control < length state.old.controls }
     requires may { MayCarry (control_at state.old control) 0 none_wanted }
-    ensures { IfOk result (λ done. state.new ≡ after state.old (Carry control 0 none_wanted)) }
+    ensures { state.new ≡ after state.old (Carry control 0 none_wanted) }
 {
-    let plan = CopyPlan::owed(ChangeMap::make(alloc, 2)?);
-    state.carry(alloc, control, 0, plan, ChangeMap::make(alloc, 2)?)
+    let plan = CopyPlan::owed(ChangeMap::make(alloc, 2).expect(rt, "memory"));
+    let map = ChangeMap::make(alloc, 2).expect(rt, "memory");
+    let carried = state.carry(alloc, control, 0, plan, map);
+    carried.expect(rt, "memory");
 }
 
 /// Forms a group, which has a cut.
@@ -55,26 +55,22 @@ fn form(rt: &impl Abort, alloc: Global, state: &mut GroupState, limit: u64, out:
 
 /// The cut that a form took, and control and track of each entry that it gave.
 fn assert_shown(rt: &impl Abort, out: &Formed, cut: u64, shown: &[(u16, u32)]) {
-    assert_eq!(rt;
-        (out.cut(), out.count() as usize),
-        (Stamp(cut), shown.len())
-    );
+    assert_same(rt, "cut", out.cut(), Stamp(cut));
+    assert!(rt; out.count() as usize == shown.len());
     for place in 0..out.count() {
         let head = out.head(place);
-        assert_eq!(rt;
-            Some(&(head.control, head.track)),
-            shown.get(place as usize)
-        );
+        let entry = (head.control, head.track);
+        assert_same(rt, "entry", entry, shown[place as usize]);
     }
 }
 
 /// A batch of an update of 495 bytes, which needs two blocks.
-fn long_update(alloc: Global) -> Result<Batch, NoMemory>
-    ensures { IfOk result (λ made. made ≡ batch 0 (update_of 495 9 ∷ []) 9) }
+fn long_update(rt: &impl Abort, alloc: Global) -> Batch
+    ensures { result ≡ batch 0 (update_of 495 9 ∷ []) 9 }
 {
     let kind = Kind::Update {
         number: 1,
-        bytes: filled(alloc, 495)?,
+        bytes: filled(rt, alloc, 495),
     };
     let write = Write {
         volume: 0,
@@ -82,17 +78,19 @@ fn long_update(alloc: Global) -> Result<Batch, NoMemory>
         stamp: Stamp(9),
         kind,
     };
-    batch_of(alloc, 0, write, 9)
+    batch_of(rt, alloc, 0, write, 9)
 }
 
 /// A volume of control 0 begins to be carried with a plan that wants both of its tracks.
-fn carry_wanted(alloc: Global, state: &mut GroupState, volume: u16) -> Result<(), NoMemory>
+fn carry_wanted(rt: &impl Abort, alloc: Global, state: &mut GroupState, volume: u16)
     requires control { 0 < length state.old.controls }
     requires may { MayCarry (control_at state.old 0) volume both_wanted }
-    ensures { IfOk result (λ done. state.new ≡ after state.old (Carry 0 volume both_wanted)) }
+    ensures { state.new ≡ after state.old (Carry 0 volume both_wanted) }
 {
-    let plan = CopyPlan::first(alloc, 2)?;
-    state.carry(alloc, 0, volume, plan, ChangeMap::make(alloc, 2)?)
+    let plan = CopyPlan::first(alloc, 2).expect(rt, "memory");
+    let map = ChangeMap::make(alloc, 2).expect(rt, "memory");
+    let carried = state.carry(alloc, 0, volume, plan, map);
+    carried.expect(rt, "memory");
 }
 
 /// A wanted track of control 0 that fits is copied at the floor.
@@ -114,45 +112,60 @@ fn copy(
 }
 
 /// A batch of three writes that empty tracks.
-fn three_writes(alloc: Global) -> Result<Batch, NoMemory>
-    ensures { IfOk result (λ made. made ≡ batch 0 (whole_on 0 0x10 ∷ whole_on 1 0x11 ∷ whole_on 0 0x12 ∷ []) 0x12) }
+fn three_writes(rt: &impl Abort, alloc: Global) -> Batch
+    ensures { result ≡ batch 0 (whole_on 0 0x10 ∷ whole_on 1 0x11 ∷ whole_on 0 0x12 ∷ []) 0x12 }
 {
     let mut writes = WriteList::make(alloc);
-    writes.push(alloc, whole(alloc, 0, 0x10))?;
-    writes.push(alloc, whole(alloc, 1, 0x11))?;
-    writes.push(alloc, whole(alloc, 0, 0x12))?;
-    Ok(Batch {
+    writes
+        .push(alloc, whole(alloc, 0, 0x10))
+        .expect(rt, "memory");
+    writes
+        .push(alloc, whole(alloc, 1, 0x11))
+        .expect(rt, "memory");
+    writes
+        .push(alloc, whole(alloc, 0, 0x12))
+        .expect(rt, "memory");
+    Batch {
         control: 0,
         writes,
         upto: Stamp(0x12),
-    })
+    }
 }
 
 /// The slower control holds the cut back.
 #[test]
-fn the_cut_follows_the_slower_control(rt: HostRuntime) -> Result<(), Fail> {
+fn the_cut_follows_the_slower_control(rt: HostRuntime) {
     let alloc = rt.alloc();
-    let mut state = GroupState::make(alloc, 2, 32, 3_552)?;
-    let mut out = Formed::make(alloc, 2)?;
-    carry(alloc, &mut state, 0)?;
-    join(&rt, alloc, &mut state, one_write(alloc, 0, 0, 0x10, 0x1F)?);
-    join(&rt, alloc, &mut state, one_write(alloc, 0, 1, 0x20, 0x40)?);
+    let mut state = GroupState::make(alloc, 2, 32, 3_552).expect(&rt, "memory");
+    let mut out = Formed::make(alloc, 2).expect(&rt, "memory");
+    carry(&rt, alloc, &mut state, 0);
+    join(
+        &rt,
+        alloc,
+        &mut state,
+        one_write(&rt, alloc, 0, 0, 0x10, 0x1F),
+    );
+    join(
+        &rt,
+        alloc,
+        &mut state,
+        one_write(&rt, alloc, 0, 1, 0x20, 0x40),
+    );
     state.raise(1, Stamp(0x15));
     form(&rt, alloc, &mut state, 0x40, &mut out);
     assert_shown(&rt, &out, 0x15, &[(0, 0)]);
     state.raise(1, Stamp(0x40));
     form(&rt, alloc, &mut state, 0x40, &mut out);
     assert_shown(&rt, &out, 0x40, &[(0, 1)]);
-    Ok(())
 }
 
 /// A batch of two blocks is held where one is free, and joins where two are.
 #[test]
-fn a_batch_is_held_by_its_blocks(rt: HostRuntime) -> Result<(), Fail> {
+fn a_batch_is_held_by_its_blocks(rt: HostRuntime) {
     let alloc = rt.alloc();
-    let mut one = GroupState::make(alloc, 1, 2, 1)?;
-    carry(alloc, &mut one, 0)?;
-    let held = one.join(alloc, long_update(alloc)?);
+    let mut one = GroupState::make(alloc, 1, 2, 1).expect(&rt, "memory");
+    carry(&rt, alloc, &mut one, 0);
+    let held = one.join(alloc, long_update(&rt, alloc));
     assert!(rt;
         matches!(
             &held,
@@ -165,32 +178,30 @@ fn a_batch_is_held_by_its_blocks(rt: HostRuntime) -> Result<(), Fail> {
             }
         )
     );
-    let mut two = GroupState::make(alloc, 1, 2, 2)?;
-    carry(alloc, &mut two, 0)?;
-    join(&rt, alloc, &mut two, long_update(alloc)?);
-    Ok(())
+    let mut two = GroupState::make(alloc, 1, 2, 2).expect(&rt, "memory");
+    carry(&rt, alloc, &mut two, 0);
+    join(&rt, alloc, &mut two, long_update(&rt, alloc));
 }
 
 /// A track that isn't wanted is stale, and takes no room.
 #[test]
-fn a_copied_track_that_is_not_wanted_is_stale(rt: HostRuntime) -> Result<(), Fail> {
+fn a_copied_track_that_is_not_wanted_is_stale(rt: HostRuntime) {
     let alloc = rt.alloc();
-    let mut state = GroupState::make(alloc, 1, 1, 1)?;
-    let slot = Slot::make(alloc)?;
-    carry(alloc, &mut state, 0)?;
+    let mut state = GroupState::make(alloc, 1, 1, 1).expect(&rt, "memory");
+    let slot = Slot::make(alloc).expect(&rt, "memory");
+    carry(&rt, alloc, &mut state, 0);
     let copied = state.copied(alloc, 0, 0, 1, Stamp(0), &slot);
-    assert_eq!(rt; copied, CopyJoin::Stale);
-    join(&rt, alloc, &mut state, one_write(alloc, 0, 0, 9, 9)?);
-    Ok(())
+    assert_same(&rt, "copied", copied, CopyJoin::Stale);
+    join(&rt, alloc, &mut state, one_write(&rt, alloc, 0, 0, 9, 9));
 }
 
 /// The second copied track is held where one record is all the room.
 #[test]
-fn a_copied_track_is_held_without_room(rt: HostRuntime) -> Result<(), Fail> {
+fn a_copied_track_is_held_without_room(rt: HostRuntime) {
     let alloc = rt.alloc();
-    let mut state = GroupState::make(alloc, 1, 1, 1)?;
-    let slot = Slot::make(alloc)?;
-    carry_wanted(alloc, &mut state, 0)?;
+    let mut state = GroupState::make(alloc, 1, 1, 1).expect(&rt, "memory");
+    let slot = Slot::make(alloc).expect(&rt, "memory");
+    carry_wanted(&rt, alloc, &mut state, 0);
     let first = state.next_wanted(0);
     copy(&rt, alloc, &mut state, 0, 0, 0, &slot);
     let second = state.next_wanted(0);
@@ -199,123 +210,122 @@ fn a_copied_track_is_held_without_room(rt: HostRuntime) -> Result<(), Fail> {
         records: 0,
         blocks: 0,
     };
-    assert_eq!(rt;
-        (first, second, copied),
-        (Some((0, 0)), Some((0, 1)), CopyJoin::Held(none))
-    );
-    Ok(())
+    assert_same(&rt, "wanted", [first, second], [Some((0, 0)), Some((0, 1))]);
+    assert_same(&rt, "copied", copied, CopyJoin::Held(none));
 }
 
 /// What waited at a drop and what is written before the resume is wanted then, and copied.
 #[test]
-fn a_resumed_volume_copies_what_was_written(rt: HostRuntime) -> Result<(), Fail> {
+fn a_resumed_volume_copies_what_was_written(rt: HostRuntime) {
     let alloc = rt.alloc();
-    let mut state = GroupState::make(alloc, 1, 32, 3_552)?;
-    let mut out = Formed::make(alloc, 1)?;
-    let slot = Slot::make(alloc)?;
-    carry(alloc, &mut state, 0)?;
-    join(&rt, alloc, &mut state, one_write(alloc, 0, 0, 0x10, 0x10)?);
+    let mut state = GroupState::make(alloc, 1, 32, 3_552).expect(&rt, "memory");
+    let mut out = Formed::make(alloc, 1).expect(&rt, "memory");
+    let slot = Slot::make(alloc).expect(&rt, "memory");
+    carry(&rt, alloc, &mut state, 0);
+    join(
+        &rt,
+        alloc,
+        &mut state,
+        one_write(&rt, alloc, 0, 0, 0x10, 0x10),
+    );
     state.drop_volume(0, 0, false);
-    join(&rt, alloc, &mut state, one_write(alloc, 0, 1, 0x20, 0x20)?);
+    join(
+        &rt,
+        alloc,
+        &mut state,
+        one_write(&rt, alloc, 0, 1, 0x20, 0x20),
+    );
     let owed = state.resume(0, 0);
     copy(&rt, alloc, &mut state, 0, 0, 0x20, &slot);
     let second = state.next_wanted(0);
     copy(&rt, alloc, &mut state, 0, 1, 0x20, &slot);
     form(&rt, alloc, &mut state, 0x20, &mut out);
     assert_shown(&rt, &out, 0x20, &[(0, 0), (0, 1)]);
-    assert_eq!(rt;
-        (owed, second, out.done_at(0)),
-        (2, Some((0, 1)), Some((0, 0)))
-    );
-    Ok(())
+    assert_same(&rt, "owed", owed, 2);
+    assert_same(&rt, "wanted", second, Some((0, 1)));
+    assert_same(&rt, "done", out.done_at(0), Some((0, 0)));
 }
 
 /// Entries of one stamp stand by control, in whichever order they were joined.
 #[test]
-fn entries_of_one_stamp_stand_by_control(rt: HostRuntime) -> Result<(), Fail> {
+fn entries_of_one_stamp_stand_by_control(rt: HostRuntime) {
     let alloc = rt.alloc();
-    let mut state = GroupState::make(alloc, 4, 32, 3_552)?;
-    let mut out = Formed::make(alloc, 4)?;
-    carry(alloc, &mut state, 0)?;
-    carry(alloc, &mut state, 1)?;
-    carry(alloc, &mut state, 2)?;
-    carry(alloc, &mut state, 3)?;
-    join(&rt, alloc, &mut state, one_write(alloc, 3, 0, 9, 9)?);
-    join(&rt, alloc, &mut state, one_write(alloc, 1, 1, 9, 9)?);
-    join(&rt, alloc, &mut state, one_write(alloc, 0, 1, 9, 9)?);
-    join(&rt, alloc, &mut state, one_write(alloc, 2, 0, 9, 9)?);
+    let mut state = GroupState::make(alloc, 4, 32, 3_552).expect(&rt, "memory");
+    let mut out = Formed::make(alloc, 4).expect(&rt, "memory");
+    carry(&rt, alloc, &mut state, 0);
+    carry(&rt, alloc, &mut state, 1);
+    carry(&rt, alloc, &mut state, 2);
+    carry(&rt, alloc, &mut state, 3);
+    join(&rt, alloc, &mut state, one_write(&rt, alloc, 3, 0, 9, 9));
+    join(&rt, alloc, &mut state, one_write(&rt, alloc, 1, 1, 9, 9));
+    join(&rt, alloc, &mut state, one_write(&rt, alloc, 0, 1, 9, 9));
+    join(&rt, alloc, &mut state, one_write(&rt, alloc, 2, 0, 9, 9));
     form(&rt, alloc, &mut state, 9, &mut out);
     assert_shown(&rt, &out, 9, &[(0, 1), (1, 1), (2, 0), (3, 0)]);
-    Ok(())
+}
+
+/// A break: its control, its time and its cause.
+type Break = (u16, Stamp, Cause);
+
+/// The cut that a form took, and the first two breaks that it gave.
+fn assert_breaks(
+    rt: &impl Abort,
+    out: &Formed,
+    cut: u64,
+    first: Option<Break>,
+    second: Option<Break>,
+) {
+    assert_same(rt, "cut", out.cut(), Stamp(cut));
+    assert_same(rt, "first break", out.break_at(0), first);
+    assert_same(rt, "second break", out.break_at(1), second);
 }
 
 /// A break is reported once, with the form whose cut is its time, below the limit and at it.
 #[test]
-fn a_break_is_reported_once(rt: HostRuntime) -> Result<(), Fail> {
+fn a_break_is_reported_once(rt: HostRuntime) {
     let alloc = rt.alloc();
-    let mut state = GroupState::make(alloc, 2, 32, 3_552)?;
-    let mut out = Formed::make(alloc, 2)?;
+    let mut state = GroupState::make(alloc, 2, 32, 3_552).expect(&rt, "memory");
+    let mut out = Formed::make(alloc, 2).expect(&rt, "memory");
     state.broken(0, Stamp(0x40), Cause::ReadFault);
     state.broken(1, Stamp(0x15), Cause::ReadFault);
-    form(&rt, alloc, &mut state, 0x40, &mut out);
-    let first = (out.cut(), out.break_at(0), out.break_at(1));
-    form(&rt, alloc, &mut state, 0x40, &mut out);
-    let second = (out.cut(), out.break_at(0), out.break_at(1));
-    form(&rt, alloc, &mut state, 0x50, &mut out);
-    let third = (out.cut(), out.break_at(0), out.break_at(1));
     let slower = Some((1, Stamp(0x15), Cause::ReadFault));
     let faster = Some((0, Stamp(0x40), Cause::ReadFault));
-    assert_eq!(rt;
-        [first, second, third],
-        [
-            (Stamp(0x15), slower, None),
-            (Stamp(0x40), faster, None),
-            (Stamp(0x50), None, None),
-        ]
-    );
-    Ok(())
+    form(&rt, alloc, &mut state, 0x40, &mut out);
+    assert_breaks(&rt, &out, 0x15, slower, None);
+    form(&rt, alloc, &mut state, 0x40, &mut out);
+    assert_breaks(&rt, &out, 0x40, faster, None);
+    form(&rt, alloc, &mut state, 0x50, &mut out);
+    assert_breaks(&rt, &out, 0x50, None, None);
 }
 
 /// One form has all writes of a batch on one volume, the copied track of another, and two breaks at one time.
 #[test]
-fn two_volumes_and_two_breaks(rt: HostRuntime) -> Result<(), Fail> {
+fn two_volumes_and_two_breaks(rt: HostRuntime) {
     let alloc = rt.alloc();
-    let mut state = GroupState::make(alloc, 3, 32, 3_552)?;
-    let mut out = Formed::make(alloc, 3)?;
-    let slot = slot_of_one(&rt, alloc, 3)?;
-    carry(alloc, &mut state, 0)?;
-    carry_wanted(alloc, &mut state, 1)?;
-    join(&rt, alloc, &mut state, three_writes(alloc)?);
+    let mut state = GroupState::make(alloc, 3, 32, 3_552).expect(&rt, "memory");
+    let mut out = Formed::make(alloc, 3).expect(&rt, "memory");
+    let slot = slot_of_one(&rt, alloc, 3);
+    carry(&rt, alloc, &mut state, 0);
+    carry_wanted(&rt, alloc, &mut state, 1);
+    join(&rt, alloc, &mut state, three_writes(&rt, alloc));
     let first = state.next_wanted(0);
     state.broken(1, Stamp(0x12), Cause::ReadFault);
     state.broken(2, Stamp(0x12), Cause::ReadFault);
     copy(&rt, alloc, &mut state, 1, 0, 0x12, &slot);
     let second = state.next_wanted(0);
     form(&rt, alloc, &mut state, 0x40, &mut out);
-    assert_eq!(rt;
-        (state.controls(), first, second),
-        (3, Some((1, 0)), Some((1, 1)))
-    );
+    assert_same(&rt, "controls", state.controls(), 3);
+    assert_same(&rt, "wanted", [first, second], [Some((1, 0)), Some((1, 1))]);
     assert_shown(&rt, &out, 0x12, &[(0, 0), (0, 1), (0, 0), (0, 0)]);
     assert!(rt; out.count() == 4);
     assert!(rt; 15 < out.entry(3).len());
-    assert_eq!(rt;
-        (out.head(2).volume, out.head(3).volume, &out.entry(3)[15..]),
-        (0, 1, slot.bytes())
-    );
-    let breaks = [out.break_at(0), out.break_at(1), out.break_at(2)];
-    let broken = Stamp(0x12);
-    assert_eq!(rt;
-        (breaks, out.done_at(0), out.done_at(1)),
-        (
-            [
-                Some((1, broken, Cause::ReadFault)),
-                Some((2, broken, Cause::ReadFault)),
-                None,
-            ],
-            Some((0, 0)),
-            None
-        )
-    );
-    Ok(())
+    let volumes = [out.head(2).volume, out.head(3).volume];
+    assert_same(&rt, "volumes", volumes, [0, 1]);
+    assert_same(&rt, "image", &out.entry(3)[15..], slot.bytes());
+    let first = (1, Stamp(0x12), Cause::ReadFault);
+    let second = (2, Stamp(0x12), Cause::ReadFault);
+    assert_breaks(&rt, &out, 0x12, Some(first), Some(second));
+    assert_same(&rt, "third break", out.break_at(2), None);
+    let done = [out.done_at(0), out.done_at(1)];
+    assert_same(&rt, "done", done, [Some((0, 0)), None]);
 }

@@ -1,10 +1,9 @@
 //! Maps of few tracks and of many, against one by one.
 
+use crate::fixtures::assert_same;
 use change_map::ChangeMap;
 use std::alloc::Global;
 use std::process::Abort;
-use std::test::Fail;
-use xrc_edge::NoMemory;
 
 /// The numbers of tracks of maps that end at the edges of a word and of eight words.
 const SIZES: [u32; 8] = [0, 1, 63, 64, 65, 511, 512, 1_000];
@@ -38,14 +37,14 @@ fn is_marked(x: u32) -> bool {
 }
 
 /// The map of the marked tracks.
-fn marked(rt: &impl Abort, alloc: Global, tracks: u32) -> Result<ChangeMap, NoMemory> {
-    let mut map = ChangeMap::make(alloc, tracks)?;
+fn marked(rt: &impl Abort, alloc: Global, tracks: u32) -> ChangeMap {
+    let mut map = ChangeMap::make(alloc, tracks).expect(rt, "memory");
     for x in 0..tracks {
         if is_marked(x) {
             put(rt, &mut map, x);
         }
     }
-    Ok(map)
+    map
 }
 
 /// The tracks of a map, counted one by one.
@@ -62,9 +61,9 @@ fn counted(map: &ChangeMap) -> u32 {
 /// The map has exactly the marked tracks.
 fn has_marked(rt: &impl Abort, map: &ChangeMap) {
     for x in 0..map.tracks() {
-        assert_eq!(rt; map.has(x), is_marked(x));
+        assert_same(rt, "track", map.has(x), is_marked(x));
     }
-    assert_eq!(rt; map.count(), counted(map));
+    assert_same(rt, "count", map.count(), counted(map));
 }
 
 /// The tracks of a map are found in order, each once, from any place on.
@@ -72,61 +71,61 @@ fn walk(rt: &impl Abort, map: &ChangeMap) {
     let mut from = 0;
     for x in 0..map.tracks() {
         if map.has(x) {
-            assert_eq!(rt; [next(rt, map, from), next(rt, map, x)], [Some(x); 2]);
+            let found = [next(rt, map, from), next(rt, map, x)];
+            assert_same(rt, "next", found, [Some(x); 2]);
             from = x + 1;
         }
     }
     let end = map.tracks();
-    assert_eq!(rt; [next(rt, map, from), next(rt, map, end)], [None; 2]);
+    let found = [next(rt, map, from), next(rt, map, end)];
+    assert_same(rt, "end", found, [None; 2]);
 }
 
 #[test]
-fn a_map_has_what_was_set(rt: HostRuntime) -> Result<(), Fail> {
+fn a_map_has_what_was_set(rt: HostRuntime) {
     let alloc = rt.alloc();
     for tracks in SIZES {
-        let map = marked(&rt, alloc, tracks)?;
-        assert_eq!(rt; map.tracks(), tracks);
+        let map = marked(&rt, alloc, tracks);
+        assert_same(&rt, "tracks", map.tracks(), tracks);
         has_marked(&rt, &map);
         walk(&rt, &map);
     }
-    Ok(())
 }
 
 #[test]
-fn all_and_none(rt: HostRuntime) -> Result<(), Fail> {
+fn all_and_none(rt: HostRuntime) {
     let alloc = rt.alloc();
     for tracks in SIZES {
-        let mut map = marked(&rt, alloc, tracks)?;
+        let mut map = marked(&rt, alloc, tracks);
         map.set_all();
-        assert_eq!(rt; map.count(), tracks);
+        assert_same(&rt, "count of all", map.count(), tracks);
         walk(&rt, &map);
         map.clear_all();
-        assert_eq!(rt; (map.count(), map.tracks()), (0, tracks));
+        assert_same(&rt, "count of none", map.count(), 0);
+        assert_same(&rt, "tracks", map.tracks(), tracks);
         walk(&rt, &map);
     }
-    Ok(())
 }
 
 #[test]
-fn a_change_leaves_the_neighbours(rt: HostRuntime) -> Result<(), Fail> {
+fn a_change_leaves_the_neighbours(rt: HostRuntime) {
     let alloc = rt.alloc();
-    let mut map = ChangeMap::make(alloc, 130)?;
+    let mut map = ChangeMap::make(alloc, 130).expect(&rt, "memory");
     map.set_all();
     for x in 0..130 {
         take(&rt, &mut map, x);
-        assert_eq!(rt; map.count(), 129);
+        assert_same(&rt, "count without one", map.count(), 129);
         put(&rt, &mut map, x);
-        assert_eq!(rt; map.count(), 130);
+        assert_same(&rt, "count of all", map.count(), 130);
     }
-    Ok(())
 }
 
 #[test]
-fn a_union_has_the_tracks_of_both(rt: HostRuntime) -> Result<(), Fail> {
+fn a_union_has_the_tracks_of_both(rt: HostRuntime) {
     let alloc = rt.alloc();
     for tracks in SIZES {
-        let mut map = ChangeMap::make(alloc, tracks)?;
-        let mut others = ChangeMap::make(alloc, tracks)?;
+        let mut map = ChangeMap::make(alloc, tracks).expect(&rt, "memory");
+        let mut others = ChangeMap::make(alloc, tracks).expect(&rt, "memory");
         for x in 0..tracks {
             if is_marked(x) && x % 2 == 0 {
                 put(&rt, &mut map, x);
@@ -139,46 +138,43 @@ fn a_union_has_the_tracks_of_both(rt: HostRuntime) -> Result<(), Fail> {
         unite(&rt, &mut map, &others);
         has_marked(&rt, &map);
     }
-    Ok(())
 }
 
 #[test]
-fn the_largest_volume(rt: HostRuntime) -> Result<(), Fail> {
+fn the_largest_volume(rt: HostRuntime) {
     let alloc = rt.alloc();
-    let mut map = marked(&rt, alloc, LARGEST)?;
-    assert_eq!(rt; map.count(), counted(&map));
-    let mut ends = ChangeMap::make(alloc, LARGEST)?;
+    let mut map = marked(&rt, alloc, LARGEST);
+    assert_same(&rt, "count", map.count(), counted(&map));
+    let mut ends = ChangeMap::make(alloc, LARGEST).expect(&rt, "memory");
     put(&rt, &mut ends, 1);
     put(&rt, &mut ends, LARGEST - 1);
     let last = LARGEST - 1;
-    assert_eq!(rt; (next(&rt, &ends, 2), ends.count()), (Some(last), 2));
+    assert_same(&rt, "next", next(&rt, &ends, 2), Some(last));
+    assert_same(&rt, "ends", ends.count(), 2);
     unite(&rt, &mut map, &ends);
-    assert_eq!(rt;
-        (map.count(), next(&rt, &map, last)),
-        (counted(&map), Some(last))
-    );
+    assert_same(&rt, "count of both", map.count(), counted(&map));
+    assert_same(&rt, "last", next(&rt, &map, last), Some(last));
     map.set_all();
-    assert_eq!(rt; map.count(), LARGEST);
-    Ok(())
+    assert_same(&rt, "count of all", map.count(), LARGEST);
 }
 
 /// So many words, each another.
-fn words(alloc: Global, count: usize, first: u64) -> Result<Vec<u64>, NoMemory> {
+fn words(rt: &impl Abort, alloc: Global, count: usize, first: u64) -> Vec<u64> {
     let mut words = Vec::new(alloc);
     let mut word = first;
     for _ in 0..count {
         word = word
             .wrapping_mul(6_364_136_223_846_793_005)
             .wrapping_add(1_442_695_040_888_963_407);
-        words.push(word)?;
+        words.push(word).expect(rt, "memory");
     }
-    Ok(words)
+    words
 }
 
 /// The map of the tracks whose bits are set in words: track x is bit x % 64 of word x / 64.
-fn map_of_words(rt: &impl Abort, alloc: Global, words: &[u64]) -> Result<ChangeMap, NoMemory> {
+fn map_of_words(rt: &impl Abort, alloc: Global, words: &[u64]) -> ChangeMap {
     assert!(rt; words.len() < 100);
-    let mut map = ChangeMap::make(alloc, words.len() as u32 * 64)?;
+    let mut map = ChangeMap::make(alloc, words.len() as u32 * 64).expect(rt, "memory");
     for place in 0..words.len() {
         for bit in 0..64 {
             if (words[place] >> bit) & 1 == 1 {
@@ -186,7 +182,7 @@ fn map_of_words(rt: &impl Abort, alloc: Global, words: &[u64]) -> Result<ChangeM
             }
         }
     }
-    Ok(map)
+    map
 }
 
 /// The word of the 64 tracks from one on.
@@ -203,33 +199,29 @@ fn word_at(rt: &impl Abort, map: &ChangeMap, first: u32) -> u64 {
 }
 
 /// The map of words is counted, and united with another, as their words are one by one.
-fn compare(rt: &impl Abort, alloc: Global, ours: &[u64], theirs: &[u64]) -> Result<(), NoMemory> {
+fn compare(rt: &impl Abort, alloc: Global, ours: &[u64], theirs: &[u64]) {
     assert!(rt; theirs.len() < 100 && ours.len() == theirs.len());
-    let mut map = map_of_words(rt, alloc, ours)?;
-    let others = map_of_words(rt, alloc, theirs)?;
+    let mut map = map_of_words(rt, alloc, ours);
+    let others = map_of_words(rt, alloc, theirs);
     let mut ones = 0u32;
     for word in theirs {
         ones = ones.saturating_add(word.count_ones());
     }
-    assert_eq!(rt; others.count(), ones);
+    assert_same(rt, "count", others.count(), ones);
     unite(rt, &mut map, &others);
     for place in 0..theirs.len() {
-        assert_eq!(rt;
-            word_at(rt, &map, place as u32 * 64),
-            ours[place] | theirs[place]
-        );
+        let word = word_at(rt, &map, place as u32 * 64);
+        assert_same(rt, "word", word, ours[place] | theirs[place]);
     }
-    Ok(())
 }
 
 /// Maps of 0 to 39 words: their rows end at each place of an eight of words.
 #[test]
-fn rows_of_words_are_counted_and_united_as_one_by_one(rt: HostRuntime) -> Result<(), Fail> {
+fn rows_of_words_are_counted_and_united_as_one_by_one(rt: HostRuntime) {
     let alloc = rt.alloc();
     for count in 0..40 {
-        let theirs = words(alloc, count, 7)?;
-        let ours = words(alloc, count, 11)?;
-        compare(&rt, alloc, ours.as_slice(), theirs.as_slice())?;
+        let theirs = words(&rt, alloc, count, 7);
+        let ours = words(&rt, alloc, count, 11);
+        compare(&rt, alloc, ours.as_slice(), theirs.as_slice());
     }
-    Ok(())
 }

@@ -1,7 +1,6 @@
 use Rattle.std.proofs.Common.{◌≡◌, List, [], ◌∷◌, subst}
-use Rattle.std.specs.Prelude.{ℕ, IfOk}
+use Rattle.std.specs.Prelude.{ℕ}
 use Rattle.ckd_track.specs.declared.write.Kind.TheVariants.{Update}
-use Rattle.ckd_track.specs.declared.write.Batch.{Batch}
 use Rattle.ckd_track.specs.declared.write.Write.{Write}
 use Rattle.group_state.specs.Vectors.{batch}
 use Rattle.group_tests.proofs.runs.long_update.Goals as goal
@@ -11,4 +10,4 @@ abbrev update : List ℕ → Write
 update bytes = record { volume = 0; track = 0; stamp = record { 0 = 9 }; kind = Update 1 bytes }
 
 pub returns : goal.returns
-returns c = subst (λ bytes. IfOk c.batch_of.result (λ (made : Batch). made ≡ batch 0 (update bytes ∷ []) 9)) c.in_ok-filled.ensures.bytes c.batch_of.ensures
+returns g c = subst (λ bytes. c.batch_of.result ≡ batch 0 (update bytes ∷ []) 9) c.filled.ensures.bytes c.batch_of.ensures
