@@ -1,6 +1,6 @@
 //! The worked site with two pairs, calls of it that fail, and what its recovery answers and leaves.
 
-ghost use Rattle.std.specs.Prelude.{◌≡◌, IfOk, IsTrue};
+ghost use Rattle.std.specs.Prelude.{◌≡◌, IsTrue};
 ghost use Rattle.crash_plant.specs.Calls.{IsThere, NoneLent};
 ghost use Rattle.crash_plant.specs.MemoryPlant.{memory_state};
 ghost use Rattle.crash_plant.specs.PlainPlant.{plain_state};
@@ -11,7 +11,7 @@ use std::alloc::Global;
 use std::process::Abort;
 use std::thread::Threads;
 use tod_stamp::{Serial, Session, Stamp};
-use xrc_edge::{Bytes, NoMemory};
+use xrc_edge::Bytes;
 use xrecover::{Outcome, RecoverError, recover};
 
 /// The control after the session ABC was begun at the time 50.
@@ -134,7 +134,8 @@ fn front<P: Plant>(plant: &mut P, volume: u16, place: u64) -> [u8; 8]
     front
 }
 
-fn held_by<P: Plant>(plant: &mut P, volume: u16) -> Held
+/// What a volume holds.
+pub(crate) fn held_by<P: Plant>(plant: &mut P, volume: u16) -> Held
     requires { NoneLent (P.state plant.old) }
     ensures { NoneLent (P.state plant.new) }
 {
@@ -168,23 +169,24 @@ pub(crate) fn resize(alloc: Global, plant: &mut PlainPlant, device: Device, leng
 
 /// A plant of zeros.
 pub(crate) fn zeros(
+    rt: &impl Abort,
     alloc: Global,
     journals: u16,
     journal: u64,
     volumes: u16,
     volume: u64,
-) -> Result<PlainPlant, NoMemory>
-    ensures { IfOk result (λ plant. NoneLent (plain_state plant)) }
+) -> PlainPlant
+    ensures { NoneLent (plain_state result) }
 {
     let script = Bytes::make(alloc);
-    PlainPlant::make(alloc, journals, journal, volumes, volume, script)
+    PlainPlant::make(alloc, journals, journal, volumes, volume, script).expect(rt, "memory")
 }
 
 /// The site of ABC with the first pair in a state, the second one duplex, and the first group.
-pub(crate) fn site_with(alloc: Global, first: [u8; 10], volume: u64) -> Result<PlainPlant, NoMemory>
-    ensures { IfOk result (λ plant. NoneLent (plain_state plant)) }
+pub(crate) fn site_with(rt: &impl Abort, alloc: Global, first: [u8; 10], volume: u64) -> PlainPlant
+    ensures { NoneLent (plain_state result) }
 {
-    let mut plant = zeros(alloc, 2, JOURNAL, 2, volume)?;
+    let mut plant = zeros(rt, alloc, 2, JOURNAL, 2, volume);
     write(&mut plant, Device::Control, 0, &MARK);
     write(&mut plant, Device::State, 0, &STATE);
     write(&mut plant, Device::State, 15, &FIRST);
@@ -192,23 +194,23 @@ pub(crate) fn site_with(alloc: Global, first: [u8; 10], volume: u64) -> Result<P
     write(&mut plant, Device::State, 45, &SECOND);
     write(&mut plant, Device::State, 65, &DUPLEX);
     write(&mut plant, Device::Journal(0), 0, &GROUP);
-    Ok(plant)
+    plant
 }
 
 /// The site of two duplex pairs.
-pub(crate) fn site(alloc: Global) -> Result<PlainPlant, NoMemory>
-    ensures { IfOk result (λ plant. NoneLent (plain_state plant)) }
+pub(crate) fn site(rt: &impl Abort, alloc: Global) -> PlainPlant
+    ensures { NoneLent (plain_state result) }
 {
-    site_with(alloc, DUPLEX, VOLUME)
+    site_with(rt, alloc, DUPLEX, VOLUME)
 }
 
 /// The same with both groups.
-pub(crate) fn full_site(alloc: Global) -> Result<PlainPlant, NoMemory>
-    ensures { IfOk result (λ plant. NoneLent (plain_state plant)) }
+pub(crate) fn full_site(rt: &impl Abort, alloc: Global) -> PlainPlant
+    ensures { NoneLent (plain_state result) }
 {
-    let mut plant = site(alloc)?;
+    let mut plant = site(rt, alloc);
     write(&mut plant, Device::Journal(0), NEXT_GATE, &NEXT);
-    Ok(plant)
+    plant
 }
 
 /// One call of a device, or of the console, that fails.
@@ -223,17 +225,17 @@ pub(crate) fn fail(at: Option<Device>, call: u64, stop: bool) -> Fail {
 
 /// A site on which calls fail.
 pub(crate) fn failing(
+    rt: &impl Abort,
     alloc: Global,
     plain: PlainPlant,
     fails: &[Fail],
-) -> Result<MemoryPlant, NoMemory>
+) -> MemoryPlant
     requires { NoneLent (plain_state plain) }
-    ensures { IfOk result (λ plant. NoneLent (memory_state plant)) }
+    ensures { NoneLent (memory_state result) }
 {
     let mut list = FailList::make(alloc);
-    list.extend_from_slice(alloc, fails)?;
-    let plant = MemoryPlant::make(alloc, plain, list)?;
-    Ok(plant)
+    list.extend_from_slice(alloc, fails).expect(rt, "memory");
+    MemoryPlant::make(alloc, plain, list).expect(rt, "memory")
 }
 
 /// What was recovered: the session, the time, the two rows with nothing behind them, and the devices that failed, of which there are two

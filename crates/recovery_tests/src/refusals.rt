@@ -10,7 +10,6 @@ use crash_plant::{Device, Plant};
 use site_means::SiteError;
 use std::alloc::Global;
 use std::process::Abort;
-use std::test::Fail;
 use std::thread::Threads;
 use xrecover::RecoverError;
 
@@ -77,39 +76,36 @@ fn assert_other<R: Abort + Threads + Sync, P: Plant>(rt: &R, alloc: Global, plan
 }
 
 #[test]
-fn changed_bytes_are_found(rt: HostRuntime) -> Result<(), Fail> {
+fn changed_bytes_are_found(rt: HostRuntime) {
     let alloc = rt.alloc();
     // A place of the first group, what stands there, and where the damage is.
     for (place, value, damage) in [(1, 3, 0), (22, 9, 22), (31, 0, 22), (37, 1, 37)] {
-        let mut plant = site(alloc)?;
+        let mut plant = site(&rt, alloc);
         write(&mut plant, Device::Journal(0), place, &[value]);
         assert_damaged(&rt, alloc, &mut plant, Device::Journal(0), damage);
     }
-    Ok(())
 }
 
 #[test]
-fn a_site_without_a_session_is_refused(rt: HostRuntime) -> Result<(), Fail> {
+fn a_site_without_a_session_is_refused(rt: HostRuntime) {
     let alloc = rt.alloc();
-    let mut plant = zeros(alloc, 2, JOURNAL, 2, VOLUME)?;
+    let mut plant = zeros(&rt, alloc, 2, JOURNAL, 2, VOLUME);
     assert_no_session(&rt, alloc, &mut plant);
-    Ok(())
 }
 
 #[test]
-fn another_session_is_refused_before_the_state_is_read(rt: HostRuntime) -> Result<(), Fail> {
+fn another_session_is_refused_before_the_state_is_read(rt: HostRuntime) {
     let alloc = rt.alloc();
-    let mut plant = site(alloc)?;
+    let mut plant = site(&rt, alloc);
     write(&mut plant, Device::State, 0, &[9]);
     assert_other(&rt, alloc, &mut plant);
     assert_damaged(&rt, alloc, &mut plant, Device::State, 0);
-    Ok(())
 }
 
 #[test]
-fn devices_need_their_lengths(rt: HostRuntime) -> Result<(), Fail> {
+fn devices_need_their_lengths(rt: HostRuntime) {
     let alloc = rt.alloc();
-    let mut plant = site(alloc)?;
+    let mut plant = site(&rt, alloc);
     let first = Device::Volume(0);
     resize(alloc, &mut plant, first, VOLUME - 1);
     assert_too_small(&rt, alloc, &mut plant, b"ABC", first, VOLUME);
@@ -121,5 +117,4 @@ fn devices_need_their_lengths(rt: HostRuntime) -> Result<(), Fail> {
     // The control's length comes before all else.
     resize(alloc, &mut plant, Device::Control, 1023);
     assert_too_small(&rt, alloc, &mut plant, b"XYZ", Device::Control, 1024);
-    Ok(())
 }

@@ -6,41 +6,37 @@ use crate::fixtures::{
 };
 use crash_plant::Device;
 use pair_table::PairState;
-use std::test::Fail;
 
 #[test]
-fn a_site_is_recovered_and_again(rt: HostRuntime) -> Result<(), Fail> {
+fn a_site_is_recovered_and_again(rt: HostRuntime) {
     let alloc = rt.alloc();
-    let mut plant = site(alloc)?;
+    let mut plant = site(&rt, alloc);
     assert_redone(&rt, alloc, &mut plant, 0x80, IMAGE, EMPTY);
     assert_redone(&rt, alloc, &mut plant, 0x80, IMAGE, EMPTY);
-    Ok(())
 }
 
 #[test]
-fn all_open_records_count_and_no_other(rt: HostRuntime) -> Result<(), Fail> {
+fn all_open_records_count_and_no_other(rt: HostRuntime) {
     let alloc = rt.alloc();
-    let mut plant = full_site(alloc)?;
+    let mut plant = full_site(&rt, alloc);
     write(&mut plant, Device::Journal(0), NEXT_GATE, &[0]);
     assert_redone(&rt, alloc, &mut plant, 0x80, IMAGE, EMPTY);
     write(&mut plant, Device::Journal(0), NEXT_GATE, &[1]);
     assert_redone(&rt, alloc, &mut plant, 0x90, NEXT_IMAGE, OTHER_IMAGE);
-    Ok(())
 }
 
 #[test]
-fn a_gate_that_holds_a_two_is_closed(rt: HostRuntime) -> Result<(), Fail> {
+fn a_gate_that_holds_a_two_is_closed(rt: HostRuntime) {
     let alloc = rt.alloc();
-    let mut plant = site(alloc)?;
+    let mut plant = site(&rt, alloc);
     write(&mut plant, Device::Journal(0), 0, &[2]);
     assert_redone(&rt, alloc, &mut plant, 0x50, EMPTY, EMPTY);
-    Ok(())
 }
 
 #[test]
-fn a_pair_that_is_not_duplex_is_left(rt: HostRuntime) -> Result<(), Fail> {
+fn a_pair_that_is_not_duplex_is_left(rt: HostRuntime) {
     let alloc = rt.alloc();
-    let mut plant = full_site(alloc)?;
+    let mut plant = full_site(&rt, alloc);
     write(&mut plant, Device::State, FIRST_STATE, &COPY);
     assert_found_with(
         &rt,
@@ -51,5 +47,4 @@ fn a_pair_that_is_not_duplex_is_left(rt: HostRuntime) -> Result<(), Fail> {
         [None; 2],
         [ZEROS, second_held(OTHER_IMAGE)],
     );
-    Ok(())
 }
