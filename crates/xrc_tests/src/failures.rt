@@ -1,21 +1,20 @@
 //! Runs whose trace breaks, whose calls fail, and whose journal is full, and what a recovery finds behind them.
 
-ghost use Rattle.std.specs.Prelude.{◌≡◌, IfOk};
+ghost use Rattle.std.specs.Prelude.{◌≡◌};
 ghost use Rattle.crash_plant.specs.Calls.{NoneLent};
 
 use crate::fixtures::{
     ADDED, CHOICES, EMPTY, END, FIRST, HEADER, JOURNAL, Left, PAIR, PRIMARY_LABEL, RUN, SECOND,
-    START, STARTED, TRACE, assert_ended, assert_left_in, assert_replied, bytes, call, failure,
-    holds, label, plain, put, recover_all, run, site, source, whole, worked,
+    START, STARTED, TRACE, assert_ended, assert_left_in, assert_replied, bytes, call, crash,
+    failure, holds, label, plain, put, recover_all, run, site, source, whole, worked,
 };
 use crash_plant::{Device, Fail as Failure, MemoryPlant, PlainPlant, Plant};
 use std::alloc::Global;
 use std::process::Abort;
 use std::sync::Wait;
-use std::test::Fail;
 use std::thread::Threads;
 use tod_stamp::Stamp;
-use xrc_edge::{Bytes, MemorySource, NoMemory};
+use xrc_edge::{Bytes, MemorySource};
 
 fn idle(stamp: u8) -> [u8; 9] {
     [1, 0, 0, 0, 0, 0, 0, 0, stamp]
@@ -54,14 +53,15 @@ struct Writes {
 
 impl Writes {
     /// The trace with these bytes behind it.
-    fn trace(self, alloc: Global, rest: &[u8]) -> Result<MemorySource, NoMemory> {
+    fn trace(self, rt: &impl Abort, alloc: Global, rest: &[u8]) -> MemorySource {
         let front = if self.is_worked { TRACE.len() } else { HEADER };
-        let mut all = bytes(alloc, &[&TRACE[..front]])?;
+        let mut all = bytes(rt, alloc, &[&TRACE[..front]]);
         for _ in 0..self.others {
-            all.extend_from_slice(alloc, &whole(self.stamp, 5))?;
+            all.extend_from_slice(alloc, &whole(self.stamp, 5))
+                .expect(rt, "memory");
         }
-        all.extend_from_slice(alloc, rest)?;
-        MemorySource::make(alloc, all, 4_096, Bytes::make(alloc))
+        all.extend_from_slice(alloc, rest).expect(rt, "memory");
+        MemorySource::make(alloc, all, 4_096, Bytes::make(alloc)).expect(rt, "memory")
     }
 
     /// Whether the volume of a duplex pair has the writes up to a time, and the primary's label.
@@ -100,16 +100,15 @@ fn assert_recovered<R: Threads + Wait + Sync + Abort>(
     plant: &mut PlainPlant,
     writes: Writes,
     times: (u64, u64),
-) -> Result<(), Fail>
+)
     requires { NoneLent (⟦<PlainPlant as Plant>⟧.state plant.old) }
 {
-    recover_all(rt, alloc, plant)?;
-    let time = time_said(plant.said()).ok_or("no time")?;
+    recover_all(rt, alloc, plant);
+    let time = time_said(plant.said()).expect(rt, "a time");
     assert_time(rt, time, times);
     if plant.said().ends_with(b" DUPLEX\n") {
         assert_writes(rt, plant, writes, time);
     }
-    Ok(())
 }
 
 /// A run over this trace ends with this status, so many replies and this line. Whatever a crash leaves is recovered at one of these times
@@ -122,22 +121,21 @@ fn assert_break<R: Threads + Wait + Sync + Abort>(
     writes: Writes,
     ended: (u8, usize, &[u8]),
     times: (u64, u64),
-) -> Result<(), Fail> {
-    let mut plant = site(alloc, &[START, PAIR, END], &[])?;
-    let found = call(rt, alloc, &RUN, trace, &mut plant)?;
+) {
+    let mut plant = site(rt, alloc, &[START, PAIR, END], &[]);
+    let found = call(rt, alloc, &RUN, trace, &mut plant);
     let (status, replies, line) = ended;
     assert_replied(rt, case, (found, plant.said()), status, replies, line);
     for choice in CHOICES {
-        let mut left = plant.crash(alloc, choice)?;
-        assert_recovered(rt, alloc, &mut left, writes, times)?;
+        let mut left = crash(rt, alloc, &plant, choice);
+        assert_recovered(rt, alloc, &mut left, writes, times);
     }
-    Ok(())
 }
 
 // A start formats the site and then goes to its time, so a trace that has broken before that leaves the session at its time. Behind a
 // reply the time is not before the reply's, and the trace has not broken by then.
 #[test]
-fn a_trace_that_breaks_before_the_line(rt: HostRuntime) -> Result<(), Fail> {
+fn a_trace_that_breaks_before_the_line(rt: HostRuntime) {
     let alloc = rt.alloc();
     // Whether the worked writes stand in front, how many writes of one stamp, the stamp, what follows, the replies before the break, and
     // the times between which a recovery finds the site.
@@ -166,17 +164,16 @@ fn a_trace_that_breaks_before_the_line(rt: HostRuntime) -> Result<(), Fail> {
             &rt,
             alloc,
             case as u64,
-            writes.trace(alloc, *rest)?,
+            writes.trace(&rt, alloc, *rest),
             writes,
             (18, *replies, b"STATUS 18\n"),
             (*from, *to),
-        )?;
+        );
     }
-    Ok(())
 }
 
 #[test]
-fn a_trace_that_does_not_break_before_the_end(rt: HostRuntime) -> Result<(), Fail> {
+fn a_trace_that_does_not_break_before_the_end(rt: HostRuntime) {
     let alloc = rt.alloc();
     // How many writes of one stamp stand behind the worked ones, the stamp, and what follows.
     let rows: [(u8, u8, &[u8]); 3] = [(32, 0x70, &[]), (33, 0x91, &[]), (1, 0x91, &[9])];
@@ -190,13 +187,12 @@ fn a_trace_that_does_not_break_before_the_end(rt: HostRuntime) -> Result<(), Fai
             &rt,
             alloc,
             case as u64,
-            writes.trace(alloc, *rest)?,
+            writes.trace(&rt, alloc, *rest),
             writes,
             (0, 3, b""),
             (0x90, 0x90),
-        )?;
+        );
     }
-    Ok(())
 }
 
 /// A pull of 16 bytes that fails ends the run behind so many replies.
@@ -205,21 +201,19 @@ fn assert_pull<R: Threads + Wait + Sync + Abort>(
     alloc: Global,
     fails: &[u8],
     replies: usize,
-) -> Result<(), NoMemory> {
-    let mut plant = worked(alloc)?;
-    let trace = source(alloc, &[&TRACE], 16, fails)?;
-    let status = call(rt, alloc, &RUN, trace, &mut plant)?;
+) {
+    let mut plant = worked(rt, alloc);
+    let trace = source(rt, alloc, &[&TRACE], 16, fails);
+    let status = call(rt, alloc, &RUN, trace, &mut plant);
     let ended = (status, plant.said());
     assert_replied(rt, 0, ended, 18, replies, b"STATUS 18\n");
-    Ok(())
 }
 
 #[test]
-fn a_pull_that_fails_behind_the_header(rt: HostRuntime) -> Result<(), Fail> {
+fn a_pull_that_fails_behind_the_header(rt: HostRuntime) {
     let alloc = rt.alloc();
-    assert_pull(&rt, alloc, &[0, 0, 1], 0)?;
-    assert_pull(&rt, alloc, &[0, 0, 0, 1], 2)?;
-    Ok(())
+    assert_pull(&rt, alloc, &[0, 0, 1], 0);
+    assert_pull(&rt, alloc, &[0, 0, 0, 1], 2);
 }
 
 /// A run in which one call fails ends with this status, so many replies and this line. It gives the plant then.
@@ -230,14 +224,14 @@ fn failed<R: Threads + Wait + Sync + Abort>(
     status: u8,
     replies: usize,
     line: &[u8],
-) -> Result<MemoryPlant, NoMemory>
-    ensures { IfOk result (λ plant. NoneLent (⟦<MemoryPlant as Plant>⟧.state plant)) }
+) -> MemoryPlant
+    ensures { NoneLent (⟦<MemoryPlant as Plant>⟧.state result) }
 {
-    let mut plant = site(alloc, &[START, PAIR, END], &[fail])?;
-    let found = run(rt, alloc, &mut plant)?;
+    let mut plant = site(rt, alloc, &[START, PAIR, END], &[fail]);
+    let found = run(rt, alloc, &mut plant);
     let ended = (found, plant.said());
     assert_replied(rt, fail.call, ended, status, replies, line);
-    Ok(plant)
+    plant
 }
 
 /// A call on a device, or on the console, fails before the first reply.
@@ -248,23 +242,21 @@ fn assert_first<R: Threads + Wait + Sync + Abort>(
     call: u64,
     status: u8,
     line: &[u8],
-) -> Result<(), NoMemory> {
+) {
     let fail = failure(at, 0, call);
-    let _ = failed(rt, alloc, fail, status, 0, line)?;
-    Ok(())
+    let _ = failed(rt, alloc, fail, status, 0, line);
 }
 
 #[test]
-fn calls_that_fail_before_the_first_reply(rt: HostRuntime) -> Result<(), Fail> {
+fn calls_that_fail_before_the_first_reply(rt: HostRuntime) {
     let alloc = rt.alloc();
-    assert_first(&rt, alloc, Some(Device::Journal(0)), 0, 5, b"STATUS 5 0\n")?;
-    assert_first(&rt, alloc, Some(Device::Control), 0, 6, b"STATUS 6\n")?;
-    assert_first(&rt, alloc, Some(Device::State), 0, 7, b"STATUS 7\n")?;
-    assert_first(&rt, alloc, Some(Device::Volume(0)), 0, 19, b"STATUS 19\n")?;
+    assert_first(&rt, alloc, Some(Device::Journal(0)), 0, 5, b"STATUS 5 0\n");
+    assert_first(&rt, alloc, Some(Device::Control), 0, 6, b"STATUS 6\n");
+    assert_first(&rt, alloc, Some(Device::State), 0, 7, b"STATUS 7\n");
+    assert_first(&rt, alloc, Some(Device::Volume(0)), 0, 19, b"STATUS 19\n");
     // The first byte that is heard, and the first reply, half of which is said.
-    assert_first(&rt, alloc, None, 0, 3, b"")?;
-    assert_first(&rt, alloc, None, START.len() as u64, 3, &STARTED[..23])?;
-    Ok(())
+    assert_first(&rt, alloc, None, 0, 3, b"");
+    assert_first(&rt, alloc, None, START.len() as u64, 3, &STARTED[..23]);
 }
 
 /// A call fails behind so many replies, and what it leaves is recovered so.
@@ -276,47 +268,47 @@ fn assert_failed<R: Threads + Wait + Sync + Abort>(
     replies: usize,
     line: &[u8],
     left: Left,
-) -> Result<(), NoMemory> {
-    let mut plant = failed(rt, alloc, fail, status, replies, line)?;
-    assert_left_in(rt, alloc, &mut plant, left, fail.call)
+) {
+    let mut plant = failed(rt, alloc, fail, status, replies, line);
+    assert_left_in(rt, alloc, &mut plant, left, fail.call);
 }
 
 // What a failed call leaves is recovered, where the start was answered: a record counts once its gate was written.
 #[test]
-fn calls_that_fail_behind_a_reply(rt: HostRuntime) -> Result<(), Fail> {
+fn calls_that_fail_behind_a_reply(rt: HostRuntime) {
     let alloc = rt.alloc();
     let started = STARTED.len();
     let journal = failure(Some(Device::Journal(0)), started, 0);
-    assert_failed(&rt, alloc, journal, 5, 1, b"STATUS 5 0\n", Left::Started)?;
+    assert_failed(&rt, alloc, journal, 5, 1, b"STATUS 5 0\n", Left::Started);
     let console = failure(None, started, 0);
-    assert_failed(&rt, alloc, console, 3, 1, b"", Left::Started)?;
+    assert_failed(&rt, alloc, console, 3, 1, b"", Left::Started);
     let added = STARTED.len() + ADDED.len();
     let journal = failure(Some(Device::Journal(0)), added, 0);
-    assert_failed(&rt, alloc, journal, 5, 2, b"STATUS 5 0\n", Left::Pending)?;
+    assert_failed(&rt, alloc, journal, 5, 2, b"STATUS 5 0\n", Left::Pending);
     let control = failure(Some(Device::Control), added, 0);
-    assert_failed(&rt, alloc, control, 6, 2, b"STATUS 6\n", Left::Copied)?;
+    assert_failed(&rt, alloc, control, 6, 2, b"STATUS 6\n", Left::Copied);
     for call in [0, 5] {
         let volume = failure(Some(Device::Volume(0)), added, call);
-        assert_failed(&rt, alloc, volume, 19, 2, b"STATUS 19\n", Left::Copied)?;
+        assert_failed(&rt, alloc, volume, 19, 2, b"STATUS 19\n", Left::Copied);
     }
     let console = failure(None, added, 3);
-    assert_failed(&rt, alloc, console, 3, 2, b"", Left::Pending)?;
-    Ok(())
+    assert_failed(&rt, alloc, console, 3, 2, b"", Left::Pending);
 }
 
 /// A trace of three cylinders whose base has so many tracks of one record of 50,000 bytes.
-fn large(alloc: Global, tracks: u8) -> Result<MemorySource, NoMemory> {
+fn large(rt: &impl Abort, alloc: Global, tracks: u8) -> MemorySource {
     let mut all = bytes(
+        rt,
         alloc,
         &[b"XTR1\x00\x01PRIM01\x00\x03\x00\x00\x00", &[tracks]],
-    )?;
+    );
     let content = [b'L'; 50_000];
     for track in 0..tracks {
         let place = [0, 0, 0, track / 15, 0, track % 15, 0, 1, 1, 0, 0xC3, 0x50];
-        all.extend_from_slice(alloc, &place)?;
-        all.extend_from_slice(alloc, &content)?;
+        all.extend_from_slice(alloc, &place).expect(rt, "memory");
+        all.extend_from_slice(alloc, &content).expect(rt, "memory");
     }
-    MemorySource::make(alloc, all, 65_536, Bytes::make(alloc))
+    MemorySource::make(alloc, all, 65_536, Bytes::make(alloc)).expect(rt, "memory")
 }
 
 /// A run over so many large tracks ends with this status. This was said then, by a recovery too.
@@ -326,23 +318,21 @@ fn assert_large<R: Threads + Wait + Sync + Abort>(
     tracks: u8,
     status: u8,
     said: &[u8],
-) -> Result<(), NoMemory> {
-    let mut plant = plain(alloc, 2, JOURNAL, 1, 2_580_992, &[START, PAIR, END])?;
+) {
+    let mut plant = plain(rt, alloc, 2, JOURNAL, 1, 2_580_992, &[START, PAIR, END]);
     put(&mut plant, Device::Volume(0), b"XVOLSEC001\x00\x00\x00\x03");
-    let found = call(rt, alloc, &RUN, large(alloc, tracks)?, &mut plant)?;
-    recover_all(rt, alloc, &mut plant)?;
+    let found = call(rt, alloc, &RUN, large(rt, alloc, tracks), &mut plant);
+    recover_all(rt, alloc, &mut plant);
     assert_ended(rt, (found, plant.said()), status, said);
-    Ok(())
 }
 
 #[test]
-fn a_journal_that_is_full(rt: HostRuntime) -> Result<(), Fail> {
+fn a_journal_that_is_full(rt: HostRuntime) {
     let alloc = rt.alloc();
     let done =
         b"0000000000000050 XSTART OK T=0000000000000050\n0000000000000060 XADDPAIR OK TRACKS 45 T=0000000000000060\n0000000000000090 XEND OK T=0000000000000090\nRECOVERED ABC T=0000000000000090\nPAIR PRIM01 SEC001 DUPLEX\n";
-    assert_large(&rt, alloc, 30, 0, done)?;
+    assert_large(&rt, alloc, 30, 0, done);
     let full =
         b"0000000000000050 XSTART OK T=0000000000000050\n0000000000000060 XADDPAIR OK TRACKS 45 T=0000000000000060\nSTATUS 15\nRECOVERED ABC T=0000000000000060\nPAIR PRIM01 SEC001 COPY\n";
-    assert_large(&rt, alloc, 40, 15, full)?;
-    Ok(())
+    assert_large(&rt, alloc, 40, 15, full);
 }

@@ -1,6 +1,6 @@
 //! Worked traces, scripts and sites in memory, and calls of the program over them.
 
-ghost use Rattle.std.specs.Prelude.{◌≡◌, ◌<◌, IfOk, IsTrue};
+ghost use Rattle.std.specs.Prelude.{◌≡◌, ◌<◌, IsTrue};
 ghost use Rattle.crash_plant.specs.Calls.{IsThere, NoneLent};
 
 use crash_plant::{Device, Fail as Failure, FailList, MemoryPlant, PlainPlant, Plant};
@@ -9,7 +9,7 @@ use std::process::Abort;
 use std::sync::Wait;
 use std::thread::Threads;
 use xrc_cli::xrc;
-use xrc_edge::{Bytes, MemorySource, NoMemory};
+use xrc_edge::{Bytes, MemorySource};
 
 /// Volume 0 has one cylinder, and the label SEC001.
 pub(crate) const LABEL: [u8; 14] = *b"XVOLSEC001\x00\x00\x00\x01";
@@ -60,56 +60,54 @@ pub(crate) const RECOVER: [&str; 2] = ["recover", "ABC"];
 /// What a crash leaves of what was open: zeros, ones, or every bit.
 pub(crate) const CHOICES: [&[u8]; 3] = [&[], &[1], &[0xFF]];
 
-pub(crate) fn bytes(alloc: Global, parts: &[&[u8]]) -> Result<Bytes, NoMemory> {
+pub(crate) fn bytes(rt: &impl Abort, alloc: Global, parts: &[&[u8]]) -> Bytes {
     let mut all = Bytes::make(alloc);
     for part in parts {
-        all.extend_from_slice(alloc, part)?;
+        all.extend_from_slice(alloc, part).expect(rt, "memory");
     }
-    Ok(all)
-}
-
-/// What was said behind a first part; None where another part was said.
-fn behind<'a>(said: &'a [u8], part: &[u8]) -> Option<&'a [u8]> {
-    if said.starts_with(part) {
-        said.get(part.len()..)
-    } else {
-        None
-    }
+    all
 }
 
 /// What was said behind the first so many replies of the worked run; None where others were said.
 fn behind_replies(said: &[u8], replies: usize) -> Option<&[u8]> {
     match replies {
         0 => Some(said),
-        1 => behind(said, STARTED),
-        2 => behind(behind(said, STARTED)?, ADDED),
-        _ => behind(behind(behind(said, STARTED)?, ADDED)?, ENDED),
+        1 => said.strip_prefix(STARTED),
+        2 => said.strip_prefix(STARTED)?.strip_prefix(ADDED),
+        _ => said
+            .strip_prefix(STARTED)?
+            .strip_prefix(ADDED)?
+            .strip_prefix(ENDED),
     }
 }
 
-pub(crate) fn words(alloc: Global, words: &[&str]) -> Result<Vec<String>, NoMemory> {
+pub(crate) fn words(rt: &impl Abort, alloc: Global, words: &[&str]) -> Vec<String> {
     let mut all = Vec::new(alloc);
     for word in words {
-        all.push(String::from_str(alloc, word)?)?;
+        let word = String::from_str(alloc, word).expect(rt, "memory");
+        all.push(word).expect(rt, "memory");
     }
-    Ok(all)
+    all
 }
 
 /// A source of a trace, of which at most `most` bytes come at once.
 pub(crate) fn source(
+    rt: &impl Abort,
     alloc: Global,
     parts: &[&[u8]],
     most: u32,
     fails: &[u8],
-) -> Result<MemorySource, NoMemory>
+) -> MemorySource
     requires { 0 < most }
 {
-    MemorySource::make(alloc, bytes(alloc, parts)?, most, bytes(alloc, &[fails])?)
+    let parts = bytes(rt, alloc, parts);
+    let fails = bytes(rt, alloc, &[fails]);
+    MemorySource::make(alloc, parts, most, fails).expect(rt, "memory")
 }
 
 /// The worked trace.
-pub(crate) fn trace(alloc: Global) -> Result<MemorySource, NoMemory> {
-    source(alloc, &[&TRACE], 64, &[])
+pub(crate) fn trace(rt: &impl Abort, alloc: Global) -> MemorySource {
+    source(rt, alloc, &[&TRACE], 64, &[])
 }
 
 /// A call that fails.
@@ -156,123 +154,145 @@ pub(crate) fn put<P: Plant>(plant: &mut P, device: Device, bytes: &[u8])
 
 /// A site of which one device has another length.
 pub(crate) fn resized(
+    rt: &impl Abort,
     alloc: Global,
     device: Device,
     length: u64,
     script: &[&[u8]],
-) -> Result<PlainPlant, NoMemory>
-    ensures { IfOk result (λ plant. NoneLent (⟦<PlainPlant as Plant>⟧.state plant)) }
+) -> PlainPlant
+    ensures { NoneLent (⟦<PlainPlant as Plant>⟧.state result) }
 {
-    let mut plant = plain(alloc, 2, JOURNAL, 1, VOLUME, script)?;
+    let mut plant = plain(rt, alloc, 2, JOURNAL, 1, VOLUME, script);
     if is_there(&plant, device) {
-        plant.resize(alloc, device, length)?;
+        plant.resize(alloc, device, length).expect(rt, "memory");
     }
-    Ok(plant)
+    plant
 }
 
 /// Devices of zeros but for volume 0's label, with a script to hear.
 pub(crate) fn plain(
+    rt: &impl Abort,
     alloc: Global,
     journals: u16,
     journal: u64,
     volumes: u16,
     volume: u64,
     script: &[&[u8]],
-) -> Result<PlainPlant, NoMemory>
-    ensures { IfOk result (λ plant. NoneLent (⟦<PlainPlant as Plant>⟧.state plant)) }
+) -> PlainPlant
+    ensures { NoneLent (⟦<PlainPlant as Plant>⟧.state result) }
 {
-    let script = bytes(alloc, script)?;
-    let mut plain = PlainPlant::make(alloc, journals, journal, volumes, volume, script)?;
+    let script = bytes(rt, alloc, script);
+    let made = PlainPlant::make(alloc, journals, journal, volumes, volume, script);
+    let mut plain = made.expect(rt, "memory");
     put(&mut plain, Device::Volume(0), &LABEL);
-    Ok(plain)
+    plain
 }
 
 /// The same devices with their past, of which these calls fail.
 pub(crate) fn failing(
+    rt: &impl Abort,
     alloc: Global,
     plain: PlainPlant,
     fails: &[Failure],
-) -> Result<MemoryPlant, NoMemory>
+) -> MemoryPlant
     requires { NoneLent (⟦<PlainPlant as Plant>⟧.state plain) }
-    ensures { IfOk result (λ plant. NoneLent (⟦<MemoryPlant as Plant>⟧.state plant)) }
+    ensures { NoneLent (⟦<MemoryPlant as Plant>⟧.state result) }
 {
     let mut list = FailList::make(alloc);
-    list.extend_from_slice(alloc, fails)?;
-    let plant = MemoryPlant::make(alloc, plain, list)?;
-    Ok(plant)
+    list.extend_from_slice(alloc, fails).expect(rt, "memory");
+    MemoryPlant::make(alloc, plain, list).expect(rt, "memory")
 }
 
 /// A site that is long enough for a session with one pair, of which these calls fail.
 pub(crate) fn site(
+    rt: &impl Abort,
     alloc: Global,
     script: &[&[u8]],
     fails: &[Failure],
-) -> Result<MemoryPlant, NoMemory>
-    ensures { IfOk result (λ plant. NoneLent (⟦<MemoryPlant as Plant>⟧.state plant)) }
+) -> MemoryPlant
+    ensures { NoneLent (⟦<MemoryPlant as Plant>⟧.state result) }
 {
-    failing(alloc, plain(alloc, 2, JOURNAL, 1, VOLUME, script)?, fails)
+    let plain = plain(rt, alloc, 2, JOURNAL, 1, VOLUME, script);
+    failing(rt, alloc, plain, fails)
 }
 
 /// A plain site of the worked script.
-pub(crate) fn worked(alloc: Global) -> Result<PlainPlant, NoMemory>
-    ensures { IfOk result (λ plant. NoneLent (⟦<PlainPlant as Plant>⟧.state plant)) }
+pub(crate) fn worked(rt: &impl Abort, alloc: Global) -> PlainPlant
+    ensures { NoneLent (⟦<PlainPlant as Plant>⟧.state result) }
 {
-    plain(alloc, 2, JOURNAL, 1, VOLUME, &[START, PAIR, END])
+    plain(rt, alloc, 2, JOURNAL, 1, VOLUME, &[START, PAIR, END])
+}
+
+/// What a crash leaves by a choice.
+pub(crate) fn crash(
+    rt: &impl Abort,
+    alloc: Global,
+    plant: &MemoryPlant,
+    choice: &[u8],
+) -> PlainPlant
+    requires { NoneLent (⟦<MemoryPlant as Plant>⟧.state plant.now) }
+    ensures { NoneLent (⟦<PlainPlant as Plant>⟧.state result) }
+{
+    plant.crash(alloc, choice).expect(rt, "memory")
 }
 
 /// Calls the program with these words over these traces.
-pub(crate) fn call_over<R: Threads + Wait + Sync, P: Plant>(
+pub(crate) fn call_over<R: Threads + Wait + Sync + Abort, P: Plant>(
     rt: &R,
     alloc: Global,
     command: &[&str],
     mut traces: Vec<MemorySource>,
     plant: &mut P,
-) -> Result<u8, NoMemory>
+) -> u8
     requires { NoneLent (P.state plant.old) }
     ensures { NoneLent (P.state plant.new) }
 {
-    let words = words(alloc, command)?;
-    Ok(xrc(rt, alloc, &words, &mut traces, plant))
+    let words = words(rt, alloc, command);
+    xrc(rt, alloc, &words, &mut traces, plant)
+}
+
+pub(crate) fn one(rt: &impl Abort, alloc: Global, trace: MemorySource) -> Vec<MemorySource> {
+    let mut traces = Vec::new(alloc);
+    traces.push(trace).expect(rt, "memory");
+    traces
 }
 
 /// Calls it over one trace.
-pub(crate) fn call<R: Threads + Wait + Sync, P: Plant>(
+pub(crate) fn call<R: Threads + Wait + Sync + Abort, P: Plant>(
     rt: &R,
     alloc: Global,
     command: &[&str],
     trace: MemorySource,
     plant: &mut P,
-) -> Result<u8, NoMemory>
+) -> u8
     requires { NoneLent (P.state plant.old) }
     ensures { NoneLent (P.state plant.new) }
 {
-    let mut traces = Vec::new(alloc);
-    traces.push(trace)?;
-    call_over(rt, alloc, command, traces, plant)
+    call_over(rt, alloc, command, one(rt, alloc, trace), plant)
 }
 
 /// Calls it with the worked trace.
-pub(crate) fn run<R: Threads + Wait + Sync, P: Plant>(
+pub(crate) fn run<R: Threads + Wait + Sync + Abort, P: Plant>(
     rt: &R,
     alloc: Global,
     plant: &mut P,
-) -> Result<u8, NoMemory>
+) -> u8
     requires { NoneLent (P.state plant.old) }
     ensures { NoneLent (P.state plant.new) }
 {
-    call(rt, alloc, &RUN, trace(alloc)?, plant)
+    call(rt, alloc, &RUN, trace(rt, alloc), plant)
 }
 
 /// Recovers the session, over a trace that isn't read.
-pub(crate) fn recover<R: Threads + Wait + Sync, P: Plant>(
+pub(crate) fn recover<R: Threads + Wait + Sync + Abort, P: Plant>(
     rt: &R,
     alloc: Global,
     plant: &mut P,
-) -> Result<u8, NoMemory>
+) -> u8
     requires { NoneLent (P.state plant.old) }
     ensures { NoneLent (P.state plant.new) }
 {
-    call(rt, alloc, &RECOVER, source(alloc, &[], 64, &[])?, plant)
+    call(rt, alloc, &RECOVER, source(rt, alloc, &[], 64, &[]), plant)
 }
 
 /// The front of the slot of a track of volume 0; twos where it can't be read.
@@ -386,13 +406,12 @@ pub(crate) fn recover_all<R: Threads + Wait + Sync + Abort, P: Plant>(
     rt: &R,
     alloc: Global,
     plant: &mut P,
-) -> Result<(), NoMemory>
+)
     requires { NoneLent (P.state plant.old) }
     ensures { NoneLent (P.state plant.new) }
 {
-    let status = recover(rt, alloc, plant)?;
+    let status = recover(rt, alloc, plant);
     assert_done(rt, status);
-    Ok(())
 }
 
 /// A command ended with this status and has said these lines.
@@ -442,15 +461,14 @@ pub(crate) fn assert_left<R: Threads + Wait + Sync + Abort>(
     plant: &mut PlainPlant,
     left: Left,
     case: u64,
-) -> Result<(), NoMemory>
+)
     requires { NoneLent (⟦<PlainPlant as Plant>⟧.state plant.old) }
     ensures { NoneLent (⟦<PlainPlant as Plant>⟧.state plant.new) }
 {
     let before = plant.said().len();
-    recover_all(rt, alloc, plant)?;
+    recover_all(rt, alloc, plant);
     assert_said(rt, plant.said(), before, left.lines(), case);
     assert_volume(rt, plant, left.third(), left.label());
-    Ok(())
 }
 
 /// The same of a plant with its past.
@@ -460,15 +478,14 @@ pub(crate) fn assert_left_in<R: Threads + Wait + Sync + Abort>(
     plant: &mut MemoryPlant,
     left: Left,
     case: u64,
-) -> Result<(), NoMemory>
+)
     requires { NoneLent (⟦<MemoryPlant as Plant>⟧.state plant.old) }
     ensures { NoneLent (⟦<MemoryPlant as Plant>⟧.state plant.new) }
 {
     let before = plant.said().len();
-    recover_all(rt, alloc, plant)?;
+    recover_all(rt, alloc, plant);
     assert_said(rt, plant.said(), before, left.lines(), case);
     assert_volume(rt, plant, left.third(), left.label());
-    Ok(())
 }
 
 /// A write of a whole track: record 1 with a content of one byte.

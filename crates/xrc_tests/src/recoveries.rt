@@ -1,20 +1,18 @@
 //! What a recovery does behind a run, repeated and refused.
 
-ghost use Rattle.std.specs.Prelude.{◌≡◌, IfOk};
+ghost use Rattle.std.specs.Prelude.{◌≡◌};
 ghost use Rattle.crash_plant.specs.Calls.{NoneLent};
 
 use crate::fixtures::{
     CHOICES, EMPTY, END, JOURNAL, LABEL, Left, PAIR, PRIMARY_LABEL, RECOVER, RECOVERED, SECOND,
     START, VOLUME, assert_done, assert_ended, assert_left, assert_left_in, assert_volume, call,
-    failing, failure, label, plain, put, recover, run, site, source, stop,
+    crash, failing, failure, label, plain, put, recover, run, site, source, stop,
 };
 use crash_plant::{Device, Fail as Failure, MemoryPlant, PlainPlant, Plant};
 use std::alloc::Global;
 use std::process::Abort;
 use std::sync::Wait;
-use std::test::Fail;
 use std::thread::Threads;
-use xrc_edge::NoMemory;
 
 /// The control after ABC was begun at the time 50: the mark at data set 0, place 0 and number 1.
 const MARK: [u8; 49] =
@@ -31,29 +29,33 @@ const GROUP: [u8; 37] =
 /// What a recovery says of the site with a group.
 const GROUP_RECOVERED: &[u8] = b"RECOVERED ABC T=0000000000000080\nPAIR PRIM01 SEC001 DUPLEX\n";
 
-/// What a crash leaves by a choice behind a run that was done.
-fn ended<R: Threads + Wait + Sync + Abort>(
-    rt: &R,
-    alloc: Global,
-    choice: &[u8],
-) -> Result<PlainPlant, NoMemory>
-    ensures { IfOk result (λ plant. NoneLent (⟦<PlainPlant as Plant>⟧.state plant)) }
+/// A site behind a run that was done.
+fn done<R: Threads + Wait + Sync + Abort>(rt: &R, alloc: Global) -> MemoryPlant
+    ensures { NoneLent (⟦<MemoryPlant as Plant>⟧.state result) }
 {
-    let mut plant = site(alloc, &[START, PAIR, END], &[])?;
-    let status = run(rt, alloc, &mut plant)?;
+    let mut plant = site(rt, alloc, &[START, PAIR, END], &[]);
+    let status = run(rt, alloc, &mut plant);
     assert_done(rt, status);
-    plant.crash(alloc, choice)
+    plant
+}
+
+/// What a crash leaves of it by a choice.
+fn ended<R: Threads + Wait + Sync + Abort>(rt: &R, alloc: Global, choice: &[u8]) -> PlainPlant
+    ensures { NoneLent (⟦<PlainPlant as Plant>⟧.state result) }
+{
+    let plant = done(rt, alloc);
+    crash(rt, alloc, &plant, choice)
 }
 
 /// The site of ABC with a duplex pair and a group.
-fn session_site(alloc: Global, group: &[u8]) -> Result<PlainPlant, NoMemory>
-    ensures { IfOk result (λ plant. NoneLent (⟦<PlainPlant as Plant>⟧.state plant)) }
+fn session_site(rt: &impl Abort, alloc: Global, group: &[u8]) -> PlainPlant
+    ensures { NoneLent (⟦<PlainPlant as Plant>⟧.state result) }
 {
-    let mut plain = plain(alloc, 2, JOURNAL, 1, VOLUME, &[])?;
+    let mut plain = plain(rt, alloc, 2, JOURNAL, 1, VOLUME, &[]);
     put(&mut plain, Device::Control, &MARK);
     put(&mut plain, Device::State, &STATE);
     put(&mut plain, Device::Journal(0), group);
-    Ok(plain)
+    plain
 }
 
 /// A recovery says this, and leaves the last tracks and the primary's label.
@@ -62,50 +64,61 @@ fn assert_redone<R: Threads + Wait + Sync + Abort>(
     alloc: Global,
     plant: &mut PlainPlant,
     said: &[u8],
-) -> Result<(), NoMemory>
+)
     requires { NoneLent (⟦<PlainPlant as Plant>⟧.state plant.old) }
     ensures { NoneLent (⟦<PlainPlant as Plant>⟧.state plant.new) }
 {
-    let status = recover(rt, alloc, plant)?;
+    let status = recover(rt, alloc, plant);
     assert_ended(rt, (status, plant.said()), 0, said);
     assert_volume(rt, plant, SECOND, PRIMARY_LABEL);
-    Ok(())
 }
 
 #[test]
-fn a_recovery_behind_a_run_is_repeated(rt: HostRuntime) -> Result<(), Fail> {
+fn a_recovery_behind_a_run_is_repeated(rt: HostRuntime) {
     let alloc = rt.alloc();
     for choice in CHOICES {
-        let mut plant = failing(alloc, ended(&rt, alloc, choice)?, &[])?;
+        let mut plant = failing(&rt, alloc, ended(&rt, alloc, choice), &[]);
         assert_volume(&rt, &mut plant, SECOND, LABEL);
-        assert_left_in(&rt, alloc, &mut plant, Left::Done, 0)?;
-        let mut again = plant.crash(alloc, choice)?;
-        assert_left(&rt, alloc, &mut again, Left::Done, 0)?;
+        assert_left_in(&rt, alloc, &mut plant, Left::Done, 0);
+        let mut again = crash(&rt, alloc, &plant, choice);
+        assert_left(&rt, alloc, &mut again, Left::Done, 0);
     }
-    Ok(())
 }
 
-/// A recovery stops somewhere. Whatever is left is recovered with these lines, and with the same slots and label. Where the label is the
-/// primary's before that, the slots are the last ones already. It tells whether it stopped.
+/// What a crash leaves by a choice is recovered with these lines, and with the same slots and label. Where the label is the primary's
+/// before that, the slots are the last ones already.
+fn assert_repeated<R: Threads + Wait + Sync + Abort>(
+    rt: &R,
+    alloc: Global,
+    plant: &MemoryPlant,
+    choice: &[u8],
+    said: &[u8],
+)
+    requires { NoneLent (⟦<MemoryPlant as Plant>⟧.state plant.now) }
+{
+    let mut left = crash(rt, alloc, plant, choice);
+    if label(&mut left) == PRIMARY_LABEL {
+        assert_volume(rt, &mut left, SECOND, PRIMARY_LABEL);
+    }
+    assert_redone(rt, alloc, &mut left, said);
+}
+
+/// Where a recovery stops, whatever is left is recovered with these lines. It tells whether it stopped.
 fn stops_and_is_repeated<R: Threads + Wait + Sync + Abort>(
     rt: &R,
     alloc: Global,
     mut plant: MemoryPlant,
     said: &[u8],
-) -> Result<bool, NoMemory>
+) -> bool
     requires { NoneLent (⟦<MemoryPlant as Plant>⟧.state plant) }
 {
-    if recover(rt, alloc, &mut plant)? == 0 {
-        return Ok(false);
-    }
-    for choice in CHOICES {
-        let mut left = plant.crash(alloc, choice)?;
-        if label(&mut left) == PRIMARY_LABEL {
-            assert_volume(rt, &mut left, SECOND, PRIMARY_LABEL);
+    let stops = recover(rt, alloc, &mut plant) != 0;
+    if stops {
+        for choice in CHOICES {
+            assert_repeated(rt, alloc, &plant, choice, said);
         }
-        assert_redone(rt, alloc, &mut left, said)?;
     }
-    Ok(true)
+    stops
 }
 
 /// The stop at a call of volume 0.
@@ -119,36 +132,38 @@ fn assert_stops(rt: &impl Abort, stops: bool, expected: bool) {
 
 // Behind a run that was done nothing is in the journal: a sync, the label, and its sync.
 #[test]
-fn a_recovery_that_stops_is_repeated(rt: HostRuntime) -> Result<(), Fail> {
+fn a_recovery_that_stops_is_repeated(rt: HostRuntime) {
     let alloc = rt.alloc();
     for choice in CHOICES {
         for number in 0..4 {
-            let plant = failing(alloc, ended(&rt, alloc, choice)?, &at_call(number))?;
-            let stops = stops_and_is_repeated(&rt, alloc, plant, RECOVERED)?;
+            let plant = failing(&rt, alloc, ended(&rt, alloc, choice), &at_call(number));
+            let stops = stops_and_is_repeated(&rt, alloc, plant, RECOVERED);
             assert_stops(&rt, stops, number < 3);
         }
     }
-    Ok(())
 }
 
 // With a group in the journal the image of its track comes first.
 #[test]
-fn a_recovery_of_a_group_that_stops_is_repeated(rt: HostRuntime) -> Result<(), Fail> {
+fn a_recovery_of_a_group_that_stops_is_repeated(rt: HostRuntime) {
     let alloc = rt.alloc();
     for number in 0..5 {
-        let plant = failing(alloc, session_site(alloc, &GROUP)?, &at_call(number))?;
-        let stops = stops_and_is_repeated(&rt, alloc, plant, GROUP_RECOVERED)?;
+        let plant = failing(
+            &rt,
+            alloc,
+            session_site(&rt, alloc, &GROUP),
+            &at_call(number),
+        );
+        let stops = stops_and_is_repeated(&rt, alloc, plant, GROUP_RECOVERED);
         assert_stops(&rt, stops, number < 4);
     }
-    Ok(())
 }
 
 #[test]
-fn a_group_of_the_journal_is_redone(rt: HostRuntime) -> Result<(), Fail> {
+fn a_group_of_the_journal_is_redone(rt: HostRuntime) {
     let alloc = rt.alloc();
-    let mut plant = session_site(alloc, &GROUP)?;
-    assert_redone(&rt, alloc, &mut plant, GROUP_RECOVERED)?;
-    Ok(())
+    let mut plant = session_site(&rt, alloc, &GROUP);
+    assert_redone(&rt, alloc, &mut plant, GROUP_RECOVERED);
 }
 
 /// The recovery of a session is refused with this status and this line, and volume 0 has its secondary's label and this front of track 3
@@ -161,30 +176,28 @@ fn assert_refused<R: Threads + Wait + Sync + Abort>(
     status: u8,
     line: &[u8],
     third: [u8; 8],
-) -> Result<(), NoMemory>
+)
     requires { NoneLent (⟦<PlainPlant as Plant>⟧.state plant) }
 {
-    let trace = source(alloc, &[], 64, &[])?;
-    let found = call(rt, alloc, words, trace, &mut plant)?;
+    let trace = source(rt, alloc, &[], 64, &[]);
+    let found = call(rt, alloc, words, trace, &mut plant);
     assert_ended(rt, (found, plant.said()), status, line);
     assert_volume(rt, &mut plant, third, LABEL);
-    Ok(())
 }
 
 #[test]
-fn a_recovery_is_refused(rt: HostRuntime) -> Result<(), Fail> {
+fn a_recovery_is_refused(rt: HostRuntime) {
     let alloc = rt.alloc();
-    let zeros = plain(alloc, 2, JOURNAL, 1, VOLUME, &[])?;
-    assert_refused(&rt, alloc, &RECOVER, zeros, 10, b"STATUS 10\n", EMPTY)?;
+    let zeros = plain(&rt, alloc, 2, JOURNAL, 1, VOLUME, &[]);
+    assert_refused(&rt, alloc, &RECOVER, zeros, 10, b"STATUS 10\n", EMPTY);
     let words = ["recover", "XYZ"];
-    let other = ended(&rt, alloc, &[])?;
-    assert_refused(&rt, alloc, &words, other, 11, b"STATUS 11 ABC\n", SECOND)?;
+    let other = ended(&rt, alloc, &[]);
+    assert_refused(&rt, alloc, &words, other, 11, b"STATUS 11 ABC\n", SECOND);
     let mut group = GROUP;
     group[22] = 9;
     let line = b"STATUS 12 JOURNAL 0 22\n";
-    let damaged = session_site(alloc, &group)?;
-    assert_refused(&rt, alloc, &RECOVER, damaged, 12, line, EMPTY)?;
-    Ok(())
+    let damaged = session_site(&rt, alloc, &group);
+    assert_refused(&rt, alloc, &RECOVER, damaged, 12, line, EMPTY);
 }
 
 /// A site with so many journals, which are too short, and volumes is refused with this status and this line.
@@ -195,22 +208,20 @@ fn assert_numbers<R: Threads + Wait + Sync + Abort>(
     volumes: u16,
     status: u8,
     line: &[u8],
-) -> Result<(), NoMemory> {
-    let mut plant = plain(alloc, journals, 64, volumes, 64, &[])?;
-    let found = recover(rt, alloc, &mut plant)?;
+) {
+    let mut plant = plain(rt, alloc, journals, 64, volumes, 64, &[]);
+    let found = recover(rt, alloc, &mut plant);
     assert_ended(rt, (found, plant.said()), status, line);
-    Ok(())
 }
 
 #[test]
-fn sites_of_other_numbers_are_not_recovered(rt: HostRuntime) -> Result<(), Fail> {
+fn sites_of_other_numbers_are_not_recovered(rt: HostRuntime) {
     let alloc = rt.alloc();
     for (journals, volumes) in [(1, 1), (17, 1), (2, 65)] {
-        assert_numbers(&rt, alloc, journals, volumes, 16, b"STATUS 16\n")?;
+        assert_numbers(&rt, alloc, journals, volumes, 16, b"STATUS 16\n");
     }
     let short = b"STATUS 14 JOURNAL 0 1826816\n";
-    assert_numbers(&rt, alloc, 2, 0, 14, short)?;
-    Ok(())
+    assert_numbers(&rt, alloc, 2, 0, 14, short);
 }
 
 /// The first call on a device, or on the console, fails: the recovery ends with this status and has said this.
@@ -220,22 +231,20 @@ fn assert_failed<R: Threads + Wait + Sync + Abort>(
     at: Option<Device>,
     status: u8,
     said: &[u8],
-) -> Result<(), NoMemory> {
+) {
     let fails = [failure(at, 0, 0)];
-    let mut plant = failing(alloc, session_site(alloc, &GROUP)?, &fails)?;
-    let found = recover(rt, alloc, &mut plant)?;
+    let mut plant = failing(rt, alloc, session_site(rt, alloc, &GROUP), &fails);
+    let found = recover(rt, alloc, &mut plant);
     assert_ended(rt, (found, plant.said()), status, said);
-    Ok(())
 }
 
 #[test]
-fn calls_of_a_recovery_that_fail(rt: HostRuntime) -> Result<(), Fail> {
+fn calls_of_a_recovery_that_fail(rt: HostRuntime) {
     let alloc = rt.alloc();
-    assert_failed(&rt, alloc, Some(Device::Control), 6, b"STATUS 6\n")?;
-    assert_failed(&rt, alloc, Some(Device::State), 7, b"STATUS 7\n")?;
-    assert_failed(&rt, alloc, Some(Device::Journal(0)), 5, b"STATUS 5 0\n")?;
+    assert_failed(&rt, alloc, Some(Device::Control), 6, b"STATUS 6\n");
+    assert_failed(&rt, alloc, Some(Device::State), 7, b"STATUS 7\n");
+    assert_failed(&rt, alloc, Some(Device::Journal(0)), 5, b"STATUS 5 0\n");
     let fault = b"RECOVERED ABC T=0000000000000080\nPAIR PRIM01 SEC001 FAULT\nSTATUS 13\n";
-    assert_failed(&rt, alloc, Some(Device::Volume(0)), 13, fault)?;
-    assert_failed(&rt, alloc, None, 3, b"RECOVERED ABC T=")?;
-    Ok(())
+    assert_failed(&rt, alloc, Some(Device::Volume(0)), 13, fault);
+    assert_failed(&rt, alloc, None, 3, b"RECOVERED ABC T=");
 }

@@ -4,46 +4,32 @@ use crate::fixtures::{assert_ended, call, trace, words, worked};
 use std::alloc::Global;
 use std::process::Abort;
 use std::sync::Wait;
-use std::test::Fail;
 use std::thread::Threads;
 use xrc_cli::{Wanted, wanted};
-use xrc_edge::NoMemory;
 
 /// These words want this to be opened.
-fn assert_wants(
-    rt: &impl Abort,
-    alloc: Global,
-    texts: &[&str],
-    expected: Wanted,
-) -> Result<(), NoMemory> {
-    let words = words(alloc, texts)?;
-    let wants = wanted(alloc, &words)?;
+fn assert_wants(rt: &impl Abort, alloc: Global, texts: &[&str], expected: Wanted) {
+    let words = words(rt, alloc, texts);
+    let wants = wanted(alloc, &words).expect(rt, "memory");
     assert!(rt; wants == expected);
-    Ok(())
 }
 
 #[test]
-fn words_of_commands_want_their_files(rt: HostRuntime) -> Result<(), Fail> {
+fn words_of_commands_want_their_files(rt: HostRuntime) {
     let alloc = rt.alloc();
-    assert_wants(&rt, alloc, &["run", "ABC", "1"], Wanted::Traces(1))?;
-    assert_wants(&rt, alloc, &["recover", "ABC"], Wanted::Devices)?;
-    Ok(())
+    assert_wants(&rt, alloc, &["run", "ABC", "1"], Wanted::Traces(1));
+    assert_wants(&rt, alloc, &["recover", "ABC"], Wanted::Devices);
 }
 
 /// These words are refused.
-fn assert_refused<R: Threads + Wait + Sync + Abort>(
-    rt: &R,
-    alloc: Global,
-    texts: &[&str],
-) -> Result<(), NoMemory> {
-    let mut plant = worked(alloc)?;
-    let status = call(rt, alloc, texts, trace(alloc)?, &mut plant)?;
+fn assert_refused<R: Threads + Wait + Sync + Abort>(rt: &R, alloc: Global, texts: &[&str]) {
+    let mut plant = worked(rt, alloc);
+    let status = call(rt, alloc, texts, trace(rt, alloc), &mut plant);
     assert_ended(rt, (status, plant.said()), 2, b"STATUS 2\n");
-    Ok(())
 }
 
 #[test]
-fn other_words_want_nothing_and_are_refused(rt: HostRuntime) -> Result<(), Fail> {
+fn other_words_want_nothing_and_are_refused(rt: HostRuntime) {
     let alloc = rt.alloc();
     let others: [&[&str]; 13] = [
         &[],
@@ -61,8 +47,7 @@ fn other_words_want_nothing_and_are_refused(rt: HostRuntime) -> Result<(), Fail>
         &["recover", "ABC", "1"],
     ];
     for texts in others {
-        assert_wants(&rt, alloc, texts, Wanted::Nothing)?;
-        assert_refused(&rt, alloc, texts)?;
+        assert_wants(&rt, alloc, texts, Wanted::Nothing);
+        assert_refused(&rt, alloc, texts);
     }
-    Ok(())
 }
