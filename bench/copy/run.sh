@@ -2,9 +2,11 @@
 # Times the copy of a volume of 256 MiB against cp of the same bytes followed by sync -f, and prints the ratio.
 set -eu
 
-repository=$(cd "$(dirname "$0")/../.." && pwd)
-program=$repository/crates/xrc/out/xrc
-[ -x "$program" ] || { echo "copy: build the program first, by examples/first-copy/run.sh" >&2; exit 1; }
+# shellcheck source=SCRIPTDIR/../common.sh
+. "$(dirname "$0")/../common.sh"
+
+find_xrc
+enter_folder
 
 cylinders=316
 tracks=$((15 * cylinders))
@@ -12,10 +14,6 @@ content=56656
 
 byte() { printf '\\%03o' "$1"; }
 two_bytes() { printf '%s%s' "$(byte $(($1 / 256)))" "$(byte $(($1 % 256)))"; }
-
-site=$(mktemp -d "${TMPDIR:-/tmp}/copy.XXXXXX")
-trap 'rm -rf "$site"' EXIT
-cd "$site"
 
 # A full image: one record, number 1, no key, 56,656 bytes of content.
 printf "$(two_bytes 1)\\001\\000$(two_bytes $content)" >image
@@ -43,20 +41,13 @@ printf '%s\n' '0000000000000050 XSTART ABC' '0000000000000060 XADDPAIR ABC VOLUM
 head -c "$(stat -c %s trace.0)" /dev/zero >copy
 sync
 
-now() { date +%s%N; }
-
-echo "trace: $(stat -c %s trace.0) bytes, $tracks tracks"
-round=1
-while [ $round -le 5 ]; do
-    start=$(now)
+plain() {
     cp trace.0 copy
     sync -f copy
-    copied=$(now)
-    "$program" run ABC 1 <script >replies
-    ended=$(now)
-    plain=$(((copied - start) / 1000000))
-    ours=$(((ended - copied) / 1000000))
-    echo "round $round: cp and sync $plain ms, xrc $ours ms, ratio $((ours * 100 / plain)) / 100"
-    round=$((round + 1))
-done
+}
+ours() { "$xrc" run ABC 1 <script >replies; }
+tell() { echo "cp and sync $theirs ms, xrc $mine ms, ratio $(ratio "$mine" "$theirs")"; }
+
+echo "trace: $(stat -c %s trace.0) bytes, $tracks tracks"
+repeat compare
 [ "$(wc -l <replies)" -eq 3 ]

@@ -3,30 +3,19 @@
 # prints the speeds and the ratio.
 set -eu
 
-crate=$(cd "$(dirname "$0")/../../crates/bench_read" && pwd)
-program=$crate/out/bench_read
-[ -x "$program" ] || (cd "$crate" && rt run -- round "$crate/out/trace" 2000 20 >/dev/null)
+# shellcheck source=SCRIPTDIR/../common.sh
+. "$(dirname "$0")/../common.sh"
 
-folder=$(mktemp -d "${TMPDIR:-/tmp}/read.XXXXXX")
-trap 'rm -rf "$folder"' EXIT
-cd "$folder"
-"$program" write trace 2000000 20000
+find_bench
+enter_folder
+"$bench" write trace 2000000 20000
 size=$(stat -c %s trace)
 cat trace >/dev/null
 
-now() { date +%s%N; }
+plain() { md5sum trace >/dev/null; }
+ours() { "$bench" read trace >counts; }
+tell() { echo "md5sum $((size / 1000 / theirs)) MB/s, reader $((size / 1000 / mine)) MB/s, ratio $(ratio "$theirs" "$mine")"; }
 
 echo "trace: $size bytes"
-round=1
-while [ $round -le 5 ]; do
-    begun=$(now)
-    md5sum trace >/dev/null
-    summed=$(now)
-    "$program" read trace >counts
-    ended=$(now)
-    plain=$(((summed - begun) / 1000000))
-    ours=$(((ended - summed) / 1000000))
-    echo "round $round: md5sum $((size / 1000 / plain)) MB/s, reader $((size / 1000 / ours)) MB/s, ratio $((plain * 100 / ours)) / 100"
-    round=$((round + 1))
-done
+repeat compare
 cat counts

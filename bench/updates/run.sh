@@ -3,19 +3,15 @@
 # the trace, and prints the ratio.
 set -eu
 
-repository=$(cd "$(dirname "$0")/../.." && pwd)
-program=$repository/crates/xrc/out/xrc
-[ -x "$program" ] || { echo "updates: build the program first, by examples/first-copy/run.sh" >&2; exit 1; }
-crate=$repository/crates/bench_read
-writer=$crate/out/bench_read
-[ -x "$writer" ] || (cd "$crate" && rt run -- round "$crate/out/trace" 2000 20 >/dev/null)
+# shellcheck source=SCRIPTDIR/../common.sh
+. "$(dirname "$0")/../common.sh"
 
-site=$(mktemp -d "${TMPDIR:-/tmp}/updates.XXXXXX")
-trap 'rm -rf "$site"' EXIT
-cd "$site"
+find_xrc
+find_bench
+enter_folder
 
 # The tracks have the times 1 to 1,500 (5DC), and each update a time of its own behind them.
-"$writer" spread trace.0 2000000
+"$bench" spread trace.0 2000000
 printf '%s\n' '00000000000005DB XSTART ABC' '00000000000005DC XADDPAIR ABC VOLUME(PRIM01,SEC001)' '00000000FFFFFFFF XEND ABC' >script
 
 truncate -s 1024 control
@@ -28,26 +24,13 @@ head -c $((512 - 14 + 100 * 860160)) /dev/zero >>volume.0
 sync
 cat trace.0 >/dev/null
 
-now() { date +%s%N; }
+plain() { md5sum trace.0 >/dev/null; }
+ours() { "$xrc" run ABC 1 <script >replies; }
+tell() { echo "md5sum $theirs ms, xrc $mine ms, ratio $(ratio "$mine" "$theirs")"; }
 
 echo "trace: $(stat -c %s trace.0) bytes, 2000000 updates"
-best_plain=
-best_ours=
-round=1
-while [ $round -le 5 ]; do
-    begun=$(now)
-    md5sum trace.0 >/dev/null
-    summed=$(now)
-    "$program" run ABC 1 <script >replies
-    ended=$(now)
-    plain=$(((summed - begun) / 1000000))
-    ours=$(((ended - summed) / 1000000))
-    [ "${best_plain:-$plain}" -lt "$plain" ] || best_plain=$plain
-    [ "${best_ours:-$ours}" -lt "$ours" ] || best_ours=$ours
-    echo "round $round: md5sum $plain ms, xrc $ours ms, ratio $((ours * 100 / plain)) / 100"
-    round=$((round + 1))
-done
-echo "best of each: md5sum $best_plain ms, xrc $best_ours ms, ratio $((best_ours * 100 / best_plain)) / 100"
+repeat compare
+echo "best of each: md5sum $best_theirs ms, xrc $best_mine ms, ratio $(ratio "$best_mine" "$best_theirs")"
 [ "$(wc -l <replies)" -eq 3 ]
 
 # Each of the 18,000 records was updated, so that its 80 bytes are Z.

@@ -2,8 +2,8 @@
 # Kills the program in the middle of a session in a temporary folder, recovers the site, and shows and checks the time and the slots.
 set -eu
 
-# shellcheck source=SCRIPTDIR/../site.sh
-. "$(dirname "$0")/../site.sh"
+# shellcheck source=SCRIPTDIR/../common.sh
+. "$(dirname "$0")/../common.sh"
 
 running=
 writing=

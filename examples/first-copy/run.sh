@@ -2,8 +2,8 @@
 # Copies one volume in a temporary folder by two traces in turn, shows what is said and what stands in the slots, and checks both.
 set -eu
 
-# shellcheck source=SCRIPTDIR/../site.sh
-. "$(dirname "$0")/../site.sh"
+# shellcheck source=SCRIPTDIR/../common.sh
+. "$(dirname "$0")/../common.sh"
 
 cat >wanted <<'WANTED'
 0000000000000050 XSTART OK T=0000000000000050

@@ -1,0 +1,50 @@
+//! Each benchmark once at a small size, so that its numbers can be compared.
+
+use crate::{apply, plant, read, region, sets, trace};
+use anyhow::Result;
+use std::alloc::Global;
+use std::fs::File;
+use std::io::{Stdin, Stdout};
+use std::rt::Files;
+use std::time::Clock;
+
+/// Updates that reach each record of each slot.
+const UPDATES: usize = 600;
+
+const ROUNDS: usize = 64;
+
+const TRACKS: u32 = 15_000;
+
+const TIMES: u32 = 5;
+
+/// Updates that reach each track of a trace that is copied.
+const TRACE_UPDATES: u32 = 2_000;
+
+const TRACE_TRACKS: u32 = 20;
+
+const BLOCKS: u32 = 20;
+
+/// What needs no file.
+fn in_memory<R: Print + Eprint + Clock>(rt: &R, alloc: Global) -> Result<()> {
+    apply::run(rt, alloc, UPDATES)?;
+    region::run(rt, alloc, ROUNDS)?;
+    sets::run(rt, alloc, TRACKS, TIMES)
+}
+
+/// Writes and reads a trace of each kind.
+fn traces<R: Files<File = File> + Print>(rt: &R, alloc: Global, file: &str) -> Result<()> {
+    trace::write_file(rt, alloc, file, TRACE_UPDATES, TRACE_TRACKS)?;
+    read::run(rt, alloc, file)?;
+    trace::write_spread(rt, alloc, file, TRACE_UPDATES)?;
+    read::run(rt, alloc, file)
+}
+
+/// Runs all. The file is a trace of each kind, and then a volume.
+pub fn run<R>(rt: &R, alloc: Global, file: &str, input: Stdin, output: Stdout) -> Result<()>
+where
+    R: Files<File = File> + Print + Eprint + Clock,
+{
+    in_memory(rt, alloc)?;
+    traces(rt, alloc, file)?;
+    plant::run(rt, alloc, file, BLOCKS, input, output)
+}

@@ -1,0 +1,73 @@
+//! The benchmarks. The first word names one, and the words behind it are its own. Times are written to standard error, and what
+//! does not change from run to run to standard output.
+#![tactic(auto)]
+
+mod apply;
+mod check;
+mod measure;
+mod plant;
+mod read;
+mod region;
+mod sets;
+mod trace;
+mod words;
+
+use anyhow::Result;
+use std::env;
+use std::fs::File;
+use std::io::{Stdin, Stdout};
+use std::process::ExitCode;
+use std::rt::{Env, Files};
+use std::time::Clock;
+use words::{Asked, USAGE, read_words};
+
+/// The status where the words name no benchmark.
+const NOT_KNOWN: u8 = 2;
+
+fn perform<R>(rt: &R, asked: Asked, input: Stdin, output: Stdout) -> Result<()>
+where
+    R: Files<File = File> + Clock + AllocGlobal + Print + Eprint,
+{
+    let alloc = rt.alloc();
+    match asked {
+        Asked::Apply => apply::run(rt, alloc, apply::UPDATES),
+        Asked::Check { file } => check::run(rt, alloc, file, input, output),
+        Asked::Plant { file, blocks } => plant::run(rt, alloc, file, blocks, input, output),
+        Asked::Read { file } => read::run(rt, alloc, file),
+        Asked::Region => region::run(rt, alloc, region::ROUNDS),
+        Asked::Sets { tracks, times } => sets::run(rt, alloc, tracks, times),
+        Asked::Spread { file, updates } => trace::write_spread(rt, alloc, file, updates),
+        Asked::Write {
+            file,
+            updates,
+            tracks,
+        } => trace::write_file(rt, alloc, file, updates, tracks),
+    }
+}
+
+fn run<R>(rt: &R, input: Stdin, output: Stdout) -> Result<ExitCode>
+where
+    R: Files<File = File> + Clock + Env + AllocGlobal + Print + Eprint,
+{
+    let words: Vec<String> = env::args(rt)?.skip(1).collect(rt.alloc())?;
+    match read_words(&words) {
+        Some(asked) => {
+            perform(rt, asked, input, output)?;
+            Ok(ExitCode::SUCCESS)
+        }
+        None => {
+            eprintln!(rt; "{USAGE}")?;
+            Ok(ExitCode::from(NOT_KNOWN))
+        }
+    }
+}
+
+fn main(rt: HostRuntime) -> ExitCode {
+    match run(&rt, rt.stdin(), rt.stdout()) {
+        Ok(status) => status,
+        Err(error) => {
+            let _ = rt.eprintln(format_args!("bench: {error:#}"));
+            ExitCode::FAILURE
+        }
+    }
+}

@@ -1,0 +1,180 @@
+//! Writing the traces that are read and copied.
+
+use crate::measure::{NO_MEMORY, copied};
+use anyhow::{Context, Result, bail};
+use ckd_track::{Kind, Rec, Track, Write};
+use std::alloc::Global;
+use std::fs::File;
+use std::io::Write as _;
+use std::rt::Files;
+use tod_stamp::Stamp;
+use write_trace::TraceWriter;
+use xrc_edge::{Bytes, NoMemory};
+
+/// The header of a trace that is read: one volume of 65,520 cylinders without base tracks.
+const HEADER: [u8; 18] = *b"XTR1\x00\x01PRIM01\xFF\xF0\x00\x00\x00\x00";
+
+/// The tracks of that volume.
+const TRACKS: u32 = 982_800;
+
+/// The header of a trace that is copied: one volume of 100 cylinders without base tracks.
+const SPREAD_HEADER: [u8; 18] = *b"XTR1\x00\x01PRIM01\x00\x64\x00\x00\x00\x00";
+
+/// The tracks of that volume.
+const SPREAD_TRACKS: u32 = 1_500;
+
+/// How far the track of an update stands behind that of the one before. It has no divisor in common with the number of tracks,
+/// so that each has its turn.
+const STRIDE: u32 = 601;
+
+/// The bytes of an update.
+const UPDATE: [u8; 80] = [0x5A; 80];
+
+/// The content of a record before its update.
+const BEFORE: [u8; 80] = [0x41; 80];
+
+/// The content of a record of a whole track that is read.
+const CONTENT: [u8; 4_000] = [0x41; 4_000];
+
+/// The records of a whole track.
+const RECORDS: u8 = 12;
+
+/// How much is gathered before it is written to the file.
+const PIECE: usize = 1 << 20;
+
+/// A track of records with this content.
+fn full_track(alloc: Global, content: &[u8]) -> Result<Track, NoMemory> {
+    let mut track = Track::make(alloc);
+    for number in 1..=RECORDS {
+        let rec = Rec {
+            number,
+            key: Bytes::make(alloc),
+            content: copied(alloc, content)?,
+        };
+        if track.fits(&rec) {
+            track.push(alloc, rec)?;
+        }
+    }
+    Ok(track)
+}
+
+fn update(alloc: Global, number: u8) -> Result<Kind, NoMemory> {
+    let bytes = copied(alloc, &UPDATE)?;
+    Ok(Kind::Update { number, bytes })
+}
+
+/// Gathers entries, and writes them to a file piece by piece.
+#[derive(Drop)]
+struct Gathered {
+    file: File,
+    bytes: Bytes,
+}
+
+impl Gathered {
+    /// A new file, which begins with this header.
+    fn begin<R: Files<File = File>>(
+        rt: &R,
+        alloc: Global,
+        name: &str,
+        header: &[u8],
+    ) -> Result<Gathered> {
+        let file = File::create(rt, name).context(format_args!("cannot make {name}"))?;
+        let bytes = copied(alloc, header).ok().context(NO_MEMORY)?;
+        Ok(Gathered { file, bytes })
+    }
+
+    fn put(&mut self, alloc: Global, write: &Write) -> Result<()> {
+        if !write.kind.keeps_rules() || write.track >= TRACKS || write.stamp.0 == 0 {
+            bail!("a write keeps no rules");
+        }
+        TraceWriter::write(alloc, &mut self.bytes, write)
+            .ok()
+            .context(NO_MEMORY)?;
+        if self.bytes.len() >= PIECE {
+            self.flush()?;
+        }
+        Ok(())
+    }
+
+    fn flush(&mut self) -> Result<()> {
+        self.file.write_all(self.bytes.as_slice())?;
+        self.bytes.truncate(0);
+        Ok(())
+    }
+
+    /// So many entries of one kind, on track after track.
+    fn put_all(&mut self, alloc: Global, kind: Kind, stamp: Stamp, count: u32) -> Result<()> {
+        let mut write = Write {
+            volume: 0,
+            track: 0,
+            stamp,
+            kind,
+        };
+        for number in 0..count {
+            write.track = number % TRACKS;
+            self.put(alloc, &write)?;
+        }
+        Ok(())
+    }
+
+    /// Each track of the volume that is copied as a whole, at the times from 1 on.
+    fn put_tracks(&mut self, alloc: Global, kind: Kind) -> Result<()> {
+        let mut write = Write {
+            volume: 0,
+            track: 0,
+            stamp: Stamp(1),
+            kind,
+        };
+        for track in 0..SPREAD_TRACKS {
+            write.track = track;
+            write.stamp = Stamp(1 + u64::from(track));
+            self.put(alloc, &write)?;
+        }
+        Ok(())
+    }
+
+    /// So many updates of records of these tracks, each at a later time than the one before.
+    fn put_updates(&mut self, alloc: Global, count: u32) -> Result<()> {
+        for turn in 0..count {
+            let number = 1 + (turn / SPREAD_TRACKS % u32::from(RECORDS)) as u8;
+            let write = Write {
+                volume: 0,
+                track: turn % SPREAD_TRACKS * STRIDE % SPREAD_TRACKS,
+                stamp: Stamp(1 + u64::from(SPREAD_TRACKS) + u64::from(turn)),
+                kind: update(alloc, number).ok().context(NO_MEMORY)?,
+            };
+            self.put(alloc, &write)?;
+        }
+        Ok(())
+    }
+}
+
+/// Writes a trace of so many updates, and then so many whole tracks.
+pub fn write_file<R: Files<File = File>>(
+    rt: &R,
+    alloc: Global,
+    name: &str,
+    updates: u32,
+    tracks: u32,
+) -> Result<()> {
+    let mut gathered = Gathered::begin(rt, alloc, name, &HEADER)?;
+    let update = update(alloc, 1).ok().context(NO_MEMORY)?;
+    gathered.put_all(alloc, update, Stamp(1), updates)?;
+    let track = full_track(alloc, &CONTENT).ok().context(NO_MEMORY)?;
+    gathered.put_all(alloc, Kind::Whole { track }, Stamp(2), tracks)?;
+    gathered.flush()
+}
+
+/// Writes a trace of the 1,500 tracks of a volume, and then so many updates spread over them, each with a stamp of its own.
+pub fn write_spread<R: Files<File = File>>(
+    rt: &R,
+    alloc: Global,
+    name: &str,
+    updates: u32,
+) -> Result<()> {
+    let mut gathered = Gathered::begin(rt, alloc, name, &SPREAD_HEADER)?;
+    let track = full_track(alloc, &BEFORE).ok().context(NO_MEMORY)?;
+    gathered.put_tracks(alloc, Kind::Whole { track })?;
+    gathered.put_updates(alloc, updates)?;
+    gathered.flush()
+}
