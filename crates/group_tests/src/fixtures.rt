@@ -7,17 +7,18 @@ use ckd_track::{Batch, Kind, Rec, Slot, Track, Write, WriteList};
 use std::alloc::Global;
 use std::fmt::Debug;
 use std::process::Abort;
+use test_fixtures::bytes_of;
 use tod_stamp::Stamp;
 use xrc_edge::Bytes;
 
-/// Asserts that what was found is what was expected. `what` tells one assertion of a test from another.
-pub fn assert_same<T: PartialEq + Debug + Drop>(
+/// What was found is what was expected. The message names the case.
+pub fn assert_same<T: PartialEq + Debug>(
     rt: &impl Abort,
-    what: &str,
-    found: T,
-    expected: T,
+    found: &T,
+    expected: &T,
+    case: &impl Debug,
 ) {
-    assert_eq!(rt; found, expected, "{what}");
+    assert_eq!(rt; found, expected, "{case:?}");
 }
 
 /// So many bytes of 7.
@@ -25,10 +26,8 @@ pub fn filled(rt: &impl Abort, alloc: Global, count: usize) -> Bytes
     ensures bytes { result ≡ replicate count 7 }
     ensures length { length result ≡ count }
 {
-    let mut bytes = Bytes::make(alloc);
     let sevens = vec![in alloc; 7u8; count].expect(rt, "memory");
-    bytes.extend_from_slice(alloc, &sevens).expect(rt, "memory");
-    bytes
+    bytes_of(alloc, &sevens).expect(rt, "memory")
 }
 
 /// A write on volume 0 that empties the track.
@@ -72,8 +71,8 @@ pub fn one_write(
     batch_of(rt, alloc, control, whole(alloc, track, stamp), upto)
 }
 
-/// A slot with a track of one record of so many bytes.
-pub fn slot_of_one(rt: &impl Abort, alloc: Global, count: usize) -> Slot
+/// A track of one record of so many bytes.
+pub fn track_of_one(rt: &impl Abort, alloc: Global, count: usize) -> Track
     ensures { result ≡ record { number = 1; key = []; content = replicate count 7 } ∷ [] }
 {
     let rec = Rec {
@@ -84,6 +83,14 @@ pub fn slot_of_one(rt: &impl Abort, alloc: Global, count: usize) -> Slot
     let mut track = Track::make(alloc);
     assert!(rt; track.fits(&rec));
     track.push(alloc, rec).expect(rt, "memory");
+    track
+}
+
+/// A slot with such a track.
+pub fn slot_of_one(rt: &impl Abort, alloc: Global, count: usize) -> Slot
+    ensures { result ≡ record { number = 1; key = []; content = replicate count 7 } ∷ [] }
+{
+    let track = track_of_one(rt, alloc, count);
     let mut slot = Slot::make(alloc).expect(rt, "memory");
     slot.set(&track);
     slot

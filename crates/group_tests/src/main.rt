@@ -1,23 +1,17 @@
-//! Tests of the state of a group, from its sets of tracks, its chains of blocks and its copy plans to its queues, its floors and whole
-//! runs.
+//! Tests of the state of a group: worked runs, cuts and floors, the room of queues, and each call that may want memory once with
+//! ample memory.
 #![tactic(auto)]
 
-#[cfg(test)]
-mod chains;
 #[cfg(test)]
 mod fixtures;
 #[cfg(test)]
 mod floors;
 #[cfg(test)]
-mod forms;
-#[cfg(test)]
-mod plans;
+mod parts;
 #[cfg(test)]
 mod queues;
 #[cfg(test)]
 mod runs;
-#[cfg(test)]
-mod sets;
 
 /// Its tests are all that this crate has. It is a program, so that no crate stands on it.
 fn main() {}

@@ -55,12 +55,12 @@ fn form(rt: &impl Abort, alloc: Global, state: &mut GroupState, limit: u64, out:
 
 /// The cut that a form took, and control and track of each entry that it gave.
 fn assert_shown(rt: &impl Abort, out: &Formed, cut: u64, shown: &[(u16, u32)]) {
-    assert_same(rt, "cut", out.cut(), Stamp(cut));
+    assert_same(rt, &out.cut(), &Stamp(cut), &shown);
     assert!(rt; out.count() as usize == shown.len());
     for place in 0..out.count() {
         let head = out.head(place);
         let entry = (head.control, head.track);
-        assert_same(rt, "entry", entry, shown[place as usize]);
+        assert_same(rt, &entry, &shown[place as usize], &place);
     }
 }
 
@@ -132,7 +132,7 @@ fn three_writes(rt: &impl Abort, alloc: Global) -> Batch
     }
 }
 
-/// The slower control holds the cut back.
+/// The slower control holds the cut back. A form without news gives nothing.
 #[test]
 fn the_cut_follows_the_slower_control(rt: HostRuntime) {
     let alloc = rt.alloc();
@@ -157,47 +157,38 @@ fn the_cut_follows_the_slower_control(rt: HostRuntime) {
     state.raise(1, Stamp(0x40));
     form(&rt, alloc, &mut state, 0x40, &mut out);
     assert_shown(&rt, &out, 0x40, &[(0, 1)]);
+    let formed = state.form(alloc, Stamp(0x40), &mut out);
+    assert_same(&rt, &formed, &Forming::Nothing, &"formed again");
+}
+
+/// What a batch of two blocks is answered where a control has two records and so many blocks, when its volume is carried.
+fn assert_joined(rt: &impl Abort, alloc: Global, blocks: u32, held: Option<Room>)
+    requires { blocks ≤ 3552 }
+{
+    let mut state = GroupState::make(alloc, 1, 2, blocks).expect(rt, "memory");
+    carry(rt, alloc, &mut state, 0);
+    let found = match state.join(alloc, long_update(rt, alloc)) {
+        Joining::Joined => None,
+        Joining::Held { batch: _, room } => Some(room),
+        Joining::NoMemory { .. } => panic!(rt; "memory"),
+    };
+    assert_same(rt, &found, &held, &blocks);
 }
 
 /// A batch of two blocks is held where one is free, and joins where two are.
 #[test]
 fn a_batch_is_held_by_its_blocks(rt: HostRuntime) {
-    let alloc = rt.alloc();
-    let mut one = GroupState::make(alloc, 1, 2, 1).expect(&rt, "memory");
-    carry(&rt, alloc, &mut one, 0);
-    let held = one.join(alloc, long_update(&rt, alloc));
-    assert!(rt;
-        matches!(
-            &held,
-            Joining::Held {
-                room: Room {
-                    records: 2,
-                    blocks: 1
-                },
-                ..
-            }
-        )
-    );
-    let mut two = GroupState::make(alloc, 1, 2, 2).expect(&rt, "memory");
-    carry(&rt, alloc, &mut two, 0);
-    join(&rt, alloc, &mut two, long_update(&rt, alloc));
+    let room = Room {
+        records: 2,
+        blocks: 1,
+    };
+    assert_joined(&rt, rt.alloc(), 1, Some(room));
+    assert_joined(&rt, rt.alloc(), 2, None);
 }
 
-/// A track that isn't wanted is stale, and takes no room.
+/// A track that isn't wanted is stale. The second copied track is held where one record is all the room.
 #[test]
-fn a_copied_track_that_is_not_wanted_is_stale(rt: HostRuntime) {
-    let alloc = rt.alloc();
-    let mut state = GroupState::make(alloc, 1, 1, 1).expect(&rt, "memory");
-    let slot = Slot::make(alloc).expect(&rt, "memory");
-    carry(&rt, alloc, &mut state, 0);
-    let copied = state.copied(alloc, 0, 0, 1, Stamp(0), &slot);
-    assert_same(&rt, "copied", copied, CopyJoin::Stale);
-    join(&rt, alloc, &mut state, one_write(&rt, alloc, 0, 0, 9, 9));
-}
-
-/// The second copied track is held where one record is all the room.
-#[test]
-fn a_copied_track_is_held_without_room(rt: HostRuntime) {
+fn a_copied_track_is_stale_or_held(rt: HostRuntime) {
     let alloc = rt.alloc();
     let mut state = GroupState::make(alloc, 1, 1, 1).expect(&rt, "memory");
     let slot = Slot::make(alloc).expect(&rt, "memory");
@@ -205,13 +196,16 @@ fn a_copied_track_is_held_without_room(rt: HostRuntime) {
     let first = state.next_wanted(0);
     copy(&rt, alloc, &mut state, 0, 0, 0, &slot);
     let second = state.next_wanted(0);
-    let copied = state.copied(alloc, 0, 0, 1, Stamp(0), &slot);
+    let stale = state.copied(alloc, 0, 0, 0, Stamp(0), &slot);
+    let held = state.copied(alloc, 0, 0, 1, Stamp(0), &slot);
     let none = Room {
         records: 0,
         blocks: 0,
     };
-    assert_same(&rt, "wanted", [first, second], [Some((0, 0)), Some((0, 1))]);
-    assert_same(&rt, "copied", copied, CopyJoin::Held(none));
+    let wanted = [Some((0, 0)), Some((0, 1))];
+    assert_same(&rt, &[first, second], &wanted, &"wanted");
+    let copied = [CopyJoin::Stale, CopyJoin::Held(none)];
+    assert_same(&rt, &[stale, held], &copied, &"copied");
 }
 
 /// What waited at a drop and what is written before the resume is wanted then, and copied.
@@ -241,61 +235,16 @@ fn a_resumed_volume_copies_what_was_written(rt: HostRuntime) {
     copy(&rt, alloc, &mut state, 0, 1, 0x20, &slot);
     form(&rt, alloc, &mut state, 0x20, &mut out);
     assert_shown(&rt, &out, 0x20, &[(0, 0), (0, 1)]);
-    assert_same(&rt, "owed", owed, 2);
-    assert_same(&rt, "wanted", second, Some((0, 1)));
-    assert_same(&rt, "done", out.done_at(0), Some((0, 0)));
+    let found = (owed, second, out.done_at(0));
+    let expected = (2, Some((0, 1)), Some((0, 0)));
+    assert_same(&rt, &found, &expected, &"owed, wanted and done");
 }
 
-/// Entries of one stamp stand by control, in whichever order they were joined.
-#[test]
-fn entries_of_one_stamp_stand_by_control(rt: HostRuntime) {
-    let alloc = rt.alloc();
-    let mut state = GroupState::make(alloc, 4, 32, 3_552).expect(&rt, "memory");
-    let mut out = Formed::make(alloc, 4).expect(&rt, "memory");
-    carry(&rt, alloc, &mut state, 0);
-    carry(&rt, alloc, &mut state, 1);
-    carry(&rt, alloc, &mut state, 2);
-    carry(&rt, alloc, &mut state, 3);
-    join(&rt, alloc, &mut state, one_write(&rt, alloc, 3, 0, 9, 9));
-    join(&rt, alloc, &mut state, one_write(&rt, alloc, 1, 1, 9, 9));
-    join(&rt, alloc, &mut state, one_write(&rt, alloc, 0, 1, 9, 9));
-    join(&rt, alloc, &mut state, one_write(&rt, alloc, 2, 0, 9, 9));
-    form(&rt, alloc, &mut state, 9, &mut out);
-    assert_shown(&rt, &out, 9, &[(0, 1), (1, 1), (2, 0), (3, 0)]);
-}
-
-/// A break: its control, its time and its cause.
-type Break = (u16, Stamp, Cause);
-
-/// The cut that a form took, and the first two breaks that it gave.
-fn assert_breaks(
-    rt: &impl Abort,
-    out: &Formed,
-    cut: u64,
-    first: Option<Break>,
-    second: Option<Break>,
-) {
-    assert_same(rt, "cut", out.cut(), Stamp(cut));
-    assert_same(rt, "first break", out.break_at(0), first);
-    assert_same(rt, "second break", out.break_at(1), second);
-}
-
-/// A break is reported once, with the form whose cut is its time, below the limit and at it.
-#[test]
-fn a_break_is_reported_once(rt: HostRuntime) {
-    let alloc = rt.alloc();
-    let mut state = GroupState::make(alloc, 2, 32, 3_552).expect(&rt, "memory");
-    let mut out = Formed::make(alloc, 2).expect(&rt, "memory");
-    state.broken(0, Stamp(0x40), Cause::ReadFault);
-    state.broken(1, Stamp(0x15), Cause::ReadFault);
-    let slower = Some((1, Stamp(0x15), Cause::ReadFault));
-    let faster = Some((0, Stamp(0x40), Cause::ReadFault));
-    form(&rt, alloc, &mut state, 0x40, &mut out);
-    assert_breaks(&rt, &out, 0x15, slower, None);
-    form(&rt, alloc, &mut state, 0x40, &mut out);
-    assert_breaks(&rt, &out, 0x40, faster, None);
-    form(&rt, alloc, &mut state, 0x50, &mut out);
-    assert_breaks(&rt, &out, 0x50, None, None);
+/// The fourth entry of a group is the copied track of a volume with this image.
+fn assert_last(rt: &impl Abort, out: &Formed, volume: u16, image: &[u8]) {
+    assert!(rt; out.count() == 4 && 15 < out.entry(3).len());
+    assert_same(rt, &out.head(3).volume, &volume, &"volume");
+    assert_same(rt, &&out.entry(3)[15..], &image, &"image");
 }
 
 /// One form has all writes of a batch on one volume, the copied track of another, and two breaks at one time.
@@ -314,18 +263,14 @@ fn two_volumes_and_two_breaks(rt: HostRuntime) {
     copy(&rt, alloc, &mut state, 1, 0, 0x12, &slot);
     let second = state.next_wanted(0);
     form(&rt, alloc, &mut state, 0x40, &mut out);
-    assert_same(&rt, "controls", state.controls(), 3);
-    assert_same(&rt, "wanted", [first, second], [Some((1, 0)), Some((1, 1))]);
+    let wanted = [Some((1, 0)), Some((1, 1))];
+    assert_same(&rt, &[first, second], &wanted, &"wanted");
     assert_shown(&rt, &out, 0x12, &[(0, 0), (0, 1), (0, 0), (0, 0)]);
-    assert!(rt; out.count() == 4);
-    assert!(rt; 15 < out.entry(3).len());
-    let volumes = [out.head(2).volume, out.head(3).volume];
-    assert_same(&rt, "volumes", volumes, [0, 1]);
-    assert_same(&rt, "image", &out.entry(3)[15..], slot.bytes());
-    let first = (1, Stamp(0x12), Cause::ReadFault);
-    let second = (2, Stamp(0x12), Cause::ReadFault);
-    assert_breaks(&rt, &out, 0x12, Some(first), Some(second));
-    assert_same(&rt, "third break", out.break_at(2), None);
+    assert_last(&rt, &out, 1, slot.bytes());
+    let one = Some((1, Stamp(0x12), Cause::ReadFault));
+    let two = Some((2, Stamp(0x12), Cause::ReadFault));
+    let breaks = [out.break_at(0), out.break_at(1), out.break_at(2)];
+    assert_same(&rt, &breaks, &[one, two, None], &"breaks");
     let done = [out.done_at(0), out.done_at(1)];
-    assert_same(&rt, "done", done, [Some((0, 0)), None]);
+    assert_same(&rt, &done, &[Some((0, 0)), None], &"done");
 }

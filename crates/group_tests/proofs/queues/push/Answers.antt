@@ -3,10 +3,10 @@ use Rattle.ckd_track.specs.declared.write.Batch.{Batch}
 use Rattle.pending_queue.specs.Entries.{entry_of, entries_of, last_stamp}
 use Rattle.pending_queue.specs.Queues.{QueueState}
 use Rattle.pending_queue.proofs.EntryLaws.{last_stamp_pushed}
-use Rattle.group_tests.proofs.queues.push_write.Goals as goal
+use Rattle.group_tests.proofs.queues.push.Goals as goal
 
-pub returns-clause-last : goal.returns-clause-last
-returns-clause-last g c =
+pub returns : goal.returns
+returns g c =
     let queue = c.args.queue.now in
     let write = c.args.write in
     let last =
