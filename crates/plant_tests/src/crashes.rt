@@ -5,10 +5,11 @@ ghost use Rattle.crash_plant.specs.Calls.{NoneLent};
 ghost use Rattle.crash_plant.specs.MemoryPlant.{memory_state};
 ghost use Rattle.crash_plant.specs.Moments.{Kept};
 
-use crate::fixtures::{assert_there, fail, plain, planned, read_at, sync_at, write_at};
+use crate::fixtures::{assert_holds, assert_there, planned, sync_at, write_at};
 use crash_plant::{Device, Disk, Fail, MemoryPlant, Plant};
 use std::alloc::Global;
 use std::process::Abort;
+use test_fixtures::fail_at;
 use xrc_edge::Failed;
 
 /// What is done to a journal before a crash.
@@ -21,13 +22,6 @@ enum Step<'a> {
 const JOURNAL: Device = Device::Journal(0);
 
 const WORD: Step<'static> = Step::Write(2, b"WXYZ");
-
-/// A plant of one journal and two volumes of 64 bytes each, with calls that fail.
-fn made(rt: &impl Abort, alloc: Global, fails: &[Fail]) -> MemoryPlant
-    ensures { NoneLent (memory_state result) }
-{
-    planned(rt, alloc, plain(rt, alloc, (1, 64), (2, 64), b"hi"), fails)
-}
 
 fn take_step<P: Plant>(rt: &impl Abort, plant: &mut P, step: Step<'_>) -> Result<(), Failed>
     requires { NoneLent (P.state plant.old) }
@@ -51,21 +45,73 @@ fn leaves(
     requires { NoneLent (memory_state plant.now) }
 {
     let mut left = plant.crash(alloc, choice).expect(rt, "memory");
-    let mut found = [9; 10];
-    assert!(rt; read_at(rt, &mut left, device, 0, &mut found).is_ok());
-    assert_eq!(rt; found, *expected, "of {device:?} by {choice:?}");
+    assert_holds(rt, &mut left, device, 0, expected);
 }
 
-/// Takes the steps on a journal, whose calls fail by plan, and crashes.
-fn run(
-    rt: &impl Abort,
-    alloc: Global,
-    fails: &[Fail],
-    steps: &[Step<'_>],
-    choice: &[u8],
-    expected: &[u8; 10],
-) {
-    let mut plant = made(rt, alloc, fails);
+/// A call of the journal that fails, the steps on it, what a crash leaves in open ranges, and the journal's front then.
+type Row = (
+    Option<u64>,
+    &'static [Step<'static>],
+    &'static [u8],
+    &'static [u8; 10],
+);
+
+const SYNC: Step<'static> = Step::Sync;
+
+/// Ranges that overlap, and that lie within one another, in the order of the calls; ranges that a sync closed; and calls that
+/// failed, which leave their ranges open.
+const ROWS: [Row; 12] = [
+    (None, &[], &[1], &[0; 10]),
+    (None, &[WORD], &[], &[0; 10]),
+    (None, &[WORD], &[1], &[0, 0, 1, 1, 1, 1, 0, 0, 0, 0]),
+    (
+        None,
+        &[WORD],
+        &[0xff],
+        &[0, 0, 0xff, 0xff, 0xff, 0xff, 0, 0, 0, 0],
+    ),
+    (
+        None,
+        &[WORD, Step::Write(4, b"WXYZ")],
+        &[1, 2, 3],
+        &[0, 0, 1, 2, 1, 2, 3, 1, 0, 0],
+    ),
+    (
+        None,
+        &[WORD, Step::Write(3, b"ab")],
+        &[1, 2, 3],
+        &[0, 0, 1, 1, 2, 1, 0, 0, 0, 0],
+    ),
+    (
+        None,
+        &[Step::Write(3, b"ab"), WORD],
+        &[1, 2, 3],
+        &[0, 0, 1, 2, 3, 1, 0, 0, 0, 0],
+    ),
+    (None, &[WORD, SYNC], &[0xff], b"\0\0WXYZ\0\0\0\0"),
+    (
+        None,
+        &[WORD, SYNC, Step::Write(4, b"ab")],
+        &[1],
+        b"\0\0WX\x01\x01\0\0\0\0",
+    ),
+    (Some(0), &[WORD], &[1], &[0, 0, 1, 1, 1, 1, 0, 0, 0, 0]),
+    (Some(0), &[WORD, SYNC], &[1], b"\0\0WX\0\0\0\0\0\0"),
+    (
+        Some(1),
+        &[WORD, SYNC],
+        &[1],
+        &[0, 0, 1, 1, 1, 1, 0, 0, 0, 0],
+    ),
+];
+
+/// Takes the steps on a journal and crashes.
+fn run(rt: &impl Abort, alloc: Global, row: &Row) {
+    let (call, steps, choice, expected) = *row;
+    let mut plant = match call {
+        Some(call) => planned(rt, alloc, 2, &[fail_at(Some(JOURNAL), call, false)]),
+        None => planned(rt, alloc, 2, &[]),
+    };
     for step in steps {
         let _ = take_step(rt, &mut plant, *step);
     }
@@ -75,50 +121,8 @@ fn run(
 
 #[test]
 fn a_crash_fills_the_open_ranges(rt: HostRuntime) {
-    // Overlapping and nested ranges, in the order of the calls.
-    let overlapping = [WORD, Step::Write(4, b"WXYZ")];
-    let within = [WORD, Step::Write(3, b"ab")];
-    let around = [Step::Write(3, b"ab"), WORD];
-    let rows: [(&[Step], &[u8], [u8; 10]); 7] = [
-        (&[], &[1], [0; 10]),
-        (&[WORD], &[], [0; 10]),
-        (&[WORD], &[1], [0, 0, 1, 1, 1, 1, 0, 0, 0, 0]),
-        (&[WORD], &[0xff], [0, 0, 0xff, 0xff, 0xff, 0xff, 0, 0, 0, 0]),
-        (&overlapping, &[1, 2, 3], [0, 0, 1, 2, 1, 2, 3, 1, 0, 0]),
-        (&within, &[1, 2, 3], [0, 0, 1, 1, 2, 1, 0, 0, 0, 0]),
-        (&around, &[1, 2, 3], [0, 0, 1, 2, 3, 1, 0, 0, 0, 0]),
-    ];
-    for (steps, choice, expected) in rows {
-        run(&rt, rt.alloc(), &[], steps, choice, &expected);
-    }
-}
-
-#[test]
-fn a_sync_closes_the_ranges(rt: HostRuntime) {
-    let rows: [(&[Step], &[u8], &[u8; 10]); 2] = [
-        (&[WORD, Step::Sync], &[0xff], b"\0\0WXYZ\0\0\0\0"),
-        (
-            &[WORD, Step::Sync, Step::Write(4, b"ab")],
-            &[1],
-            b"\0\0WX\x01\x01\0\0\0\0",
-        ),
-    ];
-    for (steps, choice, expected) in rows {
-        run(&rt, rt.alloc(), &[], steps, choice, expected);
-    }
-}
-
-#[test]
-fn a_call_that_fails_leaves_its_range_open(rt: HostRuntime) {
-    let open = [0, 0, 0xff, 0xff, 0xff, 0xff, 0, 0, 0, 0];
-    let rows: [(u64, &[Step], [u8; 10]); 3] = [
-        (0, &[WORD], open),
-        (0, &[WORD, Step::Sync], *b"\0\0WX\0\0\0\0\0\0"),
-        (1, &[WORD, Step::Sync], open),
-    ];
-    for (call, steps, expected) in rows {
-        let fails = [fail(Some(JOURNAL), call, false)];
-        run(&rt, rt.alloc(), &fails, steps, &[0xff], &expected);
+    for row in &ROWS {
+        run(&rt, rt.alloc(), row);
     }
 }
 
@@ -175,7 +179,7 @@ fn work_both(rt: &impl Abort, plant: &mut MemoryPlant)
 #[test]
 fn two_volumes_are_lent_at_once(rt: HostRuntime) {
     let alloc = rt.alloc();
-    let mut plant = made(&rt, alloc, &[]);
+    let mut plant = planned(&rt, alloc, 2, &[]);
     work_both(&rt, &mut plant);
     leaves(
         &rt,
@@ -198,7 +202,7 @@ fn two_volumes_are_lent_at_once(rt: HostRuntime) {
 #[test]
 fn what_is_written_while_a_volume_is_lent_is_open(rt: HostRuntime) {
     let alloc = rt.alloc();
-    let mut plant = made(&rt, alloc, &[]);
+    let mut plant = planned(&rt, alloc, 2, &[]);
     let first = Device::Volume(0);
     let second = Device::Volume(1);
     assert!(rt; write_at(&rt, &mut plant, first, 8, b"q").is_ok());

@@ -4,7 +4,7 @@ ghost use Rattle.std.specs.Prelude.{◌≡◌, vec_len, IfOk};
 ghost use Rattle.crash_plant.specs.Calls.{NoneLent};
 
 use crate::calls::{Call, PLACE, WORD, perform};
-use crate::fixtures::holds;
+use crate::fixtures::{assert_holds, assert_same};
 use crash_plant::{Device, FileDisk, FilePlant, Heard, Plant};
 use std::alloc::{AllocGlobal, Global};
 use std::fs::{self, File, OpenOptions};
@@ -59,7 +59,7 @@ fn are_filled<P: Plant>(rt: &impl Abort, plant: &mut P)
     ensures { NoneLent (P.state plant.new) }
 {
     for (_, device, fill) in FILES {
-        holds(rt, plant, device, PLACE, [fill; 4]);
+        assert_holds(rt, plant, device, PLACE, &[fill; 4]);
     }
 }
 
@@ -70,7 +70,7 @@ fn put_word<P: Plant>(rt: &impl Abort, plant: &mut P, device: Device)
 {
     assert!(rt; perform(rt, plant, Call::Write(device)).is_ok());
     assert!(rt; perform(rt, plant, Call::Sync(device)).is_ok());
-    holds(rt, plant, device, PLACE, WORD);
+    assert_holds(rt, plant, device, PLACE, &WORD);
 }
 
 /// Asserts that a file has this content, and removes it.
@@ -103,11 +103,10 @@ fn files_are_a_plant(rt: HostRuntime) -> io::Result<()> {
         end_file(&rt, name, &content)?;
     }
     assert!(rt; perform(&rt, &mut plant, Call::Lent(1)).is_ok());
-    assert_eq!(rt;
-        [plant.hear(), plant.hear()],
-        [Ok(Heard::Byte(b'h')), Ok(Heard::End)]
-    );
-    assert_eq!(rt; plant.say(b"WXYZ"), Ok(()));
+    let heard = [plant.hear(), plant.hear()];
+    let script = [Ok(Heard::Byte(b'h')), Ok(Heard::End)];
+    assert_same(&rt, &heard, &script, &"heard");
+    assert_same(&rt, &plant.say(&WORD), &Ok(()), &"said");
     end_file(&rt, "said", &WORD)?;
     fs::remove_file(&rt, "script")
 }
@@ -124,7 +123,8 @@ fn a_console_alone_is_a_plant(rt: HostRuntime) -> io::Result<()> {
         open(&rt, "said", b"")?,
     );
     let plant = outcome.expect(&rt, "memory");
-    assert_eq!(rt; (plant.volumes(), plant.journals()), (0, 0));
+    let numbers = (plant.volumes(), plant.journals());
+    assert_same(&rt, &numbers, &(0, 0), &"numbers");
     fs::remove_file(&rt, "script")?;
     fs::remove_file(&rt, "said")
 }

@@ -8,11 +8,13 @@ ghost use Rattle.crash_plant.specs.PlainPlant.{plain_state};
 ghost use Rattle.lending.specs.Jobs.{AreApart, OnDisks};
 ghost use Rattle.lending.specs.Out.{AreWorkedOn, WorkedOn};
 
-use crate::fixtures::{fail, plain, planned, read_at};
-use crash_plant::{Device, Disk, Fail, MemoryPlant, PlainPlant, Plant};
+use crate::fixtures::{assert_holds, assert_same, plain, planned, read_at};
+use crash_plant::{Device, Disk, MemoryPlant, PlainPlant, Plant};
 use lending::{VolumeJob, give_back_all, lend_all};
 use std::alloc::Global;
 use std::process::Abort;
+use test_fixtures::fail_at;
+use xrc_edge::Failed;
 
 /// The first bytes of a volume.
 type Front = [u8; 8];
@@ -24,20 +26,6 @@ const WRITTEN: Front = *b"\0\0WXYZ\0\0";
 const OUTER: [bool; 3] = [true, false, true];
 
 const NONE: [bool; 3] = [false; 3];
-
-/// A plant of three volumes.
-fn three_volumes(rt: &impl Abort, alloc: Global) -> PlainPlant
-    ensures { NoneLent (plain_state result) }
-{
-    plain(rt, alloc, (1, 64), (3, 64), b"")
-}
-
-/// Such a plant with its past, and with calls that fail.
-fn failing(rt: &impl Abort, alloc: Global, fails: &[Fail]) -> MemoryPlant
-    ensures { NoneLent (memory_state result) }
-{
-    planned(rt, alloc, three_volumes(rt, alloc), fails)
-}
 
 /// A job on a volume, which failed before or didn't.
 fn job<D>(rt: &impl Abort, alloc: Global, device: u16, failed: bool) -> VolumeJob<D>
@@ -134,62 +122,46 @@ fn run<P: Plant>(
     give_back_all(plant, jobs);
 }
 
-/// Runs on a plant in memory with three jobs, of which some failed before. It says which have failed then.
-fn run_memory(
+/// Runs on a plant with a past with three jobs, of which some failed before. They end so.
+fn run_jobs(
     rt: &impl Abort,
     alloc: Global,
     plant: &mut MemoryPlant,
     wanted: [bool; 3],
     failed: [bool; 3],
     word: &[u8; 4],
-) -> [bool; 3]
+    ends: [bool; 3],
+)
     requires { NoneLent (memory_state plant.old) }
     ensures { NoneLent (memory_state plant.new) }
 {
     let mut jobs = three_jobs(rt, alloc, failed);
     run(rt, plant, &mut jobs, wanted, word);
     let [first, second, third] = jobs;
-    [end(rt, first), end(rt, second), end(rt, third)]
+    let found = [end(rt, first), end(rt, second), end(rt, third)];
+    assert_same(rt, &found, &ends, word);
 }
 
-/// The same on a plant without a past.
-fn run_plain(
-    rt: &impl Abort,
-    alloc: Global,
-    plant: &mut PlainPlant,
-    wanted: [bool; 3],
-    word: &[u8; 4],
-) -> [bool; 3]
+/// Writes the word to the outer volumes of a plant without a past.
+fn run_plain(rt: &impl Abort, alloc: Global, plant: &mut PlainPlant)
     requires { NoneLent (plain_state plant.old) }
     ensures { NoneLent (plain_state plant.new) }
 {
     let mut jobs = three_jobs(rt, alloc, NONE);
-    run(rt, plant, &mut jobs, wanted, word);
+    run(rt, plant, &mut jobs, OUTER, b"WXYZ");
     let [first, second, third] = jobs;
-    [end(rt, first), end(rt, second), end(rt, third)]
-}
-
-/// The first bytes of a volume, where a read gives them.
-fn front<P: Plant>(rt: &impl Abort, plant: &mut P, device: u16) -> Option<Front>
-    requires { NoneLent (P.state plant.old) }
-    ensures { NoneLent (P.state plant.new) }
-{
-    let mut found = [9; 8];
-    read_at(rt, plant, Device::Volume(device), 0, &mut found).ok()?;
-    Some(found)
+    let found = [end(rt, first), end(rt, second), end(rt, third)];
+    assert_same(rt, &found, &NONE, &"without a past");
 }
 
 /// The volumes begin so.
-fn assert_fronts<P: Plant>(rt: &impl Abort, plant: &mut P, expected: [Front; 3])
+fn assert_fronts<P: Plant>(rt: &impl Abort, plant: &mut P, expected: &[Front; 3])
     requires { NoneLent (P.state plant.old) }
     ensures { NoneLent (P.state plant.new) }
 {
-    let found = [
-        front(rt, plant, 0),
-        front(rt, plant, 1),
-        front(rt, plant, 2),
-    ];
-    assert_eq!(rt; found, expected.map(Some));
+    assert_holds(rt, plant, Device::Volume(0), 0, &expected[0]);
+    assert_holds(rt, plant, Device::Volume(1), 0, &expected[1]);
+    assert_holds(rt, plant, Device::Volume(2), 0, &expected[2]);
 }
 
 /// A crash leaves the volumes so.
@@ -198,7 +170,7 @@ fn assert_left(
     alloc: Global,
     plant: &MemoryPlant,
     choice: &[u8],
-    expected: [Front; 3],
+    expected: &[Front; 3],
 )
     requires { NoneLent (memory_state plant.now) }
 {
@@ -206,75 +178,61 @@ fn assert_left(
     assert_fronts(rt, &mut left, expected);
 }
 
-/// A plant in memory whose outer volumes were written.
-fn written(rt: &impl Abort, alloc: Global) -> MemoryPlant
-    ensures { NoneLent (memory_state result) }
-{
-    let mut plant = failing(rt, alloc, &[]);
-    assert_eq!(rt;
-        run_memory(rt, alloc, &mut plant, OUTER, NONE, b"WXYZ"),
-        NONE
-    );
-    plant
-}
-
 #[test]
 fn two_of_three_volumes_are_worked_on(rt: HostRuntime) {
     let alloc = rt.alloc();
-    let mut plant = three_volumes(&rt, alloc);
-    assert_eq!(&rt; run_plain(&rt, alloc, &mut plant, OUTER, b"WXYZ"), NONE);
-    assert_fronts(&rt, &mut plant, [WRITTEN, NOTHING, WRITTEN]);
-    let mut plant = written(&rt, alloc);
-    assert_fronts(&rt, &mut plant, [WRITTEN, NOTHING, WRITTEN]);
+    let mut plant = plain(&rt, alloc, 3);
+    run_plain(&rt, alloc, &mut plant);
+    assert_fronts(&rt, &mut plant, &[WRITTEN, NOTHING, WRITTEN]);
 }
 
 #[test]
 fn a_crash_fills_what_is_open_on_each(rt: HostRuntime) {
-    let plant = written(&rt, rt.alloc());
+    let alloc = rt.alloc();
+    let mut plant = planned(&rt, alloc, 3, &[]);
+    run_jobs(&rt, alloc, &mut plant, OUTER, NONE, b"WXYZ", NONE);
+    assert_fronts(&rt, &mut plant, &[WRITTEN, NOTHING, WRITTEN]);
     let rows: [(&[u8], Front); 3] = [
         (&[], NOTHING),
         (&[1], [0, 0, 1, 1, 1, 1, 0, 0]),
         (&[0xff], [0, 0, 0xff, 0xff, 0xff, 0xff, 0, 0]),
     ];
     for (choice, open) in rows {
-        assert_left(&rt, rt.alloc(), &plant, choice, [WRITTEN, NOTHING, open]);
+        assert_left(&rt, alloc, &plant, choice, &[WRITTEN, NOTHING, open]);
     }
 }
 
 #[test]
 fn no_volume_is_wanted(rt: HostRuntime) {
     let alloc = rt.alloc();
-    let stop = fail(Some(Device::Volume(0)), 0, true);
-    let mut plant = failing(&rt, alloc, &[stop]);
-    assert_eq!(&rt;
-        run_memory(&rt, alloc, &mut plant, NONE, NONE, b"WXYZ"),
-        NONE
-    );
-    assert_left(&rt, alloc, &plant, &[1], [NOTHING; 3]);
+    let stop = fail_at(Some(Device::Volume(0)), 0, true);
+    let mut plant = planned(&rt, alloc, 3, &[stop]);
+    run_jobs(&rt, alloc, &mut plant, NONE, NONE, b"WXYZ", NONE);
+    assert_left(&rt, alloc, &plant, &[1], &[NOTHING; 3]);
 }
 
 #[test]
 fn a_volume_whose_read_fails_is_lent_no_more(rt: HostRuntime) {
     let alloc = rt.alloc();
-    let read = fail(Some(Device::Volume(2)), 1, false);
-    let mut plant = failing(&rt, alloc, &[read]);
-    let failed = run_memory(&rt, alloc, &mut plant, OUTER, NONE, b"WXYZ");
-    let after = run_memory(&rt, alloc, &mut plant, [true; 3], failed, b"abcd");
-    assert_eq!(&rt; [failed, after], [[false, false, true]; 2]);
+    let read = fail_at(Some(Device::Volume(2)), 1, false);
+    let mut plant = planned(&rt, alloc, 3, &[read]);
+    let last = [false, false, true];
+    run_jobs(&rt, alloc, &mut plant, OUTER, NONE, b"WXYZ", last);
+    run_jobs(&rt, alloc, &mut plant, [true; 3], last, b"abcd", last);
     let other = *b"\0\0abcd\0\0";
-    assert_fronts(&rt, &mut plant, [other, other, WRITTEN]);
+    assert_fronts(&rt, &mut plant, &[other, other, WRITTEN]);
 }
 
 #[test]
 fn a_stop_on_a_lent_volume_begins_for_the_others_once_it_is_back(rt: HostRuntime) {
     let alloc = rt.alloc();
-    let stop = fail(Some(Device::Volume(0)), 0, true);
-    let mut plant = failing(&rt, alloc, &[stop]);
-    let failed = run_memory(&rt, alloc, &mut plant, [true; 3], NONE, b"WXYZ");
-    assert_eq!(&rt; failed, [true, false, false]);
-    assert_eq!(&rt; front(&rt, &mut plant, 1), None);
+    let stop = fail_at(Some(Device::Volume(0)), 0, true);
+    let mut plant = planned(&rt, alloc, 3, &[stop]);
+    let first = [true, false, false];
+    run_jobs(&rt, alloc, &mut plant, [true; 3], NONE, b"WXYZ", first);
+    let found = read_at(&rt, &mut plant, Device::Volume(1), 0, &mut [0; 8]);
+    assert_same(&rt, &found, &Err(Failed), &"another volume");
     let open = [0, 0, 1, 1, 1, 1, 0, 0];
-    assert_left(&rt, alloc, &plant, &[1], [open; 3]);
-    let failed = run_memory(&rt, alloc, &mut plant, OUTER, NONE, b"abcd");
-    assert_eq!(&rt; failed, OUTER);
+    assert_left(&rt, alloc, &plant, &[1], &[open; 3]);
+    run_jobs(&rt, alloc, &mut plant, OUTER, NONE, b"abcd", OUTER);
 }

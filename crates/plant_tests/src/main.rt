@@ -1,8 +1,6 @@
-//! Tests of plants, of gates and labels on their devices, and of volumes that are lent.
+//! Tests of plants: what a crash leaves of them, calls that fail, volumes that are lent, and files.
 #![tactic(auto)]
 
-#[cfg(test)]
-mod bodies;
 #[cfg(test)]
 mod calls;
 #[cfg(test)]
@@ -11,8 +9,6 @@ mod crashes;
 mod files;
 #[cfg(test)]
 mod fixtures;
-#[cfg(test)]
-mod labels;
 #[cfg(test)]
 mod loans;
 #[cfg(test)]

@@ -1,5 +1,4 @@
 use Rattle.std.proofs.Common.{refl, ◌∙◌, arith}
-use Rattle.crash_plant.specs.Calls.{SameLoan}
 use Rattle.crash_plant.specs.MemoryPlant.{memory_state}
 use Rattle.crash_plant.specs.MemoryVolume.{volume_standing}
 use Rattle.crash_plant.proofs.Lent.{lent_one}
