@@ -1,4 +1,2 @@
-mod LowItems
 mod LowEntries
-mod PairAdded
 mod PutRow

@@ -1,20 +1,27 @@
-//! The records of changes of every kind, byte for byte, on a plant that tells no bytes.
+//! The records of changes of every kind, byte for byte, and a record that doesn't fit, on a plant of files, which tells no bytes.
 
 ghost use Rattle.std.specs.Prelude.{◌≡◌, ◌≤◌, [], length, vec_len, OnOk};
 ghost use Rattle.crash_plant.specs.Calls.{NoneLent};
 ghost use Rattle.site_store.specs.Changes.{named};
 ghost use Rattle.site_store.specs.Standing.{Fits};
 
-use crate::fixtures::{JOURNAL, PAIR, assert_holds, first_row, second_row};
-use crate::sites::start;
-use crash_plant::{Device, FileDisk, FilePlant, Plant};
-use pair_table::{Change, DeviceList, PairRow, PairState, SuspendCause};
+use crate::fixtures::{JOURNAL, assert_same, first_row, second_row, session};
+use crash_plant::{Device, FileDisk, FilePlant, Plant, Spot};
+use pair_table::{Change, DeviceList, Level, PairRow, PairState, SuspendCause};
 use site_store::{Site, StoreError};
 use std::alloc::Global;
 use std::fs::{self, File, OpenOptions};
 use std::process::Abort;
 use std::rt::Files;
+use test_fixtures::content;
 use tod_stamp::Stamp;
+use xrc_journal::{AppendError, Body, Journal};
+
+/// The item of PRIM01 and SEC001, control 0, volume 0, device 0, one cylinder, duplex.
+const FIRST: [u8; 31] = [
+    3, 0x50, 0x52, 0x49, 0x4D, 0x30, 0x31, 0x53, 0x45, 0x43, 0x30, 0x30, 0x31, 0, 0, 0, 0, 0, 0, 0,
+    1, 2, 0, 0, 0, 0, 0, 0, 0, 0, 0,
+];
 
 /// The item of PRIM02 and SEC002, control 0, volume 1, device 5, two cylinders, suspended by a command since 80.
 const SECOND: [u8; 31] = [
@@ -27,6 +34,19 @@ const ITEMS: u64 = 46;
 
 /// What stands from there on.
 type Tail = [u8; 64];
+
+/// The session ABC, started at the time 50 on a plant that tells no bytes.
+fn start<P: Plant>(rt: &impl Abort, alloc: Global, plant: &mut P) -> Site<P::Volume>
+    requires { NoneLent (P.state plant.old) }
+    ensures idle { result.waiting ≡ [] }
+    ensures fits { Fits result (P.state plant.new) }
+{
+    assert!(rt; plant.length(Device::Control) == 1_024 && plant.length(Device::State) == 16_384);
+    assert!(rt; plant.journals() == 2 && plant.volumes() <= 64);
+    assert!(rt; plant.length(Device::Journal(0)) == JOURNAL);
+    assert!(rt; plant.length(Device::Journal(1)) == JOURNAL);
+    Site::format(alloc, plant, session(rt), Level::Session, 1, Stamp(0x50)).expect(rt, "a site")
+}
 
 /// The length of these items, they themselves, and zeros.
 fn tail(rt: &impl Abort, items: &[u8]) -> Tail {
@@ -87,7 +107,7 @@ fn put_both<P: Plant>(rt: &impl Abort, alloc: Global, site: &mut Site<P::Volume>
         cause: SuspendCause::Command,
         since: Stamp(0x80),
     };
-    put(rt, alloc, site, plant, first_row(rt, 0, PairState::Duplex));
+    put(rt, alloc, site, plant, first_row(rt, 0));
     put(rt, alloc, site, plant, second_row(rt, 1, 5, 2, suspended));
 }
 
@@ -104,12 +124,13 @@ fn assert_record<P: Plant>(
     requires mute { ¬ P.tells }
     requires few { named change.now ≤ 3 }
 {
-    let mut site = start(rt, alloc, plant).expect(rt, "a site");
+    let mut site = start(rt, alloc, plant);
     put_both(rt, alloc, &mut site, plant);
     let gone = Change::Gone(devices(rt, alloc, &[0x1234]));
     log(rt, alloc, &mut site, plant, &gone).expect(rt, "a record");
     log(rt, alloc, &mut site, plant, change).expect(rt, "a record");
-    assert_holds(rt, plant, Device::Journal(0), ITEMS, expected);
+    let found = content(plant, Device::Journal(0), ITEMS);
+    assert_same(rt, &found, &Some(*expected), &"the record");
 }
 
 /// A few devices.
@@ -196,6 +217,30 @@ fn assert_items<R: Files<File = File> + Abort>(rt: &R, alloc: Global, change: &C
     assert_record(rt, alloc, &mut plant, change, &expected);
 }
 
+/// A record of 25 bytes and a switch of 24 behind it don't fit 48 bytes, and nothing changes.
+fn refuses<P: Plant>(rt: &impl Abort, alloc: Global, plant: &mut P)
+    requires home { NoneLent (P.state plant.old) }
+    requires mute { ¬ P.tells }
+{
+    let at = Spot {
+        set: 1,
+        place: JOURNAL - 48,
+        number: 1,
+    };
+    let mut journal = Journal { at, marked: at };
+    let mut body = Body::make(alloc, 3).expect(rt, "memory");
+    body.put_gone(9);
+    assert!(rt; plant.journals() == 2);
+    assert!(rt; plant.length(Device::Journal(1)) == JOURNAL);
+    let no_room = AppendError::NoRoom {
+        needed: 49,
+        free: 48,
+    };
+    let found = journal.append(plant, Stamp(0x80), &body);
+    assert_same(rt, &found, &Err(no_room), &"no room");
+    assert_same(rt, &journal, &Journal { at, marked: at }, &"the journal");
+}
+
 #[test]
 fn each_change_has_the_items_of_its_rows(rt: HostRuntime) {
     let alloc = rt.alloc();
@@ -203,17 +248,18 @@ fn each_change_has_the_items_of_its_rows(rt: HostRuntime) {
     assert_items(&rt, alloc, &Change::Nothing, &[]);
     assert_items(&rt, alloc, &Change::Started, &[]);
     assert_items(&rt, alloc, &Change::Ended, &[]);
-    assert_items(&rt, alloc, &Change::Added(0), &PAIR);
+    assert_items(&rt, alloc, &Change::Added(0), &FIRST);
     assert_items(&rt, alloc, &Change::Resumed(5), &SECOND);
     // Rows that are suspended are items in their order.
     let suspended = Change::Suspended(devices(&rt, alloc, &[5, 0]));
     let mut both = [0; 62];
     both[..31].copy_from_slice(&SECOND);
-    both[31..].copy_from_slice(&PAIR);
+    both[31..].copy_from_slice(&FIRST);
     assert_items(&rt, alloc, &suspended, &both);
     // Rows that go are named by their devices.
     let gone = Change::Gone(devices(&rt, alloc, &[0x0102, 0]));
     assert_items(&rt, alloc, &gone, &[4, 1, 2, 4, 0, 0]);
+    refuses(&rt, alloc, &mut files(&rt, alloc));
     for name in FILES {
         fs::remove_file(&rt, name).expect(&rt, "a file");
     }

@@ -8,82 +8,75 @@ use pair_table::PairRow;
 use pending_queue::{EntryHead, Formed, Queue};
 use std::alloc::Global;
 use std::process::Abort;
+use test_fixtures::bytes_of;
 use tod_stamp::Stamp;
 use xrc_edge::Bytes;
-
-/// The image of a track of record 1 with these two bytes.
-pub(crate) const fn image(first: u8, second: u8) -> [u8; 8] {
-    [0, 1, 1, 0, 0, 2, first, second]
-}
-
-/// A write to a track of a volume of control 0.
-pub(crate) const fn write_to(volume: u16, track: u32, stamp: u64, kind: Kind) -> Write {
-    Write {
-        volume,
-        track,
-        stamp: Stamp(stamp),
-        kind,
-    }
-}
-
-fn bytes(rt: &impl Abort, alloc: Global, from: &[u8]) -> Bytes {
-    let mut bytes = Bytes::make(alloc);
-    assert!(rt; bytes.extend_from_slice(alloc, from).is_ok());
-    bytes
-}
 
 /// An update of record 1.
 pub(crate) fn update(rt: &impl Abort, alloc: Global, content: &[u8]) -> Kind {
     Kind::Update {
         number: 1,
-        bytes: bytes(rt, alloc, content),
+        bytes: bytes_of(alloc, content).expect(rt, "memory"),
     }
 }
 
 /// Record 1, of two bytes.
-fn rec(rt: &impl Abort, alloc: Global, content: [u8; 2]) -> Rec {
+fn rec(rt: &impl Abort, alloc: Global, content: &[u8; 2]) -> Rec {
     Rec {
         number: 1,
         key: Bytes::make(alloc),
-        content: bytes(rt, alloc, &content),
+        content: bytes_of(alloc, content).expect(rt, "memory"),
     }
 }
 
 /// Record 1 behind the track's start.
-pub(crate) fn format(rt: &impl Abort, alloc: Global, content: [u8; 2]) -> Kind {
+pub(crate) fn format(rt: &impl Abort, alloc: Global, content: &[u8; 2]) -> Kind {
     let mut recs = RecList::make(alloc);
-    assert!(rt; recs.push(alloc, rec(rt, alloc, content)).is_ok());
+    recs.push(alloc, rec(rt, alloc, content))
+        .expect(rt, "memory");
     Kind::Format { after: 0, recs }
 }
 
 /// A whole track of record 1 alone.
-pub(crate) fn whole(rt: &impl Abort, alloc: Global, content: [u8; 2]) -> Kind {
+pub(crate) fn whole(rt: &impl Abort, alloc: Global, content: &[u8; 2]) -> Kind {
     let mut track = Track::make(alloc);
     let rec = rec(rt, alloc, content);
     assert!(rt; track.fits(&rec));
-    assert!(rt; track.push(alloc, rec).is_ok());
+    track.push(alloc, rec).expect(rt, "memory");
     Kind::Whole { track }
 }
 
-/// Adds the entry of a write, which is popped from a queue with room for one.
-pub(crate) fn add(rt: &impl Abort, alloc: Global, formed: &mut Formed, write: Write)
+/// Adds the entry of a write to a track of a volume of control 0, which is popped from a queue with room for one.
+pub(crate) fn add(
+    rt: &impl Abort,
+    alloc: Global,
+    formed: &mut Formed,
+    at: (u16, u32),
+    stamp: u64,
+    kind: Kind,
+)
     requires { formed.old.controls ≡ 1 }
-    ensures controls { formed.new.controls ≡ 1 }
-    ensures cut { formed.new.cut ≡ formed.old.cut }
+    ensures { formed.new.controls ≡ 1 }
 {
-    assert!(rt; write.kind.keeps_rules());
-    let upto = write.stamp;
+    assert!(rt; kind.keeps_rules());
+    let stamp = Stamp(stamp);
+    let write = Write {
+        volume: at.0,
+        track: at.1,
+        stamp,
+        kind,
+    };
     let mut writes = WriteList::make(alloc);
-    assert!(rt; writes.push(alloc, write).is_ok());
+    writes.push(alloc, write).expect(rt, "memory");
     let batch = Batch {
         control: 0,
         writes,
-        upto,
+        upto: stamp,
     };
     let mut queue = Queue::make(alloc, 0, 1, 200).expect(rt, "memory");
-    assert!(rt; queue.push_all(alloc, &batch).is_ok());
+    queue.push_all(alloc, &batch).expect(rt, "room");
     assert!(rt; formed.count() < 32 && queue.free().records <= 1);
-    assert!(rt; queue.pop_upto(alloc, upto, formed).is_ok());
+    queue.pop_upto(alloc, stamp, formed).expect(rt, "memory");
 }
 
 /// Whether a row is that of an entry.

@@ -6,30 +6,33 @@ ghost use Rattle.std.specs.List.{All};
 ghost use Rattle.crash_plant.specs.Calls.{NoneLent};
 ghost use Rattle.crash_plant.specs.MemoryPlant.{memory_state};
 ghost use Rattle.crash_plant.specs.MemoryVolume.{volume_standing};
-ghost use Rattle.crash_plant.specs.PlainPlant.{plain_state};
 ghost use Rattle.image_former.specs.Entries.{entry_device, is_row_of, row_device};
 
-use crate::entries::{add, format, image, is_row_of, update, whole, write_to};
-use crate::fixtures::{
-    FOUR_TRACKS, assert_volume, fail_at, failing, first_row, second_row, table_of, write, zeros,
-};
+use crate::entries::{add, format, is_row_of, update, whole};
+use crate::fixtures::{assert_same, first_row, put_row, second_row, session};
 use ckd_track::Slot;
-use crash_plant::{Device, Disk, MemoryPlant, MemoryVolume, PlainPlant, Plant};
+use crash_plant::{Device, Disk, MemoryPlant, MemoryVolume, Plant};
 use image_former::form_body;
 use pair_table::{PairState, PairTable};
 use pending_queue::{EntryHead, Formed};
 use std::alloc::Global;
 use std::process::Abort;
+use test_fixtures::{fail_at, failing, put, zeros};
 use xrc_journal::{Body, VolumeJob};
 
 /// The most bytes of a test's items.
 const ROOM: u32 = 600_000;
 
+/// The length of a volume that ends with the slot of track 3.
+const FOUR_TRACKS: u64 = 229_888;
+
 /// Volume 7 of control 0 has its secondary on device 0, and volume 5 on device 1.
 fn worked_table(rt: &impl Abort, alloc: Global) -> PairTable {
-    let first = first_row(rt, 7, PairState::Duplex);
+    let mut table = PairTable::make(alloc, session(rt)).expect(rt, "memory");
+    put_row(rt, alloc, &mut table, first_row(rt, 7));
     let second = second_row(rt, 5, 1, 1, PairState::Duplex);
-    table_of(rt, alloc, first, second)
+    put_row(rt, alloc, &mut table, second);
+    table
 }
 
 /// The device of the row of an entry.
@@ -73,124 +76,38 @@ fn worked_group(rt: &impl Abort, alloc: Global) -> Formed
     ensures { result.controls ≡ 1 }
 {
     let mut formed = empty_group(rt, alloc);
-    add(
-        rt,
-        alloc,
-        &mut formed,
-        write_to(7, 0, 10, update(rt, alloc, b"XY")),
-    );
-    add(
-        rt,
-        alloc,
-        &mut formed,
-        write_to(5, 0, 11, update(rt, alloc, b"P")),
-    );
-    add(
-        rt,
-        alloc,
-        &mut formed,
-        write_to(7, 1, 12, format(rt, alloc, *b"CD")),
-    );
-    add(
-        rt,
-        alloc,
-        &mut formed,
-        write_to(7, 0, 13, update(rt, alloc, b"Z")),
-    );
-    add(
-        rt,
-        alloc,
-        &mut formed,
-        write_to(7, 2, 14, whole(rt, alloc, *b"EF")),
-    );
-    add(
-        rt,
-        alloc,
-        &mut formed,
-        write_to(5, 3, 15, whole(rt, alloc, *b"GH")),
-    );
-    add(
-        rt,
-        alloc,
-        &mut formed,
-        write_to(5, 3, 16, format(rt, alloc, *b"IJ")),
-    );
-    add(
-        rt,
-        alloc,
-        &mut formed,
-        write_to(7, 2, 17, update(rt, alloc, b"K")),
-    );
-    add(
-        rt,
-        alloc,
-        &mut formed,
-        write_to(5, 3, 18, whole(rt, alloc, *b"LM")),
-    );
+    let out = &mut formed;
+    add(rt, alloc, out, (7, 0), 10, update(rt, alloc, b"XY"));
+    add(rt, alloc, out, (5, 0), 11, update(rt, alloc, b"P"));
+    add(rt, alloc, out, (7, 1), 12, format(rt, alloc, b"CD"));
+    add(rt, alloc, out, (7, 0), 13, update(rt, alloc, b"Z"));
+    add(rt, alloc, out, (7, 2), 14, whole(rt, alloc, b"EF"));
+    add(rt, alloc, out, (5, 3), 15, whole(rt, alloc, b"GH"));
+    add(rt, alloc, out, (5, 3), 16, format(rt, alloc, b"IJ"));
+    add(rt, alloc, out, (7, 2), 17, update(rt, alloc, b"K"));
+    add(rt, alloc, out, (5, 3), 18, whole(rt, alloc, b"LM"));
     formed
 }
 
-/// A plant with two volumes. Slot 0 of each has record 1 with the bytes A and B, and no other slot holds a track.
-fn plain(rt: &impl Abort, alloc: Global) -> PlainPlant
-    ensures { NoneLent (plain_state result) }
-{
-    let mut plant = zeros(rt, alloc, 200, 2, FOUR_TRACKS);
-    fill(rt, &mut plant, 0);
-    fill(rt, &mut plant, 1);
-    plant
-}
-
-fn fill<P: Plant>(rt: &impl Abort, plant: &mut P, device: u16)
-    requires { NoneLent (P.state plant.old) }
-    ensures { NoneLent (P.state plant.new) }
-{
-    let volume = Device::Volume(device);
-    write(rt, plant, volume, 512, &image(0x41, 0x42));
-    write(rt, plant, volume, 57_856, &[7; 8]);
-}
-
-/// Such a plant in memory, of which this call of a volume fails, where one is given.
-fn with_fail(rt: &impl Abort, alloc: Global, device: u16, call: Option<u64>) -> MemoryPlant
+/// A plant with a volume, of which this call fails, where one is given. Slot 0 has record 1 with the bytes A and B, and no other slot
+/// holds a track.
+fn filled(rt: &impl Abort, alloc: Global, call: Option<u64>) -> MemoryPlant
     ensures { NoneLent (memory_state result) }
 {
-    let plain = plain(rt, alloc);
-    match call {
-        Some(call) => failing(
-            rt,
-            alloc,
-            plain,
-            &[fail_at(Device::Volume(device), call, false)],
-        ),
-        None => failing(rt, alloc, plain, &[]),
-    }
+    let volume = Device::Volume(0);
+    let made = zeros(alloc, (2, 200), (1, FOUR_TRACKS), b"");
+    let mut plain = made.expect(rt, "memory");
+    assert!(rt; put(&mut plain, volume, 512, &[0, 1, 1, 0, 0, 2, 0x41, 0x42]));
+    assert!(rt; put(&mut plain, volume, 57_856, &[7; 8]));
+    let planned = match call {
+        Some(call) => failing(alloc, plain, &[fail_at(Some(volume), call, false)]),
+        None => failing(alloc, plain, &[]),
+    };
+    planned.expect(rt, "memory")
 }
 
-/// A job on a volume that is lent, which ends with the slot of track 3.
-fn job_on<P: Plant>(
-    rt: &impl Abort,
-    alloc: Global,
-    plant: &mut P,
-    device: u16,
-    failed: bool,
-) -> VolumeJob<P::Volume>
-    requires { NoneLent (P.state plant.old) }
-    ensures device { result.device ≡ device }
-    ensures disk { IsSomeAnd result.disk (λ volume. (P.Volume.state volume).length_is ≡ FOUR_TRACKS) }
-{
-    assert_volume(rt, plant, device);
-    let slot = Slot::make(alloc).expect(rt, "memory");
-    let volume = plant.lend(device);
-    assert!(rt; volume.length() == FOUR_TRACKS);
-    VolumeJob {
-        device,
-        disk: Some(volume),
-        slot,
-        failed,
-    }
-}
-
-/// A job on a volume of which this call fails.
-fn failing_job(
+/// A job for a device on a volume of which this call fails.
+fn job(
     rt: &impl Abort,
     alloc: Global,
     device: u16,
@@ -200,42 +117,41 @@ fn failing_job(
     ensures device { result.device ≡ device }
     ensures disk { IsSomeAnd result.disk (λ volume. (volume_standing volume).length_is ≡ FOUR_TRACKS) }
 {
-    let mut plant = with_fail(rt, alloc, device, call);
-    job_on(rt, alloc, &mut plant, device, failed)
+    let mut plant = filled(rt, alloc, call);
+    assert!(rt; plant.volumes() == 1);
+    let slot = Slot::make(alloc).expect(rt, "memory");
+    let volume = plant.lend(0);
+    assert!(rt; volume.length() == FOUR_TRACKS);
+    VolumeJob {
+        device,
+        disk: Some(volume),
+        slot,
+        failed,
+    }
 }
 
-/// Forms a group over two volumes of which these calls fail. The body and the jobs' marks end so.
-fn forms(
-    rt: &impl Abort,
-    alloc: Global,
-    formed: &Formed,
-    calls: (Option<u64>, Option<u64>),
-    failed: (bool, bool),
-    expected: &[u8],
-    marks: (bool, bool),
-) {
+/// Calls of the two volumes that fail, whether their jobs had failed, the body that is formed, and whether the jobs have failed
+/// then.
+type Row<'a> = (
+    (Option<u64>, Option<u64>),
+    (bool, bool),
+    &'a [u8],
+    (bool, bool),
+);
+
+/// Forms a group over two volumes.
+fn forms(rt: &impl Abort, alloc: Global, formed: &Formed, row: &Row<'_>) {
+    let (calls, failed, expected, marks) = *row;
     let table = worked_table(rt, alloc);
     assert_low(rt, formed, &table);
     assert!(rt; formed.count() <= 10);
-    let first = failing_job(rt, alloc, 0, calls.0, failed.0);
-    let second = failing_job(rt, alloc, 1, calls.1, failed.1);
+    let first = job(rt, alloc, 0, calls.0, failed.0);
+    let second = job(rt, alloc, 1, calls.1, failed.1);
     let mut jobs = [first, second];
     let mut body = Body::make(alloc, ROOM).expect(rt, "memory");
     form_body(formed, &table, &mut jobs, &mut body);
-    assert!(rt; body.bytes() == expected);
-    assert!(rt; (jobs[0].failed, jobs[1].failed) == marks);
-}
-
-/// With these calls of the volumes that fail, the worked group makes this body, and the jobs end with these marks.
-fn ends(
-    rt: &impl Abort,
-    alloc: Global,
-    calls: (Option<u64>, Option<u64>),
-    expected: &[u8],
-    marks: (bool, bool),
-) {
-    let formed = worked_group(rt, alloc);
-    forms(rt, alloc, &formed, calls, (false, false), expected, marks);
+    assert_same(rt, &body.bytes(), &expected, row);
+    assert_same(rt, &(jobs[0].failed, jobs[1].failed), &marks, row);
 }
 
 /// The images of device 0: track 0 with both updates, track 1 formatted, track 2 as the whole and its update left it.
@@ -257,76 +173,46 @@ const BOTH: [u8; 75] = [
     0, 1, 0, 1, 0, 0, 0, 3, 0, 1, 1, 0, 0, 2, 0x4C, 0x4D,
 ];
 
+/// None had failed.
+const GOOD: (bool, bool) = (false, false);
+
+/// No call fails; the images of a volume whose read fails are left out, and the reads of both are done again after one of them failed;
+/// no volume is read oftener than its tracks ask for; and a job that had failed is left alone.
+const WORKED: [Row<'static>; 9] = [
+    ((None, None), GOOD, &BOTH, GOOD),
+    ((Some(0), None), GOOD, &SECOND, (true, false)),
+    ((Some(1), None), GOOD, &SECOND, (true, false)),
+    ((None, Some(0)), GOOD, &FIRST, (false, true)),
+    ((Some(1), Some(1)), GOOD, &[], (true, true)),
+    ((Some(2), Some(1)), GOOD, &BOTH, GOOD),
+    ((Some(0), None), (true, false), &SECOND, (true, false)),
+    ((None, Some(0)), (false, true), &FIRST, (false, true)),
+    ((Some(0), Some(0)), (true, true), &[], (true, true)),
+];
+
 #[test]
 fn each_track_has_the_image_that_its_entries_leave(rt: HostRuntime) {
-    ends(&rt, rt.alloc(), (None, None), &BOTH, (false, false));
+    let alloc = rt.alloc();
+    let formed = worked_group(&rt, alloc);
+    for row in &WORKED {
+        forms(&rt, alloc, &formed, row);
+    }
 }
 
 #[test]
-fn the_images_of_a_volume_whose_read_fails_are_left_out(rt: HostRuntime) {
+fn no_entries_and_whole_tracks_read_nothing(rt: HostRuntime) {
     let alloc = rt.alloc();
-    ends(&rt, alloc, (Some(0), None), &SECOND, (true, false));
-    ends(&rt, alloc, (Some(1), None), &SECOND, (true, false));
-    ends(&rt, alloc, (None, Some(0)), &FIRST, (false, true));
-    // The reads of both are done again after one of them failed.
-    ends(&rt, alloc, (Some(1), Some(1)), &[], (true, true));
-    // No volume is read oftener than its tracks ask for.
-    ends(&rt, alloc, (Some(2), Some(1)), &BOTH, (false, false));
-}
-
-/// With a job that had failed, and volumes of which no call succeeds that is made on it.
-fn leaves_out(
-    rt: &impl Abort,
-    alloc: Global,
-    failed: (bool, bool),
-    calls: (Option<u64>, Option<u64>),
-    expected: &[u8],
-) {
-    let formed = worked_group(rt, alloc);
-    forms(rt, alloc, &formed, calls, failed, expected, failed);
-}
-
-#[test]
-fn a_job_that_had_failed_is_left_alone(rt: HostRuntime) {
-    let alloc = rt.alloc();
-    leaves_out(&rt, alloc, (true, false), (Some(0), None), &SECOND);
-    leaves_out(&rt, alloc, (false, true), (None, Some(0)), &FIRST);
-    leaves_out(&rt, alloc, (true, true), (Some(0), Some(0)), &[]);
-}
-
-#[test]
-fn no_entries_make_no_items(rt: HostRuntime) {
-    let alloc = rt.alloc();
-    let formed = empty_group(&rt, alloc);
-    forms(
-        &rt,
-        alloc,
-        &formed,
-        (Some(0), Some(0)),
-        (false, false),
-        &[],
-        (false, false),
-    );
-}
-
-#[test]
-fn whole_tracks_read_nothing(rt: HostRuntime) {
-    let alloc = rt.alloc();
+    let fails = (Some(0), Some(0));
     let mut formed = empty_group(&rt, alloc);
+    forms(&rt, alloc, &formed, &(fails, GOOD, &[], GOOD));
+    let image = [1, 0, 0, 0, 0, 0, 1, 0, 1, 1, 0, 0, 2, 0x43, 0x44];
     add(
         &rt,
         alloc,
         &mut formed,
-        write_to(7, 1, 10, whole(&rt, alloc, *b"CD")),
+        (7, 1),
+        10,
+        whole(&rt, alloc, b"CD"),
     );
-    let expected = [1, 0, 0, 0, 0, 0, 1, 0, 1, 1, 0, 0, 2, 0x43, 0x44];
-    forms(
-        &rt,
-        alloc,
-        &formed,
-        (Some(0), Some(0)),
-        (false, false),
-        &expected,
-        (false, false),
-    );
+    forms(&rt, alloc, &formed, &(fails, GOOD, &image, GOOD));
 }

@@ -1,7 +1,9 @@
-//! Tests of a site: what its devices mean, groups turned into images and applied to volumes, and a site that starts, logs, applies
-//! and marks, with calls that fail and crashes behind them.
+//! Tests of a site, of what no command reaches: bodies and walks at their ends, a state of all rows, groups turned into images over
+//! several volumes, changes of every kind, and lines that are read and said.
 #![tactic(auto)]
 
+#[cfg(test)]
+mod bodies;
 #[cfg(test)]
 mod changes;
 #[cfg(test)]
@@ -9,21 +11,11 @@ mod entries;
 #[cfg(test)]
 mod fixtures;
 #[cfg(test)]
-mod gate_stops;
-#[cfg(test)]
-mod groups;
-#[cfg(test)]
 mod images;
 #[cfg(test)]
-mod meanings;
+mod lines;
 #[cfg(test)]
-mod refusals;
-#[cfg(test)]
-mod sites;
-#[cfg(test)]
-mod starts;
-#[cfg(test)]
-mod volumes;
+mod states;
 
 /// Its tests are all that this crate has. It is a program, so that no crate stands on it.
 fn main() {}

@@ -4,8 +4,8 @@ use Rattle.site_tests.proofs.images.forms.Goals as goal
 
 pub form_body-requires-clause-one_job : goal.form_body-requires-clause-one_job
 form_body-requires-clause-one_job g c =
-    one_job_each c.worked_table-table.result.rows c.failing_job-first.result c.failing_job-second.result c.args.formed.now.entries c.failing_job-first.ensures.device c.failing_job-second.ensures.device c.assert_low.ensures.devices
+    one_job_each c.worked_table-table.result.rows c.job-first.result c.job-second.result c.args.formed.now.entries c.job-first.ensures.device c.job-second.ensures.device c.assert_low.ensures.devices
 
 pub form_body-requires-clause-slots : goal.form_body-requires-clause-slots
 form_body-requires-clause-slots g c =
-    slots_of_both volume_standing c.worked_table-table.result.rows c.failing_job-first.result c.failing_job-second.result c.args.formed.now.entries c.failing_job-first.ensures.disk c.failing_job-second.ensures.disk c.assert_low.ensures.tracks
+    slots_of_both volume_standing c.worked_table-table.result.rows c.job-first.result c.job-second.result c.args.formed.now.entries c.job-first.ensures.disk c.job-second.ensures.disk c.assert_low.ensures.tracks
