@@ -15,6 +15,3 @@ mod writing;
 
 pub use site::Site;
 pub use store_error::StoreError;
-
-#[cfg(test)]
-mod spent_tests;
