@@ -1,27 +1,15 @@
-//! What sidefiles hand over of traces from outside, in pieces of seven bytes, whole, cut and with failing pulls.
+//! What sidefiles hand over of traces in pieces of seven bytes: batches with the time up to which they are, limits, and breaks.
 
-use crate::fixtures::listed;
+use crate::fixtures::{TRACE, append, listed, source};
 use sidefile::{Cause, Hand, Sidefile};
 use std::alloc::Global;
 use std::process::Abort;
 use tod_stamp::Stamp;
 use write_trace::start;
-use xrc_edge::{Bytes, MemorySource};
-
-/// The header of a trace of one volume of one cylinder, without base tracks.
-const HEADER: [u8; 18] = [
-    0x58, 0x54, 0x52, 0x31, 0, 1, 0x50, 0x52, 0x49, 0x4D, 0x30, 0x31, 0, 1, 0, 0, 0, 0,
-];
-
-/// An update of record 1 of track 3, behind its tag and its stamp.
-const UPDATE: [u8; 10] = [0, 0, 0, 0, 0, 3, 1, 0, 1, 0x5A];
-
-const IDLE: u8 = 1;
-
-const WRITE: u8 = 2;
+use xrc_edge::Bytes;
 
 /// A hand, with the number of a batch's writes and the time up to which it is.
-#[derive(Clone, Copy, Debug, PartialEq, Eq)]
+#[derive(Clone, Copy, PartialEq, Eq)]
 enum Told {
     Batch(usize, u64),
     AtLimit,
@@ -45,140 +33,87 @@ fn break_told(told: Told) -> Option<(Stamp, Cause)> {
     }
 }
 
-fn append(rt: &impl Abort, alloc: Global, out: &mut Bytes, bytes: &[u8]) {
-    out.extend_from_slice(alloc, bytes).expect(rt, "memory");
-}
-
-/// A trace of entries of these tags and stamps, each so many times.
-fn trace(rt: &impl Abort, alloc: Global, entries: &[(u8, u64, u32)]) -> Bytes {
-    let mut bytes = listed(rt, alloc, &HEADER);
-    for (tag, stamp, times) in entries {
-        for _ in 0..*times {
-            append(rt, alloc, &mut bytes, &[*tag]);
-            append(rt, alloc, &mut bytes, &stamp.to_be_bytes());
-            if *tag == WRITE {
-                append(rt, alloc, &mut bytes, &UPDATE);
-            }
+/// The header of the worked trace, and so many updates of record 1 of track 3 at each of these stamps.
+fn updates(rt: &impl Abort, alloc: Global, runs: &[(u8, u32)]) -> Bytes {
+    let mut bytes = listed(rt, alloc, &TRACE[..18]);
+    for (stamp, count) in runs {
+        for _ in 0..*count {
+            append(rt, alloc, &mut bytes, &[2, 0, 0, 0, 0, 0, 0, 0, *stamp]);
+            append(rt, alloc, &mut bytes, &[0, 0, 0, 0, 0, 3, 1, 0, 1, 0x5A]);
         }
     }
     bytes
 }
 
-/// Whether these are the hands at these limits, which do not fall, where the marked pulls fail.
-fn hands_are(
-    rt: &impl Abort,
-    alloc: Global,
-    bytes: Bytes,
-    fails: &[u8],
-    expected: &[(u64, Told)],
-) -> bool {
-    let made = MemorySource::make(alloc, bytes, 7, listed(rt, alloc, fails));
-    let mut source = made.expect(rt, "memory");
-    let Ok((_, reader)) = start(alloc, &mut source) else {
-        return expected.is_empty();
-    };
+/// These are the hands of a trace at these limits, which do not fall, where the marked pulls fail.
+fn hands_are(rt: &impl Abort, alloc: Global, bytes: &[u8], fails: &[u8], expected: &[(u64, Told)]) {
+    let mut source = source(rt, alloc, bytes, 7, fails);
+    let (_, reader) = start(alloc, &mut source).expect(rt, "a header");
     let mut side = Sidefile::make(alloc, 2, reader).expect(rt, "memory");
-    let (mut last, mut same) = (0, true);
+    let mut last = 0;
     for (limit, hand) in expected {
         assert!(rt; last <= *limit);
         last = *limit;
         let told = told_of(&side.handover(alloc, &mut source, Stamp(last)));
-        same = same && told == *hand && side.broken() == break_told(*hand);
+        assert!(rt; told == *hand && side.broken() == break_told(*hand));
     }
-    same
 }
 
 #[test]
-fn a_run_has_room_for_thirty_two_writes(rt: HostRuntime) {
+fn runs_are_handed_over_up_to_limits(rt: HostRuntime) {
     let alloc = rt.alloc();
-    let full = [
-        (WRITE, 5, 16),
-        (IDLE, 5, 3),
-        (WRITE, 5, 16),
-        (IDLE, 5, 1),
-        (IDLE, 9, 1),
-    ];
+    let crowd = (100, Told::Broken(Cause::Crowded(Stamp(9)), 8));
     let hands = [
-        (100, Told::Batch(32, 8)),
-        (100, Told::Batch(0, 100)),
-        (100, Told::AtLimit),
-    ];
-    assert!(rt; hands_are(&rt, alloc, trace(&rt, alloc, &full), &[], &hands));
-    let crowded = [(IDLE, 4, 1), (WRITE, 5, 16), (IDLE, 5, 1), (WRITE, 5, 17)];
-    let crowd = Told::Broken(Cause::Crowded(Stamp(5)), 4);
-    let hands = [
-        (4, Told::Batch(0, 4)),
         (4, Told::AtLimit),
-        (100, crowd),
-        (200, crowd),
+        (6, Told::Batch(32, 6)),
+        (7, Told::AtLimit),
+        (8, Told::Batch(1, 8)),
+        (8, Told::AtLimit),
+        crowd,
+        crowd,
     ];
-    assert!(rt; hands_are(&rt, alloc, trace(&rt, alloc, &crowded), &[], &hands));
-}
-
-#[test]
-fn stamps_go_from_one_to_the_last_of_all(rt: HostRuntime) {
-    let alloc = rt.alloc();
-    let hands = [(7, Told::Broken(Cause::BadTrace(18), 0))];
-    let bytes = trace(&rt, alloc, &[(IDLE, 0, 1)]);
-    assert!(rt; hands_are(&rt, alloc, bytes, &[], &hands));
+    let bytes = updates(&rt, alloc, &[(5, 32), (8, 1), (9, 33)]);
+    hands_are(&rt, alloc, bytes.as_slice(), &[], &hands);
+    let bytes = updates(&rt, alloc, &[(5, 2), (9, 1)]);
     let hands = [
-        (u64::MAX - 1, Told::AtLimit),
-        (u64::MAX, Told::Batch(1, u64::MAX)),
+        (100, Told::Batch(2, 8)),
+        (100, Told::Batch(1, 100)),
         (u64::MAX, Told::AtLimit),
     ];
-    let bytes = trace(&rt, alloc, &[(WRITE, u64::MAX, 1)]);
-    assert!(rt; hands_are(&rt, alloc, bytes, &[], &hands));
+    hands_are(&rt, alloc, bytes.as_slice(), &[], &hands);
 }
 
 #[test]
-fn limits_lie_between_stamps_and_at_one(rt: HostRuntime) {
-    let alloc = rt.alloc();
-    let hands = [
-        (4, Told::AtLimit),
-        (6, Told::Batch(1, 6)),
-        (8, Told::AtLimit),
-        (9, Told::Batch(1, 9)),
-        (20, Told::AtLimit),
+fn bad_entries_and_failing_pulls_break_below_the_last_run(rt: HostRuntime) {
+    let (mut tag, mut stamp) = (TRACE, TRACE);
+    tag[41] = 7;
+    stamp[49] = 0x63;
+    let (first, second) = (Cause::BadTrace(18), Cause::BadTrace(41));
+    // The bytes, the pulls that fail, the cause, and the time of the break.
+    let cases: [(&[u8], &[u8], Cause, u64); 9] = [
+        (&TRACE[..19], &[], first, 0),
+        (&TRACE[..40], &[], first, 0),
+        (&TRACE[..42], &[], second, 0x63),
+        (&TRACE[..59], &[], second, 0x63),
+        (&tag, &[0, 0, 0, 0, 0, 0, 1], second, 0x63),
+        (&stamp, &[], second, 0x63),
+        (&TRACE, &[0, 0, 0, 1], Cause::ReadFault, 0),
+        (&TRACE, &[0, 0, 0, 0, 0, 0, 1], Cause::ReadFault, 0x63),
+        (
+            &TRACE,
+            &[0, 0, 0, 0, 0, 0, 0, 0, 0, 1],
+            Cause::ReadFault,
+            0x6D,
+        ),
     ];
-    let bytes = trace(&rt, alloc, &[(WRITE, 5, 1), (WRITE, 9, 1)]);
-    assert!(rt; hands_are(&rt, alloc, bytes, &[], &hands));
-    let mut cut = trace(&rt, alloc, &[(WRITE, 3, 1), (WRITE, 5, 2), (WRITE, 7, 1)]);
-    cut.truncate(93);
-    let hands = [
-        (50, Told::Batch(1, 4)),
-        (50, Told::Broken(Cause::BadTrace(75), 4)),
-        (50, Told::Broken(Cause::BadTrace(75), 4)),
-    ];
-    assert!(rt; hands_are(&rt, alloc, cut, &[], &hands));
-}
-
-#[test]
-fn each_pull_may_fail(rt: HostRuntime) {
-    let alloc = rt.alloc();
-    let entries = [(WRITE, 5, 1), (WRITE, 7, 1), (IDLE, 9, 1)];
-    let hands = [
-        (100, Told::Batch(1, 6)),
-        (100, Told::Batch(1, 8)),
-        (100, Told::Batch(0, 100)),
-        (100, Told::AtLimit),
-    ];
-    let broken = |upto| (100, Told::Broken(Cause::ReadFault, upto));
-    let before_all = [broken(0), broken(0)];
-    let in_the_first = [broken(4), broken(4)];
-    let in_the_second = [hands[0], broken(6)];
-    let in_the_third = [hands[0], hands[1], broken(8)];
-    for pull in 0..12_usize {
-        let mut fails = [0; 12];
-        fails[pull] = 1;
-        let expected = match pull {
-            0..=2 => [].as_slice(),
-            3..=5 => before_all.as_slice(),
-            6..=7 => in_the_first.as_slice(),
-            8..=9 => in_the_second.as_slice(),
-            10 => in_the_third.as_slice(),
-            _ => hands.as_slice(),
+    for (bytes, fails, cause, upto) in cases {
+        let broken = (200, Told::Broken(cause, upto));
+        let batch = (200, Told::Batch(1, 0x6D));
+        let hands = if upto == 0x6D {
+            [batch, broken, broken]
+        } else {
+            [broken, broken, broken]
         };
-        let right = hands_are(&rt, alloc, trace(&rt, alloc, &entries), &fails, expected);
-        assert!(rt; right, "at {pull}");
+        hands_are(&rt, rt.alloc(), bytes, fails, &hands);
     }
 }

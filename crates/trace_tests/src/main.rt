@@ -1,19 +1,20 @@
-//! Tests of traces: their headers, what is read of them and written, what sidefiles hand over of them, and the primaries that
-//! they make.
+//! Tests of what no scenario of the program shows: texts, sources, images and their faults, rows, headers, writers, and what is handed over.
 #![tactic(auto)]
 
 #[cfg(test)]
 mod fixtures;
 #[cfg(test)]
-mod grammar;
-#[cfg(test)]
 mod handovers;
 #[cfg(test)]
-mod large_traces;
+mod pairs;
 #[cfg(test)]
-mod primaries;
+mod sources;
 #[cfg(test)]
-mod reading;
+mod texts;
+#[cfg(test)]
+mod traces;
+#[cfg(test)]
+mod tracks;
 #[cfg(test)]
 mod writing;
 

@@ -1,72 +1,110 @@
-//! Traces that are written.
+//! Traces that are read and written again: the worked one, one of two base tracks, and one of the largest parts.
 
-use crate::fixtures::{TRACE, TWO_BASES, is_format, listed, put, track_of, write_of, written};
-use ckd_track::{Kind, Rec, RecList};
+use crate::fixtures::{TRACE, append, filled, source};
 use std::alloc::Global;
 use std::process::Abort;
-use tod_stamp::Stamp;
-use trace_grammar::{Entry, Header};
-use write_trace::{Next, start};
-use xrc_edge::{Bytes, MemorySource};
+use trace_grammar::{Entry, Header, TraceEnd};
+use write_trace::{TraceWriter, read_entries, start};
+use xrc_edge::Bytes;
 
-/// The header that bytes begin with.
-fn header_of(rt: &impl Abort, alloc: Global, bytes: &[u8]) -> Header {
-    let made = MemorySource::make(alloc, listed(rt, alloc, bytes), 64, Bytes::make(alloc));
-    let mut source = made.expect(rt, "memory");
-    let (header, _) = start(alloc, &mut source).expect(rt, "a header");
-    header
+/// Puts an entry that keeps the rules behind a trace.
+fn put(rt: &impl Abort, alloc: Global, out: &mut Bytes, entry: &Entry) {
+    let put = match entry {
+        Entry::Written(write) => {
+            assert!(rt; write.kind.keeps_rules());
+            assert!(rt; write.stamp.0 >= 1 && write.track < 982_800);
+            TraceWriter::write(alloc, out, write)
+        }
+        Entry::Idle(stamp) => {
+            assert!(rt; stamp.0 >= 1);
+            TraceWriter::idle(alloc, out, *stamp)
+        }
+    };
+    put.expect(rt, "memory");
 }
 
-/// The entry of a write to track 3 of the first volume.
-fn entry(stamp: u64, kind: Kind) -> Entry {
-    Entry::Written(write_of(0, 3, stamp, kind))
+/// The trace of this header, which keeps the rules, and these entries.
+fn written(rt: &impl Abort, alloc: Global, header: &Header, entries: &[Entry]) -> Bytes {
+    assert!(rt; header.keeps_rules());
+    let mut out = Bytes::make(alloc);
+    TraceWriter::header(alloc, &mut out, header).expect(rt, "memory");
+    for entry in entries {
+        put(rt, alloc, &mut out, entry);
+    }
+    out
 }
+
+/// What is read of the bytes in pieces, so many entries, and written again, is these bytes.
+fn reads_back(rt: &impl Abort, alloc: Global, bytes: &[u8], most: u32, count: usize) {
+    assert!(rt; most > 0);
+    let mut source = source(rt, alloc, bytes, most, &[]);
+    let (header, mut reader) = start(alloc, &mut source).expect(rt, "a header");
+    let read = read_entries(alloc, &mut reader, &mut source);
+    let (entries, end) = read.expect(rt, "memory");
+    assert_eq!(rt; (entries.len(), end), (count, TraceEnd::Ended));
+    let again = written(rt, alloc, &header, entries.as_slice());
+    assert!(rt; again.as_slice() == bytes);
+}
+
+/// Two volumes of one cylinder, with track 5 of the first and track 0 of the second; an idle entry, and a format behind record 1.
+const TWO_BASES: [u8; 74] =
+    *b"XTR1\0\x02A     \0\x01B     \0\x01\0\0\0\x02\0\0\0\0\0\x05\0\0\0\x01\0\0\0\0\0\0\x01\0\0\0\0\0\0\0\x09\x03\0\0\0\0\0\0\0\x09\0\0\0\0\0\x03\x01\x01\x02\0\0\x02CD";
 
 #[test]
-fn traces_are_written(rt: HostRuntime) {
+fn traces_are_read_and_written_again(rt: HostRuntime) {
     let alloc = rt.alloc();
-    let track = track_of(&rt, alloc, listed(&rt, alloc, b"AB"));
-    let bytes = listed(&rt, alloc, b"Z");
-    let entries = [
-        entry(0x64, Kind::Whole { track }),
-        entry(0x6E, Kind::Update { number: 1, bytes }),
-    ];
-    let out = written(&rt, alloc, &header_of(&rt, alloc, &TRACE), &entries);
-    assert_eq!(rt; out.as_slice(), TRACE.as_slice());
-}
-
-fn is_the_format(next: &Next) -> bool {
-    match next {
-        Next::Write(write) => is_format(&write.kind, b"", b"CD"),
-        _ => false,
+    for most in [1, 7, 64, 65_536] {
+        reads_back(&rt, alloc, &TRACE, most, 2);
+        reads_back(&rt, alloc, &TWO_BASES, most, 2);
     }
 }
 
-/// A format behind record 1 by record 2 with content `CD`.
-fn format(rt: &impl Abort, alloc: Global) -> Kind {
-    let mut recs = RecList::make(alloc);
-    let rec = Rec {
-        number: 2,
-        key: Bytes::make(alloc),
-        content: listed(rt, alloc, b"CD"),
-    };
-    recs.push(alloc, rec).expect(rt, "memory");
-    Kind::Format { after: 1, recs }
+/// Puts a header of 32 volumes, each of one cylinder more than the one before, up to the number of its base tracks.
+fn put_volumes(rt: &impl Abort, alloc: Global, out: &mut Bytes) {
+    append(rt, alloc, out, b"XTR1\0\x20");
+    for number in 0..32u8 {
+        append(
+            rt,
+            alloc,
+            out,
+            &[b'P', b'A' + number / 10, b'0' + number % 10],
+        );
+        append(rt, alloc, out, &[b' ', b' ', b' ', 0, 1 + number]);
+    }
 }
 
 #[test]
-fn a_written_trace_is_read_back(rt: HostRuntime) {
+fn the_largest_parts_are_read_and_written_again(rt: HostRuntime) {
     let alloc = rt.alloc();
-    let header = header_of(&rt, alloc, &TWO_BASES);
-    assert_eq!(rt; [header.volumes.len(), header.base.len()], [2, 2]);
-    let mut out = written(&rt, alloc, &header, &[]);
-    assert_eq!(rt; out.as_slice(), TWO_BASES.as_slice());
-    put(&rt, alloc, &mut out, &Entry::Idle(Stamp(9)));
-    put(&rt, alloc, &mut out, &entry(9, format(&rt, alloc)));
-    let made = MemorySource::make(alloc, out, 1, Bytes::make(alloc));
-    let mut source = made.expect(&rt, "memory");
-    let (_, mut reader) = start(alloc, &mut source).expect(&rt, "a header");
-    assert!(rt; matches!(reader.next(alloc, &mut source), Next::Idle(Stamp(9))));
-    assert!(rt; is_the_format(&reader.next(alloc, &mut source)));
-    assert!(rt; matches!(reader.next(alloc, &mut source), Next::Ended));
+    // Base tracks of the first and the last volume; the longest update, a format of three records, a full track, an update without bytes,
+    // and an idle entry at the last stamp. Each part has so many bytes behind it.
+    let parts: [(&[u8], usize); 10] = [
+        (b"\0\0\0\x02\0\0\0\0\0\x0E\0\x02\x02\xFF\0\x03", 258),
+        (b"\x09\0\0\x04", 4),
+        (b"\0\x1F\0\x1F\0\x0E\0\x01\x01\0\xDD\x50", 56_656),
+        (
+            b"\x02\0\0\0\0\0\0\0\x01\0\x1F\0\x1F\0\x0E\xFF\xDD\x50",
+            56_656,
+        ),
+        (b"\x03\0\0\0\0\0\0\0\x01\0\0\0\0\0\0\x03\x03\x04\x07\0\0", 7),
+        (b"\x05\0\0\x64", 100),
+        (b"\xFF\xFF\0\x01", 256),
+        (
+            b"\x04\0\0\0\0\0\0\0\x09\0\x07\0\x07\0\x0E\0\x01\x01\0\xDD\x50",
+            56_656,
+        ),
+        (b"\x02\0\0\0\0\0\0\0\x09\0\x02\0\x02\0\x0E\x01\0\0", 0),
+        (b"\x01\xFF\xFF\xFF\xFF\xFF\xFF\xFF\xFF", 0),
+    ];
+    let mut bytes = Bytes::make(alloc);
+    put_volumes(&rt, alloc, &mut bytes);
+    for (part, more) in parts {
+        append(&rt, alloc, &mut bytes, part);
+        append(&rt, alloc, &mut bytes, filled(&rt, alloc, more).as_slice());
+    }
+    let length = 266 + 278 + 56_668 + 56_674 + 392 + 56_677 + 18 + 9;
+    assert_eq!(rt; bytes.len(), length);
+    for most in [1_000, 65_536] {
+        reads_back(&rt, alloc, bytes.as_slice(), most, 5);
+    }
 }

@@ -1,8 +1,8 @@
-//! Sources of a reader's bytes and of bytes in memory: pieces, the end, and pulls that fail.
+//! Lists of bytes, and sources of a reader's bytes and of bytes in memory: pieces, the end, and pulls that fail.
 
-use crate::fixtures::listed;
+use crate::fixtures::{append, source};
 use std::io::{Error, ErrorKind, Read, Result as ReadResult};
-use xrc_edge::{Bytes, Failed, FileSource, MemorySource, Source};
+use xrc_edge::{Bytes, Failed, FileSource, Source};
 
 // A reader whose first reads are interrupted, and whose next ones fail.
 #[derive(Drop)]
@@ -50,34 +50,30 @@ fn an_interrupted_read_is_tried_again(rt: HostRuntime) {
 }
 
 #[test]
-fn bytes_come_in_pieces_and_the_end_again_and_again(rt: HostRuntime) {
-    let alloc = rt.alloc();
-    let bytes = listed(&rt, alloc, b"0123456789");
-    let made = MemorySource::make(alloc, bytes, 7, Bytes::make(alloc));
-    let mut source = made.expect(&rt, "memory");
+fn bytes_in_memory_come_in_pieces_and_marked_pulls_fail(rt: HostRuntime) {
+    let mut source = source(&rt, rt.alloc(), b"0123456789", 7, &[0, 1, 1]);
     let mut piece = [0; 8];
     assert_eq!(rt; source.pull(&mut piece), Ok(7));
+    for _ in 0..2 {
+        assert_eq!(rt; source.pull(&mut piece), Err(Failed));
+    }
     assert_eq!(rt; piece, *b"0123456\0");
     assert_eq!(rt; source.pull(&mut piece[..1]), Ok(1));
-    assert_eq!(rt; source.pull(&mut piece), Ok(2));
-    assert_eq!(rt; piece, *b"8923456\0");
-    for _ in 0..2 {
-        assert_eq!(rt; source.pull(&mut piece), Ok(0));
+    for count in [2, 0, 0] {
+        assert_eq!(rt; source.pull(&mut piece), Ok(count));
     }
+    assert_eq!(rt; piece, *b"8923456\0");
 }
 
 #[test]
-fn marked_calls_fail_and_give_nothing(rt: HostRuntime) {
+fn a_list_grows_at_its_end(rt: HostRuntime) {
     let alloc = rt.alloc();
-    let (bytes, fails) = (listed(&rt, alloc, b"ab"), listed(&rt, alloc, &[0, 1, 1]));
-    let made = MemorySource::make(alloc, bytes, 1, fails);
-    let mut source = made.expect(&rt, "memory");
-    let mut piece = [0; 8];
-    for pulled in [Ok(1), Err(Failed), Err(Failed)] {
-        assert_eq!(rt; source.pull(&mut piece), pulled);
-    }
-    assert_eq!(rt; piece, *b"a\0\0\0\0\0\0\0");
-    assert_eq!(rt; source.pull(&mut piece), Ok(1));
-    assert_eq!(rt; piece[0], b'b');
-    assert_eq!(rt; source.pull(&mut piece), Ok(0));
+    let mut bytes = Bytes::make(alloc);
+    assert!(rt; bytes.is_empty());
+    bytes.push(alloc, b'a').expect(&rt, "memory");
+    append(&rt, alloc, &mut bytes, b"bcd");
+    assert_eq!(rt; (bytes.as_slice(), bytes.len()), (b"abcd".as_slice(), 4));
+    assert_eq!(rt; [bytes.get(3), bytes.get(4)], [Some(&b'd'), None]);
+    bytes.truncate(2);
+    assert_eq!(rt; bytes.as_slice(), b"ab".as_slice());
 }

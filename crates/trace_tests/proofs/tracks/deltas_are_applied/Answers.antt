@@ -1,7 +1,7 @@
 use Rattle.std.proofs.Common.{refl, [], ◌∷◌}
 use Rattle.ckd_track.specs.declared.rec.Rec.{Rec}
 use Rattle.ckd_track.specs.declared.write.Kind.TheVariants.{Update, Format}
-use Rattle.track_tests.proofs.effects.deltas_are_applied.Goals as goal
+use Rattle.trace_tests.proofs.tracks.deltas_are_applied.Goals as goal
 
 pub apply_delta-requires : goal.apply_delta-requires
 apply_delta-requires c d = record { form = record { kind = Update 1 (90 ∷ []); part = refl; keeps = refl; spelled = refl } }
