@@ -1,0 +1,237 @@
+//! One call of the program.
+
+use crate::site::Past;
+use crate::texts::{length_of_lines, spell};
+use crate::trace::{Flaw, Trace};
+use crate::words::Words;
+use crate::wrong::Wrong;
+use crash_plant::{Device, Fail};
+use std::alloc::Global;
+use std::sync::Wait;
+use std::thread::Threads;
+use xrc_edge::MemorySource;
+
+/// A call on a device, or on the console, that fails.
+#[derive(Clone, Copy)]
+pub struct Planned {
+    pub at: Option<Device>,
+    /// From so many lines on its calls are counted.
+    pub lines: u64,
+    pub call: u64,
+    pub stop: bool,
+}
+
+/// The words of a call, its script, and what fails in it.
+#[derive(Drop)]
+pub struct Call<'a> {
+    alloc: Global,
+    words: Words<'a>,
+    script: Vec<u8>,
+    fails: Vec<Planned>,
+}
+
+/// How a call has ended.
+#[derive(Drop)]
+pub struct Outcome {
+    pub status: u8,
+    pub past: Past,
+}
+
+/// What a try adds to a call.
+#[derive(Clone, Copy)]
+pub struct Twist {
+    pub fail: Option<Planned>,
+    /// The trace of a number, with its flaw.
+    pub flaw: Option<(usize, Flaw)>,
+}
+
+impl Twist {
+    pub const NONE: Twist = Twist {
+        fail: None,
+        flaw: None,
+    };
+}
+
+impl<'a> Call<'a> {
+    pub fn new(alloc: Global, words: Words<'a>) -> Call<'a> {
+        Call {
+            alloc,
+            words,
+            script: Vec::new(alloc),
+            fails: Vec::new(alloc),
+        }
+    }
+
+    pub fn copy(&self) -> Result<Call<'a>, Wrong> {
+        let mut copy = Call::new(self.alloc, self.words);
+        copy.script.extend_from_slice(self.script.as_slice())?;
+        copy.fails.extend_from_slice(self.fails.as_slice())?;
+        Ok(copy)
+    }
+
+    pub fn script(&self) -> &[u8] {
+        self.script.as_slice()
+    }
+
+    /// The line in which the call stands.
+    pub fn number(&self) -> u64 {
+        self.words.number()
+    }
+
+    /// Takes a line of the call; false where it is none.
+    pub fn take(&mut self, keyword: &str, mut words: Words<'_>) -> Result<bool, Wrong> {
+        match keyword {
+            ">" => self.hear(words.rest(), b"\n")?,
+            ">|" => self.hear(words.rest(), b"")?,
+            ">x" => {
+                words.bytes(&mut self.script)?;
+                words.end()?;
+            }
+            "fail" => self.fail(words, false)?,
+            "stop" => self.fail(words, true)?,
+            _ => return Ok(false),
+        }
+        Ok(true)
+    }
+
+    /// Adds a text and its end to the script.
+    fn hear(&mut self, text: &str, end: &[u8]) -> Result<(), Wrong> {
+        let mut spelled = String::new(self.alloc);
+        spell(text, &mut spelled)?;
+        self.script.extend_from_slice(spelled.as_bytes())?;
+        self.script.extend_from_slice(end)?;
+        Ok(())
+    }
+
+    /// Adds a call that fails.
+    fn fail(&mut self, mut words: Words<'_>, stop: bool) -> Result<(), Wrong> {
+        let at = words.place_of_calls()?;
+        let call = words.decimal()?;
+        let lines = words.said()?;
+        words.end()?;
+        self.fails.push(Planned {
+            at,
+            lines,
+            call,
+            stop,
+        })?;
+        Ok(())
+    }
+
+    /// The words that recover this call's session.
+    fn recovery(&self) -> Result<Vec<String>, Wrong> {
+        let mut words = self.words;
+        let _ = words.next();
+        let session = words.next().unwrap_or("");
+        let mut all = Vec::new(self.alloc);
+        all.push(String::from_str(self.alloc, "recover")?)?;
+        all.push(String::from_str(self.alloc, session)?)?;
+        Ok(all)
+    }
+
+    /// Recovers the session of this call from what a crash leaves by a fill.
+    pub fn recover<R: Threads + Wait + Sync>(
+        &self,
+        rt: &R,
+        past: &Past,
+        fill: &[u8],
+    ) -> Result<Outcome, Wrong> {
+        let words = self.recovery()?;
+        let left = past.crash(self.alloc, fill)?;
+        let mut past = left.freeze(self.alloc)?;
+        let mut sources = Vec::new(self.alloc);
+        let status = past.call(rt, self.alloc, words.as_slice(), &mut sources);
+        Ok(Outcome { status, past })
+    }
+
+    fn all_words(&self) -> Result<Vec<String>, Wrong> {
+        let mut all = Vec::new(self.alloc);
+        for word in self.words.rest().split_whitespace() {
+            all.push(String::from_str(self.alloc, word)?)?;
+        }
+        Ok(all)
+    }
+
+    /// Makes the call.
+    pub fn make<R: Threads + Wait + Sync>(
+        &self,
+        rt: &R,
+        before: &Past,
+        traces: &[Trace],
+        twist: Twist,
+    ) -> Result<Outcome, Wrong> {
+        let fails = self.planned(rt, before, traces, twist.fail)?;
+        self.make_with(rt, before, traces, twist, fails.as_slice())
+    }
+
+    fn make_with<R: Threads + Wait + Sync>(
+        &self,
+        rt: &R,
+        before: &Past,
+        traces: &[Trace],
+        twist: Twist,
+        fails: &[Fail],
+    ) -> Result<Outcome, Wrong> {
+        let words = self.all_words()?;
+        let mut sources = sources(self.alloc, traces, twist.flaw)?;
+        let mut site = before.crash(self.alloc, b"")?;
+        site.set_script(self.alloc, self.script.as_slice())?;
+        let mut past = site.into_past(self.alloc, fails)?;
+        let status = past.call(rt, self.alloc, words.as_slice(), &mut sources);
+        Ok(Outcome { status, past })
+    }
+
+    /// The failures of the call, each counted from so many bytes. The lines are those that the call says without any of them.
+    fn planned<R: Threads + Wait + Sync>(
+        &self,
+        rt: &R,
+        before: &Past,
+        traces: &[Trace],
+        more: Option<Planned>,
+    ) -> Result<Vec<Fail>, Wrong> {
+        let mut plan = Vec::new(self.alloc);
+        plan.extend_from_slice(self.fails.as_slice())?;
+        if let Some(more) = more {
+            plan.push(more)?;
+        }
+        if plan.iter().all(|fail| fail.lines == 0) {
+            return self.failures(plan.as_slice(), b"");
+        }
+        let calm = self.make_with(rt, before, traces, Twist::NONE, &[])?;
+        self.failures(plan.as_slice(), calm.past.said())
+    }
+
+    fn failures(&self, plan: &[Planned], said: &[u8]) -> Result<Vec<Fail>, Wrong> {
+        let mut list = Vec::new(self.alloc);
+        for fail in plan {
+            let Some(bytes) = length_of_lines(said, fail.lines) else {
+                return Err(self.words.wrong("the call says fewer lines"));
+            };
+            let failure = Fail {
+                at: fail.at,
+                said: bytes as u64,
+                call: fail.call,
+                stop: fail.stop,
+            };
+            list.push(failure)?;
+        }
+        Ok(list)
+    }
+}
+
+/// The sources of the traces, of which one may have a flaw.
+fn sources(
+    alloc: Global,
+    traces: &[Trace],
+    flaw: Option<(usize, Flaw)>,
+) -> Result<Vec<MemorySource>, Wrong> {
+    let mut sources = Vec::new(alloc);
+    for (number, trace) in traces.iter().enumerate() {
+        let flaw = match flaw {
+            Some((at, flaw)) if at == number => flaw,
+            _ => Flaw::Nothing,
+        };
+        sources.push(trace.source(flaw)?)?;
+    }
+    Ok(sources)
+}

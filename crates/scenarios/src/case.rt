@@ -1,0 +1,296 @@
+//! A case, line by line.
+
+use crate::book::Book;
+use crate::call::{Call, Outcome, Twist};
+use crate::made::Made;
+use crate::report::{Part, Report};
+use crate::setup::Setup;
+use crate::site::Past;
+use crate::tables::{Scene, Table};
+use crate::trace::Trace;
+use crate::words::Words;
+use crate::wrong::Wrong;
+use std::alloc::Global;
+use std::sync::Wait;
+use std::thread::Threads;
+
+/// How a call has ended, and what is wanted of it.
+#[derive(Drop)]
+struct Done {
+    outcome: Outcome,
+    made: Made,
+}
+
+/// A case as far as its lines are taken.
+#[derive(Drop)]
+pub struct Case<'a> {
+    alloc: Global,
+    name: &'a str,
+    setup: Setup<'a>,
+    call: Option<Call<'a>>,
+    /// Whether the call is of another case, so that this one may replace it.
+    is_borrowed: bool,
+    /// Whether something was wanted of the call, or of any.
+    is_tried: bool,
+    is_any_tried: bool,
+    is_kept: bool,
+    /// The devices that the call begins with, once they are needed.
+    before: Option<Past>,
+    done: Option<Done>,
+    table: Table,
+}
+
+impl<'a> Case<'a> {
+    pub fn new(alloc: Global, name: &'a str) -> Case<'a> {
+        Case {
+            alloc,
+            name,
+            setup: Setup::new(alloc),
+            call: None,
+            is_borrowed: false,
+            is_tried: false,
+            is_any_tried: false,
+            is_kept: false,
+            before: None,
+            done: None,
+            table: Table::None,
+        }
+    }
+
+    pub fn name(&self) -> &'a str {
+        self.name
+    }
+
+    /// Takes a line that is neither the case's first nor of what a recovery leaves.
+    pub fn take<R: Threads + Wait + Sync>(
+        &mut self,
+        rt: &R,
+        keyword: &str,
+        words: Words<'a>,
+        book: &mut Book<'a>,
+        report: &mut Report<'_>,
+    ) -> Result<(), Wrong> {
+        match keyword {
+            "like" | "site" => self.take_like(keyword, words, book),
+            "run" => self.take_run(words, report),
+            ">" | ">|" | ">x" | "fail" | "stop" => self.take_in_call(keyword, words),
+            "stops" | "fails" | "cuts" | "pulls" => self.take_table(keyword, words),
+            "at" | "calm" | "n" | "with" => self.take_row(rt, keyword, words, book, report),
+            "<"
+            | "<|"
+            | "status"
+            | "slot"
+            | "slots"
+            | "label"
+            | "holds"
+            | "same"
+            | "unheard"
+            | "crash" => self.take_wanted(rt, keyword, words, book, report),
+            _ => {
+                self.settle(report)?;
+                self.before = None;
+                self.setup.take(keyword, words)
+            }
+        }
+    }
+
+    fn take_like(&mut self, keyword: &str, words: Words<'a>, book: &Book<'a>) -> Result<(), Wrong> {
+        self.setup = book.setup(words)?;
+        if keyword == "like" {
+            self.call = Some(book.call(words)?);
+            self.is_borrowed = true;
+        }
+        Ok(())
+    }
+
+    fn take_run(&mut self, words: Words<'a>, report: &mut Report<'_>) -> Result<(), Wrong> {
+        self.settle(report)?;
+        if self.call.is_some() && !self.is_borrowed && !self.is_tried {
+            return Err(words.wrong("nothing is wanted of the call before"));
+        }
+        self.call = Some(Call::new(self.alloc, words));
+        self.is_borrowed = false;
+        self.is_tried = false;
+        Ok(())
+    }
+
+    fn take_in_call(&mut self, keyword: &str, words: Words<'a>) -> Result<(), Wrong> {
+        if self.done.is_some() {
+            return Err(words.wrong("the call is made already"));
+        }
+        match &mut self.call {
+            Some(call) => {
+                call.take(keyword, words)?;
+                Ok(())
+            }
+            None => Err(words.wrong("it stands below a run")),
+        }
+    }
+
+    fn take_table(&mut self, keyword: &str, words: Words<'a>) -> Result<(), Wrong> {
+        if let Some(table) = Table::begun(keyword, words)? {
+            self.table = table;
+        }
+        Ok(())
+    }
+
+    /// Keeps the set-up and the first call for later cases.
+    fn keep(&mut self, book: &mut Book<'a>) -> Result<(), Wrong> {
+        if !self.is_kept {
+            self.is_kept = true;
+            book.keep(self.name, &self.setup, self.call.as_ref())?;
+        }
+        Ok(())
+    }
+
+    /// Something is wanted of the call.
+    fn begin_try(&mut self, words: Words<'_>, book: &mut Book<'a>) -> Result<(), Wrong> {
+        if self.call.is_none() {
+            return Err(words.wrong("it stands below a run"));
+        }
+        self.is_tried = true;
+        self.is_any_tried = true;
+        if self.before.is_none() {
+            self.before = Some(self.setup.stand()?);
+        }
+        self.keep(book)
+    }
+
+    /// Makes the call where it isn't made yet.
+    fn make<R: Threads + Wait + Sync>(&mut self, rt: &R) -> Result<(), Wrong> {
+        let (Some(call), Some(before)) = (&self.call, &self.before) else {
+            return Ok(());
+        };
+        if self.done.is_none() {
+            let done = made(self.alloc, rt, call, before, self.setup.traces())?;
+            self.done = Some(done);
+        }
+        Ok(())
+    }
+
+    fn take_wanted<R: Threads + Wait + Sync>(
+        &mut self,
+        rt: &R,
+        keyword: &str,
+        words: Words<'a>,
+        book: &mut Book<'a>,
+        report: &mut Report<'_>,
+    ) -> Result<(), Wrong> {
+        self.begin_try(words, book)?;
+        self.make(rt)?;
+        let (Some(call), Some(done), Some(before)) = (&self.call, &mut self.done, &self.before)
+        else {
+            return Err(words.wrong("it stands below a run"));
+        };
+        match keyword {
+            "same" => done.wants_same(self.alloc, words, before, report),
+            "crash" => done.crash(self.alloc, words),
+            "unheard" => done.wants_unheard(words, call, report),
+            _ => {
+                done.made.take(keyword, words, report)?;
+                Ok(())
+            }
+        }
+    }
+
+    fn take_row<R: Threads + Wait + Sync>(
+        &mut self,
+        rt: &R,
+        keyword: &str,
+        words: Words<'a>,
+        book: &mut Book<'a>,
+        report: &mut Report<'_>,
+    ) -> Result<(), Wrong> {
+        self.begin_try(words, book)?;
+        let (Some(call), Some(before)) = (&self.call, &self.before) else {
+            return Err(words.wrong("it stands below a run"));
+        };
+        let scene = Scene {
+            alloc: self.alloc,
+            call,
+            before,
+            traces: self.setup.traces(),
+        };
+        match keyword {
+            "at" => scene.try_ends(rt, self.table, words, book, report),
+            "calm" => scene.try_calm(rt, self.table, words, report),
+            "n" => scene.try_flaws(rt, self.table, words, report),
+            _ => scene.try_bytes(rt, words, report),
+        }
+    }
+
+    /// Ends what is wanted of a call that was made, and goes on with what it left.
+    fn settle(&mut self, report: &mut Report<'_>) -> Result<(), Wrong> {
+        let Some(done) = self.done.take() else {
+            return Ok(());
+        };
+        let number = self.call.as_ref().map_or(0, |call| call.number());
+        self.before = None;
+        let Done { outcome: _, made } = done;
+        made.end(number, report)?;
+        let left = made.into_left().freeze(self.alloc)?;
+        self.setup.go_on(left);
+        Ok(())
+    }
+
+    /// Ends the case.
+    pub fn end(mut self, book: &mut Book<'a>, report: &mut Report<'_>) -> Result<(), Wrong> {
+        self.keep(book)?;
+        self.settle(report)?;
+        if let Some(call) = &self.call {
+            if !self.is_borrowed && !self.is_tried {
+                report.differ(call.number(), "nothing is wanted of the call")?;
+            }
+        }
+        if self.is_any_tried {
+            report.end_case()?;
+        }
+        Ok(())
+    }
+}
+
+impl Done {
+    fn wants_same(
+        &mut self,
+        alloc: Global,
+        words: Words<'_>,
+        before: &Past,
+        report: &mut Report<'_>,
+    ) -> Result<(), Wrong> {
+        let mut before = before.crash(alloc, b"")?;
+        self.made.wants_same(words, &mut before, report)
+    }
+
+    fn crash(&mut self, alloc: Global, mut words: Words<'_>) -> Result<(), Wrong> {
+        let mut fill = Vec::new(alloc);
+        words.bytes(&mut fill)?;
+        words.end()?;
+        self.made.look_at(&self.outcome.past, fill.as_slice())
+    }
+
+    fn wants_unheard(
+        &mut self,
+        words: Words<'_>,
+        call: &Call<'_>,
+        report: &mut Report<'_>,
+    ) -> Result<(), Wrong> {
+        words.end()?;
+        if self.outcome.past.is_left(call.script()) {
+            return Ok(());
+        }
+        report.differ(words.number(), "a byte of the script was heard")
+    }
+}
+
+/// The call made over devices and traces.
+fn made<R: Threads + Wait + Sync>(
+    alloc: Global,
+    rt: &R,
+    call: &Call<'_>,
+    before: &Past,
+    traces: &[Trace],
+) -> Result<Done, Wrong> {
+    let outcome = call.make(rt, before, traces, Twist::NONE)?;
+    let made = Made::new(alloc, &outcome, b"", Part::of("call"))?;
+    Ok(Done { outcome, made })
+}

@@ -1,0 +1,392 @@
+//! Tables: the same call again and again, with another call that fails, another flaw of a trace, or other bytes.
+
+use crate::book::{Book, Left};
+use crate::call::{Call, Outcome, Planned, Twist};
+use crate::made::Made;
+use crate::report::{Part, Report};
+use crate::site::Past;
+use crate::texts::{length_of_lines, spell, spell_lines};
+use crate::trace::{Flaw, Trace};
+use crate::words::Words;
+use crate::wrong::Wrong;
+use crash_plant::Device;
+use std::alloc::Global;
+use std::sync::Wait;
+use std::thread::Threads;
+
+/// What the rows of a table change.
+#[derive(Clone, Copy)]
+pub enum Table {
+    None,
+    /// A call on a device, or on the console, fails.
+    Fails {
+        at: Option<Device>,
+        lines: u64,
+        stop: bool,
+    },
+    /// A trace is cut.
+    Cuts(usize),
+    /// A pull of a trace fails.
+    Pulls(usize),
+}
+
+/// What fills the ranges that are open in a crash, and how it is called.
+const FILLS: [(&[u8], &str); 3] = [(&[], ", zeros"), (&[1], ", 01"), (&[0xFF], ", FF")];
+
+impl Table {
+    /// The table that a line begins; None where it begins none.
+    pub fn begun(keyword: &str, mut words: Words<'_>) -> Result<Option<Table>, Wrong> {
+        let table = match keyword {
+            "stops" | "fails" => Table::Fails {
+                at: words.place_of_calls()?,
+                lines: words.said()?,
+                stop: keyword == "stops",
+            },
+            "cuts" => Table::Cuts(words.decimal()? as usize),
+            "pulls" => Table::Pulls(words.decimal()? as usize),
+            _ => return Ok(None),
+        };
+        words.end()?;
+        Ok(Some(table))
+    }
+
+    /// The failure of a row's call.
+    fn fail(self, words: Words<'_>, call: u64) -> Result<Twist, Wrong> {
+        let Table::Fails { at, lines, stop } = self else {
+            return Err(words.wrong("it stands below stops or fails"));
+        };
+        let fail = Planned {
+            at,
+            lines,
+            call,
+            stop,
+        };
+        Ok(Twist {
+            fail: Some(fail),
+            flaw: None,
+        })
+    }
+
+    /// The flaw of a row's trace.
+    fn flaw(self, words: Words<'_>, number: u64) -> Result<Twist, Wrong> {
+        let flaw = match self {
+            Table::Cuts(trace) => (trace, Flaw::Cut(number as usize)),
+            Table::Pulls(trace) => (trace, Flaw::Pull(number as usize)),
+            _ => return Err(words.wrong("it stands below cuts or pulls")),
+        };
+        Ok(Twist {
+            fail: None,
+            flaw: Some(flaw),
+        })
+    }
+}
+
+/// A call, the devices that it begins with, and its traces.
+#[derive(Clone, Copy)]
+pub struct Scene<'s, 'a> {
+    pub alloc: Global,
+    pub call: &'s Call<'a>,
+    pub before: &'s Past,
+    pub traces: &'s [Trace],
+}
+
+/// How a call ends that has failed or was stopped.
+#[derive(Clone, Copy)]
+struct Ending<'a> {
+    words: Words<'a>,
+    lines: u64,
+    part: &'a str,
+    status: u8,
+    /// The names of what is left, each for a fill; no name where none is recovered.
+    lefts: Words<'a>,
+}
+
+impl<'a> Ending<'a> {
+    /// Reads `said N [part TEXT] status S [leaves NAME..]`.
+    fn read(mut words: Words<'a>) -> Result<Ending<'a>, Wrong> {
+        let line = words;
+        words.expect("said", "said N is wanted")?;
+        let lines = words.decimal()?;
+        let mut part = "";
+        if words.skip("part") {
+            let Some((text, rest)) = words.rest().split_once(" status ") else {
+                return Err(words.wrong("status S is wanted"));
+            };
+            part = text;
+            words = words.with_rest(rest);
+        } else {
+            words.expect("status", "status S is wanted")?;
+        }
+        let status = words.small()?;
+        if !words.skip("leaves") {
+            words.end()?;
+        }
+        Ok(Ending {
+            words: line,
+            lines,
+            part,
+            status,
+            lefts: words,
+        })
+    }
+
+    /// What has to be said, where a calm call says this.
+    fn said(self, alloc: Global, calm: &[u8]) -> Result<Vec<u8>, Wrong> {
+        let Some(length) = length_of_lines(calm, self.lines) else {
+            return Err(self.words.wrong("the call says fewer lines"));
+        };
+        let mut part = String::new(alloc);
+        spell(self.part, &mut part)?;
+        let mut said = Vec::new(alloc);
+        said.extend_from_slice(calm.get(..length).unwrap_or(b""))?;
+        said.extend_from_slice(part.as_bytes())?;
+        Ok(said)
+    }
+}
+
+impl<'s, 'a> Scene<'s, 'a> {
+    fn make<R: Threads + Wait + Sync>(self, rt: &R, twist: Twist) -> Result<Outcome, Wrong> {
+        self.call.make(rt, self.before, self.traces, twist)
+    }
+
+    /// A row of calls that fail.
+    pub fn try_ends<R: Threads + Wait + Sync>(
+        self,
+        rt: &R,
+        table: Table,
+        mut words: Words<'_>,
+        book: &Book<'_>,
+        report: &mut Report<'_>,
+    ) -> Result<(), Wrong> {
+        let (from, to) = range(&mut words)?;
+        let ending = Ending::read(words)?;
+        let said = self.said(rt, ending)?;
+        for number in from..=to {
+            self.try_end(rt, table, ending, said.as_slice(), number, book, report)?;
+        }
+        Ok(())
+    }
+
+    /// What has to be said by a call that ends so.
+    fn said<R: Threads + Wait + Sync>(self, rt: &R, ending: Ending<'_>) -> Result<Vec<u8>, Wrong> {
+        let calm = self.make(rt, Twist::NONE)?;
+        ending.said(self.alloc, calm.past.said())
+    }
+
+    fn try_end<R: Threads + Wait + Sync>(
+        self,
+        rt: &R,
+        table: Table,
+        ending: Ending<'_>,
+        said: &[u8],
+        number: u64,
+        book: &Book<'_>,
+        report: &mut Report<'_>,
+    ) -> Result<(), Wrong> {
+        let twist = table.fail(ending.words, number)?;
+        let outcome = self.make(rt, twist)?;
+        check_end(&outcome, ending, said, number, report)?;
+        self.try_lefts(rt, &outcome, ending, number, book, report)
+    }
+
+    /// What a crash leaves then is recovered as it is named, by each fill.
+    fn try_lefts<R: Threads + Wait + Sync>(
+        self,
+        rt: &R,
+        outcome: &Outcome,
+        ending: Ending<'_>,
+        number: u64,
+        book: &Book<'_>,
+        report: &mut Report<'_>,
+    ) -> Result<(), Wrong> {
+        let mut names = ending.lefts;
+        let mut last = names.next();
+        if last.is_none() {
+            report.count_try();
+            return Ok(());
+        }
+        for (fill, shown) in FILLS {
+            report.count_try();
+            let part = Part::at("recovery", number, shown);
+            let name = last.unwrap_or("any");
+            self.try_left(rt, outcome, fill, part, ending.words, name, book, report)?;
+            last = names.next().or(last);
+        }
+        names.end()
+    }
+
+    fn try_left<R: Threads + Wait + Sync>(
+        self,
+        rt: &R,
+        outcome: &Outcome,
+        fill: &[u8],
+        part: Part,
+        words: Words<'_>,
+        name: &str,
+        book: &Book<'_>,
+        report: &mut Report<'_>,
+    ) -> Result<(), Wrong> {
+        let recovered = self.call.recover(rt, &outcome.past, fill)?;
+        let made = Made::new(self.alloc, &recovered, b"", part)?;
+        if name == "any" {
+            return check_any(&made, outcome.past.said(), part, words.number(), report);
+        }
+        check_left(made, book.left(words, name)?, words.number(), report)
+    }
+
+    /// At a call behind the last one all is as without a failure.
+    pub fn try_calm<R: Threads + Wait + Sync>(
+        self,
+        rt: &R,
+        table: Table,
+        mut words: Words<'_>,
+        report: &mut Report<'_>,
+    ) -> Result<(), Wrong> {
+        let number = words.decimal()?;
+        words.end()?;
+        report.count_try();
+        let calm = self.make(rt, Twist::NONE)?;
+        let outcome = self.make(rt, table.fail(words, number)?)?;
+        let part = Part::at("status", number, "");
+        report.compare_status(words.number(), part, calm.status, outcome.status)?;
+        let (wanted, got) = (calm.past.said(), outcome.past.said());
+        report.compare(words.number(), part.with("said"), wanted, got)
+    }
+
+    /// A row of flaws of a trace.
+    pub fn try_flaws<R: Threads + Wait + Sync>(
+        self,
+        rt: &R,
+        table: Table,
+        mut words: Words<'_>,
+        report: &mut Report<'_>,
+    ) -> Result<(), Wrong> {
+        let (from, to) = range(&mut words)?;
+        words.expect("status", "status S is wanted")?;
+        for number in from..=to {
+            report.count_try();
+            let outcome = self.make(rt, table.flaw(words, number)?)?;
+            let part = Part::at("said", number, "");
+            check_lines(self.alloc, &outcome, words, part, report)?;
+        }
+        Ok(())
+    }
+
+    /// A call over devices with other bytes.
+    pub fn try_bytes<R: Threads + Wait + Sync>(
+        self,
+        rt: &R,
+        mut words: Words<'_>,
+        report: &mut Report<'_>,
+    ) -> Result<(), Wrong> {
+        report.count_try();
+        let changed = self.changed(&mut words)?;
+        let scene = Scene {
+            alloc: self.alloc,
+            call: self.call,
+            before: &changed,
+            traces: self.traces,
+        };
+        let outcome = scene.make(rt, Twist::NONE)?;
+        check_lines(self.alloc, &outcome, words, Part::of("said"), report)
+    }
+
+    /// The devices with the bytes of a line, up to its status.
+    fn changed(self, words: &mut Words<'_>) -> Result<Past, Wrong> {
+        let mut site = self.before.crash(self.alloc, b"")?;
+        for _ in 0..words.rest().len() {
+            if words.skip("status") {
+                break;
+            }
+            let device = words.device()?;
+            let place = words.decimal()?;
+            let mut bytes = Vec::new(self.alloc);
+            words.bytes(&mut bytes)?;
+            if !site.put(device, place, bytes.as_slice()) {
+                return Err(words.wrong("the case has no such device, or it is shorter"));
+            }
+        }
+        site.freeze(self.alloc)
+    }
+}
+
+/// The first and the last number of a row.
+fn range(words: &mut Words<'_>) -> Result<(u64, u64), Wrong> {
+    let from = words.decimal()?;
+    let to = words.decimal()?;
+    if from > to {
+        return Err(words.wrong("the row has no number"));
+    }
+    Ok((from, to))
+}
+
+fn check_end(
+    outcome: &Outcome,
+    ending: Ending<'_>,
+    said: &[u8],
+    number: u64,
+    report: &mut Report<'_>,
+) -> Result<(), Wrong> {
+    let line = ending.words.number();
+    let part = Part::at("said", number, "");
+    report.compare_status(line, part.with("status"), ending.status, outcome.status)?;
+    report.compare(line, part, said, outcome.past.said())
+}
+
+/// A call has ended with the status that is next, and has said just the lines behind it.
+fn check_lines(
+    alloc: Global,
+    outcome: &Outcome,
+    mut words: Words<'_>,
+    part: Part,
+    report: &mut Report<'_>,
+) -> Result<(), Wrong> {
+    let status = words.small()?;
+    report.compare_status(words.number(), part.with("status"), status, outcome.status)?;
+    let mut wanted = String::new(alloc);
+    spell_lines(words.rest(), &mut wanted)?;
+    report.compare(words.number(), part, wanted.as_bytes(), outcome.past.said())
+}
+
+fn check_left(
+    mut made: Made,
+    left: &Left<'_>,
+    number: u64,
+    report: &mut Report<'_>,
+) -> Result<(), Wrong> {
+    for line in left.lines() {
+        let mut words = *line;
+        let keyword = words.word()?;
+        made.take(keyword, words, report)?;
+    }
+    made.end_as_done(number, report)
+}
+
+/// The digits of the last time that a text names.
+fn last_time(said: &[u8]) -> Option<&str> {
+    let text = std::str::from_utf8(said).ok()?;
+    let (_, time) = text.rsplit_once(" T=")?;
+    time.get(..16)
+}
+
+/// A recovery is done, and names a time that is not before the last one that was said.
+fn check_any(
+    made: &Made,
+    said: &[u8],
+    part: Part,
+    number: u64,
+    report: &mut Report<'_>,
+) -> Result<(), Wrong> {
+    report.compare_status(number, part.with("status"), 0, made.status())?;
+    let before = last_time(said).unwrap_or("");
+    let time = last_time(made.said()).unwrap_or("");
+    if time.len() == 16 && before <= time {
+        return Ok(());
+    }
+    report.compare(
+        number,
+        part.with("time"),
+        before.as_bytes(),
+        time.as_bytes(),
+    )
+}
