@@ -3,7 +3,7 @@
 # minutes and processor minutes by part, and the twelve dearest crates. It ends with rt ci's own status, and writes no file.
 #
 # Parts run side by side, so their minutes add up to more than the whole: a part's are those in which some process of it was there.
-# A part is told by how rt starts its processes: what they prove, and in which folder. The base of a crate's edits is two checks. The
+# A process counts for a part by the words and the folder with which rt started it. The base of a crate's edits is two checks. The
 # first one proves the whole crate again, so that the others can rest on it. The last one is without an edit.
 set -eu
 cd "$(dirname "$0")/.."
@@ -30,9 +30,9 @@ def word_after(words, flag):
 
 
 def part_of_crate(name):
-    if os.path.isfile(f"crates/{name}/src/main.rt"):
-        return PROGRAMS
-    return TESTS if name.endswith("_tests") else LIBRARIES
+    if name.endswith("_tests"):
+        return TESTS
+    return PROGRAMS if os.path.isfile(f"crates/{name}/src/main.rt") else LIBRARIES
 
 
 def task_of(words, folder):
@@ -40,7 +40,7 @@ def task_of(words, folder):
     ran = next((found for found in (re.search(r"/rt-run-[^/]*/bin/(\w+)$", it) for it in words) if found), None)
     tools = [os.path.basename(it) for it in words]
     if ran:
-        return (TESTS, ran[1].removesuffix("_tests"), "") if "rattle-test" in tools else (PROGRAMS, ran[1], "")
+        return (TESTS, ran[1].removesuffix("_tests"), "") if "rattle-test" in tools else (part_of_crate(ran[1]), ran[1], "")
     if "rattle-link" in tools:
         made = os.path.basename(word_after(words, "-o"))
         return (TESTS if made.endswith("_tests") else PROGRAMS), os.path.basename(folder), ""

@@ -1,4 +1,4 @@
-# What the examples share, who read it with `.` at their beginning: the program, a temporary folder, in which they then are, new devices
+# What the examples share, which read it with `.` at their beginning: the program, a temporary folder, in which they then are, new devices
 # in it, and the script of a session with one pair. $0 names the example.
 
 repository=$(cd "$(dirname "$0")/../.." && pwd)

@@ -17,11 +17,17 @@ struct Entry<'a> {
 /// What a recovery says and leaves, as the lines of the file want it.
 #[derive(Drop)]
 pub struct Left<'a> {
+    /// The line in which it begins.
+    number: u64,
     name: &'a str,
     lines: Vec<Words<'a>>,
 }
 
 impl<'a> Left<'a> {
+    pub fn number(&self) -> u64 {
+        self.number
+    }
+
     pub fn lines(&self) -> &[Words<'a>] {
         self.lines.as_slice()
     }
@@ -43,13 +49,17 @@ impl<'a> Book<'a> {
         }
     }
 
-    /// Keeps a set-up and its call under the name of their case.
+    /// Keeps a set-up and its call under the name of their case, which stands in its first line.
     pub fn keep(
         &mut self,
-        name: &'a str,
+        line: Words<'a>,
         setup: &Setup<'a>,
         call: Option<&Call<'a>>,
     ) -> Result<(), Wrong> {
+        let name = line.rest().trim();
+        if self.entries.iter().any(|entry| entry.name == name) {
+            return Err(line.wrong("this name is taken"));
+        }
         let setup = setup.copy()?;
         let call = match call {
             Some(call) => Some(call.copy()?),
@@ -81,10 +91,22 @@ impl<'a> Book<'a> {
     }
 
     /// Begins what a recovery leaves under a name.
-    pub fn begin_left(&mut self, words: Words<'a>) -> Result<(), Wrong> {
+    pub fn begin_left(&mut self, mut words: Words<'a>) -> Result<(), Wrong> {
+        let name = words.word()?;
+        words.end()?;
+        if self.lefts.iter().any(|left| left.name == name) {
+            return Err(words.wrong("this name is taken"));
+        }
+        self.push_left(words.number(), name)
+    }
+
+    fn push_left(&mut self, number: u64, name: &'a str) -> Result<(), Wrong> {
         let lines = Vec::new(self.alloc);
-        let name = words.rest().trim();
-        self.lefts.push(Left { name, lines })?;
+        self.lefts.push(Left {
+            number,
+            name,
+            lines,
+        })?;
         Ok(())
     }
 

@@ -14,6 +14,8 @@ use xrc_edge::MemorySource;
 /// A call on a device, or on the console, that fails.
 #[derive(Clone, Copy)]
 pub struct Planned {
+    /// The line that plans it.
+    pub line: u64,
     pub at: Option<Device>,
     /// From so many lines on its calls are counted.
     pub lines: u64,
@@ -73,31 +75,25 @@ impl<'a> Call<'a> {
         self.script.as_slice()
     }
 
-    /// The line in which the call stands.
-    pub fn number(&self) -> u64 {
-        self.words.number()
-    }
-
-    /// Takes a line of the call; false where it is none.
-    pub fn take(&mut self, keyword: &str, mut words: Words<'_>) -> Result<bool, Wrong> {
+    /// Takes a line of the call.
+    pub fn take(&mut self, keyword: &str, mut words: Words<'_>) -> Result<(), Wrong> {
         match keyword {
-            ">" => self.hear(words.rest(), b"\n")?,
-            ">|" => self.hear(words.rest(), b"")?,
+            ">" => self.hear(words, b"\n"),
+            ">|" => self.hear(words, b""),
             ">x" => {
                 words.bytes(&mut self.script)?;
-                words.end()?;
+                words.end()
             }
-            "fail" => self.fail(words, false)?,
-            "stop" => self.fail(words, true)?,
-            _ => return Ok(false),
+            "fail" => self.fail(words, false),
+            "stop" => self.fail(words, true),
+            _ => Err(words.wrong("the line begins with no word of the notation")),
         }
-        Ok(true)
     }
 
-    /// Adds a text and its end to the script.
-    fn hear(&mut self, text: &str, end: &[u8]) -> Result<(), Wrong> {
+    /// Adds the text of a line and its end to the script.
+    fn hear(&mut self, words: Words<'_>, end: &[u8]) -> Result<(), Wrong> {
         let mut spelled = String::new(self.alloc);
-        spell(text, &mut spelled)?;
+        spell(words, words.rest(), &mut spelled)?;
         self.script.extend_from_slice(spelled.as_bytes())?;
         self.script.extend_from_slice(end)?;
         Ok(())
@@ -105,11 +101,13 @@ impl<'a> Call<'a> {
 
     /// Adds a call that fails.
     fn fail(&mut self, mut words: Words<'_>, stop: bool) -> Result<(), Wrong> {
+        let line = words.number();
         let at = words.place_of_calls()?;
         let call = words.decimal()?;
         let lines = words.said()?;
         words.end()?;
         self.fails.push(Planned {
+            line,
             at,
             lines,
             call,
@@ -121,6 +119,7 @@ impl<'a> Call<'a> {
     /// The words that recover this call's session.
     fn recovery(&self) -> Result<Vec<String>, Wrong> {
         let mut words = self.words;
+        // The command's own word.
         let _ = words.next();
         let session = words.next().unwrap_or("");
         let mut all = Vec::new(self.alloc);
@@ -205,7 +204,10 @@ impl<'a> Call<'a> {
         let mut list = Vec::new(self.alloc);
         for fail in plan {
             let Some(bytes) = length_of_lines(said, fail.lines) else {
-                return Err(self.words.wrong("the call says fewer lines"));
+                return Err(Wrong::Line {
+                    number: fail.line,
+                    why: "the call says fewer lines",
+                });
             };
             let failure = Fail {
                 at: fail.at,

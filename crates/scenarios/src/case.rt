@@ -2,7 +2,7 @@
 
 use crate::book::Book;
 use crate::call::{Call, Outcome, Twist};
-use crate::made::Made;
+use crate::made::{Made, is_wanted};
 use crate::report::{Part, Report};
 use crate::setup::Setup;
 use crate::site::Past;
@@ -21,19 +21,29 @@ struct Done {
     made: Made,
 }
 
+/// How far the call is that a case has told last.
+#[derive(Clone, Copy, PartialEq, Eq)]
+enum Progress {
+    /// It is another case's, so that a run may replace it.
+    Borrowed,
+    /// Nothing is wanted of it yet.
+    Told,
+    Tried,
+}
+
 /// A case as far as its lines are taken.
 #[derive(Drop)]
 pub struct Case<'a> {
     alloc: Global,
-    name: &'a str,
+    /// Its first line, with its name left.
+    line: Words<'a>,
     setup: Setup<'a>,
     call: Option<Call<'a>>,
-    /// Whether the call is of another case, so that this one may replace it.
-    is_borrowed: bool,
-    /// Whether something was wanted of the call, or of any.
-    is_tried: bool,
-    is_any_tried: bool,
+    progress: Progress,
+    is_begun: bool,
     is_kept: bool,
+    /// The last line that wants something.
+    wanted: u64,
     /// The devices that the call begins with, once they are needed.
     before: Option<Past>,
     done: Option<Done>,
@@ -41,24 +51,20 @@ pub struct Case<'a> {
 }
 
 impl<'a> Case<'a> {
-    pub fn new(alloc: Global, name: &'a str) -> Case<'a> {
+    pub fn new(alloc: Global, line: Words<'a>) -> Case<'a> {
         Case {
             alloc,
-            name,
+            line,
             setup: Setup::new(alloc),
             call: None,
-            is_borrowed: false,
-            is_tried: false,
-            is_any_tried: false,
+            progress: Progress::Borrowed,
+            is_begun: false,
             is_kept: false,
+            wanted: line.number(),
             before: None,
             done: None,
             table: Table::None,
         }
-    }
-
-    pub fn name(&self) -> &'a str {
-        self.name
     }
 
     /// Takes a line that is neither the case's first nor of what a recovery leaves.
@@ -71,46 +77,56 @@ impl<'a> Case<'a> {
         report: &mut Report<'_>,
     ) -> Result<(), Wrong> {
         match keyword {
-            "like" | "site" => self.take_like(keyword, words, book),
+            "like" | "site" => return self.take_like(keyword, words, book),
+            _ => self.is_begun = true,
+        }
+        match keyword {
             "run" => self.take_run(words, report),
             ">" | ">|" | ">x" | "fail" | "stop" => self.take_in_call(keyword, words),
             "stops" | "fails" | "cuts" | "pulls" => self.take_table(keyword, words),
             "at" | "calm" | "n" | "with" => self.take_row(rt, keyword, words, book, report),
-            "<"
-            | "<|"
-            | "status"
-            | "slot"
-            | "slots"
-            | "label"
-            | "holds"
-            | "same"
-            | "unheard"
-            | "crash" => self.take_wanted(rt, keyword, words, book, report),
-            _ => {
-                self.settle(report)?;
-                self.before = None;
-                self.setup.take(keyword, words)
-            }
+            "same" | "unheard" | "crash" => self.take_wanted(rt, keyword, words, book, report),
+            _ if is_wanted(keyword) => self.take_wanted(rt, keyword, words, book, report),
+            _ => self.take_setup(keyword, words, report),
         }
     }
 
+    /// Takes a line of the set-up. Behind a call that was tried it changes what the call has left.
+    fn take_setup(
+        &mut self,
+        keyword: &str,
+        words: Words<'a>,
+        report: &mut Report<'_>,
+    ) -> Result<(), Wrong> {
+        self.settle(report)?;
+        self.before = None;
+        if self.progress == Progress::Tried {
+            self.call = None;
+        }
+        self.setup.take(keyword, words)
+    }
+
     fn take_like(&mut self, keyword: &str, words: Words<'a>, book: &Book<'a>) -> Result<(), Wrong> {
+        if self.is_begun {
+            return Err(words.wrong("it stands first in its case"));
+        }
+        self.is_begun = true;
         self.setup = book.setup(words)?;
         if keyword == "like" {
             self.call = Some(book.call(words)?);
-            self.is_borrowed = true;
         }
         Ok(())
     }
 
     fn take_run(&mut self, words: Words<'a>, report: &mut Report<'_>) -> Result<(), Wrong> {
         self.settle(report)?;
-        if self.call.is_some() && !self.is_borrowed && !self.is_tried {
+        if self.progress == Progress::Told {
             return Err(words.wrong("nothing is wanted of the call before"));
         }
         self.call = Some(Call::new(self.alloc, words));
-        self.is_borrowed = false;
-        self.is_tried = false;
+        self.progress = Progress::Told;
+        self.before = None;
+        self.table = Table::None;
         Ok(())
     }
 
@@ -119,18 +135,13 @@ impl<'a> Case<'a> {
             return Err(words.wrong("the call is made already"));
         }
         match &mut self.call {
-            Some(call) => {
-                call.take(keyword, words)?;
-                Ok(())
-            }
+            Some(call) => call.take(keyword, words),
             None => Err(words.wrong("it stands below a run")),
         }
     }
 
     fn take_table(&mut self, keyword: &str, words: Words<'a>) -> Result<(), Wrong> {
-        if let Some(table) = Table::begun(keyword, words)? {
-            self.table = table;
-        }
+        self.table = Table::begun(keyword, words, self.setup.traces().len())?;
         Ok(())
     }
 
@@ -138,7 +149,7 @@ impl<'a> Case<'a> {
     fn keep(&mut self, book: &mut Book<'a>) -> Result<(), Wrong> {
         if !self.is_kept {
             self.is_kept = true;
-            book.keep(self.name, &self.setup, self.call.as_ref())?;
+            book.keep(self.line, &self.setup, self.call.as_ref())?;
         }
         Ok(())
     }
@@ -148,8 +159,8 @@ impl<'a> Case<'a> {
         if self.call.is_none() {
             return Err(words.wrong("it stands below a run"));
         }
-        self.is_tried = true;
-        self.is_any_tried = true;
+        self.progress = Progress::Tried;
+        self.wanted = words.number();
         if self.before.is_none() {
             self.before = Some(self.setup.stand()?);
         }
@@ -162,7 +173,7 @@ impl<'a> Case<'a> {
             return Ok(());
         };
         if self.done.is_none() {
-            let done = made(self.alloc, rt, call, before, self.setup.traces())?;
+            let done = perform(self.alloc, rt, call, before, self.setup.traces())?;
             self.done = Some(done);
         }
         Ok(())
@@ -186,10 +197,7 @@ impl<'a> Case<'a> {
             "same" => done.wants_same(self.alloc, words, before, report),
             "crash" => done.crash(self.alloc, words),
             "unheard" => done.wants_unheard(words, call, report),
-            _ => {
-                done.made.take(keyword, words, report)?;
-                Ok(())
-            }
+            _ => done.made.take(keyword, words, report),
         }
     }
 
@@ -224,28 +232,21 @@ impl<'a> Case<'a> {
         let Some(done) = self.done.take() else {
             return Ok(());
         };
-        let number = self.call.as_ref().map_or(0, |call| call.number());
         self.before = None;
         let Done { outcome: _, made } = done;
-        made.end(number, report)?;
+        made.end(self.wanted, report)?;
         let left = made.into_left().freeze(self.alloc)?;
         self.setup.go_on(left);
         Ok(())
     }
 
-    /// Ends the case.
-    pub fn end(mut self, book: &mut Book<'a>, report: &mut Report<'_>) -> Result<(), Wrong> {
-        self.keep(book)?;
+    /// Ends the case, which has to want something of its last call.
+    pub fn end(mut self, report: &mut Report<'_>) -> Result<(), Wrong> {
+        if self.progress != Progress::Tried {
+            return Err(self.line.wrong("nothing is wanted of the case's last call"));
+        }
         self.settle(report)?;
-        if let Some(call) = &self.call {
-            if !self.is_borrowed && !self.is_tried {
-                report.differ(call.number(), "nothing is wanted of the call")?;
-            }
-        }
-        if self.is_any_tried {
-            report.end_case()?;
-        }
-        Ok(())
+        report.end_case()
     }
 }
 
@@ -282,8 +283,8 @@ impl Done {
     }
 }
 
-/// The call made over devices and traces.
-fn made<R: Threads + Wait + Sync>(
+/// Makes a call over devices and traces.
+fn perform<R: Threads + Wait + Sync>(
     alloc: Global,
     rt: &R,
     call: &Call<'_>,

@@ -2,6 +2,7 @@
 
 use crate::book::Book;
 use crate::case::Case;
+use crate::made::is_wanted;
 use crate::report::Report;
 use crate::words::Words;
 use crate::wrong::Wrong;
@@ -9,74 +10,86 @@ use std::alloc::Global;
 use std::sync::Wait;
 use std::thread::Threads;
 
-/// Works through the cases of a text.
+/// A file as far as its lines are taken.
+#[derive(Drop)]
+struct Reader<'a> {
+    alloc: Global,
+    book: Book<'a>,
+    case: Option<Case<'a>>,
+    /// Whether the line before was of what a recovery leaves.
+    is_in_left: bool,
+}
+
+/// Tries the cases of a text.
 pub fn try_cases<'a, R: Threads + Wait + Sync>(
     rt: &R,
     alloc: Global,
     text: &'a str,
     report: &mut Report<'a>,
 ) -> Result<(), Wrong> {
-    let mut book = Book::new(alloc);
-    let mut case = None;
-    let mut is_left = false;
+    let mut reader = Reader {
+        alloc,
+        book: Book::new(alloc),
+        case: None,
+        is_in_left: false,
+    };
     let mut number = 0u64;
     for line in text.lines() {
         number = number.saturating_add(1);
-        let line = Words::new(number, line);
-        take_line(rt, alloc, line, &mut book, &mut case, &mut is_left, report)?;
+        reader.take(rt, Words::new(number, line), report)?;
     }
-    end_case(case, &mut book, report)
+    reader.end_case(report)
 }
 
-/// Takes a line. `is_left` says whether it may be of what a recovery leaves.
-fn take_line<'a, R: Threads + Wait + Sync>(
-    rt: &R,
-    alloc: Global,
-    line: Words<'a>,
-    book: &mut Book<'a>,
-    case: &mut Option<Case<'a>>,
-    is_left: &mut bool,
-    report: &mut Report<'a>,
-) -> Result<(), Wrong> {
-    let mut words = line;
-    let Some(keyword) = words.next() else {
-        return Ok(());
-    };
-    if keyword.starts_with('#') {
-        return Ok(());
-    }
-    if *is_left
-        && matches!(
-            keyword,
-            "<" | "slot" | "slots" | "label" | "holds" | "status"
-        )
-    {
-        return book.push_line(line);
-    }
-    *is_left = keyword == "left";
-    match keyword {
-        "left" => book.begin_left(words),
-        "case" => {
-            end_case(case.take(), book, report)?;
-            let name = words.rest().trim();
-            report.begin_case(name);
-            *case = Some(Case::new(alloc, name));
-            Ok(())
+impl<'a> Reader<'a> {
+    fn take<R: Threads + Wait + Sync>(
+        &mut self,
+        rt: &R,
+        line: Words<'a>,
+        report: &mut Report<'a>,
+    ) -> Result<(), Wrong> {
+        let mut words = line;
+        let Some(keyword) = words.next() else {
+            return Ok(());
+        };
+        if keyword.starts_with('#') {
+            return Ok(());
         }
-        _ => match case {
-            Some(case) => case.take(rt, keyword, words, book, report),
-            None => Err(words.wrong("it belongs to no case")),
-        },
+        if self.is_in_left && is_wanted(keyword) {
+            return self.book.push_line(line);
+        }
+        self.is_in_left = keyword == "left";
+        match keyword {
+            "left" => self.book.begin_left(words),
+            "case" => self.begin_case(words, report),
+            _ => self.take_in_case(rt, keyword, words, report),
+        }
     }
-}
 
-fn end_case<'a>(
-    case: Option<Case<'a>>,
-    book: &mut Book<'a>,
-    report: &mut Report<'a>,
-) -> Result<(), Wrong> {
-    match case {
-        Some(case) => case.end(book, report),
-        None => Ok(()),
+    fn begin_case(&mut self, words: Words<'a>, report: &mut Report<'a>) -> Result<(), Wrong> {
+        self.end_case(report)?;
+        report.begin_case(words.rest().trim());
+        self.case = Some(Case::new(self.alloc, words));
+        Ok(())
+    }
+
+    fn take_in_case<R: Threads + Wait + Sync>(
+        &mut self,
+        rt: &R,
+        keyword: &str,
+        words: Words<'a>,
+        report: &mut Report<'a>,
+    ) -> Result<(), Wrong> {
+        match &mut self.case {
+            Some(case) => case.take(rt, keyword, words, &mut self.book, report),
+            None => Err(words.wrong("it belongs to no case")),
+        }
+    }
+
+    fn end_case(&mut self, report: &mut Report<'a>) -> Result<(), Wrong> {
+        match self.case.take() {
+            Some(case) => case.end(report),
+            None => Ok(()),
+        }
     }
 }

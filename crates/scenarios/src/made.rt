@@ -21,7 +21,7 @@ struct Slot {
     track: u32,
 }
 
-/// A call that was made.
+/// What a call has said and left, as far as its case has named it.
 #[derive(Drop)]
 pub struct Made {
     alloc: Global,
@@ -53,14 +53,6 @@ impl Made {
         })
     }
 
-    pub fn status(&self) -> u8 {
-        self.status
-    }
-
-    pub fn said(&self) -> &[u8] {
-        self.said.as_slice()
-    }
-
     /// Looks from now on at what a crash leaves by another fill.
     pub fn look_at(&mut self, past: &Past, fill: &[u8]) -> Result<(), Wrong> {
         self.left = past.crash(self.alloc, fill)?;
@@ -72,35 +64,34 @@ impl Made {
         self.left
     }
 
-    /// Takes a line that wants something of the call; false where it is none.
+    /// Takes a line that wants something of the call.
     pub fn take(
         &mut self,
         keyword: &str,
         words: Words<'_>,
         report: &mut Report<'_>,
-    ) -> Result<bool, Wrong> {
+    ) -> Result<(), Wrong> {
         match keyword {
-            "<" => self.wants_line(words, report)?,
-            "<|" => self.wants_text(words, report)?,
-            "status" => self.wants_status(words, report)?,
-            "slot" => self.wants_slot(words, report)?,
-            "slots" => self.wants_slots(words, report)?,
-            "label" => self.wants_label(words, report)?,
-            "holds" => self.wants_bytes(words, report)?,
-            _ => return Ok(false),
+            "<" => self.wants_line(words, report),
+            "<|" => self.wants_text(words, report),
+            "status" => self.wants_status(words, report),
+            "slot" => self.wants_slot(words, report),
+            "slots" => self.wants_slots(words, report),
+            "label" => self.wants_label(words, report),
+            "holds" => self.wants_bytes(words, report),
+            _ => Err(words.wrong("the line begins with no word of the notation")),
         }
-        Ok(true)
     }
 
     fn wants_line(&mut self, words: Words<'_>, report: &mut Report<'_>) -> Result<(), Wrong> {
         let mut wanted = String::new(self.alloc);
-        spell_line(words.rest(), &mut wanted)?;
+        spell_line(words, words.rest(), &mut wanted)?;
         self.wants_said(words.number(), wanted.as_bytes(), report)
     }
 
     fn wants_text(&mut self, words: Words<'_>, report: &mut Report<'_>) -> Result<(), Wrong> {
         let mut wanted = String::new(self.alloc);
-        spell(words.rest(), &mut wanted)?;
+        spell(words, words.rest(), &mut wanted)?;
         self.wants_said(words.number(), wanted.as_bytes(), report)
     }
 
@@ -158,6 +149,9 @@ impl Made {
             return Err(words.wrong("the case has no such volume"));
         };
         let tracks = u32::try_from(length.saturating_sub(FRONT) / SLOT).unwrap_or(u32::MAX);
+        if tracks == 0 {
+            return Err(words.wrong("the volume has no slot"));
+        }
         for track in 0..tracks {
             let slot = Slot { device, track };
             if !self.slots.as_slice().contains(&slot) {
@@ -187,9 +181,6 @@ impl Made {
         let mut wanted = Vec::new(self.alloc);
         words.bytes(&mut wanted)?;
         words.end()?;
-        if wanted.is_empty() {
-            return Err(words.wrong("no byte is wanted"));
-        }
         Ok(wanted)
     }
 
@@ -253,6 +244,14 @@ impl Made {
 /// What stands behind so many bytes of a text.
 fn behind(text: &[u8], count: usize) -> &[u8] {
     text.get(count..).unwrap_or(b"")
+}
+
+/// Whether a line that begins with this word wants what a call says, or what it leaves by itself.
+pub fn is_wanted(keyword: &str) -> bool {
+    matches!(
+        keyword,
+        "<" | "<|" | "status" | "slot" | "slots" | "label" | "holds"
+    )
 }
 
 /// The first line of a text, with its line feed.

@@ -28,17 +28,25 @@ use std::{env, fs, io};
 /// The status where a case differs, or can't be worked through.
 const BAD: u8 = 1;
 
-/// The names that stand as words, and the texts of these files.
-fn read_files<R: Files + Env + AllocGlobal>(
+/// Puts the names that stand as words, and the texts of these files, into lists; false where it can't, which it says.
+fn read_files<R: Files + Env + Print + AllocGlobal>(
     rt: &R,
     names: &mut Vec<String>,
     texts: &mut Vec<String>,
-) -> io::Result<()> {
+) -> io::Result<bool> {
     for name in env::args(rt)?.skip(1) {
-        texts.push(fs::read_to_string(rt, name.as_str())?)?;
+        let Ok(text) = fs::read_to_string(rt, name.as_str()) else {
+            rt.println(format_args!("{name}: the file can't be read"))?;
+            return Ok(false);
+        };
+        texts.push(text)?;
         names.push(name)?;
     }
-    Ok(())
+    if names.is_empty() {
+        rt.println("no file is named")?;
+        return Ok(false);
+    }
+    Ok(true)
 }
 
 /// Works through files, and says which line of which file can't be worked through.
@@ -62,6 +70,7 @@ fn try_files<'a, R: Print + Threads + Wait + Sync>(
 
 fn end_report<R: Print>(rt: &R, report: &mut Report<'_>) -> io::Result<bool> {
     if report.end().is_err() {
+        rt.println("no memory")?;
         return Ok(false);
     }
     rt.print(report.text())?;
@@ -82,7 +91,9 @@ where
     let alloc = rt.alloc();
     let mut names = Vec::new(alloc);
     let mut texts = Vec::new(alloc);
-    read_files(rt, &mut names, &mut texts)?;
+    if !read_files(rt, &mut names, &mut texts)? {
+        return Ok(false);
+    }
     try_files(rt, alloc, names.as_slice(), texts.as_slice())
 }
 

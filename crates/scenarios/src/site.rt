@@ -23,7 +23,7 @@ pub struct Site {
     ghost home: { NoneLent (plain_state plant) },
 }
 
-/// The same with their past and calls that fail.
+/// Devices none of which is lent, with their past and the calls that fail.
 #[derive(Drop)]
 pub struct Past {
     plant: MemoryPlant,
@@ -64,7 +64,9 @@ impl Site {
         let bytes = [byte; CHUNK];
         for place in (0..length).step_by(CHUNK) {
             let count = (length - place).min(CHUNK as u64) as usize;
-            self.put(device, place, &bytes[..count]);
+            if !self.put(device, place, &bytes[..count]) {
+                return false;
+            }
         }
         true
     }
@@ -85,6 +87,7 @@ impl Site {
             let count = (length - place).min(CHUNK as u64) as usize;
             let is_read = self.get(device, place, &mut here[..count])
                 && other.get(device, place, &mut there[..count]);
+            // Behind a short last piece both hold what the piece before had, which is the same.
             if !is_read || here != there {
                 return false;
             }

@@ -6,7 +6,7 @@ use crate::made::Made;
 use crate::report::{Part, Report};
 use crate::site::Past;
 use crate::texts::{length_of_lines, spell, spell_lines};
-use crate::trace::{Flaw, Trace};
+use crate::trace::{Cut, Flaw, Trace};
 use crate::words::Words;
 use crate::wrong::Wrong;
 use crash_plant::Device;
@@ -34,20 +34,20 @@ pub enum Table {
 const FILLS: [(&[u8], &str); 3] = [(&[], ", zeros"), (&[1], ", 01"), (&[0xFF], ", FF")];
 
 impl Table {
-    /// The table that a line begins; None where it begins none.
-    pub fn begun(keyword: &str, mut words: Words<'_>) -> Result<Option<Table>, Wrong> {
+    /// The table that a line begins, for a case of so many traces.
+    pub fn begun(keyword: &str, mut words: Words<'_>, traces: usize) -> Result<Table, Wrong> {
         let table = match keyword {
             "stops" | "fails" => Table::Fails {
                 at: words.place_of_calls()?,
                 lines: words.said()?,
                 stop: keyword == "stops",
             },
-            "cuts" => Table::Cuts(words.decimal()? as usize),
-            "pulls" => Table::Pulls(words.decimal()? as usize),
-            _ => return Ok(None),
+            "cuts" => Table::Cuts(trace_of(&mut words, traces)?),
+            "pulls" => Table::Pulls(trace_of(&mut words, traces)?),
+            _ => return Err(words.wrong("the line begins with no word of the notation")),
         };
         words.end()?;
-        Ok(Some(table))
+        Ok(table)
     }
 
     /// The failure of a row's call.
@@ -56,6 +56,7 @@ impl Table {
             return Err(words.wrong("it stands below stops or fails"));
         };
         let fail = Planned {
+            line: words.number(),
             at,
             lines,
             call,
@@ -69,9 +70,16 @@ impl Table {
 
     /// The flaw of a row's trace.
     fn flaw(self, words: Words<'_>, number: u64) -> Result<Twist, Wrong> {
+        let Ok(number) = usize::try_from(number) else {
+            return Err(words.wrong("a number is too large"));
+        };
+        let cut = Cut {
+            line: words.number(),
+            length: number,
+        };
         let flaw = match self {
-            Table::Cuts(trace) => (trace, Flaw::Cut(number as usize)),
-            Table::Pulls(trace) => (trace, Flaw::Pull(number as usize)),
+            Table::Cuts(trace) => (trace, Flaw::Cut(cut)),
+            Table::Pulls(trace) => (trace, Flaw::Pull(number)),
             _ => return Err(words.wrong("it stands below cuts or pulls")),
         };
         Ok(Twist {
@@ -97,12 +105,12 @@ struct Ending<'a> {
     lines: u64,
     part: &'a str,
     status: u8,
-    /// The names of what is left, each for a fill; no name where none is recovered.
+    /// The names of what is left, one for each fill or one for all.
     lefts: Words<'a>,
 }
 
 impl<'a> Ending<'a> {
-    /// Reads `said N [part TEXT] status S [leaves NAME..]`.
+    /// Reads `said N [part TEXT] status S leaves NAME..`.
     fn read(mut words: Words<'a>) -> Result<Ending<'a>, Wrong> {
         let line = words;
         words.expect("said", "said N is wanted")?;
@@ -118,9 +126,7 @@ impl<'a> Ending<'a> {
             words.expect("status", "status S is wanted")?;
         }
         let status = words.small()?;
-        if !words.skip("leaves") {
-            words.end()?;
-        }
+        words.expect("leaves", "leaves NAME is wanted")?;
         Ok(Ending {
             words: line,
             lines,
@@ -130,13 +136,26 @@ impl<'a> Ending<'a> {
         })
     }
 
+    /// The names of what is left by each fill.
+    fn names(self) -> Result<(&'a str, &'a str, &'a str), Wrong> {
+        let mut words = self.lefts;
+        let first = words.word()?;
+        if words.rest().trim().is_empty() {
+            return Ok((first, first, first));
+        }
+        let second = words.word()?;
+        let third = words.word()?;
+        words.end()?;
+        Ok((first, second, third))
+    }
+
     /// What has to be said, where a calm call says this.
     fn said(self, alloc: Global, calm: &[u8]) -> Result<Vec<u8>, Wrong> {
         let Some(length) = length_of_lines(calm, self.lines) else {
             return Err(self.words.wrong("the call says fewer lines"));
         };
         let mut part = String::new(alloc);
-        spell(self.part, &mut part)?;
+        spell(self.words, self.part, &mut part)?;
         let mut said = Vec::new(alloc);
         said.extend_from_slice(calm.get(..length).unwrap_or(b""))?;
         said.extend_from_slice(part.as_bytes())?;
@@ -199,20 +218,15 @@ impl<'s, 'a> Scene<'s, 'a> {
         book: &Book<'_>,
         report: &mut Report<'_>,
     ) -> Result<(), Wrong> {
-        let mut names = ending.lefts;
-        let mut last = names.next();
-        if last.is_none() {
+        let (zeros, ones, all) = ending.names()?;
+        let names = [zeros, ones, all];
+        for ((fill, shown), name) in FILLS.iter().zip(names.iter()) {
             report.count_try();
-            return Ok(());
+            let left = book.left(ending.words, *name)?;
+            let part = Part::at("recovery", number, *shown);
+            self.try_left(rt, outcome, *fill, part, left, report)?;
         }
-        for (fill, shown) in FILLS {
-            report.count_try();
-            let part = Part::at("recovery", number, shown);
-            let name = last.unwrap_or("any");
-            self.try_left(rt, outcome, fill, part, ending.words, name, book, report)?;
-            last = names.next().or(last);
-        }
-        names.end()
+        Ok(())
     }
 
     fn try_left<R: Threads + Wait + Sync>(
@@ -221,17 +235,12 @@ impl<'s, 'a> Scene<'s, 'a> {
         outcome: &Outcome,
         fill: &[u8],
         part: Part,
-        words: Words<'_>,
-        name: &str,
-        book: &Book<'_>,
+        left: &Left<'_>,
         report: &mut Report<'_>,
     ) -> Result<(), Wrong> {
         let recovered = self.call.recover(rt, &outcome.past, fill)?;
         let made = Made::new(self.alloc, &recovered, b"", part)?;
-        if name == "any" {
-            return check_any(&made, outcome.past.said(), part, words.number(), report);
-        }
-        check_left(made, book.left(words, name)?, words.number(), report)
+        check_left(made, left, report)
     }
 
     /// At a call behind the last one all is as without a failure.
@@ -344,49 +353,24 @@ fn check_lines(
     let status = words.small()?;
     report.compare_status(words.number(), part.with("status"), status, outcome.status)?;
     let mut wanted = String::new(alloc);
-    spell_lines(words.rest(), &mut wanted)?;
+    spell_lines(words, &mut wanted)?;
     report.compare(words.number(), part, wanted.as_bytes(), outcome.past.said())
 }
 
-fn check_left(
-    mut made: Made,
-    left: &Left<'_>,
-    number: u64,
-    report: &mut Report<'_>,
-) -> Result<(), Wrong> {
+fn check_left(mut made: Made, left: &Left<'_>, report: &mut Report<'_>) -> Result<(), Wrong> {
     for line in left.lines() {
         let mut words = *line;
         let keyword = words.word()?;
         made.take(keyword, words, report)?;
     }
-    made.end_as_done(number, report)
+    made.end_as_done(left.number(), report)
 }
 
-/// The digits of the last time that a text names.
-fn last_time(said: &[u8]) -> Option<&str> {
-    let text = std::str::from_utf8(said).ok()?;
-    let (_, time) = text.rsplit_once(" T=")?;
-    time.get(..16)
-}
-
-/// A recovery is done, and names a time that is not before the last one that was said.
-fn check_any(
-    made: &Made,
-    said: &[u8],
-    part: Part,
-    number: u64,
-    report: &mut Report<'_>,
-) -> Result<(), Wrong> {
-    report.compare_status(number, part.with("status"), 0, made.status())?;
-    let before = last_time(said).unwrap_or("");
-    let time = last_time(made.said()).unwrap_or("");
-    if time.len() == 16 && before <= time {
-        return Ok(());
+/// A trace of a case that has so many.
+fn trace_of(words: &mut Words<'_>, traces: usize) -> Result<usize, Wrong> {
+    let trace = words.size()?;
+    if trace >= traces {
+        return Err(words.wrong("the case has no such trace"));
     }
-    report.compare(
-        number,
-        part.with("time"),
-        before.as_bytes(),
-        time.as_bytes(),
-    )
+    Ok(trace)
 }

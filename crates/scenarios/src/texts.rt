@@ -6,46 +6,47 @@ use std::alloc::Global;
 use std::fmt;
 use std::fmt::Write;
 
-/// Puts a text at the end, in which `[64]` stands for the 16 digits of a stamp.
-pub fn spell(text: &str, into: &mut String) -> Result<(), Wrong> {
+/// Puts a text of a line at the end, in which `[64]` stands for the 16 digits of a stamp.
+pub fn spell(words: Words<'_>, text: &str, into: &mut String) -> Result<(), Wrong> {
     let mut pieces = text.split('[');
     if let Some(first) = pieces.next() {
         into.push_str(first)?;
     }
     for piece in pieces {
-        spell_piece(piece, into)?;
+        spell_piece(words, piece, into)?;
     }
     Ok(())
 }
 
 /// Puts what stands behind a `[` at the end.
-fn spell_piece(piece: &str, into: &mut String) -> Result<(), Wrong> {
-    if let Some((digits, rest)) = piece.split_once(']') {
-        if let Ok(stamp) = u64::from_str_radix(digits, 16) {
-            write!(into, "{stamp:016X}{rest}")?;
-            return Ok(());
-        }
-    }
-    into.push_str("[")?;
-    into.push_str(piece)?;
+fn spell_piece(words: Words<'_>, piece: &str, into: &mut String) -> Result<(), Wrong> {
+    let (digits, rest) = piece.split_once(']').unwrap_or(("", piece));
+    let Ok(stamp) = u64::from_str_radix(digits, 16) else {
+        return Err(words.wrong("a stamp is wanted between [ and ]"));
+    };
+    write!(into, "{stamp:016X}{rest}")?;
     Ok(())
 }
 
-pub fn spell_line(line: &str, into: &mut String) -> Result<(), Wrong> {
-    spell(line, into)?;
+pub fn spell_line(words: Words<'_>, line: &str, into: &mut String) -> Result<(), Wrong> {
+    spell(words, line, into)?;
     into.push_str("\n")?;
     Ok(())
 }
 
-/// Puts the lines of `< LINE < LINE <| TEXT` at the end.
-pub fn spell_lines(text: &str, into: &mut String) -> Result<(), Wrong> {
+/// Puts the lines of `< LINE < LINE <| TEXT`, which are left of a row, at the end.
+pub fn spell_lines(words: Words<'_>, into: &mut String) -> Result<(), Wrong> {
+    let text = words.rest().trim_start();
+    if !text.is_empty() && !text.starts_with('<') {
+        return Err(words.wrong("< LINE is wanted"));
+    }
     let (lines, last) = text.split_once("<| ").unwrap_or((text, ""));
     for line in lines.split("< ") {
         if !line.trim().is_empty() {
-            spell_line(line.trim(), into)?;
+            spell_line(words, line.trim(), into)?;
         }
     }
-    spell(last, into)
+    spell(words, last, into)
 }
 
 /// How many bytes the first so many lines of a text have; None where there are fewer lines.
@@ -91,8 +92,8 @@ pub fn serial_field(words: Words<'_>, serial: &str) -> Result<[u8; 6], Wrong> {
 }
 
 /// Puts the records of the words that are left at the end, and says how many they are.
-pub fn put_records(words: &mut Words<'_>, into: &mut Vec<u8>) -> Result<u8, Wrong> {
-    let mut count = 0u8;
+pub fn put_records(words: &mut Words<'_>, into: &mut Vec<u8>) -> Result<u16, Wrong> {
+    let mut count = 0u16;
     for word in words.rest().split_whitespace() {
         if word != "-" {
             put_record(*words, word, into)?;

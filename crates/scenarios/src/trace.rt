@@ -16,19 +16,31 @@ const VOLUME: usize = 8;
 /// How many bytes come at once where a case doesn't say it.
 const PIECES: u32 = 4_096;
 
+/// The last pull that a case can make fail.
+const LAST_PULL: usize = 65_535;
+
+/// The first byte of each kind of entry.
+const IDLE: u8 = 1;
+
 const UPDATE: u8 = 2;
 
 const FORMAT: u8 = 3;
 
 const WHOLE: u8 = 4;
 
-const IDLE: u8 = 1;
-
-/// Bytes of a trace that are changed.
+/// Bytes of a trace that a line changes.
 #[derive(Drop)]
 struct Patch {
+    line: u64,
     place: usize,
     bytes: Vec<u8>,
+}
+
+/// A length to which a line cuts a trace.
+#[derive(Clone, Copy)]
+pub struct Cut {
+    pub line: u64,
+    pub length: usize,
 }
 
 /// A trace, part by part.
@@ -40,7 +52,7 @@ pub struct Trace {
     base_count: u32,
     entries: Vec<u8>,
     patches: Vec<Patch>,
-    cut: Option<usize>,
+    cut: Option<Cut>,
     pieces: u32,
     fails: Vec<u8>,
 }
@@ -49,7 +61,8 @@ pub struct Trace {
 #[derive(Clone, Copy)]
 pub enum Flaw {
     Nothing,
-    Cut(usize),
+    Cut(Cut),
+    /// The pull of a number fails.
     Pull(usize),
 }
 
@@ -73,7 +86,7 @@ impl Trace {
         let mut copy = Trace::new(self.alloc);
         copy.copy_parts(self)?;
         for patch in self.patches.iter() {
-            copy.push_patch(patch.place, patch.bytes.as_slice())?;
+            copy.copy_patch(patch)?;
         }
         Ok(copy)
     }
@@ -89,9 +102,10 @@ impl Trace {
         Ok(())
     }
 
-    fn push_patch(&mut self, place: usize, bytes: &[u8]) -> Result<(), Wrong> {
-        let bytes = copied(self.alloc, bytes)?;
-        self.patches.push(Patch { place, bytes })?;
+    fn copy_patch(&mut self, patch: &Patch) -> Result<(), Wrong> {
+        let bytes = copied(self.alloc, patch.bytes.as_slice())?;
+        let (line, place) = (patch.line, patch.place);
+        self.patches.push(Patch { line, place, bytes })?;
         Ok(())
     }
 
@@ -103,7 +117,7 @@ impl Trace {
             "times" => self.take_times(&mut words)?,
             "raw" => words.bytes(&mut self.entries)?,
             "set" => self.take_patch(&mut words)?,
-            "cut" => self.cut = Some(words.decimal()? as usize),
+            "cut" => self.take_cut(&mut words)?,
             "pieces" => self.take_pieces(&mut words)?,
             "fault" => self.take_fault(&mut words)?,
             _ => self.take_entry(keyword, &mut words)?,
@@ -185,10 +199,18 @@ impl Trace {
     }
 
     fn take_patch(&mut self, words: &mut Words<'_>) -> Result<(), Wrong> {
-        let place = words.decimal()? as usize;
+        let line = words.number();
+        let place = words.size()?;
         let mut bytes = Vec::new(self.alloc);
         words.bytes(&mut bytes)?;
-        self.patches.push(Patch { place, bytes })?;
+        self.patches.push(Patch { line, place, bytes })?;
+        Ok(())
+    }
+
+    fn take_cut(&mut self, words: &mut Words<'_>) -> Result<(), Wrong> {
+        let line = words.number();
+        let length = words.size()?;
+        self.cut = Some(Cut { line, length });
         Ok(())
     }
 
@@ -201,7 +223,10 @@ impl Trace {
     }
 
     fn take_fault(&mut self, words: &mut Words<'_>) -> Result<(), Wrong> {
-        let pull = words.long()? as usize;
+        let pull = words.size()?;
+        if pull > LAST_PULL {
+            return Err(words.wrong("a number is too large"));
+        }
         mark(&mut self.fails, pull)
     }
 
@@ -211,7 +236,7 @@ impl Trace {
         self.put_header(&mut bytes)?;
         bytes.extend_from_slice(self.entries.as_slice())?;
         for patch in self.patches.iter() {
-            put_patch(bytes.as_mut_slice(), patch);
+            put_patch(bytes.as_mut_slice(), patch)?;
         }
         Ok(bytes)
     }
@@ -236,11 +261,12 @@ impl Trace {
             mark(&mut fails, pull)?;
         }
         let whole = self.bytes()?;
-        let most = match (flaw, self.cut) {
-            (Flaw::Cut(most), _) | (_, Some(most)) => most.min(whole.len()),
-            _ => whole.len(),
+        let cut = match flaw {
+            Flaw::Cut(cut) => Some(cut),
+            _ => self.cut,
         };
-        self.source_of(&whole.as_slice()[..most], fails.as_slice())
+        let given = front(whole.as_slice(), cut)?;
+        self.source_of(given, fails.as_slice())
     }
 
     fn source_of(&self, bytes: &[u8], fails: &[u8]) -> Result<MemorySource, Wrong> {
@@ -266,7 +292,7 @@ fn mark(fails: &mut Vec<u8>, pull: usize) -> Result<(), Wrong> {
 fn put_image(alloc: Global, words: &mut Words<'_>, into: &mut Vec<u8>) -> Result<(), Wrong> {
     let mut records = Vec::new(alloc);
     let count = put_records(words, &mut records)?;
-    into.extend_from_slice(&u16::from(count).to_be_bytes())?;
+    into.extend_from_slice(&count.to_be_bytes())?;
     into.extend_from_slice(records.as_slice())?;
     Ok(())
 }
@@ -288,7 +314,7 @@ fn put_effect(
 fn put_update(alloc: Global, words: &mut Words<'_>, into: &mut Vec<u8>) -> Result<(), Wrong> {
     into.push(words.small()?)?;
     let mut content = Vec::new(alloc);
-    let text = words.next().unwrap_or("");
+    let text = words.word()?;
     let length = put_content(*words, text, &mut content)?;
     let Ok(length) = u16::try_from(length) else {
         return Err(words.wrong("a content is too long"));
@@ -301,16 +327,40 @@ fn put_update(alloc: Global, words: &mut Words<'_>, into: &mut Vec<u8>) -> Resul
 fn put_format(alloc: Global, words: &mut Words<'_>, into: &mut Vec<u8>) -> Result<(), Wrong> {
     into.push(words.small()?)?;
     let mut records = Vec::new(alloc);
-    let count = put_records(words, &mut records)?;
+    let Ok(count) = u8::try_from(put_records(words, &mut records)?) else {
+        return Err(words.wrong("a format has at most 255 records"));
+    };
     into.push(count)?;
     into.extend_from_slice(records.as_slice())?;
     Ok(())
 }
 
-/// Puts the bytes of a patch over those of a trace, as far as it reaches.
-fn put_patch(bytes: &mut [u8], patch: &Patch) {
+/// Puts the bytes of a patch over those of a trace.
+fn put_patch(bytes: &mut [u8], patch: &Patch) -> Result<(), Wrong> {
     let with = patch.bytes.as_slice();
+    let behind = bytes.len().saturating_sub(patch.place);
+    if with.len() > behind {
+        return Err(Wrong::Line {
+            number: patch.line,
+            why: "the trace is shorter",
+        });
+    }
     for (byte, with) in bytes.iter_mut().skip(patch.place).zip(with) {
         *byte = *with;
+    }
+    Ok(())
+}
+
+/// The bytes of a trace in front of a cut.
+fn front(bytes: &[u8], cut: Option<Cut>) -> Result<&[u8], Wrong> {
+    let Some(cut) = cut else {
+        return Ok(bytes);
+    };
+    match bytes.get(..cut.length) {
+        Some(front) => Ok(front),
+        None => Err(Wrong::Line {
+            number: cut.line,
+            why: "the trace is shorter",
+        }),
     }
 }

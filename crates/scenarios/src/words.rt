@@ -89,14 +89,15 @@ impl<'a> Words<'a> {
         }
     }
 
+    /// A number without a sign.
     fn digits(&mut self, radix: u32) -> Result<u64, Wrong>
         requires low { 2 ≤ radix }
         requires high { radix ≤ 36 }
     {
         let word = self.word()?;
         match u64::from_str_radix(word, radix) {
-            Ok(number) => Ok(number),
-            Err(_) => Err(self.wrong("a number is wanted")),
+            Ok(number) if !word.starts_with('+') => Ok(number),
+            _ => Err(self.wrong("a number is wanted")),
         }
     }
 
@@ -106,6 +107,12 @@ impl<'a> Words<'a> {
 
     pub fn stamp(&mut self) -> Result<u64, Wrong> {
         self.digits(16)
+    }
+
+    /// A decimal number that counts bytes, traces or pulls.
+    pub fn size(&mut self) -> Result<usize, Wrong> {
+        let number = self.decimal()?;
+        usize::try_from(number).map_err(|_| self.wrong("a number is too large"))
     }
 
     /// A decimal number of 32 bits.
@@ -170,8 +177,17 @@ impl<'a> Words<'a> {
         }
     }
 
-    /// Puts the bytes of the next words at the end, up to a word that is no byte's.
+    /// Puts the bytes of the next words at the end, of which there is one at least, up to a keyword.
     pub fn bytes(&mut self, into: &mut Vec<u8>) -> Result<(), Wrong> {
+        let before = into.len();
+        self.bytes_if_any(into)?;
+        if into.len() == before {
+            return Err(self.wrong("bytes are wanted"));
+        }
+        Ok(())
+    }
+
+    fn bytes_if_any(&mut self, into: &mut Vec<u8>) -> Result<(), Wrong> {
         for _ in 0..self.rest.len() {
             let mut after = *self;
             let Some(word) = after.next() else {

@@ -1,3 +1,5 @@
+//! What ends the program before all cases are tried.
+
 use std::alloc::{AllocError, AllocFailed};
 use xrc_edge::NoMemory;
 
