@@ -16,7 +16,7 @@ use Rattle.pending_queue.specs.Entries.{WaitingEntry, due, entries_of, entry_of,
 use Rattle.primary_ctl.specs.States.{after_writes, is_on}
 use Rattle.image_former.specs.Changes.{AreSpelled, changed_through}
 use Rattle.image_former.specs.Entries.{entry_row, is_entry_on, is_row_of}
-use Rattle.site_store.specs.Groups.{IsOfLiveRow}
+use Rattle.one_pair_site.specs.Groups.{IsOfLiveRow}
 use Rattle.epoch.specs.Lanes.{IsOn, tracks_of}
 
 -- ---- which entries are on a track

@@ -31,8 +31,8 @@ use Rattle.xrc_edge.proofs.OrderLaws.{order_stays}
 use Rattle.image_former.specs.Changes.{AreSpelled, changed_where}
 use Rattle.image_former.specs.Entries.{is_entry_on, is_row_of, is_device, row_device}
 use Rattle.image_former.proofs.Changing.{changed_off, changed_on}
-use Rattle.site_store.specs.GroupRows.{is_plan_of, row_in, row_with_group, unbroken_state}
-use Rattle.site_store.specs.Groups.{IsOfLiveRow, IsOfRow}
+use Rattle.one_pair_site.specs.GroupRows.{is_plan_of, row_in, row_with_group, unbroken_state}
+use Rattle.one_pair_site.specs.Groups.{IsOfLiveRow, IsOfRow}
 use Rattle.epoch.specs.declared.copying.Part.{Part}
 use Rattle.epoch.specs.Copying.{IsUncopied, copies_from, group_of, state_after}
 use Rattle.epoch.specs.Sights.{Makes}

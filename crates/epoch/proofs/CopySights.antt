@@ -18,11 +18,11 @@ use Rattle.pending_queue.specs.Groups.{FormedGroup}
 use Rattle.site_means.specs.declared.means.Means.{Means}
 use Rattle.site_means.specs.Images.{Shape, shape_of}
 use Rattle.site_means.proofs.Goes.{shape_same}
-use Rattle.site_store.specs.GroupRows.{rows_with_group}
-use Rattle.site_store.specs.Groups.{IsOfLiveRow}
-use Rattle.site_store.specs.Marking.{NoneFailed}
-use Rattle.site_store.specs.Sites.{SiteState}
-use Rattle.site_store.specs.Standing.{has_volume}
+use Rattle.one_pair_site.specs.GroupRows.{rows_with_group}
+use Rattle.one_pair_site.specs.Groups.{IsOfLiveRow}
+use Rattle.one_pair_site.specs.Marking.{NoneFailed}
+use Rattle.one_pair_site.specs.Sites.{SiteState}
+use Rattle.one_pair_site.specs.Standing.{has_volume}
 use Rattle.epoch.specs.declared.copying.Part.{Part}
 use Rattle.epoch.specs.Copying.{IsPartOf, IsUncopied, IsUncopiedIn, PartMoments, PartShows, ShowsBefore, ShowsCopying, copies_from, group_of, in_row, state_after}
 use Rattle.epoch.specs.Lanes.{tracks_of}

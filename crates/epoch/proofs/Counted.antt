@@ -9,10 +9,10 @@ use Rattle.pair_table.specs.declared.level.Level.{Level}
 use Rattle.pending_queue.specs.Groups.{FormedGroup}
 use Rattle.tod_stamp.specs.declared.stamp.Stamp.{Stamp}
 use Rattle.xrc_journal.specs.Items.{Item}
-use Rattle.site_store.specs.Changes.{behind_record}
-use Rattle.site_store.specs.Groups.{behind_group}
-use Rattle.site_store.specs.Sites.{SiteState, marked, new_site}
-use Rattle.site_store.specs.Standing.{Fits}
+use Rattle.one_pair_site.specs.Changes.{behind_record}
+use Rattle.one_pair_site.specs.Groups.{behind_group}
+use Rattle.one_pair_site.specs.Sites.{SiteState, marked, new_site}
+use Rattle.one_pair_site.specs.Standing.{Fits}
 use Rattle.epoch.specs.Counted.{IsCounted}
 
 -- ---- they aren't spent

@@ -9,11 +9,11 @@ use Rattle.crash_plant.specs.Moments.{PlantState}
 use Rattle.lending.specs.Back.{WorksOnLent}
 use Rattle.pair_table.specs.declared.row.PairRow.{PairRow}
 use Rattle.pending_queue.specs.Entries.{WaitingEntry}
-use Rattle.site_store.specs.declared.store_error.StoreError.{StoreError}
-use Rattle.site_store.specs.Applies.{CountsVolume, IsVolume, WorksWithin, is_applied}
-use Rattle.site_store.specs.Groups.{FailByReads, IsOfGroup}
-use Rattle.site_store.specs.Marking.{NoneFailed, NoneTrue, error_of}
-use Rattle.site_store.specs.Sites.{SiteState}
+use Rattle.one_pair_site.specs.declared.store_error.StoreError.{StoreError}
+use Rattle.one_pair_site.specs.Applies.{CountsVolume, IsVolume, WorksWithin, is_applied}
+use Rattle.one_pair_site.specs.Groups.{FailByReads, IsOfGroup}
+use Rattle.one_pair_site.specs.Marking.{NoneFailed, NoneTrue, error_of}
+use Rattle.one_pair_site.specs.Sites.{SiteState}
 
 -- No count of a device of the plant has risen.
 abbrev pub AreQuiet : PlantState → PlantState → Type 0

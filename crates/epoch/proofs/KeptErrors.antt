@@ -12,17 +12,17 @@ use Rattle.lending.specs.Back.{OnlyReads}
 use Rattle.xrc_journal.specs.Items.{Item}
 use Rattle.pair_table.specs.declared.row.PairRow.{PairRow}
 use Rattle.pending_queue.specs.Groups.{FormedGroup}
-use Rattle.site_store.specs.declared.store_error.StoreError.{StoreError}
-use Rattle.site_store.specs.declared.store_error.StoreError.TheVariants.{Fault, Volume as VolumeError}
-use Rattle.site_store.specs.Applies.{CountsVolume, is_applied}
-use Rattle.site_store.specs.Groups.{AreItemsOf, EndsBefore, FailByReads, IsOfLiveRow, first_failed, first_failed_from}
-use Rattle.site_store.specs.Marking.{FailsMark, IsAmong, IsFirstFailed, IsFirstTrue, NoneFailed, NoneTrue}
-use Rattle.site_store.specs.Sites.{SiteState, has_failed}
-use Rattle.site_store.specs.Standing.{Stands}
-use Rattle.site_store.proofs.MarkJobs.{true_false}
-use Rattle.site_store.proofs.MarkedSites.{in_list}
-use Rattle.site_store.proofs.NoneFailed.{none_failed}
-use Rattle.site_store.proofs.ReadsFirst.{items_mid, stands_mid}
+use Rattle.one_pair_site.specs.declared.store_error.StoreError.{StoreError}
+use Rattle.one_pair_site.specs.declared.store_error.StoreError.TheVariants.{Fault, Volume as VolumeError}
+use Rattle.one_pair_site.specs.Applies.{CountsVolume, is_applied}
+use Rattle.one_pair_site.specs.Groups.{AreItemsOf, EndsBefore, FailByReads, IsOfLiveRow, first_failed, first_failed_from}
+use Rattle.one_pair_site.specs.Marking.{FailsMark, IsAmong, IsFirstFailed, IsFirstTrue, NoneFailed, NoneTrue}
+use Rattle.one_pair_site.specs.Sites.{SiteState, has_failed}
+use Rattle.one_pair_site.specs.Standing.{Stands}
+use Rattle.one_pair_site.proofs.MarkJobs.{true_false}
+use Rattle.one_pair_site.proofs.MarkedSites.{in_list}
+use Rattle.one_pair_site.proofs.NoneFailed.{none_failed}
+use Rattle.one_pair_site.proofs.ReadsFirst.{items_mid, stands_mid}
 use Rattle.epoch.specs.Ends.{IsFullOf, IsSpent}
 use Rattle.epoch.specs.Works.{WorksSilently}
 use Rattle.epoch.proofs.CopySights.{rose_later}

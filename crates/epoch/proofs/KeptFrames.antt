@@ -14,13 +14,13 @@ use Rattle.pending_queue.specs.Groups.{FormedGroup}
 use Rattle.xrc_journal.specs.Items.{Item}
 use Rattle.applier.specs.Slots.{DiffersInSlots, HasItem}
 use Rattle.image_former.specs.Entries.{HasEntry, is_device, is_entry_on, is_row_of, row_device}
-use Rattle.site_store.specs.Applies.{IsVolume, WorksWithin}
-use Rattle.site_store.specs.GroupRows.{next_state, pair_in, pairs_with_group}
-use Rattle.site_store.specs.Groups.{AreItemsOf, IsOfGroup, IsOfLiveRow, IsOfRow}
-use Rattle.site_store.specs.Marking.{IsTouched}
-use Rattle.site_store.specs.Sites.{SiteState}
-use Rattle.site_store.proofs.Forming.{found_any}
-use Rattle.site_store.proofs.RowItems.{AreRowItems, item_before}
+use Rattle.one_pair_site.specs.Applies.{IsVolume, WorksWithin}
+use Rattle.one_pair_site.specs.GroupRows.{next_state, pair_in, pairs_with_group}
+use Rattle.one_pair_site.specs.Groups.{AreItemsOf, IsOfGroup, IsOfLiveRow, IsOfRow}
+use Rattle.one_pair_site.specs.Marking.{IsTouched}
+use Rattle.one_pair_site.specs.Sites.{SiteState}
+use Rattle.one_pair_site.proofs.Forming.{found_any}
+use Rattle.one_pair_site.proofs.RowItems.{AreRowItems, item_before}
 use Rattle.epoch.specs.Frames.{DiffersInTracks, KeepsOthers}
 use Rattle.epoch.specs.Lanes.{tracks_of}
 use Rattle.epoch.specs.Works.{WorksSilently}

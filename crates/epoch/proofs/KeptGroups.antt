@@ -10,8 +10,8 @@ use Rattle.pending_queue.specs.Groups.{FormedGroup}
 use Rattle.site_means.specs.declared.means.Means.{Means}
 use Rattle.site_means.specs.Images.{Shape, shape_of}
 use Rattle.site_means.proofs.Goes.{shape_same}
-use Rattle.site_store.specs.Groups.{SeesFormed}
-use Rattle.site_store.specs.Sees.{SeesMark, SeesSame, SeesSameOr}
+use Rattle.one_pair_site.specs.Groups.{SeesFormed}
+use Rattle.one_pair_site.specs.Sees.{SeesMark, SeesSame, SeesSameOr}
 use Rattle.epoch.specs.Sights.{AllShow, EachIs, Makes, Shows, ShowsEither, behind}
 use Rattle.epoch.specs.Works.{WorksSilently}
 use Rattle.epoch.proofs.Showing.{all_show_before, each_follows, each_now, each_then, each_weaker, shows_formed, shows_mark, shows_same}

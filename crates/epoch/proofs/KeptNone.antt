@@ -20,10 +20,10 @@ use Rattle.site_means.specs.Images.{shape_of}
 use Rattle.applier.specs.Slots.{HasItem}
 use Rattle.image_former.specs.Entries.{HasEntry}
 use Rattle.image_former.specs.Forms.{is_image}
-use Rattle.site_store.specs.GroupRows.{pairs_with_group, rows_with_group}
-use Rattle.site_store.specs.Groups.{AreItemsOf, EndsBefore, IsOfLiveRow}
-use Rattle.site_store.specs.Sees.{with_time_and_rows}
-use Rattle.site_store.specs.Sites.{SiteState}
+use Rattle.one_pair_site.specs.GroupRows.{pairs_with_group, rows_with_group}
+use Rattle.one_pair_site.specs.Groups.{AreItemsOf, EndsBefore, IsOfLiveRow}
+use Rattle.one_pair_site.specs.Sees.{with_time_and_rows}
+use Rattle.one_pair_site.specs.Sites.{SiteState}
 use Rattle.epoch.specs.Ends.{IsFullFor, IsFullForTime, empty_group as group_of_time}
 use Rattle.epoch.specs.Following.{at_time}
 use Rattle.epoch.specs.Sights.{EachIs, Makes, Shows, ShowsEither, behind}

@@ -19,9 +19,9 @@ use Rattle.primary_ctl.specs.Primaries.{primary}
 use Rattle.primary_ctl.specs.States.{PrimaryState, track_of}
 use Rattle.site_means.specs.declared.means.Means.{Means}
 use Rattle.site_means.specs.Images.{shape_of}
-use Rattle.site_store.specs.GroupRows.{rows_with_group}
-use Rattle.site_store.specs.Groups.{IsOfLiveRow}
-use Rattle.site_store.specs.Sites.{SiteState}
+use Rattle.one_pair_site.specs.GroupRows.{rows_with_group}
+use Rattle.one_pair_site.specs.Groups.{IsOfLiveRow}
+use Rattle.one_pair_site.specs.Sites.{SiteState}
 use Rattle.epoch.specs.declared.lane.Lane.{Lane}
 use Rattle.epoch.specs.Ends.{IsFullForWaiting, IsFullOf}
 use Rattle.epoch.specs.Following.{HoldsPrimary, IsFollowing, ShowsPrimary, at_time}

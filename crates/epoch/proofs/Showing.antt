@@ -14,9 +14,9 @@ use Rattle.site_means.specs.declared.means.Means.{Means}
 use Rattle.site_means.specs.Images.{Shape, shape_of}
 use Rattle.site_means.specs.Sight.{content_in}
 use Rattle.site_means.proofs.Goes.{shape_same}
-use Rattle.site_store.specs.GroupRows.{rows_with_group}
-use Rattle.site_store.specs.Groups.{SeesFormed}
-use Rattle.site_store.specs.Sees.{SeesMark, SeesSame, from_mark, with_time_and_rows}
+use Rattle.one_pair_site.specs.GroupRows.{rows_with_group}
+use Rattle.one_pair_site.specs.Groups.{SeesFormed}
+use Rattle.one_pair_site.specs.Sees.{SeesMark, SeesSame, from_mark, with_time_and_rows}
 use Rattle.epoch.specs.Sights.{AllShow, EachIs, Makes, Shows, behind, marked_at}
 use Rattle.epoch.specs.Works.{WorksSilently}
 

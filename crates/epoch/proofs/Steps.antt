@@ -15,8 +15,8 @@ use Rattle.primary_ctl.specs.States.{track_of}
 use Rattle.sidefile.specs.Breaks.{has_broken}
 use Rattle.site_means.specs.declared.means.Means.{Means}
 use Rattle.site_means.specs.Images.{Shape, shape_of}
-use Rattle.site_store.specs.GroupRows.{rows_with_group}
-use Rattle.site_store.specs.Sees.{with_time_and_rows}
+use Rattle.one_pair_site.specs.GroupRows.{rows_with_group}
+use Rattle.one_pair_site.specs.Sees.{with_time_and_rows}
 use Rattle.epoch.specs.declared.lane.Lane.{Lane}
 use Rattle.epoch.specs.Following.{HoldsPrimary, ShowsPrimary, at_time}
 use Rattle.epoch.specs.Lanes.{IsOn, WaitsFrom, tracks_of}

@@ -22,7 +22,7 @@ use Rattle.primary_ctl.specs.States.{after_writes, is_on, track_of}
 use Rattle.xrc_edge.specs.Order.{in_order}
 use Rattle.xrc_edge.proofs.OrderLaws.{order_stays}
 use Rattle.image_former.specs.Changes.{changed_through}
-use Rattle.site_store.specs.GroupRows.{row_in, rows_with_group, unbroken_state}
+use Rattle.one_pair_site.specs.GroupRows.{row_in, rows_with_group, unbroken_state}
 use Rattle.epoch.specs.declared.lane.Lane.{Lane}
 use Rattle.epoch.specs.Lanes.{IsOn, IsRowOf, WaitsFrom, is_of, tracks_of}
 use Rattle.epoch.specs.Sights.{Makes}

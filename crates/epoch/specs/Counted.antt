@@ -2,7 +2,7 @@
 use Rattle.std.specs.Prelude.{◌+◌, ◌*◌, ◌^◌, ◌<◌, ◌≤◌}
 use Rattle.crash_plant.specs.declared.device.Device.TheVariants.{Journal}
 use Rattle.crash_plant.specs.Moments.{PlantState}
-use Rattle.site_store.specs.Sites.{SiteState}
+use Rattle.one_pair_site.specs.Sites.{SiteState}
 
 -- The records before the next one have numbers from 1 on, and each takes 22 bytes of its journal at least; no more marks were made than
 -- records, but for the first; and the journal's length is one that a plant tells. So the journal ends before the numbers do.

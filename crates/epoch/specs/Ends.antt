@@ -7,9 +7,9 @@ use Rattle.trace_grammar.specs.Writes.{writes_of}
 use Rattle.pair_table.specs.declared.row.PairRow.{PairRow}
 use Rattle.pending_queue.specs.Entries.{entries_of}
 use Rattle.pending_queue.specs.Groups.{FormedGroup}
-use Rattle.site_store.specs.Groups.{EndsBefore, IsOfLiveRow}
-use Rattle.site_store.specs.Sites.{SiteState}
-use Rattle.site_store.specs.Standing.{Stands}
+use Rattle.one_pair_site.specs.Groups.{EndsBefore, IsOfLiveRow}
+use Rattle.one_pair_site.specs.Sites.{SiteState}
+use Rattle.one_pair_site.specs.Standing.{Stands}
 use Rattle.epoch.specs.declared.copying.Part.{Part}
 use Rattle.epoch.specs.declared.lane.Lane.{Lane}
 use Rattle.epoch.specs.Copying.{IsPartOf, IsUncopiedIn, group_of}

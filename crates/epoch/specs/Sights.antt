@@ -11,8 +11,8 @@ use Rattle.site_means.specs.declared.means.Means.{Means}
 use Rattle.site_means.specs.Images.{Shape, shape_of}
 use Rattle.site_means.specs.Sight.{content_in, means_in}
 use Rattle.image_former.specs.Changes.{AreSpelled, changed_through}
-use Rattle.site_store.specs.GroupRows.{rows_with_group}
-use Rattle.site_store.specs.Sees.{with_time_and_rows}
+use Rattle.one_pair_site.specs.GroupRows.{rows_with_group}
+use Rattle.one_pair_site.specs.Sees.{with_time_and_rows}
 
 -- ---- one choice
 

@@ -1,4 +1,4 @@
-use site_store::StoreError;
+use one_pair_site::StoreError;
 use xrc_edge::NoMemory;
 
 /// Why an epoch didn't come to its limit. Its lane and its site may not be used again.
@@ -23,7 +23,7 @@ impl From<StoreError> for EpochError {
 
 impl From<NoMemory> for EpochError {
     ghost use Rattle.std.specs.Prelude.{◌≡◌};
-    ghost use Rattle.site_store.specs.declared.store_error.StoreError.TheVariants as store_errors;
+    ghost use Rattle.one_pair_site.specs.declared.store_error.StoreError.TheVariants as store_errors;
     ghost use Rattle.epoch.specs.declared.epoch_error.EpochError.TheVariants as errors;
 
     ghost from_gives = { λ _ e. e ≡ errors.Store store_errors.NoMemory };

@@ -13,11 +13,11 @@ ghost use Rattle.xrc_journal.specs.Items.{Item, body_spelling};
 ghost use Rattle.xrc_journal.specs.Records.{spot_after};
 ghost use Rattle.site_means.specs.declared.means.Means.{Means as MeansValue};
 ghost use Rattle.site_means.specs.Images.{shape_of};
-ghost use Rattle.site_store.specs.declared.store_error.StoreError.TheVariants.{Fault, JournalEnd, Spent, Volume as VolumeError};
-ghost use Rattle.site_store.specs.GroupRows.{rows_with_group};
-ghost use Rattle.site_store.specs.Groups.{AreItemsOf, EndsBefore, IsOfLiveRow};
-ghost use Rattle.site_store.specs.Marking.{NoneFailed};
-ghost use Rattle.site_store.specs.Standing.{Fits, Stands};
+ghost use Rattle.one_pair_site.specs.declared.store_error.StoreError.TheVariants.{Fault, JournalEnd, Spent, Volume as VolumeError};
+ghost use Rattle.one_pair_site.specs.GroupRows.{rows_with_group};
+ghost use Rattle.one_pair_site.specs.Groups.{AreItemsOf, EndsBefore, IsOfLiveRow};
+ghost use Rattle.one_pair_site.specs.Marking.{NoneFailed};
+ghost use Rattle.one_pair_site.specs.Standing.{Fits, Stands};
 ghost use Rattle.epoch.specs.Counted.{IsCounted};
 ghost use Rattle.epoch.specs.Ends.{IsFullFor, IsFullOf, IsSpent};
 ghost use Rattle.epoch.specs.Frames.{KeepsOthers};
@@ -27,7 +27,7 @@ ghost use Rattle.epoch.specs.Works.{WorksSilently};
 
 use crash_plant::Plant;
 use pending_queue::Formed;
-use site_store::{Site, StoreError};
+use one_pair_site::{Site, StoreError};
 use std::alloc::Global;
 use std::thread::Threads;
 

@@ -7,9 +7,9 @@ use Rattle.crash_plant.specs.Moments.{PlantState}
 use Rattle.pair_table.specs.declared.row.PairRow.{PairRow}
 use Rattle.pair_table.specs.Tables.{with_row, with_rows}
 use Rattle.xrc_journal.specs.Items.{Item}
-use Rattle.site_store.specs.Changes.{behind_record}
-use Rattle.site_store.specs.Sites.{SiteState, with_table}
-use Rattle.site_store.specs.Standing.{Fits, has_volume}
+use Rattle.one_pair_site.specs.Changes.{behind_record}
+use Rattle.one_pair_site.specs.Sites.{SiteState, with_table}
+use Rattle.one_pair_site.specs.Standing.{Fits, has_volume}
 
 -- What a row has and all others have, all have once it is put.
 each_with_row : (p : PairRow → Bool) (row : PairRow) (rows : List PairRow) → p row ≡ true → list_all p rows ≡ true → list_all p (with_row row rows) ≡ true

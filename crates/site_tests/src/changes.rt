@@ -2,13 +2,13 @@
 
 ghost use Rattle.std.specs.Prelude.{◌≡◌, ◌≤◌, [], length, vec_len, OnOk};
 ghost use Rattle.crash_plant.specs.Calls.{NoneLent};
-ghost use Rattle.site_store.specs.Changes.{named};
-ghost use Rattle.site_store.specs.Standing.{Fits};
+ghost use Rattle.one_pair_site.specs.Changes.{named};
+ghost use Rattle.one_pair_site.specs.Standing.{Fits};
 
 use crate::fixtures::{JOURNAL, assert_same, first_row, second_row, session};
 use crash_plant::{Device, FileDisk, FilePlant, Plant, Spot};
 use pair_table::{Change, DeviceList, Level, PairRow, PairState, SuspendCause};
-use site_store::{Site, StoreError};
+use one_pair_site::{Site, StoreError};
 use std::alloc::Global;
 use std::fs::{self, File, OpenOptions};
 use std::process::Abort;

@@ -9,11 +9,11 @@ use Rattle.consistency.proofs.Keeping.{keeps_begins}
 use Rattle.script_lines.specs.Grammars.{line_grammar}
 use Rattle.xrc_status.specs.declared.stop.Stop.{Stop}
 use Rattle.xrc_status.specs.declared.stop.Stop.TheVariants.{NoMemory, BadWords, ConsoleFault, JournalFault, ControlFault, StateFault, BadHeader, HeaderFault, NoSession, OtherSession, Damaged, VolumeFault, TooSmall, JournalEnd, BadSite, NotBuilt, EarlyBreak, EarlyVolume, Spent}
-use Rattle.xrc_session.specs.Expected.{AnswersInPart, AreAnswered, DueLine, IsAsked, IsUnexpected, KeepsExpected, lines_before}
-use Rattle.xrc_session.specs.Expected.AreAnswered.{Nothing, AStart, APair, AnEnd}
-use Rattle.xrc_session.specs.Expected.DueLine.{DueStart, DuePair, DueEnd}
-use Rattle.xrc_session.specs.Expected.IsUnexpected.{NoStart, NoPair, NoEnd, More}
-use Rattle.xrc_session.specs.Stopping.{StopsSo}
+use Rattle.one_pair_session.specs.Expected.{AnswersInPart, AreAnswered, DueLine, IsAsked, IsUnexpected, KeepsExpected, lines_before}
+use Rattle.one_pair_session.specs.Expected.AreAnswered.{Nothing, AStart, APair, AnEnd}
+use Rattle.one_pair_session.specs.Expected.DueLine.{DueStart, DuePair, DueEnd}
+use Rattle.one_pair_session.specs.Expected.IsUnexpected.{NoStart, NoPair, NoEnd, More}
+use Rattle.one_pair_session.specs.Stopping.{StopsSo}
 use Rattle.xrc_status.specs.Stops.{status_of}
 use Rattle.xrc_cli.specs.Statuses.{ends_in_work}
 

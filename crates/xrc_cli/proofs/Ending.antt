@@ -19,15 +19,15 @@ use Rattle.xrc_status.specs.declared.stop.Stop.TheVariants.{BadHeader, BadSite, 
 use Rattle.xrc_status.specs.Saying.{SaysLast}
 use Rattle.xrc_status.specs.Stops.{last_line, status_of}
 use Rattle.xrc_recovery.proofs.Lasting.{not_done}
-use Rattle.xrc_session.specs.Beginning.{Begins}
-use Rattle.xrc_session.specs.Expected.{AnswersInPart, IsUnexpected, KeepsExpected, StopsAt}
-use Rattle.xrc_session.specs.Expected.AreAnswered.{AnEnd}
-use Rattle.xrc_session.specs.Full.{IsJournalFull}
-use Rattle.xrc_session.specs.Leaving.{LeavesOthers}
-use Rattle.xrc_session.specs.Numbers.{HasNumbers}
-use Rattle.xrc_session.specs.Runs.{AsksSession, EndsInHeader, EndsSession, GaveTrace, HasBrokenBy, IsEarly, IsOfSite, IsRefused, IsSessionRun, NoneFailed, StopsEarlyOr}
-use Rattle.xrc_session.specs.Stopping.{HasStopCause, NoneRose, StopsSo}
-use Rattle.xrc_session.proofs.Beginnings.{begins_behind}
+use Rattle.one_pair_session.specs.Beginning.{Begins}
+use Rattle.one_pair_session.specs.Expected.{AnswersInPart, IsUnexpected, KeepsExpected, StopsAt}
+use Rattle.one_pair_session.specs.Expected.AreAnswered.{AnEnd}
+use Rattle.one_pair_session.specs.Full.{IsJournalFull}
+use Rattle.one_pair_session.specs.Leaving.{LeavesOthers}
+use Rattle.one_pair_session.specs.Numbers.{HasNumbers}
+use Rattle.one_pair_session.specs.Runs.{AsksSession, EndsInHeader, EndsSession, GaveTrace, HasBrokenBy, IsEarly, IsOfSite, IsRefused, IsSessionRun, NoneFailed, StopsEarlyOr}
+use Rattle.one_pair_session.specs.Stopping.{HasStopCause, NoneRose, StopsSo}
+use Rattle.one_pair_session.proofs.Beginnings.{begins_behind}
 use Rattle.xrc_cli.specs.Statuses.{AnswersThen, BearsAnswered, EndsRun, SaysOnly, StoodSo, WantsMemory, ends_by_site, ends_early, ends_in_work}
 use Rattle.xrc_cli.proofs.Answered.{KeepsAnswered, none_answered, stop_answered, work_expected}
 use Rattle.xrc_cli.proofs.Lasting.{bears_still, cause_still, none_before, others_still}

@@ -18,10 +18,10 @@ use Rattle.xrc_status.specs.declared.stop.Stop.{Stop}
 use Rattle.xrc_status.specs.declared.stop.Stop.TheVariants.{NoMemory, BadWords, ConsoleFault, JournalFault, ControlFault, StateFault, BadHeader, HeaderFault, NoSession, OtherSession, Damaged, VolumeFault, TooSmall, JournalEnd, BadSite, NotBuilt, EarlyBreak, EarlyVolume, Spent}
 use Rattle.xrc_status.specs.Saying.{SaysLast}
 use Rattle.xrc_status.specs.Stops.{last_line}
-use Rattle.xrc_session.specs.Leaving.{LeavesOthers}
-use Rattle.xrc_session.specs.Leaving.LeavesOthers.{Unpaired, WithPair}
-use Rattle.xrc_session.specs.Runs.{NoneFailed}
-use Rattle.xrc_session.specs.Stopping.{HasStopCause}
+use Rattle.one_pair_session.specs.Leaving.{LeavesOthers}
+use Rattle.one_pair_session.specs.Leaving.LeavesOthers.{Unpaired, WithPair}
+use Rattle.one_pair_session.specs.Runs.{NoneFailed}
+use Rattle.one_pair_session.specs.Stopping.{HasStopCause}
 use Rattle.xrc_cli.specs.Statuses.{BearsAnswered}
 use Rattle.xrc_cli.proofs.Answered.{KeepsAnswered}
 

@@ -6,8 +6,8 @@ use Rattle.pair_course.specs.Course.{tells_a_session}
 use Rattle.xrc_status.specs.declared.stop.Stop.{Stop}
 use Rattle.xrc_status.specs.declared.stop.Stop.TheVariants.{NoMemory, BadWords, ConsoleFault, JournalFault, ControlFault, StateFault, BadHeader, HeaderFault, NoSession, OtherSession, Damaged, VolumeFault, TooSmall, JournalEnd, BadSite, NotBuilt, EarlyBreak, EarlyVolume, Spent}
 use Rattle.xrc_status.specs.Stops.{status_of}
-use Rattle.xrc_session.specs.Runs.{IsEarly, IsOfSite}
-use Rattle.xrc_session.specs.Stopping.{HasStopCause}
+use Rattle.one_pair_session.specs.Runs.{IsEarly, IsOfSite}
+use Rattle.one_pair_session.specs.Stopping.{HasStopCause}
 use Rattle.xrc_cli.specs.Statuses.{ends_by_site, ends_early, ends_in_work, ends_run}
 
 -- ---- groups of statuses

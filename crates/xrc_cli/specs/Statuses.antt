@@ -12,13 +12,13 @@ use Rattle.consistency.specs.Bears.{Run}
 use Rattle.consistency.specs.Courses.{Answered, replies_of}
 use Rattle.consistency.specs.Moments.{BearsThroughout}
 use Rattle.script_lines.specs.Grammars.{line_grammar}
-use Rattle.xrc_session.specs.Beginning.{Begins}
-use Rattle.xrc_session.specs.Expected.{AnswersInPart, AreAnswered, IsUnbegun, IsUnexpected, KeepsExpected, StopsAt}
-use Rattle.xrc_session.specs.Full.{IsJournalFull}
-use Rattle.xrc_session.specs.Leaving.{LeavesOthers}
-use Rattle.xrc_session.specs.Numbers.{HasNumbers}
-use Rattle.xrc_session.specs.Runs.{AsksSession, EndsInHeader, EndsSession, GaveTrace, HasBrokenBy, IsEarly, IsRefused, IsSessionRun, NoneFailed}
-use Rattle.xrc_session.specs.Stopping.{HasStopCause, NoneRose}
+use Rattle.one_pair_session.specs.Beginning.{Begins}
+use Rattle.one_pair_session.specs.Expected.{AnswersInPart, AreAnswered, IsUnbegun, IsUnexpected, KeepsExpected, StopsAt}
+use Rattle.one_pair_session.specs.Full.{IsJournalFull}
+use Rattle.one_pair_session.specs.Leaving.{LeavesOthers}
+use Rattle.one_pair_session.specs.Numbers.{HasNumbers}
+use Rattle.one_pair_session.specs.Runs.{AsksSession, EndsInHeader, EndsSession, GaveTrace, HasBrokenBy, IsEarly, IsRefused, IsSessionRun, NoneFailed}
+use Rattle.one_pair_session.specs.Stopping.{HasStopCause, NoneRose}
 use Rattle.xrc_status.specs.declared.stop.Stop.{Stop}
 use Rattle.xrc_status.specs.declared.stop.Stop.TheVariants.{BadHeader, BadSite, EarlyBreak, JournalEnd, NoMemory, NotBuilt, TooSmall}
 use Rattle.xrc_status.specs.Saying.{SaidWhole, SaysLast}

@@ -10,7 +10,7 @@ use std::alloc::Global;
 use std::thread::Threads;
 use tod_stamp::Session;
 use xrc_edge::Source;
-use xrc_session::run_script;
+use one_pair_session::run_script;
 use xrc_status::{Stop, say_stop};
 
 /// The status of a command that was done.

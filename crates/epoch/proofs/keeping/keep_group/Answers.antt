@@ -2,8 +2,8 @@ use Rattle.std.proofs.Common.{rules, ◌≡◌, false, sym, ap, ◌∙◌, arith
 use Rattle.crash_plant.specs.declared.device.Device.TheVariants.{Volume}
 use Rattle.crash_plant.proofs.Steps.{none_lent_then}
 use Rattle.lending.proofs.Works.{none_lent_lent}
-use Rattle.site_store.specs.declared.store_error.StoreError.TheVariants.{Fault, JournalEnd, Spent, Volume as VolumeError}
-use Rattle.site_store.specs.Sites.{SiteState}
+use Rattle.one_pair_site.specs.declared.store_error.StoreError.TheVariants.{Fault, JournalEnd, Spent, Volume as VolumeError}
+use Rattle.one_pair_site.specs.Sites.{SiteState}
 use Rattle.epoch.specs.Lanes.{tracks_of}
 use Rattle.epoch.proofs.CopySights.{on_always, on_ok, rose_later}
 use Rattle.epoch.proofs.Counted.{counted_applied, counted_kept, mark_number_goes_on, record_number_goes_on}

@@ -1,7 +1,7 @@
 use Rattle.std.proofs.Common.{◌∙◌, ap}
 use Rattle.crash_plant.proofs.Resize.{on_ok}
-use Rattle.site_store.specs.Changes.{changed_items}
-use Rattle.site_store.specs.Sites.{SiteState}
+use Rattle.one_pair_site.specs.Changes.{changed_items}
+use Rattle.one_pair_site.specs.Sites.{SiteState}
 use Rattle.site_tests.proofs.PutRow.{behind_idle}
 use Rattle.site_tests.proofs.changes.log.Goals as goal
 

@@ -1,8 +1,8 @@
 use Rattle.std.proofs.Common.{rules, ◌≡◌, ◌+◌, ◌*◌, ◌≤◌, ◌<◌, sym, subst, arith}
 use Rattle.crash_plant.specs.declared.device.Device.TheVariants.{Volume}
 use Rattle.pair_table.specs.Tables.{with_row, with_rows}
-use Rattle.site_store.specs.Sites.{SiteState, with_table}
-use Rattle.site_store.specs.Standing.{Fits}
+use Rattle.one_pair_site.specs.Sites.{SiteState, with_table}
+use Rattle.one_pair_site.specs.Standing.{Fits}
 use Rattle.site_tests.proofs.PutRow.{put_fits}
 use Rattle.site_tests.proofs.changes.put.Goals as goal
 

@@ -1,7 +1,7 @@
 use Rattle.std.proofs.Common.{◌≡◌, ◌≤◌, ◌-◌, ◌*◌, ℕ, []}
 use Rattle.primary_ctl.specs.States.{track_of}
-use Rattle.site_store.specs.Marking.{NoneFailed}
-use Rattle.site_store.specs.Standing.{Fits, Stands}
+use Rattle.one_pair_site.specs.Marking.{NoneFailed}
+use Rattle.one_pair_site.specs.Standing.{Fits, Stands}
 use Rattle.epoch.specs.Counted.{IsCounted}
 use Rattle.epoch.specs.Frames.{KeepsOthers}
 use Rattle.epoch.specs.Lanes.{IsFeed, tracks_of}

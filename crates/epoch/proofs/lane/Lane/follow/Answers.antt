@@ -8,7 +8,7 @@ use Rattle.primary_ctl.specs.States.{PrimaryState, track_of}
 use Rattle.sidefile.specs.Breaks.{break_time}
 use Rattle.sidefile.specs.States.{SidefileState}
 use Rattle.site_means.specs.Images.{shape_of}
-use Rattle.site_store.specs.declared.store_error.StoreError.TheVariants.{JournalEnd, Spent}
+use Rattle.one_pair_site.specs.declared.store_error.StoreError.TheVariants.{JournalEnd, Spent}
 use Rattle.epoch.specs.Following.{IsFollowing}
 use Rattle.epoch.specs.Lanes.{IsRowOf, tracks_of}
 use Rattle.epoch.specs.Taken.{FailsAsBefore, HasFailed, HasReached, HasTaken}

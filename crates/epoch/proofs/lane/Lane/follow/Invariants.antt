@@ -2,8 +2,8 @@ use Rattle.std.proofs.Common.{◌≡◌, ◌≤◌, ◌-◌, []}
 use Rattle.trace_grammar.specs.declared.trace.Trace.{Trace}
 use Rattle.site_means.specs.declared.means.Means.{Means}
 use Rattle.site_means.specs.Images.{shape_of}
-use Rattle.site_store.specs.Marking.{NoneFailed}
-use Rattle.site_store.specs.Standing.{Fits, Stands}
+use Rattle.one_pair_site.specs.Marking.{NoneFailed}
+use Rattle.one_pair_site.specs.Standing.{Fits, Stands}
 use Rattle.epoch.specs.Counted.{IsCounted}
 use Rattle.epoch.specs.Following.{IsFollowing, ShowsPrimary}
 use Rattle.epoch.specs.Frames.{KeepsOthers}

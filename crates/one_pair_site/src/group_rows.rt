@@ -1,0 +1,110 @@
+//! The rows that a formed group changes.
+
+ghost use Rattle.std.specs.Prelude.{◌≡◌, ◌≤◌, ◌+◌, ◌*◌, ◌++◌, length, IfSome, IsTrue};
+ghost use Rattle.pair_table.specs.Rows.{is_state};
+ghost use Rattle.pair_table.specs.Tables.{KeepsRows, with_rows};
+ghost use Rattle.xrc_journal.specs.Items.{AreItems, anywhere, body_spelling};
+ghost use Rattle.one_pair_site.specs.GroupRows.{break_of, broken_state, is_done, next_state, pairs_with_group, rows_with_group, since_of, unbroken_state};
+
+use pair_table::{PairRow, PairState, PairTable, SuspendCause};
+use pending_queue::Formed;
+use tod_stamp::Stamp;
+use xrc_journal::Body;
+
+/// The time of a control's break that a group reports, if it reports one.
+fn break_time(formed: &Formed, control: u16) -> Option<Stamp>
+    ensures { result ≡ since_of (break_of formed.now control) }
+{
+    for found in formed.breaks() {
+        if found.0 == control {
+            return Some(found.1);
+        }
+    }
+    None
+}
+
+/// Whether the plan of a row's volume is done with a group.
+fn is_done(formed: &Formed, row: &PairRow) -> bool
+    ensures { result ≡ is_done formed.now row.now }
+{
+    formed
+        .done()
+        .iter()
+        .any(|plan| plan.0 == row.control && plan.1 == row.volume)
+}
+
+/// The state to which a state changes whose control doesn't break, if it does.
+fn unbroken_state(done: bool, state: PairState) -> Option<PairState>
+    ensures state { result ≡ unbroken_state done state }
+    ensures valid { IfSome result (λ after. IsTrue (is_state after)) }
+{
+    match state {
+        PairState::Pending if done => Some(PairState::Duplex),
+        PairState::Pending => Some(PairState::Copy),
+        PairState::Copy if done => Some(PairState::Duplex),
+        PairState::Copy | PairState::Duplex | PairState::Suspended { .. } => None,
+    }
+}
+
+/// The state to which a break changes a state, if it does.
+fn broken_state(since: Stamp, state: PairState) -> Option<PairState>
+    ensures state { result ≡ broken_state since state }
+    ensures valid { IfSome result (λ after. IsTrue (is_state after)) }
+{
+    let _valid = since.0;
+    match state {
+        PairState::Suspended { .. } => None,
+        _ => Some(PairState::Suspended {
+            cause: SuspendCause::Control,
+            since,
+        }),
+    }
+}
+
+/// The state to which a group changes a row, if it does.
+fn next_state(formed: &Formed, row: &PairRow) -> Option<PairState>
+    ensures state { result ≡ next_state formed.now row.now }
+    ensures valid { IfSome result (λ after. IsTrue (is_state after)) }
+{
+    match break_time(formed, row.control) {
+        Some(since) => broken_state(since, row.state),
+        None => unbroken_state(is_done(formed, row), row.state),
+    }
+}
+
+/// Puts the rows that a group changes, as they are after it.
+pub(crate) fn put_changed(body: &mut Body, table: &PairTable, formed: &Formed)
+    requires { length (body_spelling body.old.items) + 64 * 31 ≤ body.old.room }
+    ensures put { body.new ≡ record { items = body.old.items ++ pairs_with_group formed.now table.now.rows; room = body.old.room } }
+    ensures keep { AreItems anywhere body.new.items }
+    ensures rules { KeepsRows table.now.rows }
+    ensures short { length (body_spelling body.new.items) ≤ length (body_spelling body.old.items) + 64 * 31 }
+{
+    for place in 0..table.len() {
+        let Some(row) = table.row(place) else {
+            unreachable!()
+        };
+        if let Some(state) = next_state(formed, row) {
+            let mut changed = *row;
+            changed.state = state;
+            body.put_row(&changed);
+        }
+    }
+    // The items keep the rules on one record by the body's type.
+    let _valid = body.bytes();
+}
+
+/// Gives the rows that a group changes their states after it.
+pub(crate) fn take_changed(table: &mut PairTable, formed: &Formed)
+    ensures { table.new ≡ with_rows table.old (rows_with_group formed.now table.old.rows) }
+{
+    for place in 0..table.len() {
+        let Some(row) = table.row(place) else {
+            unreachable!()
+        };
+        let device = row.device;
+        if let Some(state) = next_state(formed, row) {
+            table.set_state(device, state);
+        }
+    }
+}

@@ -1,0 +1,27 @@
+use crash_plant::Device;
+use xrc_edge::NoMemory;
+
+/// Why a site can't go on. It may not be used again.
+#[derive(Clone, Copy, Debug, PartialEq, Eq)]
+pub enum StoreError {
+    /// The control, the state or a journal has failed.
+    Fault(Device),
+    /// The volume with this number has failed.
+    Volume(u16),
+    /// A record doesn't fit the rest of the data set.
+    JournalEnd,
+    /// A record or a mark would need the number 2^64 - 1.
+    Spent,
+    NoMemory,
+}
+
+impl From<NoMemory> for StoreError {
+    ghost use Rattle.std.specs.Prelude.{◌≡◌};
+    ghost use Rattle.one_pair_site.specs.declared.store_error.StoreError.TheVariants as errors;
+
+    ghost from_gives = { λ _ e. e ≡ errors.NoMemory };
+
+    fn from(_error: NoMemory) -> StoreError {
+        StoreError::NoMemory
+    }
+}

@@ -1,0 +1,58 @@
+//! The state and the mark, as they are written.
+
+ghost use Rattle.std.specs.Prelude.{◌≡◌, ◌≤◌, ℕ, OnOk, IsErrOf, IsTrue, Ok, Some, None};
+ghost use Rattle.xrc_edge.specs.Causes.{Rose};
+ghost use Rattle.crash_plant.specs.declared.device.Device.{Device as AnyDevice};
+ghost use Rattle.crash_plant.specs.declared.device.Device.TheVariants.{Control, State};
+ghost use Rattle.crash_plant.specs.Choices.{AllFollow};
+ghost use Rattle.crash_plant.specs.Moments.{on, IsDurable};
+ghost use Rattle.crash_plant.specs.Calls.{WorksOn};
+ghost use Rattle.control_set.specs.Marks.{IsMark};
+ghost use Rattle.control_set.specs.Slots.{IsNext, chosen_mark, lengths_of};
+ghost use Rattle.pair_table.specs.Tables.{are_below};
+ghost use Rattle.state_set.specs.Slots.{state_of};
+ghost use Rattle.one_pair_site.specs.declared.store_error.StoreError.{StoreError as AnyError};
+ghost use Rattle.one_pair_site.specs.declared.store_error.StoreError.TheVariants.{Fault};
+ghost use Rattle.one_pair_site.specs.Marking.{IsMarked, PutsMark, error_of};
+
+use crate::StoreError;
+use control_set::Mark;
+use crash_plant::{Device, Plant};
+use pair_table::{Level, PairTable};
+use std::alloc::Global;
+
+/// Writes the level and the rows into a mark's slot of the state, and the mark behind them.
+pub(crate) fn put_mark<P: Plant>(
+    alloc: Global,
+    plant: &mut P,
+    level: Level,
+    table: &PairTable,
+    value: &Mark,
+) -> Result<(), StoreError>
+    requires control { 1024 ≤ (P.state plant.old).lengths Control }
+    requires state { 16384 ≤ (P.state plant.old).lengths State }
+    requires devices { IsTrue (are_below (P.state plant.old).volumes table.now.rows) }
+    requires keeps { IsMark (lengths_of (P.state plant.old)) value.now }
+    requires session { value.now.session ≡ table.now.session }
+    requires next { P.tells → IsNext (chosen_mark (lengths_of (P.state plant.old)) ((P.state plant.old).bytes Control)) value.now.number }
+    requires durable { P.tells → IsDurable (on (P.state plant.old) Control) }
+    // At every moment the old mark counts, or the new one does and its slot holds the level and the rows.
+    ensures moments { P.tells → AllFollow (PutsMark (lengths_of (P.state plant.old)) (P.state plant.old).volumes value.now (record { level = level; rows = table.now.rows })) (P.state plant.old) (P.state plant.new) }
+    // After Ok the new one does, whatever a crash leaves.
+    ensures chosen { P.tells → OnOk result (chosen_mark (lengths_of (P.state plant.old)) ((P.state plant.new).bytes Control) ≡ Ok (Some value.now)) }
+    ensures holds { P.tells → OnOk result (state_of (P.state plant.old).volumes value.now.session value.now.state_slot ((P.state plant.new).bytes State) ≡ Ok (record { level = level; rows = table.now.rows })) }
+    ensures durable_control { P.tells → OnOk result (IsDurable (on (P.state plant.new) Control)) }
+    ensures durable_state { P.tells → OnOk result (IsDurable (on (P.state plant.new) State)) }
+    ensures only { WorksOn P.tells IsMarked (P.state plant.old) (P.state plant.new) }
+    // Why it fails.
+    ensures error { (e : AnyError) → IsErrOf result e → (d : AnyDevice) × (e ≡ Fault d) × IsMarked d × Rose ((P.state plant.old).faults d) ((P.state plant.new).faults d) }
+    ensures others { (d : AnyDevice) → ¬ IsErrOf result (error_of d) → (P.state plant.new).faults d ≡ (P.state plant.old).faults d }
+{
+    let Ok(()) = state_set::put(alloc, plant, value.state_slot, level, table) else {
+        return Err(StoreError::Fault(Device::State));
+    };
+    let Ok(()) = control_set::mark(plant, value) else {
+        return Err(StoreError::Fault(Device::Control));
+    };
+    Ok(())
+}
