@@ -26,8 +26,8 @@ ghost use Rattle.epoch.specs.Sights.{AllShow, EachIs, Makes, ShowsEither, behind
 ghost use Rattle.epoch.specs.Works.{WorksSilently};
 
 use crash_plant::Plant;
-use pending_queue::Formed;
 use one_pair_site::{Site, StoreError};
+use pending_queue::Formed;
 use std::alloc::Global;
 use std::thread::Threads;
 

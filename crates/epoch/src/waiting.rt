@@ -25,8 +25,8 @@ ghost use Rattle.epoch.specs.Works.{WorksSilently};
 use crate::Lane;
 use crate::keeping::keep_group;
 use crash_plant::Plant;
-use pair_table::PairRow;
 use one_pair_site::{Site, StoreError};
+use pair_table::PairRow;
 use std::alloc::Global;
 use std::thread::Threads;
 

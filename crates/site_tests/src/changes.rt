@@ -7,8 +7,8 @@ ghost use Rattle.one_pair_site.specs.Standing.{Fits};
 
 use crate::fixtures::{JOURNAL, assert_same, first_row, second_row, session};
 use crash_plant::{Device, FileDisk, FilePlant, Plant, Spot};
-use pair_table::{Change, DeviceList, Level, PairRow, PairState, SuspendCause};
 use one_pair_site::{Site, StoreError};
+use pair_table::{Change, DeviceList, Level, PairRow, PairState, SuspendCause};
 use std::alloc::Global;
 use std::fs::{self, File, OpenOptions};
 use std::process::Abort;

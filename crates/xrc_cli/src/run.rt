@@ -6,11 +6,11 @@ ghost use Rattle.xrc_cli.specs.Sources.{IfOne};
 ghost use Rattle.xrc_cli.specs.Statuses.{EndsRun, RefusesSources};
 
 use crash_plant::Plant;
+use one_pair_session::run_script;
 use std::alloc::Global;
 use std::thread::Threads;
 use tod_stamp::Session;
 use xrc_edge::Source;
-use one_pair_session::run_script;
 use xrc_status::{Stop, say_stop};
 
 /// The status of a command that was done.
