@@ -89,7 +89,7 @@ new_more n first records blocks = rw add-one (more n first)
     more zero first = ap (λ k. new_control k records blocks ∷ []) (omega arith)
     more (suc n) first = ap (λ (cs : List ControlState). new_control first records blocks ∷ cs) (more n (first + 1) ∙ ap (λ k. new_controls n (first + 1) records blocks ++ new_control k records blocks ∷ []) (omega arith))
 
-length_new : (n first records blocks : ℕ) → length (new_controls n first records blocks) ≡ n
+pub length_new : (n first records blocks : ℕ) → length (new_controls n first records blocks) ≡ n
 length_new zero first records blocks = refl
 length_new (suc n) first records blocks = omega (arith, length_new n (first + 1) records blocks)
 

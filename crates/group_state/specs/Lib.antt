@@ -6,3 +6,7 @@ pub mod Machine
 pub mod Answers
 pub mod Vectors
 pub mod Laws
+pub mod Runs
+pub mod Follows
+pub mod HistoryLaws
+pub mod HistoryVectors

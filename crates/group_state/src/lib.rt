@@ -1,8 +1,11 @@
-//! The state that the readers of the controls and the mover share, as one sequential machine.
+//! The state that the readers of the controls and the mover share, as one sequential machine, and the laws that tie it to the theorem
+//! on cuts: what is called and answered is a legal history, and what the state keeps and each form shows is that history's.
 #![tactic(auto)]
 
 mod control;
 mod forming;
+mod history_laws;
+pub mod history_vectors;
 mod joining;
 mod laws;
 mod phase;
@@ -11,6 +14,9 @@ pub mod vectors;
 mod volume;
 mod volumes;
 
+pub use history_laws::{
+    forms_give_groups, resumes_owe_mapped, runs_are_histories, runs_keep_to_cuts, sizes_are_told,
+};
 pub use joining::{CopyJoin, Forming, Joining};
 pub use laws::nothing_changes;
 pub use state::GroupState;

@@ -6,7 +6,7 @@ ghost use Rattle.group_state.specs.Groups.{control_at};
 ghost use Rattle.group_state.specs.Sound.{MayJoin, MayCarry};
 ghost use Rattle.group_state.specs.Machine.{after};
 ghost use Rattle.group_state.specs.Machine.Call.{Join, Copied, Form, Carry};
-ghost use Rattle.group_history.specs.Runs.{MayCopy};
+ghost use Rattle.group_state.specs.Runs.{MayCopy};
 ghost use Rattle.group_state.specs.Vectors.{whole_on, batch, none_wanted, both_wanted, update_of};
 
 use crate::fixtures::{assert_same, batch_of, filled, one_write, slot_of_one, whole};

@@ -1,5 +1,0 @@
-use Rattle.group_history.proofs.Sizes.{resumes_owe_mapped}
-use Rattle.group_history.proofs.laws.resumes_owe_mapped.Goals as goal
-
-pub returns : goal.returns
-returns c = resumes_owe_mapped

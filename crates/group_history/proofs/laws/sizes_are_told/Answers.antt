@@ -1,8 +1,0 @@
-use Rattle.group_history.proofs.Sizes.{sizes_are_told, numbers_are_kept}
-use Rattle.group_history.proofs.laws.sizes_are_told.Goals as goal
-
-pub returns-clause-sizes : goal.returns-clause-sizes
-returns-clause-sizes c = sizes_are_told
-
-pub returns-clause-numbers : goal.returns-clause-numbers
-returns-clause-numbers c = numbers_are_kept

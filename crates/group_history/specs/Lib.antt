@@ -1,4 +1,0 @@
-pub mod Runs
-pub mod Follows
-pub mod Laws
-pub mod Vectors
