@@ -1,4 +1,3 @@
-mod Functions
 pub mod Pieces
 pub mod Replies
 pub mod Spelled

@@ -6,11 +6,11 @@ use Rattle.std.proofs.lemmas.Bool.{and_from, and_left, and_parts, and_right, con
 use Rattle.std.proofs.lemmas.List.{length_push, take-append-le, take_all}
 use Rattle.std.proofs.lemmas.List.Concat.{flat_map-append}
 use Rattle.std.proofs.lemmas.Option.{slice_get_within}
+use Rattle.row_changes.specs.Toward.{AreCounted}
 use Rattle.consistency.specs.Bears.{Run, Stage}
 use Rattle.consistency.specs.Courses.{Answered, AreAsked, IsAnswered, IsAsked, IsCourse, begun, first_line, first_stage, is_whole, later_line, lines_begun, most_lines, next_line, replies_of, stage_after, stage_at, texts_of}
 use Rattle.consistency.specs.Steps.{TimedCommand}
 use Rattle.consistency.specs.Times.{AreWhole}
-use Rattle.consistency.specs.Toward.{AreCounted}
 use Rattle.consistency.proofs.Pieces.{whole_append}
 use Rattle.consistency.proofs.Replies.{reply_whole}
 

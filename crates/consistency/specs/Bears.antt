@@ -10,12 +10,12 @@ use Rattle.pair_table.specs.declared.row.PairState.TheVariants.{Duplex}
 use Rattle.pair_table.specs.Commands.{is_end}
 use Rattle.pair_table.specs.Naming.{NamedDevice, NamedVolume, Naming}
 use Rattle.pair_table.specs.Refusals.{Pairs, refusal}
+use Rattle.row_changes.specs.Changes.{Timed, after_changes}
+use Rattle.row_changes.specs.Toward.{AreCounted, Toward}
 use Rattle.site_means.specs.declared.means.Means.{Means}
 use Rattle.site_means.specs.Images.{Images, Shape}
 use Rattle.site_means.specs.Sight.{content_in, means_in}
-use Rattle.consistency.specs.Changes.{Timed, after_changes}
 use Rattle.consistency.specs.Steps.{IsCommanded, TimedCommand, names_at, pairs_after_line}
-use Rattle.consistency.specs.Toward.{AreCounted, Toward}
 
 -- What stays over a run: the session's name, the traces, the labels as the session's start read them, the level of that start, and by
 -- how much the count of faults of each volume rises over the run.

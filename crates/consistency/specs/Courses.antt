@@ -4,11 +4,11 @@ use Rattle.std.specs.List.{flat_map, list_any}
 use Rattle.pair_table.specs.declared.command.Command.TheVariants.{Start}
 use Rattle.pair_table.specs.declared.level.Level.{Level}
 use Rattle.pair_table.specs.Refusals.{Pairs}
+use Rattle.row_changes.specs.Changes.{Timed}
+use Rattle.row_changes.specs.Toward.{AreCounted}
 use Rattle.consistency.specs.Bears.{Run, Stage, accepts, breaks_of, names_of}
-use Rattle.consistency.specs.Changes.{Timed}
 use Rattle.consistency.specs.Replies.{IsReply, has_reply}
 use Rattle.consistency.specs.Steps.{Step, TimedCommand, pairs_on_the_way}
-use Rattle.consistency.specs.Toward.{AreCounted}
 
 -- A line that was answered: its text as it was heard, what it asks, the reply as it was said, the changes of rows before its command
 -- and the hits after it, and the pairs then.

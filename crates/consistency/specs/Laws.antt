@@ -4,12 +4,13 @@ use Rattle.pair_table.specs.declared.level.Level.{Level}
 use Rattle.pair_table.specs.Naming.{Naming}
 use Rattle.pair_table.specs.Refusals.{Pairs}
 use Rattle.pair_table.specs.Tables.{none_clash}
+use Rattle.row_changes.specs.Changes.{Timed, after_changes}
+use Rattle.row_changes.specs.Toward.{has_no_hit, next_row}
 use Rattle.site_means.specs.Images.{Images, Shape}
 use Rattle.consistency.specs.Bears.{Bears, Run, Stage}
-use Rattle.consistency.specs.Changes.{Timed, after_changes}
 use Rattle.consistency.specs.Courses.{Answered, IsCourse, StandsAt}
 use Rattle.consistency.specs.Replies.{reply_count}
-use Rattle.consistency.specs.Steps.{IsCommanded, TimedCommand, has_no_hit, next_row}
+use Rattle.consistency.specs.Steps.{IsCommanded, TimedCommand}
 
 -- A choice of images bears one time at most.
 abbrev pub OneTime : Type 0

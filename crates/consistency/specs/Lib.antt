@@ -1,5 +1,5 @@
-pub mod Changes
-pub mod Toward
+pub use Rattle.row_changes.specs.Changes
+pub use Rattle.row_changes.specs.Toward
 pub mod Steps
 pub mod Bears
 pub mod Times

@@ -1,22 +1,17 @@
 -- What one line does to a session's table, with the changes before and after its command.
-use Rattle.std.specs.Prelude.{◌≡◌, ℕ, ◌+◌, ◌==◌, ◌&&◌, not, List, [], ◌∷◌, nat_le, nat_lt, ◌||◌, Bool, true, false, Option, Some, None, IsTrue, if◌then◌else◌}
+use Rattle.std.specs.Prelude.{◌≡◌, ℕ, ◌+◌, ◌==◌, ◌&&◌, not, List, [], ◌∷◌, Bool, false, Option, IsTrue, if◌then◌else◌}
 use Rattle.std.specs.List.{list_all}
 use Rattle.sidefile.specs.Breaks.{is_below}
 use Rattle.pair_table.specs.declared.command.Command.{Command}
 use Rattle.pair_table.specs.declared.level.Level.{Level}
 use Rattle.pair_table.specs.declared.row.PairRow.{PairRow}
-use Rattle.pair_table.specs.declared.row.PairState.{PairState}
-use Rattle.pair_table.specs.declared.row.PairState.TheVariants.{Pending, Copy, Duplex, Suspended}
-use Rattle.pair_table.specs.declared.row.SuspendCause.TheVariants.{Control as ByControl}
 use Rattle.pair_table.specs.Commands.{pairs_after}
 use Rattle.pair_table.specs.Naming.{Naming}
 use Rattle.pair_table.specs.Refusals.{Pairs}
-use Rattle.pair_table.specs.Rows.{is_suspended}
-use Rattle.pair_table.specs.Tables.{in_state, with_rows}
-use Rattle.consistency.specs.Changes.{Timed, break_time_of, may_all_come, after_changes, since}
-use Rattle.consistency.specs.Changes.Due.{NoneDue}
-use Rattle.consistency.specs.Changes.RowChange.{Hit, MarkedHit, Reached, Mature, Break}
-use Rattle.consistency.specs.Toward.{Toward, is_break, is_maturing}
+use Rattle.pair_table.specs.Tables.{with_rows}
+use Rattle.row_changes.specs.Changes.{Timed, may_all_come, after_changes}
+use Rattle.row_changes.specs.Changes.Due.{NoneDue}
+use Rattle.row_changes.specs.Toward.{Toward, is_break, is_hit_at, is_settled}
 
 -- a line of a script: its time, the session that it names, and its command
 pub record TimedCommand : Type 0 where
@@ -40,20 +35,9 @@ commanded breaks names pairs line = pairs_after (names_at line.time breaks names
 abbrev pub with_pair_rows : List PairRow → Pairs → Pairs
 with_pair_rows rows pairs = record pairs { table = with_rows pairs.table rows }
 
--- A row that is neither pending nor copying.
-abbrev pub is_settled : PairState → Bool
-is_settled Pending = false
-is_settled Copy = false
-is_settled Duplex = true
-is_settled (Suspended cause time) = true
-
 -- Only a session that has started and not ended changes by itself.
 abbrev pub is_active : Pairs → Bool
 is_active pairs = pairs.table.is_started && not pairs.is_ended
-
--- a hit at a time
-abbrev pub is_hit_at : (time : ℕ) → Timed → Bool
-is_hit_at time t = t.time == time && elim t.change [ Hit devices ↦ true | MarkedHit devices ↦ false | Reached ↦ false | Mature device state ↦ false | Break control ↦ false ]
 
 -- the pairs on the way, after these changes
 abbrev pub pairs_on_the_way : Level → List Timed → Pairs → Pairs
@@ -78,17 +62,3 @@ pub record Step (level : Level) (breaks : List (Option ℕ)) (names : Naming) (f
   pub active : IsTrue (is_active old) → IsCommanded level breaks names from old line changes hits
   pub still : is_active old ≡ false → (changes ≡ []) × (hits ≡ [])
   pub made : new ≡ pairs_after_line level breaks names old line changes hits
-
--- ---- the law
-
-abbrev pub has_no_hit : List Timed → Bool
-has_no_hit changes = list_all (λ t. is_break t || is_maturing t) changes
-
--- The state of a row that isn't suspended when the next line takes effect: suspended since its control's break time, where that lies
--- between, or else duplex.
-abbrev pub next_state : (from to : ℕ) → Option ℕ → PairState
-next_state from to None = Duplex
-next_state from to (Some b) = if nat_le from b && nat_lt b to then since ByControl b else Duplex
-
-abbrev pub next_row : (breaks : List (Option ℕ)) → (from to : ℕ) → PairRow → PairRow
-next_row breaks from to r = if is_suspended r.state then r else in_state (next_state from to (break_time_of r.control breaks)) r

@@ -1,4 +1,4 @@
-//! What a site must bear at each moment: how rows change between two lines, what one line does, and what a crash's images mean then.
+//! What a site must bear at each moment: what one line does, and what a crash's images mean then.
 #![tactic(auto)]
 
 mod laws;

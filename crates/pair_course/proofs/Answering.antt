@@ -18,7 +18,8 @@ use Rattle.pair_table.specs.Tables.{in_state}
 use Rattle.consistency.specs.Bears.{Run, accepts, breaks_of, names_of}
 use Rattle.consistency.specs.Courses.{Answered, IsAnswered, IsCourse, first_stage, unstarted}
 use Rattle.consistency.specs.Replies.{IsReply}
-use Rattle.consistency.specs.Steps.{IsCommanded, commanded, is_settled, names_at, pairs_after_line, pairs_on_the_way}
+use Rattle.consistency.specs.Steps.{IsCommanded, commanded, names_at, pairs_after_line, pairs_on_the_way}
+use Rattle.consistency.specs.Toward.{is_settled}
 use Rattle.consistency.proofs.Lines.{same_some}
 use Rattle.pair_course.specs.Course.{IsAdded, IsPairRun, end_answered, end_line, has_matured, pair_answered, pair_line, paired_stage, pairs_with, start_answered, start_line, started_stage}
 use Rattle.pair_course.proofs.Breaking.{broke_by, none_broken, whole_before}

@@ -1,4 +1,4 @@
--- Without a hit the rows before a line's command are determined, row by row.
+-- Without a hit the rows that changes lead to are determined, row by row.
 use Rattle.std.proofs.Common.{◌≡◌, ℕ, zero, suc, ◌+◌, ◌≤◌, ◌<◌, Bool, true, false, not, cond, nat_eq, ◌&&◌, ◌||◌, List, [], ◌∷◌, map, Option, Some, None, refl, sym, ap, subst, ◌∙◌, arith, true≢false, slice_get}
 use Rattle.std.specs.Prelude.{bytes_eq, nat_le, nat_lt}
 use Rattle.std.specs.List.{list_all, list_any}
@@ -12,11 +12,10 @@ use Rattle.pair_table.specs.declared.row.PairState.TheVariants.{Pending, Copy, D
 use Rattle.pair_table.specs.declared.row.SuspendCause.TheVariants.{Control as ByControl}
 use Rattle.pair_table.specs.Rows.{is_suspended}
 use Rattle.pair_table.specs.Tables.{clashes, in_state, none_clash, row_of}
-use Rattle.consistency.specs.Changes.{RowChange, Timed, after_change, after_changes, break_time_of, changed_row, due_after, is_at, may_all_come, may_come, may_mature, row_may_mature, since}
-use Rattle.consistency.specs.Changes.RowChange.{Break, Hit, MarkedHit, Mature, Reached}
-use Rattle.consistency.specs.Changes.Due.{NoneDue}
-use Rattle.consistency.specs.Steps.{has_no_hit, is_settled, next_row, next_state}
-use Rattle.consistency.specs.Toward.{all_broke, is_break, is_break_of, is_maturing, lies_in}
+use Rattle.row_changes.specs.Changes.{RowChange, Timed, after_change, after_changes, break_time_of, changed_row, due_after, is_at, may_all_come, may_come, may_mature, row_may_mature, since}
+use Rattle.row_changes.specs.Changes.RowChange.{Break, Hit, MarkedHit, Mature, Reached}
+use Rattle.row_changes.specs.Changes.Due.{NoneDue}
+use Rattle.row_changes.specs.Toward.{all_broke, has_no_hit, is_break, is_break_of, is_maturing, is_settled, lies_in, next_row, next_state}
 
 -- ---- booleans
 
@@ -302,10 +301,10 @@ settled_at f [] i x all at = absurd cc
 settled_at f (r ∷ rows) zero x all at = subst (λ (y : PairRow). is_settled (f y).state ≡ true) (some_row r x at) (and_parts (is_settled (f r).state) (list_all (λ r. is_settled r.state) (map f rows)) all).0
 settled_at f (r ∷ rows) (suc i) x all at = settled_at f rows i x (and_parts (is_settled (f r).state) (list_all (λ r. is_settled r.state) (map f rows)) all).1 at
 
-pub steps_determined : (level : Level) (breaks : List (Option ℕ)) (from to : ℕ) (changes : List Timed) (rows : List PairRow) → none_clash rows ≡ true → may_all_come level breaks false NoneDue from to rows changes ≡ true
+pub rows_determined : (level : Level) (breaks : List (Option ℕ)) (from to : ℕ) (changes : List Timed) (rows : List PairRow) → none_clash rows ≡ true → may_all_come level breaks false NoneDue from to rows changes ≡ true
     → all_broke from to 0 breaks changes ≡ true → list_all (λ t. not (is_break t && nat_eq t.time to)) changes ≡ true → list_all (λ r. is_settled r.state) (after_changes level changes rows) ≡ true → has_no_hit changes ≡ true
     → after_changes level changes rows ≡ map (next_row breaks from to) rows
-steps_determined level breaks from to changes rows apart may broke differs settled plain =
+rows_determined level breaks from to changes rows apart may broke differs settled plain =
     let as_map = after_rows level changes rows in
     as_map ∙ same_map (row_after level changes) (next_row breaks from to) rows (λ i x at.
     let is = row_is level changes x plain in

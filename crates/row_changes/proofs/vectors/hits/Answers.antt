@@ -1,5 +1,5 @@
 use Rattle.std.proofs.Common.{◌≤◌, arith}
-use Rattle.consistency.proofs.vectors.hits.Goals as goal
+use Rattle.row_changes.proofs.vectors.hits.Goals as goal
 
 pub returns-clause-without_fault : goal.returns-clause-without_fault
 returns-clause-without_fault c counted = let one : 1 ≤ 0 = counted 1 in omega (arith, one)

@@ -1,0 +1,4 @@
+pub mod Changes
+pub mod Toward
+pub mod Laws
+pub mod Vectors
