@@ -6,18 +6,19 @@ use Rattle.std.proofs.lemmas.Bool.{eqb-true, eqb-false, and_parts}
 use Rattle.ckd_track.specs.declared.rec.Rec.{Rec}
 use Rattle.ckd_track.specs.Tracks.{IsTrack}
 use Rattle.ckd_track.specs.Images.{image, image_at}
+use Rattle.ckd_track.specs.SlotPlaces.{slot_place, slot_end, slot_track, track_read}
 use Rattle.ckd_track.proofs.ImageLaws.{image_again}
 use Rattle.ckd_track.proofs.Parts.{length-image}
+use Rattle.ckd_track.proofs.SlotTracks.{behind_is, image_same}
 use Rattle.crash_plant.specs.Bytes.{patched, Torn}
 use Rattle.crash_plant.proofs.Patches.{patched_torn}
 use Rattle.xrc_journal.specs.Items.{Item, Earlier, anywhere, behind, is_item, are_items_behind}
 use Rattle.xrc_journal.specs.Items.Item.{Image, Delta, Pair, Gone}
+use Rattle.xrc_journal.specs.Contents.{HasItem, content_by, content_through, is_of_track}
 use Rattle.xrc_journal.proofs.ItemsAgain.{image_rules}
-use Rattle.site_means.specs.Content.{slot_place, slot_track, track_read, content_by, content_through}
-use Rattle.applier.specs.Slots.{is_of_track, HasItem, slot_end, DiffersInSlots, BeginsWithTrack, HoldsContentBut, HoldsContent}
+use Rattle.applier.specs.Slots.{DiffersInSlots, BeginsWithTrack, HoldsContentBut, HoldsContent}
 use Rattle.applier.specs.Writes.{written_by, written}
-use Rattle.applier.proofs.Local.{image_same}
-use Rattle.applier.proofs.Ranges.{torn_apart, written_behind, range_written, range_part, behind_is}
+use Rattle.applier.proofs.Ranges.{torn_apart, written_behind, range_written, range_part}
 use Rattle.applier.proofs.InSlots.{has_first, has_more, differs_here, differs_then, torn_differs, slots_apart}
 use Rattle.applier.proofs.Writing.{own_track}
 

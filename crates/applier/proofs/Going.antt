@@ -1,5 +1,5 @@
 -- The items of a body written one after another.
-use Rattle.std.proofs.Common.{◌≡◌, ℕ, ◌+◌, ◌-◌, ◌≤◌, true, List, [], ◌∷◌, ◌++◌, length, take, drop, Option, Some, None, Result, Ok, Err, IsOk, IsErr, OnOk, OnErr, refl, sym, ap, subst, ◌∙◌, arith, append_assoc, append-nil, length-append, length-drop}
+use Rattle.std.proofs.Common.{◌≡◌, ℕ, ◌+◌, ◌-◌, ◌≤◌, true, List, [], ◌∷◌, ◌++◌, length, take, drop, Option, Some, None, Result, Ok, Err, IsOk, IsErr, OnOk, refl, sym, ap, subst, ◌∙◌, arith, append_assoc, append-nil, length-append, length-drop}
 use Rattle.std.proofs.lemmas.Bool.{and_parts, eq-eqb}
 use Rattle.std.proofs.lemmas.Option.{same_Some}
 use Rattle.std.proofs.lemmas.List.{take_all, drop_at, drop-drop}
@@ -7,6 +7,7 @@ use Rattle.std.proofs.lemmas.List.Sums.{fold_push}
 use Rattle.xrc_edge.specs.declared.outcome.Failed.{Failed}
 use Rattle.xrc_edge.specs.Causes.{HasCause}
 use Rattle.ckd_track.specs.declared.rec.Rec.{Rec}
+use Rattle.ckd_track.specs.SlotPlaces.{slot_end}
 use Rattle.crash_plant.specs.Moments.{Standing, Follows}
 use Rattle.crash_plant.proofs.Steps.{kept_here, follows_here, kept_trans, follows_then}
 use Rattle.xrc_journal.specs.declared.reading.BodyItem.{BodyItem}
@@ -14,8 +15,9 @@ use Rattle.xrc_journal.specs.declared.reading.BodyItem.TheVariants.{Image as Ima
 use Rattle.xrc_journal.specs.Items.{Item, Earlier, none_earlier, anywhere, behind, is_item, are_items_behind, item_spelling, body_spelling}
 use Rattle.xrc_journal.specs.Items.Item.{Image, Delta, Pair, Gone}
 use Rattle.xrc_journal.specs.Views.{AreItemBytes, told, track_behind, first_told, first_track}
+use Rattle.xrc_journal.specs.Contents.{HasItem}
 use Rattle.xrc_journal.proofs.ItemsAgain.{some_bytes}
-use Rattle.applier.specs.Slots.{HasItem, slot_end, DiffersInSlots}
+use Rattle.applier.specs.Slots.{DiffersInSlots}
 use Rattle.applier.specs.Writes.{written_by, written, Writes, WritesAll, StopsAt}
 use Rattle.applier.proofs.InSlots.{has_before, has_behind, has_first, differs_here, differs_before, differs_then}
 use Rattle.applier.proofs.Writing.{own_track}
@@ -170,17 +172,3 @@ module _ (items : List Item) (bytes : List ℕ) (at : ℕ) (r : Reading items by
   -- where the next item's slot lies
   pub next_room : (device x size : ℕ) (item : BodyItem) (n : ℕ) (old new : List Rec) → Next item n old new → item ≡ ImageTold device x → ((y : ℕ) → HasItem device y items → slot_end y ≤ size) → slot_end x ≤ size
   next_room device x size item n old new next e room = room x (subst (λ (l : List Item). HasItem device x l) (sym next.parts) (has_behind device x r.done (next.i ∷ next.more) (has_first device x next.i next.more (told_own device x r.earlier next.i next.is (sym e ∙ next.told_is)))))
-
--- ---- what a call told
-
-pub is_err : {T E : Type 0} (result : Result T E) (bad : E) → result ≡ Err bad → IsErr result
-is_err (Ok x) bad e = absurd cc
-is_err (Err b) bad e = refl
-
-pub is_ok : {T E : Type 0} (result : Result T E) (x : T) → result ≡ Ok x → IsOk result
-is_ok (Ok y) x e = refl
-is_ok (Err bad) x e = absurd cc
-
-pub on_err : {T E P : Type 0} (result : Result T E) → P → OnErr result P
-on_err (Ok x) p = record {}
-on_err (Err bad) p = p

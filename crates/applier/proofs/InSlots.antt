@@ -3,10 +3,11 @@ use Rattle.std.proofs.Common.{◌≡◌, ◌⊎◌, inl, inr, ◌≤◌, ◌<◌
 use Rattle.std.specs.List.{list_any}
 use Rattle.std.proofs.lemmas.Bool.{or_cases, cases_lt}
 use Rattle.std.proofs.lemmas.List.Folds.{list_any-append}
+use Rattle.ckd_track.specs.SlotPlaces.{slot_place, slot_end}
 use Rattle.crash_plant.specs.Bytes.{Torn}
 use Rattle.xrc_journal.specs.Items.{Item}
-use Rattle.site_means.specs.Content.{slot_place}
-use Rattle.applier.specs.Slots.{is_of_track, HasItem, slot_end, DiffersInSlots}
+use Rattle.xrc_journal.specs.Contents.{HasItem, is_of_track}
+use Rattle.applier.specs.Slots.{DiffersInSlots}
 use Rattle.applier.proofs.Ranges.{torn_apart}
 
 or_left : (a b : Bool) → a ≡ true → (a || b) ≡ true

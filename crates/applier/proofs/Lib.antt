@@ -1,4 +1,3 @@
-pub mod Local
 pub mod Ranges
 pub mod InSlots
 pub mod Writing

@@ -1,7 +1,7 @@
 -- What a write leaves of ranges of bytes.
 use Rattle.std.proofs.Common.{◌≡◌, ◌⊎◌, inl, inr, ◌≤◌, ◌+◌, ◌-◌, ◌++◌, ℕ, List, length, take, drop, refl, sym, ◌∙◌, ap, arith, append_assoc, length-take}
 use Rattle.std.specs.Prelude.{slice_range}
-use Rattle.std.proofs.lemmas.List.{take_at, drop_at, take-take, drop-drop, drop-take, take-append-drop}
+use Rattle.std.proofs.lemmas.List.{take_at, drop_at, take-take, drop-drop, drop-take}
 use Rattle.crash_plant.specs.Bytes.{patched, Torn}
 
 -- what stands before a write
@@ -41,7 +41,3 @@ range_part p q n b c same le =
     let k : p + n - p ≡ n = omega arith in
     let less : n ≤ q - p = omega (arith, le) in
     ap (λ (m : ℕ). take m (drop p c)) k ∙ sym (take-take n (q - p) (drop p c) less) ∙ ap (λ (l : List ℕ). take n l) same ∙ take-take n (q - p) (drop p b) less ∙ ap (λ (m : ℕ). take m (drop p b)) (sym k)
-
--- bytes behind a place, as a range and what follows
-pub behind_is : (p q : ℕ) (b : List ℕ) → drop p b ≡ slice_range b p q ++ drop (q - p) (drop p b)
-behind_is p q b = sym (take-append-drop (q - p) (drop p b))

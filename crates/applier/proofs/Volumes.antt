@@ -2,10 +2,13 @@
 use Rattle.std.proofs.Common.{◌≡◌, ◌≤◌, ◌++◌, ◌&&◌, ℕ, true, List, [], ◌∷◌, length, Option, Some, Result, Ok, Err, IsOk, IsErr, OnOk, OnErr, refl, sym, ◌∙◌, ap, subst, arith, append_assoc}
 use Rattle.std.proofs.lemmas.Bool.{and_parts}
 use Rattle.xrc_edge.specs.declared.outcome.Failed.{Failed}
+use Rattle.ckd_track.specs.SlotPlaces.{slot_end}
 use Rattle.crash_plant.specs.Moments.{Standing, Follows}
 use Rattle.xrc_journal.specs.Items.{Item, Form, Earlier, none_earlier, anywhere, behind, is_item, are_items_behind}
-use Rattle.applier.specs.Slots.{HasItem, slot_end, DiffersInSlots, HoldsContent}
-use Rattle.applier.specs.Jobs.{OnVolume, HasSlots, StopsAtItem}
+use Rattle.xrc_journal.specs.Contents.{HasItem}
+use Rattle.xrc_journal.specs.Jobs.{OnVolume}
+use Rattle.applier.specs.Slots.{DiffersInSlots, HoldsContent}
+use Rattle.applier.specs.Jobs.{HasSlots, StopsAtItem}
 use Rattle.applier.specs.Writes.{written, WritesAll, StopsAt}
 use Rattle.applier.proofs.InSlots.{has_before, has_behind, differs_before, differs_then}
 use Rattle.applier.proofs.Contents.{Room, items_steps, holds_all, holds_but}

@@ -6,6 +6,7 @@ use Rattle.xrc_edge.specs.Causes.{HasCause}
 use Rattle.ckd_track.specs.declared.rec.Rec.{Rec}
 use Rattle.ckd_track.specs.Tracks.{IsTrack}
 use Rattle.ckd_track.specs.Images.{image}
+use Rattle.ckd_track.specs.SlotPlaces.{slot_place}
 use Rattle.ckd_track.proofs.Parts.{length-image}
 use Rattle.crash_plant.specs.Bytes.{patched, Torn}
 use Rattle.crash_plant.specs.Moments.{Standing, Follows, Kept}
@@ -13,9 +14,9 @@ use Rattle.xrc_journal.specs.declared.reading.BodyItem.{BodyItem}
 use Rattle.xrc_journal.specs.Items.{Item, Earlier, anywhere, is_item}
 use Rattle.xrc_journal.specs.Items.Item.{Image, Delta, Pair, Gone}
 use Rattle.xrc_journal.specs.Views.{told, track_behind}
+use Rattle.xrc_journal.specs.Contents.{HasItem}
 use Rattle.xrc_journal.proofs.ItemsAgain.{image_rules}
-use Rattle.site_means.specs.Content.{slot_place}
-use Rattle.applier.specs.Slots.{HasItem, DiffersInSlots}
+use Rattle.applier.specs.Slots.{DiffersInSlots}
 use Rattle.applier.specs.Writes.{written_by, Writes}
 use Rattle.applier.proofs.InSlots.{torn_differs}
 

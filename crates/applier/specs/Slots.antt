@@ -1,26 +1,10 @@
 -- The slots of the tracks of which items are, what they hold, and what may differ outside of them.
-use Rattle.std.specs.Prelude.{◌≡◌, ◌≤◌, ◌⊎◌, ◌+◌, ◌==◌, ◌&&◌, ℕ, Bool, false, List, [], length, slice_range, Option, Some, None, IsTrue}
-use Rattle.std.specs.List.{list_any}
+use Rattle.std.specs.Prelude.{◌≡◌, ◌≤◌, ◌⊎◌, ◌+◌, ℕ, List, [], length, slice_range, Option, Some, None}
 use Rattle.ckd_track.specs.declared.rec.Rec.{Rec}
 use Rattle.ckd_track.specs.Images.{image}
+use Rattle.ckd_track.specs.SlotPlaces.{slot_place, slot_end, slot_track}
 use Rattle.xrc_journal.specs.Items.{Item}
-use Rattle.xrc_journal.specs.Items.Item.{Image, Delta, Pair, Gone}
-use Rattle.site_means.specs.Content.{slot_place, slot_track, content_through}
-
--- whether an item is of a device's track
-abbrev pub is_of_track : (device track : ℕ) → Item → Bool
-is_of_track device track (Image d x recs) = d == device && x == track
-is_of_track device track (Delta d x kind) = d == device && x == track
-is_of_track device track (Pair row) = false
-is_of_track device track (Gone d) = false
-
--- Some item is of this track of the device.
-abbrev pub HasItem : (device track : ℕ) → List Item → Type 0
-HasItem device track items = IsTrue (list_any (is_of_track device track) items)
-
--- where the slot of a track ends
-abbrev pub slot_end : (track : ℕ) → ℕ
-slot_end track = slot_place track + 57344
+use Rattle.xrc_journal.specs.Contents.{HasItem, content_through}
 
 -- A range of bytes meets no slot of the device's tracks of which an item is.
 abbrev pub IsApart : (device : ℕ) → List Item → (from to : ℕ) → Type 0

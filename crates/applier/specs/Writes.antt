@@ -3,12 +3,13 @@ use Rattle.std.specs.Prelude.{◌≡◌, ◌==◌, ◌++◌, ℕ, List, [], ◌�
 use Rattle.xrc_edge.specs.declared.outcome.Failed.{Failed}
 use Rattle.xrc_edge.specs.Causes.{HasCause}
 use Rattle.ckd_track.specs.Images.{image}
+use Rattle.ckd_track.specs.SlotPlaces.{slot_place}
 use Rattle.crash_plant.specs.Bytes.{patched}
 use Rattle.crash_plant.specs.Moments.{Standing, Follows, Kept}
 use Rattle.xrc_journal.specs.Items.{Item}
 use Rattle.xrc_journal.specs.Items.Item.{Image, Delta, Pair, Gone}
-use Rattle.site_means.specs.Content.{slot_place}
-use Rattle.applier.specs.Slots.{HasItem, DiffersInSlots}
+use Rattle.xrc_journal.specs.Contents.{HasItem}
+use Rattle.applier.specs.Slots.{DiffersInSlots}
 
 -- the bytes of a device after an item: an image stands at the front of its track's slot
 abbrev pub written_by : (device : ℕ) → List ℕ → Item → List ℕ

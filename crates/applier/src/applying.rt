@@ -3,13 +3,15 @@
 ghost use Rattle.std.specs.Prelude.{◌≡◌, ◌≤◌, ℕ, List, true, false, IsTrue, OnErr, OnOk};
 ghost use Rattle.crash_plant.specs.Moments.{Follows, Kept};
 ghost use Rattle.ckd_track.specs.declared.rec.Rec.{Rec};
+ghost use Rattle.ckd_track.specs.SlotPlaces.{slot_place, slot_end};
 ghost use Rattle.xrc_edge.specs.Causes.{HasCause};
 ghost use Rattle.xrc_journal.specs.Items.{AreItems, Earlier, Item, anywhere, is_item};
 ghost use Rattle.xrc_journal.specs.Views.{told, track_behind};
 ghost use Rattle.xrc_journal.specs.declared.reading.BodyItem.TheVariants.{Image as ImageTold};
-ghost use Rattle.site_means.specs.Content.{slot_place};
-ghost use Rattle.applier.specs.Slots.{DiffersInSlots, HasItem, HoldsContent, slot_end};
-ghost use Rattle.applier.specs.Jobs.{FailsByCount, HasSlots, OnVolume, StopsAtItem};
+ghost use Rattle.xrc_journal.specs.Contents.{HasItem};
+ghost use Rattle.xrc_journal.specs.Jobs.{FailsByCount, OnVolume};
+ghost use Rattle.applier.specs.Slots.{DiffersInSlots, HoldsContent};
+ghost use Rattle.applier.specs.Jobs.{HasSlots, StopsAtItem};
 ghost use Rattle.applier.specs.Writes.{StopsAt, Writes, WritesAll};
 
 use ckd_track::Slot;

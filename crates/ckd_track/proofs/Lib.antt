@@ -10,3 +10,4 @@ pub mod FrontLaws
 pub mod Formatting
 pub mod KindLaws
 pub mod RowLaws
+pub mod SlotTracks

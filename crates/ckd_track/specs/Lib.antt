@@ -4,5 +4,6 @@ pub mod Images
 pub mod Heads
 pub mod Reading
 pub mod Slots
+pub mod SlotPlaces
 pub mod Places
 pub mod Entries

@@ -12,7 +12,8 @@ use Rattle.pair_table.specs.declared.row.PairState.{PairState}
 use Rattle.pending_queue.specs.Entries.{WaitingEntry}
 use Rattle.pending_queue.specs.Groups.{FormedGroup}
 use Rattle.xrc_journal.specs.Items.{Item}
-use Rattle.applier.specs.Slots.{DiffersInSlots, HasItem}
+use Rattle.xrc_journal.specs.Contents.{HasItem}
+use Rattle.applier.specs.Slots.{DiffersInSlots}
 use Rattle.image_former.specs.Entries.{HasEntry, is_device, is_entry_on, is_row_of, row_device}
 use Rattle.one_pair_site.specs.Applies.{IsVolume, WorksWithin}
 use Rattle.one_pair_site.specs.GroupRows.{next_state, pair_in, pairs_with_group}

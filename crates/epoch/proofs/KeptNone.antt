@@ -15,9 +15,9 @@ use Rattle.pending_queue.specs.Groups.{FormedGroup, empty_group}
 use Rattle.xrc_journal.specs.Items.{Item, body_spelling}
 use Rattle.xrc_journal.specs.Items.Item.{Image, Delta, Pair, Gone}
 use Rattle.xrc_journal.specs.Records.{spot_after}
+use Rattle.xrc_journal.specs.Contents.{HasItem}
 use Rattle.site_means.specs.declared.means.Means.{Means}
 use Rattle.site_means.specs.Images.{shape_of}
-use Rattle.applier.specs.Slots.{HasItem}
 use Rattle.image_former.specs.Entries.{HasEntry}
 use Rattle.image_former.specs.Forms.{is_image}
 use Rattle.one_pair_site.specs.GroupRows.{pairs_with_group, rows_with_group}

@@ -1,9 +1,8 @@
 -- What calls leave of all journals but one, and of all volumes but one.
 use Rattle.std.specs.Prelude.{◌≡◌, ◌≢◌, ◌⊎◌, ◌<◌, ◌≤◌, ℕ, List, length, slice_range}
+use Rattle.ckd_track.specs.SlotPlaces.{slot_place, slot_end}
 use Rattle.crash_plant.specs.declared.device.Device.TheVariants.{Journal, Volume}
 use Rattle.crash_plant.specs.Moments.{Follows, PlantState, Same, Standing, on}
-use Rattle.site_means.specs.Content.{slot_place}
-use Rattle.applier.specs.Slots.{slot_end}
 
 -- A device holds what it held, and a crash leaves nothing else of it.
 pub record HoldsAsBefore (old new : Standing) : Type 0 where

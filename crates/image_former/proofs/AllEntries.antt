@@ -9,12 +9,12 @@ use Rattle.crash_plant.proofs.Steps.{kept_here, follows_here}
 use Rattle.ckd_track.specs.declared.rec.Rec.{Rec}
 use Rattle.ckd_track.specs.Tracks.{is_track}
 use Rattle.ckd_track.specs.Effects.{apply}
+use Rattle.ckd_track.specs.SlotPlaces.{slot_track}
 use Rattle.xrc_journal.specs.declared.job.VolumeJob.{VolumeJob}
 use Rattle.xrc_journal.specs.Items.{Item, Form, Earlier, anywhere, behind, none_earlier, is_item, is_drawn, may_draw, are_items_behind, AreItems}
 use Rattle.xrc_journal.specs.Items.Item.{Image, Delta, Pair, Gone}
-use Rattle.site_means.specs.Content.{slot_track, content_through}
-use Rattle.applier.specs.Slots.{is_of_track, HasItem}
-use Rattle.applier.specs.Jobs.{OnVolume, FailsByCount}
+use Rattle.xrc_journal.specs.Contents.{HasItem, content_through, is_of_track}
+use Rattle.xrc_journal.specs.Jobs.{FailsByCount, OnVolume}
 use Rattle.pair_table.specs.declared.row.PairRow.{PairRow}
 use Rattle.pending_queue.specs.Entries.{WaitingEntry}
 use Rattle.image_former.specs.Entries.{is_entry_on, HasEntry}

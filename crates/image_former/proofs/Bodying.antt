@@ -9,12 +9,12 @@ use Rattle.std.proofs.lemmas.List.Sums.{sum_by-cons, fold_push}
 use Rattle.crash_plant.specs.Moments.{Standing}
 use Rattle.ckd_track.specs.declared.rec.Rec.{Rec}
 use Rattle.ckd_track.specs.declared.write.Kind.{Kind}
+use Rattle.ckd_track.specs.SlotPlaces.{slot_track}
 use Rattle.xrc_journal.specs.declared.job.VolumeJob.{VolumeJob}
 use Rattle.xrc_journal.specs.Items.{Item, Earlier, behind, behind_all, is_drawn, item_spelling, body_spelling}
 use Rattle.xrc_journal.specs.Items.Item.{Image, Delta, Pair, Gone}
-use Rattle.site_means.specs.Content.{slot_track, content_by, content_through}
-use Rattle.applier.specs.Slots.{is_of_track}
-use Rattle.applier.specs.Jobs.{OnVolume}
+use Rattle.xrc_journal.specs.Contents.{content_by, content_through, is_of_track}
+use Rattle.xrc_journal.specs.Jobs.{OnVolume}
 use Rattle.pair_table.specs.declared.row.PairRow.{PairRow}
 use Rattle.pending_queue.specs.Entries.{WaitingEntry}
 use Rattle.image_former.specs.Entries.{entry_row, row_device, entry_device, is_device, is_entry_on, HasEntry}

@@ -9,7 +9,7 @@ use Rattle.xrc_edge.specs.Causes.{Rose}
 use Rattle.crash_plant.specs.Moments.{Standing, Same}
 use Rattle.crash_plant.proofs.Steps.{kept_here, follows_here, kept_trans, follows_then}
 use Rattle.xrc_journal.specs.declared.job.VolumeJob.{VolumeJob}
-use Rattle.applier.specs.Jobs.{OnVolume}
+use Rattle.xrc_journal.specs.Jobs.{OnVolume}
 use Rattle.pair_table.specs.declared.row.PairRow.{PairRow}
 use Rattle.pending_queue.specs.Entries.{WaitingEntry}
 use Rattle.image_former.specs.Entries.{entry_device}

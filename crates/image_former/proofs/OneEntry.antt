@@ -11,11 +11,11 @@ use Rattle.std.proofs.lemmas.Option.{same_Some, slice_get_within, get_or_from_sl
 use Rattle.crash_plant.specs.Moments.{Standing}
 use Rattle.ckd_track.specs.declared.rec.Rec.{Rec}
 use Rattle.ckd_track.specs.declared.write.Kind.{Kind}
+use Rattle.ckd_track.specs.SlotPlaces.{slot_track}
 use Rattle.xrc_journal.specs.declared.job.VolumeJob.{VolumeJob}
 use Rattle.xrc_journal.specs.Items.{Item, none_earlier, item_spelling}
 use Rattle.xrc_journal.specs.Items.Item.{Image}
 use Rattle.xrc_journal.specs.Bodies.{are_late, have_image}
-use Rattle.site_means.specs.Content.{slot_track}
 use Rattle.pair_table.specs.declared.row.PairRow.{PairRow}
 use Rattle.pair_table.specs.Tables.{KeepsRows, none_clash}
 use Rattle.pending_queue.specs.declared.head.EntryHead.{EntryHead}

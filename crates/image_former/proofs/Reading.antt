@@ -4,10 +4,8 @@ use Rattle.std.specs.Prelude.{slice_range, unwrap_or, IfOk, IfErr, OnErr}
 use Rattle.ckd_track.specs.declared.fault.ImageError.{ImageError}
 use Rattle.ckd_track.specs.declared.rec.Rec.{Rec}
 use Rattle.ckd_track.specs.Images.{image_at}
-use Rattle.site_means.specs.Content.{slot_place, slot_track, track_read}
-use Rattle.applier.specs.Slots.{slot_end}
-use Rattle.applier.proofs.Local.{image_same}
-use Rattle.applier.proofs.Ranges.{behind_is}
+use Rattle.ckd_track.specs.SlotPlaces.{slot_place, slot_end, slot_track, track_read}
+use Rattle.ckd_track.proofs.SlotTracks.{behind_is, image_same}
 
 -- The bytes of a slot tell its track.
 pub slot_is : (x : ℕ) (volume : List ℕ) → slot_end x ≤ length volume → slot_track volume x ≡ track_read (image_at (slice_range volume (slot_place x) (slot_end x)))

@@ -1,10 +1,10 @@
 -- What the items of a body are to the entries of a group.
 use Rattle.std.specs.Prelude.{◌≡◌, ℕ, List, Bool, true, false, IsTrue}
 use Rattle.ckd_track.specs.declared.write.Kind.{Kind}
+use Rattle.ckd_track.specs.SlotPlaces.{slot_track}
 use Rattle.xrc_journal.specs.Items.{Item, Form, AreItems}
 use Rattle.xrc_journal.specs.Items.Item.{Image, Delta, Pair, Gone}
-use Rattle.site_means.specs.Content.{slot_track, content_through}
-use Rattle.applier.specs.Slots.{HasItem}
+use Rattle.xrc_journal.specs.Contents.{HasItem, content_through}
 use Rattle.pair_table.specs.declared.row.PairRow.{PairRow}
 use Rattle.pending_queue.specs.Entries.{WaitingEntry}
 use Rattle.image_former.specs.Changes.{AreSpelled, changed_through}

@@ -1,10 +1,10 @@
 -- The jobs of entries, and what is said of each job before and after a call.
 use Rattle.std.specs.Prelude.{◌≡◌, ◌≤◌, ℕ, ◌==◌, ◌&&◌, List, Bool, true, false, Option, Some, None, IsSomeAnd, find, count_by, IfSome, IsTrue}
 use Rattle.std.specs.List.{AllZip, list_any}
+use Rattle.ckd_track.specs.SlotPlaces.{slot_end}
 use Rattle.crash_plant.specs.Moments.{Standing}
 use Rattle.xrc_journal.specs.declared.job.VolumeJob.{VolumeJob}
-use Rattle.applier.specs.Slots.{slot_end}
-use Rattle.applier.specs.Jobs.{OnVolume}
+use Rattle.xrc_journal.specs.Jobs.{OnVolume}
 use Rattle.pair_table.specs.declared.row.PairRow.{PairRow}
 use Rattle.pending_queue.specs.Entries.{WaitingEntry}
 use Rattle.image_former.specs.Entries.{entry_device, is_entry_on, HasEntry}

@@ -6,11 +6,11 @@ use Rattle.xrc_edge.specs.declared.outcome.Failed.{Failed}
 use Rattle.crash_plant.specs.Moments.{Standing, Kept, Follows, Same}
 use Rattle.ckd_track.specs.declared.rec.Rec.{Rec}
 use Rattle.ckd_track.specs.declared.write.Kind.{Kind}
+use Rattle.ckd_track.specs.SlotPlaces.{slot_end, slot_track}
 use Rattle.xrc_journal.specs.declared.job.VolumeJob.{VolumeJob}
 use Rattle.xrc_journal.specs.Items.{Item, body_spelling}
-use Rattle.site_means.specs.Content.{slot_track, content_through}
-use Rattle.applier.specs.Slots.{is_of_track, slot_end}
-use Rattle.applier.specs.Jobs.{OnVolume, FailsByCount}
+use Rattle.xrc_journal.specs.Contents.{content_through, is_of_track}
+use Rattle.xrc_journal.specs.Jobs.{FailsByCount, OnVolume}
 use Rattle.pair_table.specs.declared.row.PairRow.{PairRow}
 use Rattle.pending_queue.specs.declared.head.EntryHead.{EntryHead}
 use Rattle.pending_queue.specs.Entries.{WaitingEntry}

@@ -2,8 +2,7 @@
 
 ghost use Rattle.std.specs.Prelude.{◌≡◌, ◌<◌, ◌≤◌, ℕ, List, [], Option, Some, false, true, unwrap_or, length, slice_get, OnOk, OnErr};
 ghost use Rattle.ckd_track.specs.declared.rec.Rec.{Rec};
-ghost use Rattle.site_means.specs.Content.{slot_place, slot_track};
-ghost use Rattle.applier.specs.Slots.{slot_end};
+ghost use Rattle.ckd_track.specs.SlotPlaces.{slot_place, slot_end, slot_track};
 ghost use Rattle.pending_queue.specs.Groups.{heads};
 ghost use Rattle.image_former.specs.Steps.{BeginsWith, DoesEntries, Goes, HoldsSlot, OfBytes, Reads};
 

@@ -5,6 +5,7 @@ use Rattle.tod_stamp.proofs.FieldLaws.{IsBytes-drop}
 use Rattle.ckd_track.specs.declared.fault.ImageError.{ImageError}
 use Rattle.ckd_track.specs.declared.rec.Rec.{Rec}
 use Rattle.ckd_track.specs.Images.{image, image_at}
+use Rattle.ckd_track.specs.SlotPlaces.{slot_place, slot_track, track_read}
 use Rattle.ckd_track.proofs.Parts.{read_track}
 use Rattle.crash_plant.specs.declared.device.Device.TheVariants.{Volume}
 use Rattle.crash_plant.specs.Choices.{IsChoice}
@@ -13,7 +14,7 @@ use Rattle.trace_grammar.specs.declared.trace.Trace.{Trace}
 use Rattle.primary_ctl.specs.Primaries.{primary}
 use Rattle.pair_table.specs.declared.row.PairRow.{PairRow}
 use Rattle.xrc_journal.specs.Items.{Item}
-use Rattle.site_means.specs.Content.{content_through, slot_place, slot_track, track_read}
+use Rattle.xrc_journal.specs.Contents.{content_through}
 use Rattle.site_means.specs.Images.{shape_of}
 use Rattle.site_means.specs.Sight.{walked}
 use Rattle.applier.specs.Slots.{BeginsWithTrack}

@@ -9,6 +9,7 @@ use Rattle.ckd_track.specs.Images.{image_at}
 use Rattle.xrc_journal.proofs.ItemsAgain.{image_rules}
 use Rattle.std.proofs.lemmas.List.Folds.{list_any-append}
 use Rattle.ckd_track.specs.declared.rec.Rec.{Rec}
+use Rattle.ckd_track.specs.SlotPlaces.{slot_place, slot_end, slot_track, track_read}
 use Rattle.crash_plant.specs.declared.device.Device.TheVariants.{Volume}
 use Rattle.crash_plant.specs.Moments.{PlantState}
 use Rattle.xrc_journal.specs.declared.reading.BodyItem.{BodyItem}
@@ -17,8 +18,8 @@ use Rattle.xrc_journal.specs.Bodies.{draws}
 use Rattle.xrc_journal.specs.Items.{AreItems, Earlier, Item, anywhere, are_items_behind, behind, form_of, is_drawn, is_item, is_within, none_earlier}
 use Rattle.xrc_journal.specs.Items.Item.{Image, Delta, Pair, Gone}
 use Rattle.xrc_journal.specs.Views.{told}
-use Rattle.site_means.specs.Content.{content_by, content_through, slot_place, slot_track, track_read}
-use Rattle.applier.specs.Slots.{DiffersInSlots, HasItem, is_of_track, slot_end}
+use Rattle.xrc_journal.specs.Contents.{HasItem, content_by, content_through, is_of_track}
+use Rattle.applier.specs.Slots.{DiffersInSlots}
 use Rattle.applier.proofs.Contents.{same_slot}
 use Rattle.applier.proofs.InSlots.{slots_apart}
 use Rattle.applier.proofs.Going.{Reading}

@@ -6,6 +6,7 @@ use Rattle.std.proofs.lemmas.Bool.{and_parts, cases_Bool, cases_lt}
 use Rattle.std.proofs.lemmas.List.{get_or-map, get_or_default, length-map}
 use Rattle.std.proofs.lemmas.List.Elements.{AllZip-get_or, length_all_zip}
 use Rattle.ckd_track.specs.declared.write.Kind.{Kind}
+use Rattle.ckd_track.specs.SlotPlaces.{slot_track}
 use Rattle.crash_plant.specs.declared.device.Device.{Device}
 use Rattle.crash_plant.specs.declared.device.Device.TheVariants.{Volume}
 use Rattle.crash_plant.specs.Moments.{Standing, PlantState, Kept, Follows, Same}
@@ -13,13 +14,12 @@ use Rattle.pair_table.specs.declared.row.PairRow.{PairRow}
 use Rattle.pending_queue.specs.Entries.{WaitingEntry}
 use Rattle.xrc_journal.specs.declared.job.VolumeJob.{VolumeJob}
 use Rattle.xrc_journal.specs.Items.{Item}
+use Rattle.xrc_journal.specs.Contents.{HasItem, content_through}
+use Rattle.xrc_journal.specs.Jobs.{FailsByCount, OnVolume}
 use Rattle.lending.specs.Back.{AreBack, AreRead, IsBack, WorksOnLent}
 use Rattle.lending.specs.Jobs.{IsLentTo, OnDisks, without_disk}
 use Rattle.lending.specs.Out.{AreOut, AreWorkedOn, HoldsVolume, LendsWhere, WorkedOn}
 use Rattle.lending.proofs.Works.{works_lent_more}
-use Rattle.applier.specs.Jobs.{OnVolume, FailsByCount}
-use Rattle.applier.specs.Slots.{HasItem}
-use Rattle.site_means.specs.Content.{content_through, slot_track}
 use Rattle.image_former.specs.Changes.{AreSpelled, changed_through}
 use Rattle.image_former.specs.Entries.{HasEntry}
 use Rattle.image_former.specs.Forms.{StandFor}

@@ -6,16 +6,16 @@ use Rattle.std.proofs.lemmas.Bool.{and_parts, and_from, cases_Bool, cases_lt, lt
 use Rattle.std.proofs.lemmas.List.{get_or-map, length-map}
 use Rattle.std.proofs.lemmas.List.Elements.{AllZip-get_or, length_all_zip}
 use Rattle.std.proofs.lemmas.List.Sums.{sum_by-cons}
+use Rattle.ckd_track.specs.SlotPlaces.{slot_end}
 use Rattle.crash_plant.specs.declared.device.Device.{Device}
 use Rattle.crash_plant.specs.declared.device.Device.TheVariants.{Volume}
 use Rattle.crash_plant.specs.Moments.{Standing, PlantState, Kept, Follows, Same}
 use Rattle.pair_table.specs.declared.row.PairRow.{PairRow}
 use Rattle.pending_queue.specs.Entries.{WaitingEntry}
 use Rattle.xrc_journal.specs.declared.job.VolumeJob.{VolumeJob}
+use Rattle.xrc_journal.specs.Jobs.{FailsByCount, OnVolume}
 use Rattle.lending.specs.Jobs.{AreApart, IsLentTo, OnDisks, without_disk}
 use Rattle.lending.specs.Out.{AreOut, AreWorkedOn, HoldsVolume, LendsWhere, WorkedOn}
-use Rattle.applier.specs.Jobs.{OnVolume, FailsByCount}
-use Rattle.applier.specs.Slots.{slot_end}
 use Rattle.image_former.specs.Entries.{HasEntry, entry_device, entry_row, is_device, is_entry_on, is_row_of, row_device}
 use Rattle.image_former.specs.Jobs.{HasOneJob, HasSlotsOf, HoldsSlots, OnVolumes, is_job_of}
 use Rattle.one_pair_site.specs.Groups.{HasEntryOn, IsOfLiveRow, IsOfRow, is_entry_of}

@@ -1,6 +1,7 @@
 -- A group that was applied: nothing else is seen at any moment, and what stands afterwards.
 use Rattle.std.proofs.Common.{◌≡◌, ◌⊎◌, inl, inr, ℕ, ◌≤◌, ◌<◌, Bool, true, false, not, ◌&&◌, ◌||◌, List, [], ◌++◌, length, Option, Some, Ok, refl, sym, ap, subst, ◌∙◌, arith, append-nil}
 use Rattle.ckd_track.specs.declared.rec.Rec.{Rec}
+use Rattle.ckd_track.specs.SlotPlaces.{slot_track}
 use Rattle.crash_plant.specs.declared.device.Device.{Device}
 use Rattle.crash_plant.specs.declared.device.Device.TheVariants.{Control, State, Journal, Volume}
 use Rattle.crash_plant.specs.Calls.{IsPart, NoneLent}
@@ -10,9 +11,9 @@ use Rattle.crash_plant.proofs.Choices.{all_follow, choices_here, part_cases}
 use Rattle.crash_plant.proofs.Steps.{stays_here}
 use Rattle.pair_table.specs.declared.row.PairRow.{PairRow}
 use Rattle.xrc_journal.specs.Items.{AreItems, Item, form_of}
-use Rattle.applier.specs.Slots.{DiffersInSlots, HasItem}
+use Rattle.xrc_journal.specs.Contents.{HasItem, content_through}
+use Rattle.applier.specs.Slots.{DiffersInSlots}
 use Rattle.applier.proofs.InSlots.{has_either}
-use Rattle.site_means.specs.Content.{content_through, slot_track}
 use Rattle.site_means.specs.Images.{Shape, shape_of}
 use Rattle.site_means.specs.Meaning.{chosen_in, meaning, meaning_in}
 use Rattle.site_means.specs.Meaning.Meaning.{Meant}

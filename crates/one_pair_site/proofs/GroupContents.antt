@@ -13,8 +13,7 @@ use Rattle.state_set.specs.Slots.{are_rows}
 use Rattle.site_means.specs.Walk.{first_unfit, rows_through}
 use Rattle.xrc_journal.specs.Items.{Item, item_spelling}
 use Rattle.xrc_journal.specs.Items.Item.{Image, Delta, Pair, Gone}
-use Rattle.applier.specs.Slots.{HasItem, is_of_track}
-use Rattle.site_means.specs.Content.{content_by, content_through}
+use Rattle.xrc_journal.specs.Contents.{HasItem, content_by, content_through, is_of_track}
 use Rattle.image_former.specs.Changes.{changed_by, changed_where}
 use Rattle.image_former.specs.Forms.{is_image}
 use Rattle.one_pair_site.specs.GroupRows.{next_state, pair_in, pairs_with_group, rows_with_group}

@@ -11,8 +11,8 @@ use Rattle.pending_queue.specs.Entries.{WaitingEntry}
 use Rattle.pending_queue.specs.Groups.{FormedGroup}
 use Rattle.xrc_journal.specs.Items.{AreItems, Earlier, Form, Item, anywhere, are_items_behind, behind, form_of, is_item, is_within, none_earlier}
 use Rattle.xrc_journal.specs.Items.Item.{Image, Delta, Pair, Gone}
+use Rattle.xrc_journal.specs.Contents.{HasItem}
 use Rattle.xrc_journal.proofs.Appends.{same_form}
-use Rattle.applier.specs.Slots.{HasItem}
 use Rattle.image_former.specs.Entries.{HasEntry, is_device, is_entry_on, row_device}
 use Rattle.image_former.specs.Forms.{AreItemsWhereAllowed}
 use Rattle.one_pair_site.specs.GroupRows.{next_state, pair_in, pairs_with_group, row_in, row_with_group, rows_with_group}

@@ -2,6 +2,7 @@
 use Rattle.std.proofs.Common.{◌≡◌, ◌≢◌, ◌⊎◌, inl, inr, ℕ, zero, suc, ◌+◌, ◌≤◌, ◌<◌, Bool, true, false, not, ◌==◌, ◌&&◌, ◌||◌, List, [], ◌∷◌, length, map, get_or, set, is_none, refl, sym, ap, subst, ◌∙◌, arith, length-set, get_or-set_other, get_or-set_same}
 use Rattle.std.proofs.lemmas.List.{length-map}
 use Rattle.std.proofs.lemmas.Bool.{and_parts, cases_eq, cases_lt, eq-eqb, eqb-true}
+use Rattle.ckd_track.specs.SlotPlaces.{slot_track}
 use Rattle.crash_plant.specs.declared.device.Device.{Device}
 use Rattle.crash_plant.specs.declared.device.Device.TheVariants.{Volume}
 use Rattle.crash_plant.specs.Calls.{NoneLent}
@@ -9,10 +10,9 @@ use Rattle.crash_plant.specs.Moments.{PlantState, Stays, on}
 use Rattle.crash_plant.proofs.Steps.{follows_then, stays_here, stays_trans}
 use Rattle.xrc_journal.specs.declared.job.VolumeJob.{VolumeJob}
 use Rattle.xrc_journal.specs.Items.{Item}
-use Rattle.applier.specs.Jobs.{FailsByCount}
+use Rattle.xrc_journal.specs.Jobs.{FailsByCount}
 use Rattle.applier.specs.Slots.{DiffersInSlots, HoldsContent}
 use Rattle.applier.proofs.InSlots.{differs_here}
-use Rattle.site_means.specs.Content.{slot_track}
 use Rattle.one_pair_site.specs.Applies.{Applied, IsVolume, WorksWithin, failed_at, has_device}
 use Rattle.one_pair_site.specs.Jobs.{are_home_from, has_job_failed}
 use Rattle.one_pair_site.proofs.Devices.{content_none, no_items}

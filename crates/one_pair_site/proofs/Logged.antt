@@ -6,6 +6,7 @@ use Rattle.std.proofs.lemmas.Bool.{cases_Bool}
 use Rattle.std.proofs.lemmas.List.{append-nil}
 use Rattle.ckd_track.specs.declared.rec.Rec.{Rec}
 use Rattle.ckd_track.specs.declared.write.Kind.{Kind}
+use Rattle.ckd_track.specs.SlotPlaces.{slot_track}
 use Rattle.crash_plant.specs.declared.device.Device.{Device}
 use Rattle.crash_plant.specs.declared.device.Device.TheVariants.{Control, State, Journal, Volume}
 use Rattle.crash_plant.specs.declared.spot.Spot.{Spot}
@@ -21,8 +22,8 @@ use Rattle.state_set.specs.Slots.{are_rows, state_of}
 use Rattle.xrc_journal.specs.Items.{Item, body_spelling, form_of}
 use Rattle.xrc_journal.specs.Records.{spot_after}
 use Rattle.xrc_journal.specs.Walks.{Adds, Appends, Keeps, Logged}
+use Rattle.xrc_journal.specs.Contents.{HasItem, content_through, is_of_track}
 use Rattle.site_means.specs.declared.means.Means.{Means}
-use Rattle.site_means.specs.Content.{content_through, slot_track}
 use Rattle.site_means.specs.Images.{Shape, shape_of}
 use Rattle.site_means.specs.Laws.{AgreeOnMark, and_group, with_group}
 use Rattle.site_means.specs.Meaning.{Meaning, chosen_in, meaning, meaning_in}
@@ -32,7 +33,6 @@ use Rattle.site_means.specs.Walk.{Walk, first_unfit, rows_through, walk_items}
 use Rattle.site_means.proofs.Appending.{appended_added, kept_same}
 use Rattle.site_means.proofs.Contents.{items_last}
 use Rattle.site_means.proofs.Goes.{shape_same}
-use Rattle.applier.specs.Slots.{HasItem, is_of_track}
 use Rattle.image_former.specs.Changes.{AreSpelled, changed_through}
 use Rattle.image_former.specs.Entries.{HasEntry, is_entry_on}
 use Rattle.one_pair_site.specs.Groups.{AreItemsOf, SeesFormed, behind_group}

@@ -11,9 +11,9 @@ use Rattle.state_set.specs.Slots.{Stored}
 use Rattle.xrc_journal.specs.Items.{Item}
 use Rattle.xrc_journal.specs.Items.Item.{Image, Delta, Pair, Gone}
 use Rattle.xrc_journal.specs.Walks.{Walks}
+use Rattle.xrc_journal.specs.Contents.{HasItem, content_by, content_through, is_of_track}
 use Rattle.xrc_journal.proofs.Walking.{walk_shut}
 use Rattle.site_means.specs.declared.means.Means.{Means}
-use Rattle.site_means.specs.Content.{content_by, content_through}
 use Rattle.site_means.specs.Images.{Images, Shape}
 use Rattle.site_means.specs.Meaning.{chosen_in, meaning_in, means_by, stored_in}
 use Rattle.site_means.specs.Meaning.Meaning.{Meant}
@@ -21,7 +21,6 @@ use Rattle.site_means.specs.Walk.{Walk, ends_at, start, turns_at, walk_in}
 use Rattle.site_means.proofs.Meanings.{by_walk}
 use Rattle.site_means.proofs.OneSet.{walk_alone}
 use Rattle.site_means.proofs.Reaching.{ends_here, meant_by, shut_ends}
-use Rattle.applier.specs.Slots.{HasItem, is_of_track}
 use Rattle.one_pair_site.proofs.Ends.{walk_stays}
 
 -- The gate at the end of a walk over one data set isn't 1.

@@ -4,6 +4,7 @@ use Rattle.std.proofs.Common.{◌≡◌, inl, inr, ℕ, ◌≤◌, ◌<◌, fals
 use Rattle.std.specs.Option.{option_map}
 use Rattle.ckd_track.specs.declared.rec.Rec.{Rec}
 use Rattle.ckd_track.specs.declared.write.Kind.{Kind}
+use Rattle.ckd_track.specs.SlotPlaces.{slot_track}
 use Rattle.crash_plant.specs.declared.device.Device.{Device}
 use Rattle.crash_plant.specs.declared.device.Device.TheVariants.{Control, State, Journal, Volume}
 use Rattle.crash_plant.specs.Calls.{Elapses, IsPart, SameSite}
@@ -13,9 +14,9 @@ use Rattle.crash_plant.proofs.Choices.{all_follow, choices_then, part_cases}
 use Rattle.pair_table.specs.declared.row.PairRow.{PairRow}
 use Rattle.pending_queue.specs.Groups.{FormedGroup}
 use Rattle.xrc_journal.specs.Items.{AreItems, Form, Item}
+use Rattle.xrc_journal.specs.Contents.{content_through}
 use Rattle.xrc_journal.proofs.Appends.{same_form}
 use Rattle.site_means.specs.declared.means.Means.{Means}
-use Rattle.site_means.specs.Content.{content_through, slot_track}
 use Rattle.site_means.specs.Images.{Shape, shape_of}
 use Rattle.site_means.specs.Meaning.{Meaning, chosen_in, meaning, meaning_in}
 use Rattle.site_means.specs.Sight.{content_in, content_of, means_in, means_of}

@@ -3,14 +3,14 @@ use Rattle.std.proofs.Common.{◌≡◌, ℕ, ◌<◌, true, false, List, ◌++�
 use Rattle.std.specs.Prelude.{◌↔◌, slice_index_or}
 use Rattle.std.specs.List.{All, list_all}
 use Rattle.ckd_track.specs.declared.write.Kind.{Kind}
+use Rattle.ckd_track.specs.SlotPlaces.{slot_track}
 use Rattle.crash_plant.specs.declared.device.Device.TheVariants.{Volume}
 use Rattle.crash_plant.specs.Moments.{PlantState}
 use Rattle.pair_table.specs.declared.row.PairRow.{PairRow}
 use Rattle.pending_queue.specs.Groups.{FormedGroup}
 use Rattle.xrc_journal.specs.declared.job.VolumeJob.{VolumeJob}
 use Rattle.xrc_journal.specs.Items.{AreItems, Item, anywhere, form_of, none_earlier}
-use Rattle.applier.specs.Slots.{HasItem}
-use Rattle.site_means.specs.Content.{content_through, slot_track}
+use Rattle.xrc_journal.specs.Contents.{HasItem, content_through}
 use Rattle.image_former.specs.Changes.{AreSpelled, changed_through}
 use Rattle.image_former.specs.Entries.{HasEntry}
 use Rattle.image_former.specs.Forms.{AreItemsWhereAllowed, is_image}

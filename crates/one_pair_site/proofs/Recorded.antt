@@ -3,6 +3,7 @@ use Rattle.std.proofs.Common.{◌≡◌, ◌≢◌, inl, inr, ℕ, ◌≤◌, �
 use Rattle.std.specs.Option.{option_map}
 use Rattle.std.proofs.lemmas.List.{append-nil}
 use Rattle.ckd_track.specs.declared.rec.Rec.{Rec}
+use Rattle.ckd_track.specs.SlotPlaces.{slot_track}
 use Rattle.crash_plant.specs.declared.device.Device.{Device}
 use Rattle.crash_plant.specs.declared.device.Device.TheVariants.{Control, State, Journal, Volume}
 use Rattle.crash_plant.specs.declared.spot.Spot.{Spot}
@@ -17,8 +18,8 @@ use Rattle.state_set.specs.Slots.{state_of}
 use Rattle.xrc_journal.specs.Items.{Item, body_spelling, form_of}
 use Rattle.xrc_journal.specs.Records.{spot_after}
 use Rattle.xrc_journal.specs.Walks.{Adds, Appends, Keeps, Logged}
+use Rattle.xrc_journal.specs.Contents.{content_through}
 use Rattle.site_means.specs.declared.means.Means.{Means}
-use Rattle.site_means.specs.Content.{content_through, slot_track}
 use Rattle.site_means.specs.Images.{Shape, shape_of}
 use Rattle.site_means.specs.Laws.{AgreeOnMark, and_group, with_group}
 use Rattle.site_means.specs.Meaning.{Meaning, chosen_in, meaning, meaning_in}

@@ -8,8 +8,7 @@ use Rattle.pair_table.specs.declared.row.PairRow.{PairRow}
 use Rattle.pair_table.specs.Tables.{row_of}
 use Rattle.xrc_journal.specs.Items.{AreItems, Earlier, Form, Item, anywhere, are_items_behind, behind, is_item, none_earlier}
 use Rattle.xrc_journal.specs.Items.Item.{Image, Delta, Pair, Gone}
-use Rattle.applier.specs.Slots.{HasItem, is_of_track}
-use Rattle.site_means.specs.Content.{content_by, content_through}
+use Rattle.xrc_journal.specs.Contents.{HasItem, content_by, content_through, is_of_track}
 use Rattle.one_pair_site.specs.Changes.{changed_items, gone_of, pair_of, pairs_of}
 
 abbrev pub is_row_item : Item → Bool

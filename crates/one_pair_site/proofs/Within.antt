@@ -8,7 +8,7 @@ use Rattle.crash_plant.specs.Moments.{Follows, Kept, PlantState, Standing, on}
 use Rattle.crash_plant.proofs.Choices.{device_cases}
 use Rattle.crash_plant.proofs.Lent.{lent_kept, lent_moments, lent_one}
 use Rattle.crash_plant.proofs.Steps.{elapses_trans, kept_here, kept_trans, none_lent_again, silent_trans, site_trans, stays_trans, works_on_here}
-use Rattle.applier.specs.Jobs.{OnVolume}
+use Rattle.xrc_journal.specs.Jobs.{OnVolume}
 use Rattle.one_pair_site.specs.Applies.{WorksWithin}
 
 -- nothing yet

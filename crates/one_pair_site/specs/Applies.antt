@@ -8,7 +8,7 @@ use Rattle.crash_plant.specs.Moments.{Follows, PlantState, Stays, on}
 use Rattle.xrc_journal.specs.Items.{Item}
 use Rattle.xrc_journal.specs.Items.Item.{Image, Delta, Pair, Gone}
 use Rattle.xrc_journal.specs.declared.job.VolumeJob.{VolumeJob}
-use Rattle.applier.specs.Jobs.{FailsByCount}
+use Rattle.xrc_journal.specs.Jobs.{FailsByCount}
 use Rattle.applier.specs.Slots.{DiffersInSlots, HoldsContent}
 use Rattle.one_pair_site.specs.Jobs.{has_job_failed}
 use Rattle.one_pair_site.specs.Sites.{SiteState, has_failed, is_written}

@@ -3,6 +3,7 @@
 use Rattle.std.specs.Prelude.{◌≡◌, ◌⊎◌, ◌↔◌, ℕ, ◌+◌, ◌-◌, ◌*◌, ◌^◌, ◌==◌, ◌<◌, ◌≤◌, List, [], ◌∷◌, ◌++◌, length, Bool, true, false, Option, Some, None, option_map, IsSomeAnd, if◌then◌else◌, slice_index_or, IsTrue, Result, OnOk}
 use Rattle.std.specs.List.{list_any, list_all}
 use Rattle.ckd_track.specs.declared.write.Kind.{Kind}
+use Rattle.ckd_track.specs.SlotPlaces.{slot_track}
 use Rattle.crash_plant.specs.declared.device.Device.{Device}
 use Rattle.crash_plant.specs.declared.device.Device.TheVariants.{Journal, Volume as VolumeDevice}
 use Rattle.crash_plant.specs.Bytes.{Torn}
@@ -15,10 +16,9 @@ use Rattle.pending_queue.specs.Entries.{WaitingEntry}
 use Rattle.pending_queue.specs.Groups.{FormedGroup}
 use Rattle.xrc_journal.specs.Items.{AreItems, Item, body_spelling, form_of}
 use Rattle.xrc_journal.specs.Records.{spot_after}
-use Rattle.site_means.specs.Content.{content_through, slot_track}
+use Rattle.xrc_journal.specs.Contents.{HasItem, content_through}
+use Rattle.xrc_journal.specs.Jobs.{FailsByCount}
 use Rattle.site_means.specs.Sight.{means_of, content_of}
-use Rattle.applier.specs.Jobs.{FailsByCount}
-use Rattle.applier.specs.Slots.{HasItem}
 use Rattle.image_former.specs.Changes.{AreSpelled, changed_through}
 use Rattle.image_former.specs.Entries.{HasEntry, entry_device, entry_row, is_device}
 use Rattle.image_former.specs.Forms.{is_image}

@@ -6,8 +6,8 @@ use Rattle.crash_plant.specs.Moments.{PlantState}
 use Rattle.pair_table.specs.declared.row.PairRow.{PairRow}
 use Rattle.pair_table.specs.Tables.{with_rows}
 use Rattle.xrc_journal.specs.Items.{Item}
+use Rattle.xrc_journal.specs.Contents.{content_through}
 use Rattle.site_means.specs.declared.means.Means.{Means}
-use Rattle.site_means.specs.Content.{content_through}
 use Rattle.site_means.specs.Sight.{means_of, content_of}
 
 -- on each volume of the plant the same content

@@ -1,6 +1,7 @@
 -- What is between a site's calls: that its numbers fit the plant, and what every crash would leave.
 use Rattle.std.specs.Prelude.{◌≡◌, ℕ, ◌+◌, ◌*◌, ◌<◌, ◌≤◌, ◌&&◌, List, [], ◌∷◌, ◌++◌, length, Bool, true, false, nat_lt, nat_le, Some, Ok, IsTrue}
 use Rattle.std.specs.List.{list_all}
+use Rattle.ckd_track.specs.SlotPlaces.{slot_track}
 use Rattle.crash_plant.specs.declared.device.Device.TheVariants.{Control, State, Journal, Volume}
 use Rattle.crash_plant.specs.Calls.{NoneLent}
 use Rattle.crash_plant.specs.Choices.{Choice, IsChoice}
@@ -9,12 +10,11 @@ use Rattle.control_set.specs.Marks.{IsMark}
 use Rattle.control_set.specs.Slots.{lengths_of}
 use Rattle.pair_table.specs.declared.row.PairRow.{PairRow}
 use Rattle.xrc_journal.specs.Items.{AreItems, Item, form_of}
-use Rattle.site_means.specs.Content.{slot_track, content_through}
+use Rattle.xrc_journal.specs.Contents.{HasItem, content_through}
 use Rattle.site_means.specs.Images.{shape_of}
 use Rattle.site_means.specs.Meaning.{chosen_in, meaning}
 use Rattle.site_means.specs.Meaning.Meaning.{Meant}
 use Rattle.site_means.specs.Walk.{Walk, walk_items}
-use Rattle.applier.specs.Slots.{HasItem}
 use Rattle.one_pair_site.specs.Sites.{SiteState, means_with, has_failed, is_written}
 
 -- ---- the plant

@@ -1,12 +1,14 @@
 //! The last group, applied to the volumes.
 
 ghost use Rattle.std.specs.Prelude.{◌≡◌, ◌≤◌, ◌<◌, ◌&&◌, ◌||◌, ℕ, not, true, false, None, is_none, length, slice_index_or, IsTrue};
+ghost use Rattle.ckd_track.specs.SlotPlaces.{slot_end};
 ghost use Rattle.crash_plant.specs.declared.device.Device.TheVariants.{Volume as VolumeDevice};
 ghost use Rattle.crash_plant.specs.Calls.{NoneLent};
 ghost use Rattle.crash_plant.specs.Choices.{AllFollow};
 ghost use Rattle.crash_plant.specs.Moments.{on, Follows};
-ghost use Rattle.applier.specs.Jobs.{FailsByCount};
-ghost use Rattle.applier.specs.Slots.{DiffersInSlots, HasItem, HoldsContent, slot_end};
+ghost use Rattle.xrc_journal.specs.Contents.{HasItem};
+ghost use Rattle.xrc_journal.specs.Jobs.{FailsByCount};
+ghost use Rattle.applier.specs.Slots.{DiffersInSlots, HoldsContent};
 ghost use Rattle.one_pair_site.specs.Applies.{Applied, CountsVolume, IsVolume, WorksWithin, failed_at, has_device, with_applied};
 ghost use Rattle.one_pair_site.specs.Jobs.{are_home_from};
 ghost use Rattle.one_pair_site.specs.Sees.{SeesSame};

@@ -2,11 +2,12 @@
 use Rattle.std.proofs.Common.{◌≡◌, ℕ, List, [], ◌∷◌, ◌++◌, Option, refl, sym, ap, ◌∙◌, append_assoc, append-nil}
 use Rattle.std.specs.List.{flat_map}
 use Rattle.ckd_track.specs.declared.rec.Rec.{Rec}
+use Rattle.ckd_track.specs.SlotPlaces.{slot_track}
 use Rattle.crash_plant.specs.declared.device.Device.TheVariants.{Volume}
 use Rattle.xrc_journal.specs.Items.{Item}
 use Rattle.xrc_journal.specs.Walks.{Logged}
+use Rattle.xrc_journal.specs.Contents.{content_by, content_through}
 use Rattle.site_means.specs.Walk.{walk_items}
-use Rattle.site_means.specs.Content.{content_by, content_through, slot_track}
 use Rattle.site_means.specs.Laws.{ContentsAgree, ContentsAreChanged}
 
 pub contents_agree : ContentsAgree

@@ -11,12 +11,12 @@ use Rattle.xrc_journal.specs.Items.{Item}
 use Rattle.xrc_journal.specs.Items.Item.{Image, Delta, Pair, Gone}
 use Rattle.xrc_journal.specs.Bodies.{draws}
 use Rattle.xrc_journal.specs.Walks.{Logged}
+use Rattle.xrc_journal.specs.Contents.{content_by, content_through}
 use Rattle.site_means.specs.declared.means.Means.{Means}
 use Rattle.site_means.specs.Images.{Images, Shape}
 use Rattle.site_means.specs.Walk.{Standing, Walk, body_place, ends_at, start, turns_at, walk_in}
 use Rattle.site_means.specs.Meaning.{means_by}
 use Rattle.site_means.specs.Meaning.Meaning.{Meant}
-use Rattle.site_means.specs.Content.{content_by, content_through}
 use Rattle.site_means.specs.Laws.{ContentsAreDrawn, MarksMeanTheSame, RowsAreOfThePlant}
 use Rattle.site_means.proofs.Goes.{below_through, goes_by}
 use Rattle.site_means.proofs.Meanings.{by_walk, rows_below}

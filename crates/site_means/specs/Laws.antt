@@ -13,12 +13,13 @@ use Rattle.xrc_journal.specs.Bodies.{draws}
 use Rattle.xrc_journal.specs.Records.{spot_after, walk_one}
 use Rattle.xrc_journal.specs.Records.Found.{Group}
 use Rattle.xrc_journal.specs.Walks.{Adds, Keeps, Logged, Walks}
+use Rattle.xrc_journal.specs.Contents.{content_through}
 use Rattle.site_means.specs.declared.means.Means.{Means}
 use Rattle.site_means.specs.Images.{Images, Shape}
 use Rattle.site_means.specs.Walk.{Walk, first_unfit, has_entered, rows_through, walk_in, walk_items}
 use Rattle.site_means.specs.Meaning.{chosen_in, meaning_in, stored_in}
 use Rattle.site_means.specs.Meaning.Meaning.{Meant}
-use Rattle.site_means.specs.Content.{content, content_through}
+use Rattle.site_means.specs.Content.{content}
 
 -- ---- on what the meaning depends
 

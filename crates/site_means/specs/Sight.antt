@@ -1,15 +1,16 @@
 -- What is seen of images: their meaning, and the content of each track by the items of their walk.
 use Rattle.std.specs.Prelude.{ℕ, List, [], Option, Some, None}
 use Rattle.ckd_track.specs.declared.rec.Rec.{Rec}
+use Rattle.ckd_track.specs.SlotPlaces.{slot_track}
 use Rattle.crash_plant.specs.declared.device.Device.TheVariants.{Volume}
 use Rattle.crash_plant.specs.Moments.{PlantState}
 use Rattle.xrc_journal.specs.Items.{Item}
+use Rattle.xrc_journal.specs.Contents.{content_through}
 use Rattle.site_means.specs.declared.means.Means.{Means}
 use Rattle.site_means.specs.Images.{Images, Shape, shape_of}
 use Rattle.site_means.specs.Walk.{walk_items}
 use Rattle.site_means.specs.Meaning.{Meaning, meaning_in}
 use Rattle.site_means.specs.Meaning.Meaning.{NoMark, DamagedAt, Meant}
-use Rattle.site_means.specs.Content.{content_through, slot_track}
 
 -- what is meant, if anything is
 abbrev pub meant_by : Meaning → Option Means

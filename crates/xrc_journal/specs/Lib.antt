@@ -8,3 +8,5 @@ pub mod Walks
 pub mod Laws
 pub mod Vectors
 pub mod Views
+pub mod Contents
+pub mod Jobs

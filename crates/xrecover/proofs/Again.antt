@@ -16,12 +16,12 @@ use Rattle.xrecover.proofs.Contents.{Done, done_none}
 use Rattle.std.specs.Prelude.{unwrap_or}
 use Rattle.xrc_journal.specs.Items.{form_of}
 use Rattle.xrc_journal.specs.Records.{walk_one}
+use Rattle.xrc_journal.specs.Contents.{HasItem}
 use Rattle.xrc_journal.proofs.Appends.{same_form}
 use Rattle.crash_plant.specs.declared.device.Device.TheVariants.{Journal}
 use Rattle.crash_plant.specs.Moments.{PlantState}
 use Rattle.crash_plant.specs.Calls.{SameSite}
 use Rattle.control_set.specs.declared.value.Mark.{Mark}
-use Rattle.applier.specs.Slots.{HasItem}
 use Rattle.applier.proofs.InSlots.{has_before, has_behind}
 use Rattle.site_means.specs.Images.{shape_of}
 use Rattle.site_means.specs.Walk.{start}

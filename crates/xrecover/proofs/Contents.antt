@@ -8,13 +8,14 @@ use Rattle.ckd_track.specs.declared.rec.Rec.{Rec}
 use Rattle.ckd_track.specs.Effects.{apply}
 use Rattle.ckd_track.specs.Tracks.{IsTrack}
 use Rattle.ckd_track.specs.Images.{image, image_at}
+use Rattle.ckd_track.specs.SlotPlaces.{slot_place, slot_end, slot_track, track_read}
 use Rattle.ckd_track.proofs.Parts.{length-image}
 use Rattle.crash_plant.specs.Moments.{PlantState}
 use Rattle.xrc_journal.specs.Items.{AreItems, Item, Earlier, behind, form_of, is_item, are_items_behind, none_earlier}
 use Rattle.xrc_journal.specs.Items.Item.{Image, Delta, Pair, Gone}
+use Rattle.xrc_journal.specs.Contents.{HasItem, content_by, content_through, is_of_track}
 use Rattle.xrc_journal.proofs.ItemsAgain.{image_rules}
-use Rattle.site_means.specs.Content.{slot_place, slot_track, track_read, content_by, content_through}
-use Rattle.applier.specs.Slots.{BeginsWithTrack, DiffersInSlots, HasItem, HoldsContent, is_of_track, slot_end}
+use Rattle.applier.specs.Slots.{BeginsWithTrack, DiffersInSlots, HoldsContent}
 use Rattle.applier.proofs.Ranges.{range_part}
 use Rattle.applier.proofs.Contents.{same_slot}
 use Rattle.applier.proofs.InSlots.{has_either, slots_apart}

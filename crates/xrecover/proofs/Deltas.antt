@@ -21,6 +21,7 @@ use Rattle.xrc_journal.specs.Deltas.{any}
 use Rattle.xrc_journal.specs.Reading.{Items, delta_item_at, first_and_rest, gone_item_at, image_field, image_item_at, is_tag, item_at, items_at, items_from, no_items, pair_item_at, row_or, track_at}
 use Rattle.xrc_journal.specs.Records.{stretch}
 use Rattle.xrc_journal.specs.Walks.{Logged}
+use Rattle.xrc_journal.specs.Contents.{HasItem, is_of_track}
 use Rattle.xrc_journal.proofs.Fields.{given_is}
 use Rattle.xrc_journal.proofs.RecordsRead.{group_found}
 use Rattle.site_means.specs.Images.{Images, Shape, shape_of}
@@ -29,7 +30,6 @@ use Rattle.site_means.specs.Walk.Step.{Ends, GoesOn, Breaks}
 use Rattle.site_means.specs.Meaning.{chosen_in, meaning_by_mark, meaning_by_state, meaning_by_walk, meaning_in, stored_in}
 use Rattle.site_means.specs.Sight.{walked, walked_by}
 use Rattle.site_means.proofs.Goes.{ByGroup, BySwitch, goes_by}
-use Rattle.applier.specs.Slots.{HasItem, is_of_track}
 
 abbrev pub is_delta : Item → Bool
 is_delta (Image d x recs) = false

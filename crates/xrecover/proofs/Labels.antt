@@ -6,6 +6,7 @@ use Rattle.std.proofs.lemmas.List.{drop-drop}
 use Rattle.xrc_edge.specs.Causes.{HasCause, Rose}
 use Rattle.ckd_track.specs.declared.rec.Rec.{Rec}
 use Rattle.ckd_track.specs.Images.{image}
+use Rattle.ckd_track.specs.SlotPlaces.{slot_place, slot_track}
 use Rattle.crash_plant.specs.declared.device.Device.TheVariants.{Volume}
 use Rattle.crash_plant.specs.Bytes.{Torn}
 use Rattle.crash_plant.specs.Moments.{Standing, PlantState, on, Follows, IsDurable, Kept, Same}
@@ -14,11 +15,11 @@ use Rattle.applier.specs.Slots.{BeginsWithTrack, DiffersInSlots}
 use Rattle.pair_table.specs.declared.row.PairRow.{PairRow}
 use Rattle.pair_table.specs.Tables.{none_clash}
 use Rattle.site_means.specs.Answers.{ReadsAll}
-use Rattle.site_means.specs.Content.{content_through, slot_place, slot_track}
 use Rattle.site_means.specs.Sight.{walked, walked_by}
 use Rattle.site_means.proofs.Meanings.{same_seen, seen_meaning}
 use Rattle.volume_label.specs.Labels.{label_spelling}
 use Rattle.xrc_journal.specs.Items.{Item}
+use Rattle.xrc_journal.specs.Contents.{content_through}
 use Rattle.xrecover.specs.Redone.{Draws, Recovers}
 use Rattle.xrecover.specs.Works.{OnVolume, Works}
 use Rattle.xrecover.specs.Labels.{AreNamed, IsNamed, KeepsLabel, LabelsLast, SameLabel}

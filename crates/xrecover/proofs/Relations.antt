@@ -2,15 +2,17 @@
 use Rattle.std.proofs.Common.{◌≡◌, ◌≤◌, ◌==◌, ◌&&◌, ◌||◌, Bool, true, false, not, nat_lt, nat_le, inl, inr, ◌++◌, ◌∷◌, ℕ, List, [], length, refl, sym, ◌∙◌, ap, ◌+◌, ◌*◌, subst, arith}
 use Rattle.std.proofs.lemmas.Bool.{and_parts, eqb-true, leb-true}
 use Rattle.ckd_track.specs.declared.rec.Rec.{Rec}
+use Rattle.ckd_track.specs.SlotPlaces.{slot_end}
 use Rattle.crash_plant.specs.Bytes.{Torn}
 use Rattle.crash_plant.specs.Moments.{PlantState}
 use Rattle.crash_plant.specs.declared.device.Device.{Device}
 use Rattle.crash_plant.specs.declared.device.Device.TheVariants.{Control, State, Journal, Volume}
 use Rattle.xrc_journal.specs.Items.{Item, Earlier, behind, form_of, is_item, is_within, is_drawn, are_items_behind}
 use Rattle.xrc_journal.specs.Items.Item.{Image, Delta, Pair, Gone}
+use Rattle.xrc_journal.specs.Contents.{HasItem}
 use Rattle.xrc_journal.proofs.ItemsAgain.{image_rules}
 use Rattle.applier.proofs.InSlots.{has_split}
-use Rattle.applier.specs.Slots.{DiffersInSlots, HasItem, slot_end}
+use Rattle.applier.specs.Slots.{DiffersInSlots}
 use Rattle.applier.proofs.Ranges.{torn_apart}
 use Rattle.pair_table.specs.declared.row.PairRow.{PairRow}
 use Rattle.xrecover.specs.Pairs.{HasDuplex}

@@ -2,6 +2,7 @@
 use Rattle.std.proofs.Common.{◌≡◌, ◌⊎◌, inl, inr, ℕ, zero, suc, ◌<◌, ◌≤◌, ◌++◌, ◌||◌, Bool, true, false, nat_lt, List, [], ◌∷◌, length, Option, Some, None, Result, Ok, Err, refl, sym, ap, subst, ◌∙◌, arith}
 use Rattle.std.proofs.lemmas.Bool.{ltb-true}
 use Rattle.ckd_track.specs.declared.rec.Rec.{Rec}
+use Rattle.ckd_track.specs.SlotPlaces.{slot_track}
 use Rattle.crash_plant.specs.declared.device.Device.{Device}
 use Rattle.crash_plant.specs.declared.device.Device.TheVariants.{Control, State, Journal, Volume}
 use Rattle.crash_plant.specs.declared.spot.Spot.{Spot}
@@ -19,7 +20,7 @@ use Rattle.state_set.specs.Slots.{Stored, state_of}
 use Rattle.xrc_journal.specs.Items.{Item}
 use Rattle.xrc_journal.specs.Records.{walk_one, next_set}
 use Rattle.xrc_journal.specs.Walks.{Logged}
-use Rattle.site_means.specs.Content.{content_through, slot_track}
+use Rattle.xrc_journal.specs.Contents.{HasItem, content_through}
 use Rattle.site_means.specs.Images.{Images, Shape, shape_of}
 use Rattle.site_means.specs.Walk.{Standing, Step, Walk, start, step, step_by, turns_at, walk_from, walk_on, with_before}
 use Rattle.site_means.specs.Walk.Step.{Ends, GoesOn, Breaks}
@@ -28,7 +29,6 @@ use Rattle.site_means.specs.Sight.{meant_by, walked, walked_by}
 use Rattle.site_means.proofs.Found.{group_ends, next_within, switch_leads}
 use Rattle.site_means.proofs.Goes.{goes_by}
 use Rattle.site_means.proofs.Marked.{contents_are_drawn}
-use Rattle.applier.specs.Slots.{HasItem}
 use Rattle.xrecover.specs.Pairs.{HasDuplex, is_duplex_of}
 use Rattle.xrecover.specs.Redone.{Recovers, Redoes, meant_rows}
 use Rattle.xrecover.specs.Sees.{IsSettled, SeesSame}

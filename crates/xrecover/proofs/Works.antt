@@ -12,7 +12,8 @@ use Rattle.site_means.specs.Answers.{ReadsAll}
 use Rattle.site_means.proofs.ReadAll.{reads_none}
 use Rattle.xrc_edge.specs.Causes.{Rose}
 use Rattle.xrc_journal.specs.Items.{Item}
-use Rattle.applier.specs.Slots.{DiffersInSlots, HasItem}
+use Rattle.xrc_journal.specs.Contents.{HasItem}
+use Rattle.applier.specs.Slots.{DiffersInSlots}
 use Rattle.xrecover.specs.Works.{Nothing, OnVolume, Works}
 use Rattle.xrecover.specs.Redone.{Redoes}
 use Rattle.xrecover.proofs.Relations.{differs_redoes, one_more, one_same, one_then, redoes_same, redoes_then}

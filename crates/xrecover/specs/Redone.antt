@@ -1,16 +1,17 @@
 -- What recovery leaves on the volumes.
 use Rattle.std.specs.Prelude.{◌≡◌, ◌≤◌, ℕ, List, [], All, Contains, length, take, slice_range, Option, Some, None, true}
 use Rattle.ckd_track.specs.declared.rec.Rec.{Rec}
+use Rattle.ckd_track.specs.SlotPlaces.{slot_track}
 use Rattle.crash_plant.specs.declared.device.Device.{Device}
 use Rattle.crash_plant.specs.declared.device.Device.TheVariants.{Control, State, Journal, Volume}
 use Rattle.crash_plant.specs.Moments.{PlantState, on, IsDurable}
 use Rattle.pair_table.specs.declared.row.PairRow.{PairRow}
 use Rattle.xrc_journal.specs.Items.{Item}
+use Rattle.xrc_journal.specs.Contents.{HasItem, content_through}
 use Rattle.site_means.specs.declared.means.Means.{Means}
 use Rattle.site_means.specs.Images.{Images}
-use Rattle.site_means.specs.Content.{content_through, slot_track}
 use Rattle.site_means.specs.Sight.{means_of, walked}
-use Rattle.applier.specs.Slots.{BeginsWithTrack, HasItem, IsApart}
+use Rattle.applier.specs.Slots.{BeginsWithTrack, IsApart}
 use Rattle.volume_label.specs.Labels.{label_spelling}
 use Rattle.xrecover.specs.Pairs.{HasDuplex, is_duplex}
 

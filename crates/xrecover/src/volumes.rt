@@ -2,12 +2,14 @@
 
 ghost use Rattle.std.specs.Prelude.{◌≡◌, ◌≢◌, ◌≤◌, ◌<◌, ℕ, [], take, true, false, IfOk};
 ghost use Rattle.xrc_edge.specs.Causes.{Rose};
+ghost use Rattle.ckd_track.specs.SlotPlaces.{slot_end};
 ghost use Rattle.crash_plant.specs.declared.device.Device.TheVariants.{Volume};
 ghost use Rattle.crash_plant.specs.Moments.{Follows, IsDurable, Kept, on};
 ghost use Rattle.crash_plant.specs.Calls.{NoneLent};
 ghost use Rattle.xrc_journal.specs.Items.{AreItems, form_of};
-ghost use Rattle.applier.specs.Slots.{DiffersInSlots, HasItem, HoldsContent, slot_end};
-ghost use Rattle.applier.specs.Jobs.{FailsByCount};
+ghost use Rattle.xrc_journal.specs.Contents.{HasItem};
+ghost use Rattle.xrc_journal.specs.Jobs.{FailsByCount};
+ghost use Rattle.applier.specs.Slots.{DiffersInSlots, HoldsContent};
 ghost use Rattle.volume_label.specs.Labels.{label_spelling};
 ghost use Rattle.xrecover.specs.Works.{OnVolume, Works};
 ghost use Rattle.xrecover.specs.Redone.{Redoes};

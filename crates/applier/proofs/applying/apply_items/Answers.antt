@@ -1,7 +1,8 @@
 use Rattle.std.proofs.Common.{List, sym, subst, ◌∙◌, arith}
 use Rattle.xrc_journal.specs.Items.{Item}
 use Rattle.applier.specs.Writes.{WritesAll}
-use Rattle.applier.proofs.Going.{applying_start, rest_are, next_of, next_room, read_more, all_read, writes_more, stops_here, is_err, is_ok, on_err}
+use Rattle.xrc_edge.proofs.Outcomes.{is_err, is_ok, on_err}
+use Rattle.applier.proofs.Going.{applying_start, rest_are, next_of, next_room, read_more, all_read, writes_more, stops_here}
 use Rattle.applier.proofs.applying.apply_items.Goals as goal
 
 pub loop-item-init : goal.loop-item-init

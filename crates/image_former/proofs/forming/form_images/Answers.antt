@@ -1,9 +1,9 @@
 use Rattle.std.proofs.Common.{List, [], refl, sym, ◌∙◌, subst, arith}
+use Rattle.xrc_edge.proofs.Outcomes.{on_err}
 use Rattle.xrc_journal.specs.Items.{Item}
 use Rattle.image_former.specs.Steps.{GoesBy, AreFormed}
 use Rattle.image_former.proofs.Lists.{zip_refl, zip_trans}
 use Rattle.image_former.proofs.Going.{by_here, by_then, ready_after, live_falls}
-use Rattle.applier.proofs.Going.{on_err}
 use Rattle.image_former.proofs.Bodying.{formed_none}
 use Rattle.image_former.proofs.forming.form_images.Goals as goal
 

@@ -1,5 +1,5 @@
 use Rattle.std.proofs.Common.{◌≤◌, length, arith, refl}
-use Rattle.applier.specs.Slots.{slot_end}
+use Rattle.ckd_track.specs.SlotPlaces.{slot_end}
 use Rattle.image_former.proofs.Reading.{loaded_slot}
 use Rattle.image_former.proofs.tracks.read_track.Goals as goal
 

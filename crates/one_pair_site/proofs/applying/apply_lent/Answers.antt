@@ -1,7 +1,7 @@
 use Rattle.std.proofs.Common.{ℕ, sym, subst, ◌∙◌, arith}
 use Rattle.crash_plant.specs.Calls.{TakesBack}
 use Rattle.crash_plant.specs.Moments.{Follows, Kept}
-use Rattle.applier.specs.Jobs.{FailsByCount}
+use Rattle.xrc_journal.specs.Jobs.{FailsByCount}
 use Rattle.applier.specs.Slots.{DiffersInSlots}
 use Rattle.applier.proofs.InSlots.{differs_here}
 use Rattle.one_pair_site.proofs.Within.{lent_follows, lent_within, on_new}

@@ -4,7 +4,7 @@ use Rattle.std.specs.Vec.{with_items}
 use Rattle.std.proofs.lemmas.List.{length-map, with_items_is}
 use Rattle.crash_plant.specs.declared.device.Device.TheVariants.{Volume}
 use Rattle.xrc_journal.specs.Items.{Item}
-use Rattle.applier.specs.Slots.{HasItem}
+use Rattle.xrc_journal.specs.Contents.{HasItem}
 use Rattle.applier.proofs.InSlots.{differs_here}
 use Rattle.one_pair_site.specs.Applies.{Applied, CountsVolume, has_device, is_applied, with_applied}
 use Rattle.one_pair_site.specs.Jobs.{has_job_failed}
