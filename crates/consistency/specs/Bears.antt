@@ -1,7 +1,7 @@
 -- What the images that a crash leaves must mean, where a run stands between two lines.
 use Rattle.std.specs.Prelude.{◌≡◌, ◌⊎◌, ℕ, ◌+◌, ◌≤◌, ◌<◌, ◌*◌, not, List, [], ◌∷◌, ◌++◌, map, Bool, true, false, Option, Some, None, is_none, slice_get, IsTrue}
-use Rattle.trace_grammar.specs.declared.header.VolumeHead.{VolumeHead}
-use Rattle.trace_grammar.specs.declared.trace.Trace.{Trace}
+use Rattle.write_trace.specs.declared.header.VolumeHead.{VolumeHead}
+use Rattle.write_trace.specs.declared.trace.Trace.{Trace}
 use Rattle.sidefile.specs.Breaks.{break_time}
 use Rattle.primary_ctl.specs.Primaries.{primary}
 use Rattle.pair_table.specs.declared.level.Level.{Level}

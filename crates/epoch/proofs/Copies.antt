@@ -13,8 +13,8 @@ use Rattle.ckd_track.specs.declared.write.Kind.TheVariants.{Whole}
 use Rattle.ckd_track.specs.Images.{image}
 use Rattle.ckd_track.specs.Tracks.{IsTrack}
 use Rattle.ckd_track.proofs.Parts.{length-image}
-use Rattle.trace_grammar.specs.declared.header.VolumeHead.{VolumeHead}
-use Rattle.trace_grammar.specs.Headers.{cylinders_of, has_track}
+use Rattle.write_trace.specs.declared.header.VolumeHead.{VolumeHead}
+use Rattle.write_trace.specs.Headers.{cylinders_of, has_track}
 use Rattle.pair_table.specs.declared.row.PairRow.{PairRow}
 use Rattle.pair_table.specs.declared.row.PairState.{PairState}
 use Rattle.pair_table.specs.declared.row.PairState.TheVariants.{Pending, Copy, Duplex, Suspended}

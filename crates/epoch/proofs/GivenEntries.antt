@@ -4,11 +4,11 @@ use Rattle.std.proofs.lemmas.Bool.{le-leb, leb-true}
 use Rattle.std.proofs.lemmas.List.{length-replicate, take_all}
 use Rattle.tod_stamp.specs.Fields.{Left, Bad}
 use Rattle.tod_stamp.specs.Fields.Bad.{Cut, Broken}
-use Rattle.trace_grammar.specs.declared.header.VolumeHead.{VolumeHead}
-use Rattle.trace_grammar.specs.declared.entry.Entry.{Entry}
-use Rattle.trace_grammar.specs.declared.trace.TraceEnd.TheVariants.{BadTrace, ReadFault}
-use Rattle.trace_grammar.specs.Entries.{entry_at, stamp_of}
-use Rattle.trace_grammar.specs.Good.{bad_end, entries_from, last_stamp, most_bytes}
+use Rattle.write_trace.specs.declared.header.VolumeHead.{VolumeHead}
+use Rattle.write_trace.specs.declared.entry.Entry.{Entry}
+use Rattle.write_trace.specs.declared.trace.TraceEnd.TheVariants.{BadTrace, ReadFault}
+use Rattle.write_trace.specs.Entries.{entry_at, stamp_of}
+use Rattle.write_trace.specs.Good.{bad_end, entries_from, last_stamp, most_bytes}
 use Rattle.write_trace.specs.declared.next.Stopped.{Stopped}
 use Rattle.write_trace.specs.Answers.{ReaderState}
 use Rattle.write_trace.specs.Unread.{seen}

@@ -6,13 +6,13 @@ use Rattle.std.proofs.lemmas.Bool.{leb-true, le-leb, lt-leb}
 use Rattle.tod_stamp.specs.Fields.{◌>>=◌, Left, Bad, number_at, within, after}
 use Rattle.tod_stamp.specs.Fields.Bad.{Cut, Broken}
 use Rattle.tod_stamp.proofs.FieldLaws.{bind_ok, guard_ok, allow_ok}
-use Rattle.trace_grammar.specs.declared.header.VolumeHead.{VolumeHead}
-use Rattle.trace_grammar.specs.declared.entry.Entry.{Entry}
-use Rattle.trace_grammar.specs.declared.entry.Entry.TheVariants.{Written, Idle}
-use Rattle.trace_grammar.specs.Headers.{place_at}
-use Rattle.trace_grammar.specs.Entries.{stamp_of, entry_at, write_at, kind_at}
-use Rattle.trace_grammar.specs.Good.{entries_from}
-use Rattle.trace_grammar.specs.Writes.{writes_of}
+use Rattle.write_trace.specs.declared.header.VolumeHead.{VolumeHead}
+use Rattle.write_trace.specs.declared.entry.Entry.{Entry}
+use Rattle.write_trace.specs.declared.entry.Entry.TheVariants.{Written, Idle}
+use Rattle.write_trace.specs.Headers.{place_at}
+use Rattle.write_trace.specs.Entries.{stamp_of, entry_at, write_at, kind_at}
+use Rattle.write_trace.specs.Good.{entries_from}
+use Rattle.write_trace.specs.Writes.{writes_of}
 use Rattle.primary_ctl.specs.Primaries.{never_fall}
 use Rattle.epoch.proofs.Both.{both_true, and_true}
 use Rattle.epoch.specs.Taken.{do_rise}

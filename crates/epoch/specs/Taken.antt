@@ -1,10 +1,10 @@
 -- What was taken over of a trace: the entries whose writes are in the primary's tracks, and those that are ahead.
 use Rattle.std.specs.Prelude.{◌≡◌, ◌≤◌, ◌<◌, ◌&&◌, ℕ, List, [], ◌∷◌, ◌++◌, filter, All, Bool, true, false, nat_le, Option, Some, None, IsTrue}
 use Rattle.ckd_track.specs.declared.write.Cause.TheVariants.{ReadFault}
-use Rattle.trace_grammar.specs.declared.entry.Entry.{Entry}
-use Rattle.trace_grammar.specs.declared.trace.Trace.{Trace}
-use Rattle.trace_grammar.specs.Entries.{stamp_of}
-use Rattle.trace_grammar.specs.Writes.{writes_of}
+use Rattle.write_trace.specs.declared.entry.Entry.{Entry}
+use Rattle.write_trace.specs.declared.trace.Trace.{Trace}
+use Rattle.write_trace.specs.Entries.{stamp_of}
+use Rattle.write_trace.specs.Writes.{writes_of}
 use Rattle.primary_ctl.specs.States.{PrimaryState, track_of, base_in, is_on, after_writes}
 use Rattle.primary_ctl.specs.Primaries.{primary}
 use Rattle.sidefile.specs.Runs.{runs}

@@ -17,7 +17,7 @@ ghost use Rattle.site_means.specs.Images.{shape_of};
 ghost use Rattle.one_pair_site.specs.declared.store_error.StoreError.TheVariants.{Fault, JournalEnd, Spent, Volume as VolumeError};
 ghost use Rattle.one_pair_site.specs.Marking.{NoneFailed};
 ghost use Rattle.one_pair_site.specs.Standing.{Fits, Stands};
-ghost use Rattle.trace_grammar.specs.Headers.{cylinders_of};
+ghost use Rattle.write_trace.specs.Headers.{cylinders_of};
 ghost use Rattle.epoch.specs.Copying.{IsPart, IsPartOf, IsUncopiedIn, PartMoments, PartShows, ShowsCopying, copies_from, group_of, in_row, state_after};
 ghost use Rattle.epoch.specs.Counted.{IsCounted};
 ghost use Rattle.epoch.specs.Ends.{IsFullForCopy, IsSpent};

@@ -6,7 +6,7 @@ ghost use Rattle.ckd_track.specs.Effects.{is_kind};
 ghost use Rattle.crash_plant.specs.declared.device.Device.{Device as DeviceValue};
 ghost use Rattle.crash_plant.specs.declared.device.Device.TheVariants.{Volume as VolumeDevice};
 ghost use Rattle.crash_plant.specs.Calls.{IsPart, NoneLent};
-ghost use Rattle.trace_grammar.specs.declared.trace.Trace.{Trace as TraceValue};
+ghost use Rattle.write_trace.specs.declared.trace.Trace.{Trace as TraceValue};
 ghost use Rattle.pair_table.specs.declared.row.PairState.TheVariants.{Duplex};
 ghost use Rattle.pending_queue.specs.Entries.{all_keep_rules, entries_of, last_stamp, writes_never_fall};
 ghost use Rattle.pending_queue.specs.Queues.{free_room, with_waiting};

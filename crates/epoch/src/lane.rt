@@ -2,9 +2,9 @@
 
 ghost use Rattle.std.specs.Prelude.{◌≡◌, ◌≢◌, ◌≤◌, ◌<◌, ◌⊎◌, ℕ, [], filter, All, None, Err, IfOk, OnOk, IsTrue};
 ghost use Rattle.xrc_edge.specs.Causes.{Rose};
-ghost use Rattle.trace_grammar.specs.declared.trace.Trace.{Trace as TraceValue};
-ghost use Rattle.trace_grammar.specs.Headers.{is_header_of};
-ghost use Rattle.trace_grammar.specs.Writes.{IsWriteTo};
+ghost use Rattle.write_trace.specs.declared.trace.Trace.{Trace as TraceValue};
+ghost use Rattle.write_trace.specs.Headers.{is_header_of};
+ghost use Rattle.write_trace.specs.Writes.{IsWriteTo};
 ghost use Rattle.primary_ctl.specs.States.{after_writes, base_in, is_on, track_of};
 ghost use Rattle.epoch.specs.Lanes.{IsLane};
 ghost use Rattle.epoch.specs.Taken.{FailsAsBefore, HasFailed, HasReached, HasTaken, WillBreak};
@@ -16,8 +16,7 @@ use primary_ctl::Primary;
 use sidefile::{Hand, Sidefile};
 use std::alloc::Global;
 use tod_stamp::Stamp;
-use trace_grammar::Header;
-use write_trace::TraceReader;
+use write_trace::{Header, TraceReader};
 use xrc_edge::{NoMemory, Source};
 
 /// The entries that may wait, and the blocks of 512 bytes that they may take: as many as 32 of the longest take.

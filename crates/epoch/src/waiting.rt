@@ -7,7 +7,7 @@ ghost use Rattle.crash_plant.specs.declared.device.Device.{Device as DeviceValue
 ghost use Rattle.crash_plant.specs.declared.device.Device.TheVariants.{Journal as JournalDevice, Volume as VolumeDevice};
 ghost use Rattle.crash_plant.specs.Calls.{IsPart, NoneLent};
 ghost use Rattle.pair_table.specs.declared.row.PairState.TheVariants.{Duplex};
-ghost use Rattle.trace_grammar.specs.declared.trace.Trace.{Trace as TraceValue};
+ghost use Rattle.write_trace.specs.declared.trace.Trace.{Trace as TraceValue};
 ghost use Rattle.xrc_journal.specs.Records.{spot_after};
 ghost use Rattle.site_means.specs.declared.means.Means.{Means as MeansValue};
 ghost use Rattle.site_means.specs.Images.{shape_of};

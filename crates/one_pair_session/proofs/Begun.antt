@@ -4,7 +4,7 @@ use Rattle.std.specs.Prelude.{IfErr, IsErrAnd, IsErrOf}
 use Rattle.tod_stamp.specs.declared.stamp.Stamp.{Stamp}
 use Rattle.crash_plant.specs.Calls.{WorksOnConsole}
 use Rattle.crash_plant.specs.Moments.{PlantState}
-use Rattle.trace_grammar.specs.declared.trace.Trace.{Trace}
+use Rattle.write_trace.specs.declared.trace.Trace.{Trace}
 use Rattle.sidefile.specs.Breaks.{has_broken}
 use Rattle.pair_table.specs.declared.command.Command.{Command}
 use Rattle.xrc_command.specs.Reading.{command_at, time_at}

@@ -8,10 +8,10 @@ use Rattle.std.proofs.lemmas.Option.{slice_get_within}
 use Rattle.xrc_edge.specs.Causes.{Rose}
 use Rattle.crash_plant.specs.declared.device.Device.TheVariants.{Control, State, Journal, Volume}
 use Rattle.crash_plant.specs.Moments.{PlantState}
-use Rattle.trace_grammar.specs.declared.trace.HeaderError.{HeaderError}
-use Rattle.trace_grammar.specs.declared.trace.Trace.{Trace}
-use Rattle.trace_grammar.specs.Good.{bad_start, trace_of, whole_trace}
-use Rattle.trace_grammar.specs.Headers.{header_at}
+use Rattle.write_trace.specs.declared.trace.HeaderError.{HeaderError}
+use Rattle.write_trace.specs.declared.trace.Trace.{Trace}
+use Rattle.write_trace.specs.Good.{bad_start, trace_of, whole_trace}
+use Rattle.write_trace.specs.Headers.{header_at}
 use Rattle.tod_stamp.specs.Fields.{Bad}
 use Rattle.sidefile.specs.Breaks.{has_broken}
 use Rattle.pair_table.specs.declared.command.Command.{Command}

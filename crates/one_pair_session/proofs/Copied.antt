@@ -6,7 +6,7 @@ use Rattle.crash_plant.specs.Calls.{Elapses, SameSite}
 use Rattle.crash_plant.specs.Choices.{Choice}
 use Rattle.crash_plant.specs.Moments.{PlantState}
 use Rattle.crash_plant.proofs.Choices.{past_choice}
-use Rattle.trace_grammar.specs.declared.trace.Trace.{Trace}
+use Rattle.write_trace.specs.declared.trace.Trace.{Trace}
 use Rattle.sidefile.specs.Breaks.{has_broken}
 use Rattle.pair_table.specs.declared.level.Level.TheVariants.{Volume}
 use Rattle.pair_table.specs.declared.row.PairRow.{PairRow}

@@ -3,7 +3,7 @@ use Rattle.std.proofs.Common.{◌≡◌, ◌≢◌, ◌⊎◌, inl, inr, ℕ, Re
 use Rattle.std.specs.Prelude.{IfErr, IsErrOf}
 use Rattle.crash_plant.specs.Moments.{PlantState, on}
 use Rattle.crash_plant.proofs.Steps.{stays_here}
-use Rattle.trace_grammar.specs.declared.trace.Trace.{Trace}
+use Rattle.write_trace.specs.declared.trace.Trace.{Trace}
 use Rattle.consistency.specs.Bears.{Run}
 use Rattle.xrc_status.specs.declared.stop.Stop.{Stop}
 use Rattle.xrc_status.specs.declared.stop.Stop.TheVariants.{ConsoleFault, JournalFault, ControlFault, StateFault, EarlyVolume, EarlyBreak, NotBuilt, JournalEnd, Spent, NoMemory, BadWords, BadHeader, HeaderFault, NoSession, OtherSession, Damaged, VolumeFault, TooSmall, BadSite}

@@ -3,7 +3,7 @@ use Rattle.std.proofs.Common.{◌≡◌, inl, inr, ℕ, List, [], ◌++◌, appe
 use Rattle.crash_plant.specs.declared.device.Device.TheVariants.{Control, Journal, Volume}
 use Rattle.crash_plant.specs.Calls.{Elapses, SameSite, WorksOn}
 use Rattle.crash_plant.specs.Moments.{Follows, PlantState, Same, on}
-use Rattle.trace_grammar.specs.declared.trace.Trace.{Trace}
+use Rattle.write_trace.specs.declared.trace.Trace.{Trace}
 use Rattle.pair_table.specs.declared.row.PairRow.{PairRow}
 use Rattle.one_pair_site.specs.Marking.{IsTouched}
 use Rattle.one_pair_site.specs.Sites.{SiteState}

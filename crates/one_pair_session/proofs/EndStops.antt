@@ -3,7 +3,7 @@ use Rattle.std.proofs.Common.{◌≡◌, ℕ, List, [], ◌∷◌, Option, sym, 
 use Rattle.std.specs.Prelude.{Result, Err, IsErrOf}
 use Rattle.ckd_track.specs.declared.rec.Rec.{Rec}
 use Rattle.crash_plant.specs.Moments.{PlantState}
-use Rattle.trace_grammar.specs.declared.trace.Trace.{Trace}
+use Rattle.write_trace.specs.declared.trace.Trace.{Trace}
 use Rattle.primary_ctl.specs.Primaries.{primary}
 use Rattle.primary_ctl.specs.States.{PrimaryState, track_of}
 use Rattle.pair_table.specs.declared.row.PairRow.{PairRow}

@@ -6,13 +6,13 @@ use Rattle.std.proofs.lemmas.List.Elements.{All-nil}
 use Rattle.tod_stamp.specs.Fields.{Bad, Left, place_of, within}
 use Rattle.ckd_track.specs.declared.write.Cause.{Cause}
 use Rattle.ckd_track.specs.declared.write.Write.{Write}
-use Rattle.trace_grammar.specs.declared.entry.Entry.{Entry}
-use Rattle.trace_grammar.specs.declared.header.Header.{Header}
-use Rattle.trace_grammar.specs.declared.trace.HeaderError.{HeaderError}
-use Rattle.trace_grammar.specs.declared.trace.HeaderError.TheVariants as header
-use Rattle.trace_grammar.specs.declared.trace.Trace.{Trace}
-use Rattle.trace_grammar.specs.Good.{after_header, entries_from, trace_of, whole_trace}
-use Rattle.trace_grammar.specs.Headers.{are_bases, are_volumes, header_at, is_header_of}
+use Rattle.write_trace.specs.declared.entry.Entry.{Entry}
+use Rattle.write_trace.specs.declared.header.Header.{Header}
+use Rattle.write_trace.specs.declared.trace.HeaderError.{HeaderError}
+use Rattle.write_trace.specs.declared.trace.HeaderError.TheVariants as header
+use Rattle.write_trace.specs.declared.trace.Trace.{Trace}
+use Rattle.write_trace.specs.Good.{after_header, entries_from, trace_of, whole_trace}
+use Rattle.write_trace.specs.Headers.{are_bases, are_volumes, header_at, is_header_of}
 use Rattle.write_trace.specs.Answers.{ReaderState}
 use Rattle.write_trace.specs.Starts.{FailsInHeader, IsBadHeader, ReadsHeader, Starts}
 use Rattle.write_trace.specs.Unread.{seen}

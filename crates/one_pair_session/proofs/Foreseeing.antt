@@ -1,6 +1,6 @@
 -- What a lane foresees of a trace, as it goes on.
 use Rattle.std.proofs.Common.{◌≡◌, ℕ, ◌<◌, ◌≤◌, List, Option, sym, ap, subst, ◌∙◌}
-use Rattle.trace_grammar.specs.declared.trace.Trace.{Trace}
+use Rattle.write_trace.specs.declared.trace.Trace.{Trace}
 use Rattle.sidefile.specs.States.{SidefileState}
 use Rattle.primary_ctl.specs.States.{PrimaryState}
 use Rattle.epoch.specs.declared.lane.Lane.{Lane}

@@ -4,7 +4,7 @@ use Rattle.std.proofs.lemmas.Bool.{cases_lt}
 use Rattle.crash_plant.specs.Calls.{WorksOnConsole}
 use Rattle.crash_plant.specs.Moments.{PlantState, Same, Standing, Stays, Kept, on}
 use Rattle.crash_plant.proofs.Steps.{follows_then}
-use Rattle.trace_grammar.specs.declared.trace.Trace.{Trace}
+use Rattle.write_trace.specs.declared.trace.Trace.{Trace}
 use Rattle.pair_table.specs.declared.row.PairRow.{PairRow}
 use Rattle.site_means.specs.Images.{shape_of}
 use Rattle.site_means.specs.Sight.{meant_by}

@@ -1,7 +1,7 @@
 -- The line that adds a pair: heard, and answered.
 use Rattle.std.proofs.Common.{◌≡◌, ℕ, ◌<◌, ◌≤◌, false, List, [], ◌∷◌, Option, Some, sym, ap, subst, ◌∙◌, arith}
 use Rattle.crash_plant.specs.Moments.{PlantState}
-use Rattle.trace_grammar.specs.declared.trace.Trace.{Trace}
+use Rattle.write_trace.specs.declared.trace.Trace.{Trace}
 use Rattle.sidefile.specs.Breaks.{has_broken}
 use Rattle.pair_table.specs.declared.row.PairRow.{PairRow}
 use Rattle.site_means.specs.Images.{shape_of}

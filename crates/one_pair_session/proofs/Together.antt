@@ -1,7 +1,7 @@
 -- The copy, the following and the mark of a session's end, one after another.
 use Rattle.std.proofs.Common.{◌≡◌, inl, ℕ, List, false, Some, sym, subst}
 use Rattle.crash_plant.specs.Moments.{PlantState}
-use Rattle.trace_grammar.specs.declared.trace.Trace.{Trace}
+use Rattle.write_trace.specs.declared.trace.Trace.{Trace}
 use Rattle.pair_table.specs.declared.row.PairRow.{PairRow}
 use Rattle.site_means.specs.Images.{Shape, shape_of}
 use Rattle.site_means.proofs.Goes.{shape_same}

@@ -5,9 +5,9 @@ use Rattle.crash_plant.specs.declared.device.Device.TheVariants.{Control, State,
 use Rattle.crash_plant.specs.Calls.{WorksOnConsole}
 use Rattle.crash_plant.specs.Choices.{IsChoice}
 use Rattle.crash_plant.specs.Moments.{PlantState}
-use Rattle.trace_grammar.specs.declared.trace.HeaderError.{HeaderError}
-use Rattle.trace_grammar.specs.declared.trace.Trace.{Trace}
-use Rattle.trace_grammar.specs.Good.{trace_of}
+use Rattle.write_trace.specs.declared.trace.HeaderError.{HeaderError}
+use Rattle.write_trace.specs.declared.trace.Trace.{Trace}
+use Rattle.write_trace.specs.Good.{trace_of}
 use Rattle.pair_table.specs.declared.row.PairState.TheVariants.{Duplex}
 use Rattle.pair_table.specs.Tables.{in_state}
 use Rattle.volume_label.specs.declared.label.Label.{Label}

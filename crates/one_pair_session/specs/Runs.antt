@@ -7,9 +7,9 @@ use Rattle.crash_plant.specs.declared.device.Device.{Device}
 use Rattle.crash_plant.specs.declared.device.Device.TheVariants.{Volume}
 use Rattle.crash_plant.specs.Choices.{Choice, IsChoice}
 use Rattle.crash_plant.specs.Moments.{PlantState}
-use Rattle.trace_grammar.specs.declared.trace.Trace.{Trace}
-use Rattle.trace_grammar.specs.Good.{most_bytes, trace_of, whole_trace}
-use Rattle.trace_grammar.specs.Headers.{header_at}
+use Rattle.write_trace.specs.declared.trace.Trace.{Trace}
+use Rattle.write_trace.specs.Good.{most_bytes, trace_of, whole_trace}
+use Rattle.write_trace.specs.Headers.{header_at}
 use Rattle.primary_ctl.specs.Primaries.{primary}
 use Rattle.sidefile.specs.Breaks.{has_broken}
 use Rattle.pair_table.specs.declared.row.PairState.TheVariants.{Duplex}

@@ -5,7 +5,7 @@ use Rattle.crash_plant.specs.declared.device.Device.{Device}
 use Rattle.crash_plant.specs.declared.device.Device.TheVariants.{Control, State, Journal, Volume}
 use Rattle.crash_plant.specs.Calls.{IsPart, SameSite}
 use Rattle.crash_plant.specs.Moments.{PlantState}
-use Rattle.trace_grammar.specs.declared.trace.Trace.{Trace}
+use Rattle.write_trace.specs.declared.trace.Trace.{Trace}
 use Rattle.consistency.specs.Bears.{Run}
 use Rattle.epoch.specs.declared.lane.Lane.{Lane}
 use Rattle.epoch.specs.Taken.{HasFailed, WillBreak}

@@ -9,8 +9,8 @@ use Rattle.epoch.specs.declared.epoch_error.EpochError.TheVariants as epoch
 use Rattle.epoch.specs.declared.lane_error.LaneError.{LaneError}
 use Rattle.epoch.specs.declared.lane_error.LaneError.TheVariants as lane
 use Rattle.xrc_status.specs.declared.stop.Stop.{Stop}
-use Rattle.trace_grammar.specs.declared.trace.HeaderError.{HeaderError}
-use Rattle.trace_grammar.specs.declared.trace.HeaderError.TheVariants as header
+use Rattle.write_trace.specs.declared.trace.HeaderError.{HeaderError}
+use Rattle.write_trace.specs.declared.trace.HeaderError.TheVariants as header
 use Rattle.xrc_status.specs.declared.stop.Stop.TheVariants.{BadHeader, HeaderFault, JournalFault, ControlFault, StateFault, EarlyVolume, EarlyBreak, JournalEnd, Spent, NoMemory}
 
 -- A device that failed. A volume's stop is that of a pair that can't go on.

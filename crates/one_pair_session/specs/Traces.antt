@@ -1,9 +1,9 @@
 -- The trace of a run. Where the source fails, it is that of the bytes that the source gave: it agrees with the trace of all bytes that
 -- were ahead up to what the control reports before its break.
 use Rattle.std.specs.Prelude.{◌≡◌, ◌≢◌, ℕ, ◌<◌, ◌≤◌, ◌-◌, List, [], ◌∷◌, length, take, false, true, Option, Some, Ok, IsTrue}
-use Rattle.trace_grammar.specs.declared.trace.Trace.{Trace}
-use Rattle.trace_grammar.specs.Good.{trace_of}
-use Rattle.trace_grammar.specs.Headers.{is_header_of}
+use Rattle.write_trace.specs.declared.trace.Trace.{Trace}
+use Rattle.write_trace.specs.Good.{trace_of}
+use Rattle.write_trace.specs.Headers.{is_header_of}
 use Rattle.primary_ctl.specs.Primaries.{primary}
 use Rattle.sidefile.specs.Breaks.{has_broken}
 use Rattle.epoch.specs.declared.lane.Lane.{Lane}

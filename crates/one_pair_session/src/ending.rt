@@ -2,7 +2,7 @@
 
 ghost use Rattle.std.specs.Prelude.{◌≡◌, ◌≤◌, ◌<◌, ℕ, [], ◌∷◌, Some, true, false, OnOk, IfErr, IsErrOf};
 ghost use Rattle.crash_plant.specs.Calls.{Elapses, NoneLent, SameSite};
-ghost use Rattle.trace_grammar.specs.declared.trace.Trace.{Trace as TraceValue};
+ghost use Rattle.write_trace.specs.declared.trace.Trace.{Trace as TraceValue};
 ghost use Rattle.primary_ctl.specs.States.{track_of};
 ghost use Rattle.sidefile.specs.Breaks.{has_broken};
 ghost use Rattle.pair_table.specs.declared.level.Level.TheVariants.{Volume};

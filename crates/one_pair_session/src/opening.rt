@@ -2,9 +2,9 @@
 
 ghost use Rattle.std.specs.Prelude.{◌≡◌, ◌≢◌, ◌⊎◌, ℕ, ◌≤◌, ◌-◌, List, [], length, take, Option, Some, true, false, Ok, Err, IfOk, IfErr, IsOk, IsTrue};
 ghost use Rattle.xrc_edge.specs.Causes.{Rose};
-ghost use Rattle.trace_grammar.specs.declared.trace.Trace.{Trace as TraceValue};
-ghost use Rattle.trace_grammar.specs.Good.{trace_of};
-ghost use Rattle.trace_grammar.specs.Headers.{are_volumes, is_header_of};
+ghost use Rattle.write_trace.specs.declared.trace.Trace.{Trace as TraceValue};
+ghost use Rattle.write_trace.specs.Good.{trace_of};
+ghost use Rattle.write_trace.specs.Headers.{are_volumes, is_header_of};
 ghost use Rattle.sidefile.specs.Breaks.{has_broken};
 ghost use Rattle.epoch.specs.Lanes.{IsLane};
 ghost use Rattle.epoch.specs.Taken.{HasFailed, HasTaken};
@@ -15,8 +15,7 @@ ghost use Rattle.one_pair_session.specs.Traces.{Agrees};
 
 use epoch::Lane;
 use std::alloc::Global;
-use trace_grammar::VolumeHead;
-use write_trace::{HeaderError, start};
+use write_trace::{HeaderError, VolumeHead, start};
 use xrc_edge::{NoMemory, Source};
 use xrc_status::Stop;
 

@@ -4,9 +4,9 @@ ghost use Rattle.std.specs.Prelude.{◌≡◌, ◌≢◌, ◌⊎◌, ◌<◌, �
 ghost use Rattle.xrc_edge.specs.Causes.{Rose};
 ghost use Rattle.crash_plant.specs.declared.device.Device.TheVariants.{Volume as VolumeDevice};
 ghost use Rattle.crash_plant.specs.Calls.{Elapses, NoneLent, SameSite, WorksOnConsole};
-ghost use Rattle.trace_grammar.specs.declared.header.VolumeHead.{VolumeHead as HeadValue};
-ghost use Rattle.trace_grammar.specs.declared.trace.Trace.{Trace as TraceValue};
-ghost use Rattle.trace_grammar.specs.Headers.{are_volumes};
+ghost use Rattle.write_trace.specs.declared.header.VolumeHead.{VolumeHead as HeadValue};
+ghost use Rattle.write_trace.specs.declared.trace.Trace.{Trace as TraceValue};
+ghost use Rattle.write_trace.specs.Headers.{are_volumes};
 ghost use Rattle.sidefile.specs.Breaks.{has_broken};
 ghost use Rattle.pair_table.specs.declared.row.PairRow.{PairRow as RowValue};
 ghost use Rattle.pair_table.specs.declared.row.PairState.TheVariants.{Pending};
@@ -46,8 +46,8 @@ use session_lines::{hear_pair, say_added};
 use std::alloc::Global;
 use std::thread::Threads;
 use tod_stamp::{Serial, Session, Stamp};
-use trace_grammar::VolumeHead;
 use volume_label::Label;
+use write_trace::VolumeHead;
 use xrc_edge::{NoMemory, Source};
 use xrc_status::Stop;
 

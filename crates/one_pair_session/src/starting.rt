@@ -5,7 +5,7 @@ ghost use Rattle.crash_plant.specs.declared.device.Device.TheVariants.{Control, 
 ghost use Rattle.crash_plant.specs.Calls.{Elapses, NoneLent, SameSite};
 ghost use Rattle.crash_plant.specs.Choices.{AllFollow};
 ghost use Rattle.crash_plant.specs.Moments.{IsDurable, on};
-ghost use Rattle.trace_grammar.specs.declared.trace.Trace.{Trace as TraceValue};
+ghost use Rattle.write_trace.specs.declared.trace.Trace.{Trace as TraceValue};
 ghost use Rattle.sidefile.specs.Breaks.{has_broken};
 ghost use Rattle.pair_table.specs.declared.level.Level.TheVariants.{Volume};
 ghost use Rattle.volume_label.specs.Labels.{has_room, label_of};

@@ -6,10 +6,10 @@ use Rattle.std.proofs.lemmas.Bool.{and_parts, le-ltb, not-true, or_parts}
 use Rattle.std.proofs.lemmas.Slice.Eq.{bytes_eq-Decides}
 use Rattle.tod_stamp.specs.Fields.{within}
 use Rattle.tod_stamp.specs.Names.{is_serial}
-use Rattle.trace_grammar.specs.declared.header.Header.{Header}
-use Rattle.trace_grammar.specs.declared.header.VolumeHead.{VolumeHead}
-use Rattle.trace_grammar.specs.declared.trace.Trace.{Trace}
-use Rattle.trace_grammar.specs.Headers.{are_bases, are_volumes, is_header_of, most_cylinders}
+use Rattle.write_trace.specs.declared.header.Header.{Header}
+use Rattle.write_trace.specs.declared.header.VolumeHead.{VolumeHead}
+use Rattle.write_trace.specs.declared.trace.Trace.{Trace}
+use Rattle.write_trace.specs.Headers.{are_bases, are_volumes, is_header_of, most_cylinders}
 use Rattle.pair_table.specs.declared.row.PairRow.{PairRow}
 use Rattle.pair_table.specs.declared.row.PairState.{PairState}
 use Rattle.pair_table.specs.declared.row.PairState.TheVariants.{Pending}

@@ -1,7 +1,7 @@
 -- What a crash leaves of a session with one pair bears a time, line by line.
 use Rattle.std.proofs.Common.{◌≡◌, ◌⊎◌, inl, inr, ℕ, ◌≤◌, Bool, true, false, List, [], ◌∷◌, Option, Some, None, refl, sym, ap, subst, ◌∙◌, arith}
 use Rattle.std.specs.Prelude.{is_none, IsTrue}
-use Rattle.trace_grammar.specs.declared.trace.Trace.{Trace}
+use Rattle.write_trace.specs.declared.trace.Trace.{Trace}
 use Rattle.sidefile.specs.Breaks.{has_broken}
 use Rattle.pair_table.specs.declared.command.Refusal.{Refusal}
 use Rattle.pair_table.specs.declared.row.PairRow.{PairRow}

@@ -2,7 +2,7 @@
 use Rattle.std.specs.Prelude.{◌≡◌, ◌⊎◌, ℕ, ◌≤◌, ◌<◌, Bool, true, false, List, [], ◌∷◌, ◌++◌, Option, Some, None, codes, decimal}
 use Rattle.tod_stamp.specs.Names.{is_session}
 use Rattle.tod_stamp.specs.Stamps.{stamp_text}
-use Rattle.trace_grammar.specs.declared.trace.Trace.{Trace}
+use Rattle.write_trace.specs.declared.trace.Trace.{Trace}
 use Rattle.primary_ctl.specs.Primaries.{primary}
 use Rattle.pair_table.specs.declared.command.Command.TheVariants.{Start, AddPair, End}
 use Rattle.pair_table.specs.declared.level.Level.TheVariants.{Volume}

@@ -1,8 +1,8 @@
 -- The laws of the course of a session with one pair. Each is the contract of a public function without parameters.
 use Rattle.std.specs.Prelude.{◌≡◌, ◌⊎◌, ◌≤◌, ◌<◌, ◌^◌, ℕ, true, false, List, [], ◌∷◌, Option, Some, slice_get, IsTrue}
-use Rattle.trace_grammar.specs.declared.header.VolumeHead.{VolumeHead}
-use Rattle.trace_grammar.specs.declared.trace.Trace.{Trace}
-use Rattle.trace_grammar.specs.Headers.{is_header_of}
+use Rattle.write_trace.specs.declared.header.VolumeHead.{VolumeHead}
+use Rattle.write_trace.specs.declared.trace.Trace.{Trace}
+use Rattle.write_trace.specs.Headers.{is_header_of}
 use Rattle.sidefile.specs.Breaks.{has_broken}
 use Rattle.pair_table.specs.declared.row.PairRow.{PairRow}
 use Rattle.pair_table.specs.declared.row.PairState.{PairState}

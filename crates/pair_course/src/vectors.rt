@@ -1,7 +1,7 @@
 //! A worked run: what the definitions give for it.
 
 ghost use Rattle.std.specs.Prelude.{◌≡◌, ◌∷◌, [], codes, false, true, Some, None};
-ghost use Rattle.trace_grammar.specs.declared.trace.TraceEnd.TheVariants.{BadTrace, Ended};
+ghost use Rattle.write_trace.specs.declared.trace.TraceEnd.TheVariants.{BadTrace, Ended};
 ghost use Rattle.pair_table.specs.declared.row.PairState.TheVariants.{Duplex, Pending};
 ghost use Rattle.pair_table.specs.Vectors.{abc, first_row};
 ghost use Rattle.consistency.specs.Bears.{accepts};

@@ -5,7 +5,7 @@ use Rattle.std.specs.List.{flat_map}
 use Rattle.ckd_track.specs.declared.rec.Rec.{Rec}
 use Rattle.ckd_track.specs.declared.write.Write.{Write}
 use Rattle.ckd_track.specs.Effects.{apply}
-use Rattle.trace_grammar.specs.Writes.{writes_of}
+use Rattle.write_trace.specs.Writes.{writes_of}
 use Rattle.primary_ctl.specs.States.{base_in, is_on, after_writes}
 use Rattle.primary_ctl.specs.Primaries.{after_batches, BatchesMakeThePrimary}
 use Rattle.std.proofs.lemmas.List.Elements.{filter-append}

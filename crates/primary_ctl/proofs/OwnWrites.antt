@@ -4,8 +4,8 @@ use Rattle.std.specs.Prelude.{filter, slice_get}
 use Rattle.std.proofs.lemmas.Bool.{ltb-true, ltb-false, le-ltb, leb-true, eqb-true, ne_eqb, cases_Bool}
 use Rattle.ckd_track.specs.declared.rec.Rec.{Rec}
 use Rattle.ckd_track.specs.declared.write.Write.{Write}
-use Rattle.trace_grammar.specs.declared.trace.Trace.{Trace}
-use Rattle.trace_grammar.specs.Writes.{writes_of}
+use Rattle.write_trace.specs.declared.trace.Trace.{Trace}
+use Rattle.write_trace.specs.Writes.{writes_of}
 use Rattle.xrc_edge.specs.Order.{in_order, is_in_order}
 use Rattle.primary_ctl.specs.States.{base_in, is_on, after_writes}
 use Rattle.primary_ctl.specs.Primaries.{ControlWrite, of_control, all_writes, is_earlier, is_on_track, base_track, never_fall, none_falls, OwnWritesDecide}

@@ -4,8 +4,8 @@ use Rattle.std.specs.Map.{lookup}
 use Rattle.ckd_track.specs.declared.rec.Rec.{Rec}
 use Rattle.ckd_track.specs.declared.write.Write.{Write}
 use Rattle.ckd_track.specs.Effects.{apply}
-use Rattle.trace_grammar.specs.declared.header.VolumeHead.{VolumeHead}
-use Rattle.trace_grammar.specs.Headers.{Base}
+use Rattle.write_trace.specs.declared.header.VolumeHead.{VolumeHead}
+use Rattle.write_trace.specs.Headers.{Base}
 
 -- a place, which is the number of a volume and that of a track there, and what that track holds
 abbrev pub PlacedTrack : Type 0

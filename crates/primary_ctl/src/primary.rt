@@ -1,7 +1,7 @@
 ghost use Rattle.std.specs.Prelude.{◌≡◌, ◌≤◌, ℕ, filter, All, IfOk, OnOk, IsTrue};
-ghost use Rattle.trace_grammar.specs.Headers.{has_track, is_header_of};
+ghost use Rattle.write_trace.specs.Headers.{has_track, is_header_of};
 ghost use Rattle.ckd_track.specs.declared.write.Write.{Write};
-ghost use Rattle.trace_grammar.specs.Writes.{IsWriteTo};
+ghost use Rattle.write_trace.specs.Writes.{IsWriteTo};
 ghost use Rattle.primary_ctl.specs.States.{PrimaryState, track_of, base_in, after_writes, is_on};
 
 use crate::held::Held;
@@ -9,7 +9,7 @@ use ckd_track::{Batch, Slot, Track};
 use std::alloc::Global;
 use std::marker::Model;
 use tod_stamp::Stamp;
-use trace_grammar::{Header, VolumeList};
+use write_trace::{Header, VolumeList};
 use xrc_edge::NoMemory;
 
 /// The primary volumes of a control at a time. Contracts see the volumes, the time, and what each track holds.

@@ -2,7 +2,7 @@
 use Rattle.std.proofs.Common.{inl, inr, ℕ, List, []}
 use Rattle.std.specs.Prelude.{IsTrue}
 use Rattle.crash_plant.specs.Moments.{PlantState}
-use Rattle.trace_grammar.specs.declared.trace.Trace.{Trace}
+use Rattle.write_trace.specs.declared.trace.Trace.{Trace}
 use Rattle.consistency.specs.Bears.{Run}
 use Rattle.consistency.specs.Courses.{Answered, replies_of}
 use Rattle.consistency.specs.Keeping.{stage_now}

@@ -4,7 +4,7 @@ use Rattle.std.specs.Prelude.{◌==◌}
 use Rattle.std.proofs.lemmas.List.Elements.{All-cons, All-nil}
 use Rattle.crash_plant.specs.Choices.{Choice}
 use Rattle.crash_plant.specs.Moments.{PlantState}
-use Rattle.trace_grammar.specs.declared.trace.Trace.{Trace}
+use Rattle.write_trace.specs.declared.trace.Trace.{Trace}
 use Rattle.sidefile.specs.Breaks.{has_broken}
 use Rattle.pair_table.specs.declared.row.PairRow.{PairRow}
 use Rattle.pair_table.specs.declared.row.PairState.TheVariants.{Pending}

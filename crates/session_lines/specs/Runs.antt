@@ -1,7 +1,7 @@
 -- How far a run over one trace has come, which answers a start, a pair and an end.
 use Rattle.std.specs.Prelude.{◌≡◌, ℕ, ◌<◌, ◌^◌, List, [], ◌∷◌, false, Option}
 use Rattle.crash_plant.specs.Moments.{PlantState}
-use Rattle.trace_grammar.specs.declared.trace.Trace.{Trace}
+use Rattle.write_trace.specs.declared.trace.Trace.{Trace}
 use Rattle.sidefile.specs.Breaks.{has_broken}
 use Rattle.pair_table.specs.declared.row.PairRow.{PairRow}
 use Rattle.consistency.specs.Bears.{Run, tracks_of}

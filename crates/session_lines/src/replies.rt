@@ -2,7 +2,7 @@
 
 ghost use Rattle.std.specs.Prelude.{◌≡◌, ◌≤◌, ◌++◌, ◌∷◌, [], ℕ, List, IfErr, OnErr, OnOk, codes, decimal, length};
 ghost use Rattle.tod_stamp.specs.Stamps.{stamp_text};
-ghost use Rattle.trace_grammar.specs.declared.trace.Trace.{Trace};
+ghost use Rattle.write_trace.specs.declared.trace.Trace.{Trace};
 ghost use Rattle.pair_table.specs.declared.row.PairRow.{PairRow};
 ghost use Rattle.consistency.specs.Bears.{Run};
 ghost use Rattle.consistency.specs.Moments.{BearsThroughout};

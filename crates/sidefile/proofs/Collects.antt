@@ -11,12 +11,12 @@ use Rattle.ckd_track.specs.declared.write.Kind.{Kind}
 use Rattle.ckd_track.specs.declared.write.Kind.TheVariants.{Update, Format, Whole}
 use Rattle.ckd_track.specs.declared.write.Cause.TheVariants.{ReadFault, BadTrace, Crowded}
 use Rattle.ckd_track.specs.Effects.{is_kind, keeps_rules}
-use Rattle.trace_grammar.specs.declared.header.VolumeHead.{VolumeHead}
-use Rattle.trace_grammar.specs.declared.entry.Entry.{Entry}
-use Rattle.trace_grammar.specs.declared.entry.Entry.TheVariants.{Written, Idle}
-use Rattle.trace_grammar.specs.Headers.{has_track}
-use Rattle.trace_grammar.specs.Entries.{stamp_of, is_entry, is_stamp_from}
-use Rattle.trace_grammar.specs.Writes.{writes_of, IsWriteTo}
+use Rattle.write_trace.specs.declared.header.VolumeHead.{VolumeHead}
+use Rattle.write_trace.specs.declared.entry.Entry.{Entry}
+use Rattle.write_trace.specs.declared.entry.Entry.TheVariants.{Written, Idle}
+use Rattle.write_trace.specs.Headers.{has_track}
+use Rattle.write_trace.specs.Entries.{stamp_of, is_entry, is_stamp_from}
+use Rattle.write_trace.specs.Writes.{writes_of, IsWriteTo}
 use Rattle.write_trace.specs.Answers.{ReaderState, ReadsEntry}
 use Rattle.sidefile.specs.declared.look.Look.{Look}
 use Rattle.sidefile.specs.declared.look.Look.TheVariants as looks

@@ -5,10 +5,10 @@ use Rattle.std.proofs.lemmas.Bool.{eqb-true, eqb-false, ltb-true, ltb-false, leb
 use Rattle.tod_stamp.specs.declared.stamp.Stamp.{Stamp}
 use Rattle.ckd_track.specs.declared.write.Write.{Write}
 use Rattle.ckd_track.specs.declared.write.Cause.{Cause}
-use Rattle.trace_grammar.specs.declared.entry.Entry.{Entry}
-use Rattle.trace_grammar.specs.declared.entry.Entry.TheVariants.{Written, Idle}
-use Rattle.trace_grammar.specs.Entries.{stamp_of}
-use Rattle.trace_grammar.specs.Writes.{writes_of}
+use Rattle.write_trace.specs.declared.entry.Entry.{Entry}
+use Rattle.write_trace.specs.declared.entry.Entry.TheVariants.{Written, Idle}
+use Rattle.write_trace.specs.Entries.{stamp_of}
+use Rattle.write_trace.specs.Writes.{writes_of}
 use Rattle.sidefile.specs.declared.hand.Hand.{Hand}
 use Rattle.sidefile.specs.declared.hand.Hand.TheVariants as hands
 use Rattle.sidefile.specs.Runs.{run_stamp, with_first, runs, is_crowded}

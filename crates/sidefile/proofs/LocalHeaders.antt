@@ -5,10 +5,10 @@ use Rattle.std.specs.Int.{w16, w32}
 use Rattle.tod_stamp.specs.Fields.{◌>>=◌, Left, Bad, bytes_at, number_at, within}
 use Rattle.tod_stamp.specs.Fields.Bad.{Broken}
 use Rattle.tod_stamp.specs.Names.{before_spaces}
-use Rattle.trace_grammar.specs.declared.header.Header.{Header}
-use Rattle.trace_grammar.specs.declared.header.VolumeHead.{VolumeHead}
-use Rattle.trace_grammar.specs.Headers.{cylinder_width, most_cylinders, tracks_of, is_from, is_mark, version_at, is_new_serial, volume_at, volumes_at, place_at, image_field, base_at, bases_at, header_at}
-use Rattle.trace_grammar.specs.Good.{most_bytes, whole_trace}
+use Rattle.write_trace.specs.declared.header.Header.{Header}
+use Rattle.write_trace.specs.declared.header.VolumeHead.{VolumeHead}
+use Rattle.write_trace.specs.Headers.{cylinder_width, most_cylinders, tracks_of, is_from, is_mark, version_at, is_new_serial, volume_at, volumes_at, place_at, image_field, base_at, bases_at, header_at}
+use Rattle.write_trace.specs.Good.{most_bytes, whole_trace}
 use Rattle.write_trace.specs.Unread.{seen}
 use Rattle.sidefile.proofs.Local.{IsLocal, local_number, local_bytes, local_done, local_then, local_choice}
 use Rattle.sidefile.proofs.LocalImages.{local_image}

@@ -10,8 +10,8 @@ use Rattle.ckd_track.specs.Tracks.{size, capacity}
 use Rattle.ckd_track.specs.declared.fault.ImageError.{ImageError}
 use Rattle.ckd_track.specs.declared.fault.ImageError.TheVariants.{Short, TooBig, Order, NoMemory}
 use Rattle.ckd_track.specs.Images.{record_spelling, record_after_head, record_at, records_at, image_at}
-use Rattle.trace_grammar.specs.Headers.{as_field, image_field}
-use Rattle.trace_grammar.specs.Entries.{records_field}
+use Rattle.write_trace.specs.Headers.{as_field, image_field}
+use Rattle.write_trace.specs.Entries.{records_field}
 use Rattle.write_trace.proofs.Steady.{drop-append-le}
 use Rattle.sidefile.proofs.Local.{at, Taken, IsLocal, given_is}
 

@@ -7,14 +7,14 @@ use Rattle.tod_stamp.specs.Fields.{Left}
 use Rattle.tod_stamp.specs.Fields.Bad.{Cut}
 use Rattle.ckd_track.specs.declared.write.Cause.{Cause}
 use Rattle.ckd_track.specs.declared.write.Cause.TheVariants.{BadTrace}
-use Rattle.trace_grammar.specs.declared.header.VolumeHead.{VolumeHead}
+use Rattle.write_trace.specs.declared.header.VolumeHead.{VolumeHead}
 use Rattle.ckd_track.specs.declared.write.Write.{Write}
-use Rattle.trace_grammar.specs.declared.entry.Entry.{Entry}
-use Rattle.trace_grammar.specs.declared.entry.Entry.TheVariants.{Written}
-use Rattle.trace_grammar.specs.declared.trace.TraceEnd.TheVariants as ends
-use Rattle.trace_grammar.specs.declared.trace.TraceEnd.TheVariants.{Ended}
-use Rattle.trace_grammar.specs.Entries.{entry_spelling, entry_at, stamp_of}
-use Rattle.trace_grammar.specs.Good.{most_bytes, entries_from, last_stamp, end_of, bad_end}
+use Rattle.write_trace.specs.declared.entry.Entry.{Entry}
+use Rattle.write_trace.specs.declared.entry.Entry.TheVariants.{Written}
+use Rattle.write_trace.specs.declared.trace.TraceEnd.TheVariants as ends
+use Rattle.write_trace.specs.declared.trace.TraceEnd.TheVariants.{Ended}
+use Rattle.write_trace.specs.Entries.{entry_spelling, entry_at, stamp_of}
+use Rattle.write_trace.specs.Good.{most_bytes, entries_from, last_stamp, end_of, bad_end}
 use Rattle.write_trace.specs.declared.next.Stopped.{Stopped}
 use Rattle.write_trace.specs.Unread.{unread, seen}
 use Rattle.write_trace.specs.Answers.{ReaderState, ReadsEntry, EndsThere, IsBadThere, FailsThere}

@@ -3,16 +3,16 @@ use Rattle.std.proofs.Common.{◌≡◌, ℕ, ◌+◌, ◌-◌, ◌≤◌, Bool,
 use Rattle.std.proofs.lemmas.Bool.{leb-true}
 use Rattle.tod_stamp.specs.Fields.{Left, Bad}
 use Rattle.tod_stamp.specs.Fields.Bad.{Cut, Broken}
-use Rattle.trace_grammar.specs.declared.header.VolumeHead.{VolumeHead}
-use Rattle.trace_grammar.specs.declared.header.Header.{Header}
-use Rattle.trace_grammar.specs.declared.entry.Entry.{Entry}
-use Rattle.trace_grammar.specs.declared.trace.Trace.{Trace}
-use Rattle.trace_grammar.specs.declared.trace.HeaderError.{HeaderError}
-use Rattle.trace_grammar.specs.declared.trace.TraceEnd.{TraceEnd}
-use Rattle.trace_grammar.specs.declared.trace.TraceEnd.TheVariants.{Ended, BadTrace, ReadFault}
-use Rattle.trace_grammar.specs.Headers.{header_at}
-use Rattle.trace_grammar.specs.Entries.{entry_at}
-use Rattle.trace_grammar.specs.Good.{most_bytes, whole_trace, entries_from, bad_start, after_header, end_of, bad_end, last_stamp, trace_of}
+use Rattle.write_trace.specs.declared.header.VolumeHead.{VolumeHead}
+use Rattle.write_trace.specs.declared.header.Header.{Header}
+use Rattle.write_trace.specs.declared.entry.Entry.{Entry}
+use Rattle.write_trace.specs.declared.trace.Trace.{Trace}
+use Rattle.write_trace.specs.declared.trace.HeaderError.{HeaderError}
+use Rattle.write_trace.specs.declared.trace.TraceEnd.{TraceEnd}
+use Rattle.write_trace.specs.declared.trace.TraceEnd.TheVariants.{Ended, BadTrace, ReadFault}
+use Rattle.write_trace.specs.Headers.{header_at}
+use Rattle.write_trace.specs.Entries.{entry_at}
+use Rattle.write_trace.specs.Good.{most_bytes, whole_trace, entries_from, bad_start, after_header, end_of, bad_end, last_stamp, trace_of}
 use Rattle.write_trace.specs.Unread.{seen}
 use Rattle.sidefile.specs.Breaks.{cause_of}
 use Rattle.sidefile.specs.Ahead.{read_of, end_at, ahead}

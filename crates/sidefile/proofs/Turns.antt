@@ -2,10 +2,10 @@
 use Rattle.std.proofs.Common.{◌≡◌, ℕ, zero, suc, ◌+◌, ◌<◌, ◌≤◌, List, [], ◌∷◌, ◌++◌, length, Result, Ok, Err, refl, sym, ap, ◌∙◌, arith, length-append}
 use Rattle.tod_stamp.specs.Fields.{Left, Bad, number_at}
 use Rattle.tod_stamp.specs.Fields.Bad.{Cut}
-use Rattle.trace_grammar.specs.declared.header.VolumeHead.{VolumeHead}
-use Rattle.trace_grammar.specs.declared.entry.Entry.{Entry}
-use Rattle.trace_grammar.specs.Entries.{entry_at, stamp_of}
-use Rattle.trace_grammar.specs.Good.{entries_from}
+use Rattle.write_trace.specs.declared.header.VolumeHead.{VolumeHead}
+use Rattle.write_trace.specs.declared.entry.Entry.{Entry}
+use Rattle.write_trace.specs.Entries.{entry_at, stamp_of}
+use Rattle.write_trace.specs.Good.{entries_from}
 use Rattle.sidefile.proofs.Local.{at, Taken}
 use Rattle.sidefile.proofs.LocalEntries.{local_entry}
 

@@ -3,10 +3,10 @@ use Rattle.std.specs.Prelude.{ℕ, ◌-◌, List, [], ◌∷◌, Bool, false, Op
 use Rattle.tod_stamp.specs.declared.stamp.Stamp.{Stamp}
 use Rattle.ckd_track.specs.declared.write.Cause.{Cause}
 use Rattle.ckd_track.specs.declared.write.Cause.TheVariants.{ReadFault, BadTrace, Crowded}
-use Rattle.trace_grammar.specs.declared.entry.Entry.{Entry}
-use Rattle.trace_grammar.specs.declared.trace.Trace.{Trace}
-use Rattle.trace_grammar.specs.declared.trace.TraceEnd.{TraceEnd}
-use Rattle.trace_grammar.specs.declared.trace.TraceEnd.TheVariants as ends
+use Rattle.write_trace.specs.declared.entry.Entry.{Entry}
+use Rattle.write_trace.specs.declared.trace.Trace.{Trace}
+use Rattle.write_trace.specs.declared.trace.TraceEnd.{TraceEnd}
+use Rattle.write_trace.specs.declared.trace.TraceEnd.TheVariants as ends
 use Rattle.sidefile.specs.Runs.{runs, run_stamp, is_crowded}
 
 abbrev pub stamp : ℕ → Stamp

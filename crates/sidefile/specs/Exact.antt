@@ -2,7 +2,7 @@
 use Rattle.std.specs.Prelude.{◌≡◌, ℕ, List, ◌++◌, Option, Some, None}
 use Rattle.ckd_track.specs.declared.write.Cause.{Cause}
 use Rattle.ckd_track.specs.declared.write.Cause.TheVariants.{ReadFault}
-use Rattle.trace_grammar.specs.declared.entry.Entry.{Entry}
+use Rattle.write_trace.specs.declared.entry.Entry.{Entry}
 use Rattle.write_trace.specs.Answers.{ReaderState}
 use Rattle.sidefile.specs.declared.hand.Hand.{Hand}
 use Rattle.sidefile.specs.declared.hand.Hand.TheVariants.{Batch, AtLimit, Broken, NoMemory}

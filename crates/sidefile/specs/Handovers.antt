@@ -2,12 +2,12 @@
 use Rattle.std.specs.Prelude.{◌≡◌, ◌≢◌, ◌≤◌, ℕ, ◌+◌, ◌-◌, List, [], ◌∷◌, ◌++◌, length, map, take, true, Option, Some, None, Ok}
 use Rattle.tod_stamp.specs.declared.stamp.Stamp.{Stamp}
 use Rattle.ckd_track.specs.declared.write.Cause.TheVariants.{ReadFault}
-use Rattle.trace_grammar.specs.declared.header.Header.{Header}
-use Rattle.trace_grammar.specs.declared.trace.Trace.{Trace}
-use Rattle.trace_grammar.specs.declared.trace.TraceEnd.TheVariants as ends
-use Rattle.trace_grammar.specs.Headers.{header_at}
-use Rattle.trace_grammar.specs.Good.{whole_trace, trace_of}
-use Rattle.trace_grammar.specs.Writes.{writes_of}
+use Rattle.write_trace.specs.declared.header.Header.{Header}
+use Rattle.write_trace.specs.declared.trace.Trace.{Trace}
+use Rattle.write_trace.specs.declared.trace.TraceEnd.TheVariants as ends
+use Rattle.write_trace.specs.Headers.{header_at}
+use Rattle.write_trace.specs.Good.{whole_trace, trace_of}
+use Rattle.write_trace.specs.Writes.{writes_of}
 use Rattle.write_trace.specs.Unread.{unread, seen}
 use Rattle.write_trace.specs.Answers.{ReaderState}
 use Rattle.sidefile.specs.declared.hand.Hand.{Hand}

@@ -3,14 +3,14 @@ use Rattle.std.specs.Prelude.{◌≡◌, ℕ, ◌+◌, ◌-◌, ◌&&◌, List, 
 use Rattle.std.specs.List.{flat_map, list_all}
 use Rattle.ckd_track.specs.declared.write.Write.{Write}
 use Rattle.ckd_track.specs.declared.write.Cause.{Cause}
-use Rattle.trace_grammar.specs.declared.entry.Entry.{Entry}
-use Rattle.trace_grammar.specs.declared.header.Header.{Header}
-use Rattle.trace_grammar.specs.declared.trace.Trace.{Trace}
-use Rattle.trace_grammar.specs.Entries.{stamp_of}
-use Rattle.trace_grammar.specs.Writes.{writes_of}
-use Rattle.trace_grammar.specs.declared.trace.TraceEnd.TheVariants.{ReadFault}
-use Rattle.trace_grammar.specs.Headers.{header_at}
-use Rattle.trace_grammar.specs.Good.{whole_trace, trace_of}
+use Rattle.write_trace.specs.declared.entry.Entry.{Entry}
+use Rattle.write_trace.specs.declared.header.Header.{Header}
+use Rattle.write_trace.specs.declared.trace.Trace.{Trace}
+use Rattle.write_trace.specs.Entries.{stamp_of}
+use Rattle.write_trace.specs.Writes.{writes_of}
+use Rattle.write_trace.specs.declared.trace.TraceEnd.TheVariants.{ReadFault}
+use Rattle.write_trace.specs.Headers.{header_at}
+use Rattle.write_trace.specs.Good.{whole_trace, trace_of}
 use Rattle.write_trace.specs.Unread.{seen}
 use Rattle.write_trace.specs.Answers.{ReaderState}
 use Rattle.sidefile.specs.declared.hand.Hand.{Hand}

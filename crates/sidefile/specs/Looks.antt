@@ -5,13 +5,13 @@ use Rattle.xrc_edge.specs.Causes.{Rose}
 use Rattle.ckd_track.specs.declared.write.Write.{Write}
 use Rattle.ckd_track.specs.declared.write.Cause.{Cause}
 use Rattle.ckd_track.specs.declared.write.Cause.TheVariants.{ReadFault, BadTrace, Crowded}
-use Rattle.trace_grammar.specs.declared.header.VolumeHead.{VolumeHead}
-use Rattle.trace_grammar.specs.declared.entry.Entry.{Entry}
-use Rattle.trace_grammar.specs.declared.entry.Entry.TheVariants.{Written}
-use Rattle.trace_grammar.specs.declared.trace.TraceEnd.TheVariants as ends
-use Rattle.trace_grammar.specs.Entries.{stamp_of}
-use Rattle.trace_grammar.specs.Good.{last_stamp}
-use Rattle.trace_grammar.specs.Writes.{writes_of, IsWriteTo}
+use Rattle.write_trace.specs.declared.header.VolumeHead.{VolumeHead}
+use Rattle.write_trace.specs.declared.entry.Entry.{Entry}
+use Rattle.write_trace.specs.declared.entry.Entry.TheVariants.{Written}
+use Rattle.write_trace.specs.declared.trace.TraceEnd.TheVariants as ends
+use Rattle.write_trace.specs.Entries.{stamp_of}
+use Rattle.write_trace.specs.Good.{last_stamp}
+use Rattle.write_trace.specs.Writes.{writes_of, IsWriteTo}
 use Rattle.write_trace.specs.declared.next.Stopped.TheVariants.{AtEnd, NoMemory}
 use Rattle.write_trace.specs.Unread.{unread}
 use Rattle.write_trace.specs.Answers.{ReaderState, ReadsEntry, EndsThere, IsBadThere, FailsThere, Stops}

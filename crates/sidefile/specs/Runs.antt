@@ -1,9 +1,9 @@
 -- The runs of a trace's good entries.
 use Rattle.std.specs.Prelude.{◌≡◌, ℕ, ◌==◌, List, [], ◌∷◌, length, Bool, nat_lt, if◌then◌else◌}
 use Rattle.std.specs.List.{flat_map}
-use Rattle.trace_grammar.specs.declared.entry.Entry.{Entry}
-use Rattle.trace_grammar.specs.Entries.{stamp_of}
-use Rattle.trace_grammar.specs.Writes.{writes_of}
+use Rattle.write_trace.specs.declared.entry.Entry.{Entry}
+use Rattle.write_trace.specs.Entries.{stamp_of}
+use Rattle.write_trace.specs.Writes.{writes_of}
 
 -- the stamp of a run, which is that of its first entry
 abbrev pub run_stamp : List Entry → ℕ

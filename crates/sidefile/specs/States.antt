@@ -3,11 +3,11 @@ use Rattle.std.specs.Prelude.{◌≡◌, ◌<◌, ◌≤◌, ◌⊎◌, ℕ, Lis
 use Rattle.xrc_edge.specs.Causes.{Rose}
 use Rattle.ckd_track.specs.declared.write.Batch.{Batch}
 use Rattle.ckd_track.specs.declared.write.Cause.TheVariants.{ReadFault}
-use Rattle.trace_grammar.specs.declared.header.VolumeHead.{VolumeHead}
-use Rattle.trace_grammar.specs.declared.entry.Entry.{Entry}
-use Rattle.trace_grammar.specs.declared.trace.TraceEnd.TheVariants as ends
-use Rattle.trace_grammar.specs.Entries.{stamp_of}
-use Rattle.trace_grammar.specs.Writes.{IsWriteTo}
+use Rattle.write_trace.specs.declared.header.VolumeHead.{VolumeHead}
+use Rattle.write_trace.specs.declared.entry.Entry.{Entry}
+use Rattle.write_trace.specs.declared.trace.TraceEnd.TheVariants as ends
+use Rattle.write_trace.specs.Entries.{stamp_of}
+use Rattle.write_trace.specs.Writes.{IsWriteTo}
 use Rattle.write_trace.specs.declared.next.Stopped.TheVariants.{AtEnd}
 use Rattle.write_trace.specs.Answers.{ReaderState}
 use Rattle.sidefile.specs.declared.hand.Hand.{Hand}

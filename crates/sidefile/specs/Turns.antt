@@ -1,6 +1,6 @@
 -- One turn of a sidefile.
 use Rattle.std.specs.Prelude.{◌≡◌, ◌≤◌, ℕ, List, Option}
-use Rattle.trace_grammar.specs.declared.entry.Entry.{Entry}
+use Rattle.write_trace.specs.declared.entry.Entry.{Entry}
 use Rattle.write_trace.specs.Answers.{ReaderState}
 use Rattle.sidefile.specs.declared.turn.Turn.{Turn}
 use Rattle.sidefile.specs.Exact.{IsDue, Front}

@@ -1,14 +1,13 @@
 //! Looking at the next entry of a trace.
 
 ghost use Rattle.std.specs.Prelude.{◌≡◌, None, Some};
-ghost use Rattle.trace_grammar.specs.declared.trace.TraceEnd.TheVariants as ends;
+ghost use Rattle.write_trace.specs.declared.trace.TraceEnd.TheVariants as ends;
 ghost use Rattle.write_trace.specs.declared.next.Stopped.TheVariants.{AtEnd};
 ghost use Rattle.sidefile.specs.Looks.{Finds};
 
 use ckd_track::Cause;
 use std::alloc::Global;
-use trace_grammar::Entry;
-use write_trace::{Next, TraceReader};
+use write_trace::{Entry, Next, TraceReader};
 use xrc_edge::Source;
 
 /// What a look at the next entry finds.

@@ -1,8 +1,8 @@
 //! Taking a run.
 
 ghost use Rattle.std.specs.Prelude.{◌≡◌, ◌≤◌, [], ◌∷◌, ◌++◌, None, Some, length, OnOk};
-ghost use Rattle.trace_grammar.specs.Entries.{stamp_of as stamp_of_entry};
-ghost use Rattle.trace_grammar.specs.Writes.{writes_of};
+ghost use Rattle.write_trace.specs.Entries.{stamp_of as stamp_of_entry};
+ghost use Rattle.write_trace.specs.Writes.{writes_of};
 ghost use Rattle.sidefile.specs.Runs.{quota};
 ghost use Rattle.sidefile.specs.Looks.{TakesRun, AddsWrites};
 
@@ -10,8 +10,7 @@ use crate::look::{Look, look_ahead};
 use ckd_track::{Cause, WriteList};
 use std::alloc::Global;
 use tod_stamp::Stamp;
-use trace_grammar::Entry;
-use write_trace::TraceReader;
+use write_trace::{Entry, TraceReader};
 use xrc_edge::Source;
 
 /// The most writes of a run.

@@ -12,8 +12,7 @@ use ckd_track::Cause;
 use std::alloc::Global;
 use std::marker::Model;
 use tod_stamp::Stamp;
-use trace_grammar::Entry;
-use write_trace::TraceReader;
+use write_trace::{Entry, TraceReader};
 use xrc_edge::{NoMemory, Source};
 
 /// The writes of a control's trace that were not yet handed over. It reads them from the source on which its reader was started, so

@@ -1,7 +1,7 @@
 //! One turn of a sidefile: what is handed over of the run that an entry begins.
 
 ghost use Rattle.std.specs.Prelude.{◌≡◌, ◌<◌, ◌≤◌, ◌-◌, ℕ, min, None, Some};
-ghost use Rattle.trace_grammar.specs.Entries.{stamp_of as stamp_of_entry};
+ghost use Rattle.write_trace.specs.Entries.{stamp_of as stamp_of_entry};
 ghost use Rattle.sidefile.specs.Looks.{IsKept};
 ghost use Rattle.sidefile.specs.States.{IsWaiting};
 ghost use Rattle.sidefile.specs.Turns.{IsTurn, IsSomeWaiting};
@@ -12,8 +12,7 @@ use crate::run::{add, stamp_of, take_run};
 use ckd_track::{Batch, Cause, WriteList};
 use std::alloc::Global;
 use tod_stamp::Stamp;
-use trace_grammar::Entry;
-use write_trace::TraceReader;
+use write_trace::{Entry, TraceReader};
 use xrc_edge::Source;
 
 /// What was handed over, and the entry that waits afterwards.

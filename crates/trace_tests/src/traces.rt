@@ -4,8 +4,7 @@ use crate::fixtures::{TRACE, serial, source};
 use ckd_track::Track;
 use std::alloc::Global;
 use std::process::Abort;
-use trace_grammar::{BaseList, Header, TraceEnd, VolumeHead, VolumeList};
-use write_trace::{Next, read_entries, start};
+use write_trace::{BaseList, Header, Next, TraceEnd, VolumeHead, VolumeList, read_entries, start};
 
 /// Volumes of one and of 65,520 cylinders with these serials, and an empty base track.
 fn header(rt: &impl Abort, alloc: Global, serials: [&[u8]; 2], place: (u16, u32)) -> Header {

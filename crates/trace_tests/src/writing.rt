@@ -3,8 +3,7 @@
 use crate::fixtures::{TRACE, append, filled, source};
 use std::alloc::Global;
 use std::process::Abort;
-use trace_grammar::{Entry, Header, TraceEnd};
-use write_trace::{TraceWriter, read_entries, start};
+use write_trace::{Entry, Header, TraceEnd, TraceWriter, read_entries, start};
 use xrc_edge::Bytes;
 
 /// Puts an entry that keeps the rules behind a trace.

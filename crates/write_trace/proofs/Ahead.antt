@@ -3,10 +3,10 @@ use Rattle.std.proofs.Common.{◌≡◌, ℕ, zero, suc, ◌+◌, ◌-◌, ◌�
 use Rattle.std.proofs.lemmas.List.{take-append-le, drop-take}
 use Rattle.tod_stamp.specs.Fields.{Left, Bad, after}
 use Rattle.tod_stamp.specs.Fields.Bad.{Broken}
-use Rattle.trace_grammar.specs.declared.header.VolumeHead.{VolumeHead}
-use Rattle.trace_grammar.specs.declared.entry.Entry.{Entry}
-use Rattle.trace_grammar.specs.Entries.{entry_at}
-use Rattle.trace_grammar.specs.Good.{most_bytes}
+use Rattle.write_trace.specs.declared.header.VolumeHead.{VolumeHead}
+use Rattle.write_trace.specs.declared.entry.Entry.{Entry}
+use Rattle.write_trace.specs.Entries.{entry_at}
+use Rattle.write_trace.specs.Good.{most_bytes}
 use Rattle.write_trace.specs.Unread.{unread, seen}
 use Rattle.write_trace.proofs.Steady.{longer, Stays, IsSteady}
 use Rattle.write_trace.proofs.SteadyEntries.{steady_entry}

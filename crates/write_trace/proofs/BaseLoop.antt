@@ -9,13 +9,13 @@ use Rattle.xrc_edge.specs.Causes.{Rose}
 use Rattle.tod_stamp.specs.Fields.{◌>>=◌, Left, Bad, bytes_at, number_at, within}
 use Rattle.tod_stamp.proofs.FieldLaws.{bind_ok}
 use Rattle.ckd_track.specs.Tracks.{IsTrack}
-use Rattle.trace_grammar.specs.declared.header.VolumeHead.{VolumeHead}
-use Rattle.trace_grammar.specs.declared.header.Header.{Header}
-use Rattle.trace_grammar.specs.declared.trace.HeaderError.{HeaderError}
-use Rattle.trace_grammar.specs.declared.trace.HeaderError.TheVariants.{BadHeader, HeaderFault, NoMemory}
-use Rattle.trace_grammar.specs.Headers.{Base, mark, is_mark, tracks_of, has_track, is_from, are_volumes, are_bases, is_header_of, version_at, volumes_at, base_at, bases_at, header_at}
-use Rattle.trace_grammar.specs.Good.{whole_trace}
-use Rattle.trace_grammar.proofs.FieldSteps.{and_true}
+use Rattle.write_trace.specs.declared.header.VolumeHead.{VolumeHead}
+use Rattle.write_trace.specs.declared.header.Header.{Header}
+use Rattle.write_trace.specs.declared.trace.HeaderError.{HeaderError}
+use Rattle.write_trace.specs.declared.trace.HeaderError.TheVariants.{BadHeader, HeaderFault, NoMemory}
+use Rattle.write_trace.specs.Headers.{Base, mark, is_mark, tracks_of, has_track, is_from, are_volumes, are_bases, is_header_of, version_at, volumes_at, base_at, bases_at, header_at}
+use Rattle.write_trace.specs.Good.{whole_trace}
+use Rattle.write_trace.proofs.FieldSteps.{and_true}
 use Rattle.write_trace.specs.Unread.{unread, seen}
 use Rattle.write_trace.specs.Answers.{ReaderState}
 use Rattle.write_trace.specs.Starts.{ReadsHeader, Starts}

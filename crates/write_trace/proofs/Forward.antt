@@ -12,8 +12,8 @@ use Rattle.ckd_track.specs.declared.fault.ImageError.{ImageError}
 use Rattle.ckd_track.specs.Images.{record_spelling, record_after_head, record_at, records_at, image_at}
 use Rattle.ckd_track.specs.declared.fault.ImageError.TheVariants.{Short, TooBig, Order, NoMemory}
 use Rattle.tod_stamp.proofs.FieldLaws.{bind_ok, guard_ok, allow_ok}
-use Rattle.trace_grammar.specs.Headers.{as_field, image_field}
-use Rattle.trace_grammar.specs.Entries.{records_field}
+use Rattle.write_trace.specs.Headers.{as_field, image_field}
+use Rattle.write_trace.specs.Entries.{records_field}
 
 ok_rest : {A B : Type 0} (E : Type 0) (a b : A × B) → (let p : Result (A × B) E = Ok a in let q : Result (A × B) E = Ok b in p ≡ q) → a.1 ≡ b.1
 ok_rest E a b e = cc

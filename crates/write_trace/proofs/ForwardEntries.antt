@@ -4,11 +4,11 @@ use Rattle.std.specs.Int.{w8, w16, w64}
 use Rattle.tod_stamp.specs.Fields.{◌>>=◌, Left, after, bytes_at, number_at, within}
 use Rattle.ckd_track.specs.declared.write.Kind.TheVariants.{Update, Format, Whole}
 use Rattle.ckd_track.specs.Effects.{longest_update}
-use Rattle.trace_grammar.specs.declared.header.VolumeHead.{VolumeHead}
-use Rattle.trace_grammar.specs.Headers.{place_at, cylinders_of, cylinder_width, image_field}
-use Rattle.trace_grammar.specs.declared.entry.Entry.{Entry}
-use Rattle.trace_grammar.specs.Entries.{any, update_at, format_at, whole_at, kind_at, write_at, entry_at, records_field}
-use Rattle.trace_grammar.specs.declared.entry.Entry.TheVariants.{Written, Idle}
+use Rattle.write_trace.specs.declared.header.VolumeHead.{VolumeHead}
+use Rattle.write_trace.specs.Headers.{place_at, cylinders_of, cylinder_width, image_field}
+use Rattle.write_trace.specs.declared.entry.Entry.{Entry}
+use Rattle.write_trace.specs.Entries.{any, update_at, format_at, whole_at, kind_at, write_at, entry_at, records_field}
+use Rattle.write_trace.specs.declared.entry.Entry.TheVariants.{Written, Idle}
 use Rattle.write_trace.proofs.Forward.{IsForward, forward_number, forward_bytes, forward_done, forward_then, forward_choice, forward_image, forward_records}
 
 forward_update : IsForward update_at

@@ -7,19 +7,19 @@ use Rattle.std.proofs.lemmas.List.Elements.{All-nil, All-cons}
 use Rattle.tod_stamp.specs.Fields.{within}
 use Rattle.tod_stamp.specs.Names.{is_serial}
 use Rattle.ckd_track.specs.Tracks.{is_track}
-use Rattle.trace_grammar.specs.declared.header.VolumeHead.{VolumeHead}
-use Rattle.trace_grammar.specs.declared.header.Header.{Header}
-use Rattle.trace_grammar.specs.Headers.{Base, cylinders_of, has_track, are_volumes, are_bases, is_from, is_header_of, most_cylinders}
-use Rattle.trace_grammar.proofs.BaseCounts.{count_bases, few_tracks}
-use Rattle.trace_grammar.proofs.FieldSteps.{both_true}
+use Rattle.write_trace.specs.declared.header.VolumeHead.{VolumeHead}
+use Rattle.write_trace.specs.declared.header.Header.{Header}
+use Rattle.write_trace.specs.Headers.{Base, cylinders_of, has_track, are_volumes, are_bases, is_from, is_header_of, most_cylinders}
+use Rattle.write_trace.proofs.BaseCounts.{count_bases, few_tracks}
+use Rattle.write_trace.proofs.FieldSteps.{both_true}
 
 -- a volume's rules, and those of the volumes behind it
-pub record FirstVolume (seen : List (List ℕ)) (v : VolumeHead) (volumes : List VolumeHead) : Type 0 where
+pub record FirstIsNarrow (seen : List (List ℕ)) (v : VolumeHead) (volumes : List VolumeHead) : Type 0 where
   pub few : v.cylinders ≤ 65520
   pub others : are_volumes 1 (v.serial ∷ seen) volumes ≡ true
 
-first_volume : (seen : List (List ℕ)) (v : VolumeHead) (volumes : List VolumeHead) → are_volumes 1 seen (v ∷ volumes) ≡ true → FirstVolume seen v volumes
-first_volume seen v volumes is =
+first_is_narrow : (seen : List (List ℕ)) (v : VolumeHead) (volumes : List VolumeHead) → are_volumes 1 seen (v ∷ volumes) ≡ true → FirstIsNarrow seen v volumes
+first_is_narrow seen v volumes is =
     let a = both_true (is_serial v.serial && not (list_any (bytes_eq v.serial) seen) && within 1 65520 v.cylinders) (are_volumes 1 (v.serial ∷ seen) volumes) is in
     let b = both_true (is_serial v.serial && not (list_any (bytes_eq v.serial) seen)) (within 1 65520 v.cylinders) a.0 in
     let c = both_true (nat_le 1 v.cylinders) (nat_le v.cylinders 65520) b.1 in
@@ -29,13 +29,13 @@ first_volume seen v volumes is =
 pub narrow_volumes : (seen : List (List ℕ)) (volumes : List VolumeHead) → are_volumes 1 seen volumes ≡ true → All (λ (v : VolumeHead). v.cylinders ≤ most_cylinders 1) volumes
 narrow_volumes seen [] is = All-nil (λ (v : VolumeHead). v.cylinders ≤ most_cylinders 1)
 narrow_volumes seen (v ∷ volumes) is =
-    let first = first_volume seen v volumes is in
+    let first = first_is_narrow seen v volumes is in
     All-cons (λ (v : VolumeHead). v.cylinders ≤ most_cylinders 1) v volumes first.few (narrow_volumes (v.serial ∷ seen) volumes first.others)
 
 cylinders_below : (seen : List (List ℕ)) (volumes : List VolumeHead) (k : ℕ) → are_volumes 1 seen volumes ≡ true → cylinders_of volumes k ≤ 65520
 cylinders_below seen [] k is = omega arith
-cylinders_below seen (v ∷ volumes) zero is = (first_volume seen v volumes is).few
-cylinders_below seen (v ∷ volumes) (suc k) is = cylinders_below (v.serial ∷ seen) volumes k (first_volume seen v volumes is).others
+cylinders_below seen (v ∷ volumes) zero is = (first_is_narrow seen v volumes is).few
+cylinders_below seen (v ∷ volumes) (suc k) is = cylinders_below (v.serial ∷ seen) volumes k (first_is_narrow seen v volumes is).others
 
 -- a base track's rules, and those of the base tracks behind it
 record FirstBase (volumes : List VolumeHead) (low : ℕ × ℕ) (b : Base) (base : List Base) : Type 0 where

@@ -9,10 +9,10 @@ use Rattle.tod_stamp.specs.Fields.{◌>>=◌, Left, Bad, after, bytes_at, number
 use Rattle.tod_stamp.specs.Fields.Bad.{Cut, Broken}
 use Rattle.tod_stamp.specs.Names.{is_field, is_name, is_serial, before_spaces, name_in}
 use Rattle.tod_stamp.proofs.FieldLaws.{bind_ok, guard_ok, allow_ok}
-use Rattle.trace_grammar.specs.declared.header.VolumeHead.{VolumeHead}
-use Rattle.trace_grammar.specs.Entries.{any}
-use Rattle.trace_grammar.specs.Headers.{tracks_of, version_at, is_new_serial, volume_at, volumes_at, are_volumes}
-use Rattle.trace_grammar.proofs.FieldSteps.{both_true, and_true}
+use Rattle.write_trace.specs.declared.header.VolumeHead.{VolumeHead}
+use Rattle.write_trace.specs.Entries.{any}
+use Rattle.write_trace.specs.Headers.{tracks_of, version_at, is_new_serial, volume_at, volumes_at, are_volumes}
+use Rattle.write_trace.proofs.FieldSteps.{both_true, and_true}
 use Rattle.write_trace.specs.declared.stop.Stop.{Stop}
 use Rattle.write_trace.specs.declared.stop.Stop.TheVariants as stops
 use Rattle.write_trace.specs.Gives.{Gives, Fails}

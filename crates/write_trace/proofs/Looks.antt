@@ -3,10 +3,10 @@ use Rattle.std.proofs.Common.{◌≡◌, ◌≢◌, ℕ, zero, suc, ◌+◌, ◌
 use Rattle.std.proofs.lemmas.List.{append-nil, take_at, take-append-le, take-append-drop}
 use Rattle.tod_stamp.specs.Fields.{IsBytes, Left, Bad, after, number_at}
 use Rattle.tod_stamp.specs.Fields.Bad.{Cut, Broken}
-use Rattle.trace_grammar.specs.declared.header.VolumeHead.{VolumeHead}
-use Rattle.trace_grammar.specs.declared.entry.Entry.{Entry}
-use Rattle.trace_grammar.specs.Entries.{entry_spelling, entry_at, stamp_of}
-use Rattle.trace_grammar.specs.Good.{most_bytes}
+use Rattle.write_trace.specs.declared.header.VolumeHead.{VolumeHead}
+use Rattle.write_trace.specs.declared.entry.Entry.{Entry}
+use Rattle.write_trace.specs.Entries.{entry_spelling, entry_at, stamp_of}
+use Rattle.write_trace.specs.Good.{most_bytes}
 use Rattle.write_trace.specs.declared.next.Stopped.{Stopped}
 use Rattle.write_trace.specs.declared.stop.Stop.{Stop}
 use Rattle.write_trace.specs.declared.stop.Stop.TheVariants as stops
@@ -15,7 +15,7 @@ use Rattle.write_trace.specs.Unread.{unread, seen, IsAtEnd}
 use Rattle.write_trace.specs.Answers.{ReaderState, IsBadThere}
 use Rattle.write_trace.specs.Steps.{ReadOf, TakesEntry, IsCut, IsBroken, Tries}
 use Rattle.write_trace.proofs.Ahead.{seen_skip, ahead_is, full_ahead, bad_ahead}
-use Rattle.trace_grammar.proofs.EntryReads.{entries_spelled}
+use Rattle.write_trace.proofs.EntryReads.{entries_spelled}
 use Rattle.write_trace.proofs.ForwardEntries.{taken}
 use Rattle.write_trace.proofs.Short.{short_entry, cut_is_short}
 

@@ -2,10 +2,10 @@
 use Rattle.std.proofs.Common.{◌≡◌, ◌≢◌, ℕ, ◌+◌, ◌≤◌, ◌<◌, List, [], ◌++◌, length, Option, Some, None, refl, sym, ap, ◌∙◌}
 use Rattle.xrc_edge.specs.Causes.{Rose}
 use Rattle.tod_stamp.specs.Fields.{Left}
-use Rattle.trace_grammar.specs.declared.header.VolumeHead.{VolumeHead}
-use Rattle.trace_grammar.specs.declared.trace.TraceEnd.TheVariants.{Ended, BadTrace, ReadFault}
-use Rattle.trace_grammar.specs.Entries.{entry_at}
-use Rattle.trace_grammar.specs.Good.{most_bytes}
+use Rattle.write_trace.specs.declared.header.VolumeHead.{VolumeHead}
+use Rattle.write_trace.specs.declared.trace.TraceEnd.TheVariants.{Ended, BadTrace, ReadFault}
+use Rattle.write_trace.specs.Entries.{entry_at}
+use Rattle.write_trace.specs.Good.{most_bytes}
 use Rattle.write_trace.specs.declared.next.Stopped.{Stopped}
 use Rattle.write_trace.specs.Unread.{unread, seen, IsAtEnd}
 use Rattle.write_trace.specs.Answers.{ReaderState}

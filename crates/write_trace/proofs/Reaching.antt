@@ -5,11 +5,11 @@ use Rattle.std.proofs.lemmas.List.{append-nil, append_cancel_left}
 use Rattle.xrc_edge.specs.Causes.{Rose}
 use Rattle.tod_stamp.specs.Fields.{◌>>=◌, Left, Bad, after}
 use Rattle.tod_stamp.specs.Fields.Bad.{Cut, Broken}
-use Rattle.trace_grammar.specs.declared.header.Header.{Header}
-use Rattle.trace_grammar.specs.declared.trace.HeaderError.{HeaderError}
-use Rattle.trace_grammar.specs.declared.trace.HeaderError.TheVariants.{BadHeader, HeaderFault, NoMemory}
-use Rattle.trace_grammar.specs.Headers.{header_at}
-use Rattle.trace_grammar.specs.Good.{most_bytes, whole_trace}
+use Rattle.write_trace.specs.declared.header.Header.{Header}
+use Rattle.write_trace.specs.declared.trace.HeaderError.{HeaderError}
+use Rattle.write_trace.specs.declared.trace.HeaderError.TheVariants.{BadHeader, HeaderFault, NoMemory}
+use Rattle.write_trace.specs.Headers.{header_at}
+use Rattle.write_trace.specs.Good.{most_bytes, whole_trace}
 use Rattle.write_trace.specs.Unread.{unread, seen, IsAtEnd}
 use Rattle.write_trace.specs.Starts.{IsBadHeader, FailsInHeader}
 use Rattle.write_trace.specs.Reached.{Reader, Reached, Waits, IsCutThere, Gathers, ReadsPart}

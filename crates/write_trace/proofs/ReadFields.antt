@@ -10,9 +10,9 @@ use Rattle.ckd_track.specs.declared.fault.ImageError.TheVariants.{Short, TooBig,
 use Rattle.ckd_track.specs.Tracks.{size, capacity}
 use Rattle.ckd_track.specs.Images.{record_spelling, image, record_after_head, record_at, records_at, image_at}
 use Rattle.ckd_track.proofs.ImageLaws.{image_taken, records_take}
-use Rattle.trace_grammar.specs.declared.header.VolumeHead.{VolumeHead}
-use Rattle.trace_grammar.specs.Headers.{cylinders_of, as_field}
-use Rattle.trace_grammar.specs.Entries.{records_field}
+use Rattle.write_trace.specs.declared.header.VolumeHead.{VolumeHead}
+use Rattle.write_trace.specs.Headers.{cylinders_of, as_field}
+use Rattle.write_trace.specs.Entries.{records_field}
 
 pub cylinders_is : (volumes : List VolumeHead) (k : ℕ) (none : VolumeHead) → k < length volumes → (get_or volumes k none).cylinders ≡ cylinders_of volumes k
 cylinders_is [] k none lt = absurd (omega arith)

@@ -5,14 +5,14 @@ use Rattle.std.proofs.lemmas.List.{append-nil}
 use Rattle.std.proofs.Math.Seq.{take-append-add}
 use Rattle.tod_stamp.specs.Fields.{Left, Bad}
 use Rattle.tod_stamp.proofs.FieldLaws.{at_place}
-use Rattle.trace_grammar.specs.declared.header.VolumeHead.{VolumeHead}
-use Rattle.trace_grammar.specs.declared.entry.Entry.{Entry}
-use Rattle.trace_grammar.specs.Headers.{are_volumes}
-use Rattle.trace_grammar.specs.Entries.{entry_spelling, stamp_of, is_entry, are_entries, entry_at}
-use Rattle.trace_grammar.specs.Good.{most_bytes, entries_from, last_stamp}
-use Rattle.trace_grammar.proofs.FieldSteps.{both_true, and_true}
-use Rattle.trace_grammar.proofs.EntryAgain.{entries_back}
-use Rattle.trace_grammar.proofs.EntryRows.{row_length}
+use Rattle.write_trace.specs.declared.header.VolumeHead.{VolumeHead}
+use Rattle.write_trace.specs.declared.entry.Entry.{Entry}
+use Rattle.write_trace.specs.Headers.{are_volumes}
+use Rattle.write_trace.specs.Entries.{entry_spelling, stamp_of, is_entry, are_entries, entry_at}
+use Rattle.write_trace.specs.Good.{most_bytes, entries_from, last_stamp}
+use Rattle.write_trace.proofs.FieldSteps.{both_true, and_true}
+use Rattle.write_trace.proofs.EntryAgain.{entries_back}
+use Rattle.write_trace.proofs.EntryRows.{row_length}
 use Rattle.write_trace.specs.Unread.{seen}
 
 -- the spellings of entries, one after another

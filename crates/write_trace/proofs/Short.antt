@@ -13,10 +13,10 @@ use Rattle.ckd_track.specs.declared.write.Kind.TheVariants.{Update, Format, Whol
 use Rattle.ckd_track.specs.Tracks.{size, capacity}
 use Rattle.ckd_track.specs.Effects.{longest_update}
 use Rattle.ckd_track.specs.Images.{record_spelling, record_after_head, record_at, records_at, image_at}
-use Rattle.trace_grammar.specs.declared.header.VolumeHead.{VolumeHead}
-use Rattle.trace_grammar.specs.declared.entry.Entry.TheVariants.{Written, Idle}
-use Rattle.trace_grammar.specs.Headers.{Base, place_at, cylinders_of, cylinder_width, as_field, image_field, is_from, base_at}
-use Rattle.trace_grammar.specs.Entries.{any, update_at, format_at, whole_at, kind_at, write_at, entry_at, records_field}
+use Rattle.write_trace.specs.declared.header.VolumeHead.{VolumeHead}
+use Rattle.write_trace.specs.declared.entry.Entry.TheVariants.{Written, Idle}
+use Rattle.write_trace.specs.Headers.{Base, place_at, cylinders_of, cylinder_width, as_field, image_field, is_from, base_at}
+use Rattle.write_trace.specs.Entries.{any, update_at, format_at, whole_at, kind_at, write_at, entry_at, records_field}
 
 -- what one reading looked at
 abbrev pub Looks : {A : Type 0} → ℕ → Left → Result (A × Left) Bad → Type 0

@@ -6,10 +6,10 @@ use Rattle.std.proofs.lemmas.Bool.{leb-true}
 use Rattle.tod_stamp.specs.Fields.{◌>>=◌, Left, Bad, bytes_at, number_at, within}
 use Rattle.tod_stamp.specs.Fields.Bad.{Cut}
 use Rattle.tod_stamp.specs.Names.{before_spaces}
-use Rattle.trace_grammar.specs.declared.header.VolumeHead.{VolumeHead}
-use Rattle.trace_grammar.specs.Headers.{tracks_of, is_mark, is_new_serial, version_at, volume_at, volumes_at, base_at}
-use Rattle.trace_grammar.specs.Good.{most_bytes}
-use Rattle.trace_grammar.proofs.FieldSteps.{both_true}
+use Rattle.write_trace.specs.declared.header.VolumeHead.{VolumeHead}
+use Rattle.write_trace.specs.Headers.{tracks_of, is_mark, is_new_serial, version_at, volume_at, volumes_at, base_at}
+use Rattle.write_trace.specs.Good.{most_bytes}
+use Rattle.write_trace.proofs.FieldSteps.{both_true}
 use Rattle.write_trace.specs.Unread.{seen}
 use Rattle.write_trace.specs.HeaderParts.{head_at}
 use Rattle.write_trace.proofs.Short.{IsShort, short_more, short_then, short_done, short_number, short_bytes, short_base, cut_is_short}

@@ -4,10 +4,10 @@ use Rattle.std.specs.Int.{w8, w16, w64}
 use Rattle.tod_stamp.specs.Fields.{◌>>=◌, Left, Bad, bytes_at, number_at, within}
 use Rattle.ckd_track.specs.declared.write.Kind.TheVariants.{Update, Format, Whole}
 use Rattle.ckd_track.specs.Effects.{longest_update}
-use Rattle.trace_grammar.specs.declared.header.VolumeHead.{VolumeHead}
-use Rattle.trace_grammar.specs.Headers.{place_at, cylinders_of, cylinder_width, image_field}
-use Rattle.trace_grammar.specs.Entries.{any, update_at, format_at, whole_at, kind_at, write_at, entry_at, records_field}
-use Rattle.trace_grammar.specs.declared.entry.Entry.TheVariants.{Written, Idle}
+use Rattle.write_trace.specs.declared.header.VolumeHead.{VolumeHead}
+use Rattle.write_trace.specs.Headers.{place_at, cylinders_of, cylinder_width, image_field}
+use Rattle.write_trace.specs.Entries.{any, update_at, format_at, whole_at, kind_at, write_at, entry_at, records_field}
+use Rattle.write_trace.specs.declared.entry.Entry.TheVariants.{Written, Idle}
 use Rattle.write_trace.proofs.Steady.{IsSteady, steady_number, steady_bytes, steady_done, steady_then}
 use Rattle.write_trace.proofs.SteadyImages.{steady_image, steady_records}
 

@@ -4,8 +4,8 @@ use Rattle.std.specs.Prelude.{slice_index}
 use Rattle.std.specs.Int.{w16, w32}
 use Rattle.tod_stamp.specs.Fields.{◌>>=◌, Left, Bad, bytes_at, number_at, within}
 use Rattle.tod_stamp.specs.Names.{before_spaces}
-use Rattle.trace_grammar.specs.declared.header.VolumeHead.{VolumeHead}
-use Rattle.trace_grammar.specs.Headers.{tracks_of, is_mark, is_new_serial, cylinder_width, most_cylinders, version_at, volume_at, volumes_at}
+use Rattle.write_trace.specs.declared.header.VolumeHead.{VolumeHead}
+use Rattle.write_trace.specs.Headers.{tracks_of, is_mark, is_new_serial, cylinder_width, most_cylinders, version_at, volume_at, volumes_at}
 use Rattle.write_trace.specs.HeaderParts.{head_at}
 use Rattle.write_trace.proofs.Steady.{IsSteady, steady_number, steady_bytes, steady_done, steady_then}
 use Rattle.write_trace.proofs.Forward.{IsForward, forward_number, forward_bytes, forward_done, forward_then}

@@ -9,8 +9,8 @@ use Rattle.ckd_track.specs.Tracks.{size, capacity}
 use Rattle.ckd_track.specs.declared.fault.ImageError.{ImageError}
 use Rattle.ckd_track.specs.Images.{record_spelling, record_after_head, record_at, records_at, image_at}
 use Rattle.ckd_track.specs.declared.fault.ImageError.TheVariants.{Short, TooBig, Order, NoMemory}
-use Rattle.trace_grammar.specs.Headers.{as_field, image_field}
-use Rattle.trace_grammar.specs.Entries.{records_field}
+use Rattle.write_trace.specs.Headers.{as_field, image_field}
+use Rattle.write_trace.specs.Entries.{records_field}
 use Rattle.write_trace.proofs.Steady.{longer, Stays, IsSteady, drop-append-le}
 
 abbrev pub StaysImage : {A : Type 0} → List ℕ → Result (A × List ℕ) ImageError → Result (A × List ℕ) ImageError → Type 0

@@ -1,11 +1,11 @@
 -- A reader that took more pieces and no entry is where it was, so what it answers then it answers from the start.
 use Rattle.std.proofs.Common.{◌≡◌, ℕ, ◌+◌, List, ◌++◌, length, Option, Some, None, refl, ap, subst, ◌∙◌, append_assoc, arith, length-append}
 use Rattle.xrc_edge.specs.Causes.{Rose}
-use Rattle.trace_grammar.specs.declared.entry.Entry.{Entry}
-use Rattle.trace_grammar.specs.declared.entry.Entry.TheVariants.{Written, Idle}
-use Rattle.trace_grammar.specs.declared.trace.TraceEnd.{TraceEnd}
-use Rattle.trace_grammar.specs.declared.trace.TraceEnd.TheVariants.{Ended, BadTrace, ReadFault}
-use Rattle.trace_grammar.specs.Entries.{entry_spelling, entry_at}
+use Rattle.write_trace.specs.declared.entry.Entry.{Entry}
+use Rattle.write_trace.specs.declared.entry.Entry.TheVariants.{Written, Idle}
+use Rattle.write_trace.specs.declared.trace.TraceEnd.{TraceEnd}
+use Rattle.write_trace.specs.declared.trace.TraceEnd.TheVariants.{Ended, BadTrace, ReadFault}
+use Rattle.write_trace.specs.Entries.{entry_spelling, entry_at}
 use Rattle.write_trace.specs.Unread.{unread, seen}
 use Rattle.write_trace.specs.Answers.{ReaderState, ReadsEntry, Stops, Answer, answer_of}
 use Rattle.write_trace.specs.Steps.{TakesEntry, IsBroken, next_of, Waits, EndsSo}

@@ -2,8 +2,8 @@
 use Rattle.std.specs.Prelude.{ℕ, List, [], ◌∷◌, sum_by, Result, Ok, nat_le}
 use Rattle.std.specs.Int.{w16, w32}
 use Rattle.tod_stamp.specs.Fields.{◌>>=◌, Left, Bad, number_at, within}
-use Rattle.trace_grammar.specs.declared.header.VolumeHead.{VolumeHead}
-use Rattle.trace_grammar.specs.Headers.{tracks_of, version_at, volumes_at}
+use Rattle.write_trace.specs.declared.header.VolumeHead.{VolumeHead}
+use Rattle.write_trace.specs.Headers.{tracks_of, version_at, volumes_at}
 
 -- the serials of volumes in front of those that were seen before, the newest first
 abbrev pub seen_after : List (List ℕ) → List VolumeHead → List (List ℕ)

@@ -1,3 +1,10 @@
+pub mod Headers
+pub mod Seen
+pub mod Entries
+pub mod Good
+pub mod Writes
+pub mod Laws
+pub mod Vectors
 pub mod Unread
 pub mod Gives
 pub mod Answers

@@ -4,10 +4,10 @@ use Rattle.std.specs.Prelude.{◌≡◌, ◌≤◌, ◌<◌, ◌+◌, ℕ, List,
 use Rattle.xrc_edge.specs.Causes.{Rose}
 use Rattle.tod_stamp.specs.Fields.{◌>>=◌, Left, Bad}
 use Rattle.tod_stamp.specs.Fields.Bad.{Cut}
-use Rattle.trace_grammar.specs.declared.header.Header.{Header}
-use Rattle.trace_grammar.specs.declared.trace.HeaderError.{HeaderError}
-use Rattle.trace_grammar.specs.declared.trace.HeaderError.TheVariants.{BadHeader, HeaderFault, NoMemory}
-use Rattle.trace_grammar.specs.Headers.{header_at}
+use Rattle.write_trace.specs.declared.header.Header.{Header}
+use Rattle.write_trace.specs.declared.trace.HeaderError.{HeaderError}
+use Rattle.write_trace.specs.declared.trace.HeaderError.TheVariants.{BadHeader, HeaderFault, NoMemory}
+use Rattle.write_trace.specs.Headers.{header_at}
 use Rattle.write_trace.specs.Unread.{seen}
 use Rattle.write_trace.specs.Starts.{IsBadHeader, FailsInHeader}
 

@@ -2,10 +2,10 @@
 use Rattle.std.specs.Prelude.{◌≡◌, ℕ, ◌+◌, List, ◌++◌, length, Bool, true, false, Option, Some}
 use Rattle.xrc_edge.specs.Causes.{Rose}
 use Rattle.tod_stamp.specs.Fields.{Left}
-use Rattle.trace_grammar.specs.declared.entry.Entry.{Entry}
-use Rattle.trace_grammar.specs.declared.trace.TraceEnd.{TraceEnd}
-use Rattle.trace_grammar.specs.declared.trace.TraceEnd.TheVariants.{Ended, BadTrace, ReadFault}
-use Rattle.trace_grammar.specs.Good.{entries_from, end_of, last_stamp}
+use Rattle.write_trace.specs.declared.entry.Entry.{Entry}
+use Rattle.write_trace.specs.declared.trace.TraceEnd.{TraceEnd}
+use Rattle.write_trace.specs.declared.trace.TraceEnd.TheVariants.{Ended, BadTrace, ReadFault}
+use Rattle.write_trace.specs.Good.{entries_from, end_of, last_stamp}
 use Rattle.write_trace.specs.Unread.{unread, seen}
 use Rattle.write_trace.specs.Answers.{ReaderState}
 

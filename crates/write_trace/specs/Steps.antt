@@ -3,13 +3,13 @@ use Rattle.std.specs.Prelude.{◌≡◌, ◌≤◌, ◌<◌, ℕ, ◌+◌, ◌++
 use Rattle.xrc_edge.specs.Causes.{Rose}
 use Rattle.tod_stamp.specs.Fields.{Left, after}
 use Rattle.tod_stamp.specs.Fields.Bad.{Cut, Broken}
-use Rattle.trace_grammar.specs.declared.header.VolumeHead.{VolumeHead}
-use Rattle.trace_grammar.specs.declared.entry.Entry.{Entry}
-use Rattle.trace_grammar.specs.declared.entry.Entry.TheVariants.{Written, Idle}
-use Rattle.trace_grammar.specs.declared.trace.TraceEnd.{TraceEnd}
-use Rattle.trace_grammar.specs.declared.trace.TraceEnd.TheVariants.{Ended, BadTrace, ReadFault}
-use Rattle.trace_grammar.specs.Entries.{entry_spelling, entry_at, is_entry, stamp_of}
-use Rattle.trace_grammar.specs.Good.{most_bytes}
+use Rattle.write_trace.specs.declared.header.VolumeHead.{VolumeHead}
+use Rattle.write_trace.specs.declared.entry.Entry.{Entry}
+use Rattle.write_trace.specs.declared.entry.Entry.TheVariants.{Written, Idle}
+use Rattle.write_trace.specs.declared.trace.TraceEnd.{TraceEnd}
+use Rattle.write_trace.specs.declared.trace.TraceEnd.TheVariants.{Ended, BadTrace, ReadFault}
+use Rattle.write_trace.specs.Entries.{entry_spelling, entry_at, is_entry, stamp_of}
+use Rattle.write_trace.specs.Good.{most_bytes}
 use Rattle.write_trace.specs.Unread.{unread, seen}
 use Rattle.write_trace.specs.Answers.{ReaderState, answer_of, EndsThere, IsBadThere, FailsThere}
 use Rattle.write_trace.specs.declared.next.Next.{Next}

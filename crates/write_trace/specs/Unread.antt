@@ -1,7 +1,7 @@
 -- What a reader still has before it: the bytes that it holds, and those that its source has left.
 use Rattle.std.specs.Prelude.{◌≡◌, ℕ, ◌-◌, List, [], ◌++◌, take, Option, Some, None}
 use Rattle.tod_stamp.specs.Fields.{Left}
-use Rattle.trace_grammar.specs.Good.{most_bytes}
+use Rattle.write_trace.specs.Good.{most_bytes}
 
 -- the bytes held, and after them those that the source tells
 abbrev pub unread : List ℕ → Option (List ℕ) → Option (List ℕ)

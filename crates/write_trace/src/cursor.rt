@@ -3,7 +3,7 @@
 ghost use Rattle.std.specs.Prelude.{◌≡◌, ◌+◌, ◌-◌, ◌^◌, ◌≤◌, length, nat_lt, nat_le, ◌&&◌, ◌<◌, IfOk};
 ghost use Rattle.std.specs.Int.{w8, w16, w32, w64};
 ghost use Rattle.tod_stamp.specs.Fields.{Left, bytes_at, number_at, within};
-ghost use Rattle.trace_grammar.specs.Entries.{any};
+ghost use Rattle.write_trace.specs.Entries.{any};
 
 use crate::stop::Stop;
 use byteorder::{BigEndian, ByteOrder};

@@ -5,24 +5,25 @@ ghost use Rattle.std.specs.Int.{w16};
 ghost use Rattle.tod_stamp.specs.Fields.{Left, number_at};
 ghost use Rattle.ckd_track.specs.declared.rec.Rec as records;
 ghost use Rattle.ckd_track.specs.declared.fault.ImageError.{ImageError};
-ghost use Rattle.trace_grammar.specs.Headers.{place_at, cylinders_of, as_field, image_field};
-ghost use Rattle.trace_grammar.specs.Entries.{update_at, format_at, whole_at, kind_at, write_at, entry_at, records_field};
+ghost use Rattle.write_trace.specs.Headers.{place_at, cylinders_of, as_field, image_field};
+ghost use Rattle.write_trace.specs.Entries.{update_at, format_at, whole_at, kind_at, write_at, entry_at, records_field};
 ghost use Rattle.write_trace.specs.Gives.{Gives, Fails};
 ghost use Rattle.write_trace.specs.Steps.{ReadOf};
 
 use crate::cursor::Cursor;
+use crate::entry::Entry;
+use crate::header::VolumeHead;
 use crate::stop::Stop;
 use ckd_track::{ImageError, Kind, RecList, Track, Write, decode_records};
 use std::alloc::Global;
 use tod_stamp::Stamp;
-use trace_grammar::{Entry, VolumeHead};
 use xrc_edge::{Bytes, NoMemory};
 
 /// The most bytes of an update.
 const LONGEST_UPDATE: u16 = 56_656;
 
 /// The heads of a cylinder.
-const HEADS: usize = 15;
+const HEAD_LIMIT: usize = 15;
 
 const IDLE: u8 = 1;
 
@@ -41,7 +42,7 @@ fn copied(alloc: Global, bytes: &[u8]) -> Result<Bytes, NoMemory>
     Ok(copy)
 }
 
-#[tactic(auto, unfolding(trace_grammar::specs::Entries::update_at))]
+#[tactic(auto, unfolding(crate::specs::Entries::update_at))]
 fn update_of(alloc: Global, cursor: Cursor<'_>) -> Result<(Kind, Cursor<'_>), Stop>
     ensures { Gives (λ x. (x.0, x.1)) result (update_at cursor.entry) }
 {
@@ -73,7 +74,7 @@ fn cylinder_of<'a>(
 }
 
 /// A volume, and the number of a track of it.
-#[tactic(auto, unfolding(trace_grammar::specs::Headers::place_at))]
+#[tactic(auto, unfolding(crate::specs::Headers::place_at))]
 pub fn place_of<'a>(
     volumes: &[VolumeHead],
     cursor: Cursor<'a>,
@@ -82,7 +83,7 @@ pub fn place_of<'a>(
 {
     let (volume, cursor) = cursor.number_below(volumes.len())?;
     let (cylinder, cursor) = cylinder_of(volumes, volume, cursor)?;
-    let (head, cursor) = cursor.number_below(HEADS)?;
+    let (head, cursor) = cursor.number_below(HEAD_LIMIT)?;
     Ok((volume, 15 * cylinder as u32 + head as u32, cursor))
 }
 
@@ -124,7 +125,7 @@ fn records_field_of(
     }
 }
 
-#[tactic(auto, unfolding(trace_grammar::specs::Entries::format_at))]
+#[tactic(auto, unfolding(crate::specs::Entries::format_at))]
 fn format_of(alloc: Global, cursor: Cursor<'_>) -> Result<(Kind, Cursor<'_>), Stop>
     ensures { Gives (λ x. (x.0, x.1)) result (format_at cursor.entry) }
 {
@@ -134,7 +135,7 @@ fn format_of(alloc: Global, cursor: Cursor<'_>) -> Result<(Kind, Cursor<'_>), St
     Ok((Kind::Format { after, recs }, cursor))
 }
 
-#[tactic(auto, unfolding(trace_grammar::specs::Entries::whole_at))]
+#[tactic(auto, unfolding(crate::specs::Entries::whole_at))]
 fn whole_of(alloc: Global, cursor: Cursor<'_>) -> Result<(Kind, Cursor<'_>), Stop>
     ensures { Gives (λ x. (x.0, x.1)) result (whole_at cursor.entry) }
 {
@@ -142,7 +143,7 @@ fn whole_of(alloc: Global, cursor: Cursor<'_>) -> Result<(Kind, Cursor<'_>), Sto
     Ok((Kind::Whole { track }, cursor))
 }
 
-#[tactic(auto, unfolding(trace_grammar::specs::Entries::kind_at))]
+#[tactic(auto, unfolding(crate::specs::Entries::kind_at))]
 fn kind_of(alloc: Global, tag: u8, cursor: Cursor<'_>) -> Result<(Kind, Cursor<'_>), Stop>
     ensures { Gives (λ x. (x.0, x.1)) result (kind_at tag cursor.entry) }
 {
@@ -153,7 +154,7 @@ fn kind_of(alloc: Global, tag: u8, cursor: Cursor<'_>) -> Result<(Kind, Cursor<'
     }
 }
 
-#[tactic(auto, unfolding(trace_grammar::specs::Entries::write_at))]
+#[tactic(auto, unfolding(crate::specs::Entries::write_at))]
 fn write_of<'a>(
     alloc: Global,
     volumes: &[VolumeHead],
@@ -175,7 +176,7 @@ fn write_of<'a>(
 }
 
 /// The entry that the bytes begin with.
-#[tactic(auto, unfolding(trace_grammar::specs::Entries::entry_at))]
+#[tactic(auto, unfolding(crate::specs::Entries::entry_at))]
 fn entry_of<'a>(
     alloc: Global,
     volumes: &[VolumeHead],

@@ -5,22 +5,22 @@ ghost use Rattle.std.specs.Int.{w32};
 ghost use Rattle.std.specs.List.{list_any, All};
 ghost use Rattle.ckd_track.specs.Tracks.{IsTrack};
 ghost use Rattle.tod_stamp.specs.Fields.{after, number_at};
-ghost use Rattle.trace_grammar.specs.Headers.{most_cylinders, tracks_of, has_track, is_from, are_volumes, base_at, version_at, volume_at, volumes_at};
+ghost use Rattle.write_trace.specs.Headers.{most_cylinders, tracks_of, has_track, is_from, are_volumes, base_at, version_at, volume_at, volumes_at};
 ghost use Rattle.write_trace.specs.Gives.{Gives};
 ghost use Rattle.write_trace.specs.HeaderParts.{seen_after, head_at};
 
 use crate::cursor::Cursor;
 use crate::fields::{image_field_of, place_of};
+use crate::header::{BaseTrack, VolumeHead, VolumeList};
 use crate::stop::Stop;
 use std::alloc::Global;
 use tod_stamp::Serial;
-use trace_grammar::{BaseTrack, VolumeHead, VolumeList};
 
 /// The most cylinders of a volume.
-const MOST_CYLINDERS: u16 = 65_520;
+const CYLINDER_LIMIT: u16 = 65_520;
 
 /// The mark of version 1.
-#[tactic(auto, unfolding(trace_grammar::specs::Headers::version_at, tod_stamp::specs::Fields::bytes_at))]
+#[tactic(auto, unfolding(crate::specs::Headers::version_at, tod_stamp::specs::Fields::bytes_at))]
 fn mark_of(c: Cursor<'_>) -> Result<Cursor<'_>, Stop>
     ensures { Gives (λ c. (1, c)) result (version_at 1 c.entry) }
 {
@@ -32,7 +32,7 @@ fn mark_of(c: Cursor<'_>) -> Result<Cursor<'_>, Stop>
     Ok(c)
 }
 
-fn has_serial(volumes: &[VolumeHead], serial: Serial) -> bool
+fn has_same_serial(volumes: &[VolumeHead], serial: Serial) -> bool
     ensures { result ≡ list_any (λ v. bytes_eq serial v.serial) volumes.now }
 {
     volumes.iter().any(|volume| serial == volume.serial)
@@ -42,11 +42,11 @@ fn has_serial(volumes: &[VolumeHead], serial: Serial) -> bool
 fn is_taken(volumes: &[VolumeHead], serial: Serial) -> bool
     ensures { result ≡ list_any (bytes_eq serial) (seen_after [] volumes.now) }
 {
-    has_serial(volumes, serial)
+    has_same_serial(volumes, serial)
 }
 
 /// A volume, whose serial is none of those volumes'.
-#[tactic(auto, unfolding(trace_grammar::specs::Headers::volume_at, tod_stamp::specs::Fields::bytes_at))]
+#[tactic(auto, unfolding(crate::specs::Headers::volume_at, tod_stamp::specs::Fields::bytes_at))]
 fn volume_of<'a>(volumes: &[VolumeHead], c: Cursor<'a>) -> Result<(VolumeHead, Cursor<'a>), Stop>
     ensures { Gives (λ x. (x.0, x.1)) result (volume_at 1 (seen_after [] volumes.now) c.entry) }
 {
@@ -58,7 +58,7 @@ fn volume_of<'a>(volumes: &[VolumeHead], c: Cursor<'a>) -> Result<(VolumeHead, C
     if is_taken(volumes, serial) {
         return Err(Stop::Broken(place));
     }
-    let (cylinders, c) = c.number_within(1, MOST_CYLINDERS)?;
+    let (cylinders, c) = c.number_within(1, CYLINDER_LIMIT)?;
     let volume = VolumeHead {
         serial,
         cylinders: u32::from(cylinders),
@@ -132,7 +132,7 @@ pub fn head_in(alloc: Global, place: u64, bytes: &[u8]) -> Result<((VolumeList, 
 }
 
 /// A base track that stands from the place `low` on.
-#[tactic(auto, unfolding(trace_grammar::specs::Headers::base_at))]
+#[tactic(auto, unfolding(crate::specs::Headers::base_at))]
 fn base_of<'a>(
     alloc: Global,
     volumes: &[VolumeHead],

@@ -1,17 +1,19 @@
 //! The reader of a trace's entries.
 
 ghost use Rattle.std.specs.Prelude.{◌≡◌, ◌≤◌, [], length, None, Some, Err, MatchResult, IsTrue};
-ghost use Rattle.trace_grammar.specs.Headers.{are_volumes};
-ghost use Rattle.trace_grammar.specs.Entries.{stamp_of};
+ghost use Rattle.write_trace.specs.Headers.{are_volumes};
+ghost use Rattle.write_trace.specs.Entries.{stamp_of};
 
+use crate::entry::Entry;
 use crate::fields::entry_in;
+use crate::header::VolumeList;
 use crate::next::{Next, Stopped};
 use crate::stop::Stop;
+use crate::trace::TraceEnd;
 use crate::window::{Refill, Window};
 use std::alloc::Global;
 use std::marker::Model;
 use tod_stamp::Stamp;
-use trace_grammar::{Entry, TraceEnd, VolumeList};
 use xrc_edge::{NoMemory, Source};
 
 /// Reads the entries of a trace, one after another. It holds bytes of its source, so each call takes the source on which it was
@@ -26,7 +28,7 @@ pub struct TraceReader {
 
 impl Model for TraceReader {
     ghost use Rattle.std.specs.Prelude.{◌≤◌, [], length, IsTrue};
-    ghost use Rattle.trace_grammar.specs.Headers.{are_volumes};
+    ghost use Rattle.write_trace.specs.Headers.{are_volumes};
     ghost use Rattle.write_trace.specs.Answers.{ReaderState};
 
     ghost Value = { ReaderState };

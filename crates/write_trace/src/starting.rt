@@ -1,18 +1,19 @@
 //! The start of a trace: its header.
 
 ghost use Rattle.std.specs.Prelude.{◌≡◌, ◌≤◌, ◌<◌, ◌+◌, ◌^◌, [], length, IfOk, IfErr, IsTrue};
-ghost use Rattle.trace_grammar.specs.Headers.{has_track, is_from, are_volumes, are_bases, base_at, bases_at};
+ghost use Rattle.write_trace.specs.Headers.{has_track, is_from, are_volumes, are_bases, base_at, bases_at};
 ghost use Rattle.ckd_track.specs.Tracks.{IsTrack};
 ghost use Rattle.write_trace.specs.Starts.{Starts};
 ghost use Rattle.write_trace.specs.Reached.{Gathers, ReadsPart};
 ghost use Rattle.write_trace.specs.HeaderParts.{head_at};
 
+use crate::header::{BaseList, BaseTrack, Header, VolumeHead, VolumeList};
 use crate::header_fields::{base_in, head_in};
 use crate::reader::TraceReader;
 use crate::stop::Stop;
+use crate::trace::HeaderError;
 use crate::window::{Refill, Window};
 use std::alloc::Global;
-use trace_grammar::{BaseList, BaseTrack, Header, HeaderError, VolumeHead, VolumeList};
 use xrc_edge::Source;
 
 /// Takes one piece more, where the bytes held end within the field that begins at the place.

@@ -4,7 +4,7 @@ ghost use Rattle.std.specs.Prelude.{◌≡◌, ◌↔◌, ◌≢◌, ℕ, ◌-�
 ghost use Rattle.tod_stamp.specs.Fields.{Left, after};
 ghost use Rattle.xrc_edge.specs.Causes.{Rose, HasCause};
 ghost use Rattle.xrc_edge.specs.Pulls.{Gives, FitsIn};
-ghost use Rattle.trace_grammar.specs.Good.{most_bytes};
+ghost use Rattle.write_trace.specs.Good.{most_bytes};
 
 use std::alloc::{AllocError, Global};
 use std::marker::Model;

@@ -5,15 +5,15 @@ ghost use Rattle.std.specs.Int.{w16, w32, w64, to_be_bytes};
 ghost use Rattle.std.specs.List.{flat_map, All};
 ghost use Rattle.ckd_track.specs.Effects.{keeps_rules};
 ghost use Rattle.ckd_track.specs.Entries.{tag_of};
-ghost use Rattle.trace_grammar.specs.declared.entry.Entry.TheVariants.{Written, Idle as idle_entry};
-ghost use Rattle.trace_grammar.specs.Entries.{entry_spelling};
-ghost use Rattle.trace_grammar.specs.Headers.{mark, most_cylinders, place_spelling, volume_spelling, base_spelling, header_spelling, is_header_of};
+ghost use Rattle.write_trace.specs.declared.entry.Entry.TheVariants.{Written, Idle as idle_entry};
+ghost use Rattle.write_trace.specs.Entries.{entry_spelling};
+ghost use Rattle.write_trace.specs.Headers.{mark, most_cylinders, place_spelling, volume_spelling, base_spelling, header_spelling, is_header_of};
 
+use crate::header::{BaseTrack, Header, VolumeHead};
 use byteorder::{BigEndian, ByteOrder};
 use ckd_track::Write;
 use std::alloc::Global;
 use tod_stamp::Stamp;
-use trace_grammar::{BaseTrack, Header, VolumeHead};
 use xrc_edge::{Bytes, NoMemory};
 
 /// The volume, cylinder and head of a track.

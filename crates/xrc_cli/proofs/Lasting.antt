@@ -7,7 +7,7 @@ use Rattle.crash_plant.specs.declared.device.Device.TheVariants.{Control, State,
 use Rattle.crash_plant.specs.Moments.{PlantState, Same, on}
 use Rattle.crash_plant.specs.Calls.{Elapses}
 use Rattle.crash_plant.proofs.Steps.{follows_then}
-use Rattle.trace_grammar.specs.declared.trace.Trace.{Trace}
+use Rattle.write_trace.specs.declared.trace.Trace.{Trace}
 use Rattle.pair_course.specs.Course.{tells_a_session}
 use Rattle.pair_course.proofs.Saying.{stop_says_none}
 use Rattle.consistency.specs.Bears.{Run}

@@ -5,7 +5,7 @@ use Rattle.crash_plant.specs.declared.device.Device.{Device}
 use Rattle.crash_plant.specs.declared.device.Device.TheVariants.{Control}
 use Rattle.crash_plant.specs.Moments.{IsDurable, PlantState, on}
 use Rattle.crash_plant.specs.Calls.{NoneLent, SameSite}
-use Rattle.trace_grammar.specs.declared.trace.Trace.{Trace}
+use Rattle.write_trace.specs.declared.trace.Trace.{Trace}
 use Rattle.sidefile.specs.Breaks.{has_broken}
 use Rattle.site_means.specs.Answers.{first_short, need}
 use Rattle.consistency.specs.Bears.{Run}

@@ -1,7 +1,7 @@
 use Rattle.std.proofs.Common.{rules, ◌≡◌, inl, inr, Some, refl, sym, ap, ◌∙◌, arith, slice_get}
 use Rattle.std.proofs.lemmas.Bool.{cases_lt}
 use Rattle.std.proofs.lemmas.Option.{slice_get_read, slice_get_within}
-use Rattle.trace_grammar.specs.declared.header.VolumeHead.{VolumeHead}
+use Rattle.write_trace.specs.declared.header.VolumeHead.{VolumeHead}
 use Rattle.one_pair_session.proofs.PairRows.{same_head}
 use Rattle.one_pair_session.proofs.pairing.find_volume.Goals as goal
 

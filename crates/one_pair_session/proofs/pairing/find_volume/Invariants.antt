@@ -1,5 +1,5 @@
 use Rattle.std.proofs.Common.{◌≡◌, ◌≢◌, ℕ, ◌<◌, slice_get, Some}
-use Rattle.trace_grammar.specs.declared.header.VolumeHead.{VolumeHead}
+use Rattle.write_trace.specs.declared.header.VolumeHead.{VolumeHead}
 use Rattle.one_pair_session.proofs.pairing.find_volume.Given as goal
 
 abbrev pub invariant-loop-place : goal.invariant-loop-place

@@ -1,4 +1,4 @@
-use Rattle.trace_grammar.specs.declared.trace.Trace.{Trace}
+use Rattle.write_trace.specs.declared.trace.Trace.{Trace}
 use Rattle.epoch.specs.Taken.{HasTaken}
 use Rattle.epoch.proofs.CopySights.{on_always}
 use Rattle.epoch.proofs.Frames.{keeps_here}

@@ -1,7 +1,7 @@
 use Rattle.std.proofs.Common.{rules, ◌≡◌, ◌⊎◌, Ok, Err, refl, sym, subst, ◌∙◌, arith}
 use Rattle.crash_plant.specs.Moments.{on}
 use Rattle.crash_plant.proofs.Steps.{stays_here}
-use Rattle.trace_grammar.specs.declared.trace.Trace.{Trace}
+use Rattle.write_trace.specs.declared.trace.Trace.{Trace}
 use Rattle.epoch.specs.Taken.{HasTaken}
 use Rattle.epoch.proofs.Frames.{keeps_here}
 use Rattle.xrc_status.specs.declared.stop.Stop.TheVariants.{BadHeader, EarlyBreak, HeaderFault, NoMemory}

@@ -1,7 +1,7 @@
 use Rattle.std.proofs.Common.{[], refl, arith}
 use Rattle.std.specs.Fmt.{digits}
 use Rattle.std.specs.Prelude.{codes}
-use Rattle.trace_grammar.specs.declared.trace.TraceEnd.TheVariants.{Ended}
+use Rattle.write_trace.specs.declared.trace.TraceEnd.TheVariants.{Ended}
 use Rattle.pair_table.specs.declared.row.PairState.TheVariants.{Pending}
 use Rattle.pair_table.specs.Vectors.{abc, first_row}
 use Rattle.pair_course.specs.Course.{end_reply, pair_reply, start_reply}

@@ -1,6 +1,6 @@
 use Rattle.std.proofs.Common.{refl}
 use Rattle.write_trace.specs.declared.next.Stopped.TheVariants.{AtEnd}
-use Rattle.trace_grammar.specs.declared.trace.TraceEnd.TheVariants.{Ended}
+use Rattle.write_trace.specs.declared.trace.TraceEnd.TheVariants.{Ended}
 use Rattle.sidefile.proofs.look.look_ahead.Goals as goal
 
 pub returns-in-Write-clause-again : goal.returns-in-Write-clause-again

@@ -1,4 +1,4 @@
-use Rattle.trace_grammar.specs.Entries.{stamp_of as stamp_of_entry}
+use Rattle.write_trace.specs.Entries.{stamp_of as stamp_of_entry}
 use Rattle.sidefile.proofs.Collects.{collected_none, collected_more, next_run, run_ends, not_put, same_number, other_number}
 use Rattle.sidefile.proofs.run.take_run.Goals as goal
 

@@ -1,6 +1,6 @@
 use Rattle.std.proofs.Common.{◌≡◌, ◌<◌, ℕ, Option, None, Some, inl, inr, ap, subst, ◌∙◌, arith}
-use Rattle.trace_grammar.specs.declared.entry.Entry.{Entry}
-use Rattle.trace_grammar.specs.Entries.{stamp_of}
+use Rattle.write_trace.specs.declared.entry.Entry.{Entry}
+use Rattle.write_trace.specs.Entries.{stamp_of}
 use Rattle.write_trace.specs.Answers.{ReaderState}
 use Rattle.sidefile.specs.States.{IsWaiting}
 use Rattle.sidefile.proofs.Collects.{entry_kept}

@@ -1,7 +1,7 @@
 use Rattle.std.proofs.Common.{◌≡◌, ◌-◌, ◌++◌, ◌∷◌, [], List, None, refl, ap, ◌∙◌, arith}
 use Rattle.ckd_track.specs.declared.write.Write.{Write}
-use Rattle.trace_grammar.specs.Entries.{stamp_of as stamp_of_entry}
-use Rattle.trace_grammar.specs.Writes.{writes_of}
+use Rattle.write_trace.specs.Entries.{stamp_of as stamp_of_entry}
+use Rattle.write_trace.specs.Writes.{writes_of}
 use Rattle.sidefile.specs.Breaks.{stamp}
 use Rattle.sidefile.specs.declared.hand.Hand.TheVariants as hands
 use Rattle.sidefile.proofs.TurnLaws.{at_stamp, turn_is, turn_above, next_turn, last_turn, broken_turn}

@@ -1,5 +1,5 @@
 use Rattle.std.proofs.Common.{◌-◌}
-use Rattle.trace_grammar.specs.Good.{most_bytes}
+use Rattle.write_trace.specs.Good.{most_bytes}
 use Rattle.write_trace.proofs.Rests.{ReadSoFar}
 use Rattle.write_trace.proofs.entries.read_entries.Given as goal
 

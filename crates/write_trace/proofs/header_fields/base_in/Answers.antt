@@ -1,8 +1,8 @@
 use Rattle.std.proofs.Common.{◌&&◌, arith, ap, sym, ◌∙◌}
 use Rattle.ckd_track.specs.Tracks.{is_track}
-use Rattle.trace_grammar.specs.Headers.{has_track, is_from, base_at}
-use Rattle.trace_grammar.proofs.FieldSteps.{both_true}
-use Rattle.trace_grammar.proofs.HeaderReads.{base_takes}
+use Rattle.write_trace.specs.Headers.{has_track, is_from, base_at}
+use Rattle.write_trace.proofs.FieldSteps.{both_true}
+use Rattle.write_trace.proofs.HeaderReads.{base_takes}
 use Rattle.write_trace.proofs.SteadyBases.{taken_by, forward_base}
 use Rattle.write_trace.proofs.header_fields.base_in.Goals as goal
 

@@ -1,7 +1,7 @@
 use Rattle.std.proofs.Common.{◌≡◌, List, Ok, Err, true, refl, subst, ◌∙◌}
 use Rattle.std.proofs.lemmas.Result.{err_from_is_err_and}
-use Rattle.trace_grammar.specs.declared.header.VolumeHead.{VolumeHead}
-use Rattle.trace_grammar.specs.Headers.{bases_at, are_bases}
+use Rattle.write_trace.specs.declared.header.VolumeHead.{VolumeHead}
+use Rattle.write_trace.specs.Headers.{bases_at, are_bases}
 use Rattle.write_trace.specs.Reached.{ReadsPart}
 use Rattle.write_trace.specs.HeaderParts.{head_at}
 use Rattle.write_trace.proofs.BaseLoop.{at_start, started, keeps_header, part_fails, behind_head}

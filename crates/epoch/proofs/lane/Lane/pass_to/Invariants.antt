@@ -1,5 +1,5 @@
 use Rattle.std.proofs.Common.{◌≡◌, ◌≤◌, ◌-◌}
-use Rattle.trace_grammar.specs.declared.trace.Trace.{Trace}
+use Rattle.write_trace.specs.declared.trace.Trace.{Trace}
 use Rattle.epoch.specs.Lanes.{IsLane}
 use Rattle.epoch.specs.Taken.{HasTaken, FailsAsBefore}
 use Rattle.epoch.proofs.lane.Lane.pass_to.Given as goal

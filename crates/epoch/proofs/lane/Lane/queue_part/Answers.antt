@@ -1,7 +1,7 @@
 use Rattle.std.proofs.Common.{◌≡◌, ◌∙◌, ◌+◌, inl, inr, refl, sym, ap, subst, arith, true}
 use Rattle.std.proofs.lemmas.Bool.{cases_lt}
 use Rattle.ckd_track.specs.Tracks.{IsTrack}
-use Rattle.trace_grammar.specs.Headers.{has_track}
+use Rattle.write_trace.specs.Headers.{has_track}
 use Rattle.pending_queue.specs.Queues.{QueueState}
 use Rattle.pending_queue.specs.Rooms.{blocks_taken}
 use Rattle.primary_ctl.specs.States.{PrimaryState, track_of}

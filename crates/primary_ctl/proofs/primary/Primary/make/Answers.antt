@@ -3,7 +3,7 @@ use Rattle.std.proofs.lemmas.Iterator.Consumers.{YieldsList-end}
 use Rattle.std.proofs.lemmas.Iterator.Adapters.{YieldsList-from_vec}
 use Rattle.std.proofs.lemmas.List.{map-id}
 use Rattle.tod_stamp.specs.Fields.{within}
-use Rattle.trace_grammar.specs.Headers.{Base, are_volumes, are_bases}
+use Rattle.write_trace.specs.Headers.{Base, are_volumes, are_bases}
 use Rattle.primary_ctl.proofs.Filters.{both_true}
 use Rattle.primary_ctl.proofs.Bases.{after_puts, puts_are}
 use Rattle.primary_ctl.proofs.primary.Primary.make.Goals as goal

@@ -1,5 +1,0 @@
-use Rattle.trace_grammar.proofs.Keeping.{cylinders_is}
-use Rattle.trace_grammar.proofs.header.cylinders_of.Goals as goal
-
-pub returns : goal.returns
-returns c = cylinders_is c.args.volumes.now c.args.volume c.index-volumes-volume.result c.requires.there

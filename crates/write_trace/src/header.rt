@@ -1,0 +1,137 @@
+//! The header of a trace.
+
+ghost use Rattle.std.specs.Prelude.{◌≡◌, ◌≤◌, ◌↔◌, ◌&&◌, [], ◌<◌, length, nat_lt, nat_le, slice_index_or, IsTrue};
+ghost use Rattle.tod_stamp.specs.Names.{is_serial};
+ghost use Rattle.tod_stamp.specs.Fields.{within};
+ghost use Rattle.ckd_track.specs.Tracks.{is_track};
+ghost use Rattle.write_trace.specs.Headers.{are_volumes, are_bases, cylinders_of, has_track, is_from};
+ghost use Rattle.write_trace.specs.Seen.{serials_of, names};
+
+use ckd_track::Track;
+use tod_stamp::Serial;
+use xrc_edge::List;
+
+/// A volume of a trace: its serial and its number of cylinders, which have 15 tracks each.
+#[derive(Clone, Copy, Debug)]
+pub struct VolumeHead {
+    pub serial: Serial,
+    pub cylinders: u32,
+}
+
+/// The volumes of a trace, in order of their numbers.
+pub type VolumeList = List<VolumeHead>;
+
+/// What a track holds before the first entry: the number of its volume, its own number there, and its records.
+pub type BaseTrack = (u16, u32, Track);
+
+/// Base tracks, in order of volume and track. A track that is not listed is empty.
+pub type BaseList = List<BaseTrack>;
+
+/// The header of a trace. The version is 1.
+#[derive(Debug, Drop)]
+pub struct Header {
+    pub version: u8,
+    pub volumes: VolumeList,
+    pub base: BaseList,
+}
+
+impl Header {
+    ghost use Rattle.write_trace.specs.Headers.{is_header_of};
+
+    /// Whether this is a header of version 1: 1 to 32 volumes, each with a serial that no other has and 1 to 65,520 cylinders,
+    /// and base tracks that rise by volume and track, each a track of one of these volumes.
+    pub fn keeps_rules(&self) -> bool
+        ensures { IsTrue result ↔ IsTrue (is_header_of 1 self.now) }
+    {
+        let volumes = self.volumes.as_slice();
+        self.version == 1
+            && (1..=MOST_VOLUMES).contains(&volumes.len())
+            && are_volumes(volumes)
+            && are_bases(volumes, self.base.as_slice())
+    }
+}
+
+/// The most volumes of a trace.
+const MOST_VOLUMES: usize = 32;
+
+/// The most cylinders of a volume.
+const MOST_CYLINDERS: u32 = 65_520;
+
+/// The tracks of a cylinder.
+const HEADS: u64 = 15;
+
+/// Whether one of the volumes has this serial.
+fn has_serial(volumes: &[VolumeHead], serial: Serial) -> bool
+    ensures { result ≡ names (serials_of volumes.now) serial }
+{
+    let mut found = false;
+    for volume in volumes {
+        if serial == volume.serial {
+            found = true;
+        }
+    }
+    found
+}
+
+/// Whether a volume has 1 to 65,520 cylinders. Its serial is one by its type.
+fn is_volume(volume: &VolumeHead) -> bool
+    ensures { result ≡ (is_serial volume.now.serial && within 1 65520 volume.now.cylinders) }
+{
+    let _valid = volume.serial.as_bytes();
+    (1..=MOST_CYLINDERS).contains(&volume.cylinders)
+}
+
+/// Whether each volume has a serial that no other has, and 1 to 65,520 cylinders.
+fn are_volumes(volumes: &[VolumeHead]) -> bool
+    ensures { result ≡ are_volumes 1 [] volumes.now }
+{
+    for (place, volume) in volumes.iter().enumerate() {
+        if has_serial(&volumes[..place], volume.serial) || !is_volume(volume) {
+            return false;
+        }
+    }
+    true
+}
+
+fn cylinders_of(volumes: &[VolumeHead], volume: u16) -> u32
+    requires there { volume < length volumes.now }
+    ensures { result ≡ cylinders_of volumes.now volume }
+{
+    volumes[volume as usize].cylinders
+}
+
+/// Whether there is a volume of that number with a track of that number.
+fn has_track(volumes: &[VolumeHead], volume: u16, track: u32) -> bool
+    ensures { result ≡ has_track volumes.now volume track }
+{
+    if volume as usize >= volumes.len() {
+        return false;
+    }
+    u64::from(track) < HEADS * u64::from(cylinders_of(volumes, volume))
+}
+
+/// Whether a base track's place is not below another. Its records are a track by their type.
+fn is_from(low_volume: u16, low_track: u64, listed: &BaseTrack) -> bool
+    ensures { result ≡ (is_from (low_volume, low_track) (listed.now.0, listed.now.1) && is_track listed.now.2) }
+{
+    let (volume, track, content) = listed;
+    let _valid = content.recs();
+    low_volume < *volume || (low_volume == *volume && low_track <= u64::from(*track))
+}
+
+/// Whether base tracks rise by volume and track, each a track of one of the volumes.
+fn are_bases(volumes: &[VolumeHead], base: &[BaseTrack]) -> bool
+    ensures { result ≡ are_bases volumes.now (0, 0) base.now }
+{
+    let mut low_volume: u16 = 0;
+    let mut low_track: u64 = 0;
+    for listed in base {
+        let (volume, track, _) = listed;
+        if !has_track(volumes, *volume, *track) || !is_from(low_volume, low_track, listed) {
+            return false;
+        }
+        low_volume = *volume;
+        low_track = u64::from(*track) + 1;
+    }
+    true
+}
