@@ -4,8 +4,8 @@ use Rattle.std.proofs.lemmas.Bool.{ne_eqb, eq-eqb, lt-ltb, le-ltb, cases_eq, cas
 use Rattle.std.proofs.lemmas.List.{take-take, drop-drop, drop_at, get_or-drop}
 use Rattle.crash_plant.specs.Bytes.{patched, Torn}
 use Rattle.crash_plant.proofs.Patches.{patched_torn}
-use Rattle.gates.specs.Gates.{Gated}
-use Rattle.gates.proofs.Behind.{torn_here}
+use Rattle.crash_plant.specs.Gates.{Gated}
+use Rattle.crash_plant.proofs.Behind.{torn_here}
 use Rattle.control_set.specs.declared.value.Mark.{Mark}
 use Rattle.control_set.specs.declared.slot.Slot.{Slot}
 use Rattle.control_set.specs.declared.slot.Slot.TheVariants.{Closed, Holds, Damaged}

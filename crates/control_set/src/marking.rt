@@ -14,8 +14,7 @@ use crate::Mark;
 use crate::choosing::{FIRST, SECOND, read_slots};
 use crate::slot::{Slot, Slots};
 use crate::spelling::encode;
-use crash_plant::{Device, Plant};
-use gates::put_behind_gate;
+use crash_plant::{Device, Plant, put_behind_gate};
 use xrc_edge::Failed;
 
 /// Whether the second slot is the one that isn't chosen. With no gate open it is the first.

@@ -1,4 +1,5 @@
 pub mod Beginnings
+pub mod Behind
 pub mod Choices
 pub mod Consoles
 pub mod Counts

@@ -21,6 +21,7 @@ pub mod Turns
 pub mod MemoryConsole
 pub mod Left
 pub mod Passes
+pub mod Gates
 pub mod MemoryLaws
 pub mod MemoryVolume
 pub mod MemoryPlant

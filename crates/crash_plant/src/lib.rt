@@ -1,4 +1,6 @@
-//! The devices and the console of a site, and what a crash may leave of them.
+//! The devices and the console of a site, and what a crash may leave of them. Bodies behind gates: a gate is a byte, and it is open
+//! exactly where it is 1. What stands behind a gate counts only while the gate is open, so that after a crash a body counts whole
+//! or not at all.
 #![tactic(auto)]
 
 mod clock;
@@ -11,6 +13,7 @@ mod fail_plan;
 mod fail_plans;
 mod file_disk;
 mod file_plant;
+mod gate;
 mod left;
 mod memory_console;
 mod memory_disk;
@@ -29,6 +32,7 @@ pub use disk::Disk;
 pub use fail::{Fail, FailList};
 pub use file_disk::FileDisk;
 pub use file_plant::FilePlant;
+pub use gate::{close_gate, put_behind_gate, put_down};
 pub use memory_plant::MemoryPlant;
 pub use memory_volume::MemoryVolume;
 pub use plain_disk::PlainDisk;

@@ -10,7 +10,7 @@ use Rattle.crash_plant.specs.Choices.{AllFollow, Choice}
 use Rattle.crash_plant.specs.Moments.{Follows, IsDurable, PlantState, Stays, on}
 use Rattle.crash_plant.proofs.Choices.{choices_here, device_cases}
 use Rattle.crash_plant.proofs.Steps.{follows_here, none_lent_then}
-use Rattle.gates.proofs.Behind.{torn_here}
+use Rattle.crash_plant.proofs.Behind.{torn_here}
 use Rattle.pair_table.specs.declared.row.PairRow.{PairRow}
 use Rattle.xrc_journal.specs.Items.{Form, Item, body_spelling, form_of}
 use Rattle.xrc_journal.specs.Records.{spot_after}

@@ -10,8 +10,8 @@ use Rattle.crash_plant.specs.Choices.{Choice, IsChoice, AllFollow}
 use Rattle.crash_plant.specs.Moments.{PlantState, Standing, on, Follows, IsDurable, Kept, Same}
 use Rattle.crash_plant.proofs.Choices.{choices_then, works_on_choices}
 use Rattle.crash_plant.proofs.Steps.{follows_then}
-use Rattle.gates.specs.Gates.{Shuts}
-use Rattle.gates.proofs.Behind.{shuts, torn_here}
+use Rattle.crash_plant.specs.Gates.{Shuts}
+use Rattle.crash_plant.proofs.Behind.{shuts, torn_here}
 use Rattle.control_set.specs.declared.value.Mark.{Mark}
 use Rattle.control_set.specs.Slots.{NoGateOpen, chosen_mark, is_closed, lengths_of, slot_of}
 use Rattle.control_set.proofs.Lengths.{same_lengths}

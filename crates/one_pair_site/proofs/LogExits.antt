@@ -13,7 +13,7 @@ use Rattle.crash_plant.specs.Calls.{Elapses, NoneLent, WorksOn}
 use Rattle.crash_plant.specs.Choices.{AllFollow, Choice, IsChoice}
 use Rattle.crash_plant.specs.Moments.{Follows, IsDurable, PlantState, Same, Stays, on}
 use Rattle.crash_plant.proofs.Steps.{follows_then, none_lent_then, works_on_more}
-use Rattle.gates.proofs.Behind.{torn_here}
+use Rattle.crash_plant.proofs.Behind.{torn_here}
 use Rattle.pair_table.specs.declared.row.PairRow.{PairRow}
 use Rattle.pair_table.specs.Tables.{KeepsRows, are_below, most_rows, none_clash}
 use Rattle.pending_queue.specs.Groups.{FormedGroup}

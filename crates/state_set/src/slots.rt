@@ -14,8 +14,7 @@ ghost use Rattle.state_set.specs.Slots.{OneSlot, slot_place, started_table, stat
 use crate::StateError;
 use crate::reading::decode;
 use crate::spelling::{LONGEST, encode};
-use crash_plant::{Device, Plant};
-use gates::put_down;
+use crash_plant::{Device, Plant, put_down};
 use pair_table::{Level, PairTable};
 use std::alloc::Global;
 use tod_stamp::Session;

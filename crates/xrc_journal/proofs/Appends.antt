@@ -9,7 +9,7 @@ use Rattle.crash_plant.specs.Moments.{Standing, PlantState, Kept, Follows}
 use Rattle.crash_plant.specs.Calls.{SameSite}
 use Rattle.crash_plant.proofs.Patches.{patched_torn, torn_more, torn_twice}
 use Rattle.crash_plant.proofs.Steps.{follows_then}
-use Rattle.gates.proofs.Behind.{torn_here, torn_again, byte_before}
+use Rattle.crash_plant.proofs.Behind.{torn_here, torn_again, byte_before}
 use Rattle.xrc_journal.specs.Items.{Form, AreItems, body_spelling, form_of, is_within}
 use Rattle.xrc_journal.specs.Records.{header_spelling, group_spelling, most_body, spot_after}
 use Rattle.xrc_journal.specs.Walks.{Logged, EndsAt, Keeps, Adds, Appends}

@@ -16,8 +16,7 @@ ghost use Rattle.xrc_journal.specs.Walks.{Adds, AllEnd, Appends, Logged};
 use crate::Body;
 use crate::header::{AROUND, FRONT, HEADER};
 use byteorder::{BigEndian, ByteOrder};
-use crash_plant::{Device, Plant, Spot};
-use gates::put_down;
+use crash_plant::{Device, Plant, Spot, put_down};
 use tod_stamp::Stamp;
 use xrc_edge::Failed;
 

@@ -1,7 +1,7 @@
 use Rattle.crash_plant.specs.declared.device.Device.TheVariants.{Control}
 use Rattle.crash_plant.specs.Moments.{on}
 use Rattle.crash_plant.proofs.Steps.{kept_trans, works_on_trans}
-use Rattle.gates.proofs.Behind.{same_after}
+use Rattle.crash_plant.proofs.Behind.{same_after}
 use Rattle.control_set.specs.Slots.{lengths_of}
 use Rattle.one_pair_site.specs.Formats.{ShutsSlots}
 use Rattle.one_pair_site.proofs.Formatted.{both_follow, first_follows, settled_durable, settled_second}

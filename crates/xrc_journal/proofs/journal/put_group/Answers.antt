@@ -4,7 +4,7 @@ use Rattle.crash_plant.specs.declared.device.Device.TheVariants.{Journal as Jour
 use Rattle.crash_plant.specs.Bytes.{patched}
 use Rattle.crash_plant.specs.Moments.{on}
 use Rattle.crash_plant.proofs.Steps.{works_on_trans}
-use Rattle.gates.proofs.Behind.{torn_here, written as written_behind}
+use Rattle.crash_plant.proofs.Behind.{torn_here, written as written_behind}
 use Rattle.xrc_journal.specs.Items.{body_spelling, form_of}
 use Rattle.xrc_journal.specs.Records.{header_spelling}
 use Rattle.xrc_journal.specs.Walks.{Logged}

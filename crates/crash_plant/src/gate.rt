@@ -6,9 +6,9 @@ ghost use Rattle.xrc_edge.specs.Causes.{HasCause};
 ghost use Rattle.crash_plant.specs.Bytes.{patched, Torn};
 ghost use Rattle.crash_plant.specs.Moments.{on, Follows, IsDurable, Stays};
 ghost use Rattle.crash_plant.specs.Calls.{IsThere, WorksOn};
-ghost use Rattle.gates.specs.Gates.{Shuts, Gated};
+ghost use Rattle.crash_plant.specs.Gates.{Shuts, Gated};
 
-use crash_plant::{Device, Plant};
+use crate::{Device, Plant};
 use xrc_edge::Failed;
 
 /// Writes bytes over what is there, and syncs them. Where it fails, their range may hold any bytes.
