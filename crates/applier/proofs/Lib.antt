@@ -4,3 +4,9 @@ pub mod Writing
 pub mod Contents
 pub mod Going
 pub mod Volumes
+pub mod Others
+pub mod LentVolumes
+pub mod Lending
+pub mod Giving
+pub mod Moving
+pub mod Works

@@ -1,3 +1,6 @@
 pub mod Slots
 pub mod Jobs
 pub mod Writes
+pub mod Disks
+pub mod Out
+pub mod Back

@@ -1,7 +1,11 @@
-//! A group's images applied to volumes.
+//! A group's images applied to volumes. The volumes are lent to several jobs at once, worked on each by itself, and given back.
 #![tactic(auto)]
 
 mod applying;
+mod laws;
+mod loans;
 
 pub use applying::apply_volume;
+pub use laws::volumes_stay_out;
+pub use loans::{give_back_all, lend_all};
 pub use xrc_journal::VolumeJob;

@@ -6,7 +6,7 @@ use Rattle.crash_plant.specs.declared.device.Device.{Device}
 use Rattle.crash_plant.specs.declared.device.Device.TheVariants.{Control, State, Journal, Volume}
 use Rattle.crash_plant.specs.Calls.{IsPart, SameSite}
 use Rattle.crash_plant.specs.Moments.{PlantState}
-use Rattle.lending.specs.Back.{WorksOnLent}
+use Rattle.applier.specs.Back.{WorksOnLent}
 use Rattle.pair_table.specs.declared.row.PairRow.{PairRow}
 use Rattle.pending_queue.specs.Entries.{WaitingEntry}
 use Rattle.one_pair_site.specs.declared.store_error.StoreError.{StoreError}

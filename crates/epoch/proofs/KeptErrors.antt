@@ -8,7 +8,7 @@ use Rattle.crash_plant.specs.declared.device.Device.{Device}
 use Rattle.crash_plant.specs.declared.device.Device.TheVariants.{Control, State, Journal, Volume}
 use Rattle.crash_plant.specs.Calls.{WorksOn}
 use Rattle.crash_plant.specs.Moments.{Follows, PlantState, Same, on}
-use Rattle.lending.specs.Back.{OnlyReads}
+use Rattle.applier.specs.Back.{OnlyReads}
 use Rattle.xrc_journal.specs.Items.{Item}
 use Rattle.pair_table.specs.declared.row.PairRow.{PairRow}
 use Rattle.pending_queue.specs.Groups.{FormedGroup}

@@ -6,7 +6,7 @@ use Rattle.std.proofs.lemmas.List.{take_all}
 use Rattle.crash_plant.specs.declared.device.Device.TheVariants.{Journal, Volume}
 use Rattle.crash_plant.specs.Calls.{WorksOn}
 use Rattle.crash_plant.specs.Moments.{Follows, PlantState, Same, on}
-use Rattle.lending.specs.Back.{WorksOnLent}
+use Rattle.applier.specs.Back.{WorksOnLent}
 use Rattle.pair_table.specs.declared.row.PairRow.{PairRow}
 use Rattle.pair_table.specs.declared.row.PairState.{PairState}
 use Rattle.pending_queue.specs.Entries.{WaitingEntry}

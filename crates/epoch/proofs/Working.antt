@@ -5,7 +5,7 @@ use Rattle.crash_plant.specs.declared.device.Device.TheVariants.{Control}
 use Rattle.crash_plant.specs.Calls.{WorksOn}
 use Rattle.crash_plant.specs.Moments.{PlantState}
 use Rattle.crash_plant.proofs.Steps.{elapses_trans, silent_trans, site_trans, works_on_here}
-use Rattle.lending.specs.Back.{WorksOnLent}
+use Rattle.applier.specs.Back.{WorksOnLent}
 use Rattle.one_pair_site.specs.Applies.{WorksWithin}
 use Rattle.epoch.specs.Works.{WorksSilently}
 

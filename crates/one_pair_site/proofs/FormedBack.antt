@@ -16,10 +16,10 @@ use Rattle.xrc_journal.specs.declared.job.VolumeJob.{VolumeJob}
 use Rattle.xrc_journal.specs.Items.{Item}
 use Rattle.xrc_journal.specs.Contents.{HasItem, content_through}
 use Rattle.xrc_journal.specs.Jobs.{FailsByCount, OnVolume}
-use Rattle.lending.specs.Back.{AreBack, AreRead, IsBack, WorksOnLent}
-use Rattle.lending.specs.Jobs.{IsLentTo, OnDisks, without_disk}
-use Rattle.lending.specs.Out.{AreOut, AreWorkedOn, HoldsVolume, LendsWhere, WorkedOn}
-use Rattle.lending.proofs.Works.{works_lent_more}
+use Rattle.applier.specs.Back.{AreBack, AreRead, IsBack, WorksOnLent}
+use Rattle.applier.specs.Disks.{IsLentTo, OnDisks, without_disk}
+use Rattle.applier.specs.Out.{AreOut, AreWorkedOn, HoldsVolume, LendsWhere, WorkedOn}
+use Rattle.applier.proofs.Works.{works_lent_more}
 use Rattle.image_former.specs.Changes.{AreSpelled, changed_through}
 use Rattle.image_former.specs.Entries.{HasEntry}
 use Rattle.image_former.specs.Forms.{StandFor}

@@ -14,8 +14,8 @@ use Rattle.pair_table.specs.declared.row.PairRow.{PairRow}
 use Rattle.pending_queue.specs.Entries.{WaitingEntry}
 use Rattle.xrc_journal.specs.declared.job.VolumeJob.{VolumeJob}
 use Rattle.xrc_journal.specs.Jobs.{FailsByCount, OnVolume}
-use Rattle.lending.specs.Jobs.{AreApart, IsLentTo, OnDisks, without_disk}
-use Rattle.lending.specs.Out.{AreOut, AreWorkedOn, HoldsVolume, LendsWhere, WorkedOn}
+use Rattle.applier.specs.Disks.{AreApart, IsLentTo, OnDisks, without_disk}
+use Rattle.applier.specs.Out.{AreOut, AreWorkedOn, HoldsVolume, LendsWhere, WorkedOn}
 use Rattle.image_former.specs.Entries.{HasEntry, entry_device, entry_row, is_device, is_entry_on, is_row_of, row_device}
 use Rattle.image_former.specs.Jobs.{HasOneJob, HasSlotsOf, HoldsSlots, OnVolumes, is_job_of}
 use Rattle.one_pair_site.specs.Groups.{HasEntryOn, IsOfLiveRow, IsOfRow, is_entry_of}

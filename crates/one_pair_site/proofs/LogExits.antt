@@ -21,8 +21,8 @@ use Rattle.state_set.specs.Slots.{are_rows}
 use Rattle.xrc_journal.specs.Items.{AreItems, Form, Item, body_spelling, form_of}
 use Rattle.xrc_journal.specs.Walks.{Adds, AllEnd, Appends, Logged}
 use Rattle.xrc_journal.proofs.Appends.{same_form}
-use Rattle.lending.specs.Back.{OnlyReads, WorksOnLent}
-use Rattle.lending.proofs.Works.{lent_of_works, works_lent_more, works_lent_trans}
+use Rattle.applier.specs.Back.{OnlyReads, WorksOnLent}
+use Rattle.applier.proofs.Works.{lent_of_works, works_lent_more, works_lent_trans}
 use Rattle.one_pair_site.specs.declared.store_error.StoreError.{StoreError}
 use Rattle.one_pair_site.specs.declared.store_error.StoreError.TheVariants.{Fault, Volume as VolumeError, JournalEnd, Spent, NoMemory}
 use Rattle.one_pair_site.specs.Changes.{HasRecordCause, LeavesWhereRefused, RefusesRecord}

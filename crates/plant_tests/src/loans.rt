@@ -5,12 +5,12 @@ ghost use Rattle.std.specs.Prelude.{◌≡◌, ◌<◌, ◌≤◌, ℕ, All, Non
 ghost use Rattle.crash_plant.specs.Calls.{NoneLent};
 ghost use Rattle.crash_plant.specs.MemoryPlant.{memory_state};
 ghost use Rattle.crash_plant.specs.PlainPlant.{plain_state};
-ghost use Rattle.lending.specs.Jobs.{AreApart, OnDisks};
-ghost use Rattle.lending.specs.Out.{AreWorkedOn, WorkedOn};
+ghost use Rattle.applier.specs.Disks.{AreApart, OnDisks};
+ghost use Rattle.applier.specs.Out.{AreWorkedOn, WorkedOn};
 
 use crate::fixtures::{assert_holds, assert_same, plain, planned, read_at};
+use applier::{VolumeJob, give_back_all, lend_all};
 use crash_plant::{Device, Disk, MemoryPlant, PlainPlant, Plant};
-use lending::{VolumeJob, give_back_all, lend_all};
 use std::alloc::Global;
 use std::process::Abort;
 use test_fixtures::fail_at;

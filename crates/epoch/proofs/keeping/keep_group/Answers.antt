@@ -1,7 +1,7 @@
 use Rattle.std.proofs.Common.{rules, ◌≡◌, false, sym, ap, ◌∙◌, arith}
 use Rattle.crash_plant.specs.declared.device.Device.TheVariants.{Volume}
 use Rattle.crash_plant.proofs.Steps.{none_lent_then}
-use Rattle.lending.proofs.Works.{none_lent_lent}
+use Rattle.applier.proofs.Works.{none_lent_lent}
 use Rattle.one_pair_site.specs.declared.store_error.StoreError.TheVariants.{Fault, JournalEnd, Spent, Volume as VolumeError}
 use Rattle.one_pair_site.specs.Sites.{SiteState}
 use Rattle.epoch.specs.Lanes.{tracks_of}

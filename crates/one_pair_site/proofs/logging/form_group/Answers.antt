@@ -5,9 +5,9 @@ use Rattle.std.proofs.lemmas.List.{get_or-take}
 use Rattle.crash_plant.specs.declared.device.Device.{Device}
 use Rattle.xrc_journal.specs.declared.job.VolumeJob.{VolumeJob}
 use Rattle.xrc_journal.specs.Contents.{HasItem}
-use Rattle.lending.specs.Jobs.{without_disk}
-use Rattle.lending.specs.Out.{LendsWhere}
-use Rattle.lending.proofs.Moving.{worked_on}
+use Rattle.applier.specs.Disks.{without_disk}
+use Rattle.applier.specs.Out.{LendsWhere}
+use Rattle.applier.proofs.Moving.{worked_on}
 use Rattle.image_former.specs.Entries.{HasEntry}
 use Rattle.image_former.specs.Jobs.{is_failed_of}
 use Rattle.one_pair_site.specs.Groups.{FailByReads}

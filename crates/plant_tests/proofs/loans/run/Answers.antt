@@ -1,4 +1,4 @@
-use Rattle.lending.proofs.Moving.{worked_on}
+use Rattle.applier.proofs.Moving.{worked_on}
 use Rattle.plant_tests.proofs.loans.run.Goals as goal
 
 pub give_back_all-requires-clause-out : goal.give_back_all-requires-clause-out

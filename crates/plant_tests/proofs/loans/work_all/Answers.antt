@@ -1,5 +1,5 @@
 use Rattle.std.proofs.Common.{arith}
-use Rattle.lending.proofs.Moving.{worked_none, worked_next}
+use Rattle.applier.proofs.Moving.{worked_none, worked_next}
 use Rattle.plant_tests.proofs.loans.work_all.Goals as goal
 
 pub loop-job-init : goal.loop-job-init

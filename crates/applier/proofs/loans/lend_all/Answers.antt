@@ -1,7 +1,7 @@
 use Rattle.std.proofs.Common.{◌<◌, refl, sym, ◌∙◌, ap, subst, arith}
 use Rattle.xrc_journal.specs.declared.job.VolumeJob.{VolumeJob}
-use Rattle.lending.proofs.Lending.{none_out, is_home, out_next, so_far_next}
-use Rattle.lending.proofs.loans.lend_all.Goals as goal
+use Rattle.applier.proofs.Lending.{none_out, is_home, out_next, so_far_next}
+use Rattle.applier.proofs.loans.lend_all.Goals as goal
 
 pub loop-i-init : goal.loop-i-init
 loop-i-init g c = record {

@@ -5,7 +5,7 @@ use Rattle.crash_plant.specs.declared.device.Device.TheVariants.{Volume}
 use Rattle.crash_plant.specs.Moments.{Standing, PlantState, on, GoesOn, Kept, Stays}
 use Rattle.crash_plant.specs.Calls.{NoneLent, SameSite, SameLoan, Silent}
 use Rattle.xrc_journal.specs.declared.job.VolumeJob.{VolumeJob}
-use Rattle.lending.specs.Jobs.{OnDisks, AreApart, IsLentTo}
+use Rattle.applier.specs.Disks.{OnDisks, AreApart, IsLentTo}
 
 -- The job has its volume's disk where this is wanted and the job hasn't failed. Nothing else of it changes.
 pub record LendsWhere {D : Type 0} (wanted : Bool) (old new : VolumeJob D) : Type 0 where

@@ -8,12 +8,12 @@ use Rattle.crash_plant.specs.Moments.{Standing, PlantState, on, Kept}
 use Rattle.crash_plant.specs.Calls.{NoneLent, SameLoan, TakesBack, IsLentOne}
 use Rattle.crash_plant.proofs.Choices.{device_cases}
 use Rattle.xrc_journal.specs.declared.job.VolumeJob.{VolumeJob}
-use Rattle.lending.specs.Jobs.{OnDisks, AreApart, IsLentTo}
-use Rattle.lending.specs.Out.{HoldsVolume, IsOut, AreOut, LeavesBut}
-use Rattle.lending.specs.Back.{IsBack, AreBack}
-use Rattle.lending.proofs.Others.{leaves_then}
-use Rattle.lending.proofs.Volumes.{lent_one, back_of, back_then}
-use Rattle.lending.proofs.Lending.{on_more, holds_then, other_volume}
+use Rattle.applier.specs.Disks.{OnDisks, AreApart, IsLentTo}
+use Rattle.applier.specs.Out.{HoldsVolume, IsOut, AreOut, LeavesBut}
+use Rattle.applier.specs.Back.{IsBack, AreBack}
+use Rattle.applier.proofs.Others.{leaves_then}
+use Rattle.applier.proofs.LentVolumes.{lent_one, back_of, back_then}
+use Rattle.applier.proofs.Lending.{on_more, holds_then, other_volume}
 
 -- The disks of so many jobs are back, and those of the others are out.
 pub record AreHalfBack (tells own : Type 0) {D : Type 0} (state : D → Standing) (n : ℕ) (start plant : PlantState) (lent given : List (VolumeJob D)) : Type 0 where

@@ -9,10 +9,10 @@ use Rattle.crash_plant.specs.Moments.{Standing, PlantState}
 use Rattle.crash_plant.specs.Calls.{IsThere, NoneLent, LeavesAllBut, Lends}
 use Rattle.xrc_journal.specs.declared.job.VolumeJob.{VolumeJob}
 use Rattle.crash_plant.proofs.Steps.{kept_here}
-use Rattle.lending.specs.Jobs.{OnDisks, AreApart, IsLentTo}
-use Rattle.lending.specs.Out.{LendsWhere, WorkedOn, HoldsVolume, AreOut}
-use Rattle.lending.proofs.Others.{leaves_here, leaves_then}
-use Rattle.lending.proofs.Volumes.{out_of, out_then}
+use Rattle.applier.specs.Disks.{OnDisks, AreApart, IsLentTo}
+use Rattle.applier.specs.Out.{LendsWhere, WorkedOn, HoldsVolume, AreOut}
+use Rattle.applier.proofs.Others.{leaves_here, leaves_then}
+use Rattle.applier.proofs.LentVolumes.{out_of, out_then}
 
 -- Nothing holds of no disk.
 pub on_none : {D : Type 0} (holds : D → D → Type 0) (old new : Option D) → old ≡ None → new ≡ None → OnDisks holds old new

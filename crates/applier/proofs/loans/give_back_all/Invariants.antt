@@ -1,9 +1,9 @@
 use Rattle.std.proofs.Common.{◌≡◌, ◌++◌, List, map, take, drop}
 use Rattle.xrc_journal.specs.declared.job.VolumeJob.{VolumeJob}
-use Rattle.lending.specs.Jobs.{without_disk}
-use Rattle.lending.specs.Out.{AreOut}
-use Rattle.lending.proofs.Giving.{AreHalfBack}
-use Rattle.lending.proofs.loans.give_back_all.Given as goal
+use Rattle.applier.specs.Disks.{without_disk}
+use Rattle.applier.specs.Out.{AreOut}
+use Rattle.applier.proofs.Giving.{AreHalfBack}
+use Rattle.applier.proofs.loans.give_back_all.Given as goal
 
 abbrev pub invariant-loop-job : goal.invariant-loop-job
 invariant-loop-job g l =

@@ -5,8 +5,8 @@ use Rattle.crash_plant.specs.declared.device.Device.TheVariants.{Volume}
 use Rattle.crash_plant.specs.Moments.{Standing, PlantState, on, Kept, Follows, Same, Stays, OwnImage}
 use Rattle.crash_plant.specs.Calls.{SameSite, SameLoan, Elapses, Silent}
 use Rattle.xrc_journal.specs.declared.job.VolumeJob.{VolumeJob}
-use Rattle.lending.specs.Jobs.{OnDisks, IsLentTo}
-use Rattle.lending.specs.Out.{IsLentFrom}
+use Rattle.applier.specs.Disks.{OnDisks, IsLentTo}
+use Rattle.applier.specs.Out.{IsLentFrom}
 
 -- A volume that was lent since the start is back. At every moment a crash leaves on it what it could at the start, or what it
 -- could on the disk at one of the disk's own moments; and now what it can leave on the disk now.

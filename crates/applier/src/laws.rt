@@ -2,7 +2,7 @@
 
 ghost use Rattle.std.specs.Prelude.{List};
 ghost use Rattle.xrc_journal.specs.declared.job.VolumeJob.{VolumeJob};
-ghost use Rattle.lending.specs.Out.{AreOut, AreWorkedOn};
+ghost use Rattle.applier.specs.Out.{AreOut, AreWorkedOn};
 
 use crash_plant::Plant;
 

@@ -9,12 +9,12 @@ use Rattle.crash_plant.specs.Choices.{AllFollow}
 use Rattle.crash_plant.proofs.Choices.{all_follow, part_cases}
 use Rattle.crash_plant.proofs.Steps.{kept_trans}
 use Rattle.xrc_journal.specs.declared.job.VolumeJob.{VolumeJob}
-use Rattle.lending.specs.Jobs.{OnDisks, IsLentTo}
-use Rattle.lending.specs.Out.{WorkedOn, AreWorkedOn, HoldsVolume, AreOut, LeavesBut}
-use Rattle.lending.specs.Back.{IsBack, AreBack, AreRead, OnlyReads}
-use Rattle.lending.proofs.Volumes.{back_follows, back_durable}
-use Rattle.lending.proofs.Lending.{at_set, worked_here}
-use Rattle.lending.proofs.Giving.{lent_cases}
+use Rattle.applier.specs.Disks.{OnDisks, IsLentTo}
+use Rattle.applier.specs.Out.{WorkedOn, AreWorkedOn, HoldsVolume, AreOut, LeavesBut}
+use Rattle.applier.specs.Back.{IsBack, AreBack, AreRead, OnlyReads}
+use Rattle.applier.proofs.LentVolumes.{back_follows, back_durable}
+use Rattle.applier.proofs.Lending.{at_set, worked_here}
+use Rattle.applier.proofs.Giving.{lent_cases}
 
 -- Two rows of calls on a disk are one.
 pub worked_trans : (own : Type 0) (a b c : Standing) → WorkedOn own a b → WorkedOn own b c → WorkedOn own a c

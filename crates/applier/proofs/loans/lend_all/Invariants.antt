@@ -1,6 +1,6 @@
-use Rattle.lending.specs.Out.{AreOut}
-use Rattle.lending.proofs.Lending.{LendsSoFar}
-use Rattle.lending.proofs.loans.lend_all.Given as goal
+use Rattle.applier.specs.Out.{AreOut}
+use Rattle.applier.proofs.Lending.{LendsSoFar}
+use Rattle.applier.proofs.loans.lend_all.Given as goal
 
 abbrev pub invariant-loop-i : goal.invariant-loop-i
 invariant-loop-i g l = record {

@@ -6,8 +6,8 @@ use Rattle.crash_plant.specs.declared.device.Device.TheVariants.{Volume}
 use Rattle.crash_plant.specs.Moments.{Standing, PlantState, on, Kept, Follows, Stays, IsDurable, OwnImage}
 use Rattle.crash_plant.specs.Calls.{SameLoan, LeavesAllBut, Lends, TakesBack, IsLentOne}
 use Rattle.crash_plant.proofs.Steps.{kept_trans}
-use Rattle.lending.specs.Out.{WorkedOn, IsOut, LeavesBut}
-use Rattle.lending.specs.Back.{IsBack}
+use Rattle.applier.specs.Out.{WorkedOn, IsOut, LeavesBut}
+use Rattle.applier.specs.Back.{IsBack}
 
 -- other numbers are other volumes
 pub apart_volumes : (v w : ℕ) → w ≢ v → Volume w ≢ Volume v

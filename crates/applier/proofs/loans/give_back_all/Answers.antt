@@ -2,11 +2,11 @@ use Rattle.std.proofs.Common.{◌≡◌, ℕ, length, get_or, IfSome, refl, sym,
 use Rattle.crash_plant.specs.Calls.{IsLentOne, TakesBack}
 use Rattle.crash_plant.proofs.Planned.{one_more, still_to_come}
 use Rattle.xrc_journal.specs.declared.job.VolumeJob.{VolumeJob}
-use Rattle.lending.specs.Jobs.{without_disk}
-use Rattle.lending.proofs.Giving.{AreHalfBack, none_back, own_lent, back_next, all_back}
-use Rattle.lending.proofs.Moving.{only_reads}
-use Rattle.lending.proofs.Works.{none_lent_lent}
-use Rattle.lending.proofs.loans.give_back_all.Goals as goal
+use Rattle.applier.specs.Disks.{without_disk}
+use Rattle.applier.proofs.Giving.{AreHalfBack, none_back, own_lent, back_next, all_back}
+use Rattle.applier.proofs.Moving.{only_reads}
+use Rattle.applier.proofs.Works.{none_lent_lent}
+use Rattle.applier.proofs.loans.give_back_all.Goals as goal
 
 pub loop-job-init : goal.loop-job-init
 loop-job-init g c = record {
