@@ -1,10 +1,11 @@
--- Blocks of 512 bytes.
-use Rattle.std.specs.Prelude.{ℕ, ◌+◌, ◌*◌, ◌/◌, List, take, drop}
+-- Blocks.
+use Rattle.std.specs.Prelude.{ℕ, ◌+◌, ◌-◌, ◌*◌, ◌/◌, List, take, drop}
+use Rattle.xrc_edge.specs.declared.block.TheConstants.{BLOCK}
 
 -- the length in blocks, rounded up
 abbrev pub blocks_of : (length : ℕ) → ℕ
-blocks_of len = (len + 511) / 512
+blocks_of len = (len + (BLOCK - 1)) / BLOCK
 
 -- the bytes of the block with a number
 abbrev pub block_at : (bytes : List ℕ) → (number : ℕ) → List ℕ
-block_at bytes number = take 512 (drop (512 * number) bytes)
+block_at bytes number = take BLOCK (drop (BLOCK * number) bytes)

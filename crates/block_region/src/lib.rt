@@ -12,3 +12,5 @@ pub use laws::{
     none_are_out, taken_chains_are_out, takes_keep_chains,
 };
 pub use region::Region;
+pub use runs::blocks_of;
+pub use xrc_edge::BLOCK;

@@ -5,15 +5,15 @@ ghost use Rattle.block_region.specs.Blocks.{blocks_of};
 ghost use Rattle.block_region.specs.Regions.{empty_region, bytes_at, chain_bytes, Holds, with_bytes, without_chain, block_count, taken_blocks, free_blocks};
 
 use crate::chain::{Chain, Full};
-use crate::runs::{BLOCK, block_after, blocks_of, fill, gather, linked};
+use crate::runs::{block_after, blocks_of, fill, gather, linked};
 use std::alloc::Global;
 use std::marker::Model;
-use xrc_edge::NoMemory;
+use xrc_edge::{BLOCK, NoMemory};
 
 /// The first block of a chain that has none.
 const NO_BLOCK: u32 = u32::MAX;
 
-/// Blocks of 512 bytes, handed out in chains. Contracts see for each block the bytes of the chain that begins there.
+/// Blocks, handed out in chains. Contracts see for each block the bytes of the chain that begins there.
 #[derive(Debug, Drop)]
 pub struct Region {
     bytes: Vec<u8>,

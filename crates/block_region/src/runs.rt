@@ -6,9 +6,7 @@ ghost use Rattle.block_region.specs.Blocks.{blocks_of, block_at};
 ghost use Rattle.block_region.specs.Runs.{hop, run_bytes, IsRun};
 
 use std::alloc::{AllocError, Global};
-
-/// The bytes of a block.
-pub const BLOCK: usize = 512;
+use xrc_edge::BLOCK;
 
 /// The blocks that so many bytes take.
 pub fn blocks_of(len: u64) -> u32
@@ -39,9 +37,9 @@ pub fn block_after(next: &[u32], first: u32, steps: u32) -> u32
 
 /// Puts bytes at the front of a block.
 fn put_block(blocks: &mut [u8], block: u32, bytes: &[u8])
-    requires short { length bytes.now ≤ 512 }
-    requires within { 512 * block + 512 ≤ length blocks.old }
-    ensures { blocks.new ≡ take (512 * block) blocks.old ++ bytes.now ++ drop (512 * block + length bytes.now) blocks.old }
+    requires short { length bytes.now ≤ BLOCK }
+    requires within { BLOCK * block + BLOCK ≤ length blocks.old }
+    ensures { blocks.new ≡ take (BLOCK * block) blocks.old ++ bytes.now ++ drop (BLOCK * block + length bytes.now) blocks.old }
 {
     let begin = BLOCK * block as usize;
     blocks[begin..begin + bytes.len()].copy_from_slice(bytes);
@@ -49,7 +47,7 @@ fn put_block(blocks: &mut [u8], block: u32, bytes: &[u8])
 
 /// Fills the run from a block on with bytes, and tells the block behind it.
 pub fn fill(blocks: &mut [u8], next: &[u32], first: u32, bytes: &[u8]) -> u32
-    requires size { length blocks.old ≡ 512 * length next.now }
+    requires size { length blocks.old ≡ BLOCK * length next.now }
     requires few { length next.now < 2 ^ 32 }
     requires run { IsRun next.now first (blocks_of (length bytes.now)) }
     ensures len { length blocks.new ≡ length blocks.old }
@@ -69,7 +67,7 @@ pub fn fill(blocks: &mut [u8], next: &[u32], first: u32, bytes: &[u8]) -> u32
 
 /// Reads a run from a block on to the end of a slice.
 pub fn gather(blocks: &[u8], next: &[u32], first: u32, out: &mut [u8])
-    requires size { length blocks.now ≡ 512 * length next.now }
+    requires size { length blocks.now ≡ BLOCK * length next.now }
     requires few { length next.now < 2 ^ 32 }
     requires run { IsRun next.now first (blocks_of (length out.old)) }
     ensures { out.new ≡ run_bytes blocks.now next.now first (length out.old) }

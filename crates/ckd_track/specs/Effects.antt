@@ -2,6 +2,7 @@
 use Rattle.std.specs.Prelude.{ℕ, ◌-◌, ◌==◌, ◌&&◌, ◌||◌, List, [], ◌∷◌, ◌++◌, length, take, replicate, map, filter, Bool, true, nat_le, if◌then◌else◌}
 use Rattle.std.specs.List.{list_any}
 use Rattle.tod_stamp.specs.Fields.{within}
+use Rattle.ckd_track.specs.declared.layout.TheConstants.{LONGEST_UPDATE}
 use Rattle.ckd_track.specs.declared.rec.Rec.{Rec}
 use Rattle.ckd_track.specs.declared.write.Kind.{Kind}
 use Rattle.ckd_track.specs.declared.write.Kind.TheVariants.{Update, Format, Whole}
@@ -54,7 +55,7 @@ apply recs (Whole track) = track
 
 -- the most bytes that an update may have: as many as the content of one record without key that fills a track
 abbrev pub longest_update : ℕ
-longest_update = 56656
+longest_update = LONGEST_UPDATE
 
 -- The rules of a write by itself. An update names a record from 1 to 255. The records of a format stand above `after`.
 -- A whole track is one by its type.

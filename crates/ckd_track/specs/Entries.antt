@@ -2,6 +2,8 @@
 use Rattle.std.specs.Prelude.{◌≡◌, ℕ, ◌/◌, ◌%◌, List, [], ◌∷◌, ◌++◌, length, Bool, true, false, IsTrue}
 use Rattle.std.specs.List.{flat_map}
 use Rattle.std.specs.Int.{w16, w32, w64, to_be_bytes}
+use Rattle.tod_stamp.specs.declared.limits.TheConstants.{TRACKS_OF_CYLINDER}
+use Rattle.ckd_track.specs.declared.layout.TheConstants.{LONGEST_ENTRY}
 use Rattle.ckd_track.specs.declared.rec.Rec.{Rec}
 use Rattle.ckd_track.specs.declared.write.Kind.{Kind}
 use Rattle.ckd_track.specs.declared.write.Kind.TheVariants.{Update, Format, Whole}
@@ -21,12 +23,11 @@ kind_spelling (Update number bytes) = number ∷ [] ++ to_be_bytes w16 (length b
 kind_spelling (Format after recs) = after ∷ length recs ∷ [] ++ flat_map record_spelling recs
 kind_spelling (Whole track) = image track
 
--- A cylinder has 15 tracks.
 abbrev pub cylinder_of : (track : ℕ) → ℕ
-cylinder_of track = track / 15
+cylinder_of track = track / TRACKS_OF_CYLINDER
 
 abbrev pub head_of_track : (track : ℕ) → ℕ
-head_of_track track = track % 15
+head_of_track track = track % TRACKS_OF_CYLINDER
 
 -- The entry: tag, stamp, volume, cylinder, head, and the fields of the kind. Its cylinder has two bytes, so a track behind
 -- 65,536 cylinders has none.
@@ -36,7 +37,7 @@ entry_spelling write =
 
 -- The longest entry is that of a whole track with one record that fills it.
 abbrev pub longest_entry : ℕ
-longest_entry = 56677
+longest_entry = LONGEST_ENTRY
 
 -- The queue form: the same with the track's number in four bytes in place of cylinder and head.
 abbrev pub queue_form : Write → List ℕ

@@ -3,6 +3,7 @@ use Rattle.std.specs.Prelude.{◌≡◌, ℕ, zero, suc, ◌+◌, ◌-◌, List,
 use Rattle.std.specs.List.{flat_map}
 use Rattle.std.specs.Int.{w16, to_be_bytes, from_be_bytes}
 use Rattle.tod_stamp.specs.Fields.{◌>>=◌, IsBytes}
+use Rattle.ckd_track.specs.declared.layout.TheConstants.{LONGEST_IMAGE}
 use Rattle.ckd_track.specs.declared.fault.ImageError.{ImageError}
 use Rattle.ckd_track.specs.declared.fault.ImageError.TheVariants.{Short, TooBig, Order}
 use Rattle.ckd_track.specs.declared.rec.Rec.{Rec}
@@ -18,7 +19,7 @@ image recs = to_be_bytes w16 (length recs) ++ flat_map record_spelling recs
 
 -- The longest image is that of one record without key that fills a track.
 abbrev pub longest_image : ℕ
-longest_image = 56662
+longest_image = LONGEST_IMAGE
 
 -- A record after its first four bytes: its number must be above the last, its size must fit the room that is left, and then
 -- key and content must be there.

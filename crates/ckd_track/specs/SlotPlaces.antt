@@ -1,16 +1,17 @@
 -- Where the slot of a track lies on a volume, and the track whose image it begins with.
 use Rattle.std.specs.Prelude.{ℕ, ◌+◌, ◌*◌, List, drop, Option, Some, None, Result, Ok, Err}
+use Rattle.ckd_track.specs.declared.layout.TheConstants.{FIRST_SLOT, SLOT_LENGTH}
 use Rattle.ckd_track.specs.declared.fault.ImageError.{ImageError}
 use Rattle.ckd_track.specs.declared.rec.Rec.{Rec}
 use Rattle.ckd_track.specs.Images.{image_at}
 
 -- the place of a track's slot, behind the label's block
 abbrev pub slot_place : (track : ℕ) → ℕ
-slot_place track = 512 + track * 57344
+slot_place track = FIRST_SLOT + track * SLOT_LENGTH
 
 -- where the slot of a track ends
 abbrev pub slot_end : (track : ℕ) → ℕ
-slot_end track = slot_place track + 57344
+slot_end track = slot_place track + SLOT_LENGTH
 
 abbrev pub track_read : Result (List Rec × List ℕ) ImageError → Option (List Rec)
 track_read (Ok found) = Some found.0

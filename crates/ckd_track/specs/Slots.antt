@@ -1,6 +1,7 @@
 -- A slot's buffer begins with the image of a track, and is seen as that track.
 use Rattle.std.specs.Prelude.{◌≡◌, ◌≤◌, ℕ, ◌+◌, List, [], ◌++◌, length, take, drop, Result, Ok, Err}
 use Rattle.std.specs.List.{flat_map}
+use Rattle.ckd_track.specs.declared.layout.TheConstants.{SLOT_LENGTH}
 use Rattle.ckd_track.specs.declared.fault.ImageError.{ImageError}
 use Rattle.ckd_track.specs.declared.rec.Rec.{Rec}
 use Rattle.ckd_track.specs.Tracks.{IsTrack, capacity}
@@ -26,7 +27,7 @@ with_bytes place bytes buffer = take place buffer ++ (bytes ++ drop (place + len
 
 -- the length of a slot
 abbrev pub slot_size : ℕ
-slot_size = 57344
+slot_size = SLOT_LENGTH
 
 -- The buffer is a slot's, and its first bytes are an image.
 pub record HoldsImage (used : ℕ) (buffer : List ℕ) : Type 0 where

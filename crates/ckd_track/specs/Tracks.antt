@@ -1,11 +1,12 @@
 -- Tracks of count-key-data records: sizes, and which lists of records are tracks.
 use Rattle.std.specs.Prelude.{ℕ, ◌+◌, ◌&&◌, List, [], ◌∷◌, length, sum_by, Bool, true, nat_le, IsTrue}
 use Rattle.tod_stamp.specs.Fields.{within}
+use Rattle.ckd_track.specs.declared.layout.TheConstants.{CAPACITY}
 use Rattle.ckd_track.specs.declared.rec.Rec.{Rec}
 
 -- the bytes that a track has room for
 abbrev pub capacity : ℕ
-capacity = 56664
+capacity = CAPACITY
 
 -- The size of a record is 8 for its count field, and the lengths of key and content.
 abbrev pub size : Rec → ℕ

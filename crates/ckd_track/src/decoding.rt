@@ -9,9 +9,9 @@ ghost use Rattle.ckd_track.specs.Reading.{GivesOrWants};
 
 use crate::fault::ImageError;
 use crate::head::Head;
+use crate::layout::CAPACITY;
 use crate::reading::{count_and_records, record};
 use crate::rec::{Rec, RecList, copied_bytes};
-use crate::track::CAPACITY;
 use std::alloc::Global;
 use xrc_edge::NoMemory;
 

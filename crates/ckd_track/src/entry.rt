@@ -7,6 +7,7 @@ ghost use Rattle.ckd_track.specs.Entries.{tag_of, kind_spelling, entry_spelling,
 ghost use Rattle.ckd_track.specs.Images.{longest_image};
 ghost use Rattle.ckd_track.specs.Slots.{with_bytes};
 
+use crate::layout::BEFORE_IMAGE;
 use crate::recs::spelled_length;
 use crate::spelling::{append_image, append_records, put_bytes, put_image, put_records};
 use crate::write::{Kind, Write};
@@ -35,14 +36,14 @@ pub fn entry_len(write: &Write) -> u32
     ensures form { result ≡ length (queue_form write.now) }
     ensures short { result ≤ longest_entry }
 {
-    15 + fields_len(&write.kind) as u32
+    BEFORE_IMAGE as u32 + fields_len(&write.kind) as u32
 }
 
 /// The part of the queue form before the fields of the kind.
-fn form_head(write: &Write) -> [u8; 15]
+fn form_head(write: &Write) -> [u8; BEFORE_IMAGE]
     ensures { result ≡ tag_of write.now.kind ∷ [] ++ to_be_bytes w64 write.now.stamp.0 ++ to_be_bytes w16 write.now.volume ++ to_be_bytes w32 write.now.track }
 {
-    let mut head = [0; 15];
+    let mut head = [0; BEFORE_IMAGE];
     head[0] = write.kind.tag();
     BigEndian::write_u64(&mut head[1..], write.stamp.0);
     BigEndian::write_u16(&mut head[9..], write.volume);

@@ -7,8 +7,8 @@ ghost use Rattle.ckd_track.specs.Slots.{IsImage, track_of, AreSpelled, spelled_r
 ghost use Rattle.ckd_track.specs.Places.{no_front, front_after, front_up_to, front_fitting};
 
 use crate::head::Head;
+use crate::layout::CAPACITY;
 use crate::places::count;
-use crate::track::CAPACITY;
 
 /// Some records in a row: where their spelling ends, how many they are, the room behind them, and the last number (0 for none).
 #[derive(Clone, Copy, Debug)]

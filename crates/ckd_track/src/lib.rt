@@ -8,11 +8,13 @@ mod fault;
 mod fronts;
 mod head;
 mod laws;
+mod layout;
 mod places;
 mod reading;
 mod rec;
 mod recs;
 mod slot;
+mod slot_places;
 mod spelling;
 mod track;
 mod write;
@@ -21,7 +23,12 @@ pub use decoding::decode_records;
 pub use entry::{entry_len, put_entry};
 pub use fault::ImageError;
 pub use laws::{images_are_read, images_read_back, no_image_begins_another};
+pub use layout::{
+    BEFORE_IMAGE, BLOCKS_OF_ENTRY, BLOCKS_OF_QUEUE, CAPACITY, CYLINDER_LENGTH, FIRST_SLOT,
+    LONGEST_ENTRY, LONGEST_IMAGE, LONGEST_UPDATE, SLOT_LENGTH, WRITES_OF_RUN,
+};
 pub use rec::{Rec, RecList};
 pub use slot::Slot;
+pub use slot_places::slot_place;
 pub use track::Track;
 pub use write::{Batch, Cause, Kind, Write, WriteList};

@@ -8,7 +8,7 @@ ghost use Rattle.ckd_track.specs.Reading.{Gives, left_of};
 
 use crate::fault::ImageError;
 use crate::head::Head;
-use crate::track::CAPACITY;
+use crate::layout::CAPACITY;
 use byteorder::{BigEndian, ByteOrder};
 
 /// The record at the front, which stands at the place after a record `last`, with this room left.

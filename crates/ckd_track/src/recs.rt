@@ -7,8 +7,8 @@ ghost use Rattle.ckd_track.specs.Effects.{fitting, up_to};
 ghost use Rattle.ckd_track.specs.Images.{record_spelling};
 ghost use Rattle.ckd_track.specs.Heads.{FitsHead};
 
+use crate::layout::CAPACITY;
 use crate::rec::Rec;
-use crate::track::CAPACITY;
 use xrc_edge::NoMemory;
 
 /// The size of a record on a track.

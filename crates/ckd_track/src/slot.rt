@@ -9,6 +9,7 @@ ghost use Rattle.ckd_track.specs.Slots.{IsImage, track_of, AreSpelled, spelled_r
 
 use crate::changes::{format_image, format_image_spelled, update_image};
 use crate::fault::ImageError;
+use crate::layout::{BEFORE_IMAGE, SLOT_LENGTH};
 use crate::reading::after_image;
 use crate::rec::Rec;
 use crate::spelling::put_image;
@@ -18,9 +19,6 @@ use std::alloc::Global;
 use std::boxed::BoxedSlice;
 use std::marker::Model;
 use xrc_edge::NoMemory;
-
-/// The length of a slot's buffer.
-const SLOT_LENGTH: usize = 57_344;
 
 /// A buffer that is made once and cannot grow. Contracts see it as the track whose image it begins with.
 #[derive(Debug, Drop)]
@@ -59,7 +57,7 @@ fn put_front(buffer: &mut [u8], bytes: &[u8])
 }
 
 impl Slot {
-    /// A slot with no record, with a buffer of 57,344 bytes. No other call of a slot takes an allocator.
+    /// A slot with no record, with a buffer of `SLOT_LENGTH` bytes. No other call of a slot takes an allocator.
     pub fn make(alloc: Global) -> Result<Slot, NoMemory>
         ensures { IfOk result (λ slot. slot ≡ []) }
     {
@@ -186,7 +184,7 @@ impl Slot {
         requires form { IsQueueForm entry.now }
         ensures { AppliesEntry entry.now self.old self.new }
     {
-        let (head, fields) = entry.split_at(15);
+        let (head, fields) = entry.split_at(BEFORE_IMAGE);
         self.apply_fields(head[0], fields);
     }
 

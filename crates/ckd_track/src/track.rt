@@ -4,6 +4,7 @@ ghost use Rattle.std.specs.Prelude.{◌≡◌, ◌≢◌, ◌+◌, ◌↔◌, []
 
 use crate::decoding::decoded;
 use crate::fault::ImageError;
+use crate::layout::CAPACITY;
 use crate::rec::{Rec, copied_records, fitted_bytes};
 use crate::recs::{
     count_up_to, fitting_records, last_number, record_place, replace_behind, track_size,
@@ -13,9 +14,6 @@ use crate::write::{Kind, Write};
 use std::alloc::Global;
 use std::marker::Model;
 use xrc_edge::{Bytes, NoMemory};
-
-/// The sizes of a track's records add up to at most this.
-pub const CAPACITY: usize = 56_664;
 
 /// A track. Contracts see it as the list of its records.
 #[derive(Debug, Drop)]

@@ -1,13 +1,11 @@
 //! A write to a track, and batches of writes.
 
+use crate::layout::LONGEST_UPDATE;
 use crate::rec::RecList;
 use crate::recs::are_records_above;
 use crate::track::Track;
 use tod_stamp::Stamp;
 use xrc_edge::{Bytes, List};
-
-/// The most bytes of an update.
-const LONGEST_UPDATE: usize = 56_656;
 
 /// What a write does to its track.
 #[derive(Debug, Drop)]
@@ -28,7 +26,7 @@ impl Kind {
     ghost use Rattle.std.specs.Prelude.{◌↔◌, IsTrue};
     ghost use Rattle.ckd_track.specs.Effects.{keeps_rules};
 
-    /// Whether an update names a record from 1 to 255 and has at most 56,656 bytes, and whether the records of a format
+    /// Whether an update names a record from 1 to 255 and has at most `LONGEST_UPDATE` bytes, and whether the records of a format
     /// rise in number from above `after`, with keys of at most 255 bytes, and fit a track.
     pub fn keeps_rules(&self) -> bool
         ensures { IsTrue result ↔ IsTrue (keeps_rules self.now) }

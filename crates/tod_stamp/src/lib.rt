@@ -2,6 +2,7 @@
 #![tactic(auto)]
 
 mod laws;
+mod limits;
 mod name;
 mod name_error;
 mod serial;
@@ -12,6 +13,7 @@ pub use laws::{
     fields_are_spelled, fields_read_back, names_are_read, names_read_back, texts_are_spelled,
     texts_read_back, what_is_read_is_a_name,
 };
+pub use limits::{MOST_CONTROLS, MOST_CYLINDERS, MOST_VOLUMES, TRACKS_OF_CYLINDER};
 pub use name_error::NameError;
 pub use serial::Serial;
 pub use session::Session;
