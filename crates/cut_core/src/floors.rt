@@ -10,10 +10,7 @@ ghost use Rattle.cut_core.specs.Standing.{StandsAfter, told_to, formed};
 use crate::event::Event;
 use crate::told::{Phase, Told};
 use std::marker::Model;
-use tod_stamp::Stamp;
-
-/// The most controls of a session.
-const MOST_CONTROLS: usize = 16;
+use tod_stamp::{MOST_CONTROLS, Stamp};
 
 /// The floors of the controls and the last cut. Contracts say of them after which histories they stand.
 #[derive(Debug, Drop)]
@@ -25,20 +22,21 @@ pub struct Floors {
 
 impl Model for Floors {
     ghost use Rattle.std.specs.Prelude.{◌≤◌};
+    ghost use Rattle.tod_stamp.specs.declared.limits.TheConstants.{MOST_CONTROLS};
     ghost use Rattle.cut_core.specs.Standing.{FloorsState};
 
     ghost Value = { FloorsState };
 
     ghost view = { λ floors. record { controls = floors.controls; told = floors.told; last = floors.last } };
 
-    ghost invariant = { λ floors. floors.controls ≤ 16 };
+    ghost invariant = { λ floors. floors.controls ≤ MOST_CONTROLS };
 }
 
 impl Floors {
     /// Floors of that many controls, of which none has told anything.
     pub fn make(controls: u16) -> Floors
         requires some { 1 ≤ controls }
-        requires few { controls ≤ 16 }
+        requires few { controls ≤ MOST_CONTROLS }
         ensures controls { result.controls ≡ controls }
         ensures first { StandsAfter result [] }
     {

@@ -1,6 +1,7 @@
 -- The refusals of commands, in the order in which they count.
 use Rattle.std.specs.Prelude.{ℕ, ◌*◌, ◌&&◌, ◌||◌, not, List, find, Bool, true, false, Option, Some, None, nat_lt, if◌then◌else◌, bytes_eq}
 use Rattle.std.specs.List.{list_any}
+use Rattle.tod_stamp.specs.declared.limits.TheConstants.{TRACKS_OF_CYLINDER}
 use Rattle.pair_table.specs.declared.command.Choice.{Choice}
 use Rattle.pair_table.specs.declared.command.Choice.TheVariants.{One, All}
 use Rattle.pair_table.specs.declared.command.Command.{Command}
@@ -37,11 +38,11 @@ refuses_row secondary r =
     else if not (is_suspended r.state) then Some AlreadyPaired
     else None
 
--- The primary has no row: the secondary's device is in one, or has fewer tracks than the primary's 15 a cylinder.
+-- The primary has no row: the secondary's device is in one, or has fewer tracks than the primary.
 abbrev pub refuses_new : List PairRow → NamedVolume → NamedDevice → Option Refusal
 refuses_new rows v l =
     if list_any (is_of l.device) rows then Some SecondaryInUse
-    else if nat_lt l.cylinders v.cylinders then Some (TooSmall (15 * v.cylinders))
+    else if nat_lt l.cylinders v.cylinders then Some (TooSmall (TRACKS_OF_CYLINDER * v.cylinders))
     else None
 
 abbrev pub refuses_found : (secondary : List ℕ) → List PairRow → NamedVolume → NamedDevice → Option PairRow → Option Refusal

@@ -1,8 +1,10 @@
 -- Rows of pairs: the ranges that a row keeps by itself, its one spelling in 30 bytes, and reading it.
-use Rattle.std.specs.Prelude.{ℕ, ◌^◌, ◌==◌, ◌&&◌, List, ◌∷◌, ◌++◌, length, slice_range, slice_index, Bool, true, false, Option, Some, None, nat_lt, nat_le, if◌then◌else◌}
+use Rattle.std.specs.Prelude.{ℕ, ◌-◌, ◌^◌, ◌==◌, ◌&&◌, List, ◌∷◌, ◌++◌, length, slice_range, slice_index, Bool, true, false, Option, Some, None, nat_lt, nat_le, if◌then◌else◌}
 use Rattle.std.specs.Int.{w16, w64, to_be_bytes, from_be_bytes}
+use Rattle.tod_stamp.specs.declared.limits.TheConstants.{MOST_CONTROLS, MOST_CYLINDERS, MOST_VOLUMES}
 use Rattle.tod_stamp.specs.Fields.{within}
 use Rattle.tod_stamp.specs.Names.{is_serial, serial_field, name_in}
+use Rattle.pair_table.specs.declared.limits.TheConstants.{ROW_LENGTH}
 use Rattle.pair_table.specs.declared.row.SuspendCause.{SuspendCause}
 use Rattle.pair_table.specs.declared.row.SuspendCause.TheVariants.{Command, Device, Session, Control}
 use Rattle.pair_table.specs.declared.row.PairState.{PairState}
@@ -11,9 +13,9 @@ use Rattle.pair_table.specs.declared.row.PairRow.{PairRow}
 
 -- ---- ranges
 
--- the rules of a row that its types leave open: control 0 to 15, volume 0 to 31, cylinders 1 to 65,520
+-- the rules of a row that its types leave open: control and volume are below their numbers, and there are 1 to the most cylinders
 abbrev pub keeps_rules : PairRow → Bool
-keeps_rules r = nat_le r.control 15 && nat_le r.volume 31 && within 1 65520 r.cylinders
+keeps_rules r = nat_le r.control (MOST_CONTROLS - 1) && nat_le r.volume (MOST_VOLUMES - 1) && within 1 MOST_CYLINDERS r.cylinders
 
 abbrev pub is_suspended : PairState → Bool
 is_suspended (Suspended cause since) = true
@@ -114,4 +116,4 @@ fields_of bytes = do
 
 -- The row that the bytes spell: there are 30, and each field stands at its offset and is in its range.
 abbrev pub row_at : List ℕ → Option PairRow
-row_at bytes = if length bytes == 30 then fields_of bytes else None
+row_at bytes = if length bytes == ROW_LENGTH then fields_of bytes else None

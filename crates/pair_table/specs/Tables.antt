@@ -1,6 +1,7 @@
 -- Tables of pairs: what a table is to its callers, how its rows change, and the rules over several rows.
 use Rattle.std.specs.Prelude.{ℕ, ◌≤◌, ◌==◌, ◌&&◌, ◌||◌, not, List, [], ◌∷◌, length, map, filter, find, Bool, true, false, Option, if◌then◌else◌, IsTrue, bytes_eq, nat_lt}
 use Rattle.std.specs.List.{list_any, list_all}
+use Rattle.pair_table.specs.declared.limits.TheConstants.{MOST_ROWS}
 use Rattle.pair_table.specs.declared.row.PairState.{PairState}
 use Rattle.pair_table.specs.declared.row.PairRow.{PairRow}
 use Rattle.pair_table.specs.Rows.{keeps_rules, is_row}
@@ -73,9 +74,9 @@ clashes_apart row r = not (is_of row.device r) && clashes row r
 
 -- the most rows of a table
 abbrev pub most_rows : ℕ
-most_rows = 64
+most_rows = MOST_ROWS
 
--- What the rows of every table keep: each is a row, no two clash, and there are at most 64.
+-- What the rows of every table keep: each is a row, no two clash, and there are no more than a table has.
 pub record KeepsRows (rows : List PairRow) : Type 0 where
   pub each : IsTrue (list_all is_row rows)
   pub apart : IsTrue (none_clash rows)

@@ -1,22 +1,20 @@
-//! The 30 bytes of a row, big-endian: the serial of the primary (6 bytes, filled with spaces) and of the secondary (6), control,
+//! The bytes of a row, big-endian: the serial of the primary (6 bytes, filled with spaces) and of the secondary (6), control,
 //! volume of the control, device and cylinders (2 each), state (1), cause (1), and the time since it is suspended (8).
 
 ghost use Rattle.std.specs.Prelude.{◌≡◌, ◌<◌, ◌^◌, IsTrue};
 ghost use Rattle.pair_table.specs.Rows.{keeps_rules, cause_number, state_numbers, cause_of, plain_state, state_of as state_in, allowed, names_spelling, numbers_spelling, state_spelling, row_spelling, row_at};
 
+use crate::limits::ROW_LENGTH;
 use crate::row::{PairRow, PairState, SuspendCause};
 use byteorder::{BigEndian, ByteOrder};
 use tod_stamp::{Serial, Stamp};
 
-/// The bytes of a row.
-const ROW_BYTES: usize = 30;
-
 /// The row's bytes.
-pub fn encode_row(row: &PairRow) -> [u8; 30]
+pub fn encode_row(row: &PairRow) -> [u8; ROW_LENGTH]
     requires { IsTrue (keeps_rules row.now) }
     ensures { result ≡ row_spelling row.now }
 {
-    let mut bytes = [0; ROW_BYTES];
+    let mut bytes = [0; ROW_LENGTH];
     bytes[20..].copy_from_slice(&state_bytes(row.state));
     bytes[12..20].copy_from_slice(&numbers_bytes(row));
     bytes[..12].copy_from_slice(&names_bytes(row));
@@ -55,7 +53,7 @@ fn state_bytes(state: PairState) -> [u8; 10]
 
 /// The row that the bytes spell. None exactly where a field breaks its rule: a serial is no valid field, a number is out of its
 /// range, or a cause or a time stands beside a state that has none.
-pub fn decode_row(bytes: &[u8; 30]) -> Option<PairRow>
+pub fn decode_row(bytes: &[u8; ROW_LENGTH]) -> Option<PairRow>
     ensures { result ≡ row_at bytes.now }
 {
     allowed(PairRow {

@@ -7,6 +7,7 @@ mod command;
 mod format;
 mod laws;
 mod level;
+mod limits;
 mod row;
 mod table;
 pub mod vectors;
@@ -18,5 +19,6 @@ pub use laws::{
     rows_read_back, states_are_changed,
 };
 pub use level::Level;
+pub use limits::{MOST_ROWS, ROW_LENGTH};
 pub use row::{PairRow, PairState, SuspendCause};
 pub use table::PairTable;

@@ -1,6 +1,6 @@
 //! Rows of pairs.
 
-use tod_stamp::{Serial, Stamp};
+use tod_stamp::{MOST_CONTROLS, MOST_CYLINDERS, MOST_VOLUMES, Serial, Stamp};
 
 /// Why a pair is suspended.
 #[derive(Clone, Copy, Debug, PartialEq, Eq)]
@@ -33,13 +33,13 @@ pub enum PairState {
 pub struct PairRow {
     pub primary: Serial,
     pub secondary: Serial,
-    /// 0 to 15.
+    /// Below `MOST_CONTROLS`.
     pub control: u16,
-    /// The number that the primary has with its control, 0 to 31.
+    /// The number that the primary has with its control, below `MOST_VOLUMES`.
     pub volume: u16,
     /// The number of the secondary's device.
     pub device: u16,
-    /// The primary's cylinders, which have 15 tracks each: 1 to 65,520.
+    /// The primary's cylinders, which have `TRACKS_OF_CYLINDER` tracks each: 1 to `MOST_CYLINDERS`.
     pub cylinders: u32,
     pub state: PairState,
 }
@@ -64,13 +64,10 @@ impl PairState {
 }
 
 /// The greatest number of a control.
-const LAST_CONTROL: u16 = 15;
+const LAST_CONTROL: u16 = MOST_CONTROLS as u16 - 1;
 
 /// The greatest number of a volume of a control.
-const LAST_VOLUME: u16 = 31;
-
-/// The most cylinders of a volume.
-const MOST_CYLINDERS: u32 = 65_520;
+const LAST_VOLUME: u16 = MOST_VOLUMES - 1;
 
 impl PairRow {
     ghost use Rattle.std.specs.Prelude.{◌≡◌};
@@ -89,7 +86,7 @@ impl PairRow {
         let _valid = self.device;
         self.control <= LAST_CONTROL
             && self.volume <= LAST_VOLUME
-            && (1..=MOST_CYLINDERS).contains(&self.cylinders)
+            && (1..=u32::from(MOST_CYLINDERS)).contains(&self.cylinders)
     }
 
     /// Whether the two have one primary, one device, or one pair of control and volume.

@@ -6,15 +6,13 @@ ghost use Rattle.std.specs.Option.{option_copied};
 ghost use Rattle.pair_table.specs.Rows.{keeps_rules};
 ghost use Rattle.pair_table.specs.Tables.{most_rows, new_table, with_rows, row_of, HasRow, with_row, without_row, with_state, clashes_apart, KeepsRows, MayPut, are_below};
 
+use crate::limits::MOST_ROWS;
 use crate::row::{PairRow, PairState};
 use indexmap::IndexMap;
 use std::alloc::Global;
 use std::marker::Model;
 use tod_stamp::Session;
 use xrc_edge::NoMemory;
-
-/// The most rows of a table.
-const MOST_ROWS: usize = 64;
 
 /// The pairs of a session. Contracts see the session, whether it is started, and the rows in order of adding.
 #[derive(Drop)]
@@ -107,14 +105,14 @@ impl PairTable {
     }
 
     /// Whether a row may be put: it is in its ranges, no row of another device has its primary or its control and volume, and with
-    /// it there are at most 64 rows.
+    /// it there are at most `MOST_ROWS` rows.
     pub fn may_put(&self, row: &PairRow) -> bool
         ensures { IsTrue result ↔ MayPut row.now self.now.rows }
     {
         row.keeps_rules() && self.has_place(row) && !self.clashes(row)
     }
 
-    /// Whether there are at most 64 rows with this one.
+    /// Whether there are at most `MOST_ROWS` rows with this one.
     fn has_place(&self, row: &PairRow) -> bool
         ensures { result ≡ nat_le (length (with_row row.now self.now.rows)) most_rows }
     {
