@@ -1,5 +1,6 @@
 -- The laws of marks and of the chosen mark.
 use Rattle.std.specs.Prelude.{◌≡◌, ◌⊎◌, ◌↔◌, ℕ, ◌+◌, List, ◌∷◌, ◌++◌, take, drop, replicate, Ok, Some, None, IsOk}
+use Rattle.control_set.specs.declared.slot_places.TheConstants.{SECOND}
 use Rattle.tod_stamp.specs.Fields.{IsBytes, Left}
 use Rattle.control_set.specs.declared.value.Mark.{Mark}
 use Rattle.control_set.specs.Marks.{IsMark, IsInRange, mark_spelling, mark_at}
@@ -18,7 +19,7 @@ MarksAreSpelled = (lengths : List ℕ) (place : ℕ) (bytes : List ℕ) (m : Mar
 -- The chosen mark keeps the table, and stands spelled behind the open gate of one of the slots.
 abbrev pub ChosenMarksStand : Type 0
 ChosenMarksStand = (lengths control : List ℕ) (m : Mark) → IsBytes control → chosen_mark lengths control ≡ Ok (Some m) →
-    IsMark lengths m × ((take 49 control ≡ 1 ∷ mark_spelling m) ⊎ (take 49 (drop 512 control) ≡ 1 ∷ mark_spelling m))
+    IsMark lengths m × ((take 49 control ≡ 1 ∷ mark_spelling m) ⊎ (take 49 (drop SECOND control) ≡ 1 ∷ mark_spelling m))
 
 -- There is no chosen mark exactly where no gate is open.
 abbrev pub NoneWhereNoGateIsOpen : Type 0

@@ -1,18 +1,19 @@
 -- A mark: the table that it keeps, the 48 bytes that spell it behind a slot's gate, and how they are read.
 use Rattle.std.specs.Prelude.{ℕ, ◌+◌, ◌-◌, ◌^◌, ◌<◌, ◌≤◌, ◌==◌, ◌&&◌, List, [], ◌∷◌, ◌++◌, length, Bool, Result, Ok, nat_lt, nat_le, if◌then◌else◌, slice_index, bytes_eq, codes, IsTrue}
+use Rattle.crash_plant.specs.declared.layout.TheConstants.{SWITCH}
 use Rattle.std.specs.Int.{w8, w16, w64, to_be_bytes}
 use Rattle.tod_stamp.specs.Fields.{◌>>=◌, Left, Bad, bytes_at, number_at, within}
 use Rattle.tod_stamp.specs.Names.{is_session, session_field, is_field, before_spaces}
 use Rattle.control_set.specs.declared.value.Mark.{Mark}
 
--- The table of a slot's fields. The lengths are those of the plant's journals. From the place of the next record at least
--- 24 bytes are left in its journal. (The session is a name by its type.)
+-- The table of a slot's fields. The lengths are those of the plant's journals. From the place of the next record there is room
+-- for a switch in its journal. (The session is a name by its type.)
 pub record IsMark (lengths : List ℕ) (m : Mark) : Type 0 where
   pub number : 1 ≤ m.number
   pub most : m.number ≤ 2 ^ 64 - 2
   pub state_slot : m.state_slot ≤ 1
   pub set : m.at.set < length lengths
-  pub room : m.at.place + 24 ≤ slice_index lengths m.at.set
+  pub room : m.at.place + SWITCH ≤ slice_index lengths m.at.set
   pub next : 1 ≤ m.at.number
   pub time : 1 ≤ m.time.0
 
@@ -35,9 +36,9 @@ abbrev pub mark_spelling : Mark → List ℕ
 mark_spelling m = codes "XCTL" ++ to_be_bytes w64 m.number ++ session_field m.session ++ m.state_slot ∷ [] ++ to_be_bytes w16 m.at.set
     ++ to_be_bytes w64 m.at.place ++ to_be_bytes w64 m.at.number ++ to_be_bytes w64 m.time.0 ++ flag m.ended ∷ []
 
--- whether 24 bytes are left from this place on in this journal
+-- whether there is room for a switch from this place on in this journal
 abbrev pub has_room : (lengths : List ℕ) → (set place : ℕ) → Bool
-has_room lengths set place = nat_lt set (length lengths) && nat_le (place + 24) (slice_index lengths set)
+has_room lengths set place = nat_lt set (length lengths) && nat_le (place + SWITCH) (slice_index lengths set)
 
 -- The mark that the bytes begin with, field by field; each keeps its rule of the table.
 unfoldable pub mark_at : (lengths : List ℕ) → Left → Result (Mark × Left) Bad

@@ -1,5 +1,6 @@
--- The control device: two slots of 512 bytes, each a mark behind a gate, and which of them counts.
+-- The control device: two slots, each a mark behind a gate, and which of them counts.
 use Rattle.std.specs.Prelude.{◌≡◌, ◌≢◌, ◌⊎◌, ℕ, zero, suc, ◌+◌, ◌==◌, ◌&&◌, List, [], ◌∷◌, length, drop, Bool, true, false, Option, Some, None, Result, Ok, Err, nat_lt, nat_le, if◌then◌else◌, slice_index, slice_range}
+use Rattle.control_set.specs.declared.slot_places.TheConstants.{SECOND}
 use Rattle.tod_stamp.specs.Fields.{Left, Bad}
 use Rattle.crash_plant.specs.declared.device.Device.TheVariants.{Journal}
 use Rattle.crash_plant.specs.Bytes.{Torn}
@@ -36,21 +37,21 @@ HoldsMark lengths Damaged = Unit {0}
 -- byte, and two marks of one number at the second's.
 abbrev pub chosen_of : Slot → Slot → Result (Option Mark) ℕ
 chosen_of Damaged second = Err 0
-chosen_of Closed Damaged = Err 512
+chosen_of Closed Damaged = Err SECOND
 chosen_of Closed Closed = Ok None
 chosen_of Closed (Holds n) = Ok (Some n)
-chosen_of (Holds m) Damaged = Err 512
+chosen_of (Holds m) Damaged = Err SECOND
 chosen_of (Holds m) Closed = Ok (Some m)
-chosen_of (Holds m) (Holds n) = if m.number == n.number then Err 512 else Ok (Some (if nat_lt m.number n.number then n else m))
+chosen_of (Holds m) (Holds n) = if m.number == n.number then Err SECOND else Ok (Some (if nat_lt m.number n.number then n else m))
 
 -- The mark that counts among these bytes of the control, if any, or their first bad place.
 abbrev pub chosen_mark : (lengths : List ℕ) → List ℕ → Result (Option Mark) ℕ
-chosen_mark lengths control = chosen_of (slot_of lengths control) (slot_of lengths (drop 512 control))
+chosen_mark lengths control = chosen_of (slot_of lengths control) (slot_of lengths (drop SECOND control))
 
 -- Neither slot's gate is open.
 pub record NoGateOpen (control : List ℕ) : Type 0 where
   pub first : slice_index control 0 ≢ 1
-  pub second : slice_index control 512 ≢ 1
+  pub second : slice_index control SECOND ≢ 1
 
 -- ---- the next mark
 
@@ -70,11 +71,11 @@ is_second_free (Holds m) Damaged = true
 is_second_free (Holds m) (Holds n) = nat_lt n.number m.number
 
 abbrev pub place_of : (is_second : Bool) → ℕ
-place_of is_second = if is_second then 512 else 0
+place_of is_second = if is_second then SECOND else 0
 
 -- The place of the slot that isn't the chosen one. With no gate open it is 0.
 abbrev pub free_place : (lengths : List ℕ) → List ℕ → ℕ
-free_place lengths control = place_of (is_second_free (slot_of lengths control) (slot_of lengths (drop 512 control)))
+free_place lengths control = place_of (is_second_free (slot_of lengths control) (slot_of lengths (drop SECOND control)))
 
 -- The chosen mark is as it was or is the value, and outside the 49 bytes at this place all is as it was.
 pub record OldOrNew (lengths : List ℕ) (value : Mark) (place : ℕ) (old new : List ℕ) : Type 0 where
@@ -96,7 +97,7 @@ lengths_of plant = lengths_from (λ j. plant.lengths (Journal j)) 0 plant.journa
 -- These are the slots of these bytes.
 pub record AreSlots (lengths control : List ℕ) (slots : Slots) : Type 0 where
   pub first : slots.first ≡ slot_of lengths control
-  pub second : slots.second ≡ slot_of lengths (drop 512 control)
+  pub second : slots.second ≡ slot_of lengths (drop SECOND control)
 
 -- whether nothing counts there
 abbrev pub is_closed : Slot → Bool

@@ -1,6 +1,7 @@
 //! The mark that counts.
 
 ghost use Rattle.std.specs.Prelude.{◌≡◌, ◌≤◌, ◌+◌, ◌↔◌, ℕ, drop, IfOk, IfSome, OnOk, IsErrOf, Ok, Err, None};
+ghost use Rattle.crash_plant.specs.declared.layout.TheConstants.{CONTROL_LENGTH};
 ghost use Rattle.xrc_edge.specs.Causes.{HasCause, Rose};
 ghost use Rattle.crash_plant.specs.declared.device.Device.TheVariants.{Control};
 ghost use Rattle.crash_plant.specs.Moments.{on, Follows, Same};
@@ -11,6 +12,7 @@ ghost use Rattle.control_set.specs.Slots.{AreSlots, HoldsMark, NoGateOpen, chose
 
 use crate::Mark;
 use crate::slot::{SLOT, Slot, Slots, decode};
+use crate::slot_places::{FIRST, SECOND};
 use crash_plant::{Device, Plant};
 use xrc_edge::Failed;
 
@@ -22,12 +24,6 @@ pub enum ChooseError {
     /// The control has failed.
     Fault,
 }
-
-/// The place of the first slot.
-pub(crate) const FIRST: u64 = 0;
-
-/// The place of the second slot.
-pub(crate) const SECOND: u64 = 512;
 
 /// Reads the slot at a place.
 pub(crate) fn read_slot<P: Plant>(plant: &mut P, place: u64) -> Result<Slot, Failed>
@@ -46,7 +42,7 @@ pub(crate) fn read_slot<P: Plant>(plant: &mut P, place: u64) -> Result<Slot, Fai
 
 /// Reads both slots.
 pub(crate) fn read_slots<P: Plant>(plant: &mut P) -> Result<Slots, Failed>
-    requires { 1024 ≤ (P.state plant.old).lengths Control }
+    requires { CONTROL_LENGTH ≤ (P.state plant.old).lengths Control }
     ensures slots { P.tells → IfOk result (λ slots. AreSlots (lengths_of (P.state plant.old)) ((P.state plant.old).bytes Control) slots) }
     ensures same { P.tells → (P.state plant.new).bytes Control ≡ (P.state plant.old).bytes Control }
     ensures moments { P.tells → Follows Same (on (P.state plant.old) Control) (on (P.state plant.new) Control) }
@@ -81,11 +77,11 @@ fn chosen(first: Slot, second: Slot) -> Result<Option<Mark>, u64>
 
 /// Chooses beside a first slot that has been read and isn't damaged.
 fn choose_beside<P: Plant>(plant: &mut P, first: Slot) -> Result<Option<Mark>, ChooseError>
-    requires long { 1024 ≤ (P.state plant.old).lengths Control }
+    requires long { CONTROL_LENGTH ≤ (P.state plant.old).lengths Control }
     requires keeps { HoldsMark (lengths_of (P.state plant.old)) first }
-    ensures chosen { P.tells → IfOk result (λ found. chosen_of first (slot_of (lengths_of (P.state plant.old)) (drop 512 ((P.state plant.old).bytes Control))) ≡ Ok found) }
+    ensures chosen { P.tells → IfOk result (λ found. chosen_of first (slot_of (lengths_of (P.state plant.old)) (drop SECOND ((P.state plant.old).bytes Control))) ≡ Ok found) }
     ensures keeps { IfOk result (λ found. IfSome found (IsMark (lengths_of (P.state plant.old)))) }
-    ensures damaged { P.tells → (place : ℕ) → IsErrOf result (Damaged place) → chosen_of first (slot_of (lengths_of (P.state plant.old)) (drop 512 ((P.state plant.old).bytes Control))) ≡ Err place }
+    ensures damaged { P.tells → (place : ℕ) → IsErrOf result (Damaged place) → chosen_of first (slot_of (lengths_of (P.state plant.old)) (drop SECOND ((P.state plant.old).bytes Control))) ≡ Err place }
     ensures fault { IsErrOf result Fault → Rose ((P.state plant.old).faults Control) ((P.state plant.new).faults Control) }
     ensures ok_without_fault { OnOk result ((P.state plant.new).faults Control ≡ (P.state plant.old).faults Control) }
     ensures damaged_without_fault { (place : ℕ) → IsErrOf result (Damaged place) → (P.state plant.new).faults Control ≡ (P.state plant.old).faults Control }
@@ -105,7 +101,7 @@ fn choose_beside<P: Plant>(plant: &mut P, first: Slot) -> Result<Option<Mark>, C
 /// The mark that counts: that of the slot with an open gate and the greater number. None exactly where no gate is open. A
 /// damaged first slot is answered before the second one is read.
 pub fn choose<P: Plant>(plant: &mut P) -> Result<Option<Mark>, ChooseError>
-    requires { 1024 ≤ (P.state plant.old).lengths Control }
+    requires { CONTROL_LENGTH ≤ (P.state plant.old).lengths Control }
     // The chosen mark of what a read gives, or its first bad place.
     ensures chosen { P.tells → IfOk result (λ found. chosen_mark (lengths_of (P.state plant.old)) ((P.state plant.old).bytes Control) ≡ Ok found) }
     ensures damaged { P.tells → (place : ℕ) → IsErrOf result (Damaged place) → chosen_mark (lengths_of (P.state plant.old)) ((P.state plant.old).bytes Control) ≡ Err place }

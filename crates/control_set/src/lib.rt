@@ -5,6 +5,7 @@ mod choosing;
 mod laws;
 mod marking;
 mod slot;
+mod slot_places;
 mod spelling;
 mod value;
 

@@ -1,6 +1,7 @@
 //! The next mark.
 
 ghost use Rattle.std.specs.Prelude.{◌≡◌, ◌≤◌, ◌∷◌, drop, not, cond, OnOk, Ok, Some};
+ghost use Rattle.crash_plant.specs.declared.layout.TheConstants.{CONTROL_LENGTH};
 ghost use Rattle.xrc_edge.specs.Causes.{HasCause};
 ghost use Rattle.crash_plant.specs.declared.device.Device.TheVariants.{Control};
 ghost use Rattle.crash_plant.specs.Bytes.{patched};
@@ -11,8 +12,9 @@ ghost use Rattle.control_set.specs.Marks.{IsMark, mark_spelling};
 ghost use Rattle.control_set.specs.Slots.{AreSlots, IsNext, NoGateOpen, OldOrNew, chosen_mark, free_place, is_closed, is_second_free, lengths_of, place_of, slot_of};
 
 use crate::Mark;
-use crate::choosing::{FIRST, SECOND, read_slots};
+use crate::choosing::read_slots;
 use crate::slot::{Slot, Slots};
+use crate::slot_places::{FIRST, SECOND};
 use crate::spelling::encode;
 use crash_plant::{Device, Plant, put_behind_gate};
 use xrc_edge::Failed;
@@ -55,7 +57,7 @@ fn place_of(is_second: bool) -> u64
 
 /// Writes a mark into the slot that isn't chosen.
 fn put_mark<P: Plant>(plant: &mut P, value: Mark, slots: &Slots) -> Result<(), Failed>
-    requires long { 1024 ≤ (P.state plant.old).lengths Control }
+    requires long { CONTROL_LENGTH ≤ (P.state plant.old).lengths Control }
     requires slots { P.tells → AreSlots (lengths_of (P.state plant.old)) ((P.state plant.old).bytes Control) slots.now }
     requires keeps { IsMark (lengths_of (P.state plant.old)) value }
     requires next { P.tells → IsNext (chosen_mark (lengths_of (P.state plant.old)) ((P.state plant.old).bytes Control)) value.number }
@@ -76,7 +78,7 @@ fn put_mark<P: Plant>(plant: &mut P, value: Mark, slots: &Slots) -> Result<(), F
 
 /// Writes the next mark, into the slot that isn't chosen.
 pub fn mark<P: Plant>(plant: &mut P, value: &Mark) -> Result<(), Failed>
-    requires long { 1024 ≤ (P.state plant.old).lengths Control }
+    requires long { CONTROL_LENGTH ≤ (P.state plant.old).lengths Control }
     // The value keeps the format's table, and its number is the next.
     requires keeps { IsMark (lengths_of (P.state plant.old)) value.now }
     requires next { P.tells → IsNext (chosen_mark (lengths_of (P.state plant.old)) ((P.state plant.old).bytes Control)) value.now.number }

@@ -8,14 +8,11 @@ ghost use Rattle.control_set.specs.Slots.{lengths_of, slot_of};
 
 use crate::Mark;
 use byteorder::{BigEndian, ByteOrder};
-use crash_plant::{Device, Plant, Spot};
+use crash_plant::{Device, Plant, SWITCH, Spot};
 use tod_stamp::{Session, Stamp};
 
 /// The length of a slot's gate and mark.
 pub(crate) const SLOT: usize = 49;
-
-/// The least number of bytes from the place of the next record to the end of its journal.
-const ROOM: u64 = 24;
 
 /// What stands in a slot.
 #[derive(Clone, Copy, Debug)]
@@ -39,7 +36,7 @@ pub(crate) fn has_room<P: Plant>(plant: &P, at: Spot) -> bool
         return false;
     }
     let length = plant.length(Device::Journal(at.set));
-    length >= ROOM && at.place <= length - ROOM
+    length >= SWITCH && at.place <= length - SWITCH
 }
 
 /// The mark with these fields, if they keep the table.

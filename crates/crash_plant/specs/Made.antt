@@ -1,18 +1,19 @@
 -- A plant in memory as it is made, and what its changes outside a run leave.
 use Rattle.std.specs.Prelude.{◌≡◌, ◌≢◌, ◌<◌, ℕ, List, [], replicate}
+use Rattle.crash_plant.specs.declared.layout.TheConstants.{CONTROL_LENGTH, STATE_LENGTH}
 use Rattle.crash_plant.specs.declared.device.Device.{Device}
 use Rattle.crash_plant.specs.declared.device.Device.TheVariants.{Control, State, Journal, Volume}
 use Rattle.crash_plant.specs.Bytes.{resized}
 use Rattle.crash_plant.specs.Moments.{PlantState}
 use Rattle.crash_plant.specs.Calls.{NoneLent, SameSite, SameLoan}
 
--- A new plant: each device holds zeros, the control 1,024 of them and the state 16,384. Nothing was heard or said, no volume
+-- A new plant: each device holds zeros. Nothing was heard or said, no volume
 -- is lent, and no call has failed.
 pub record IsMade (journals journal_length volumes volume_length : ℕ) (script : List ℕ) (plant : PlantState) : Type 0 where
   pub has_journals : plant.journals ≡ journals
   pub has_volumes : plant.volumes ≡ volumes
-  pub control : plant.bytes Control ≡ replicate 1024 0
-  pub state : plant.bytes State ≡ replicate 16384 0
+  pub control : plant.bytes Control ≡ replicate CONTROL_LENGTH 0
+  pub state : plant.bytes State ≡ replicate STATE_LENGTH 0
   pub each_journal : (j : ℕ) → j < journals → plant.bytes (Journal j) ≡ replicate journal_length 0
   pub each_volume : (v : ℕ) → v < volumes → plant.bytes (Volume v) ≡ replicate volume_length 0
   pub heard : plant.heard plant.clock ≡ []

@@ -4,15 +4,12 @@ ghost use Rattle.crash_plant.specs.Moments.{Raises};
 ghost use Rattle.crash_plant.specs.Calls.{Hears, HearsNothing, IsThere, Listens, WorksOnConsole};
 ghost use Rattle.xrc_edge.specs.Causes.{HasCause};
 
+use crate::layout::{CONTROL_LENGTH, STATE_LENGTH};
 use crate::plain_disk::PlainDisk;
 use crate::{Device, Disk, Heard, Plant};
 use std::alloc::Global;
 use std::mem;
 use xrc_edge::{Bytes, Failed, NoMemory};
-
-const CONTROL_LENGTH: u64 = 1024;
-
-const STATE_LENGTH: u64 = 16384;
 
 /// A volume's place: it is here, or lent, with its length.
 #[derive(Drop)]
@@ -43,7 +40,7 @@ impl PlainPlant {
     ghost use Rattle.crash_plant.specs.Devices.{seen_at};
     ghost use Rattle.crash_plant.specs.PlainPlant.{plain_state, disk_bytes, place_bytes, place_is_lent};
 
-    /// A plant of zero bytes, with a control of 1,024 bytes and a state of 16,384.
+    /// A plant of zero bytes.
     pub fn make(
         alloc: Global,
         journals: u16,

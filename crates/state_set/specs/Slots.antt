@@ -1,5 +1,7 @@
--- The state device: two slots of 8,192 bytes. Each begins with the level and the rows of a session.
+-- The state device: two slots, each one half of it. Each begins with the level and the rows of a session.
 use Rattle.std.specs.Prelude.{◌≡◌, ◌≢◌, ℕ, zero, suc, ◌+◌, ◌*◌, ◌≤◌, ◌==◌, ◌&&◌, List, [], ◌∷◌, ◌++◌, length, take, drop, Bool, true, Option, Some, None, Result, ok_or, nat_le, if◌then◌else◌, slice_index, slice_range, bytes_eq, codes}
+use Rattle.state_set.specs.declared.lengths.TheConstants.{HEAD, SLOT}
+use Rattle.pair_table.specs.declared.limits.TheConstants.{ROW_LENGTH}
 use Rattle.std.specs.List.{flat_map}
 use Rattle.std.specs.Int.{w16, to_be_bytes, from_be_bytes}
 use Rattle.tod_stamp.specs.Names.{session_field}
@@ -17,7 +19,7 @@ pub record Stored : Type 0 where
 
 -- the place of a slot, 0 or 1
 abbrev pub slot_place : (slot : ℕ) → ℕ
-slot_place slot = 8192 * slot
+slot_place slot = SLOT * slot
 
 -- ---- the spelling
 
@@ -29,11 +31,11 @@ abbrev pub level_number : Level → ℕ
 level_number Volume = 0
 level_number Session = 1
 
--- the 15 bytes before the rows
+-- the bytes before the rows
 abbrev pub head_spelling : (session : List ℕ) → Level → (count : ℕ) → List ℕ
 head_spelling session level count = title session ++ level_number level ∷ to_be_bytes w16 count
 
--- the rows, of 30 bytes each
+-- the rows
 abbrev pub rows_spelling : List PairRow → List ℕ
 rows_spelling rows = flat_map row_spelling rows
 
@@ -43,11 +45,11 @@ state_spelling session level rows = head_spelling session level (length rows) ++
 
 -- how many they are
 abbrev pub state_length : List PairRow → ℕ
-state_length rows = 15 + 30 * length rows
+state_length rows = HEAD + ROW_LENGTH * length rows
 
 -- ---- the rules over several rows and over the plant
 
--- at most 64 rows, none of which clash, of devices of the plant
+-- no more rows than a table has, none of which clash, of devices of the plant
 abbrev pub are_rows : (volumes : ℕ) → List PairRow → Bool
 are_rows volumes rows = nat_le (length rows) most_rows && none_clash rows && are_below volumes rows
 
@@ -56,12 +58,12 @@ are_rows volumes rows = nat_le (length rows) most_rows && none_clash rows && are
 abbrev pub level_of : (number : ℕ) → Option Level
 level_of n = if n == 0 then Some Volume else if n == 1 then Some Session else None
 
--- so many rows of 30 bytes, each by itself
+-- so many rows, each by itself
 abbrev pub rows_at : (count : ℕ) → List ℕ → Option (List PairRow)
 rows_at zero bytes = Some []
 rows_at (suc count) bytes = do
-  first ← row_at (take 30 bytes)
-  others ← rows_at count (drop 30 bytes)
+  first ← row_at (take ROW_LENGTH bytes)
+  others ← rows_at count (drop ROW_LENGTH bytes)
   Some (first ∷ others)
 
 -- the rows, where together they keep the rules
@@ -74,13 +76,13 @@ rows_in volumes count bytes = kept volumes (rows_at count bytes)
 
 -- whether the bytes reach to the rows, and begin as those of this session
 abbrev pub has_title : (session : List ℕ) → List ℕ → Bool
-has_title session bytes = nat_le 15 (length bytes) && bytes_eq (title session) (take 12 bytes)
+has_title session bytes = nat_le HEAD (length bytes) && bytes_eq (title session) (take 12 bytes)
 
--- the level and the rows of these bytes, of which the first 15 are there
+-- the level and the rows of these bytes, of which those before the rows are there
 abbrev pub fields_of : (volumes : ℕ) → List ℕ → Option Stored
 fields_of volumes bytes = do
   level ← level_of (slice_index bytes 12)
-  rows ← rows_in volumes (from_be_bytes w16 (slice_range bytes 13 15)) (drop 15 bytes)
+  rows ← rows_in volumes (from_be_bytes w16 (slice_range bytes 13 HEAD)) (drop HEAD bytes)
   Some (record { level = level; rows = rows })
 
 -- What the bytes hold of this session, if they begin with it. The volumes are those of the plant.

@@ -2,6 +2,7 @@
 #![tactic(auto)]
 
 mod laws;
+mod lengths;
 mod reading;
 mod slots;
 mod spelling;

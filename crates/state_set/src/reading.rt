@@ -4,15 +4,13 @@ ghost use Rattle.std.specs.Prelude.{◌≡◌, ◌≤◌, ◌+◌, ◌*◌, ◌+
 ghost use Rattle.pair_table.specs.Rows.{keeps_rules, row_at as row_in};
 ghost use Rattle.state_set.specs.Slots.{title, level_of, are_rows, rows_in, state_at, started_table, with_table};
 
-use crate::spelling::{HEAD, LONGEST, ROW, title};
+use crate::lengths::{HEAD, LONGEST};
+use crate::spelling::title;
 use byteorder::{BigEndian, ByteOrder};
-use pair_table::{Level, PairRow, PairTable, decode_row};
+use pair_table::{Level, MOST_ROWS, PairRow, PairTable, ROW_LENGTH, decode_row};
 use std::alloc::Global;
 use tod_stamp::Session;
 use xrc_edge::NoMemory;
-
-/// The most rows of a state.
-const MOST_ROWS: u16 = 64;
 
 fn has_title(bytes: &[u8; LONGEST], session: Session) -> bool
     ensures { result ≡ bytes_eq (title session) (take 12 bytes.now) }
@@ -42,13 +40,13 @@ fn may_follow(table: &PairTable, volumes: u16, row: &PairRow) -> bool
 
 /// The row at a place, by itself.
 fn row_at(bytes: &[u8], place: usize) -> Option<PairRow>
-    requires { 30 * place + 30 ≤ length bytes.now }
-    ensures row { result ≡ row_in (take 30 (drop (30 * place) bytes.now)) }
+    requires { ROW_LENGTH * place + ROW_LENGTH ≤ length bytes.now }
+    ensures row { result ≡ row_in (take ROW_LENGTH (drop (ROW_LENGTH * place) bytes.now)) }
     ensures rules { IfSome result (λ row. IsTrue (keeps_rules row)) }
 {
-    let from = ROW * place;
-    let mut row = [0; ROW];
-    row.copy_from_slice(&bytes[from..from + ROW]);
+    let from = ROW_LENGTH * place;
+    let mut row = [0; ROW_LENGTH];
+    row.copy_from_slice(&bytes[from..from + ROW_LENGTH]);
     decode_row(&row)
 }
 
@@ -60,7 +58,7 @@ fn read_rows(
     count: u16,
     bytes: &[u8],
 ) -> Result<Option<PairTable>, NoMemory>
-    requires { 30 * count ≤ length bytes.now }
+    requires { ROW_LENGTH * count ≤ length bytes.now }
     ensures { IfOk result (λ found. found ≡ option_map (started_table session) (rows_in volumes count bytes.now)) }
 {
     let mut table = PairTable::make(alloc, session)?;
@@ -93,7 +91,7 @@ pub(crate) fn decode(
         return Ok(None);
     };
     let count = BigEndian::read_u16(&bytes[13..HEAD]);
-    if count > MOST_ROWS {
+    if count > MOST_ROWS as u16 {
         return Ok(None);
     }
     match read_rows(alloc, volumes, session, count, &bytes[HEAD..])? {

@@ -1,6 +1,7 @@
 //! The slots of the state device.
 
 ghost use Rattle.std.specs.Prelude.{◌≡◌, ◌≢◌, ◌≤◌, ℕ, take, drop, IfOk, OnOk, IsErrOf, IsTrue, Ok, Err};
+ghost use Rattle.crash_plant.specs.declared.layout.TheConstants.{STATE_LENGTH};
 ghost use Rattle.xrc_edge.specs.Causes.{HasCause, Rose};
 ghost use Rattle.crash_plant.specs.declared.device.Device.TheVariants.{State};
 ghost use Rattle.crash_plant.specs.Bytes.{patched};
@@ -12,16 +13,14 @@ ghost use Rattle.pair_table.specs.Tables.{are_below};
 ghost use Rattle.state_set.specs.Slots.{OneSlot, slot_place, started_table, state_length, state_of, state_spelling};
 
 use crate::StateError;
+use crate::lengths::{LONGEST, SLOT};
 use crate::reading::decode;
-use crate::spelling::{LONGEST, encode};
+use crate::spelling::encode;
 use crash_plant::{Device, Plant, put_down};
 use pair_table::{Level, PairTable};
 use std::alloc::Global;
 use tod_stamp::Session;
 use xrc_edge::{Failed, NoMemory};
-
-/// The length of a slot.
-const SLOT: u64 = 8_192;
 
 fn slot_place(slot: u8) -> u64
     requires { slot ≤ 1 }
@@ -39,7 +38,7 @@ pub fn put<P: Plant>(
     table: &PairTable,
 ) -> Result<(), StateError>
     requires slot { slot ≤ 1 }
-    requires long { 16384 ≤ (P.state plant.old).lengths State }
+    requires long { STATE_LENGTH ≤ (P.state plant.old).lengths State }
     // The devices of the rows are the plant's.
     requires devices { IsTrue (are_below (P.state plant.old).volumes table.now.rows) }
     // At every moment of the call all but these bytes of the slot is as it was, and the other slot holds what it held.
@@ -64,8 +63,8 @@ pub fn put<P: Plant>(
 /// Reads the bytes that a slot begins with.
 fn read_slot<P: Plant>(plant: &mut P, slot: u8) -> Result<[u8; LONGEST], Failed>
     requires slot { slot ≤ 1 }
-    requires long { 16384 ≤ (P.state plant.old).lengths State }
-    ensures bytes { P.tells → IfOk result (λ bytes. bytes ≡ take 1935 (drop (slot_place slot) ((P.state plant.old).bytes State))) }
+    requires long { STATE_LENGTH ≤ (P.state plant.old).lengths State }
+    ensures bytes { P.tells → IfOk result (λ bytes. bytes ≡ take LONGEST (drop (slot_place slot) ((P.state plant.old).bytes State))) }
     ensures same { P.tells → (P.state plant.new).bytes State ≡ (P.state plant.old).bytes State }
     ensures moments { P.tells → Follows Same (on (P.state plant.old) State) (on (P.state plant.new) State) }
     ensures only { WorksOn P.tells (λ d. d ≡ State) (P.state plant.old) (P.state plant.new) }
@@ -84,7 +83,7 @@ pub fn get<P: Plant>(
     session: Session,
 ) -> Result<(Level, PairTable), StateError>
     requires slot { slot ≤ 1 }
-    requires long { 16384 ≤ (P.state plant.old).lengths State }
+    requires long { STATE_LENGTH ≤ (P.state plant.old).lengths State }
     // What the slot holds in what a read gives, or its first byte where it is damaged.
     ensures holds { P.tells → IfOk result (λ found. state_of (P.state plant.old).volumes session slot ((P.state plant.old).bytes State) ≡ Ok (record { level = found.0; rows = found.1.rows })) }
     ensures started { IfOk result (λ found. found.1 ≡ started_table session found.1.rows) }

@@ -6,18 +6,10 @@ ghost use Rattle.pair_table.specs.Rows.{row_spelling};
 ghost use Rattle.pair_table.specs.Tables.{KeepsRows};
 ghost use Rattle.state_set.specs.Slots.{title, level_number, head_spelling, rows_spelling, state_spelling, state_length};
 
+use crate::lengths::{HEAD, LONGEST};
 use byteorder::{BigEndian, ByteOrder};
-use pair_table::{Level, PairTable, encode_row};
+use pair_table::{Level, PairTable, ROW_LENGTH, encode_row};
 use tod_stamp::Session;
-
-/// The bytes before the rows.
-pub(crate) const HEAD: usize = 15;
-
-/// The bytes of a row.
-pub(crate) const ROW: usize = 30;
-
-/// The most bytes of a state: those of 64 rows.
-pub(crate) const LONGEST: usize = 1_935;
 
 /// What the bytes of a session begin with.
 pub(crate) fn title(session: Session) -> [u8; 12]
@@ -51,7 +43,7 @@ fn head(session: Session, level: Level, count: u16) -> [u8; HEAD]
 }
 
 /// The bytes of the row at a place.
-fn row_bytes(table: &PairTable, place: u16) -> [u8; ROW]
+fn row_bytes(table: &PairTable, place: u16) -> [u8; ROW_LENGTH]
     requires { place < length table.now.rows }
     ensures { (r : _) → slice_get table.now.rows place ≡ Some r → result ≡ row_spelling r }
 {
@@ -60,12 +52,12 @@ fn row_bytes(table: &PairTable, place: u16) -> [u8; ROW]
 
 /// Writes all rows.
 fn put_rows(table: &PairTable, out: &mut [u8])
-    requires { length out.old ≡ 30 * length table.now.rows }
+    requires { length out.old ≡ ROW_LENGTH * length table.now.rows }
     ensures { out.new ≡ rows_spelling table.now.rows }
 {
     for place in 0..table.len() {
-        let from = ROW * usize::from(place);
-        out[from..from + ROW].copy_from_slice(&row_bytes(table, place));
+        let from = ROW_LENGTH * usize::from(place);
+        out[from..from + ROW_LENGTH].copy_from_slice(&row_bytes(table, place));
     }
 }
 
@@ -77,7 +69,7 @@ pub(crate) fn encode(level: Level, table: &PairTable, out: &mut [u8; LONGEST]) -
     ensures valid { IsTrue (is_session table.now.session) }
 {
     let count = table.len();
-    let end = HEAD + ROW * usize::from(count);
+    let end = HEAD + ROW_LENGTH * usize::from(count);
     out[..HEAD].copy_from_slice(&head(table.session(), level, count));
     put_rows(table, &mut out[HEAD..end]);
     end

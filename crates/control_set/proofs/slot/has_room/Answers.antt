@@ -12,12 +12,12 @@ same_test a b c d to from = elim (cases_lt b a) [
 pub returns-then-at-journals : goal.returns-then-at-journals
 returns-then-at-journals g c = sym (no_set (g.P.Plant.state c.args.plant.now) c.args.at.set c.args.at.place (omega (arith, c.journals.ensures, c.if-at-journals.true)))
 
-pub returns-then-length-ge-ROOM : goal.returns-then-length-ge-ROOM
-returns-then-length-ge-ROOM g c =
-    same_test c.args.at.place _ _ _ (λ le. omega (arith, le, c.if-length-ge-ROOM.true, c.length-length.ensures)) (λ le. omega (arith, le, c.if-length-ge-ROOM.true, c.length-length.ensures))
+pub returns-then-length-ge-SWITCH : goal.returns-then-length-ge-SWITCH
+returns-then-length-ge-SWITCH g c =
+    same_test c.args.at.place _ _ _ (λ le. omega (arith, le, c.if-length-ge-SWITCH.true, c.length-length.ensures)) (λ le. omega (arith, le, c.if-length-ge-SWITCH.true, c.length-length.ensures))
     ∙ sym (a_set (g.P.Plant.state c.args.plant.now) c.args.at.set c.args.at.place (omega (arith, c.journals.ensures, c.if-at-journals.false)))
 
-pub returns-else-length-ge-ROOM : goal.returns-else-length-ge-ROOM
-returns-else-length-ge-ROOM g c =
-    same_test 24 _ _ _ (λ le. absurd (omega (arith, le, c.if-length-ge-ROOM.false))) (λ le. absurd (omega (arith, le, c.if-length-ge-ROOM.false, c.length-length.ensures)))
+pub returns-else-length-ge-SWITCH : goal.returns-else-length-ge-SWITCH
+returns-else-length-ge-SWITCH g c =
+    same_test 24 _ _ _ (λ le. absurd (omega (arith, le, c.if-length-ge-SWITCH.false))) (λ le. absurd (omega (arith, le, c.if-length-ge-SWITCH.false, c.length-length.ensures)))
     ∙ sym (a_set (g.P.Plant.state c.args.plant.now) c.args.at.set c.args.at.place (omega (arith, c.journals.ensures, c.if-at-journals.false)))
