@@ -5,6 +5,7 @@ use Rattle.std.proofs.Common.{◌≡◌, ℕ, zero, suc, ◌-◌, take, drop, ap
 use Rattle.std.specs.Prelude.{Result, OnOk, OnErr, ◌≢◌, nat_eq, nat_le}
 use Rattle.std.specs.List.{list_all, flat_map}
 use Rattle.std.proofs.lemmas.Bool.{and_parts, and_from, eq-eqb, leb-true, le-leb}
+use Rattle.tod_stamp.specs.declared.limits.TheConstants.{MOST_CONTROLS}
 use Rattle.tod_stamp.specs.declared.stamp.Stamp.{Stamp}
 use Rattle.group_state.specs.declared.joining.CopyJoin.{CopyJoin}
 use Rattle.group_state.specs.declared.joining.CopyJoin.TheVariants.{Joined, Held, Stale, NoMemory}
@@ -93,12 +94,12 @@ pub length_new : (n first records blocks : ℕ) → length (new_controls n first
 length_new zero first records blocks = refl
 length_new (suc n) first records blocks = omega (arith, length_new n (first + 1) records blocks)
 
-numbered_new : (n first records blocks : ℕ) → records ≤ 32 → are_numbered first (new_controls n first records blocks) ≡ true
+numbered_new : (n first records blocks : ℕ) → records ≤ most_records → are_numbered first (new_controls n first records blocks) ≡ true
 numbered_new zero first records blocks le = refl
 numbered_new (suc n) first records blocks le =
     and_from (nat_eq first first && nat_le records most_records) (are_numbered (first + 1) (new_controls n (first + 1) records blocks)) (and_from (nat_eq first first) (nat_le records most_records) (eq-eqb first first refl) (le-leb records most_records le)) (numbered_new n (first + 1) records blocks le)
 
-pub kept_new : (n records blocks : ℕ) → 1 ≤ n → n ≤ 16 → records ≤ 32 → KeepsControls (new_controls n 0 records blocks)
+pub kept_new : (n records blocks : ℕ) → 1 ≤ n → n ≤ MOST_CONTROLS → records ≤ most_records → KeepsControls (new_controls n 0 records blocks)
 kept_new n records blocks some few le = record { some = omega (arith, some, length_new n 0 records blocks); few = omega (arith, few, length_new n 0 records blocks); numbered = numbered_new n 0 records blocks le }
 
 -- ---- a form over the controls, one after another
@@ -122,5 +123,5 @@ entries_more out first more =
 pub entries_count : (out : FormedGroup) (more : List WaitingEntry) → length (with_entries out more).entries ≡ length out.entries + length more
 entries_count out more = length_order stands_before (out.entries ++ more) ∙ length-append out.entries more
 
-pub few_at : (controls : List ControlState) (k : ℕ) (c : ControlState) → list_all has_few controls ≡ true → k < length controls → c ≡ get_or controls k c → c.queue.records ≤ 32
+pub few_at : (controls : List ControlState) (k : ℕ) (c : ControlState) → list_all has_few controls ≡ true → k < length controls → c ≡ get_or controls k c → c.queue.records ≤ most_records
 few_at controls k c all lt is = leb-true c.queue.records most_records (ap has_few is ∙ all_at has_few controls k c all lt)

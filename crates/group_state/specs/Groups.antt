@@ -1,5 +1,7 @@
 -- What a group state is to its callers, and what a form gives.
 use Rattle.std.specs.Prelude.{ℕ, ◌+◌, ◌≤◌, ◌==◌, ◌&&◌, not, zero, suc, List, [], ◌∷◌, ◌++◌, length, map, fold, Bool, true, nat_le, slice_index_or, slice_set, IsTrue}
+use Rattle.ckd_track.specs.declared.layout.TheConstants.{WRITES_OF_RUN}
+use Rattle.tod_stamp.specs.declared.limits.TheConstants.{MOST_CONTROLS}
 use Rattle.std.specs.List.{flat_map, list_any}
 use Rattle.tod_stamp.specs.declared.stamp.Stamp.{Stamp}
 use Rattle.xrc_edge.specs.Order.{in_order}
@@ -71,12 +73,12 @@ with_news cut controls group = record group { breaks = group.breaks ++ flat_map 
 
 -- the most entries of a control
 abbrev pub most_records : ℕ
-most_records = 32
+most_records = WRITES_OF_RUN
 
 abbrev pub has_few : ControlState → Bool
 has_few c = nat_le c.queue.records most_records
 
--- Controls stand by their numbers, from one on, each with room for at most 32 entries.
+-- Controls stand by their numbers, from one on, each with room for at most so many entries.
 abbrev pub are_numbered : (first : ℕ) → List ControlState → Bool
 are_numbered k [] = true
 are_numbered k (c ∷ controls) = c.queue.control == k && has_few c && are_numbered (k + 1) controls
@@ -84,5 +86,5 @@ are_numbered k (c ∷ controls) = c.queue.control == k && has_few c && are_numbe
 -- What every group state keeps.
 pub record KeepsControls (controls : List ControlState) : Type 0 where
   pub some : 1 ≤ length controls
-  pub few : length controls ≤ 16
+  pub few : length controls ≤ MOST_CONTROLS
   pub numbered : IsTrue (are_numbered 0 controls)

@@ -1,5 +1,6 @@
 -- A worked run.
 use Rattle.std.specs.Prelude.{List, [], ◌∷◌, false}
+use Rattle.ckd_track.specs.declared.layout.TheConstants.{BLOCKS_OF_QUEUE, WRITES_OF_RUN}
 use Rattle.ckd_track.specs.declared.write.Cause.TheVariants.{ReadFault}
 use Rattle.group_state.specs.Groups.{Group, new_group}
 use Rattle.group_state.specs.Machine.{Call, reply_to, after}
@@ -15,7 +16,7 @@ answers_to s (call ∷ calls) = record { call = call; reply = reply_to s call } 
 -- Two controls, of which the first carries its volume 0 until it is dropped, and again from its resume on. One copied track is
 -- stale. The second control breaks.
 abbrev pub first_state : Group
-first_state = new_group 2 32 3552
+first_state = new_group 2 WRITES_OF_RUN BLOCKS_OF_QUEUE
 
 abbrev pub worked_calls : List Call
 worked_calls =

@@ -1,5 +1,6 @@
 -- What worked runs of the machine name.
 use Rattle.std.specs.Prelude.{ℕ, List, [], ◌∷◌, map, fold, replicate, false, true}
+use Rattle.ckd_track.specs.declared.layout.TheConstants.{BLOCKS_OF_QUEUE, WRITES_OF_RUN}
 use Rattle.ckd_track.specs.declared.write.Kind.TheVariants.{Update, Whole}
 use Rattle.ckd_track.specs.declared.write.Write.{Write}
 use Rattle.ckd_track.specs.declared.write.Batch.{Batch}
@@ -37,7 +38,7 @@ copy x at = Copied 0 0 x (record { 0 = at }) []
 
 -- Two controls, of which the first carries its volume 0 and has writes of 10 and 20; the second has told up to 15.
 abbrev pub two_controls : Group
-two_controls = after_all (new_group 2 32 3552) (Carry 0 0 none_wanted ∷ Join (batch 0 (whole_on 0 0x10 ∷ []) 0x1F) ∷ Join (batch 0 (whole_on 1 0x20 ∷ []) 0x40) ∷ raise 1 0x15 ∷ [])
+two_controls = after_all (new_group 2 WRITES_OF_RUN BLOCKS_OF_QUEUE) (Carry 0 0 none_wanted ∷ Join (batch 0 (whole_on 0 0x10 ∷ []) 0x1F) ∷ Join (batch 0 (whole_on 1 0x20 ∷ []) 0x40) ∷ raise 1 0x15 ∷ [])
 
 -- control and track of what a form shows
 abbrev pub tracks_shown : Shown → List (ℕ × ℕ)

@@ -1,6 +1,7 @@
 //! A control of a group state.
 
 ghost use Rattle.std.specs.Prelude.{◌≡◌, ◌↔◌, ℕ, ◌≤◌, ◌++◌, ◌∷◌, [], length, true, false, Err, Ok, OnOk, OnErr, IfOk, IfSome, IsTrue};
+ghost use Rattle.ckd_track.specs.declared.layout.TheConstants.{WRITES_OF_RUN};
 ghost use Rattle.change_map.specs.Sets.{size};
 ghost use Rattle.pending_queue.specs.Entries.{all_keep_rules, due};
 ghost use Rattle.pending_queue.specs.Groups.{HasRoomFor, with_entries};
@@ -186,10 +187,10 @@ impl Control {
 
     /// A form with this cut takes what is due into the group, and reports a break at it.
     pub fn form(&mut self, alloc: Global, cut: Stamp, out: &mut Formed)
-        requires few { self.old.queue.records ≤ 32 }
-        requires room { HasRoomFor out.old 32 }
+        requires few { self.old.queue.records ≤ WRITES_OF_RUN }
+        requires room { HasRoomFor out.old WRITES_OF_RUN }
         ensures group { out.new ≡ with_entries out.old (due_of cut self.old) }
-        ensures few { length (due_of cut self.old) ≤ 32 }
+        ensures few { length (due_of cut self.old) ≤ WRITES_OF_RUN }
         ensures control { self.new ≡ formed cut self.old }
     {
         let _waiting = self.queue.len();

@@ -1,6 +1,8 @@
 //! The state that the readers and the mover share.
 
 ghost use Rattle.std.specs.Prelude.{◌≡◌, ◌≢◌, ◌↔◌, ℕ, ◌<◌, ◌≤◌, [], length, nat_lt, true, false, IfOk, IfSome, IsTrue};
+ghost use Rattle.ckd_track.specs.declared.layout.TheConstants.{BLOCKS_OF_QUEUE, WRITES_OF_RUN};
+ghost use Rattle.tod_stamp.specs.declared.limits.TheConstants.{MOST_CONTROLS};
 ghost use Rattle.ckd_track.specs.declared.write.Batch.{Batch as BatchIs};
 ghost use Rattle.change_map.specs.Sets.{size};
 ghost use Rattle.pending_queue.specs.declared.room.Room.{Room};
@@ -51,8 +53,7 @@ impl Model for GroupState {
 }
 
 impl GroupState {
-    /// The state of so many controls, 1 to 16, that have told nothing. Each has room for so many entries, at most 32, and so
-    /// many blocks of 512 bytes, at most 3,552.
+    /// The state of so many controls that have told nothing. Each has room for so many entries and so many blocks.
     pub fn make(
         alloc: Global,
         controls: u16,
@@ -60,9 +61,9 @@ impl GroupState {
         blocks: u32,
     ) -> Result<GroupState, NoMemory>
         requires some { 1 ≤ controls }
-        requires few { controls ≤ 16 }
-        requires records { records ≤ 32 }
-        requires blocks { blocks ≤ 3552 }
+        requires few { controls ≤ MOST_CONTROLS }
+        requires records { records ≤ WRITES_OF_RUN }
+        requires blocks { blocks ≤ BLOCKS_OF_QUEUE }
         ensures { IfOk result (λ s. s ≡ new_group controls records blocks) }
     {
         let mut made = Vec::with_capacity(alloc, controls as usize)?;
@@ -79,7 +80,7 @@ impl GroupState {
     pub fn controls(&self) -> u16
         ensures count { result ≡ length self.now.controls }
         ensures some { 1 ≤ result }
-        ensures few { result ≤ 16 }
+        ensures few { result ≤ MOST_CONTROLS }
     {
         self.controls.len() as u16
     }

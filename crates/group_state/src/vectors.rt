@@ -1,6 +1,7 @@
 //! Worked runs of the machine: what the definitions give for them.
 
 ghost use Rattle.std.specs.Prelude.{◌≡◌, ◌∷◌, [], true, false, Some, None};
+ghost use Rattle.ckd_track.specs.declared.layout.TheConstants.{BLOCKS_OF_QUEUE, WRITES_OF_RUN};
 ghost use Rattle.ckd_track.specs.declared.write.Cause.TheVariants.{ReadFault};
 ghost use Rattle.group_state.specs.Groups.{new_group, cut_of, gives_nothing, shown_at};
 ghost use Rattle.group_state.specs.Machine.{reply_to, after};
@@ -72,7 +73,7 @@ pub fn breaks()
 
 /// Entries of one stamp stand by control, then by position, in whichever order they were joined.
 pub fn equal_stamps()
-    ensures { tracks_shown (shown_at (record { 0 = 9 }) (after_all (new_group 4 32 3552)
+    ensures { tracks_shown (shown_at (record { 0 = 9 }) (after_all (new_group 4 WRITES_OF_RUN BLOCKS_OF_QUEUE)
         (Carry 0 0 none_wanted ∷ Carry 1 0 none_wanted ∷ Carry 2 0 none_wanted ∷ Carry 3 0 none_wanted
         ∷ Join (batch 3 (whole_on 0 9 ∷ []) 9) ∷ Join (batch 1 (whole_on 1 9 ∷ whole_on 0 9 ∷ []) 9) ∷ Join (batch 0 (whole_on 1 9 ∷ []) 9) ∷ Join (batch 2 (whole_on 0 9 ∷ []) 9) ∷ [])))
         ≡ (0, 1) ∷ (1, 1) ∷ (1, 0) ∷ (2, 0) ∷ (3, 0) ∷ [] }

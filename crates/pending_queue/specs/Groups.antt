@@ -1,6 +1,7 @@
 -- What a formed group is to its callers.
 use Rattle.std.specs.Prelude.{ℕ, ◌≤◌, ◌<◌, ◌^◌, ◌+◌, ◌*◌, List, [], ◌∷◌, ◌++◌, length, map, IsTrue}
 use Rattle.tod_stamp.specs.declared.stamp.Stamp.{Stamp}
+use Rattle.ckd_track.specs.declared.layout.TheConstants.{WRITES_OF_RUN}
 use Rattle.ckd_track.specs.declared.write.Cause.{Cause}
 use Rattle.pending_queue.specs.declared.head.EntryHead.{EntryHead}
 use Rattle.pending_queue.specs.Entries.{WaitingEntry, stands_before}
@@ -19,7 +20,7 @@ pub record FormedGroup : Type 0 where
 
 -- the most entries of a control in a group
 abbrev pub most_of_control : ℕ
-most_of_control = 32
+most_of_control = WRITES_OF_RUN
 
 -- a group at a cut, with nothing in it yet
 abbrev pub empty_group : (controls : ℕ) → (cut : Stamp) → FormedGroup

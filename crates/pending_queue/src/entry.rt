@@ -8,18 +8,12 @@ ghost use Rattle.pending_queue.specs.Entries.{IsOfWrite, entry_of, copy_of, is_c
 ghost use Rattle.pending_queue.specs.Rooms.{blocks_of};
 
 use crate::head::EntryHead;
-use ckd_track::{Kind, Slot, Write, entry_len, put_entry};
+use ckd_track::{BEFORE_IMAGE, Kind, Slot, Write, entry_len, put_entry};
 use std::alloc::Global;
 use std::fmt;
 use std::marker::Model;
 use std::snapshot::Snapshot;
-use xrc_edge::NoMemory;
-
-/// The bytes of a block.
-const BLOCK: u32 = 512;
-
-/// The bytes of a queue form before its track's image: tag, stamp, volume and track.
-const BEFORE_IMAGE: u32 = 15;
+use xrc_edge::{BLOCK, NoMemory};
 
 /// The tag of a whole track.
 const WHOLE: u8 = 4;
@@ -154,14 +148,14 @@ pub fn blocks_of(len: u32) -> u32
     requires { len ≤ longest_entry }
     ensures { result ≡ blocks_of len }
 {
-    len.div_ceil(BLOCK)
+    len.div_ceil(BLOCK as u32)
 }
 
 /// The length of the queue form of a copied track.
 pub fn copy_len(slot: &Slot) -> u32
-    ensures image { result ≡ 15 + length (image slot.now) }
+    ensures image { result ≡ BEFORE_IMAGE + length (image slot.now) }
     ensures length { (head : EntryHead) → result ≡ length (copy_of head slot.now).form }
     ensures short { result ≤ longest_entry }
 {
-    BEFORE_IMAGE + slot.bytes().len() as u32
+    BEFORE_IMAGE as u32 + slot.bytes().len() as u32
 }

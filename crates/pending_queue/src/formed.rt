@@ -7,15 +7,12 @@ ghost use Rattle.pending_queue.specs.Groups.{empty_group, with_entries, with_bre
 use crate::entry::Entry;
 use crate::head::EntryHead;
 use crate::moving::move_due;
-use ckd_track::Cause;
+use ckd_track::{Cause, WRITES_OF_RUN};
 use std::alloc::Global;
 use std::collections::VecDeque;
 use std::marker::Model;
 use tod_stamp::Stamp;
 use xrc_edge::NoMemory;
-
-/// The most entries of a control in a group.
-const MOST_OF_CONTROL: usize = 32;
 
 /// A group that is formed at a cut: entries by stamp, control and position, the breaks that are reported with it, and the
 /// volumes whose plans are done after it.
@@ -40,14 +37,14 @@ impl Model for Formed {
 }
 
 impl Formed {
-    /// A buffer for the largest group of so many controls: 32 entries of each. It is empty, at cut 0.
+    /// A buffer for the largest group of so many controls: `WRITES_OF_RUN` entries of each. It is empty, at cut 0.
     pub fn make(alloc: Global, controls: u16) -> Result<Formed, NoMemory>
         ensures { IfOk result (λ group. group ≡ empty_group controls (record { 0 = 0 })) }
     {
         Ok(Formed {
             controls,
             cut: Stamp(0),
-            entries: Vec::with_capacity(alloc, MOST_OF_CONTROL * controls as usize)?,
+            entries: Vec::with_capacity(alloc, WRITES_OF_RUN * controls as usize)?,
             breaks: Vec::new(alloc),
             done: Vec::new(alloc),
         })
@@ -97,7 +94,7 @@ impl Formed {
         move_due(waiting, cut, &mut self.entries);
     }
 
-    /// The number of controls that it was made for. It has at most 32 entries of each.
+    /// The number of controls that it was made for. It has at most `WRITES_OF_RUN` entries of each.
     pub fn controls(&self) -> u16
         ensures controls { result ≡ self.now.controls }
         ensures few { length self.now.entries ≤ most_of_control * self.now.controls }

@@ -46,7 +46,7 @@ impl Model for Queue {
 }
 
 impl Queue {
-    /// An empty queue of a control, with room for so many entries and for so many blocks of 512 bytes. The heads of that many
+    /// An empty queue of a control, with room for so many entries and for so many blocks. The heads of that many
     /// entries have their memory from here on; the bytes of each take theirs as they are pushed.
     pub fn make(alloc: Global, control: u16, records: u32, blocks: u32) -> Result<Queue, NoMemory>
         ensures { IfOk result (λ queue. queue ≡ empty_queue control records blocks) }

@@ -2,7 +2,7 @@
 
 use xrc_edge::NoMemory;
 
-/// Records, and blocks of 512 bytes.
+/// Records, and blocks.
 #[derive(Clone, Copy, Debug, PartialEq, Eq)]
 pub struct Room {
     pub records: u32,
