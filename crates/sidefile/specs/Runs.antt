@@ -1,5 +1,6 @@
 -- The runs of a trace's good entries.
 use Rattle.std.specs.Prelude.{◌≡◌, ℕ, ◌==◌, List, [], ◌∷◌, length, Bool, nat_lt, if◌then◌else◌}
+use Rattle.ckd_track.specs.declared.layout.TheConstants.{WRITES_OF_RUN}
 use Rattle.std.specs.List.{flat_map}
 use Rattle.write_trace.specs.declared.entry.Entry.{Entry}
 use Rattle.write_trace.specs.Entries.{stamp_of}
@@ -20,9 +21,9 @@ abbrev pub runs : List Entry → List (List Entry)
 runs [] = []
 runs (e ∷ entries) = with_first e (runs entries)
 
--- A run has room for 32 writes; idle entries don't count.
+-- the most writes of a run; idle entries don't count.
 abbrev pub quota : ℕ
-quota = 32
+quota = WRITES_OF_RUN
 
 abbrev pub is_crowded : List Entry → Bool
 is_crowded run = nat_lt quota (length (writes_of run))

@@ -42,8 +42,8 @@ IsSidefile (Some halt) waiting reader upto = Unit {0}
 
 -- ---- what is true of each hand, also where the source tells no bytes
 
--- At most 32 writes to tracks of these volumes, all with one stamp, which is above what was reported before. What is reported with
--- them lies from their stamp to the limit.
+-- No more writes than a run may have, to tracks of these volumes, all with one stamp, which is above what was reported before. What
+-- is reported with them lies from their stamp to the limit.
 pub record IsRunOf (volumes : List VolumeHead) (control before limit : ℕ) (batch : Batch) : Type 0 where
   pub from : batch.control ≡ control
   pub kept : All (IsWriteTo volumes) batch.writes

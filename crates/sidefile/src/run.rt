@@ -7,14 +7,11 @@ ghost use Rattle.sidefile.specs.Runs.{quota};
 ghost use Rattle.sidefile.specs.Looks.{TakesRun, AddsWrites};
 
 use crate::look::{Look, look_ahead};
-use ckd_track::{Cause, WriteList};
+use ckd_track::{Cause, WRITES_OF_RUN, WriteList};
 use std::alloc::Global;
 use tod_stamp::Stamp;
 use write_trace::{Entry, TraceReader};
 use xrc_edge::Source;
-
-/// The most writes of a run.
-const QUOTA: usize = 32;
 
 /// The stamp of an entry.
 pub fn stamp_of(entry: &Entry) -> Stamp
@@ -34,7 +31,7 @@ pub fn add(alloc: Global, writes: &mut WriteList, entry: Entry) -> Result<(), Lo
     let Entry::Written(write) = entry else {
         return Ok(());
     };
-    if writes.len() == QUOTA {
+    if writes.len() == WRITES_OF_RUN {
         return Err(Look::Bad(Cause::Crowded(write.stamp)));
     }
     match writes.push(alloc, write) {

@@ -52,8 +52,8 @@ impl Sidefile {
     }
 
     /// Hands over the writes of the next run up to the limit, which is not below the time up to which the control has reported.
-    /// A run has one stamp and at most 32 writes. Where one has more, or the trace ends badly in it, the control is given up, and
-    /// none of its writes is handed over.
+    /// A run has one stamp and at most `WRITES_OF_RUN` writes. Where one has more, or the trace ends badly in it, the control is
+    /// given up, and none of its writes is handed over.
     pub fn handover<S: Source>(&mut self, alloc: Global, source: &mut S, limit: Stamp) -> Hand
         requires { self.old.upto ≤ limit.0 }
         ensures due { self.old.halted ≡ None → IsDue self.old.control limit.0 (S.left source.old) (S.left source.new) (front_of self.old) (front_of self.new) result }

@@ -1,6 +1,7 @@
 -- The header of a trace: its volumes and base tracks, their one spelling, and reading it with the first bad field. The version
 -- of the format is a parameter: in version 1 a cylinder and a number of cylinders have two bytes, in version 2 four.
 use Rattle.std.specs.Prelude.{ℕ, zero, suc, ◌+◌, ◌-◌, ◌*◌, ◌/◌, ◌%◌, ◌==◌, ◌&&◌, ◌||◌, not, List, [], ◌∷◌, ◌++◌, length, sum_by, Bool, true, Result, Ok, Err, nat_lt, nat_le, if◌then◌else◌, slice_index, codes, bytes_eq}
+use Rattle.tod_stamp.specs.declared.limits.TheConstants.{MOST_CYLINDERS, MOST_VOLUMES, TRACKS_OF_CYLINDER}
 use Rattle.std.specs.List.{flat_map, list_any}
 use Rattle.std.specs.Int.{Width, w16, w32, to_be_bytes}
 use Rattle.tod_stamp.specs.Fields.{◌>>=◌, Left, Bad, bytes_at, number_at, within}
@@ -24,7 +25,7 @@ abbrev pub cylinder_width : (version : ℕ) → Width
 cylinder_width version = if version == 1 then w16 else w32
 
 abbrev pub most_cylinders : (version : ℕ) → ℕ
-most_cylinders version = if version == 1 then 65520 else 1000000
+most_cylinders version = if version == 1 then MOST_CYLINDERS else 1000000
 
 -- `XTR1` and `XTR2`
 abbrev pub mark : (version : ℕ) → List ℕ
@@ -32,9 +33,9 @@ mark version = codes "XTR" ++ (48 + version) ∷ []
 
 -- ---- tracks of volumes
 
--- A cylinder has 15 tracks. Track x lies in cylinder x / 15 at head x mod 15.
+-- Cylinders follow one another, each with so many tracks.
 abbrev pub tracks_of : VolumeHead → ℕ
-tracks_of v = 15 * v.cylinders
+tracks_of v = TRACKS_OF_CYLINDER * v.cylinders
 
 -- the cylinders of the volume of that number
 abbrev pub cylinders_of : List VolumeHead → ℕ → ℕ
@@ -44,12 +45,12 @@ cylinders_of (v ∷ volumes) (suc k) = cylinders_of volumes k
 
 -- whether there is a volume of that number with a track of that number
 abbrev pub has_track : List VolumeHead → (volume track : ℕ) → Bool
-has_track volumes volume track = nat_lt volume (length volumes) && nat_lt track (15 * cylinders_of volumes volume)
+has_track volumes volume track = nat_lt volume (length volumes) && nat_lt track (TRACKS_OF_CYLINDER * cylinders_of volumes volume)
 
 -- ---- the spelling
 
 abbrev pub place_spelling : (version volume track : ℕ) → List ℕ
-place_spelling version volume track = to_be_bytes w16 volume ++ to_be_bytes (cylinder_width version) (track / 15) ++ to_be_bytes w16 (track % 15)
+place_spelling version volume track = to_be_bytes w16 volume ++ to_be_bytes (cylinder_width version) (track / TRACKS_OF_CYLINDER) ++ to_be_bytes w16 (track % TRACKS_OF_CYLINDER)
 
 abbrev pub volume_spelling : (version : ℕ) → VolumeHead → List ℕ
 volume_spelling version v = serial_field v.serial ++ to_be_bytes (cylinder_width version) v.cylinders
@@ -80,9 +81,9 @@ abbrev pub are_bases : List VolumeHead → (low : ℕ × ℕ) → List Base → 
 are_bases volumes low [] = true
 are_bases volumes low (b ∷ base) = has_track volumes b.0 b.1 && is_from low (b.0, b.1) && is_track b.2 && are_bases volumes (b.0, b.1 + 1) base
 
--- A header of this version has 1 to 32 volumes and base tracks of theirs.
+-- A header of this version has 1 to the most volumes and base tracks of theirs.
 abbrev pub is_header_of : (version : ℕ) → Header → Bool
-is_header_of version h = h.version == version && within 1 32 (length h.volumes) && are_volumes version [] h.volumes && are_bases h.volumes (0, 0) h.base
+is_header_of version h = h.version == version && within 1 MOST_VOLUMES (length h.volumes) && are_volumes version [] h.volumes && are_bases h.volumes (0, 0) h.base
 
 -- ---- reading it, with the first bad field
 
@@ -117,8 +118,8 @@ unfoldable pub place_at : (version : ℕ) → List VolumeHead → Left → Resul
 place_at version volumes left = do
   volume ← number_at w16 (λ n. nat_lt n (length volumes)) left
   cylinder ← number_at (cylinder_width version) (λ n. nat_lt n (cylinders_of volumes volume.0)) volume.1
-  head ← number_at w16 (λ n. nat_lt n 15) cylinder.1
-  Ok ((volume.0, 15 * cylinder.0 + head.0), head.1)
+  head ← number_at w16 (λ n. nat_lt n TRACKS_OF_CYLINDER) cylinder.1
+  Ok ((volume.0, TRACKS_OF_CYLINDER * cylinder.0 + head.0), head.1)
 
 -- Records as one field, whose place is its first byte: it is cut where they are, and broken where they break a rule.
 abbrev pub as_field : Left → Result (List Rec × List ℕ) ImageError → Result (List Rec × Left) Bad
@@ -149,7 +150,7 @@ bases_at version volumes (suc count) low left = do
 unfoldable pub header_at : (newest : ℕ) → Left → Result (Header × Left) Bad
 header_at newest left = do
   version ← version_at newest left
-  count ← number_at w16 (within 1 32) version.1
+  count ← number_at w16 (within 1 MOST_VOLUMES) version.1
   volumes ← volumes_at version.0 count.0 [] count.1
   many ← number_at w32 (λ n. nat_le n (sum_by tracks_of volumes.0)) volumes.1
   base ← bases_at version.0 volumes.0 many.0 (0, 0) many.1

@@ -1,5 +1,6 @@
 -- The laws of traces: what is spelled is read again, what is read was spelled so, and the entries of a trace are the longest.
 use Rattle.std.specs.Prelude.{◌≡◌, ℕ, ◌+◌, ◌≤◌, List, [], ◌++◌, length, Bool, Ok, IsTrue}
+use Rattle.tod_stamp.specs.declared.limits.TheConstants.{MOST_VOLUMES}
 use Rattle.std.specs.List.{flat_map}
 use Rattle.tod_stamp.specs.Fields.{IsBytes, Left}
 use Rattle.write_trace.specs.declared.header.VolumeHead.{VolumeHead}
@@ -24,7 +25,7 @@ HeadersAreSpelled = (place : ℕ) (bytes : List ℕ) (h : Header) (left : Left) 
 -- What an entry that keeps the rules spells is read again, whatever follows.
 abbrev pub EntriesReadBack : Type 0
 EntriesReadBack = (version place last : ℕ) (volumes : List VolumeHead) (e : Entry) (rest : List ℕ) →
-    length volumes ≤ 32 → IsTrue (are_volumes version [] volumes) → IsTrue (is_entry volumes last e) →
+    length volumes ≤ MOST_VOLUMES → IsTrue (are_volumes version [] volumes) → IsTrue (is_entry volumes last e) →
     entry_at version volumes last (record { place = place; bytes = entry_spelling version e ++ rest }) ≡ Ok (e, record { place = place + length (entry_spelling version e); bytes = rest })
 
 -- What is read as an entry keeps the rules and was spelled so.

@@ -14,16 +14,10 @@ use crate::cursor::Cursor;
 use crate::entry::Entry;
 use crate::header::VolumeHead;
 use crate::stop::Stop;
-use ckd_track::{ImageError, Kind, RecList, Track, Write, decode_records};
+use ckd_track::{ImageError, Kind, LONGEST_UPDATE, RecList, Track, Write, decode_records};
 use std::alloc::Global;
-use tod_stamp::Stamp;
+use tod_stamp::{Stamp, TRACKS_OF_CYLINDER};
 use xrc_edge::{Bytes, NoMemory};
-
-/// The most bytes of an update.
-const LONGEST_UPDATE: u16 = 56_656;
-
-/// The heads of a cylinder.
-const HEAD_LIMIT: usize = 15;
 
 const IDLE: u8 = 1;
 
@@ -47,7 +41,7 @@ fn update_of(alloc: Global, cursor: Cursor<'_>) -> Result<(Kind, Cursor<'_>), St
     ensures { Gives (λ x. (x.0, x.1)) result (update_at cursor.entry) }
 {
     let (number, cursor) = cursor.byte(1, 255)?;
-    let (length, cursor) = cursor.number_up_to(LONGEST_UPDATE)?;
+    let (length, cursor) = cursor.number_up_to(LONGEST_UPDATE as u16)?;
     let (bytes, cursor) = cursor.front(length as usize)?;
     let bytes = copied(alloc, bytes)?;
     Ok((Kind::Update { number, bytes }, cursor))
@@ -83,8 +77,12 @@ pub fn place_of<'a>(
 {
     let (volume, cursor) = cursor.number_below(volumes.len())?;
     let (cylinder, cursor) = cylinder_of(volumes, volume, cursor)?;
-    let (head, cursor) = cursor.number_below(HEAD_LIMIT)?;
-    Ok((volume, 15 * cylinder as u32 + head as u32, cursor))
+    let (head, cursor) = cursor.number_below(TRACKS_OF_CYLINDER as usize)?;
+    Ok((
+        volume,
+        TRACKS_OF_CYLINDER * cylinder as u32 + head as u32,
+        cursor,
+    ))
 }
 
 /// Why records are no field, at the field's place.

@@ -8,10 +8,10 @@ ghost use Rattle.write_trace.specs.Headers.{are_volumes, are_bases, cylinders_of
 ghost use Rattle.write_trace.specs.Seen.{serials_of, names};
 
 use ckd_track::Track;
-use tod_stamp::Serial;
+use tod_stamp::{MOST_CYLINDERS, MOST_VOLUMES, Serial, TRACKS_OF_CYLINDER};
 use xrc_edge::List;
 
-/// A volume of a trace: its serial and its number of cylinders, which have 15 tracks each.
+/// A volume of a trace: its serial and its number of cylinders, which have `TRACKS_OF_CYLINDER` tracks each.
 #[derive(Clone, Copy, Debug)]
 pub struct VolumeHead {
     pub serial: Serial,
@@ -38,27 +38,18 @@ pub struct Header {
 impl Header {
     ghost use Rattle.write_trace.specs.Headers.{is_header_of};
 
-    /// Whether this is a header of version 1: 1 to 32 volumes, each with a serial that no other has and 1 to 65,520 cylinders,
-    /// and base tracks that rise by volume and track, each a track of one of these volumes.
+    /// Whether this is a header of version 1: 1 to `MOST_VOLUMES` volumes, each with a serial that no other has and 1 to
+    /// `MOST_CYLINDERS` cylinders, and base tracks that rise by volume and track, each a track of one of these volumes.
     pub fn keeps_rules(&self) -> bool
         ensures { IsTrue result ↔ IsTrue (is_header_of 1 self.now) }
     {
         let volumes = self.volumes.as_slice();
         self.version == 1
-            && (1..=MOST_VOLUMES).contains(&volumes.len())
+            && (1..=MOST_VOLUMES as usize).contains(&volumes.len())
             && are_volumes(volumes)
             && are_bases(volumes, self.base.as_slice())
     }
 }
-
-/// The most volumes of a trace.
-const MOST_VOLUMES: usize = 32;
-
-/// The most cylinders of a volume.
-const MOST_CYLINDERS: u32 = 65_520;
-
-/// The tracks of a cylinder.
-const HEADS: u64 = 15;
 
 /// Whether one of the volumes has this serial.
 fn has_serial(volumes: &[VolumeHead], serial: Serial) -> bool
@@ -73,15 +64,15 @@ fn has_serial(volumes: &[VolumeHead], serial: Serial) -> bool
     found
 }
 
-/// Whether a volume has 1 to 65,520 cylinders. Its serial is one by its type.
+/// Whether a volume has 1 to `MOST_CYLINDERS` cylinders. Its serial is one by its type.
 fn is_volume(volume: &VolumeHead) -> bool
-    ensures { result ≡ (is_serial volume.now.serial && within 1 65520 volume.now.cylinders) }
+    ensures { result ≡ (is_serial volume.now.serial && within 1 MOST_CYLINDERS volume.now.cylinders) }
 {
     let _valid = volume.serial.as_bytes();
-    (1..=MOST_CYLINDERS).contains(&volume.cylinders)
+    (1..=MOST_CYLINDERS as u32).contains(&volume.cylinders)
 }
 
-/// Whether each volume has a serial that no other has, and 1 to 65,520 cylinders.
+/// Whether each volume has a serial that no other has, and 1 to `MOST_CYLINDERS` cylinders.
 fn are_volumes(volumes: &[VolumeHead]) -> bool
     ensures { result ≡ are_volumes 1 [] volumes.now }
 {
@@ -107,7 +98,7 @@ fn has_track(volumes: &[VolumeHead], volume: u16, track: u32) -> bool
     if volume as usize >= volumes.len() {
         return false;
     }
-    u64::from(track) < HEADS * u64::from(cylinders_of(volumes, volume))
+    u64::from(track) < TRACKS_OF_CYLINDER as u64 * u64::from(cylinders_of(volumes, volume))
 }
 
 /// Whether a base track's place is not below another. Its records are a track by their type.

@@ -14,10 +14,7 @@ use crate::fields::{image_field_of, place_of};
 use crate::header::{BaseTrack, VolumeHead, VolumeList};
 use crate::stop::Stop;
 use std::alloc::Global;
-use tod_stamp::Serial;
-
-/// The most cylinders of a volume.
-const CYLINDER_LIMIT: u16 = 65_520;
+use tod_stamp::{MOST_CYLINDERS, MOST_VOLUMES, Serial, TRACKS_OF_CYLINDER};
 
 /// The mark of version 1.
 #[tactic(auto, unfolding(crate::specs::Headers::version_at, tod_stamp::specs::Fields::bytes_at))]
@@ -58,7 +55,7 @@ fn volume_of<'a>(volumes: &[VolumeHead], c: Cursor<'a>) -> Result<(VolumeHead, C
     if is_taken(volumes, serial) {
         return Err(Stop::Broken(place));
     }
-    let (cylinders, c) = c.number_within(1, CYLINDER_LIMIT)?;
+    let (cylinders, c) = c.number_within(1, MOST_CYLINDERS)?;
     let volume = VolumeHead {
         serial,
         cylinders: u32::from(cylinders),
@@ -84,20 +81,20 @@ fn volumes_of(alloc: Global, count: u16, c: Cursor<'_>) -> Result<(VolumeList, C
 
 /// The number of the volumes' tracks.
 fn tracks_in(volumes: &[VolumeHead]) -> u32
-    requires many { length volumes.now ≤ 32 }
+    requires many { length volumes.now ≤ MOST_VOLUMES }
     requires small { All (λ v. v.cylinders ≤ most_cylinders 1) volumes.now }
     ensures { result ≡ sum_by tracks_of volumes.now }
 {
     let mut total: u32 = 0;
     for volume in volumes {
-        total += 15 * volume.cylinders;
+        total += TRACKS_OF_CYLINDER * volume.cylinders;
     }
     total
 }
 
 /// The number of base tracks, of which there are no more than tracks.
 fn many_of<'a>(volumes: &[VolumeHead], c: Cursor<'a>) -> Result<(u32, Cursor<'a>), Stop>
-    requires many { length volumes.now ≤ 32 }
+    requires many { length volumes.now ≤ MOST_VOLUMES }
     requires rules { IsTrue (are_volumes 1 [] volumes.now) }
     ensures { Gives (λ x. (x.0, x.1)) result (number_at w32 (λ n. nat_le n (sum_by tracks_of volumes.now)) c.entry) }
 {
@@ -109,10 +106,10 @@ fn many_of<'a>(volumes: &[VolumeHead], c: Cursor<'a>) -> Result<(u32, Cursor<'a>
 fn head_of(alloc: Global, c: Cursor<'_>) -> Result<((VolumeList, u32), Cursor<'_>), Stop>
     ensures reads { Gives (λ x. ((x.0.0, x.0.1), x.1)) result (head_at c.entry) }
     ensures rules { IfOk result (λ x. IsTrue (are_volumes 1 [] x.0.0)) }
-    ensures many { IfOk result (λ x. (1 ≤ length x.0.0) × (length x.0.0 ≤ 32)) }
+    ensures many { IfOk result (λ x. (1 ≤ length x.0.0) × (length x.0.0 ≤ MOST_VOLUMES)) }
 {
     let c = mark_of(c)?;
-    let (count, c) = c.number_within(1, 32)?;
+    let (count, c) = c.number_within(1, MOST_VOLUMES)?;
     let (volumes, c) = volumes_of(alloc, count, c)?;
     let (many, c) = many_of(volumes.as_slice(), c)?;
     Ok(((volumes, many), c))
@@ -124,7 +121,7 @@ pub fn head_in(alloc: Global, place: u64, bytes: &[u8]) -> Result<((VolumeList, 
     ensures reads { Gives (λ x. ((x.0.0, x.0.1), after x.1 (record { place = place; bytes = bytes.now }))) result (head_at (record { place = place; bytes = bytes.now })) }
     ensures used { IfOk result (λ x. x.1 ≤ length bytes.now) }
     ensures rules { IfOk result (λ x. IsTrue (are_volumes 1 [] x.0.0)) }
-    ensures many { IfOk result (λ x. (1 ≤ length x.0.0) × (length x.0.0 ≤ 32)) }
+    ensures many { IfOk result (λ x. (1 ≤ length x.0.0) × (length x.0.0 ≤ MOST_VOLUMES)) }
 {
     let (head, rest) = head_of(alloc, Cursor::new(place, bytes))?;
     let used = (rest.place() - place) as usize;

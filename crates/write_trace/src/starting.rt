@@ -1,6 +1,7 @@
 //! The start of a trace: its header.
 
 ghost use Rattle.std.specs.Prelude.{◌≡◌, ◌≤◌, ◌<◌, ◌+◌, ◌^◌, [], length, IfOk, IfErr, IsTrue};
+ghost use Rattle.tod_stamp.specs.declared.limits.TheConstants.{MOST_VOLUMES};
 ghost use Rattle.write_trace.specs.Headers.{has_track, is_from, are_volumes, are_bases, base_at, bases_at};
 ghost use Rattle.ckd_track.specs.Tracks.{IsTrack};
 ghost use Rattle.write_trace.specs.Starts.{Starts};
@@ -39,7 +40,7 @@ fn head<S: Source>(
 ) -> Result<(VolumeList, u32), HeaderError>
     ensures reads { ReadsPart head_at (S.left source.old) (S.left source.new) (S.faults source.old) (S.faults source.new) window.old window.new result }
     ensures rules { IfOk result (λ head. IsTrue (are_volumes 1 [] head.0)) }
-    ensures many { IfOk result (λ head. (1 ≤ length head.0) × (length head.0 ≤ 32)) }
+    ensures many { IfOk result (λ head. (1 ≤ length head.0) × (length head.0 ≤ MOST_VOLUMES)) }
 {
     loop {
         match head_in(alloc, window.place(), window.visible()) {

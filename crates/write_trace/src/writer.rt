@@ -11,20 +11,20 @@ ghost use Rattle.write_trace.specs.Headers.{mark, most_cylinders, place_spelling
 
 use crate::header::{BaseTrack, Header, VolumeHead};
 use byteorder::{BigEndian, ByteOrder};
-use ckd_track::Write;
+use ckd_track::{BEFORE_IMAGE, Write};
 use std::alloc::Global;
-use tod_stamp::Stamp;
+use tod_stamp::{Stamp, TRACKS_OF_CYLINDER};
 use xrc_edge::{Bytes, NoMemory};
 
 /// The volume, cylinder and head of a track.
 fn place_bytes(volume: u16, track: u32) -> [u8; 6]
-    requires { track < 15 * most_cylinders 1 }
+    requires { track < TRACKS_OF_CYLINDER * most_cylinders 1 }
     ensures { result ≡ place_spelling 1 volume track }
 {
     let mut bytes = [0; 6];
     BigEndian::write_u16(&mut bytes, volume);
-    BigEndian::write_u16(&mut bytes[2..], (track / 15) as u16);
-    BigEndian::write_u16(&mut bytes[4..], (track % 15) as u16);
+    BigEndian::write_u16(&mut bytes[2..], (track / TRACKS_OF_CYLINDER) as u16);
+    BigEndian::write_u16(&mut bytes[4..], (track % TRACKS_OF_CYLINDER) as u16);
     bytes
 }
 
@@ -39,11 +39,11 @@ fn volume_bytes(volume: &VolumeHead) -> [u8; 8]
 }
 
 /// The part of an entry before the fields of its kind.
-fn entry_head(write: &Write) -> [u8; 15]
-    requires { write.now.track < 15 * most_cylinders 1 }
+fn entry_head(write: &Write) -> [u8; BEFORE_IMAGE]
+    requires { write.now.track < TRACKS_OF_CYLINDER * most_cylinders 1 }
     ensures { result ≡ tag_of write.now.kind ∷ [] ++ to_be_bytes w64 write.now.stamp.0 ++ place_spelling 1 write.now.volume write.now.track }
 {
-    let mut head = [0; 15];
+    let mut head = [0; BEFORE_IMAGE];
     head[0] = write.kind.tag();
     BigEndian::write_u64(&mut head[1..], write.stamp.0);
     head[9..].copy_from_slice(&place_bytes(write.volume, write.track));
@@ -59,7 +59,7 @@ fn idle_bytes(stamp: Stamp) -> [u8; 9]
 }
 
 fn append_entry(alloc: Global, out: &mut Bytes, write: &Write) -> Result<(), NoMemory>
-    requires track { write.now.track < 15 * most_cylinders 1 }
+    requires track { write.now.track < TRACKS_OF_CYLINDER * most_cylinders 1 }
     requires rules { IsTrue (keeps_rules write.now.kind) }
     ensures ok { OnOk result (out.new ≡ out.old ++ entry_spelling 1 (Written write.now)) }
     ensures kept { take (length out.old) out.new ≡ out.old }
@@ -81,7 +81,7 @@ fn append_volumes(alloc: Global, out: &mut Bytes, volumes: &[VolumeHead]) -> Res
 }
 
 fn append_base(alloc: Global, out: &mut Bytes, base: &BaseTrack) -> Result<(), NoMemory>
-    requires near { base.now.1 < 15 * most_cylinders 1 }
+    requires near { base.now.1 < TRACKS_OF_CYLINDER * most_cylinders 1 }
     ensures ok { OnOk result (out.new ≡ out.old ++ base_spelling 1 base.now) }
     ensures kept { take (length out.old) out.new ≡ out.old }
 {
@@ -92,7 +92,7 @@ fn append_base(alloc: Global, out: &mut Bytes, base: &BaseTrack) -> Result<(), N
 
 /// Puts base tracks behind other bytes. Want of memory may leave a part of them there.
 fn append_bases(alloc: Global, out: &mut Bytes, base: &[BaseTrack]) -> Result<(), NoMemory>
-    requires near { All (λ b. b.1 < 15 * most_cylinders 1) base.now }
+    requires near { All (λ b. b.1 < TRACKS_OF_CYLINDER * most_cylinders 1) base.now }
     ensures ok { OnOk result (out.new ≡ out.old ++ flat_map (base_spelling 1) base.now) }
     ensures kept { take (length out.old) out.new ≡ out.old }
 {
@@ -137,8 +137,8 @@ impl TraceWriter {
         out.extend_from_slice(alloc, &idle_bytes(stamp))
     }
 
-    /// The header of a trace. It keeps the rules: 1 to 32 volumes with different serials and 1 to 65,520 cylinders each, and base
-    /// tracks of theirs in order.
+    /// The header of a trace. It keeps the rules: 1 to `MOST_VOLUMES` volumes with different serials and 1 to `MOST_CYLINDERS`
+    /// cylinders each, and base tracks of theirs in order.
     pub fn header(alloc: Global, out: &mut Bytes, header: &Header) -> Result<(), NoMemory>
         requires { IsTrue (is_header_of 1 header.now) }
         ensures ok { OnOk result (out.new ≡ out.old ++ header_spelling header.now) }
@@ -152,10 +152,10 @@ impl TraceWriter {
         appended
     }
 
-    /// The entry of a write. Its track lies in one of the first 65,520 cylinders.
+    /// The entry of a write. Its track lies in one of the first `MOST_CYLINDERS` cylinders.
     pub fn write(alloc: Global, out: &mut Bytes, write: &Write) -> Result<(), NoMemory>
         requires stamp { 1 ≤ write.now.stamp.0 }
-        requires track { write.now.track < 15 * most_cylinders 1 }
+        requires track { write.now.track < TRACKS_OF_CYLINDER * most_cylinders 1 }
         requires rules { IsTrue (keeps_rules write.now.kind) }
         ensures ok { OnOk result (out.new ≡ out.old ++ entry_spelling 1 (Written write.now)) }
         ensures err { OnErr result (out.new ≡ out.old) }
