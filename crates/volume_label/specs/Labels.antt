@@ -1,12 +1,13 @@
 -- The label of a volume device: its one spelling in 14 bytes, and reading it.
 use Rattle.std.specs.Prelude.{ℕ, ◌+◌, ◌*◌, ◌==◌, ◌&&◌, List, ◌++◌, length, take, drop, slice_range, Bool, Option, Some, None, nat_le, bytes_eq, codes, if◌then◌else◌}
+use Rattle.ckd_track.specs.declared.layout.TheConstants.{CYLINDER_LENGTH, FIRST_SLOT}
 use Rattle.std.specs.Int.{w32, to_be_bytes, from_be_bytes}
 use Rattle.tod_stamp.specs.Names.{serial_field, name_in}
 use Rattle.volume_label.specs.declared.label.Label.{Label}
 
 -- how many bytes a device with so many cylinders needs
 abbrev pub need : (cylinders : ℕ) → ℕ
-need cylinders = 512 + cylinders * 860160
+need cylinders = FIRST_SLOT + cylinders * CYLINDER_LENGTH
 
 -- There is a cylinder, and a device of this length has room for all of them.
 abbrev pub has_room : (device_length cylinders : ℕ) → Bool

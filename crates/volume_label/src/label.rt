@@ -5,6 +5,7 @@ ghost use Rattle.std.specs.Int.{w32, from_be_bytes, to_be_bytes};
 ghost use Rattle.tod_stamp.specs.Names.{is_serial};
 ghost use Rattle.volume_label.specs.Labels.{has_room, label_of, label_spelling, need};
 
+use ckd_track::{CYLINDER_LENGTH, FIRST_SLOT};
 use tod_stamp::Serial;
 
 /// The label of a volume device: a serial, and how many cylinders the volume has.
@@ -17,17 +18,11 @@ pub struct Label {
 /// The bytes of a label.
 pub(crate) const LENGTH: usize = 14;
 
-/// The place of a device's first slot.
-const FIRST_SLOT: u64 = 512;
-
-/// The bytes of a cylinder's 15 slots.
-const CYLINDER: u64 = 860_160;
-
-/// How many bytes a device with so many cylinders needs: 512, and 15 slots of 57,344 bytes for each cylinder.
+/// How many bytes a device with so many cylinders needs: those before the first slot, and the slots of each cylinder.
 pub fn need(cylinders: u32) -> u64
     ensures { result ≡ need cylinders }
 {
-    FIRST_SLOT + u64::from(cylinders) * CYLINDER
+    FIRST_SLOT + u64::from(cylinders) * CYLINDER_LENGTH
 }
 
 /// Whether there is a cylinder, and a device of this length has room for all of them.
