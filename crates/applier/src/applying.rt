@@ -3,7 +3,7 @@
 ghost use Rattle.std.specs.Prelude.{◌≡◌, ◌≤◌, ℕ, List, true, false, IsTrue, OnErr, OnOk};
 ghost use Rattle.crash_plant.specs.Moments.{Follows, Kept};
 ghost use Rattle.ckd_track.specs.declared.rec.Rec.{Rec};
-ghost use Rattle.ckd_track.specs.SlotPlaces.{slot_place, slot_end};
+ghost use Rattle.ckd_track.specs.SlotPlaces.{slot_end};
 ghost use Rattle.xrc_edge.specs.Causes.{HasCause};
 ghost use Rattle.xrc_journal.specs.Items.{AreItems, Earlier, Item, anywhere, is_item};
 ghost use Rattle.xrc_journal.specs.Views.{told, track_behind};
@@ -14,17 +14,10 @@ ghost use Rattle.applier.specs.Slots.{DiffersInSlots, HoldsContent};
 ghost use Rattle.applier.specs.Jobs.{HasSlots, StopsAtItem};
 ghost use Rattle.applier.specs.Writes.{StopsAt, Writes, WritesAll};
 
-use ckd_track::Slot;
+use ckd_track::{Slot, slot_place};
 use crash_plant::Disk;
 use xrc_edge::Failed;
 use xrc_journal::{Body, BodyItem, VolumeJob, first_item};
-
-/// The place of a track's slot.
-fn slot_place(track: u32) -> u64
-    ensures { result ≡ slot_place track }
-{
-    512 + u64::from(track) * 57_344
-}
 
 /// Writes the image in the slot where the item is one of the device.
 fn apply_item<D: Disk>(disk: &mut D, device: u16, item: BodyItem, slot: &Slot) -> Result<(), Failed>

@@ -2,26 +2,16 @@
 
 ghost use Rattle.std.specs.Prelude.{◌≡◌, ◌<◌, ◌≤◌, ℕ, List, [], Option, Some, false, true, unwrap_or, length, slice_get, OnOk, OnErr};
 ghost use Rattle.ckd_track.specs.declared.rec.Rec.{Rec};
-ghost use Rattle.ckd_track.specs.SlotPlaces.{slot_place, slot_end, slot_track};
+ghost use Rattle.ckd_track.specs.SlotPlaces.{slot_end, slot_track};
 ghost use Rattle.pending_queue.specs.Groups.{heads};
 ghost use Rattle.image_former.specs.Steps.{BeginsWith, DoesEntries, Goes, HoldsSlot, OfBytes, Reads};
 
 use crate::places::is_same_track;
-use ckd_track::Slot;
+use ckd_track::{SLOT_LENGTH, Slot, slot_place};
 use crash_plant::Disk;
 use pending_queue::{EntryHead, Formed};
 use xrc_edge::Failed;
 use xrc_journal::VolumeJob;
-
-/// The length of a slot.
-const SLOT: usize = 57_344;
-
-/// The place of a track's slot.
-fn slot_place(track: u32) -> u64
-    ensures { result ≡ slot_place track }
-{
-    512 + u64::from(track) * 57_344
-}
 
 /// Reads the track that its slot on the volume holds. One that holds none gives the empty track.
 fn read_track<D: Disk>(disk: &mut D, track: u32, slot: &mut Slot) -> Result<(), Failed>
@@ -29,7 +19,7 @@ fn read_track<D: Disk>(disk: &mut D, track: u32, slot: &mut Slot) -> Result<(), 
     ensures track { D.tells → OnOk result (slot.new ≡ unwrap_or (slot_track (D.state disk.old).bytes track) []) }
     ensures reads { Reads D.state D.tells disk.old disk.new result }
 {
-    let mut bytes = [0; SLOT];
+    let mut bytes = [0; SLOT_LENGTH];
     disk.read(slot_place(track), &mut bytes)?;
     let _ = slot.load(&bytes);
     Ok(())

@@ -1,5 +1,7 @@
 -- What the examination of a site answers: lengths, the meaning, and faults.
 use Rattle.std.specs.Prelude.{◌≡◌, ◌+◌, ◌<◌, ◌≤◌, ℕ, suc, zero, true, List, [], ◌∷◌, find, nat_lt, Bool, Option, Some, Result, Ok, Err, IsErrOf}
+use Rattle.xrc_journal.specs.Lengths.{journal_length}
+use Rattle.crash_plant.specs.declared.layout.TheConstants.{CONTROL_LENGTH, STATE_LENGTH, SWITCH}
 use Rattle.xrc_edge.specs.Causes.{Rose}
 use Rattle.crash_plant.specs.declared.device.Device.{Device}
 use Rattle.crash_plant.specs.declared.device.Device.TheVariants.{Control, State, Journal, Volume}
@@ -22,9 +24,9 @@ use Rattle.site_means.specs.Meaning.Meaning.{NoMark, DamagedAt, Meant}
 
 -- how many bytes a device needs; a volume's are no matter of an examination
 abbrev pub need : Device → ℕ
-need Control = 1024
-need State = 16384
-need (Journal j) = 1826816
+need Control = CONTROL_LENGTH
+need State = STATE_LENGTH
+need (Journal j) = journal_length 1
 need (Volume v) = 0
 
 abbrev pub journals_from : (first count : ℕ) → List Device
@@ -44,10 +46,10 @@ first_short plant = find (is_short plant) (examined plant)
 
 -- ---- spots
 
--- A spot lies in a journal, with 24 bytes left.
+-- A spot lies in a journal, with room for a switch.
 pub record HasSpot (plant : PlantState) (at : Spot) : Type 0 where
   pub set : at.set < plant.journals
-  pub room : at.place + 24 ≤ plant.lengths (Journal at.set)
+  pub room : at.place + SWITCH ≤ plant.lengths (Journal at.set)
 
 -- ---- the meaning
 

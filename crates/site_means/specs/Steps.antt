@@ -1,5 +1,6 @@
 -- The walk in the code: how it goes on, and what it says at its end.
 use Rattle.std.specs.Prelude.{◌≡◌, ◌⊎◌, ◌^◌, ℕ, min, ◌<◌, ◌≤◌, ◌+◌, List, [], length, Bool, true, false, Option, Some, None, Result, Ok, Err}
+use Rattle.crash_plant.specs.declared.layout.TheConstants.{FRONT}
 use Rattle.crash_plant.specs.declared.device.Device.TheVariants.{Journal}
 use Rattle.crash_plant.specs.declared.spot.Spot.{Spot}
 use Rattle.tod_stamp.specs.declared.stamp.Stamp.{Stamp}
@@ -31,7 +32,7 @@ TakesRows volumes place items bad old new = (bad ≡ first_unfit volumes place o
 
 -- Where a record's items keep the rules, their places are numbers of 64 bits.
 abbrev pub HavePlaces : Spot → List Item → Type 0
-HavePlaces at items = AreItems anywhere items → (items ≡ []) ⊎ (at.place + 22 + length (body_spelling items) < 2 ^ 64)
+HavePlaces at items = AreItems anywhere items → (items ≡ []) ⊎ (at.place + FRONT + length (body_spelling items) < 2 ^ 64)
 
 -- Only damage of a journal or want of memory.
 abbrev pub IsDamage : SiteError → Type 0

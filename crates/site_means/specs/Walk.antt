@@ -1,5 +1,6 @@
 -- The walk over a site's journals from the mark's spot, record by record, with its first bad place.
 use Rattle.std.specs.Prelude.{ℕ, zero, suc, ◌+◌, ◌-◌, ◌^◌, ◌==◌, List, [], ◌∷◌, ◌++◌, length, Bool, true, Option, Some, None, unwrap_or, if◌then◌else◌}
+use Rattle.crash_plant.specs.declared.layout.TheConstants.{FRONT}
 use Rattle.std.specs.List.{flat_map, list_any}
 use Rattle.crash_plant.specs.declared.spot.Spot.{Spot}
 use Rattle.crash_plant.specs.declared.device.Device.TheVariants.{Journal}
@@ -59,7 +60,7 @@ pub data Step : Type 0 where
 
 -- the place of a record's first item
 abbrev pub body_place : Spot → ℕ
-body_place at = at.place + 22
+body_place at = at.place + FRONT
 
 abbrev pub unfit_in : Shape → Standing → List Item → Option ℕ
 unfit_in shape s items = first_unfit shape.volumes (body_place s.at) s.rows items

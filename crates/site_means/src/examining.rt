@@ -1,6 +1,7 @@
 //! The examination of a site.
 
 ghost use Rattle.std.specs.Prelude.{◌≡◌, ◌≤◌, ◌<◌, ℕ, IfOk, IsErrOf, IsTrue, OnOk, Err, None, Some};
+ghost use Rattle.crash_plant.specs.declared.layout.TheConstants.{CONTROL_LENGTH, STATE_LENGTH};
 ghost use Rattle.crash_plant.specs.declared.device.Device.{Device as AnyDevice};
 ghost use Rattle.crash_plant.specs.declared.device.Device.TheVariants.{Control, Journal, State};
 ghost use Rattle.crash_plant.specs.Calls.{NoneLent};
@@ -20,7 +21,7 @@ use pair_table::{Level, PairTable};
 use state_set::{StateError, get};
 use std::alloc::Global;
 
-/// That the control, the state and each journal have the 1,024, 16,384 and 1,826,816 bytes that they need, before any of them is
+/// That the control, the state and each journal have the bytes that they need, before any of them is
 /// read. The first that has fewer is answered TooSmall, with its need.
 pub fn check_lengths<P: Plant>(plant: &P) -> Result<(), SiteError>
     ensures ok { OnOk result (first_short (P.state plant.now) ≡ None) }
@@ -35,7 +36,7 @@ pub fn check_lengths<P: Plant>(plant: &P) -> Result<(), SiteError>
 /// The mark that counts: the first step of an examination behind that of the lengths. NoSession is answered exactly where no gate of
 /// the control is open, and Damaged at the first byte of the first slot that breaks a rule.
 pub fn read_mark<P: Plant>(plant: &mut P) -> Result<Mark, SiteError>
-    requires { 1024 ≤ (P.state plant.old).lengths Control }
+    requires { CONTROL_LENGTH ≤ (P.state plant.old).lengths Control }
     ensures says { P.tells → Says (λ mark. IsChosen (P.state plant.old) mark) (meaning (P.state plant.old) (P.state plant.old).bytes) result }
     // Whatever a read gave, the mark names state slot 0 or 1, and its spot lies in a journal.
     ensures slot { IfOk result (λ mark. mark.state_slot ≤ 1) }
@@ -60,7 +61,7 @@ pub fn read_state<P: Plant>(
     plant: &mut P,
     mark: &Mark,
 ) -> Result<(Level, PairTable), SiteError>
-    requires long { 16384 ≤ (P.state plant.old).lengths State }
+    requires long { STATE_LENGTH ≤ (P.state plant.old).lengths State }
     requires slot { mark.now.state_slot ≤ 1 }
     ensures says { P.tells → IsChosen (P.state plant.old) mark.now
         → Says (λ found. IsStored (P.state plant.old) mark.now found.0 found.1.rows) (meaning (P.state plant.old) (P.state plant.old).bytes) result }

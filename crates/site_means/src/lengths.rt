@@ -7,19 +7,17 @@ ghost use Rattle.xrc_journal.specs.Records.{most_body};
 ghost use Rattle.site_means.specs.Answers.{first_short, is_short, need};
 ghost use Rattle.site_means.specs.Steps.{HasRoom};
 
-use crash_plant::{Device, Plant};
-
-/// The most bytes of a body.
-const MOST_BODY: u64 = 29_106_176;
+use crash_plant::{CONTROL_LENGTH, Device, Plant, STATE_LENGTH};
+use xrc_journal::{MOST_BODY, journal_length};
 
 /// How many bytes a device needs. A volume's need is that of its pair, which no examination asks for.
 pub(crate) fn need(device: Device) -> u64
     ensures { result ≡ need device }
 {
     match device {
-        Device::Control => 1_024,
-        Device::State => 16_384,
-        Device::Journal(_) => 1_826_816,
+        Device::Control => CONTROL_LENGTH,
+        Device::State => STATE_LENGTH,
+        Device::Journal(_) => journal_length(1),
         Device::Volume(_) => 0,
     }
 }
@@ -56,7 +54,7 @@ pub fn longest_body<P: Plant>(plant: &P) -> u32
     let mut longest = 0;
     for number in 0..plant.journals() {
         let length = plant.length(Device::Journal(number));
-        longest = longest.max(length.min(MOST_BODY) as u32);
+        longest = longest.max(length.min(MOST_BODY as u64) as u32);
     }
     longest
 }

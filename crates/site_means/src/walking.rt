@@ -16,15 +16,12 @@ use crate::rows::take_rows;
 use crate::{Means, SiteError};
 use ckd_track::Slot;
 use control_set::Mark;
-use crash_plant::{Device, Plant, Spot};
+use crash_plant::{Device, FRONT, Plant, Spot};
 use pair_table::{Level, PairTable};
 use std::alloc::Global;
 use tod_stamp::Stamp;
 use xrc_edge::NoMemory;
 use xrc_journal::{Body, WalkError, Walked, walk};
-
-/// The length of a record's gate and header.
-const FRONT: u64 = 22;
 
 /// Where a walk stands.
 #[derive(Drop)]

@@ -1,5 +1,6 @@
 -- What the walk's parts answer.
 use Rattle.std.specs.Prelude.{◌≡◌, ◌≤◌, ◌<◌, ◌+◌, IsErrOf, ℕ, Bool, ◌-◌, ◌^◌, ◌==◌, ◌&&◌, List, [], take, drop, slice_index, nat_lt, nat_le, Option, Some, None, Result, Ok, Err, length, if◌then◌else◌}
+use Rattle.crash_plant.specs.declared.layout.TheConstants.{FRONT, SWITCH}
 use Rattle.std.specs.Int.{w16, w32, w64, from_be_bytes}
 use Rattle.tod_stamp.specs.Fields.{Left, Bad, number_at, within}
 use Rattle.crash_plant.specs.declared.spot.Spot.{Spot}
@@ -43,12 +44,12 @@ length_of (Err bad) = None
 -- a group with this time and a body of this length, whose header keeps the rules
 abbrev pub group_at : Form → (journal : List ℕ) → Spot → (time len : ℕ) → Found
 group_at form journal at time len =
-    let items = items_at form (at.place + 22) (stretch (at.place + 22) len journal) in
+    let items = items_at form (at.place + FRONT) (stretch (at.place + FRONT) len journal) in
     group_or at (record { kind = 1; time = time; len = len }) items items.bad
 
 -- a switch with this time, whose header keeps the rules
 abbrev pub switch_at : (sets : ℕ) → (journal : List ℕ) → Spot → (time : ℕ) → Found
-switch_at sets journal at time = switch_or at (record { kind = 2; time = time; len = 2 }) (number_at w16 (λ n. n == next_set sets at.set) (record { place = at.place + 22; bytes = stretch (at.place + 22) 2 journal }))
+switch_at sets journal at time = switch_or at (record { kind = 2; time = time; len = 2 }) (number_at w16 (λ n. n == next_set sets at.set) (record { place = at.place + FRONT; bytes = stretch (at.place + FRONT) 2 journal }))
 
 -- ---- the walk's answer
 
@@ -80,11 +81,11 @@ pub record WalkCause (set before now : ℕ) (result : Result Walked WalkError) :
   pub fault : (j : ℕ) → IsErrOf result (WalkFault j) → (j ≡ set) × Rose before now
   pub others : NoFault result → now ≡ before
 
--- Behind a group the walk goes on in the same data set, which has 24 bytes left there, and behind a switch at the start of a data
+-- Behind a group the walk goes on in the same data set, which has room for a switch there, and behind a switch at the start of a data
 -- set of the plant. The number is one more.
 abbrev pub GoesOn : PlantState → (at : Spot) → Walked → Type 0
 GoesOn plant at WalkedEnd = Unit {0}
-GoesOn plant at (WalkedGroup time after) = (after.set ≡ at.set) × (after.place + 24 ≤ plant.lengths (Journal at.set)) × (after.number ≡ at.number + 1)
+GoesOn plant at (WalkedGroup time after) = (after.set ≡ at.set) × (after.place + SWITCH ≤ plant.lengths (Journal at.set)) × (after.number ≡ at.number + 1)
 GoesOn plant at (WalkedSwitch time after) = (after.set < plant.journals) × (after.place ≡ 0) × (after.number ≡ at.number + 1)
 
 -- What a read of one device gives stays, and a crash leaves nothing there that it couldn't leave before. Nothing else changes.

@@ -1,5 +1,6 @@
 -- The items of a group: their one spelling, and the rules that each keeps behind the items before it.
 use Rattle.std.specs.Prelude.{ℕ, ◌+◌, ◌*◌, ◌^◌, ◌==◌, ◌&&◌, ◌||◌, not, List, [], ◌∷◌, ◌++◌, Bool, true, false, nat_lt, nat_le, IsTrue}
+use Rattle.ckd_track.specs.SlotPlaces.{slot_end}
 use Rattle.std.specs.List.{flat_map, list_any}
 use Rattle.std.specs.Int.{w16, w32, to_be_bytes}
 use Rattle.crash_plant.specs.declared.device.Device.TheVariants.{Volume}
@@ -42,9 +43,9 @@ pub record Form : Type 0 where
 abbrev pub anywhere : Form
 anywhere = record { deltas = false; has_slot = λ device track. true }
 
--- Whether a device of this length has the whole slot of a track. The first slot begins at 512, and each has 57,344 bytes.
+-- Whether a device of this length has the whole slot of a track.
 abbrev pub is_within : (len track : ℕ) → Bool
-is_within len track = nat_le (512 + track * 57344 + 57344) len
+is_within len track = nat_le (slot_end track) len
 
 -- images alone, of the tracks whose whole slots lie in the volumes of a plant
 abbrev pub form_of : PlantState → Form

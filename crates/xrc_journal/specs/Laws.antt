@@ -1,5 +1,6 @@
 -- The laws of items, records and walks. Each is the contract of a public function without parameters.
 use Rattle.std.specs.Prelude.{◌≡◌, ◌≢◌, ◌↔◌, ℕ, ◌+◌, ◌-◌, ◌^◌, ◌<◌, ◌≤◌, List, [], ◌∷◌, ◌++◌, length, take, drop, slice_index, Some, None, Ok, IsTrue}
+use Rattle.crash_plant.specs.declared.layout.TheConstants.{FRONT, SWITCH}
 use Rattle.tod_stamp.specs.Fields.{IsBytes, Left}
 use Rattle.crash_plant.specs.declared.spot.Spot.{Spot}
 use Rattle.xrc_journal.specs.Items.{Item, Form, Earlier, none_earlier, behind_all, AreItems, is_item, item_spelling, body_spelling}
@@ -50,7 +51,7 @@ StandsAt place behind journal = (rest : List ℕ) × (drop place journal ≡ 1 �
 pub record MayStand (form : Form) (size : ℕ) (at : Spot) (last time : ℕ) (items : List Item) : Type 0 where
   pub keep : AreItems form items
   pub short : length (body_spelling items) ≤ most_body
-  pub room : at.place + 22 + length (body_spelling items) + 24 ≤ size
+  pub room : at.place + FRONT + length (body_spelling items) + SWITCH ≤ size
   pub number : at.number < 2 ^ 64 - 1
   pub later : last ≤ time
   pub stamp : time < 2 ^ 64
@@ -95,7 +96,7 @@ WalksEndAtGates = (form : Form) (sets : ℕ) (b c : List ℕ) (from to : Spot) (
 -- A group that stands spelled at the end of a walk, with a gate behind it that isn't 1, is the walk's last.
 abbrev pub WalksGoOn : Type 0
 WalksGoOn = (form : Form) (sets : ℕ) (b c : List ℕ) (from to : Spot) (last time : ℕ) (groups : List Logged) (g : Logged) → take to.place c ≡ take to.place b → length c ≡ length b → MayStand form (length c) to time g.time g.items
-    → StandsAt to.place (group_spelling to.number g.time g.items) c → slice_index c (to.place + 22 + length (body_spelling g.items)) ≢ 1
+    → StandsAt to.place (group_spelling to.number g.time g.items) c → slice_index c (to.place + FRONT + length (body_spelling g.items)) ≢ 1
     → Walks form sets b from last groups to time → Walks form sets c from last (groups ++ g ∷ []) (spot_after to (length (body_spelling g.items))) g.time
 
 -- There is one walk from a spot.

@@ -6,6 +6,7 @@ pub mod Bodies
 pub mod Answers
 pub mod Walks
 pub mod Laws
+pub mod Lengths
 pub mod Vectors
 pub mod Views
 pub mod Contents

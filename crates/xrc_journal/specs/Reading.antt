@@ -1,5 +1,6 @@
 -- Reading the items of a group one after another, up to the first that breaks its rules.
 use Rattle.std.specs.Prelude.{ℕ, zero, suc, ◌==◌, ◌&&◌, ◌||◌, not, List, [], ◌∷◌, length, Bool, Option, Some, None, Result, Ok, Err, if◌then◌else◌}
+use Rattle.pair_table.specs.declared.limits.TheConstants.{ROW_LENGTH}
 use Rattle.std.specs.Int.{w8, w16, w32}
 use Rattle.tod_stamp.specs.Fields.{◌>>=◌, Left, Bad, bytes_at, number_at}
 use Rattle.tod_stamp.specs.Fields.Bad.{Broken}
@@ -43,7 +44,7 @@ delta_item_at form left = do
 
 unfoldable pub pair_item_at : Left → Result (Item × Left) Bad
 pair_item_at left = do
-  text ← bytes_at 30 any left
+  text ← bytes_at ROW_LENGTH any left
   row ← row_or left (row_at text.0)
   Ok (Pair row, text.1)
 

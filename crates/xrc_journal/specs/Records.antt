@@ -1,5 +1,7 @@
 -- One record of a journal: its spelling behind a gate, and what stands at a spot by the rules on one record.
 use Rattle.std.specs.Prelude.{ℕ, ◌+◌, ◌-◌, ◌^◌, ◌==◌, ◌&&◌, List, [], ◌∷◌, ◌++◌, length, take, drop, slice_index, Bool, Option, Some, None, Result, Ok, Err, nat_lt, nat_le, if◌then◌else◌}
+use Rattle.crash_plant.specs.declared.layout.TheConstants.{FRONT, HEADER, SWITCH}
+use Rattle.xrc_journal.specs.declared.layout.TheConstants.{MOST_BODY}
 use Rattle.std.specs.Int.{w8, w16, w32, w64, to_be_bytes}
 use Rattle.tod_stamp.specs.Fields.{◌>>=◌, Left, Bad, number_at, within}
 use Rattle.crash_plant.specs.declared.spot.Spot.{Spot}
@@ -27,15 +29,15 @@ switch_spelling number time set = record_spelling 2 number time (to_be_bytes w16
 
 -- the most bytes of a body
 abbrev pub most_body : ℕ
-most_body = 29106176
+most_body = MOST_BODY
 
 -- the data set after one: one more, or 0 after the last
 abbrev pub next_set : (sets set : ℕ) → ℕ
 next_set sets set = if set + 1 == sets then 0 else set + 1
 
--- A group's body isn't longer than the most, and with 24 bytes after it lies in the data set. A switch's has 2 bytes.
+-- A group's body isn't longer than the most, and with room for a switch after it lies in the data set. A switch's has 2 bytes.
 abbrev pub is_body_length : (size : ℕ) → Spot → (kind len : ℕ) → Bool
-is_body_length size at kind len = if kind == 1 then nat_le len most_body && nat_le (at.place + 22 + len + 24) size else len == 2
+is_body_length size at kind len = if kind == 1 then nat_le len most_body && nat_le (at.place + FRONT + len + SWITCH) size else len == 2
 
 -- kind, time and body length of a record
 pub record Head : Type 0 where
@@ -65,7 +67,7 @@ pub data Found : Type 0 where
 
 -- the spot after a group, and after a switch
 abbrev pub spot_after : Spot → (len : ℕ) → Spot
-spot_after at len = record { set = at.set; place = at.place + 22 + len; number = at.number + 1 }
+spot_after at len = record { set = at.set; place = at.place + FRONT + len; number = at.number + 1 }
 
 abbrev pub spot_in : (set : ℕ) → Spot → Spot
 spot_in set at = record { set = set; place = 0; number = at.number + 1 }
@@ -85,11 +87,11 @@ switch_or at head (Err bad) = Damaged at.place []
 
 abbrev pub group_of : Form → (journal : List ℕ) → Spot → Head → Found
 group_of form journal at head =
-    let items = items_at form (at.place + 22) (stretch (at.place + 22) head.len journal) in
+    let items = items_at form (at.place + FRONT) (stretch (at.place + FRONT) head.len journal) in
     group_or at head items items.bad
 
 abbrev pub switch_of : (sets : ℕ) → (journal : List ℕ) → Spot → Head → Found
-switch_of sets journal at head = switch_or at head (number_at w16 (λ n. n == next_set sets at.set) (record { place = at.place + 22; bytes = stretch (at.place + 22) 2 journal }))
+switch_of sets journal at head = switch_or at head (number_at w16 (λ n. n == next_set sets at.set) (record { place = at.place + FRONT; bytes = stretch (at.place + FRONT) 2 journal }))
 
 -- A bad header is bad at the gate.
 abbrev pub record_or : Form → (sets : ℕ) → (journal : List ℕ) → Spot → Result (Head × Left) Bad → Found
@@ -100,5 +102,5 @@ record_or form sets journal at (Err bad) = Damaged at.place []
 unfoldable pub walk_one : Form → (sets : ℕ) → (journal : List ℕ) → (at : Spot) → (last : ℕ) → Found
 walk_one form sets journal at last =
     if slice_index journal at.place == 1
-    then record_or form sets journal at (head_at (length journal) at last (record { place = at.place + 1; bytes = stretch (at.place + 1) 21 journal }))
+    then record_or form sets journal at (head_at (length journal) at last (record { place = at.place + 1; bytes = stretch (at.place + 1) HEADER journal }))
     else End

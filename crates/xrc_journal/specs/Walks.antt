@@ -1,5 +1,6 @@
 -- The walk over a data set, group by group up to the first gate that isn't 1, and what becomes of it while a group is added.
 use Rattle.std.specs.Prelude.{◌≡◌, ◌⊎◌, ℕ, ◌+◌, ◌≤◌, List, [], ◌∷◌, ◌++◌, length}
+use Rattle.crash_plant.specs.declared.layout.TheConstants.{SWITCH}
 use Rattle.crash_plant.specs.declared.spot.Spot.{Spot}
 use Rattle.crash_plant.specs.Bytes.{Torn}
 use Rattle.crash_plant.specs.declared.device.Device.TheVariants.{Journal}
@@ -26,7 +27,7 @@ pub record EndsAt (form : Form) (sets : ℕ) (from to : Spot) (cut : ℕ) (image
   pub time : ℕ
   pub walks : Walks form sets image from last groups to time
   pub up_to : time ≤ cut
-  pub room : to.place + 24 ≤ length image
+  pub room : to.place + SWITCH ≤ length image
 
 -- It is so in every image that a crash may leave now.
 abbrev pub AllEnd : PlantState → (from to : Spot) → (cut : ℕ) → Type 0

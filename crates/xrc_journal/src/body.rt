@@ -15,7 +15,7 @@ use crate::buffer::{device_bytes, image_front, put_parts};
 use crate::filling::fill;
 use ckd_track::Slot;
 use crash_plant::{Device, Plant};
-use pair_table::{PairRow, PairState, encode_row};
+use pair_table::{PairRow, PairState, ROW_LENGTH, encode_row};
 use std::alloc::Global;
 use std::boxed::BoxedSlice;
 use std::marker::Model;
@@ -63,7 +63,7 @@ fn time_of(state: PairState) -> Option<Stamp>
 }
 
 /// The bytes of a row.
-fn row_bytes(row: &PairRow) -> [u8; 30]
+fn row_bytes(row: &PairRow) -> [u8; ROW_LENGTH]
     requires { IsTrue (keeps_rules row.now) }
     ensures row { IsTrue (is_row row.now) }
     ensures spelled { result ≡ row_spelling row.now }

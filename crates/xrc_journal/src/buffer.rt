@@ -4,6 +4,7 @@ ghost use Rattle.std.specs.Prelude.{◌≡◌, ◌≤◌, ◌+◌, ◌∷◌, �
 ghost use Rattle.std.specs.Int.{w16, w32, to_be_bytes};
 ghost use Rattle.crash_plant.specs.Bytes.{patched};
 
+use crate::layout::IMAGE_FRONT;
 use byteorder::{BigEndian, ByteOrder};
 
 /// Writes bytes at a place.
@@ -25,7 +26,7 @@ pub(crate) fn put_parts(buffer: &mut [u8], place: usize, front: &[u8], back: &[u
 }
 
 /// What stands before the image in an image's item.
-pub(crate) fn image_front(device: u16, track: u32) -> [u8; 7]
+pub(crate) fn image_front(device: u16, track: u32) -> [u8; IMAGE_FRONT]
     ensures { result ≡ 1 ∷ to_be_bytes w16 device ++ to_be_bytes w32 track }
 {
     let mut front = [1, 0, 0, 0, 0, 0, 0];

@@ -1,26 +1,16 @@
 //! The header of a record.
 
 ghost use Rattle.std.specs.Prelude.{◌≡◌, ◌≤◌, ◌<◌, ◌+◌, ◌-◌, ◌^◌, ℕ, Some, IsSome};
+ghost use Rattle.crash_plant.specs.declared.layout.TheConstants.{FRONT, SWITCH};
 ghost use Rattle.xrc_journal.specs.Records.{head_at, is_body_length, most_body};
 ghost use Rattle.tod_stamp.specs.declared.stamp.Stamp.{Stamp as StampValue};
 ghost use Rattle.xrc_journal.specs.declared.header.Header.TheVariants.{Group};
 ghost use Rattle.xrc_journal.specs.Answers.{header_of, keeps_header};
 
+use crate::layout::{AROUND, MOST_BODY};
 use byteorder::{BigEndian, ByteOrder};
-use crash_plant::Spot;
+use crash_plant::{HEADER, Spot};
 use tod_stamp::Stamp;
-
-/// The length of what stands between a record's gate and its body.
-pub(crate) const HEADER: usize = 21;
-
-/// The length of a gate and a header.
-pub(crate) const FRONT: u64 = 22;
-
-/// The bytes of a gate and a header, and the room that is kept behind a group for a switch.
-pub(crate) const AROUND: u64 = 46;
-
-/// The most bytes of a body.
-const MOST_BODY: u32 = 29_106_176;
 
 /// What a header says.
 #[derive(Clone, Copy, Debug)]
@@ -30,7 +20,7 @@ pub(crate) enum Header {
 }
 
 fn is_length(kind: u8, length: u32, at: Spot, size: u64) -> bool
-    requires { at.place + 22 ≤ size }
+    requires { at.place + FRONT ≤ size }
     ensures { result ≡ is_body_length size at kind length }
 {
     if kind == 1 {
@@ -42,7 +32,7 @@ fn is_length(kind: u8, length: u32, at: Spot, size: u64) -> bool
 
 /// Whether the fields keep the rules.
 fn keeps_rules(bytes: &[u8; HEADER], at: Spot, last: Stamp, size: u64) -> bool
-    requires { at.place + 22 ≤ size }
+    requires { at.place + FRONT ≤ size }
     ensures { result ≡ keeps_header size at last.0 bytes.now }
 {
     let number = BigEndian::read_u64(&bytes[1..9]);
@@ -64,10 +54,10 @@ pub(crate) fn decode_header(
     last: Stamp,
     size: u64,
 ) -> Option<Header>
-    requires { at.place + 22 ≤ size }
+    requires { at.place + FRONT ≤ size }
     ensures header { result ≡ header_of (head_at size at last.0 (record { place = at.place + 1; bytes = bytes.now })) }
     ensures number { IsSome result → at.number < 2 ^ 64 - 1 }
-    ensures fits { (time : StampValue) (length : ℕ) → result ≡ Some (Group time length) → at.place + 22 + length + 24 ≤ size }
+    ensures fits { (time : StampValue) (length : ℕ) → result ≡ Some (Group time length) → at.place + FRONT + length + SWITCH ≤ size }
     ensures short { (time : StampValue) (length : ℕ) → result ≡ Some (Group time length) → length ≤ most_body }
 {
     if !keeps_rules(bytes, at, last, size) {

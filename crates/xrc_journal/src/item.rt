@@ -7,25 +7,17 @@ ghost use Rattle.xrc_journal.specs.Reading.{gone_item_at, image_item_at, item_at
 ghost use Rattle.xrc_journal.specs.Bodies.{BeginsWith, BeginsWithItem, GoodFront, IsBody, are_late, draws, earlier_of, have_image, items_of};
 ghost use Rattle.xrc_journal.specs.Answers.{length_of};
 
+use crate::layout::{IMAGE_FRONT, ROW_ITEM, TRACK};
 use byteorder::{BigEndian, ByteOrder};
-use ckd_track::Slot;
+use ckd_track::{SLOT_LENGTH, Slot, slot_place};
 use crash_plant::{Device, Plant};
-use pair_table::decode_row;
-
-/// The bytes of a device and a track of it.
-const TRACK: usize = 6;
-
-/// The bytes of an image's item before the image.
-const IMAGE_FRONT: usize = 1 + TRACK;
-
-/// The bytes of a row.
-const ROW: usize = 30;
+use pair_table::{ROW_LENGTH, decode_row};
 
 /// Whether a device of that length has the whole slot of a track.
 fn is_within(length: u64, track: u32) -> bool
     ensures { result ≡ is_within length track }
 {
-    512 + u64::from(track) * 57_344 + 57_344 <= length
+    slot_place(track) + SLOT_LENGTH as u64 <= length
 }
 
 /// Whether the track's whole slot lies in the volume of that number.
@@ -40,13 +32,13 @@ pub(crate) fn has_slot<P: Plant>(plant: &P, device: u16, track: u32) -> bool
 pub(crate) fn pair_length(fields: &[u8]) -> Option<usize>
     ensures { (place : ℕ) → result ≡ length_of (pair_item_at (record { place = place; bytes = fields.now })) }
 {
-    if fields.len() < ROW {
+    if fields.len() < ROW_LENGTH {
         return None;
     }
-    let mut bytes = [0; ROW];
-    bytes.copy_from_slice(&fields[..ROW]);
+    let mut bytes = [0; ROW_LENGTH];
+    bytes.copy_from_slice(&fields[..ROW_LENGTH]);
     match decode_row(&bytes) {
-        Some(_) => Some(1 + ROW),
+        Some(_) => Some(ROW_ITEM),
         None => None,
     }
 }
@@ -68,7 +60,7 @@ fn first_length(slot: &mut Slot, bytes: &[u8]) -> usize
             Ok(length) => IMAGE_FRONT + length,
             Err(_) => unreachable!(),
         },
-        3 => 1 + ROW,
+        3 => ROW_ITEM,
         _ => 3,
     }
 }

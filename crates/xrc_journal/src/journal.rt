@@ -1,6 +1,7 @@
 //! Records put at the journal's end.
 
 ghost use Rattle.std.specs.Prelude.{◌≡◌, ◌≤◌, ◌<◌, ◌+◌, ◌-◌, ◌^◌, ◌∷◌, ◌++◌, [], ℕ, length, OnOk, OnErr, IsErr, IsErrOf, IsTrue};
+ghost use Rattle.crash_plant.specs.declared.layout.TheConstants.{SWITCH};
 ghost use Rattle.std.specs.Int.{w32, w64, to_be_bytes};
 ghost use Rattle.xrc_edge.specs.Causes.{HasCause, Rose};
 ghost use Rattle.crash_plant.specs.declared.device.Device.TheVariants.{Journal as JournalDevice};
@@ -14,9 +15,9 @@ ghost use Rattle.xrc_journal.specs.Records.{group_spelling, header_spelling, mos
 ghost use Rattle.xrc_journal.specs.Walks.{Adds, AllEnd, Appends, Logged};
 
 use crate::Body;
-use crate::header::{AROUND, FRONT, HEADER};
+use crate::layout::AROUND;
 use byteorder::{BigEndian, ByteOrder};
-use crash_plant::{Device, Plant, Spot, put_down};
+use crash_plant::{Device, FRONT, HEADER, Plant, Spot, put_down};
 use tod_stamp::Stamp;
 use xrc_edge::Failed;
 
@@ -75,7 +76,7 @@ fn put_group<P: Plant>(plant: &mut P, at: Spot, cut: Stamp, body: &Body) -> Resu
     requires fits { (P.state plant.old).lengths (JournalDevice at.set) < 2 ^ 64 }
     requires keep { AreItems (form_of (P.state plant.old)) body.now.items }
     requires short { length (body_spelling body.now.items) ≤ most_body }
-    requires room { at.place + 22 + length (body_spelling body.now.items) + 24 ≤ (P.state plant.old).lengths (JournalDevice at.set) }
+    requires room { at.place + FRONT + length (body_spelling body.now.items) + SWITCH ≤ (P.state plant.old).lengths (JournalDevice at.set) }
     requires number { at.number < 2 ^ 64 - 1 }
     ensures moments { let g : Logged = record { time = cut.0; items = body.now.items } in
         P.tells → (from : SpotValue) → Follows (Appends (form_of (P.state plant.old)) (P.state plant.old).journals from at g) (on (P.state plant.old) (JournalDevice at.set)) (on (P.state plant.new) (JournalDevice at.set)) }
@@ -102,7 +103,7 @@ impl Journal {
         body: &Body,
     ) -> Result<(), AppendError>
         requires there { IsThere (P.state plant.old) (JournalDevice self.old.at.set) }
-        requires room { self.old.at.place + 24 ≤ (P.state plant.old).lengths (JournalDevice self.old.at.set) }
+        requires room { self.old.at.place + SWITCH ≤ (P.state plant.old).lengths (JournalDevice self.old.at.set) }
         requires number { self.old.at.number ≤ 2 ^ 64 - 2 }
         // The body keeps the rules on one record.
         requires keep { AreItems (form_of (P.state plant.old)) body.now.items }
@@ -127,12 +128,12 @@ impl Journal {
         // Why it fails.
         ensures fault { (j : ℕ) → IsErrOf result (Fault j) → (j ≡ self.old.at.set) × Rose ((P.state plant.old).faults (JournalDevice j)) ((P.state plant.new).faults (JournalDevice j)) }
         ensures ok_without_fault { OnOk result ((P.state plant.new).faults (JournalDevice self.old.at.set) ≡ (P.state plant.old).faults (JournalDevice self.old.at.set)) }
-        ensures no_room { (needed free : ℕ) → IsErrOf result (NoRoom needed free) → (needed ≡ 22 + length (body_spelling body.now.items) + 24) × (free ≡ (P.state plant.old).lengths (JournalDevice self.old.at.set) - self.old.at.place) × (free < needed) }
+        ensures no_room { (needed free : ℕ) → IsErrOf result (NoRoom needed free) → (needed ≡ FRONT + length (body_spelling body.now.items) + SWITCH) × (free ≡ (P.state plant.old).lengths (JournalDevice self.old.at.set) - self.old.at.place) × (free < needed) }
         ensures no_room_without_fault { (needed free : ℕ) → IsErrOf result (NoRoom needed free) → (P.state plant.new).faults (JournalDevice self.old.at.set) ≡ (P.state plant.old).faults (JournalDevice self.old.at.set) }
         ensures untouched { P.tells → (needed free : ℕ) → IsErrOf result (NoRoom needed free) → Stays (on (P.state plant.old) (JournalDevice self.old.at.set)) (on (P.state plant.new) (JournalDevice self.old.at.set)) }
-        ensures refuses { let needed = 22 + length (body_spelling body.now.items) + 24 in
+        ensures refuses { let needed = FRONT + length (body_spelling body.now.items) + SWITCH in
             (P.state plant.old).lengths (JournalDevice self.old.at.set) < self.old.at.place + needed → IsErrOf result (NoRoom needed ((P.state plant.old).lengths (JournalDevice self.old.at.set) - self.old.at.place)) }
-        ensures has_room { self.old.at.place + 22 + length (body_spelling body.now.items) + 24 ≤ (P.state plant.old).lengths (JournalDevice self.old.at.set) → (needed free : ℕ) → ¬ IsErrOf result (NoRoom needed free) }
+        ensures has_room { self.old.at.place + FRONT + length (body_spelling body.now.items) + SWITCH ≤ (P.state plant.old).lengths (JournalDevice self.old.at.set) → (needed free : ℕ) → ¬ IsErrOf result (NoRoom needed free) }
     {
         let device = Device::Journal(self.at.set);
         let length = body.bytes().len() as u64;

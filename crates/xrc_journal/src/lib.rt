@@ -9,6 +9,8 @@ mod item;
 mod job;
 mod journal;
 mod laws;
+mod layout;
+mod lengths;
 mod reading;
 mod spot;
 pub mod vectors;
@@ -22,5 +24,7 @@ pub use laws::{
     items_are_spelled, items_read_back, switches_are_spelled, switches_are_walked, walks_are_one,
     walks_end_at_gates, walks_go_on,
 };
+pub use layout::{AROUND, BESIDE_CONTROLS, MOST_BODY, OF_CONTROL, ROW_ITEM};
+pub use lengths::journal_length;
 pub use reading::{BodyItem, first_item};
 pub use spot::{WalkError, Walked, walk};

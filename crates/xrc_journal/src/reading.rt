@@ -7,15 +7,10 @@ ghost use Rattle.xrc_journal.specs.Items.Item.{Gone, Pair};
 ghost use Rattle.xrc_journal.specs.Bodies.{BeginsWith, BeginsWithItem};
 ghost use Rattle.xrc_journal.specs.Views.{AreItemBytes, Tells, first_told, first_track};
 
+use crate::layout::{IMAGE_FRONT, ROW_ITEM};
 use byteorder::{BigEndian, ByteOrder};
 use ckd_track::Slot;
-use pair_table::{PairRow, decode_row};
-
-/// The bytes of an image's item before the image.
-const IMAGE_FRONT: usize = 7;
-
-/// The bytes of a row.
-const ROW: usize = 30;
+use pair_table::{PairRow, ROW_LENGTH, decode_row};
 
 /// An item of a body. The track of an image is read into a slot.
 #[derive(Clone, Copy, Debug, PartialEq, Eq)]
@@ -48,8 +43,8 @@ fn pair(bytes: &[u8]) -> PairRow
     requires tag { slice_index bytes.now 0 ≡ 3 }
     ensures { (row : RowValue) → BeginsWith bytes.now (Pair row) → result ≡ row }
 {
-    let mut row = [0; ROW];
-    row.copy_from_slice(&bytes[1..1 + ROW]);
+    let mut row = [0; ROW_LENGTH];
+    row.copy_from_slice(&bytes[1..ROW_ITEM]);
     match decode_row(&row) {
         Some(row) => row,
         None => unreachable!(),
@@ -78,7 +73,7 @@ pub fn first_item(slot: &mut Slot, bytes: &[u8]) -> Option<(BodyItem, usize)>
     }
     match bytes[0] {
         1 => Some(image(slot, bytes)),
-        3 => Some((BodyItem::Pair(pair(bytes)), 1 + ROW)),
+        3 => Some((BodyItem::Pair(pair(bytes)), ROW_ITEM)),
         _ => Some((
             BodyItem::Gone {
                 device: gone(bytes),

@@ -1,6 +1,7 @@
 //! What stands at a spot of the journal.
 
 ghost use Rattle.std.specs.Prelude.{◌≡◌, ◌≤◌, ◌<◌, ◌+◌, ◌-◌, ◌==◌, ◌^◌, [], ℕ, min, Some, IsSome, IfOk, slice_index, IsErrOf};
+ghost use Rattle.crash_plant.specs.declared.layout.TheConstants.{SWITCH};
 ghost use Rattle.xrc_edge.specs.Causes.{HasCause};
 ghost use Rattle.crash_plant.specs.declared.device.Device.TheVariants.{Journal as JournalDevice};
 ghost use Rattle.crash_plant.specs.Moments.{on, Follows, Same};
@@ -13,8 +14,8 @@ ghost use Rattle.tod_stamp.specs.declared.stamp.Stamp.{Stamp as StampValue};
 ghost use Rattle.xrc_journal.specs.declared.header.Header.TheVariants.{Group as GroupHeader};
 
 use crate::Body;
-use crate::header::{FRONT, HEADER, Header, decode_header};
-use crash_plant::{Device, Plant, Spot};
+use crate::header::{Header, decode_header};
+use crash_plant::{Device, FRONT, HEADER, Plant, Spot};
 use tod_stamp::Stamp;
 use xrc_edge::Failed;
 
@@ -56,11 +57,11 @@ fn read_gate<P: Plant>(plant: &mut P, at: Spot) -> Result<bool, Failed>
 /// What the header behind the gate at a spot says. None where it breaks a rule.
 fn read_header<P: Plant>(plant: &mut P, at: Spot, last: Stamp) -> Result<Option<Header>, Failed>
     requires there { IsThere (P.state plant.old) (JournalDevice at.set) }
-    requires range { at.place + 22 ≤ (P.state plant.old).lengths (JournalDevice at.set) }
-    requires fits { at.place + 22 < 2 ^ 64 }
+    requires range { at.place + FRONT ≤ (P.state plant.old).lengths (JournalDevice at.set) }
+    requires fits { at.place + FRONT < 2 ^ 64 }
     ensures number { IfOk result (λ header. IsSome header → at.number < 2 ^ 64 - 1) }
-    ensures room { IfOk result (λ header. (time : StampValue) (length : ℕ) → header ≡ Some (GroupHeader time length) → (length ≤ most_body) × (at.place + 22 + length + 24 ≤ (P.state plant.old).lengths (JournalDevice at.set))) }
-    ensures header { P.tells → IfOk result (λ header. header ≡ header_of (head_at ((P.state plant.old).lengths (JournalDevice at.set)) at last.0 (record { place = at.place + 1; bytes = stretch (at.place + 1) 21 ((P.state plant.old).bytes (JournalDevice at.set)) }))) }
+    ensures room { IfOk result (λ header. (time : StampValue) (length : ℕ) → header ≡ Some (GroupHeader time length) → (length ≤ most_body) × (at.place + FRONT + length + SWITCH ≤ (P.state plant.old).lengths (JournalDevice at.set))) }
+    ensures header { P.tells → IfOk result (λ header. header ≡ header_of (head_at ((P.state plant.old).lengths (JournalDevice at.set)) at last.0 (record { place = at.place + 1; bytes = stretch (at.place + 1) HEADER ((P.state plant.old).bytes (JournalDevice at.set)) }))) }
     ensures same { P.tells → (P.state plant.new).bytes (JournalDevice at.set) ≡ (P.state plant.old).bytes (JournalDevice at.set) }
     ensures moments { P.tells → Follows Same (on (P.state plant.old) (JournalDevice at.set)) (on (P.state plant.new) (JournalDevice at.set)) }
     ensures only { WorksOn P.tells (λ d. d ≡ JournalDevice at.set) (P.state plant.old) (P.state plant.new) }
@@ -82,8 +83,8 @@ fn walk_group<P: Plant>(
 ) -> Result<Walked, WalkError>
     requires there { IsThere (P.state plant.old) (JournalDevice at.set) }
     requires home { NoneLent (P.state plant.old) }
-    requires range { at.place + 22 + length + 24 ≤ (P.state plant.old).lengths (JournalDevice at.set) }
-    requires fits { at.place + 22 + length < 2 ^ 64 }
+    requires range { at.place + FRONT + length + SWITCH ≤ (P.state plant.old).lengths (JournalDevice at.set) }
+    requires fits { at.place + FRONT + length < 2 ^ 64 }
     requires number { at.number < 2 ^ 64 - 1 }
     requires room { length ≤ into.old.room }
     ensures finds { P.tells → NoFault result → Finds at.set (group_at (form_of (P.state plant.old)) ((P.state plant.old).bytes (JournalDevice at.set)) at time.0 length) result into.old into.new }
@@ -120,8 +121,8 @@ fn next_set(sets: u16, set: u16) -> u16
 /// The switch at a spot, whose header has this time.
 fn walk_switch<P: Plant>(plant: &mut P, at: Spot, time: Stamp) -> Result<Walked, WalkError>
     requires there { at.set < (P.state plant.old).journals }
-    requires range { at.place + 22 ≤ (P.state plant.old).lengths (JournalDevice at.set) }
-    requires fits { at.place + 22 < 2 ^ 64 }
+    requires range { at.place + FRONT ≤ (P.state plant.old).lengths (JournalDevice at.set) }
+    requires fits { at.place + FRONT < 2 ^ 64 }
     requires number { at.number < 2 ^ 64 - 1 }
     ensures goes_on { IfOk result (GoesOn (P.state plant.old) at) }
     ensures told { P.tells → NoFault result → result ≡ told_of at.set (switch_at (P.state plant.old).journals ((P.state plant.old).bytes (JournalDevice at.set)) at time.0) }

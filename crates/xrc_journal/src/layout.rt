@@ -1,0 +1,28 @@
+//! The numbers of items, of bodies, and of a journal. Each is said here alone.
+
+use ckd_track::BLOCKS_OF_QUEUE;
+use crash_plant::{FRONT, SWITCH};
+use pair_table::ROW_LENGTH;
+use tod_stamp::MOST_CONTROLS;
+use xrc_edge::BLOCK;
+
+/// The bytes of a device and a track of it.
+pub(crate) const TRACK: usize = 6;
+
+/// The bytes of an image's item before the image.
+pub(crate) const IMAGE_FRONT: usize = 1 + TRACK;
+
+/// The bytes of a row's item.
+pub const ROW_ITEM: usize = 1 + ROW_LENGTH;
+
+/// The bytes of a gate and a header, and the room that is kept behind a group for a switch.
+pub const AROUND: u64 = FRONT + SWITCH;
+
+/// The bytes of a journal beside those for the controls.
+pub const BESIDE_CONTROLS: u64 = 8_192;
+
+/// The bytes of a journal for each control: the blocks of its longest entries that wait.
+pub const OF_CONTROL: u64 = (BLOCKS_OF_QUEUE * BLOCK) as u64;
+
+/// The most bytes of a body: those of a journal of the most controls.
+pub const MOST_BODY: u32 = (BESIDE_CONTROLS + MOST_CONTROLS as u64 * OF_CONTROL) as u32;
