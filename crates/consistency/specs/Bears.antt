@@ -1,5 +1,6 @@
 -- What the images that a crash leaves must mean, where a run stands between two lines.
 use Rattle.std.specs.Prelude.{◌≡◌, ◌⊎◌, ℕ, ◌+◌, ◌≤◌, ◌<◌, ◌*◌, not, List, [], ◌∷◌, ◌++◌, map, Bool, true, false, Option, Some, None, is_none, slice_get, IsTrue}
+use Rattle.tod_stamp.specs.declared.limits.TheConstants.{TRACKS_OF_CYLINDER}
 use Rattle.write_trace.specs.declared.header.VolumeHead.{VolumeHead}
 use Rattle.write_trace.specs.declared.trace.Trace.{Trace}
 use Rattle.sidefile.specs.Breaks.{break_time}
@@ -107,9 +108,9 @@ AreRows run s time rows = elim s.pairs.is_ended [
 
 -- ---- the tracks
 
--- A volume has 15 tracks a cylinder.
+-- the tracks of a primary
 abbrev pub tracks_of : PairRow → ℕ
-tracks_of r = 15 * r.cylinders
+tracks_of r = TRACKS_OF_CYLINDER * r.cylinders
 
 -- Each duplex row's device has on each track the primary's track at the time: after exactly the writes stamped up to it.
 abbrev pub HoldsPrimaries : Run → Shape → Images → List PairRow → ℕ → Type 0
