@@ -1,10 +1,9 @@
 -- How volumes that were lent came through the lent time.
-use Rattle.std.proofs.Common.{◌≡◌, inl, inr, ℕ, ◌<◌, ◌≤◌, List, length, get_or, refl, sym, ◌∙◌, ap, subst, arith, set, length-set, Option, Some, None, IsSome}
+use Rattle.std.proofs.Common.{◌≡◌, inl, inr, ℕ, ◌<◌, List, length, get_or, refl, sym, ◌∙◌, ap, subst, arith, set, length-set, Option, Some, None, IsSome}
 use Rattle.std.proofs.lemmas.List.{get_or_default}
 use Rattle.crash_plant.specs.declared.device.Device.{Device}
 use Rattle.crash_plant.specs.declared.device.Device.TheVariants.{Volume}
 use Rattle.crash_plant.specs.Moments.{Standing, PlantState, on, Follows, Same, IsDurable}
-use Rattle.crash_plant.specs.Calls.{SameSite}
 use Rattle.crash_plant.specs.Choices.{AllFollow}
 use Rattle.crash_plant.proofs.Choices.{all_follow, part_cases}
 use Rattle.crash_plant.proofs.Steps.{kept_trans}
@@ -165,15 +164,3 @@ module _ {D : Type 0} (tells own : Type 0) (state : D → Standing) (start b c :
   pub lent_durable : tells → ((i : ℕ) (d : VolumeJob D) → i < length given → own → OnDisks (λ was is. IsDurable (state is)) (get_or lent i d).disk (get_or given i d).disk) → (d : Device) → IsLentTo given d → IsDurable (on c d)
   lent_durable told durable = of_lent (λ d. IsDurable (on c d)) (λ v was is. IsDurable (state is)) durable
       (λ v was is back known told_own. back_durable tells v start c (state was) (state is) told back (known (told_own told)))
-
--- Where devices were only read, each choice is one that was there.
-pub read_choices : (tells : Type 0) (a b : PlantState) → tells → SameSite a b → OnlyReads tells a b → AllFollow (λ old new. (d : Device) → new d ≡ old d) a b
-read_choices tells a b told site x t from to e is =
-    let all = all_follow (λ d. Same) a b site (λ d part. x.moments told d) t from to e is in
-    (all.0, all.1, λ d. elim (part_cases a d) [ inl part ↦ (all.2 d).0 part | inr out ↦ (all.2 d).1 out ])
-
--- A device that was durable is so still where it was only read.
-pub read_durable : (tells : Type 0) (a b : PlantState) (d : Device) → tells → a.clock ≤ b.clock → OnlyReads tells a b → IsDurable (on a d) → IsDurable (on b d)
-read_durable tells a b d told later x durable e left =
-    let was = x.moments told d b.clock later (omega arith) e left in
-    was.2 ∙ durable was.0 was.1 ∙ sym (x.bytes told d)

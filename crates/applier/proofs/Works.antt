@@ -1,9 +1,9 @@
 -- Calls on some devices, of which volumes may be lent and given back, one after another.
 use Rattle.std.proofs.Common.{◌∙◌, arith}
 use Rattle.crash_plant.specs.declared.device.Device.{Device}
-use Rattle.crash_plant.specs.declared.device.Device.TheVariants.{Control, State, Journal, Volume}
+use Rattle.crash_plant.specs.declared.device.Device.TheVariants.{Control}
 use Rattle.crash_plant.specs.Moments.{PlantState, on}
-use Rattle.crash_plant.specs.Calls.{IsThere, NoneLent, WorksOn}
+use Rattle.crash_plant.specs.Calls.{NoneLent, WorksOn}
 use Rattle.crash_plant.proofs.Steps.{site_trans, loan_trans, elapses_trans, silent_trans, stays_trans}
 use Rattle.applier.specs.Back.{WorksOnLent}
 
@@ -52,10 +52,3 @@ works_lent_more tells among more a b wider x = record {
 -- Where no volume was lent none is.
 pub none_lent_lent : (tells : Type 0) (among : Device → Type 0) (a b : PlantState) → WorksOnLent tells among a b → NoneLent a → NoneLent b
 none_lent_lent tells among a b x home v there = x.is_lent v ∙ home v (omega (arith, there, x.site.volumes))
-
--- A device that calls may name may be named after such calls, too.
-pub there_then_lent : (tells : Type 0) (among : Device → Type 0) (a b : PlantState) (d : Device) → WorksOnLent tells among a b → IsThere a d → IsThere b d
-there_then_lent tells among a b Control x there = tt
-there_then_lent tells among a b State x there = tt
-there_then_lent tells among a b (Journal j) x there = omega (arith, there, x.site.journals)
-there_then_lent tells among a b (Volume v) x there = (omega (arith, there.0, x.site.volumes), x.is_lent v ∙ there.1)

@@ -2,10 +2,8 @@
 #![tactic(auto)]
 
 mod applying;
-mod laws;
 mod loans;
 
 pub use applying::apply_volume;
-pub use laws::volumes_stay_out;
 pub use loans::{give_back_all, lend_all};
 pub use xrc_journal::VolumeJob;

@@ -2,62 +2,52 @@
 use Rattle.std.proofs.Common.{◌≡◌, ◌≢◌, ℕ, ◌+◌, ◌<◌, List, [], length, get_or, take, sym, ◌∙◌, ap, subst, arith, inl, inr}
 use Rattle.std.specs.List.{All, AllPairs, remove}
 use Rattle.std.proofs.lemmas.Bool.{cases_lt, cases_order, eq-eqb, ne_eqb, cond-true, cond-false}
-use Rattle.std.proofs.lemmas.List.{get_or-set_same, get_or-set_other, get_or_past, set_past, get_or_default, take_all}
+use Rattle.std.proofs.lemmas.List.{get_or-set_other, get_or_past, set_past, get_or_default}
 use Rattle.std.proofs.lemmas.List.Edits.{length-remove, get_or-remove_below, get_or-remove_above}
 use Rattle.std.proofs.lemmas.List.Elements.{All-push}
 use Rattle.std.proofs.lemmas.List.Folds.{sum_by-replicate}
 use Rattle.std.proofs.lemmas.List.Quantifiers.{all_pairs_push, all_pairs_remove}
 use Rattle.std.proofs.lemmas.List.Sums.{sum_by-set, sum_by_push, sum_by-remove}
 use Rattle.block_region.specs.Blocks.{blocks_of}
-use Rattle.block_region.specs.Regions.{RegionState, ChainState, bytes_at, Holds, with_bytes, without_chain, taken_blocks}
-use Rattle.block_region.specs.Laws.{BeginApart, AreAllOut, IsKept, TakesKeepChains, GivesKeepChains, GivenChainsAreGone, NoneAreOut, TakenChainsAreOut, GivenChainsLeaveTheRest, BlocksAddUp}
+use Rattle.block_region.specs.Regions.{RegionState, ChainState, chain_bytes_at, Holds, with_chain, without_chain, taken_blocks}
+use Rattle.block_region.specs.Laws.{BeginApart, AreAllOut, IsKept, NoneAreOut, TakenChainsAreOut, GivenChainsLeaveTheRest, BlocksAddUp}
 
 abbrev chain_blocks : ChainState → ℕ
 chain_blocks chain = blocks_of chain.len
 
 -- a chain whose block holds the same bytes is kept
-same_kept : (before after : RegionState) (chain : ChainState) → Holds before chain → (0 < chain.len → bytes_at after chain.first ≡ bytes_at before chain.first) → IsKept before after chain
+same_kept : (before after : RegionState) (chain : ChainState) → Holds before chain → (0 < chain.len → chain_bytes_at after chain.first ≡ chain_bytes_at before chain.first) → IsKept before after chain
 same_kept before after chain held same = record {
   held = λ some. ap length (same some) ∙ held some;
   bytes = elim (cases_lt 0 chain.len) [
     | inl some ↦ ap (take chain.len) (same some)
     | inr none ↦
         let e : chain.len ≡ 0 = omega arith in
-        ap (λ n. take n (bytes_at after chain.first)) e ∙ sym (ap (λ n. take n (bytes_at before chain.first)) e)
+        ap (λ n. take n (chain_bytes_at after chain.first)) e ∙ sym (ap (λ n. take n (chain_bytes_at before chain.first)) e)
   ];
 }
 
-pub takes_keep : TakesKeepChains
+-- A take keeps every chain that is held.
+takes_keep : (region : RegionState) (first : ℕ) (bytes : List ℕ) (other : ChainState) → chain_bytes_at region first ≡ [] → Holds region other
+    → IsKept region (with_chain region first bytes) other
 takes_keep region first bytes other fresh held =
-    same_kept region (with_bytes region first bytes) other held
-    (λ some. get_or-set_other region.chains first other.first bytes [] (λ same. absurd (omega (arith, held some, ap (λ b. length (bytes_at region b)) same, ap length fresh))))
+    same_kept region (with_chain region first bytes) other held
+    (λ some. get_or-set_other region.chains first other.first bytes [] (λ same. absurd (omega (arith, held some, ap (λ b. length (chain_bytes_at region b)) same, ap length fresh))))
 
-without_is : (region : RegionState) (chain : ChainState) → 0 < chain.len → without_chain region chain ≡ with_bytes region chain.first []
-without_is region chain some = cond-false _ region (with_bytes region chain.first []) (ne_eqb chain.len 0 (λ none. omega arith))
+without_is : (region : RegionState) (chain : ChainState) → 0 < chain.len → without_chain region chain ≡ with_chain region chain.first []
+without_is region chain some = cond-false _ region (with_chain region chain.first []) (ne_eqb chain.len 0 (λ none. omega arith))
 
 without_none : (region : RegionState) (chain : ChainState) → chain.len ≡ 0 → without_chain region chain ≡ region
-without_none region chain none = cond-true _ region (with_bytes region chain.first []) (eq-eqb chain.len 0 none)
+without_none region chain none = cond-true _ region (with_chain region chain.first []) (eq-eqb chain.len 0 none)
 
-pub gives_keep : GivesKeepChains
+-- A give keeps every other chain that is held.
+gives_keep : (region : RegionState) (chain other : ChainState) → BeginApart chain other → Holds region other → IsKept region (without_chain region chain) other
 gives_keep region chain other apart held = same_kept region (without_chain region chain) other held (λ some. elim (cases_lt 0 chain.len) [
   | inl has ↦
-      ap (λ (r : RegionState). bytes_at r other.first) (without_is region chain has)
+      ap (λ (r : RegionState). chain_bytes_at r other.first) (without_is region chain has)
       ∙ get_or-set_other region.chains chain.first other.first [] [] (λ same. apart has some (sym same))
-  | inr none ↦ ap (λ (r : RegionState). bytes_at r other.first) (without_none region chain (omega arith))
+  | inr none ↦ ap (λ (r : RegionState). chain_bytes_at r other.first) (without_none region chain (omega arith))
 ])
-
--- no chain begins where one was given back
-empty_there : (region : RegionState) (chain : ChainState) → 0 < chain.len → bytes_at (without_chain region chain) chain.first ≡ []
-empty_there region chain some = ap (λ (r : RegionState). bytes_at r chain.first) (without_is region chain some) ∙ elim (cases_lt chain.first (length region.chains)) [
-  | inl below ↦ get_or-set_same region.chains chain.first [] [] below
-  | inr past ↦ ap (λ (chains : List (List ℕ)). get_or chains chain.first []) (set_past region.chains chain.first [] past) ∙ get_or_past region.chains chain.first [] past
-]
-
-pub given_gone : GivenChainsAreGone
-given_gone region chain some = (
-  λ held. omega (arith, held some, ap length (empty_there region chain some)),
-  ap (take chain.len) (empty_there region chain some) ∙ take_all chain.len [] (omega arith),
-)
 
 pub none_out : NoneAreOut
 none_out blocks = record {
@@ -70,8 +60,8 @@ abbrev taken_of : List ℕ → ℕ
 taken_of bytes = blocks_of (length bytes)
 
 -- a take takes the blocks of its bytes
-taken_more : (region : RegionState) (chain : ChainState) (bytes : List ℕ) → chain.len ≡ length bytes → bytes_at region chain.first ≡ [] → Holds (with_bytes region chain.first bytes) chain
-    → taken_blocks (with_bytes region chain.first bytes) ≡ taken_blocks region + blocks_of chain.len
+taken_more : (region : RegionState) (chain : ChainState) (bytes : List ℕ) → chain.len ≡ length bytes → chain_bytes_at region chain.first ≡ [] → Holds (with_chain region chain.first bytes) chain
+    → taken_blocks (with_chain region chain.first bytes) ≡ taken_blocks region + blocks_of chain.len
 taken_more region chain bytes size fresh held = elim (cases_lt chain.first (length region.chains)) [
   | inl below ↦ omega (arith, sum_by-set taken_of region.chains chain.first bytes [] below, ap taken_of fresh, ap blocks_of size)
   | inr past ↦
@@ -99,12 +89,12 @@ taken_less region chain held = elim (cases_lt 0 chain.len) [
 
 pub taken_out : TakenChainsAreOut
 taken_out region chains chain bytes all size fresh held =
-    let after = with_bytes region chain.first bytes in
+    let after = with_chain region chain.first bytes in
     let kept : All (IsKept region after) chains = λ k d lt. takes_keep region chain.first bytes (get_or chains k d) fresh (all.held k d lt) in (
       record {
         held = All-push (Holds after) chains chain (λ k d lt. (kept k d lt).held) held;
         apart = all_pairs_push BeginApart chains chain all.apart (λ k d lt some more same.
-            absurd (omega (arith, all.held k d lt some, ap (λ b. length (bytes_at region b)) same, ap length fresh)));
+            absurd (omega (arith, all.held k d lt some, ap (λ b. length (chain_bytes_at region b)) same, ap length fresh)));
         whole = omega (arith, sum_by_push chain_blocks chains chain, all.whole, taken_more region chain bytes size fresh held);
       },
       kept,

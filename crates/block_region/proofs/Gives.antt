@@ -3,7 +3,7 @@ use Rattle.std.proofs.Common.{◌≡◌, ℕ, ◌+◌, ◌-◌, ◌<◌, ◌^◌
 use Rattle.std.proofs.lemmas.Bool.{ne_eqb, cond-false}
 use Rattle.std.proofs.lemmas.List.{length-set}
 use Rattle.block_region.specs.Blocks.{blocks_of}
-use Rattle.block_region.specs.Regions.{RegionState, ChainState, Holds, with_bytes, without_chain, block_count, taken_blocks, free_blocks}
+use Rattle.block_region.specs.Regions.{RegionState, ChainState, Holds, with_chain, without_chain, block_count, taken_blocks, free_blocks}
 use Rattle.block_region.specs.Runs.{hop, chains_from, KeepsRuns}
 use Rattle.block_region.specs.declared.region.Region.TheInside.{Inside}
 use Rattle.block_region.specs.declared.chain.Chain.TheInside.{Inside as ChainInside}
@@ -49,15 +49,15 @@ gives bytes next lens first_free free first len count last region chain kept vie
         (subst (λ n. KeepsRuns bytes (set next (last_block bytes next lens first_free free first kept some') first_free) (set lens first 0) first (free + n)) (sym all)
         (given_keeps bytes next lens first_free free first kept some'))
 
-    without : without_chain region chain ≡ with_bytes region first []
-    without = subst (λ (c : ChainState). without_chain region c ≡ with_bytes region first []) seen
-        (cond-false _ region (with_bytes region first []) (ne_eqb len 0 (λ none. omega arith)))
+    without : without_chain region chain ≡ with_chain region first []
+    without = subst (λ (c : ChainState). without_chain region c ≡ with_chain region first []) seen
+        (cond-false _ region (with_chain region first []) (ne_eqb len 0 (λ none. omega arith)))
 
     given : record { chains = chains_from bytes (set next last first_free) 0 (set lens first 0) } ≡ without_chain region chain
     given =
         ap (λ b. record { chains = chains_from bytes (set next b first_free) 0 (set lens first 0) }) last_same
         ∙ ap (λ (chains : List (List ℕ)). record { chains = chains }) (given_chains bytes next lens first_free free first kept some')
-        ∙ ap (λ (r : RegionState). with_bytes r first []) view
+        ∙ ap (λ (r : RegionState). with_chain r first []) view
         ∙ sym without
 
     new_room : free + count + taken_blocks (without_chain region chain) ≡ block_count (without_chain region chain)

@@ -3,7 +3,7 @@ use Rattle.std.proofs.Common.{◌≡◌, ℕ, ◌+◌, ◌-◌, ◌<◌, ◌≤�
 use Rattle.std.proofs.lemmas.List.{get_or-set_same, length-set, set_past, get_or_past, with_items_is}
 use Rattle.std.specs.Vec.{with_items}
 use Rattle.block_region.specs.Blocks.{blocks_of, block_at}
-use Rattle.block_region.specs.Regions.{RegionState, bytes_at, with_bytes, block_count, taken_blocks, free_blocks}
+use Rattle.block_region.specs.Regions.{RegionState, chain_bytes_at, with_chain, block_count, taken_blocks, free_blocks}
 use Rattle.block_region.specs.Runs.{hop, run_bytes, chains_from, KeepsRuns}
 use Rattle.block_region.specs.declared.region.Region.TheInside.{Inside}
 use Rattle.block_region.proofs.RunLaws.{length-chains, chain_of}
@@ -25,10 +25,10 @@ filled_in old new next seen_old seen_next first given behind a b fact =
 pub record Taken (bytes' next lens : List ℕ) (first_free free count behind : ℕ) (region : RegionState) (given : List ℕ) : Type 0 where
   pub first_inside : first_free < length lens
   pub keeps : KeepsRuns bytes' next (set lens first_free (length given)) behind (free - count)
-  pub fresh : bytes_at region first_free ≡ []
-  pub taken : record { chains = chains_from bytes' next 0 (set lens first_free (length given)) } ≡ with_bytes region first_free given
-  pub begins : bytes_at (with_bytes region first_free given) first_free ≡ given
-  pub room : free_blocks (with_bytes region first_free given) + blocks_of (length given) ≡ free_blocks region
+  pub fresh : chain_bytes_at region first_free ≡ []
+  pub taken : record { chains = chains_from bytes' next 0 (set lens first_free (length given)) } ≡ with_chain region first_free given
+  pub begins : chain_bytes_at (with_chain region first_free given) first_free ≡ given
+  pub room : free_blocks (with_chain region first_free given) + blocks_of (length given) ≡ free_blocks region
 
 pub takes : (bytes bytes' put next lens : List ℕ) (first_free free count behind : ℕ) (region : RegionState) (given : List ℕ) → KeepsRuns bytes next lens first_free free
     → record { chains = chains_from bytes next 0 lens } ≡ region → Filled bytes put next first_free given behind → bytes' ≡ put
@@ -37,7 +37,7 @@ pub takes : (bytes bytes' put next lens : List ℕ) (first_free free count behin
 takes bytes bytes' put next lens first_free free count behind region given kept view fill is count_is room some = record {
   first_inside = inside;
   keeps = keeps;
-  fresh = ap (λ (r : RegionState). bytes_at r first_free) (sym view) ∙ chain_of bytes next lens first_free inside ∙ ap (λ n. run_bytes bytes next first_free n) fresh_len;
+  fresh = ap (λ (r : RegionState). chain_bytes_at r first_free) (sym view) ∙ chain_of bytes next lens first_free inside ∙ ap (λ n. run_bytes bytes next first_free n) fresh_len;
   taken = taken;
   begins = get_or-set_same region.chains first_free given [] (omega (arith, inside, length-chains bytes next 0 lens, ap (λ (r : RegionState). block_count r) view));
   room = omega (arith, room_is bytes next lens first_free free kept region view, new_room, length-set region.chains first_free given);
@@ -61,16 +61,16 @@ takes bytes bytes' put next lens first_free free count behind region given kept 
         (subst (λ n. KeepsRuns bytes' next (set lens first_free (length given)) (hop next (blocks_of (length given)) first_free) (free - n)) (sym count_is)
         (taken_keeps bytes bytes' next lens first_free free (length given) kept some fits (ap length is ∙ fill.len)))
 
-    taken : record { chains = chains_from bytes' next 0 (set lens first_free (length given)) } ≡ with_bytes region first_free given
+    taken : record { chains = chains_from bytes' next 0 (set lens first_free (length given)) } ≡ with_chain region first_free given
     taken =
         ap (λ (chains : List (List ℕ)). record { chains = chains })
         (taken_chains bytes bytes' next lens first_free free (length given) kept some fits given
         (λ other apart. ap (λ (b : List ℕ). block_at b other) is ∙ fill.others other apart)
         (ap (λ (b : List ℕ). run_bytes b next first_free (length given)) is ∙ fill.filled))
-        ∙ ap (λ (r : RegionState). with_bytes r first_free given) view
+        ∙ ap (λ (r : RegionState). with_chain r first_free given) view
 
-    new_room : free - count + taken_blocks (with_bytes region first_free given) ≡ block_count (with_bytes region first_free given)
-    new_room = room_is bytes' next (set lens first_free (length given)) behind (free - count) keeps (with_bytes region first_free given) taken
+    new_room : free - count + taken_blocks (with_chain region first_free given) ≡ block_count (with_chain region first_free given)
+    new_room = room_is bytes' next (set lens first_free (length given)) behind (free - count) keeps (with_chain region first_free given) taken
 
 -- the same of a region's fields, where they were seen as slices
 pub took : (r : Inside) (region : RegionState) (given old links put : List ℕ) (count behind : ℕ) → KeepsRuns r.bytes.items r.next.items r.lens.items r.first_free r.free
@@ -87,7 +87,7 @@ took r region given old links put count behind kept view same_bytes same_next le
 
 -- A chain of no bytes begins at no block.
 pub takes_none : (bytes next lens : List ℕ) (first_free free none : ℕ) (region : RegionState) (given : List ℕ) → KeepsRuns bytes next lens first_free free
-    → record { chains = chains_from bytes next 0 lens } ≡ region → none ≡ 2 ^ 32 - 1 → (bytes_at region none ≡ []) × (region ≡ with_bytes region none given)
+    → record { chains = chains_from bytes next 0 lens } ≡ region → none ≡ 2 ^ 32 - 1 → (chain_bytes_at region none ≡ []) × (region ≡ with_chain region none given)
 takes_none bytes next lens first_free free none region given kept view is =
     let past : length region.chains ≤ none = omega (arith, kept.few, kept.rows, length-chains bytes next 0 lens, ap (λ (r : RegionState). block_count r) view) in (
       get_or_past region.chains none [] past,

@@ -5,7 +5,7 @@ use Rattle.std.proofs.lemmas.Bool.{cases_lt}
 use Rattle.std.proofs.lemmas.List.{get_or_past, take_all}
 use Rattle.std.proofs.lemmas.List.Sums.{get_or-le-sum_by}
 use Rattle.block_region.specs.Blocks.{blocks_of}
-use Rattle.block_region.specs.Regions.{RegionState, ChainState, Holds, chain_bytes, bytes_at, taken_blocks, block_count}
+use Rattle.block_region.specs.Regions.{RegionState, ChainState, Holds, chain_bytes, chain_bytes_at, taken_blocks, block_count}
 use Rattle.block_region.specs.Runs.{run_bytes, chains_from, IsRun, KeepsRuns}
 use Rattle.block_region.proofs.RunLaws.{length-run, length-chains, chain_of, taken-chains}
 
@@ -53,8 +53,8 @@ module _ (bytes next lens : List ℕ) (first_free free : ℕ) (kept : KeepsRuns 
       len_is =
           let same_first : first ≡ chain.first = ap (λ (c : ChainState). c.first) seen in
           let same_len : len ≡ chain.len = ap (λ (c : ChainState). c.len) seen in
-          sym (length_of first) ∙ ap (λ (r : RegionState). length (bytes_at r first)) view
-          ∙ ap (λ b. length (bytes_at region b)) same_first ∙ held (omega arith) ∙ sym same_len
+          sym (length_of first) ∙ ap (λ (r : RegionState). length (chain_bytes_at r first)) view
+          ∙ ap (λ b. length (chain_bytes_at region b)) same_first ∙ held (omega arith) ∙ sym same_len
 
       pub read_is : (count : ℕ) → count ≡ chain.len → run_bytes bytes next first count ≡ chain_bytes region chain
       read_is count size =
@@ -67,6 +67,6 @@ module _ (bytes next lens : List ℕ) (first_free free : ℕ) (kept : KeepsRuns 
           let whole : count ≡ get_or lens first 0 = size ∙ sym same_len ∙ sym len_is in
           ap (λ n. run_bytes bytes next first n) whole
           ∙ sym (chain_of bytes next lens first below)
-          ∙ ap (λ (r : RegionState). bytes_at r first) view
-          ∙ ap (λ b. bytes_at region b) same_first
-          ∙ sym (take_all chain.len (bytes_at region chain.first) (omega (arith, held (omega arith))))
+          ∙ ap (λ (r : RegionState). chain_bytes_at r first) view
+          ∙ ap (λ b. chain_bytes_at region b) same_first
+          ∙ sym (take_all chain.len (chain_bytes_at region chain.first) (omega (arith, held (omega arith))))

@@ -2,7 +2,7 @@
 use Rattle.std.specs.Prelude.{◌≡◌, ℕ, ◌<◌, ◌≤◌, ◌+◌, List, [], ◌∷◌, ◌++◌, length, get_or, sum_by}
 use Rattle.std.specs.List.{All, AllPairs, remove}
 use Rattle.block_region.specs.Blocks.{blocks_of}
-use Rattle.block_region.specs.Regions.{RegionState, ChainState, empty_region, bytes_at, chain_bytes, Holds, with_bytes, without_chain, block_count, taken_blocks, free_blocks}
+use Rattle.block_region.specs.Regions.{RegionState, ChainState, empty_region, chain_bytes_at, chain_bytes, Holds, with_chain, without_chain, block_count, taken_blocks, free_blocks}
 
 -- Two chains begin at different blocks, where both have blocks.
 abbrev pub BeginApart : ChainState → ChainState → Type 0
@@ -19,19 +19,6 @@ pub record IsKept (before after : RegionState) (chain : ChainState) : Type 0 whe
   pub held : Holds after chain
   pub bytes : chain_bytes after chain ≡ chain_bytes before chain
 
--- A take keeps every chain that is held.
-abbrev pub TakesKeepChains : Type 0
-TakesKeepChains = (region : RegionState) (first : ℕ) (bytes : List ℕ) (other : ChainState) → bytes_at region first ≡ [] → Holds region other
-    → IsKept region (with_bytes region first bytes) other
-
--- A give keeps every other chain that is held.
-abbrev pub GivesKeepChains : Type 0
-GivesKeepChains = (region : RegionState) (chain other : ChainState) → BeginApart chain other → Holds region other → IsKept region (without_chain region chain) other
-
--- A chain that was given back is not held any longer, and nothing of it can be read.
-abbrev pub GivenChainsAreGone : Type 0
-GivenChainsAreGone = (region : RegionState) (chain : ChainState) → 0 < chain.len → ¬ (Holds (without_chain region chain) chain) × (chain_bytes (without_chain region chain) chain ≡ [])
-
 -- In a region with no chain out, the chains that are out are none.
 abbrev pub NoneAreOut : Type 0
 NoneAreOut = (blocks : ℕ) → AreAllOut (empty_region blocks) []
@@ -39,8 +26,8 @@ NoneAreOut = (blocks : ℕ) → AreAllOut (empty_region blocks) []
 -- A new chain goes behind those that are out.
 abbrev pub TakenChainsAreOut : Type 0
 TakenChainsAreOut = (region : RegionState) (chains : List ChainState) (chain : ChainState) (bytes : List ℕ) → AreAllOut region chains
-    → chain.len ≡ length bytes → bytes_at region chain.first ≡ [] → Holds (with_bytes region chain.first bytes) chain
-    → AreAllOut (with_bytes region chain.first bytes) (chains ++ chain ∷ []) × All (IsKept region (with_bytes region chain.first bytes)) chains
+    → chain.len ≡ length bytes → chain_bytes_at region chain.first ≡ [] → Holds (with_chain region chain.first bytes) chain
+    → AreAllOut (with_chain region chain.first bytes) (chains ++ chain ∷ []) × All (IsKept region (with_chain region chain.first bytes)) chains
 
 -- A chain that is given back leaves the others out.
 abbrev pub GivenChainsLeaveTheRest : Type 0

@@ -5,9 +5,9 @@
 --
 -- A caller keeps its chains in a list of its own, as a queue does with those of its waiting writes, and one fact with it:
 -- `AreAllOut region chains`, that these are all the chains which are out, each held and no two of them one. What waits at a place
--- is `chain_bytes region chain`. A take puts its chain behind the list (`taken_chains_are_out`), a give takes one out at any place
--- (`given_chains_leave_the_rest`), and both leave the bytes of all others as they are; so what waits changes by that one entry.
--- The free blocks are the region's less the sum over the list (`blocks_add_up`).
+-- is `chain_bytes region chain`. A take puts its chain behind the list, a give takes one out at any place, and both leave the bytes
+-- of all others as they are; so what waits changes by that one entry. The free blocks are the region's less the sum over the list.
+-- The law `takes_keep_chains` says all this.
 use Rattle.std.specs.Prelude.{◌≡◌, ℕ, ◌-◌, ◌<◌, ◌==◌, List, [], length, get_or, take, set, replicate, sum_by, if◌then◌else◌}
 use Rattle.block_region.specs.Blocks.{blocks_of}
 
@@ -26,24 +26,24 @@ abbrev pub empty_region : (blocks : ℕ) → RegionState
 empty_region blocks = record { chains = replicate blocks [] }
 
 -- the bytes of the chain that begins at a block
-abbrev pub bytes_at : RegionState → (first : ℕ) → List ℕ
-bytes_at region first = get_or region.chains first []
+abbrev pub chain_bytes_at : RegionState → (first : ℕ) → List ℕ
+chain_bytes_at region first = get_or region.chains first []
 
 -- the bytes of a chain
 abbrev pub chain_bytes : RegionState → ChainState → List ℕ
-chain_bytes region chain = take chain.len (bytes_at region chain.first)
+chain_bytes region chain = take chain.len (chain_bytes_at region chain.first)
 
 -- A region holds a chain where one of that length begins at its first block. Each region holds a chain of no bytes.
 abbrev pub Holds : RegionState → ChainState → Type 0
-Holds region chain = 0 < chain.len → length (bytes_at region chain.first) ≡ chain.len
+Holds region chain = 0 < chain.len → length (chain_bytes_at region chain.first) ≡ chain.len
 
 -- the region with a chain of these bytes at a block, or with none where there are no bytes
-abbrev pub with_bytes : RegionState → (first : ℕ) → (bytes : List ℕ) → RegionState
-with_bytes region first bytes = record { chains = set region.chains first bytes }
+abbrev pub with_chain : RegionState → (first : ℕ) → (bytes : List ℕ) → RegionState
+with_chain region first bytes = record { chains = set region.chains first bytes }
 
 -- the region without a chain
 abbrev pub without_chain : RegionState → ChainState → RegionState
-without_chain region chain = (if chain.len == 0 then region else with_bytes region chain.first [])
+without_chain region chain = (if chain.len == 0 then region else with_chain region chain.first [])
 
 -- ---- room
 

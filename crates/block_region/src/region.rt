@@ -2,7 +2,7 @@
 
 ghost use Rattle.std.specs.Prelude.{◌≡◌, ◌+◌, ◌<◌, ◌≤◌, ◌^◌, ◌↔◌, [], length, IfOk, OnErr, IsErr, IfErr};
 ghost use Rattle.block_region.specs.Blocks.{blocks_of};
-ghost use Rattle.block_region.specs.Regions.{empty_region, bytes_at, chain_bytes, Holds, with_bytes, without_chain, block_count, taken_blocks, free_blocks};
+ghost use Rattle.block_region.specs.Regions.{empty_region, chain_bytes_at, chain_bytes, Holds, with_chain, without_chain, block_count, taken_blocks, free_blocks};
 
 use crate::chain::{Chain, Full};
 use crate::runs::{block_after, blocks_of, fill, gather, linked};
@@ -62,8 +62,8 @@ impl Region {
     pub fn take(&mut self, bytes: &[u8]) -> Result<Chain, Full>
         requires { length bytes.now ≤ 2 ^ 40 }
         ensures len { IfOk result (λ chain. chain.len ≡ length bytes.now) }
-        ensures fresh { IfOk result (λ chain. bytes_at self.old chain.first ≡ []) }
-        ensures taken { IfOk result (λ chain. self.new ≡ with_bytes self.old chain.first bytes.now) }
+        ensures fresh { IfOk result (λ chain. chain_bytes_at self.old chain.first ≡ []) }
+        ensures taken { IfOk result (λ chain. self.new ≡ with_chain self.old chain.first bytes.now) }
         ensures held { IfOk result (λ chain. Holds self.new chain) }
         ensures bytes { IfOk result (λ chain. chain_bytes self.new chain ≡ bytes.now) }
         ensures room { IfOk result (λ _. free_blocks self.new + blocks_of (length bytes.now) ≡ free_blocks self.old) }

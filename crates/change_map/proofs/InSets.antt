@@ -1,9 +1,9 @@
 -- Sets as lists of flags: which tracks they have, how many, and the least from a place on.
 use Rattle.std.proofs.Common.{nat_eq, nat_lt, not, ◌&&◌, ◌≡◌, ℕ, zero, suc, ◌+◌, ◌-◌, ◌<◌, ◌≤◌, Bool, true, false, cond, ◌||◌, List, [], ◌∷◌, length, drop, inl, inr, refl, sym, ap, ◌∙◌, arith, Option, Some, None}
 use Rattle.std.specs.Prelude.{IfSome}
-use Rattle.std.proofs.lemmas.Bool.{cases_lt, cases_eq, cond-true, cond-false, true≢false, false_from_ne_true, lt-ltb, le-ltb, eq-eqb, ne_eqb}
+use Rattle.std.proofs.lemmas.Bool.{cases_lt, cases_eq, cond-true, cond-false, true≢false, lt-ltb, le-ltb, eq-eqb, ne_eqb}
 use Rattle.std.proofs.lemmas.List.{ext_get_or, get_or-drop, get_or_past, get_or-replicate, get_or-set_same, get_or-set_other, length-set, length-replicate}
-use Rattle.std.proofs.lemmas.List.Sums.{sum_by-cons, sum_by-set, count_by-le-length}
+use Rattle.std.proofs.lemmas.List.Sums.{sum_by-set}
 use Rattle.change_map.specs.Sets.{no_track, every_track, has_track, with_track, without_track, union, size, first_from, least_from, IsLeastFrom, HasNoneFrom}
 
 -- a track that a set has is one of its tracks
@@ -178,30 +178,6 @@ same_set tracks others long each = ext_get_or false tracks others long (λ x _. 
 
 -- ---- how many tracks a set has
 
-pub size_none : (n : ℕ) → size (no_track n) ≡ 0
-size_none zero = refl
-size_none (suc n) = omega (arith, sum_by-cons (λ b. cond b 1 0) false (no_track n), size_none n)
-
-pub size_every : (n : ℕ) → size (every_track n) ≡ n
-size_every zero = refl
-size_every (suc n) = omega (arith, sum_by-cons (λ b. cond b 1 0) true (every_track n), size_every n)
-
-pub size_within : (tracks : List Bool) → size tracks ≤ length tracks
-size_within tracks = count_by-le-length (λ b. b) tracks
-
-pub size_with : (tracks : List Bool) (x : ℕ) → x < length tracks → has_track tracks x ≡ false → size (with_track tracks x) ≡ size tracks + 1
-size_with tracks x within unset =
-    omega (arith, sum_by-set (λ b. cond b 1 0) tracks x true false within, ap {B = ℕ} (λ b. cond b 1 0) unset)
-
 pub size_without : (tracks : List Bool) (x : ℕ) → has_track tracks x ≡ true → size (without_track tracks x) + 1 ≡ size tracks
 size_without tracks x had =
     omega (arith, sum_by-set (λ b. cond b 1 0) tracks x false false (had_within tracks x had), ap {B = ℕ} (λ b. cond b 1 0) had)
-
-pub size_is_none : (tracks : List Bool) → size tracks ≡ 0 → (x : ℕ) → has_track tracks x ≡ false
-size_is_none tracks none x = false_from_ne_true (has_track tracks x) (
-    λ had. omega (arith, size_without tracks x had)
-    )
-
-pub none_is : (tracks : List Bool) → ((x : ℕ) → has_track tracks x ≡ false) → tracks ≡ no_track (length tracks)
-none_is tracks none =
-    same_set tracks (no_track (length tracks)) (sym (length-replicate (length tracks) false)) (λ x. none x ∙ sym (has_none (length tracks) x))

@@ -7,5 +7,5 @@ mod map;
 mod plain;
 mod words;
 
-pub use laws::{changes_keep_length, least_is_least, sets_have_their_tracks, sizes_follow_changes};
+pub use laws::sets_have_their_tracks;
 pub use map::ChangeMap;

@@ -8,7 +8,7 @@ use Rattle.std.proofs.lemmas.List.{append-nil, take_at, drop_at, take-append-dro
 use Rattle.std.proofs.lemmas.List.Concat.{flat_map-append}
 use Rattle.std.proofs.lemmas.List.Sums.{sum_by-append}
 use Rattle.ckd_track.specs.declared.rec.Rec.{Rec}
-use Rattle.ckd_track.specs.Tracks.{size, track_size, capacity, rises_above, are_records_above, IsTrack, last_number}
+use Rattle.ckd_track.specs.Tracks.{record_size, track_size, capacity, rises_above, are_records_above, IsTrack, last_number}
 use Rattle.ckd_track.specs.Effects.{has_record, up_to, fitting, formatted}
 use Rattle.ckd_track.specs.Images.{record_spelling, image, longest_image}
 use Rattle.ckd_track.proofs.ImageLaws.{count_of}
@@ -16,7 +16,7 @@ use Rattle.ckd_track.proofs.ImageLaws.{both_true}
 use Rattle.ckd_track.proofs.TrackLaws.{and_true}
 use Rattle.ckd_track.specs.declared.fronts.Front.{Front}
 use Rattle.ckd_track.specs.Places.{no_front, front_up_to, front_fitting}
-use Rattle.ckd_track.specs.Slots.{IsImage, HoldsImage, track_of, slot_size, with_bytes}
+use Rattle.ckd_track.specs.Slots.{IsImage, HoldsImage, track_of_image, slot_size, with_bytes}
 use Rattle.ckd_track.proofs.Parts.{image_is_image, track_of-image, length-image}
 use Rattle.ckd_track.proofs.RowLaws.{track_rises, last_up_to}
 use Rattle.ckd_track.proofs.FrontLaws.{IsFront, up_to_is, last_found, fitting_is, rises_fitting, rises_behind, rises_lower}
@@ -54,7 +54,7 @@ made after given track kept is above kept_is =
       room = omega (arith, first.room);
       is_track = and_true (rises_above 0 (up_to after track ++ fits)) (nat_le (track_size (up_to after track ++ fits)) capacity)
           (rises_behind 0 after track fits (omega arith) parts.0 rises)
-          (le-leb (track_size (up_to after track ++ fits)) capacity (omega (arith, sum_by-append size (up_to after track) fits, first.room, second.room)));
+          (le-leb (track_size (up_to after track ++ fits)) capacity (omega (arith, sum_by-append record_size (up_to after track) fits, first.room, second.room)));
       taken = and_true (rises_above 0 fits) (nat_le (track_size fits) capacity) (rises_lower 0 after fits (omega arith) rises) (le-leb (track_size fits) capacity (omega (arith, first.room, second.room)));
     }
 
@@ -79,7 +79,7 @@ made_short after given track kept m =
     }
 
 -- the bytes that are kept, behind the count
-kept_bytes : (old : List ℕ) (used : ℕ) (xs behind : List Rec) (end : ℕ) → HoldsImage used old → track_of (take used old) ≡ xs ++ behind → end ≡ 2 + length (flat_map record_spelling xs)
+kept_bytes : (old : List ℕ) (used : ℕ) (xs behind : List Rec) (end : ℕ) → HoldsImage used old → track_of_image (take used old) ≡ xs ++ behind → end ≡ 2 + length (flat_map record_spelling xs)
     → take (end - 2) (drop 2 old) ≡ flat_map record_spelling xs
 kept_bytes old used xs behind end holds split end_is =
     let tail = drop used old in
@@ -125,10 +125,10 @@ pub record Behind (given : List Rec) (kept : Front) : Type 0 where
   pub few : kept.count + length (fitting kept.room given) ≤ 255
 
 pub behind : (after used : ℕ) (given : List Rec) (old : List ℕ) (kept : Front) → HoldsImage used old → rises_above after given ≡ true
-    → kept ≡ front_up_to after (no_front 2 capacity) (track_of (take used old)) → Behind given kept
+    → kept ≡ front_up_to after (no_front 2 capacity) (track_of_image (take used old)) → Behind given kept
 behind after used given old kept holds above kept_is =
-    let m = made after given (track_of (take used old)) kept holds.begins.is_track above kept_is in
-    let s = made_short after given (track_of (take used old)) kept m in
+    let m = made after given (track_of_image (take used old)) kept holds.begins.is_track above kept_is in
+    let s = made_short after given (track_of_image (take used old)) kept m in
     record { is_track = m.taken; short = s.short; few = s.few }
 
 -- ---- what a format leaves in a slot's buffer
@@ -146,7 +146,7 @@ formatted_lost after given track kept is kept_is other =
 
 pub record Formatted (after used end : ℕ) (given : List Rec) (old new : List ℕ) : Type 0 where
   pub holds : HoldsImage end new
-  pub seen : track_of (take end new) ≡ formatted after given (track_of (take used old))
+  pub seen : track_of_image (take end new) ≡ formatted after given (track_of_image (take used old))
 
 -- the buffer with bytes behind the kept front
 put_behind : (X Y rest put old : List ℕ) (end : ℕ) → put ≡ with_bytes end Y old → take (end - 2) (drop 2 old) ≡ X → 2 ≤ end → end ≤ length old → drop 2 put ≡ X ++ (Y ++ drop (end + length Y) old)
@@ -164,11 +164,11 @@ put_behind X Y rest put old end is kept from within =
         ap (λ k. take k bytes) parts ∙ take-add m (n - m) bytes
 
 pub format_holds : (after used count end : ℕ) (given : List Rec) (old put new : List ℕ) (kept : Front) → HoldsImage used old → rises_above after given ≡ true
-    → kept ≡ front_up_to after (no_front 2 capacity) (track_of (take used old)) → kept.last ≡ after
+    → kept ≡ front_up_to after (no_front 2 capacity) (track_of_image (take used old)) → kept.last ≡ after
     → put ≡ with_bytes kept.end (flat_map record_spelling (fitting kept.room given)) old → end ≡ kept.end + length (flat_map record_spelling (fitting kept.room given))
     → count ≡ kept.count + length (fitting kept.room given) → new ≡ to_be_bytes w16 count ++ drop 2 put → Formatted after used end given old new
 format_holds after used count end given old put new kept holds above kept_is last put_is end_is count_is new_is =
-    let track = track_of (take used old) in
+    let track = track_of_image (take used old) in
     let m = made after given track kept holds.begins.is_track above kept_is in
     let xs = up_to after track in
     let ys = fitting kept.room given in
@@ -186,7 +186,7 @@ format_holds after used count end given old put new kept holds above kept_is las
     let size : length new ≡ slot_size = omega (arith, ap length whole, length-append X (Y ++ rest), length-append Y rest, length-drop (kept.end + length Y) old, holds.sized, m.first.end, short.short) in
     record {
       holds = record { sized = size; within = omega (arith, size, end_is, short.short); begins = subst IsImage (sym begins) (image_is_image (xs ++ ys) m.is_track) };
-      seen = ap track_of begins ∙ track_of-image (xs ++ ys) m.is_track ∙ sym (formatted_found after given track kept holds.begins.is_track m kept_is last);
+      seen = ap track_of_image begins ∙ track_of-image (xs ++ ys) m.is_track ∙ sym (formatted_found after given track kept holds.begins.is_track m kept_is last);
     }
 
 -- ---- the same over a list of records
@@ -220,7 +220,7 @@ listed after given track front is above front_is =
       front_size = omega (arith, m.first.room);
       taken_is_track = subst (λ k. IsTrack (fitting k given)) m.room m.taken;
       is_track = subst (λ k. IsTrack (xs ++ fitting k given)) m.room m.is_track;
-      sizes = sum_by-append size xs (fitting (capacity - track_size xs) given);
+      sizes = sum_by-append record_size xs (fitting (capacity - track_size xs) given);
     } in
     subst (λ (t : List Rec). Listed after given track t) (sym front_is) parts
 

@@ -6,7 +6,7 @@ use Rattle.std.proofs.lemmas.Bool.{leb-true, leb-false, le-leb, lt-leb, ltb-true
 use Rattle.std.proofs.lemmas.List.Sums.{sum_by-cons}
 use Rattle.tod_stamp.specs.Fields.{within}
 use Rattle.ckd_track.specs.declared.rec.Rec.{Rec}
-use Rattle.ckd_track.specs.Tracks.{size, track_size, rises_above}
+use Rattle.ckd_track.specs.Tracks.{record_size, track_size, rises_above}
 use Rattle.ckd_track.specs.Effects.{has_record, up_to, fitting}
 use Rattle.ckd_track.specs.Images.{record_spelling}
 use Rattle.ckd_track.proofs.ImageLaws.{both_true}
@@ -27,13 +27,13 @@ pub record IsFront (front done : Front) (taken all : List Rec) : Type 0 where
 none_taken : (front : Front) (all : List Rec) → IsFront front front [] all
 none_taken front all = record { behind = all; split = refl; end = omega arith; count = omega arith; room = omega arith }
 
-one_more : (front done : Front) (r : Rec) (taken all : List Rec) → size r ≤ front.room → IsFront (front_with front r) done taken all → IsFront front done (r ∷ taken) (r ∷ all)
+one_more : (front done : Front) (r : Rec) (taken all : List Rec) → record_size r ≤ front.room → IsFront (front_with front r) done taken all → IsFront front done (r ∷ taken) (r ∷ all)
 one_more front done r taken all fits is = record {
   behind = is.behind;
   split = ap (λ (t : List Rec). r ∷ t) is.split;
   end = omega (arith, is.end, length-append (record_spelling r) (flat_map record_spelling taken), length-spelling r);
   count = omega (arith, is.count);
-  room = omega (arith, is.room, sum_by-cons size r taken);
+  room = omega (arith, is.room, sum_by-cons record_size r taken);
 }
 
 -- ---- up to a number
@@ -56,10 +56,10 @@ pub up_to_is : (after low : ℕ) (front : Front) (recs : List Rec) → rises_abo
 up_to_is after low front [] rises fits = none_taken front []
 up_to_is after low front (r ∷ recs) rises fits =
     let first = rises_first low r recs rises in
-    let sizes = sum_by-cons size r recs in
+    let sizes = sum_by-cons record_size r recs in
     choose (nat_lt after r.number) refl first.2 (omega (arith, sizes)) (up_to_is after r.number (front_with front r) recs first.2 (omega (arith, sizes)))
   where
-    choose : (t : Bool) → nat_lt after r.number ≡ t → rises_above r.number recs ≡ true → size r ≤ front.room
+    choose : (t : Bool) → nat_lt after r.number ≡ t → rises_above r.number recs ≡ true → record_size r ≤ front.room
         → IsFront (front_with front r) (front_up_to after (front_with front r) recs) (up_to after recs) recs
         → IsFront front (cond t front (front_up_to after (front_with front r) recs)) (up_to after (r ∷ recs)) (r ∷ recs)
     choose true is rises fits more =
@@ -104,18 +104,18 @@ last_found after low front (r ∷ recs) rises last le =
 
 pub fitting_is : (front : Front) (recs : List Rec) → IsFront front (front_fitting front recs) (fitting front.room recs) recs
 fitting_is front [] = none_taken front []
-fitting_is front (r ∷ recs) = choose (nat_lt front.room (size r)) refl (fitting_is (front_with front r) recs)
+fitting_is front (r ∷ recs) = choose (nat_lt front.room (record_size r)) refl (fitting_is (front_with front r) recs)
   where
-    choose : (t : Bool) → nat_lt front.room (size r) ≡ t
-        → IsFront (front_with front r) (front_fitting (front_with front r) recs) (fitting (front.room - size r) recs) recs
+    choose : (t : Bool) → nat_lt front.room (record_size r) ≡ t
+        → IsFront (front_with front r) (front_fitting (front_with front r) recs) (fitting (front.room - record_size r) recs) recs
         → IsFront front (cond t front (front_fitting (front_with front r) recs)) (fitting front.room (r ∷ recs)) (r ∷ recs)
     choose true is more =
-        let test : nat_le (size r) front.room ≡ false = lt-leb (size r) front.room (ltb-true front.room (size r) is) in
+        let test : nat_le (record_size r) front.room ≡ false = lt-leb (record_size r) front.room (ltb-true front.room (record_size r) is) in
         rw test (none_taken front (r ∷ recs))
     choose false is more =
-        let fits = ltb-false front.room (size r) is in
-        let test : nat_le (size r) front.room ≡ true = le-leb (size r) front.room fits in
-        rw test (one_more front (front_fitting (front_with front r) recs) r (fitting (front.room - size r) recs) recs fits more)
+        let fits = ltb-false front.room (record_size r) is in
+        let test : nat_le (record_size r) front.room ≡ true = le-leb (record_size r) front.room fits in
+        rw test (one_more front (front_fitting (front_with front r) recs) r (fitting (front.room - record_size r) recs) recs fits more)
 
 -- ---- the formatted track is a track
 
@@ -136,9 +136,9 @@ rises_with low r recs others rises more =
 pub rises_fitting : (low room : ℕ) (recs : List Rec) → rises_above low recs ≡ true → rises_above low (fitting room recs) ≡ true
 rises_fitting low room [] rises = refl
 rises_fitting low room (r ∷ recs) rises =
-    choose (nat_le (size r) room) (rises_with low r recs (fitting (room - size r) recs) rises (rises_fitting r.number (room - size r) recs (rises_first low r recs rises).2))
+    choose (nat_le (record_size r) room) (rises_with low r recs (fitting (room - record_size r) recs) rises (rises_fitting r.number (room - record_size r) recs (rises_first low r recs rises).2))
   where
-    choose : (t : Bool) → rises_above low (r ∷ fitting (room - size r) recs) ≡ true → rises_above low (cond t (r ∷ fitting (room - size r) recs) []) ≡ true
+    choose : (t : Bool) → rises_above low (r ∷ fitting (room - record_size r) recs) ≡ true → rises_above low (cond t (r ∷ fitting (room - record_size r) recs) []) ≡ true
     choose true h = h
     choose false h = refl
 

@@ -12,14 +12,14 @@ use Rattle.tod_stamp.proofs.FieldLaws.{IsBytes-drop, IsBytes-take, guard_ok, bin
 use Rattle.ckd_track.specs.declared.fault.ImageError.{ImageError}
 use Rattle.ckd_track.specs.declared.fault.ImageError.TheVariants.{Short, TooBig, Order}
 use Rattle.ckd_track.specs.declared.rec.Rec.{Rec}
-use Rattle.ckd_track.specs.Tracks.{size, track_size, capacity, rises_above, is_track}
-use Rattle.ckd_track.specs.Images.{record_spelling, image, record_after_head, record_at, records_at, image_at, ReadsBack, ReadsImages, NoneBeginsAnother}
+use Rattle.ckd_track.specs.Tracks.{record_size, track_size, capacity, rises_above, is_track}
+use Rattle.ckd_track.specs.Images.{record_spelling, image, record_after_head, record_at, records_at, image_at, ReadsBack, ReadsImages}
 
 pub both_true : (a b : Bool) → (a && b) ≡ true → (a ≡ true) × (b ≡ true)
 both_true true b e = (refl, e)
 both_true false b e = absurd cc
 
-head_again : (place last room : ℕ) (r : Rec) (rest : List ℕ) → last < r.number → size r ≤ room
+head_again : (place last room : ℕ) (r : Rec) (rest : List ℕ) → last < r.number → record_size r ≤ room
     → record_after_head place last room r.number (length r.key) (length r.content) ((r.key ++ r.content) ++ rest) ≡ Ok (r, rest)
 unfolding record_after_head
 head_again place last room r rest above fits =
@@ -33,7 +33,7 @@ head_again place last room r rest above fits =
     let after : drop (length r.key + length r.content) ((r.key ++ r.content) ++ rest) ≡ rest = drop_at (r.key ++ r.content) rest (length r.key + length r.content) (length-append r.key r.content) in
     rw (rises, small, long, key, tail, content, after) refl
 
-record_again : (place last room : ℕ) (r : Rec) (rest : List ℕ) → last < r.number → size r ≤ room → length r.content < 2 ^ 16
+record_again : (place last room : ℕ) (r : Rec) (rest : List ℕ) → last < r.number → record_size r ≤ room → length r.content < 2 ^ 16
     → record_at place last room (record_spelling r ++ rest) ≡ Ok (r, rest)
 unfolding record_at
 record_again place last room r rest above fits short =
@@ -54,9 +54,9 @@ unfolding records_at
 records_again place last room [] rest rises fits small = refl
 records_again place last room (r ∷ recs) rest rises fits small =
     let above = number_above last r recs rises in
-    let sizes = sum_by-cons size r recs in
+    let sizes = sum_by-cons record_size r recs in
     let first = record_again place last room r (flat_map record_spelling recs ++ rest) above.0 (omega (arith, sizes)) (omega (arith, sizes)) in
-    let others = records_again (place + length (record_spelling r)) r.number (room - size r) recs rest above.1 (omega (arith, sizes)) (omega arith) in
+    let others = records_again (place + length (record_spelling r)) r.number (room - record_size r) recs rest above.1 (omega (arith, sizes)) (omega arith) in
     rw (append_assoc (record_spelling r) (flat_map record_spelling recs) rest, first, others) refl
 
 -- a track has at most 255 records
@@ -78,14 +78,6 @@ image_again track rest is_track =
     let not_many : nat_lt 255 (length track) ≡ false = le-ltb 255 (length track) (omega arith) in
     rw (long, count, not_many) (records_again 2 0 capacity track rest parts.0 (leb-true (track_size track) capacity parts.1) (omega arith))
 
-ok_is : (a b : List Rec × List ℕ) → (let x : Result (List Rec × List ℕ) ImageError = Ok a in let y : Result (List Rec × List ℕ) ImageError = Ok b in x ≡ y) → a ≡ b
-ok_is a b e = cc
-
-pub none_begins_another : NoneBeginsAnother
-none_begins_another one two x y is_one is_two e =
-    let both = ok_is (one, x) (two, y) (sym (image_again one x is_one) ∙ ap image_at e ∙ image_again two y is_two) in
-    (ap (λ (p : List Rec × List ℕ). p.0) both, ap (λ (p : List Rec × List ℕ). p.1) both)
-
 -- ---- what is read was spelled so
 
 -- what a record's reader took from the front
@@ -94,7 +86,7 @@ pub record Taken (last room : ℕ) (bytes : List ℕ) (r : Rec) (rest : List ℕ
   pub above : last < r.number
   pub number : r.number < 256
   pub key : length r.key < 256
-  pub fits : size r ≤ room
+  pub fits : record_size r ≤ room
   pub rest_bytes : IsBytes rest
 
 record_ok : (a b : Rec × List ℕ) → (let x : Result (Rec × List ℕ) ImageError = Ok a in let y : Result (Rec × List ℕ) ImageError = Ok b in x ≡ y) → a ≡ b
@@ -169,12 +161,12 @@ unfolding records_at
 records_take zero place last room bytes recs rest fits e =
     subst (λ (p : List Rec × List ℕ). ManyTaken last room 0 bytes p.0 p.1) (many_ok ([], bytes) (recs, rest) e) (record { parts = refl; rises = refl; fits = omega arith; number = refl })
 records_take (suc count) place last room bytes recs rest fits e =
-    let first = bind_ok (record_at place last room bytes) (λ f. records_at count (place + length (record_spelling f.0)) f.0.number (room - size f.0) f.1 >>= (λ o. Ok (f.0 ∷ o.0, o.1))) (recs, rest) e in
+    let first = bind_ok (record_at place last room bytes) (λ f. records_at count (place + length (record_spelling f.0)) f.0.number (room - record_size f.0) f.1 >>= (λ o. Ok (f.0 ∷ o.0, o.1))) (recs, rest) e in
     let r = first.0.0 in
     let taken = record_takes place last room bytes r first.0.1 fits first.1 in
-    let more = bind_ok (records_at count (place + length (record_spelling r)) r.number (room - size r) first.0.1) (λ o. Ok (r ∷ o.0, o.1)) (recs, rest) first.2 in
-    let others = records_take count (place + length (record_spelling r)) r.number (room - size r) first.0.1 more.0.0 more.0.1 taken.rest_bytes more.1 in
-    let sizes = sum_by-cons size r more.0.0 in
+    let more = bind_ok (records_at count (place + length (record_spelling r)) r.number (room - record_size r) first.0.1) (λ o. Ok (r ∷ o.0, o.1)) (recs, rest) first.2 in
+    let others = records_take count (place + length (record_spelling r)) r.number (room - record_size r) first.0.1 more.0.0 more.0.1 taken.rest_bytes more.1 in
+    let sizes = sum_by-cons record_size r more.0.0 in
     let first_rises : (within (last + 1) 255 r.number && nat_le (length r.key) 255) ≡ true =
     all_true (nat_le (last + 1) r.number) (nat_le r.number 255) (nat_le (length r.key) 255) (le-leb (last + 1) r.number (omega (arith, taken.above))) (le-leb r.number 255 (omega (arith, taken.number))) (le-leb (length r.key) 255 (omega (arith, taken.key))) in
     subst (λ (p : List Rec × List ℕ). ManyTaken last room (suc count) bytes p.0 p.1) {x = (r ∷ more.0.0, more.0.1)} {y = (recs, rest)} (many_ok (r ∷ more.0.0, more.0.1) (recs, rest) more.2) (record {

@@ -1,12 +1,12 @@
 -- The fields of a kind, taken apart as Slot::apply_fields does it.
-use Rattle.std.proofs.Common.{◌≡◌, ℕ, ◌≤◌, List, [], ◌∷◌, true, nat_le, refl, sym, ap, subst, ◌∙◌, length, take, drop, arith}
+use Rattle.std.proofs.Common.{◌≡◌, ℕ, ◌≤◌, List, [], ◌∷◌, true, nat_le, sym, ap, subst, ◌∙◌, length, take, drop, arith}
 use Rattle.std.specs.Prelude.{slice_index, IsTrue}
 use Rattle.std.specs.List.{flat_map}
 use Rattle.std.proofs.lemmas.Bool.{leb-true}
 use Rattle.std.proofs.lemmas.List.{append-nil, get_or-take}
 use Rattle.ckd_track.specs.declared.rec.Rec.{Rec}
 use Rattle.ckd_track.specs.Tracks.{track_size, capacity, rises_above, are_records_above, IsTrack}
-use Rattle.ckd_track.specs.Effects.{keeps_rules, is_kind, apply, updated, formatted, longest_update}
+use Rattle.ckd_track.specs.Effects.{keeps_rules, is_kind, apply, formatted, longest_update}
 use Rattle.ckd_track.specs.declared.write.Kind.{Kind}
 use Rattle.ckd_track.specs.declared.write.Kind.TheVariants.{Update, Format, Whole}
 use Rattle.ckd_track.specs.declared.write.Write.{Write}
@@ -15,26 +15,16 @@ use Rattle.ckd_track.proofs.ImageLaws.{both_true}
 use Rattle.ckd_track.proofs.TrackLaws.{and_true}
 use Rattle.ckd_track.proofs.ImageLaws.{records_again}
 use Rattle.ckd_track.specs.Entries.{tag_of, kind_spelling, queue_form}
-use Rattle.ckd_track.specs.Slots.{IsImage, AreSpelled, spelled_records, records_of, track_of}
+use Rattle.ckd_track.specs.Slots.{IsImage, SpellsRecords, spelled_records, records_of, track_of_image}
 use Rattle.ckd_track.proofs.Parts.{image_is_image, track_of-image, length-image}
 use Rattle.ckd_track.proofs.FrontLaws.{rises_lower}
 use Rattle.ckd_track.proofs.RowLaws.{above_is_track}
 use Rattle.tod_stamp.specs.Fields.{within}
 
-pub update_long : (fields : List ℕ) (kind : Kind) → 2 ≡ tag_of kind → fields ≡ kind_spelling kind → 3 ≤ length fields
-update_long fields (Update number bytes) tag e = omega (arith, ap length e)
-update_long fields (Format after recs) tag e = absurd (omega (arith, tag))
-update_long fields (Whole track) tag e = absurd (omega (arith, tag))
-
-pub update_is : (fields : List ℕ) (kind : Kind) (old : List Rec) → 2 ≡ tag_of kind → fields ≡ kind_spelling kind → updated (slice_index fields 0) (drop 3 fields) old ≡ apply old kind
-update_is fields (Update number bytes) old tag e = rw e refl
-update_is fields (Format after recs) old tag e = absurd (omega (arith, tag))
-update_is fields (Whole track) old tag e = absurd (omega (arith, tag))
-
 -- what the fields of a Format are
 pub record FormatFields (fields : List ℕ) : Type 0 where
   pub long : 2 ≤ length fields
-  pub spelled : AreSpelled (slice_index fields 1) (drop 2 fields)
+  pub spelled : SpellsRecords (slice_index fields 1) (drop 2 fields)
   pub above : rises_above (slice_index fields 0) (spelled_records (slice_index fields 1) (drop 2 fields)) ≡ true
 
 spelled_again : (after : ℕ) (recs : List Rec) → are_records_above after recs ≡ true → spelled_records (length recs) (flat_map record_spelling recs) ≡ recs
@@ -77,14 +67,14 @@ whole_fields fields tag (Update number bytes) two three keeps is e = absurd (two
 whole_fields fields tag (Format after recs) two three keeps is e = absurd (three is)
 whole_fields fields tag (Whole track) two three keeps is e = subst IsImage (sym e) (image_is_image track keeps)
 
-pub whole_is : (fields : List ℕ) (tag : ℕ) (kind : Kind) (old : List Rec) → (tag ≡ 2 → ⊥) → (tag ≡ 3 → ⊥) → IsTrue (is_kind kind) → tag ≡ tag_of kind → fields ≡ kind_spelling kind → track_of fields ≡ apply old kind
+pub whole_is : (fields : List ℕ) (tag : ℕ) (kind : Kind) (old : List Rec) → (tag ≡ 2 → ⊥) → (tag ≡ 3 → ⊥) → IsTrue (is_kind kind) → tag ≡ tag_of kind → fields ≡ kind_spelling kind → track_of_image fields ≡ apply old kind
 whole_is fields tag (Update number bytes) old two three keeps is e = absurd (two is)
 whole_is fields tag (Format after recs) old two three keeps is e = absurd (three is)
-whole_is fields tag (Whole track) old two three keeps is e = ap track_of e ∙ track_of-image track keeps
+whole_is fields tag (Whole track) old two three keeps is e = ap track_of_image e ∙ track_of-image track keeps
 
 -- the same with the first two bytes split off
 pub format_split : (fields head given : List ℕ) → FormatFields fields → head ≡ take 2 fields → given ≡ drop 2 fields
-    → (slice_index head 0 ≡ slice_index fields 0) × (slice_index head 1 ≡ slice_index fields 1) × AreSpelled (slice_index head 1) given × (rises_above (slice_index head 0) (spelled_records (slice_index head 1) given) ≡ true)
+    → (slice_index head 0 ≡ slice_index fields 0) × (slice_index head 1 ≡ slice_index fields 1) × SpellsRecords (slice_index head 1) given × (rises_above (slice_index head 0) (spelled_records (slice_index head 1) given) ≡ true)
 format_split fields head given f head_is given_is =
     let zeroth : slice_index head 0 ≡ slice_index fields 0 = ap (λ (t : List ℕ). slice_index t 0) head_is ∙ get_or-take 2 fields 0 0 (omega arith) in
     let first : slice_index head 1 ≡ slice_index fields 1 = ap (λ (t : List ℕ). slice_index t 1) head_is ∙ get_or-take 2 fields 1 0 (omega arith) in

@@ -7,11 +7,11 @@ use Rattle.std.proofs.lemmas.List.Sums.{sum_by-cons}
 use Rattle.tod_stamp.specs.Fields.{IsBytes}
 use Rattle.ckd_track.specs.declared.fault.ImageError.{ImageError}
 use Rattle.ckd_track.specs.declared.rec.Rec.{Rec}
-use Rattle.ckd_track.specs.Tracks.{size, track_size, capacity, rises_above, IsTrack}
+use Rattle.ckd_track.specs.Tracks.{record_size, track_size, capacity, rises_above, IsTrack}
 use Rattle.ckd_track.specs.Images.{record_spelling, image, records_at, image_at, longest_image}
 use Rattle.ckd_track.proofs.ImageLaws.{both_true, records_take, image_again, image_taken}
-use Rattle.ckd_track.specs.Reading.{left_of}
-use Rattle.ckd_track.specs.Slots.{records_of, track_of, IsImage, HoldsImage, slot_size}
+use Rattle.ckd_track.specs.Reading.{rest_of_read}
+use Rattle.ckd_track.specs.Slots.{records_of, track_of_image, IsImage, HoldsImage, slot_size}
 
 -- a record's spelling is four bytes shorter than its size
 pub length-spelling : (r : Rec) → length (record_spelling r) ≡ 4 + length r.key + length r.content
@@ -20,7 +20,7 @@ length-spelling r = omega (arith, length-append r.key r.content)
 -- the spellings of some records are four bytes for each shorter than their sizes
 pub length-spellings : (recs : List Rec) → length (flat_map record_spelling recs) + 4 * length recs ≡ track_size recs
 length-spellings [] = refl
-length-spellings (rec ∷ recs) = omega (arith, sum_by-cons size rec recs, length-append (record_spelling rec) (flat_map record_spelling recs), length-spelling rec, length-spellings recs)
+length-spellings (rec ∷ recs) = omega (arith, sum_by-cons record_size rec recs, length-append (record_spelling rec) (flat_map record_spelling recs), length-spelling rec, length-spellings recs)
 
 -- the longest image is that of one record
 pub length-image : (track : List Rec) → IsTrack track → length (image track) ≤ longest_image
@@ -30,8 +30,8 @@ length-image (rec ∷ recs) is =
     omega (arith, leb-true (track_size (rec ∷ recs)) capacity parts.1, length-spellings (rec ∷ recs))
 
 -- the image of a track is seen as that track
-pub track_of-image : (track : List Rec) → IsTrack track → track_of (image track) ≡ track
-track_of-image track is = ap track_of (sym (append-nil (image track))) ∙ ap records_of (image_again track [] is)
+pub track_of-image : (track : List Rec) → IsTrack track → track_of_image (image track) ≡ track
+track_of-image track is = ap track_of_image (sym (append-nil (image track))) ∙ ap records_of (image_again track [] is)
 
 pub image_is_image : (track : List Rec) → IsTrack track → IsImage (image track)
 image_is_image track is =
@@ -39,18 +39,18 @@ image_is_image track is =
     record { is_track = subst (λ (t : List Rec). IsTrack t) (sym e) is; spelled = ap image (sym e) }
 
 pub length-of_image : (bytes : List ℕ) → IsImage bytes → length bytes ≤ longest_image
-length-of_image bytes is = omega (arith, length-image (track_of bytes) is.is_track, ap length is.spelled)
+length-of_image bytes is = omega (arith, length-image (track_of_image bytes) is.is_track, ap length is.spelled)
 
 -- no record
 pub none_is_image : IsImage (0 ∷ 0 ∷ [])
 none_is_image = image_is_image [] refl
 
-pub none_is : track_of (0 ∷ 0 ∷ []) ≡ []
+pub none_is : track_of_image (0 ∷ 0 ∷ []) ≡ []
 none_is = track_of-image [] refl
 
 -- ---- what was read
 
-left_ok : (read : Result (List Rec × List ℕ) ImageError) (rest : List ℕ) → left_of read ≡ Ok rest → read ≡ Ok (records_of read, rest)
+left_ok : (read : Result (List Rec × List ℕ) ImageError) (rest : List ℕ) → rest_of_read read ≡ Ok rest → read ≡ Ok (records_of read, rest)
 left_ok (Ok p) rest e = ap (λ (t : List ℕ). Ok (p.0, t)) (rest_is p.1 rest e)
   where
     rest_is : (a b : List ℕ) → (let x : Result (List ℕ) ImageError = Ok a in let y : Result (List ℕ) ImageError = Ok b in x ≡ y) → a ≡ b
@@ -95,15 +95,15 @@ read_records count low bytes rest recs fits read =
     let back : drop (length spelled) bytes ≡ rest = ap (drop (length spelled)) taken.parts ∙ drop_at spelled rest _ refl in
     record { shorter = omega (arith, both); size_is = n; rest_is = sym back ∙ ap (λ k. drop k bytes) (sym n) }
 
-pub read_image : (bytes rest : List ℕ) → IsBytes bytes → left_of (image_at bytes) ≡ Ok rest → IsRead bytes rest (track_of bytes)
-read_image bytes rest fits e = read_track bytes rest (track_of bytes) fits (left_ok (image_at bytes) rest e)
+pub read_image : (bytes rest : List ℕ) → IsBytes bytes → rest_of_read (image_at bytes) ≡ Ok rest → IsRead bytes rest (track_of_image bytes)
+read_image bytes rest fits e = read_track bytes rest (track_of_image bytes) fits (left_ok (image_at bytes) rest e)
 
 -- what stands before the rest is an image, and it is the one that was read
 pub read_is_image : (bytes rest : List ℕ) (track : List Rec) → IsRead bytes rest track → IsImage (take (length bytes - length rest) bytes)
 read_is_image bytes rest track is = subst IsImage (sym is.front) (image_is_image track is.is_track)
 
-pub read_is_same : (bytes rest : List ℕ) (track : List Rec) → IsRead bytes rest track → track_of (take (length bytes - length rest) bytes) ≡ track
-read_is_same bytes rest track is = ap track_of is.front ∙ track_of-image track is.is_track
+pub read_is_same : (bytes rest : List ℕ) (track : List Rec) → IsRead bytes rest track → track_of_image (take (length bytes - length rest) bytes) ≡ track
+read_is_same bytes rest track is = ap track_of_image is.front ∙ track_of-image track is.is_track
 
 -- ---- a slot's buffer
 
@@ -119,12 +119,12 @@ holds_image image old new len is e =
 -- the buffer of a slot that took a track
 pub record IsSet (used : ℕ) (buffer : List ℕ) (track : List Rec) : Type 0 where
   pub holds : HoldsImage used buffer
-  pub seen : track_of (take used buffer) ≡ track
+  pub seen : track_of_image (take used buffer) ≡ track
 
 set_holds : (track : List Rec) (old new : List ℕ) → length old ≡ slot_size → IsTrack track → new ≡ image track ++ drop (length (image track)) old → IsSet (length (image track)) new track
 set_holds track old new len is e = record {
   holds = holds_image (image track) old new len (image_is_image track is) e;
-  seen = ap (λ (t : List ℕ). track_of (take (length (image track)) t)) e ∙ ap track_of (take_at (image track) _ _ refl) ∙ track_of-image track is;
+  seen = ap (λ (t : List ℕ). track_of_image (take (length (image track)) t)) e ∙ ap track_of_image (take_at (image track) _ _ refl) ∙ track_of-image track is;
 }
 
 pub set_track : (recs track : List Rec) (used : ℕ) (given old new : List ℕ) → recs ≡ track → given ≡ old → length old ≡ slot_size → IsTrack track

@@ -9,7 +9,7 @@ use Rattle.std.proofs.lemmas.List.Folds.{length-flat_map-take}
 use Rattle.std.proofs.lemmas.List.Sums.{sum_by-cons}
 use Rattle.tod_stamp.specs.Fields.{within}
 use Rattle.ckd_track.specs.declared.rec.Rec.{Rec}
-use Rattle.ckd_track.specs.Tracks.{size, track_size, capacity, rises_above, IsTrack}
+use Rattle.ckd_track.specs.Tracks.{record_size, track_size, capacity, rises_above, IsTrack}
 use Rattle.ckd_track.specs.Images.{record_spelling}
 use Rattle.ckd_track.specs.Heads.{FitsHead}
 use Rattle.ckd_track.specs.Slots.{with_bytes}
@@ -53,10 +53,10 @@ fits_at low [] i none rises small lt = absurd (omega (arith, lt))
 fits_at low (rec ∷ recs) zero none rises small lt =
     let outer = both_true (within (low + 1) 255 rec.number && nat_le (length rec.key) 255) (rises_above rec.number recs) rises in
     let inner = both_true (within (low + 1) 255 rec.number) (nat_le (length rec.key) 255) outer.0 in
-    record { key_fits = leb-true (length rec.key) 255 inner.1; content_fits = omega (arith, small, sum_by-cons size rec recs) }
+    record { key_fits = leb-true (length rec.key) 255 inner.1; content_fits = omega (arith, small, sum_by-cons record_size rec recs) }
 fits_at low (rec ∷ recs) (suc i) none rises small lt =
     let outer = both_true (within (low + 1) 255 rec.number && nat_le (length rec.key) 255) (rises_above rec.number recs) rises in
-    fits_at rec.number recs i none outer.1 (omega (arith, small, sum_by-cons size rec recs)) (omega (arith, lt))
+    fits_at rec.number recs i none outer.1 (omega (arith, small, sum_by-cons record_size rec recs)) (omega (arith, lt))
 
 -- the lengths of a record of a track fit their fields
 pub record_fits : (recs : List Rec) (i : ℕ) (rec : Rec) → IsTrack recs → i < length recs → rec ≡ get_or recs i rec → FitsHead rec

@@ -9,7 +9,7 @@ use Rattle.std.proofs.lemmas.List.{append-nil, take_more, take-append-drop, drop
 use Rattle.std.proofs.lemmas.List.Sums.{sum_by-cons, sum_by-append, fails_before_first}
 use Rattle.std.proofs.lemmas.List.Quantifiers.{position-Some}
 use Rattle.ckd_track.specs.declared.rec.Rec.{Rec}
-use Rattle.ckd_track.specs.Tracks.{size, track_size, capacity, rises_above, are_records_above, IsTrack, last_number}
+use Rattle.ckd_track.specs.Tracks.{record_size, track_size, capacity, rises_above, are_records_above, IsTrack, last_number}
 use Rattle.ckd_track.specs.Effects.{has_record, up_to, fitting, fitted, updated}
 use Rattle.ckd_track.proofs.ImageLaws.{both_true}
 use Rattle.ckd_track.proofs.TrackLaws.{and_true}
@@ -27,12 +27,12 @@ taken_more recs i rec lt at = take_more recs i rec lt ∙ ap (λ (r : Rec). take
 
 -- sizes of what is taken and of what is left
 pub sizes_split : (recs : List Rec) (i : ℕ) → track_size (take i recs) + track_size (drop i recs) ≡ track_size recs
-sizes_split recs i = sym (sum_by-append size (take i recs) (drop i recs)) ∙ ap track_size (take-append-drop i recs)
+sizes_split recs i = sym (sum_by-append record_size (take i recs) (drop i recs)) ∙ ap track_size (take-append-drop i recs)
 
-pub sizes_left_at : (recs : List Rec) (i : ℕ) (rec : Rec) → i < length recs → rec ≡ get_or recs i rec → track_size (drop i recs) ≡ size rec + track_size (drop (i + 1) recs)
-sizes_left_at recs i rec lt at = ap track_size (left_at recs i rec lt at) ∙ sum_by-cons size rec (drop (i + 1) recs)
+pub sizes_left_at : (recs : List Rec) (i : ℕ) (rec : Rec) → i < length recs → rec ≡ get_or recs i rec → track_size (drop i recs) ≡ record_size rec + track_size (drop (i + 1) recs)
+sizes_left_at recs i rec lt at = ap track_size (left_at recs i rec lt at) ∙ sum_by-cons record_size rec (drop (i + 1) recs)
 
-pub sizes_taken : (recs : List Rec) (i : ℕ) (rec : Rec) → i < length recs → rec ≡ get_or recs i rec → track_size (take (i + 1) recs) ≡ track_size (take i recs) + size rec
+pub sizes_taken : (recs : List Rec) (i : ℕ) (rec : Rec) → i < length recs → rec ≡ get_or recs i rec → track_size (take (i + 1) recs) ≡ track_size (take i recs) + record_size rec
 sizes_taken recs i rec lt at = omega (arith, sizes_split recs i, sizes_split recs (i + 1), sizes_left_at recs i rec lt at)
 
 pub track_sizes : (recs : List Rec) → IsTrack recs → track_size recs ≤ capacity
@@ -49,18 +49,18 @@ above_is_track after recs are =
 
 -- ---- the records that fit
 
-pub fits_no_more : (recs : List Rec) (i room left : ℕ) (rec : Rec) → i < length recs → rec ≡ get_or recs i rec → fitting room recs ≡ take i recs ++ fitting left (drop i recs) → left < size rec
+pub fits_no_more : (recs : List Rec) (i room left : ℕ) (rec : Rec) → i < length recs → rec ≡ get_or recs i rec → fitting room recs ≡ take i recs ++ fitting left (drop i recs) → left < record_size rec
     → take i recs ≡ fitting room recs
 fits_no_more recs i room left rec lt at so_far above =
-    let test : nat_le (size rec) left ≡ false = lt-leb (size rec) left above in
+    let test : nat_le (record_size rec) left ≡ false = lt-leb (record_size rec) left above in
     let none : fitting left (drop i recs) ≡ [] = ap (fitting left) (left_at recs i rec lt at) ∙ rw test refl in
     sym (so_far ∙ ap (λ (t : List Rec). take i recs ++ t) none ∙ append-nil (take i recs))
 
-pub fits_more : (recs : List Rec) (i room left : ℕ) (rec : Rec) → i < length recs → rec ≡ get_or recs i rec → fitting room recs ≡ take i recs ++ fitting left (drop i recs) → size rec ≤ left
-    → fitting room recs ≡ take (i + 1) recs ++ fitting (left - size rec) (drop (i + 1) recs)
+pub fits_more : (recs : List Rec) (i room left : ℕ) (rec : Rec) → i < length recs → rec ≡ get_or recs i rec → fitting room recs ≡ take i recs ++ fitting left (drop i recs) → record_size rec ≤ left
+    → fitting room recs ≡ take (i + 1) recs ++ fitting (left - record_size rec) (drop (i + 1) recs)
 fits_more recs i room left rec lt at so_far fits =
-    let test : nat_le (size rec) left ≡ true = le-leb (size rec) left fits in
-    let rest = fitting (left - size rec) (drop (i + 1) recs) in
+    let test : nat_le (record_size rec) left ≡ true = le-leb (record_size rec) left fits in
+    let rest = fitting (left - record_size rec) (drop (i + 1) recs) in
     let one : fitting left (drop i recs) ≡ rec ∷ rest = ap (fitting left) (left_at recs i rec lt at) ∙ rw test refl in
     so_far ∙ ap (λ (t : List Rec). take i recs ++ t) one ∙ sym (append_assoc (take i recs) (rec ∷ []) rest) ∙ ap (λ (t : List Rec). t ++ rest) (sym (taken_more recs i rec lt at))
 

@@ -8,7 +8,7 @@ use Rattle.tod_stamp.specs.Fields.{◌>>=◌}
 use Rattle.ckd_track.specs.declared.rec.Rec.{Rec}
 use Rattle.ckd_track.specs.declared.fault.ImageError.{ImageError}
 use Rattle.ckd_track.specs.declared.fault.ImageError.TheVariants.{TooBig, Order}
-use Rattle.ckd_track.specs.Tracks.{size, capacity}
+use Rattle.ckd_track.specs.Tracks.{record_size, capacity}
 use Rattle.ckd_track.specs.Images.{record_spelling, record_after_head, record_at, records_at, image_at}
 use Rattle.ckd_track.specs.SlotPlaces.{track_read}
 
@@ -21,7 +21,7 @@ pub record Taken (f : List ℕ → Result (Rec × List ℕ) ImageError) (room : 
   pub r : Rec
   pub left : List ℕ
   pub is : (more : List ℕ) → f (t ++ more) ≡ Ok (r, left ++ more)
-  pub long : room - size r + 4 ≤ length left
+  pub long : room - record_size r + 4 ≤ length left
 
 abbrev pub Decides : (List ℕ → Result (Rec × List ℕ) ImageError) → (room : ℕ) → List ℕ → Type 0
 Decides f room t = Refused f t ⊎ Taken f room t
@@ -84,7 +84,7 @@ records_same (suc count) place last room t more other long = elim (record_decide
   | inl bad ↦ ap (λ (x : Result (Rec × List ℕ) ImageError). track_read (x >>= next)) (bad.is more ∙ sym (bad.is other))
   | inr good ↦
       let place_then = place + length (record_spelling good.r) in
-      let room_then = room - size good.r in
+      let room_then = room - record_size good.r in
       ap (λ (x : Result (Rec × List ℕ) ImageError). track_read (x >>= next)) (good.is more)
       ∙ grown_is good.r (records_at count place_then good.r.number room_then (good.left ++ more))
       ∙ ap (grown good.r) (records_same count place_then good.r.number room_then good.left more other good.long)
@@ -93,7 +93,7 @@ records_same (suc count) place last room t more other long = elim (record_decide
 ]
   where
     next : Rec × List ℕ → Result (List Rec × List ℕ) ImageError
-    next first = records_at count (place + length (record_spelling first.0)) first.0.number (room - size first.0) first.1 >>= λ others. Ok (first.0 ∷ others.0, others.1)
+    next first = records_at count (place + length (record_spelling first.0)) first.0.number (room - record_size first.0) first.1 >>= λ others. Ok (first.0 ∷ others.0, others.1)
 
 pub image_same : (t more other : List ℕ) → 56670 ≤ length t → track_read (image_at (t ++ more)) ≡ track_read (image_at (t ++ other))
 unfolding image_at

@@ -4,12 +4,12 @@ use Rattle.std.proofs.lemmas.Bool.{le-ltb, lt-leb}
 use Rattle.std.proofs.lemmas.List.{append-nil, drop-drop}
 use Rattle.tod_stamp.specs.Fields.{◌>>=◌}
 use Rattle.ckd_track.specs.declared.rec.Rec.{Rec}
-use Rattle.ckd_track.specs.Tracks.{size}
+use Rattle.ckd_track.specs.Tracks.{record_size}
 use Rattle.ckd_track.specs.Images.{record_spelling, record_after_head, record_at, records_at}
 use Rattle.ckd_track.specs.declared.head.Head.{Head}
 use Rattle.ckd_track.specs.Heads.{head_at, head_size, head_length, record_of, first_record, IsFirst}
 use Rattle.ckd_track.specs.declared.fault.ImageError.{ImageError}
-use Rattle.ckd_track.specs.Reading.{left_of}
+use Rattle.ckd_track.specs.Reading.{rest_of_read}
 
 -- the first record is as long as its head says
 pub sizes_of_first : (bytes : List ℕ) → head_length (head_at bytes) ≤ length bytes → (length (first_record bytes).key ≡ (head_at bytes).key_length) × (length (first_record bytes).content ≡ (head_at bytes).content_length)
@@ -55,7 +55,7 @@ reads_on count i place last room bytes lt long read =
     let k : count - i ≡ suc (count - (i + 1)) = omega arith in
     let sizes = sizes_of_first bytes long in
     let spelled : length (record_spelling (first_record bytes)) ≡ head_length (head_at bytes) = omega (arith, sizes.0, sizes.1, length-append (first_record bytes).key (first_record bytes).content) in
-    let taken : size (first_record bytes) ≡ head_size (head_at bytes) = omega (arith, sizes.0, sizes.1) in
+    let taken : record_size (first_record bytes) ≡ head_size (head_at bytes) = omega (arith, sizes.0, sizes.1) in
     rw (k, read, spelled, taken) refl
 
 -- the same for a head that stands there
@@ -70,15 +70,15 @@ reads_step count i place last room bytes head rest lt is read =
 
 -- ---- what is left
 
-left_after : (r : Rec) (read : Result (List Rec × List ℕ) ImageError) → left_of (read >>= λ o. Ok (r ∷ o.0, o.1)) ≡ left_of read
+left_after : (r : Rec) (read : Result (List Rec × List ℕ) ImageError) → rest_of_read (read >>= λ o. Ok (r ∷ o.0, o.1)) ≡ rest_of_read read
 left_after r (Ok p) = refl
 left_after r (Err e) = refl
 
 pub reads_after : (count i place last room : ℕ) (bytes : List ℕ) (head : Head) (rest : List ℕ) → i < count → IsFirst bytes room head rest
     → record_at place last room bytes ≡ Ok (first_record bytes, rest)
-    → left_of (records_at (count - i) place last room bytes) ≡ left_of (records_at (count - (i + 1)) (place + head_length head) head.number (room - head_size head) rest)
+    → rest_of_read (records_at (count - i) place last room bytes) ≡ rest_of_read (records_at (count - (i + 1)) (place + head_length head) head.number (room - head_size head) rest)
 reads_after count i place last room bytes head rest lt is read =
-    ap left_of (reads_step count i place last room bytes head rest lt is read) ∙ left_after (first_record bytes) (records_at (count - (i + 1)) (place + head_length head) head.number (room - head_size head) rest)
+    ap rest_of_read (reads_step count i place last room bytes head rest lt is read) ∙ left_after (first_record bytes) (records_at (count - (i + 1)) (place + head_length head) head.number (room - head_size head) rest)
 
 -- ---- the records
 

@@ -4,7 +4,7 @@ use Rattle.std.proofs.lemmas.Bool.{leb-true, le-leb}
 use Rattle.std.proofs.lemmas.List.Sums.{sum_by_push}
 use Rattle.tod_stamp.specs.Fields.{within}
 use Rattle.ckd_track.specs.declared.rec.Rec.{Rec}
-use Rattle.ckd_track.specs.Tracks.{size, track_size, capacity, rises_above, IsTrack, last_number}
+use Rattle.ckd_track.specs.Tracks.{record_size, track_size, capacity, rises_above, IsTrack, last_number}
 use Rattle.ckd_track.proofs.ImageLaws.{both_true}
 
 pub and_true : (a b : Bool) → a ≡ true → b ≡ true → (a && b) ≡ true
@@ -57,21 +57,21 @@ follows low (first ∷ recs) rec rises =
     record { above = may.above; number = may.number; key = may.key }
 
 -- A track stays one where a record may follow and has room,
-pub track_on : (recs : List Rec) (rec : Rec) → IsTrack recs → MayFollow 0 recs rec → size rec + track_size recs ≤ capacity → IsTrack (recs ++ rec ∷ [])
+pub track_on : (recs : List Rec) (rec : Rec) → IsTrack recs → MayFollow 0 recs rec → record_size rec + track_size recs ≤ capacity → IsTrack (recs ++ rec ∷ [])
 track_on recs rec is may room =
     let parts = both_true (rises_above 0 recs) (nat_le (track_size recs) capacity) is in
     and_true (rises_above 0 (recs ++ rec ∷ [])) (nat_le (track_size (recs ++ rec ∷ [])) capacity) (rises_on 0 recs rec parts.0 may)
-    (le-leb (track_size (recs ++ rec ∷ [])) capacity (omega (arith, sum_by_push size recs rec, room)))
+    (le-leb (track_size (recs ++ rec ∷ [])) capacity (omega (arith, sum_by_push record_size recs rec, room)))
 
 -- and only there.
 pub record Follows (recs : List Rec) (rec : Rec) : Type 0 where
   pub may : MayFollow 0 recs rec
-  pub room : size rec + track_size recs ≤ capacity
+  pub room : record_size rec + track_size recs ≤ capacity
 
 pub track_follows : (recs : List Rec) (rec : Rec) → IsTrack (recs ++ rec ∷ []) → Follows recs rec
 track_follows recs rec is =
     let parts = both_true (rises_above 0 (recs ++ rec ∷ [])) (nat_le (track_size (recs ++ rec ∷ [])) capacity) is in
     record {
       may = follows 0 recs rec parts.0;
-      room = omega (arith, sum_by_push size recs rec, leb-true (track_size (recs ++ rec ∷ [])) capacity parts.1);
+      room = omega (arith, sum_by_push record_size recs rec, leb-true (track_size (recs ++ rec ∷ [])) capacity parts.1);
     }

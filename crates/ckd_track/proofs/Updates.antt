@@ -7,14 +7,14 @@ use Rattle.std.proofs.lemmas.Bool.{cases_lt, eqb-true, ne_eqb}
 use Rattle.std.proofs.lemmas.List.{append-nil, take_at, drop_at, take-append-le, take-append-drop, take-replicate, length-replicate, length-map}
 use Rattle.std.proofs.lemmas.List.Sums.{sum_by-cons}
 use Rattle.ckd_track.specs.declared.rec.Rec.{Rec}
-use Rattle.ckd_track.specs.Tracks.{size, track_size, capacity, rises_above, IsTrack}
+use Rattle.ckd_track.specs.Tracks.{record_size, track_size, capacity, rises_above, IsTrack}
 use Rattle.ckd_track.specs.Effects.{fitted, updated, updated_record}
 use Rattle.ckd_track.specs.Images.{record_spelling, image}
 use Rattle.ckd_track.specs.declared.places.Place.{Place}
-use Rattle.ckd_track.specs.Places.{place_of}
+use Rattle.ckd_track.specs.Places.{place_of_content}
 use Rattle.ckd_track.proofs.Walks.{rises_first}
 use Rattle.ckd_track.proofs.Parts.{length-spelling, image_is_image, track_of-image}
-use Rattle.ckd_track.specs.Slots.{IsImage, HoldsImage, track_of}
+use Rattle.ckd_track.specs.Slots.{IsImage, HoldsImage, track_of_image}
 use Rattle.ckd_track.proofs.ImageLaws.{both_true}
 
 -- ---- fitted
@@ -49,13 +49,13 @@ none_found number low bytes (r ∷ recs) le rises =
     let other : (r.number == number) ≡ false = ne_eqb r.number number (λ e. omega (arith, e, first.0, le)) in
     rw other (ap (λ (t : List Rec). r ∷ t) (none_found number r.number bytes recs (omega (arith, first.0, le)) first.2))
 
-pub not_found : (number at : ℕ) (bytes : List ℕ) (recs : List Rec) → place_of number at recs ≡ None → updated number bytes recs ≡ recs
+pub not_found : (number at : ℕ) (bytes : List ℕ) (recs : List Rec) → place_of_content number at recs ≡ None → updated number bytes recs ≡ recs
 not_found number at bytes [] e = refl
 not_found number at bytes (r ∷ recs) e = choose (r.number == number) refl (not_found number (at + (4 + length r.key + length r.content)) bytes recs) e
   where
     choose : (t : Bool) → (r.number == number) ≡ t
-        → (place_of number (at + (4 + length r.key + length r.content)) recs ≡ None → updated number bytes recs ≡ recs)
-        → cond t (Some (record { from = at + 4 + length r.key; len = length r.content })) (place_of number (at + (4 + length r.key + length r.content)) recs) ≡ None
+        → (place_of_content number (at + (4 + length r.key + length r.content)) recs ≡ None → updated number bytes recs ≡ recs)
+        → cond t (Some (record { from = at + 4 + length r.key; len = length r.content })) (place_of_content number (at + (4 + length r.key + length r.content)) recs) ≡ None
         → updated number bytes (r ∷ recs) ≡ r ∷ recs
     choose true is others e = absurd cc
     choose false is others e = rw is (ap (λ (t : List Rec). r ∷ t) (others e))
@@ -105,15 +105,15 @@ parts_behind number at bytes r recs p is others =
       len = others.len;
     }
 
-pub parts_of : (number at low : ℕ) (bytes : List ℕ) (recs : List Rec) (p : Place) → rises_above low recs ≡ true → place_of number at recs ≡ Some p → Parts number at bytes recs p
+pub parts_of : (number at low : ℕ) (bytes : List ℕ) (recs : List Rec) (p : Place) → rises_above low recs ≡ true → place_of_content number at recs ≡ Some p → Parts number at bytes recs p
 parts_of number at low bytes [] p rises e = absurd cc
 parts_of number at low bytes (r ∷ recs) p rises e =
     let first = rises_first low r recs rises in
     choose (r.number == number) refl first.2 (parts_of number (at + (4 + length r.key + length r.content)) r.number bytes recs p first.2) e
   where
     choose : (t : Bool) → (r.number == number) ≡ t → rises_above r.number recs ≡ true
-        → (place_of number (at + (4 + length r.key + length r.content)) recs ≡ Some p → Parts number (at + (4 + length r.key + length r.content)) bytes recs p)
-        → cond t (Some (record { from = at + 4 + length r.key; len = length r.content })) (place_of number (at + (4 + length r.key + length r.content)) recs) ≡ Some p
+        → (place_of_content number (at + (4 + length r.key + length r.content)) recs ≡ Some p → Parts number (at + (4 + length r.key + length r.content)) bytes recs p)
+        → cond t (Some (record { from = at + 4 + length r.key; len = length r.content })) (place_of_content number (at + (4 + length r.key + length r.content)) recs) ≡ Some p
         → Parts number at bytes (r ∷ recs) p
     choose true is rises others e =
         let same : number ≤ r.number = omega (arith, eqb-true r.number number is) in
@@ -135,10 +135,10 @@ rises-updated number low bytes (r ∷ recs) = choose (r.number == number) refl (
 pub sizes-updated : (number : ℕ) (bytes : List ℕ) (recs : List Rec) → track_size (updated number bytes recs) ≡ track_size recs
 sizes-updated number bytes [] = refl
 sizes-updated number bytes (r ∷ recs) =
-    sum_by-cons size (updated_record number bytes r) (updated number bytes recs) ∙ choose (r.number == number) refl (sizes-updated number bytes recs) ∙ sym (sum_by-cons size r recs)
+    sum_by-cons record_size (updated_record number bytes r) (updated number bytes recs) ∙ choose (r.number == number) refl (sizes-updated number bytes recs) ∙ sym (sum_by-cons record_size r recs)
   where
     choose : (t : Bool) → (r.number == number) ≡ t → track_size (updated number bytes recs) ≡ track_size recs
-        → size (updated_record number bytes r) + track_size (updated number bytes recs) ≡ size r + track_size recs
+        → record_size (updated_record number bytes r) + track_size (updated number bytes recs) ≡ record_size r + track_size recs
     choose true is same = rw (is, same, length-fitted (length r.content) bytes) refl
     choose false is same = rw (is, same) refl
 
@@ -167,13 +167,13 @@ record Split (number : ℕ) (bytes : List ℕ) (used : ℕ) (old : List ℕ) (p 
   content : List ℕ
   back : List ℕ
   old_is : take used old ≡ x ++ (content ++ back)
-  new_is : image (updated number bytes (track_of (take used old))) ≡ x ++ (fitted p.len bytes ++ back)
+  new_is : image (updated number bytes (track_of_image (take used old))) ≡ x ++ (fitted p.len bytes ++ back)
   from : length x ≡ p.from
   len : length content ≡ p.len
 
-split_of : (number used : ℕ) (bytes old : List ℕ) (p : Place) → HoldsImage used old → place_of number 2 (track_of (take used old)) ≡ Some p → Split number bytes used old p
+split_of : (number used : ℕ) (bytes old : List ℕ) (p : Place) → HoldsImage used old → place_of_content number 2 (track_of_image (take used old)) ≡ Some p → Split number bytes used old p
 split_of number used bytes old p holds e =
-    let track = track_of (take used old) in
+    let track = track_of_image (take used old) in
     let is = both_true (rises_above 0 track) (nat_le (track_size track) capacity) holds.begins.is_track in
     let parts = parts_of number 2 0 bytes track p is.0 e in
     let two = to_be_bytes w16 (length track) in
@@ -188,26 +188,26 @@ split_of number used bytes old p holds e =
       len = parts.len;
     }
 
-pub place_within : (number used : ℕ) (bytes old : List ℕ) (p : Place) → HoldsImage used old → place_of number 2 (track_of (take used old)) ≡ Some p → p.from + p.len ≤ length old
+pub place_within : (number used : ℕ) (bytes old : List ℕ) (p : Place) → HoldsImage used old → place_of_content number 2 (track_of_image (take used old)) ≡ Some p → p.from + p.len ≤ length old
 place_within number used bytes old p holds e =
     let s = split_of number used bytes old p holds e in
     omega (arith, s.from, s.len, ap length s.old_is, length-append s.x (s.content ++ s.back), length-append s.content s.back, length-take used old, holds.within)
 
 pub record Updated (number : ℕ) (bytes : List ℕ) (used : ℕ) (old new : List ℕ) : Type 0 where
   pub holds : HoldsImage used new
-  pub seen : track_of (take used new) ≡ updated number bytes (track_of (take used old))
+  pub seen : track_of_image (take used new) ≡ updated number bytes (track_of_image (take used old))
 
-pub update_holds : (number used : ℕ) (bytes old new : List ℕ) (p : Place) → HoldsImage used old → place_of number 2 (track_of (take used old)) ≡ Some p
+pub update_holds : (number used : ℕ) (bytes old new : List ℕ) (p : Place) → HoldsImage used old → place_of_content number 2 (track_of_image (take used old)) ≡ Some p
     → new ≡ take p.from old ++ (fitted p.len bytes ++ drop (p.from + p.len) old) → Updated number bytes used old new
 update_holds number used bytes old new p holds e is =
     let s = split_of number used bytes old p holds e in
-    let track = updated number bytes (track_of (take used old)) in
-    let is_track : IsTrack track = updated_is_track number bytes (track_of (take used old)) holds.begins.is_track in
+    let track = updated number bytes (track_of_image (take used old)) in
+    let is_track : IsTrack track = updated_is_track number bytes (track_of_image (take used old)) holds.begins.is_track in
     let all : old ≡ (s.x ++ (s.content ++ s.back)) ++ drop used old = sym (take-append-drop used old) ∙ ap (λ (t : List ℕ). t ++ drop used old) s.old_is in
     let used_is : used ≡ length (s.x ++ (s.content ++ s.back)) = omega (arith, ap length s.old_is, length-take used old, holds.within) in
     let new_is = splice s.x s.content (fitted p.len bytes) s.back (drop used old) old new p.from p.len used all s.from s.len (length-fitted p.len bytes) used_is is in
     let spelled : take used new ≡ image track = new_is.0 ∙ sym s.new_is in
     record {
       holds = record { sized = new_is.1 ∙ holds.sized; within = omega (arith, new_is.1, holds.within); begins = subst IsImage (sym spelled) (image_is_image track is_track) };
-      seen = ap track_of spelled ∙ track_of-image track is_track;
+      seen = ap track_of_image spelled ∙ track_of-image track is_track;
     }

@@ -9,15 +9,15 @@ use Rattle.std.proofs.lemmas.List.Sums.{sum_by-cons}
 use Rattle.std.proofs.lemmas.Nat.{from_be_bytes-to_be_bytes_2}
 use Rattle.tod_stamp.specs.Fields.{within}
 use Rattle.ckd_track.specs.declared.rec.Rec.{Rec}
-use Rattle.ckd_track.specs.Tracks.{size, track_size, capacity, rises_above, IsTrack}
+use Rattle.ckd_track.specs.Tracks.{record_size, track_size, capacity, rises_above, IsTrack}
 use Rattle.ckd_track.specs.Images.{record_spelling, image}
 use Rattle.ckd_track.proofs.ImageLaws.{both_true}
 use Rattle.ckd_track.proofs.ImageLaws.{count_of}
 use Rattle.ckd_track.specs.declared.fronts.Front.{Front}
 use Rattle.ckd_track.specs.declared.head.Head.{Head}
 use Rattle.ckd_track.specs.Heads.{head_at, head_size, head_length}
-use Rattle.ckd_track.specs.Places.{head_of, place_of, front_after, front_up_to, front_fitting}
-use Rattle.ckd_track.specs.Slots.{IsImage, track_of, AreSpelled, spelled_records}
+use Rattle.ckd_track.specs.Places.{head_of, place_of_content, front_after, front_up_to, front_fitting}
+use Rattle.ckd_track.specs.Slots.{IsImage, track_of_image, SpellsRecords, spelled_records}
 use Rattle.ckd_track.proofs.Parts.{length-spelling}
 
 -- The rest spells these records, whose numbers rise and whose sizes fit a track.
@@ -54,7 +54,7 @@ head_spelled r rest short =
 pub first_of : (rest : List ℕ) (recs : List Rec) → Walks rest recs → 0 < length recs → FirstOf rest recs
 first_of rest [] walks some = absurd (omega (arith, some))
 first_of rest (r ∷ recs) walks some =
-    let sizes = sum_by-cons size r recs in
+    let sizes = sum_by-cons record_size r recs in
     let rises = rises_first walks.low r recs walks.rises in
     let len = length-spelling r in
     record {
@@ -80,8 +80,8 @@ pub record Begins (bytes : List ℕ) (track : List Rec) : Type 0 where
   pub walks : Walks (drop 2 bytes) track
   pub from_start : walks.low ≡ 0
 
-pub walk_begins : (bytes : List ℕ) → IsImage bytes → Begins bytes (track_of bytes)
-walk_begins bytes is = subst (λ (b : List ℕ). Begins b (track_of bytes)) (sym is.spelled) (begins (track_of bytes) is.is_track)
+pub walk_begins : (bytes : List ℕ) → IsImage bytes → Begins bytes (track_of_image bytes)
+walk_begins bytes is = subst (λ (b : List ℕ). Begins b (track_of_image bytes)) (sym is.spelled) (begins (track_of_image bytes) is.is_track)
   where
     begins : (track : List Rec) → IsTrack track → Begins (image track) track
     begins track is =
@@ -115,18 +115,18 @@ pub head_whole : (rest : List ℕ) (recs : List Rec) (head : Head) → FirstOf r
 head_whole rest recs head f is = subst (λ (h : Head). head_length h ≤ length rest) (sym (is ∙ f.head)) f.whole
 
 pub place_first : (number at : ℕ) (rest : List ℕ) (recs : List Rec) (head : Head) → FirstOf rest recs → head ≡ head_at rest → head.number ≡ number
-    → Some (record { from = at + 4 + head.key_length; len = head.content_length }) ≡ place_of number at recs
+    → Some (record { from = at + 4 + head.key_length; len = head.content_length }) ≡ place_of_content number at recs
 place_first number at rest recs head f is same =
     let h : head ≡ head_of f.first = is ∙ f.head in
     let hit : (f.first.number == number) ≡ true = eq-eqb f.first.number number (sym (ap (λ (h : Head). h.number) h) ∙ same) in
     rw (f.is, hit) (ap (λ (h : Head). Some (record { from = at + 4 + h.key_length; len = h.content_length })) h)
 
 pub place_later : (number at i : ℕ) (track : List Rec) (rest : List ℕ) (head : Head) → FirstOf rest (drop i track) → head ≡ head_at rest → (head.number ≡ number → ⊥)
-    → place_of number (at + head_length head) (drop (i + 1) track) ≡ place_of number at (drop i track)
+    → place_of_content number (at + head_length head) (drop (i + 1) track) ≡ place_of_content number at (drop i track)
 place_later number at i track rest head f is other =
     let h : head ≡ head_of f.first = is ∙ f.head in
     let miss : (f.first.number == number) ≡ false = ne_eqb f.first.number number (λ e. other (ap (λ (h : Head). h.number) h ∙ e)) in
-    rw (others_are i track f.first f.others f.is, f.is, miss) (ap (λ (h : Head). place_of number (at + head_length h) f.others) h)
+    rw (others_are i track f.first f.others f.is, f.is, miss) (ap (λ (h : Head). place_of_content number (at + head_length h) f.others) h)
 
 -- ---- fronts
 
@@ -146,24 +146,24 @@ up_to_goes after i front track rest head f is le =
 pub fitting_stops : (front : Front) (rest : List ℕ) (recs : List Rec) (head : Head) → FirstOf rest recs → head ≡ head_at rest → front.room < head_size head → front ≡ front_fitting front recs
 fitting_stops front rest recs head f is above =
     let h : head ≡ head_of f.first = is ∙ f.head in
-    let test : nat_lt front.room (size f.first) ≡ true = lt-ltb front.room (size f.first) (subst (λ (h : Head). front.room < head_size h) h above) in
+    let test : nat_lt front.room (record_size f.first) ≡ true = lt-ltb front.room (record_size f.first) (subst (λ (h : Head). front.room < head_size h) h above) in
     rw (f.is, test) refl
 
 pub fitting_goes : (i : ℕ) (front : Front) (track : List Rec) (rest : List ℕ) (head : Head) → FirstOf rest (drop i track) → head ≡ head_at rest → head_size head ≤ front.room
     → front_fitting (front_after front head) (drop (i + 1) track) ≡ front_fitting front (drop i track)
 fitting_goes i front track rest head f is le =
     let h : head ≡ head_of f.first = is ∙ f.head in
-    let test : nat_lt front.room (size f.first) ≡ false = le-ltb front.room (size f.first) (subst (λ (h : Head). head_size h ≤ front.room) h le) in
+    let test : nat_lt front.room (record_size f.first) ≡ false = le-ltb front.room (record_size f.first) (subst (λ (h : Head). head_size h ≤ front.room) h le) in
     rw (others_are i track f.first f.others f.is, f.is, test) (ap (λ (h : Head). front_fitting (front_after front h) f.others) h)
 
 -- the sizes that are left behind the first
 pub sizes_left : (i : ℕ) (track : List Rec) (rest : List ℕ) (head : Head) → FirstOf rest (drop i track) → head ≡ head_at rest → head_size head + track_size (drop (i + 1) track) ≡ track_size (drop i track)
 sizes_left i track rest head f is =
     let h : head ≡ head_of f.first = is ∙ f.head in
-    rw (others_are i track f.first f.others f.is, f.is, h) (sym (sum_by-cons size f.first f.others))
+    rw (others_are i track f.first f.others f.is, f.is, h) (sym (sum_by-cons record_size f.first f.others))
 
 -- where a walk over given records begins
-pub walk_of_given : (count : ℕ) (bytes : List ℕ) → AreSpelled count bytes → Walks bytes (spelled_records count bytes)
+pub walk_of_given : (count : ℕ) (bytes : List ℕ) → SpellsRecords count bytes → Walks bytes (spelled_records count bytes)
 walk_of_given count bytes is =
     let track = spelled_records count bytes in
     let parts = both_true (rises_above 0 track) (nat_le (track_size track) capacity) is.are_records in

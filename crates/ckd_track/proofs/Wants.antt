@@ -6,8 +6,8 @@ use Rattle.tod_stamp.specs.Fields.{◌>>=◌}
 use Rattle.ckd_track.specs.declared.fault.ImageError.{ImageError}
 use Rattle.ckd_track.specs.declared.fault.ImageError.TheVariants.{Short, TooBig, Order, NoMemory}
 use Rattle.ckd_track.specs.declared.rec.Rec.{Rec}
-use Rattle.ckd_track.specs.Tracks.{size, capacity}
-use Rattle.ckd_track.specs.Reading.{left_of}
+use Rattle.ckd_track.specs.Tracks.{record_size, capacity}
+use Rattle.ckd_track.specs.Reading.{rest_of_read}
 use Rattle.ckd_track.specs.Images.{record_spelling, record_after_head, record_at, records_at, image_at}
 
 -- an answer other than want of memory
@@ -42,8 +42,8 @@ unfolding records_at
 many zero place last room bytes = read _
 many (suc count) place last room bytes =
     then (record_at place last room bytes) _ (one place last room bytes) (λ first.
-    then (records_at count (place + length (record_spelling first.0)) first.0.number (room - size first.0) first.1) _
-    (many count (place + length (record_spelling first.0)) first.0.number (room - size first.0) first.1) (λ others. read _))
+    then (records_at count (place + length (record_spelling first.0)) first.0.number (room - record_size first.0) first.1) _
+    (many count (place + length (record_spelling first.0)) first.0.number (room - record_size first.0) first.1) (λ others. read _))
 
 pub image_wants_nothing : (bytes : List ℕ) → Never (image_at bytes)
 unfolding image_at
@@ -52,9 +52,9 @@ image_wants_nothing bytes =
     (guard (nat_lt 255 (from_be_bytes w16 (take 2 bytes))) (Order 0) _ (λ e. cc) (many (from_be_bytes w16 (take 2 bytes)) 2 0 capacity (drop 2 bytes)))
 
 -- so no reader that gives what reading gives is
-pub refused_otherwise : (bytes : List ℕ) (d : ImageError) → left_of (image_at bytes) ≡ Err d → d ≡ NoMemory → ⊥
+pub refused_otherwise : (bytes : List ℕ) (d : ImageError) → rest_of_read (image_at bytes) ≡ Err d → d ≡ NoMemory → ⊥
 refused_otherwise bytes d e is = choose (image_at bytes) (image_wants_nothing bytes) e
   where
-    choose : (r : Result (List Rec × List ℕ) ImageError) → Never r → left_of r ≡ Err d → ⊥
+    choose : (r : Result (List Rec × List ℕ) ImageError) → Never r → rest_of_read r ≡ Err d → ⊥
     choose (Ok x) never e = cc
     choose (Err x) never e = never.never cc

@@ -6,7 +6,7 @@ use Rattle.ckd_track.specs.declared.layout.TheConstants.{LONGEST_UPDATE}
 use Rattle.ckd_track.specs.declared.rec.Rec.{Rec}
 use Rattle.ckd_track.specs.declared.write.Kind.{Kind}
 use Rattle.ckd_track.specs.declared.write.Kind.TheVariants.{Update, Format, Whole}
-use Rattle.ckd_track.specs.Tracks.{size, track_size, capacity, are_records_above, is_track}
+use Rattle.ckd_track.specs.Tracks.{record_size, track_size, capacity, are_records_above, is_track}
 
 -- ---- updates
 
@@ -35,7 +35,7 @@ up_to after recs = filter (λ rec. nat_le rec.number after) recs
 -- the records up to the first that doesn't fit the room
 abbrev pub fitting : ℕ → List Rec → List Rec
 fitting room [] = []
-fitting room (rec ∷ recs) = if nat_le (size rec) room then rec ∷ fitting (room - size rec) recs else []
+fitting room (rec ∷ recs) = if nat_le (record_size rec) room then rec ∷ fitting (room - record_size rec) recs else []
 
 -- Records above `after` are erased. Then the given ones are put in order, up to the first that doesn't fit. 0 stands for
 -- the track's start. Where another `after` isn't found the track is unchanged.

@@ -31,8 +31,8 @@ head_of_track track = track % TRACKS_OF_CYLINDER
 
 -- The entry: tag, stamp, volume, cylinder, head, and the fields of the kind. Its cylinder has two bytes, so a track behind
 -- 65,536 cylinders has none.
-abbrev pub entry_spelling : Write → List ℕ
-entry_spelling write =
+abbrev pub write_spelling : Write → List ℕ
+write_spelling write =
     tag_of write.kind ∷ [] ++ to_be_bytes w64 write.stamp.0 ++ to_be_bytes w16 write.volume ++ to_be_bytes w16 (cylinder_of write.track) ++ to_be_bytes w16 (head_of_track write.track) ++ kind_spelling write.kind
 
 -- The longest entry is that of a whole track with one record that fills it.

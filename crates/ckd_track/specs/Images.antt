@@ -7,7 +7,7 @@ use Rattle.ckd_track.specs.declared.layout.TheConstants.{LONGEST_IMAGE}
 use Rattle.ckd_track.specs.declared.fault.ImageError.{ImageError}
 use Rattle.ckd_track.specs.declared.fault.ImageError.TheVariants.{Short, TooBig, Order}
 use Rattle.ckd_track.specs.declared.rec.Rec.{Rec}
-use Rattle.ckd_track.specs.Tracks.{size, capacity, IsTrack}
+use Rattle.ckd_track.specs.Tracks.{record_size, capacity, IsTrack}
 
 -- number, length of the key, length of the content in two bytes, key, content
 abbrev pub record_spelling : Rec → List ℕ
@@ -41,7 +41,7 @@ unfoldable pub records_at : (count place last room : ℕ) → List ℕ → Resul
 records_at zero place last room bytes = Ok ([], bytes)
 records_at (suc count) place last room bytes = do
   first ← record_at place last room bytes
-  others ← records_at count (place + length (record_spelling first.0)) first.0.number (room - size first.0) first.1
+  others ← records_at count (place + length (record_spelling first.0)) first.0.number (room - record_size first.0) first.1
   Ok (first.0 ∷ others.0, others.1)
 
 -- The image that the bytes begin with, and the bytes after it. A count above 255 is refused at place 0.
@@ -60,7 +60,3 @@ ReadsBack = (track : List Rec) (rest : List ℕ) → IsTrack track → image_at 
 -- What is read was spelled so, and is a track.
 abbrev pub ReadsImages : Type 0
 ReadsImages = (bytes rest : List ℕ) (track : List Rec) → IsBytes bytes → image_at bytes ≡ Ok (track, rest) → IsTrack track × (bytes ≡ image track ++ rest)
-
--- No image begins another.
-abbrev pub NoneBeginsAnother : Type 0
-NoneBeginsAnother = (one two : List Rec) (x y : List ℕ) → IsTrack one → IsTrack two → image one ++ x ≡ image two ++ y → (one ≡ two) × (x ≡ y)

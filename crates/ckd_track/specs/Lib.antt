@@ -7,3 +7,5 @@ pub mod Slots
 pub mod SlotPlaces
 pub mod Places
 pub mod Entries
+pub mod Writes
+pub mod Fields

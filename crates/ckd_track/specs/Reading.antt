@@ -5,9 +5,9 @@ use Rattle.ckd_track.specs.declared.fault.ImageError.TheVariants.{NoMemory}
 use Rattle.ckd_track.specs.declared.rec.Rec.{Rec}
 
 -- The value, seen so, or the error is the one that reading gives.
-abbrev pub Gives : {X Y : Type 0} → (X → Y) → Result X ImageError → Result Y ImageError → Type 0
-Gives view (Ok x) read = read ≡ Ok (view x)
-Gives view (Err e) read = read ≡ Err e
+abbrev pub GivesRead : {X Y : Type 0} → (X → Y) → Result X ImageError → Result Y ImageError → Type 0
+GivesRead view (Ok x) read = read ≡ Ok (view x)
+GivesRead view (Err e) read = read ≡ Err e
 
 -- The same, unless memory ran out.
 abbrev pub GivesOrWants : {X Y : Type 0} → (X → Y) → Result X ImageError → Result Y ImageError → Type 0
@@ -15,6 +15,6 @@ GivesOrWants view (Ok x) read = read ≡ Ok (view x)
 GivesOrWants view (Err e) read = e ≢ NoMemory → read ≡ Err e
 
 -- what is left, whatever the records are
-abbrev pub left_of : Result (List Rec × List ℕ) ImageError → Result (List ℕ) ImageError
-left_of (Ok read) = Ok read.1
-left_of (Err e) = Err e
+abbrev pub rest_of_read : Result (List Rec × List ℕ) ImageError → Result (List ℕ) ImageError
+rest_of_read (Ok read) = Ok read.1
+rest_of_read (Err e) = Err e

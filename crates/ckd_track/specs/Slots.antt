@@ -13,13 +13,13 @@ records_of (Ok read) = read.0
 records_of (Err e) = []
 
 -- the track whose image the bytes begin with
-abbrev pub track_of : List ℕ → List Rec
-track_of bytes = records_of (image_at bytes)
+abbrev pub track_of_image : List ℕ → List Rec
+track_of_image bytes = records_of (image_at bytes)
 
 -- The bytes are the image of a track, all of them.
 pub record IsImage (bytes : List ℕ) : Type 0 where
-  pub is_track : IsTrack (track_of bytes)
-  pub spelled : bytes ≡ image (track_of bytes)
+  pub is_track : IsTrack (track_of_image bytes)
+  pub spelled : bytes ≡ image (track_of_image bytes)
 
 -- a buffer with bytes written at a place
 abbrev pub with_bytes : (place : ℕ) → (bytes buffer : List ℕ) → List ℕ
@@ -42,7 +42,7 @@ abbrev pub spelled_records : (count : ℕ) → List ℕ → List Rec
 spelled_records count bytes = records_of (records_at count 0 0 capacity bytes)
 
 -- The bytes spell that many records in a row, all of the bytes, with rising numbers and sizes that fit a track.
-pub record AreSpelled (count : ℕ) (bytes : List ℕ) : Type 0 where
+pub record SpellsRecords (count : ℕ) (bytes : List ℕ) : Type 0 where
   pub are_records : IsTrack (spelled_records count bytes)
   pub number : length (spelled_records count bytes) ≡ count
   pub spelled : bytes ≡ flat_map record_spelling (spelled_records count bytes)

@@ -9,12 +9,12 @@ abbrev pub capacity : ℕ
 capacity = CAPACITY
 
 -- The size of a record is 8 for its count field, and the lengths of key and content.
-abbrev pub size : Rec → ℕ
-size rec = 8 + length rec.key + length rec.content
+abbrev pub record_size : Rec → ℕ
+record_size rec = 8 + length rec.key + length rec.content
 
 -- The size of a track is the sum over its records.
 abbrev pub track_size : List Rec → ℕ
-track_size recs = sum_by size recs
+track_size recs = sum_by record_size recs
 
 -- Numbers rise strictly from above `low`, up to 255, and keys have at most 255 bytes.
 abbrev pub rises_above : ℕ → List Rec → Bool

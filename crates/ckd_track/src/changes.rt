@@ -3,7 +3,7 @@
 ghost use Rattle.std.specs.Prelude.{◌≡◌, ◌≤◌, length, take, IsTrue};
 ghost use Rattle.ckd_track.specs.Tracks.{are_records_above, rises_above};
 ghost use Rattle.ckd_track.specs.Effects.{updated, formatted};
-ghost use Rattle.ckd_track.specs.Slots.{HoldsImage, track_of, AreSpelled, spelled_records};
+ghost use Rattle.ckd_track.specs.Slots.{HoldsImage, track_of_image, SpellsRecords, spelled_records};
 
 use crate::fronts::{fitting_front, kept};
 use crate::places::{content_place, fill_place};
@@ -16,7 +16,7 @@ use byteorder::{BigEndian, ByteOrder};
 pub fn update_image(buffer: &mut [u8], used: usize, number: u8, bytes: &[u8])
     requires holds { HoldsImage used buffer.old }
     ensures holds { HoldsImage used buffer.new }
-    ensures seen { track_of (take used buffer.new) ≡ updated number bytes.now (track_of (take used buffer.old)) }
+    ensures seen { track_of_image (take used buffer.new) ≡ updated number bytes.now (track_of_image (take used buffer.old)) }
 {
     if let Some(place) = content_place(&buffer[..used], number) {
         fill_place(buffer, place, bytes);
@@ -28,7 +28,7 @@ pub fn format_image(buffer: &mut [u8], used: usize, after: u8, given: &[Rec]) ->
     requires holds { HoldsImage used buffer.old }
     requires above { IsTrue (are_records_above after given.now) }
     ensures holds { HoldsImage result buffer.new }
-    ensures seen { track_of (take result buffer.new) ≡ formatted after given.now (track_of (take used buffer.old)) }
+    ensures seen { track_of_image (take result buffer.new) ≡ formatted after given.now (track_of_image (take used buffer.old)) }
 {
     let front = kept(&buffer[..used], after);
     if front.last != after {
@@ -49,10 +49,10 @@ pub fn format_image_spelled(
     given: &[u8],
 ) -> usize
     requires holds { HoldsImage used buffer.old }
-    requires spelled { AreSpelled count given.now }
+    requires spelled { SpellsRecords count given.now }
     requires above { IsTrue (rises_above after (spelled_records count given.now)) }
     ensures holds { HoldsImage result buffer.new }
-    ensures seen { track_of (take result buffer.new) ≡ formatted after (spelled_records count given.now) (track_of (take used buffer.old)) }
+    ensures seen { track_of_image (take result buffer.new) ≡ formatted after (spelled_records count given.now) (track_of_image (take used buffer.old)) }
 {
     let front = kept(&buffer[..used], after);
     if front.last != after {

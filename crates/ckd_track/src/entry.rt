@@ -3,7 +3,7 @@
 ghost use Rattle.std.specs.Prelude.{◌≡◌, ◌≤◌, ◌<◌, ◌^◌, ◌+◌, ◌∷◌, [], ◌++◌, length, take, drop, OnOk, OnErr, IsTrue};
 ghost use Rattle.std.specs.Int.{w16, w32, w64, to_be_bytes};
 ghost use Rattle.ckd_track.specs.Effects.{keeps_rules, is_kind};
-ghost use Rattle.ckd_track.specs.Entries.{tag_of, kind_spelling, entry_spelling, queue_form, longest_entry};
+ghost use Rattle.ckd_track.specs.Entries.{tag_of, kind_spelling, write_spelling, queue_form, longest_entry};
 ghost use Rattle.ckd_track.specs.Images.{longest_image};
 ghost use Rattle.ckd_track.specs.Slots.{with_bytes};
 
@@ -32,7 +32,7 @@ fn fields_len(kind: &Kind) -> usize
 /// one there.
 pub fn entry_len(write: &Write) -> u32
     requires rules { IsTrue (keeps_rules write.now.kind) }
-    ensures entry { result ≡ length (entry_spelling write.now) }
+    ensures entry { result ≡ length (write_spelling write.now) }
     ensures form { result ≡ length (queue_form write.now) }
     ensures short { result ≤ longest_entry }
 {

@@ -3,7 +3,7 @@
 ghost use Rattle.std.specs.Prelude.{◌≡◌, ◌≤◌, ◌<◌, ◌^◌, ◌+◌};
 ghost use Rattle.ckd_track.specs.Tracks.{capacity};
 ghost use Rattle.ckd_track.specs.Heads.{head_size, head_length};
-ghost use Rattle.ckd_track.specs.Slots.{IsImage, track_of, AreSpelled, spelled_records};
+ghost use Rattle.ckd_track.specs.Slots.{IsImage, track_of_image, SpellsRecords, spelled_records};
 ghost use Rattle.ckd_track.specs.Places.{no_front, front_after, front_up_to, front_fitting};
 
 use crate::head::Head;
@@ -51,7 +51,7 @@ impl Front {
 /// The records of an image with a number up to `after`.
 pub fn kept(image: &[u8], after: u8) -> Front
     requires { IsImage image.now }
-    ensures { result ≡ front_up_to after (no_front 2 capacity) (track_of image.now) }
+    ensures { result ≡ front_up_to after (no_front 2 capacity) (track_of_image image.now) }
 {
     let count = count(image);
     let (_, mut rest) = image.split_at(2);
@@ -70,7 +70,7 @@ pub fn kept(image: &[u8], after: u8) -> Front
 
 /// The given records up to the first that doesn't fit the room.
 pub fn fitting_front(given: &[u8], count: u8, room: usize) -> Front
-    requires spelled { AreSpelled count given.now }
+    requires spelled { SpellsRecords count given.now }
     ensures { result ≡ front_fitting (no_front 0 room) (spelled_records count given.now) }
 {
     let mut rest = given;

@@ -1,6 +1,6 @@
 //! The laws of images.
 
-ghost use Rattle.ckd_track.specs.Images.{ReadsBack, ReadsImages, NoneBeginsAnother};
+ghost use Rattle.ckd_track.specs.Images.{ReadsBack, ReadsImages};
 
 /// What an image spells is read again, whatever follows it.
 pub fn images_read_back()
@@ -10,9 +10,4 @@ pub fn images_read_back()
 /// What is read is a track, and was spelled so.
 pub fn images_are_read()
     ensures { ReadsImages }
-{}
-
-/// No image begins another.
-pub fn no_image_begins_another()
-    ensures { NoneBeginsAnother }
 {}

@@ -22,7 +22,7 @@ mod write;
 pub use decoding::decode_records;
 pub use entry::{entry_len, put_entry};
 pub use fault::ImageError;
-pub use laws::{images_are_read, images_read_back, no_image_begins_another};
+pub use laws::{images_are_read, images_read_back};
 pub use layout::{
     BEFORE_IMAGE, BLOCKS_OF_ENTRY, BLOCKS_OF_QUEUE, CAPACITY, CYLINDER_LENGTH, FIRST_SLOT,
     LONGEST_ENTRY, LONGEST_IMAGE, LONGEST_UPDATE, SLOT_LENGTH, WRITES_OF_RUN,

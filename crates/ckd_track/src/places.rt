@@ -2,8 +2,8 @@
 
 ghost use Rattle.std.specs.Prelude.{◌≡◌, ◌≤◌, ◌+◌, ◌++◌, length, take, drop};
 ghost use Rattle.ckd_track.specs.Effects.{fitted};
-ghost use Rattle.ckd_track.specs.Slots.{IsImage, track_of};
-ghost use Rattle.ckd_track.specs.Places.{place_of};
+ghost use Rattle.ckd_track.specs.Slots.{IsImage, track_of_image};
+ghost use Rattle.ckd_track.specs.Places.{place_of_content};
 
 use crate::head::Head;
 use byteorder::{BigEndian, ByteOrder};
@@ -18,7 +18,7 @@ pub struct Place {
 /// The count of records.
 pub fn count(image: &[u8]) -> u16
     requires { IsImage image.now }
-    ensures { result ≡ length (track_of image.now) }
+    ensures { result ≡ length (track_of_image image.now) }
 {
     BigEndian::read_u16(image)
 }
@@ -26,7 +26,7 @@ pub fn count(image: &[u8]) -> u16
 /// The place of the content of the record with this number.
 pub fn content_place(image: &[u8], number: u8) -> Option<Place>
     requires { IsImage image.now }
-    ensures { result ≡ place_of number 2 (track_of image.now) }
+    ensures { result ≡ place_of_content number 2 (track_of_image image.now) }
 {
     let count = count(image);
     let (_, mut rest) = image.split_at(2);

@@ -4,7 +4,7 @@ ghost use Rattle.std.specs.Prelude.{◌≡◌, ◌≤◌, ◌+◌, length, drop,
 ghost use Rattle.ckd_track.specs.Tracks.{capacity};
 ghost use Rattle.ckd_track.specs.Images.{record_at, records_at, image_at};
 ghost use Rattle.ckd_track.specs.Heads.{head_at, head_size, head_length, first_record, IsFirst};
-ghost use Rattle.ckd_track.specs.Reading.{Gives, left_of};
+ghost use Rattle.ckd_track.specs.Reading.{GivesRead, rest_of_read};
 
 use crate::fault::ImageError;
 use crate::head::Head;
@@ -14,7 +14,7 @@ use byteorder::{BigEndian, ByteOrder};
 /// The record at the front, which stands at the place after a record `last`, with this room left.
 #[tactic(auto, unfolding(crate::specs::Images::record_at, crate::specs::Images::record_after_head))]
 pub fn record(bytes: &[u8], place: u32, last: u8, room: usize) -> Result<(Head, &[u8]), ImageError>
-    ensures read { Gives (λ x. (first_record bytes.now, x.1.now)) result (record_at place last room bytes.now) }
+    ensures read { GivesRead (λ x. (first_record bytes.now, x.1.now)) result (record_at place last room bytes.now) }
     ensures head { IfOk result (λ x. IsFirst bytes.now room x.0 x.1.now) }
 {
     if bytes.len() < 4 {
@@ -37,7 +37,7 @@ pub fn record(bytes: &[u8], place: u32, last: u8, room: usize) -> Result<(Head, 
 /// What follows that many records, of which the first stands at place 2 of a track that is empty so far.
 #[tactic(auto, unfolding(crate::specs::Images::records_at))]
 fn after_records(bytes: &[u8], count: u16) -> Result<&[u8], ImageError>
-    ensures { Gives (λ rest. rest.now) result (left_of (records_at count 2 0 capacity bytes.now)) }
+    ensures { GivesRead (λ rest. rest.now) result (rest_of_read (records_at count 2 0 capacity bytes.now)) }
 {
     let mut rest = bytes;
     let mut place = 2;
@@ -72,7 +72,7 @@ pub fn count_and_records(bytes: &[u8]) -> Result<(u16, &[u8]), ImageError>
 
 /// What follows the image that the bytes begin with.
 pub fn after_image(bytes: &[u8]) -> Result<&[u8], ImageError>
-    ensures { Gives (λ rest. rest.now) result (left_of (image_at bytes.now)) }
+    ensures { GivesRead (λ rest. rest.now) result (rest_of_read (image_at bytes.now)) }
 {
     let (count, records) = count_and_records(bytes)?;
     after_records(records, count)

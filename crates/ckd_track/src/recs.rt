@@ -2,7 +2,7 @@
 
 ghost use Rattle.std.specs.Prelude.{◌≡◌, ◌≤◌, ◌==◌, ◌+◌, ◌*◌, ◌++◌, ◌↔◌, length, take, position, OnOk, OnErr, IsTrue};
 ghost use Rattle.std.specs.List.{flat_map};
-ghost use Rattle.ckd_track.specs.Tracks.{size, track_size, IsTrack, last_number, are_records_above};
+ghost use Rattle.ckd_track.specs.Tracks.{record_size, track_size, IsTrack, last_number, are_records_above};
 ghost use Rattle.ckd_track.specs.Effects.{fitting, up_to};
 ghost use Rattle.ckd_track.specs.Images.{record_spelling};
 ghost use Rattle.ckd_track.specs.Heads.{FitsHead};
@@ -14,7 +14,7 @@ use xrc_edge::NoMemory;
 /// The size of a record on a track.
 fn size(rec: &Rec) -> usize
     requires fits { FitsHead rec.now }
-    ensures { result ≡ size rec.now }
+    ensures { result ≡ record_size rec.now }
 {
     8 + rec.key.len() + rec.content.len()
 }

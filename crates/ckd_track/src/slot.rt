@@ -5,7 +5,7 @@ ghost use Rattle.ckd_track.specs.Tracks.{IsTrack, are_records_above, rises_above
 ghost use Rattle.ckd_track.specs.Effects.{apply, updated, formatted, keeps_rules};
 ghost use Rattle.ckd_track.specs.Entries.{IsFields, AppliesFields, IsQueueForm, AppliesEntry, IsDelta, AppliesDelta};
 ghost use Rattle.ckd_track.specs.Images.{image, image_at, longest_image};
-ghost use Rattle.ckd_track.specs.Slots.{IsImage, track_of, AreSpelled, spelled_records};
+ghost use Rattle.ckd_track.specs.Slots.{IsImage, track_of_image, SpellsRecords, spelled_records};
 
 use crate::changes::{format_image, format_image_spelled, update_image};
 use crate::fault::ImageError;
@@ -30,11 +30,11 @@ pub struct Slot {
 impl Model for Slot {
     ghost use Rattle.std.specs.Prelude.{List, take};
     ghost use Rattle.ckd_track.specs.declared.rec.Rec.{Rec};
-    ghost use Rattle.ckd_track.specs.Slots.{track_of, HoldsImage};
+    ghost use Rattle.ckd_track.specs.Slots.{track_of_image, HoldsImage};
 
     ghost Value = { List Rec };
 
-    ghost view = { λ slot. track_of (take slot.used slot.buffer.items.items) };
+    ghost view = { λ slot. track_of_image (take slot.used slot.buffer.items.items) };
 
     ghost invariant = { λ slot. HoldsImage slot.used slot.buffer.items.items };
 }
@@ -77,7 +77,7 @@ impl Slot {
     /// Takes the track whose image the bytes are.
     fn put(&mut self, image: &[u8])
         requires { IsImage image.now }
-        ensures { self.new ≡ track_of image.now }
+        ensures { self.new ≡ track_of_image image.now }
     {
         put_front(self.buffer.as_mut_slice(), image);
         self.used = image.len();
@@ -136,7 +136,7 @@ impl Slot {
 
     /// The same for records that are spelled one after another, that many.
     fn format_spelled(&mut self, after: u8, count: u8, given: &[u8])
-        requires spelled { AreSpelled count given.now }
+        requires spelled { SpellsRecords count given.now }
         requires above { IsTrue (rises_above after (spelled_records count given.now)) }
         ensures { self.new ≡ formatted after (spelled_records count given.now) self.old }
     {

@@ -2,13 +2,12 @@
 use Rattle.std.proofs.Common.{◌≡◌, ◌⊎◌, inl, inr, ℕ, zero, suc, ◌+◌, ◌<◌, ◌≤◌, Bool, true, false, cond, nat_eq, List, [], ◌∷◌, ◌++◌, length, take, Option, Some, None, refl, sym, ap, subst, ◌∙◌, append-nil, arith, length-append, slice_get}
 use Rattle.std.specs.Prelude.{◌==◌, ◌||◌, ◌&&◌, fold, nat_le, nat_lt}
 use Rattle.std.specs.List.{list_any}
-use Rattle.std.proofs.lemmas.Bool.{and_from, and_left, and_parts, and_right, cond-false, cond-true, eq-eqb, le-leb, le-ltb, leb-true, lt-leb, lt-ltb, ne_eqb, or_left, or_parts, or_right}
+use Rattle.std.proofs.lemmas.Bool.{and_left, and_parts, and_right, cond-false, le-ltb, leb-true, lt-leb, lt-ltb, ne_eqb, or_parts, or_right}
 use Rattle.std.proofs.lemmas.List.{length_push, take-append-le, take_all}
 use Rattle.std.proofs.lemmas.List.Concat.{flat_map-append}
 use Rattle.std.proofs.lemmas.Option.{slice_get_within}
-use Rattle.row_changes.specs.Toward.{AreCounted}
 use Rattle.consistency.specs.Bears.{Run, Stage}
-use Rattle.consistency.specs.Courses.{Answered, AreAsked, IsAnswered, IsAsked, IsCourse, begun, first_line, first_stage, is_whole, later_line, lines_begun, most_lines, next_line, replies_of, stage_after, stage_at, texts_of}
+use Rattle.consistency.specs.Courses.{Answered, AreAsked, IsAnswered, IsAsked, IsCourse, lines_begun_from, first_line, first_stage, is_whole_line, later_line, lines_begun, most_lines, next_line, replies_of, stage_after, stage_at, texts_of}
 use Rattle.consistency.specs.Steps.{TimedCommand}
 use Rattle.consistency.specs.Times.{AreWhole}
 use Rattle.consistency.proofs.Pieces.{whole_append}
@@ -101,23 +100,11 @@ replies_are_whole (x ∷ lines) whole = whole_append x.reply (replies_of lines) 
 pub replies_whole : (run : Run) (lines : List Answered) → IsCourse run lines → AreWhole (replies_of lines)
 replies_whole run lines course = replies_are_whole lines (λ n a at. reply_whole _ a.line a.reply (course n a at).is_reply)
 
--- The hits of a course are counted.
-pub past_counted : (run : Run) (lines : List Answered) → IsCourse run lines → (n : ℕ) → n ≤ length lines → AreCounted run.rises (stage_at run lines n).past
-past_counted run lines course zero within = λ device. omega arith
-past_counted run lines course (suc n) within =
-    let one = some_at lines n (omega (arith, within)) in
-    subst (λ (s : Stage). AreCounted run.rises s.past) (sym (stage_then run lines n one.0 one.1)) (course n one.0 one.1).counted
-  where
-    some_at : (l : List Answered) (m : ℕ) → m < length l → (a : Answered) × (slice_get l m ≡ Some a)
-    some_at [] m below = absurd (omega (arith, below))
-    some_at (x ∷ l) zero below = (x, refl)
-    some_at (x ∷ l) (suc m) below = some_at l m (omega (arith, below))
-
 -- ---- the line that was heard
 
 -- It isn't before the last reply.
 pub next_not_before : (grammar : List ℕ → Option TimedCommand) (answered before : ℕ) (at_end : Bool) (text : List ℕ) (line : TimedCommand) → next_line grammar answered before at_end text ≡ Some line → before ≤ line.time
-next_not_before grammar answered before at_end text line is = whole (is_whole at_end text) (grammar (first_line text)) is
+next_not_before grammar answered before at_end text line is = whole (is_whole_line at_end text) (grammar (first_line text)) is
   where
     counted : (b : Bool) (l : TimedCommand) → nat_lt answered most_lines && nat_le before l.time ≡ b → cond b (Some l) None ≡ Some line → before ≤ line.time
     counted true l counts is = let same : l ≡ line = same_some l line is in omega (arith, leb-true before l.time (and_parts (nat_lt answered most_lines) (nat_le before l.time) counts).1, ap (λ (x : TimedCommand). x.time) same)
@@ -132,48 +119,27 @@ next_not_before grammar answered before at_end text line is = whole (is_whole at
     whole false o is = absurd cc
 
 -- Nothing is heard of a line before its first byte, and no line before it is whole.
-pub none_heard : (grammar : List ℕ → Option TimedCommand) (answered before : ℕ) (at_end : Bool) (text : List ℕ) → is_whole at_end text ≡ false → next_line grammar answered before at_end text ≡ None
+pub none_heard : (grammar : List ℕ → Option TimedCommand) (answered before : ℕ) (at_end : Bool) (text : List ℕ) → is_whole_line at_end text ≡ false → next_line grammar answered before at_end text ≡ None
 none_heard grammar answered before at_end text is = rw is refl
-
--- A line of the grammar that was heard whole, is none too many and doesn't fall is the next one. Any other line counts as never heard.
-pub next_heard : (grammar : List ℕ → Option TimedCommand) (answered before : ℕ) (at_end : Bool) (text : List ℕ) (line : TimedCommand) → is_whole at_end text ≡ true → grammar (first_line text) ≡ Some line → answered < most_lines → before ≤ line.time
-    → next_line grammar answered before at_end text ≡ Some line
-next_heard grammar answered before at_end text line whole asks few later =
-    rw whole (ap (later_line answered before) asks ∙ cond-true (nat_lt answered most_lines && nat_le before line.time) (Some line) None (and_from (nat_lt answered most_lines) (nat_le before line.time) (lt-ltb answered most_lines few) (le-leb before line.time later)))
 
 never_heard : (b : Bool) (o : Option TimedCommand) → o ≡ None → cond b o None ≡ None
 never_heard true o is = is
 never_heard false o is = refl
 
-pub outside_grammar : (grammar : List ℕ → Option TimedCommand) (answered before : ℕ) (at_end : Bool) (text : List ℕ) → grammar (first_line text) ≡ None → next_line grammar answered before at_end text ≡ None
-outside_grammar grammar answered before at_end text none = never_heard (is_whole at_end text) (later_line answered before (grammar (first_line text))) (ap (later_line answered before) none)
-
 pub time_falls : (grammar : List ℕ → Option TimedCommand) (answered before : ℕ) (at_end : Bool) (text : List ℕ) (line : TimedCommand) → grammar (first_line text) ≡ Some line → line.time < before → next_line grammar answered before at_end text ≡ None
 time_falls grammar answered before at_end text line asks falls =
-    never_heard (is_whole at_end text) (later_line answered before (grammar (first_line text)))
+    never_heard (is_whole_line at_end text) (later_line answered before (grammar (first_line text)))
     (ap (later_line answered before) asks ∙ cond-false (nat_lt answered most_lines && nat_le before line.time) (Some line) None (and_right (nat_lt answered most_lines) (nat_le before line.time) (lt-leb before line.time falls)))
 
 pub too_many : (grammar : List ℕ → Option TimedCommand) (answered before : ℕ) (at_end : Bool) (text : List ℕ) → most_lines ≤ answered → next_line grammar answered before at_end text ≡ None
-too_many grammar answered before at_end text many = never_heard (is_whole at_end text) (later_line answered before (grammar (first_line text))) (none (grammar (first_line text)))
+too_many grammar answered before at_end text many = never_heard (is_whole_line at_end text) (later_line answered before (grammar (first_line text))) (none (grammar (first_line text)))
   where
     none : (o : Option TimedCommand) → later_line answered before o ≡ None
     none None = refl
     none (Some line) = cond-false (nat_lt answered most_lines && nat_le before line.time) (Some line) None (and_left (nat_lt answered most_lines) (nat_le before line.time) (le-ltb answered most_lines many))
 
--- A line is whole with its line feed, which doesn't belong to what it asks.
-pub whole_with_feed : (at_end : Bool) (line : List ℕ) → list_any (λ x. nat_eq x 10) line ≡ false → (is_whole at_end (line ++ 10 ∷ []) ≡ true) × (first_line (line ++ 10 ∷ []) ≡ line)
-whole_with_feed at_end line none = (or_left (list_any (λ x. nat_eq x 10) (line ++ 10 ∷ [])) (at_end && nat_lt 0 (length (line ++ 10 ∷ []))) (has_feed line), before_feed line none)
-  where
-    has_feed : (l : List ℕ) → list_any (λ x. nat_eq x 10) (l ++ 10 ∷ []) ≡ true
-    has_feed [] = refl
-    has_feed (x ∷ l) = or_right (nat_eq x 10) (list_any (λ x. nat_eq x 10) (l ++ 10 ∷ [])) (has_feed l)
-
-    before_feed : (l : List ℕ) → list_any (λ x. nat_eq x 10) l ≡ false → first_line (l ++ 10 ∷ []) ≡ l
-    before_feed [] none = refl
-    before_feed (x ∷ l) none = let parts = or_parts (nat_eq x 10) (list_any (λ x. nat_eq x 10) l) none in rw parts.0 (ap (λ (r : List ℕ). x ∷ r) (before_feed l parts.1))
-
 -- The last line is whole with the script's end.
-pub whole_at_end : (line : List ℕ) → 0 < length line → list_any (λ x. nat_eq x 10) line ≡ false → (is_whole true line ≡ true) × (first_line line ≡ line)
+pub whole_at_end : (line : List ℕ) → 0 < length line → list_any (λ x. nat_eq x 10) line ≡ false → (is_whole_line true line ≡ true) × (first_line line ≡ line)
 whole_at_end line some none = (or_right (list_any (λ x. nat_eq x 10) line) (nat_lt 0 (length line)) (lt-ltb 0 (length line) some), whole_text line none)
   where
     whole_text : (l : List ℕ) → list_any (λ x. nat_eq x 10) l ≡ false → first_line l ≡ l
@@ -181,19 +147,19 @@ whole_at_end line some none = (or_right (list_any (λ x. nat_eq x 10) line) (nat
     whole_text (x ∷ l) none = let parts = or_parts (nat_eq x 10) (list_any (λ x. nat_eq x 10) l) none in rw parts.0 (ap (λ (r : List ℕ). x ∷ r) (whole_text l parts.1))
 
 -- Two lines begin where a byte follows a line feed.
-feed_then : (is_inside : Bool) (text : List ℕ) (b : ℕ) → list_any (λ x. nat_eq x 10) text ≡ true → 2 ≤ cond is_inside 1 0 + begun is_inside (text ++ b ∷ [])
+feed_then : (is_inside : Bool) (text : List ℕ) (b : ℕ) → list_any (λ x. nat_eq x 10) text ≡ true → 2 ≤ cond is_inside 1 0 + lines_begun_from is_inside (text ++ b ∷ [])
 feed_then is_inside [] b any = absurd cc
 feed_then is_inside (x ∷ text) b any = inside is_inside (feed (nat_eq x 10) any (feed_then true text b) (some text))
   where
-    some : (l : List ℕ) → 1 ≤ begun false (l ++ b ∷ [])
+    some : (l : List ℕ) → 1 ≤ lines_begun_from false (l ++ b ∷ [])
     some [] = omega arith
     some (y ∷ l) = omega arith
 
-    feed : (f : Bool) → (f || list_any (λ x. nat_eq x 10) text) ≡ true → (list_any (λ x. nat_eq x 10) text ≡ true → 2 ≤ 1 + begun true (text ++ b ∷ [])) → 1 ≤ begun false (text ++ b ∷ []) → 2 ≤ 1 + begun (cond f false true) (text ++ b ∷ [])
+    feed : (f : Bool) → (f || list_any (λ x. nat_eq x 10) text) ≡ true → (list_any (λ x. nat_eq x 10) text ≡ true → 2 ≤ 1 + lines_begun_from true (text ++ b ∷ [])) → 1 ≤ lines_begun_from false (text ++ b ∷ []) → 2 ≤ 1 + lines_begun_from (cond f false true) (text ++ b ∷ [])
     feed true any on from = omega (arith, from)
     feed false any on from = on any
 
-    inside : (i : Bool) → 2 ≤ 1 + begun (cond (nat_eq x 10) false true) (text ++ b ∷ []) → 2 ≤ cond i 1 0 + (cond i 0 1 + begun (cond (nat_eq x 10) false true) (text ++ b ∷ []))
+    inside : (i : Bool) → 2 ≤ 1 + lines_begun_from (cond (nat_eq x 10) false true) (text ++ b ∷ []) → 2 ≤ cond i 1 0 + (cond i 0 1 + lines_begun_from (cond (nat_eq x 10) false true) (text ++ b ∷ []))
     inside true two = omega (arith, two)
     inside false two = omega (arith, two)
 
@@ -202,7 +168,7 @@ pub no_feed_before : (text : List ℕ) (b : ℕ) → lines_begun (text ++ b ∷ 
 no_feed_before text b one = choose (list_any (λ x. nat_eq x 10) text) refl
   where
     choose : (t : Bool) → list_any (λ x. nat_eq x 10) text ≡ t → t ≡ false
-    choose true any = let two : 2 ≤ 0 + begun false (text ++ b ∷ []) = feed_then false text b any in absurd (omega (arith, one, two))
+    choose true any = let two : 2 ≤ 0 + lines_begun_from false (text ++ b ∷ []) = feed_then false text b any in absurd (omega (arith, one, two))
     choose false none = refl
 
 -- A byte behind a text without a line feed begins no second line.
@@ -210,16 +176,12 @@ pub one_line_more : (text : List ℕ) (b : ℕ) → list_any (λ x. nat_eq x 10)
 one_line_more [] b none = omega arith
 one_line_more (x ∷ text) b none =
     let parts = or_parts (nat_eq x 10) (list_any (λ z. nat_eq z 10) text) none in
-    let rest : begun (cond (nat_eq x 10) false true) (text ++ b ∷ []) ≡ 0 = rw parts.0 (inside text parts.1) in
+    let rest : lines_begun_from (cond (nat_eq x 10) false true) (text ++ b ∷ []) ≡ 0 = rw parts.0 (inside text parts.1) in
     omega (arith, rest)
   where
-    inside : (l : List ℕ) → list_any (λ z. nat_eq z 10) l ≡ false → begun true (l ++ b ∷ []) ≡ 0
+    inside : (l : List ℕ) → list_any (λ z. nat_eq z 10) l ≡ false → lines_begun_from true (l ++ b ∷ []) ≡ 0
     inside [] none = refl
-    inside (y ∷ l) none = let parts = or_parts (nat_eq y 10) (list_any (λ z. nat_eq z 10) l) none in let rest : begun (cond (nat_eq y 10) false true) (l ++ b ∷ []) ≡ 0 = rw parts.0 (inside l parts.1) in omega (arith, rest)
-
--- What was heard is the whole script exactly where nothing is left to hear.
-pub at_end_is : (heard left script : List ℕ) → script ≡ heard ++ left → left ≡ [] → nat_eq (length heard) (length script) ≡ true
-at_end_is heard left script is none = eq-eqb (length heard) (length script) (sym (ap length (is ∙ ap (λ (l : List ℕ). heard ++ l) none ∙ append-nil heard)))
+    inside (y ∷ l) none = let parts = or_parts (nat_eq y 10) (list_any (λ z. nat_eq z 10) l) none in let rest : lines_begun_from (cond (nat_eq y 10) false true) (l ++ b ∷ []) ≡ 0 = rw parts.0 (inside l parts.1) in omega (arith, rest)
 
 pub not_end_is : (heard : List ℕ) (b : ℕ) (left script : List ℕ) → script ≡ heard ++ b ∷ left → nat_eq (length heard) (length script) ≡ false
 not_end_is heard b left script is = ne_eqb (length heard) (length script) (λ same. absurd (omega (arith, same, ap length is, length-append heard (b ∷ left))))

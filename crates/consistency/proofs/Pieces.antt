@@ -1,11 +1,11 @@
 -- The lines and times of texts that stand one behind another.
-use Rattle.std.proofs.Common.{◌≡◌, ℕ, ◌≤◌, Bool, true, false, cond, nat_eq, List, [], ◌∷◌, ◌++◌, length, refl, sym, ap, subst, ◌∙◌, append_assoc, append-nil, arith}
+use Rattle.std.proofs.Common.{◌≡◌, ℕ, ◌≤◌, Bool, true, false, cond, nat_eq, List, [], ◌∷◌, ◌++◌, length, refl, sym, ap, subst, ◌∙◌, append_assoc, append-nil}
 use Rattle.std.specs.Prelude.{All}
 use Rattle.std.specs.List.{flat_map, list_any}
 use Rattle.std.proofs.lemmas.Bool.{or_parts}
 use Rattle.std.proofs.lemmas.List.{take_at}
 use Rattle.std.proofs.lemmas.List.Concat.{flat_map-append}
-use Rattle.std.proofs.lemmas.List.Elements.{All-append, All-take, All-weaker}
+use Rattle.std.proofs.lemmas.List.Elements.{All-take}
 use Rattle.consistency.specs.Moments.{AreUpTo}
 use Rattle.consistency.specs.Times.{AreWhole, ended_pieces, times_in_line, times_said, unended, whole_lines}
 
@@ -64,18 +64,6 @@ line_ended a line whole none =
 -- The times that whole lines say, and then those that a text says behind them.
 pub times_append : (a b : List ℕ) → AreWhole a → times_said (a ++ b) ≡ times_said a ++ times_said b
 times_append a b whole = ap (flat_map times_in_line) (lines_append a b whole) ∙ flat_map-append times_in_line (whole_lines a) (whole_lines b)
-
--- A text without a line feed says no time.
-pub no_times : (text : List ℕ) → list_any (λ b. nat_eq b 10) text ≡ false → times_said text ≡ []
-no_times text none = ap (flat_map times_in_line) (no_pieces 10 [] text none).0
-
--- What isn't later than one time isn't later than a later one.
-pub up_to_later : (time later : ℕ) (times : List ℕ) → time ≤ later → AreUpTo time times → AreUpTo later times
-up_to_later time later times le all = All-weaker (λ z. z ≤ time) (λ z. z ≤ later) (λ z below. omega (arith, below, le)) times all
-
--- No time of whole lines and of a text behind them is later.
-pub up_to_both : (time : ℕ) (a b : List ℕ) → AreWhole a → AreUpTo time (times_said a) → AreUpTo time (times_said b) → AreUpTo time (times_said (a ++ b))
-up_to_both time a b whole first second = subst (λ (l : List ℕ). AreUpTo time l) (sym (times_append a b whole)) (All-append (λ z. z ≤ time) (times_said a) (times_said b) first second)
 
 -- What the front of a list has in it.
 all_front : (P : ℕ → Type 0) (xs ys : List ℕ) → All P (xs ++ ys) → All P xs

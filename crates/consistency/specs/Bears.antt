@@ -109,13 +109,13 @@ AreRows run s time rows = elim s.pairs.is_ended [
 -- ---- the tracks
 
 -- the tracks of a primary
-abbrev pub tracks_of : PairRow → ℕ
-tracks_of r = TRACKS_OF_CYLINDER * r.cylinders
+abbrev pub tracks_of_row : PairRow → ℕ
+tracks_of_row r = TRACKS_OF_CYLINDER * r.cylinders
 
 -- Each duplex row's device has on each track the primary's track at the time: after exactly the writes stamped up to it.
 abbrev pub HoldsPrimaries : Run → Shape → Images → List PairRow → ℕ → Type 0
 HoldsPrimaries run shape images rows time = (place : ℕ) (r : PairRow) → slice_get rows place ≡ Some r → r.state ≡ Duplex
-    → (track : ℕ) → track < tracks_of r → content_in shape images r.device track ≡ Some (primary run.traces time r.control r.volume track)
+    → (track : ℕ) → track < tracks_of_row r → content_in shape images r.device track ≡ Some (primary run.traces time r.control r.volume track)
 
 -- ---- a choice bears a time
 

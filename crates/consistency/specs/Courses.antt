@@ -8,7 +8,7 @@ use Rattle.row_changes.specs.Changes.{Timed}
 use Rattle.row_changes.specs.Toward.{AreCounted}
 use Rattle.consistency.specs.Bears.{Run, Stage, accepts, breaks_of, names_of}
 use Rattle.consistency.specs.Replies.{IsReply, has_reply}
-use Rattle.consistency.specs.Steps.{Step, TimedCommand, pairs_on_the_way}
+use Rattle.consistency.specs.Steps.{IsLineStep, TimedCommand, pairs_on_the_way}
 
 -- A line that was answered: its text as it was heard, what it asks, the reply as it was said, the changes of rows before its command
 -- and the hits after it, and the pairs then.
@@ -45,7 +45,7 @@ stage_at run lines n = fold stage_after (first_stage run) (take n lines)
 -- A line is answered at a stage: its pairs come by a step, a device is hit at most as often as it failed, the start that the command
 -- table accepts gives the session its level, and what was said is one reply, by which the command is accepted where the table accepts it.
 pub record IsAnswered (run : Run) (s : Stage) (a : Answered) : Type 0 where
-  pub step : Step run.level (breaks_of run) (names_of run) s.replied s.pairs a.line a.changes a.hits a.pairs
+  pub step : IsLineStep run.level (breaks_of run) (names_of run) s.replied s.pairs a.line a.changes a.hits a.pairs
   pub counted : AreCounted run.rises (s.past ++ a.changes ++ a.hits)
   pub level : (level : Level) → a.line.command ≡ Start level → IsTrue (accepts run s.pairs a.line) → level ≡ run.level
   pub is_reply : IsReply (accepts run (pairs_on_the_way run.level a.changes s.pairs) a.line) a.line a.reply
@@ -63,12 +63,12 @@ abbrev pub replies_of : List Answered → List ℕ
 replies_of lines = flat_map (λ a. a.reply) lines
 
 -- how many lines begin in a text, where its first byte stands inside a line or begins one
-abbrev pub begun : (is_inside : Bool) → (text : List ℕ) → ℕ
-begun is_inside [] = 0
-begun is_inside (b ∷ text) = (if is_inside then 0 else 1) + begun (if b == 10 then false else true) text
+abbrev pub lines_begun_from : (is_inside : Bool) → (text : List ℕ) → ℕ
+lines_begun_from is_inside [] = 0
+lines_begun_from is_inside (b ∷ text) = (if is_inside then 0 else 1) + lines_begun_from (if b == 10 then false else true) text
 
 abbrev pub lines_begun : (text : List ℕ) → ℕ
-lines_begun text = begun false text
+lines_begun text = lines_begun_from false text
 
 -- what stands before the first line feed
 abbrev pub first_line : (text : List ℕ) → List ℕ
@@ -76,8 +76,8 @@ first_line [] = []
 first_line (b ∷ text) = if b == 10 then [] else b ∷ first_line text
 
 -- A line is whole with its line feed, or with the end of the script.
-abbrev pub is_whole : (at_end : Bool) → (text : List ℕ) → Bool
-is_whole at_end text = list_any (λ b. b == 10) text || (at_end && nat_lt 0 (length text))
+abbrev pub is_whole_line : (at_end : Bool) → (text : List ℕ) → Bool
+is_whole_line at_end text = list_any (λ b. b == 10) text || (at_end && nat_lt 0 (length text))
 
 -- the most lines of a script
 abbrev pub most_lines : ℕ
@@ -90,7 +90,7 @@ later_line lines before (Some line) = if nat_lt lines most_lines && nat_le befor
 
 -- the line that was heard whole behind the answered ones, if one was and keeps the grammar of lines, which gives what a text asks
 abbrev pub next_line : (grammar : List ℕ → Option TimedCommand) → (answered before : ℕ) → (at_end : Bool) → (text : List ℕ) → Option TimedCommand
-next_line grammar answered before at_end text = if is_whole at_end text then later_line answered before (grammar (first_line text)) else None
+next_line grammar answered before at_end text = if is_whole_line at_end text then later_line answered before (grammar (first_line text)) else None
 
 -- A line was answered as what its text asks: one line that was heard whole.
 pub record IsAsked (grammar : List ℕ → Option TimedCommand) (answered before : ℕ) (at_end : Bool) (a : Answered) : Type 0 where

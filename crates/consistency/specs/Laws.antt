@@ -1,5 +1,5 @@
 -- The laws of times that are borne. Each is the contract of a public function without parameters.
-use Rattle.std.specs.Prelude.{◌≡◌, ◌≤◌, ◌<◌, ◌^◌, ℕ, List, map, Option, Some, IsTrue, slice_get}
+use Rattle.std.specs.Prelude.{◌≡◌, ◌≤◌, ◌<◌, ◌^◌, ℕ, List, map, Option, Some, false, IsTrue, slice_get}
 use Rattle.pair_table.specs.declared.level.Level.{Level}
 use Rattle.pair_table.specs.Naming.{Naming}
 use Rattle.pair_table.specs.Refusals.{Pairs}
@@ -19,6 +19,11 @@ OneTime = (run : Run) (s : Stage) (shape : Shape) (images : Images) (a b : ℕ) 
 -- It bears no time before the one that was replied last.
 abbrev pub TimesAreNotEarlier : Type 0
 TimesAreNotEarlier = (run : Run) (s : Stage) (shape : Shape) (images : Images) (time : ℕ) → Bears run s shape images time → s.replied ≤ time
+
+-- It bears no time past a line that was heard, where the session hasn't ended.
+abbrev pub TimesAreNotLater : Type 0
+TimesAreNotLater = (run : Run) (s : Stage) (shape : Shape) (images : Images) (time : ℕ) (line : TimedCommand) → s.next ≡ Some line → s.pairs.is_ended ≡ false
+    → Bears run s shape images time → time ≤ line.time
 
 -- Without a hit the rows before a line's command are determined: each row that wasn't suspended is duplex, or suspended since its
 -- control's break time where that lies between.

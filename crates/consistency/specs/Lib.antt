@@ -8,4 +8,3 @@ pub mod Courses
 pub mod Moments
 pub mod Keeping
 pub mod Laws
-pub mod Vectors

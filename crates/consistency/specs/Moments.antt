@@ -1,6 +1,6 @@
 -- What every moment of a run must bear, from the one on at which its session has started.
 use Rattle.std.specs.Prelude.{◌≡◌, ℕ, ◌<◌, ◌≤◌, ◌++◌, List, All, Option, Some, IsTrue}
-use Rattle.crash_plant.specs.Choices.{Choice, IsChoice}
+use Rattle.crash_plant.specs.Choices.{AtMoment, Choice}
 use Rattle.crash_plant.specs.Moments.{PlantState}
 use Rattle.site_means.specs.declared.means.Means.{Means}
 use Rattle.site_means.specs.Images.{shape_of}
@@ -34,13 +34,13 @@ pub record MomentBears (run : Run) (grammar : List ℕ → Option TimedCommand) 
   pub heard_is : new.heard t ≡ old.heard old.clock ++ heard
   pub said_is : new.said t ≡ old.said old.clock ++ said
   pub at : StandsAt lines heard said
-  pub bears : IsTrue (stage_there run grammar old.script at).pairs.table.is_started → (c : Choice) → IsChoice new t c → BearsTime run (stage_there run grammar old.script at) said new c
+  pub bears : IsTrue (stage_there run grammar old.script at).pairs.table.is_started → AtMoment (BearsTime run (stage_there run grammar old.script at) said new) new t
 
 -- All choices of this moment mean the pairs after the last answered line, where the session has started.
 abbrev pub AllMeanPairs : (run : Run) → (grammar : List ℕ → Option TimedCommand) → (lines : List Answered) → (old new : PlantState) → (t : ℕ) → MomentBears run grammar lines old new t → Type 0
 AllMeanPairs run grammar lines old new t moment =
-    IsTrue (stage_there run grammar old.script moment.at).pairs.table.is_started → (c : Choice) → IsChoice new t c
-    → (means : Means) × (means_of new c ≡ Some means) × MeansPairs (stage_there run grammar old.script moment.at) means
+    IsTrue (stage_there run grammar old.script moment.at).pairs.table.is_started
+    → AtMoment (λ c. (means : Means) × (means_of new c ≡ Some means) × MeansPairs (stage_there run grammar old.script moment.at) means) new t
 
 -- They do at the first moment at which a reply was said whole.
 abbrev pub FirstMeans : (run : Run) → (grammar : List ℕ → Option TimedCommand) → (lines : List Answered) → (old new : PlantState)

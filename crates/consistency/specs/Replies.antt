@@ -1,7 +1,7 @@
 -- The replies to lines, and which of the lines that were said are replies.
 use Rattle.std.specs.Prelude.{◌≡◌, ℕ, ◌==◌, ◌&&◌, ◌||◌, List, [], ◌∷◌, ◌++◌, codes, bytes_eq, count_by, is_ok, Bool, false, if◌then◌else◌}
 use Rattle.std.specs.List.{list_any}
-use Rattle.tod_stamp.specs.Stamps.{stamp_of, stamp_text}
+use Rattle.tod_stamp.specs.Stamps.{stamp_of_digits, stamp_text}
 use Rattle.pair_table.specs.declared.command.Command.{Command}
 use Rattle.pair_table.specs.declared.command.Command.TheVariants.{Start, AddPair, DelPair, Suspend, Query, End}
 use Rattle.consistency.specs.Steps.{TimedCommand}
@@ -10,7 +10,7 @@ use Rattle.consistency.specs.Times.{AreWhole, whole_lines, words}
 -- ---- lines that are replies
 
 abbrev pub is_stamp : (word : List ℕ) → Bool
-is_stamp word = is_ok (stamp_of word)
+is_stamp word = is_ok (stamp_of_digits word)
 
 abbrev pub is_answer : (word : List ℕ) → Bool
 is_answer word = bytes_eq word (codes "OK") || bytes_eq word (codes "REFUSED")

@@ -58,7 +58,7 @@ pub record IsCommanded (level : Level) (breaks : List (Option ℕ)) (names : Nam
 
 -- A step from a line with the stamp `from` to the next, by these changes before its command and these hits after it. Before a
 -- session starts, and after it has ended, it is the command alone.
-pub record Step (level : Level) (breaks : List (Option ℕ)) (names : Naming) (from : ℕ) (old : Pairs) (line : TimedCommand) (changes hits : List Timed) (new : Pairs) : Type 0 where
+pub record IsLineStep (level : Level) (breaks : List (Option ℕ)) (names : Naming) (from : ℕ) (old : Pairs) (line : TimedCommand) (changes hits : List Timed) (new : Pairs) : Type 0 where
   pub active : IsTrue (is_active old) → IsCommanded level breaks names from old line changes hits
   pub still : is_active old ≡ false → (changes ≡ []) × (hits ≡ [])
   pub made : new ≡ pairs_after_line level breaks names old line changes hits

@@ -3,7 +3,7 @@ use Rattle.std.specs.Prelude.{◌≡◌, ℕ, ◌==◌, List, [], ◌∷◌, ◌
 use Rattle.std.specs.List.{flat_map}
 use Rattle.tod_stamp.specs.declared.stamp.Stamp.{Stamp}
 use Rattle.tod_stamp.specs.declared.stamp.StampError.{StampError}
-use Rattle.tod_stamp.specs.Stamps.{stamp_of}
+use Rattle.tod_stamp.specs.Stamps.{stamp_of_digits}
 
 -- the pieces of a text that a separator ends, where this was read of the first one; what follows the last separator is none
 abbrev pub ended_pieces : (separator : ℕ) → (read : List ℕ) → (text : List ℕ) → List (List ℕ)
@@ -33,11 +33,11 @@ times_of (Err why) = []
 
 -- the time in a word that begins with `T=`
 abbrev pub time_in_word : (word : List ℕ) → List ℕ
-time_in_word word = if bytes_eq (take 2 word) (codes "T=") then times_of (stamp_of (drop 2 word)) else []
+time_in_word word = if bytes_eq (take 2 word) (codes "T=") then times_of (stamp_of_digits (drop 2 word)) else []
 
 -- the time behind the word `JOURNALED`
 abbrev pub time_behind : (before word : List ℕ) → List ℕ
-time_behind before word = if bytes_eq before (codes "JOURNALED") then times_of (stamp_of word) else []
+time_behind before word = if bytes_eq before (codes "JOURNALED") then times_of (stamp_of_digits word) else []
 
 -- the times in words, where this one stands before the first
 abbrev pub times_in_words : (before : List ℕ) → List (List ℕ) → List ℕ

@@ -2,8 +2,5 @@
 #![tactic(auto)]
 
 mod laws;
-pub mod vectors;
 
-pub use laws::{
-    one_time, replies_are_answers, runs_begin, steps_are_functions, times_are_not_earlier,
-};
+pub use laws::{one_time, replies_are_answers, steps_are_functions};

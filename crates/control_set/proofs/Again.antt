@@ -8,7 +8,7 @@ use Rattle.tod_stamp.specs.Names.{is_field, session_field}
 use Rattle.tod_stamp.proofs.FieldLaws.{at_place, wide16, wide64, number_again, bytes_again}
 use Rattle.tod_stamp.proofs.NameLaws.{and_true, fields_back, length-name_field}
 use Rattle.control_set.specs.declared.value.Mark.{Mark}
-use Rattle.control_set.specs.Marks.{IsMark, IsInRange, mark_spelling, mark_at, has_room, flag}
+use Rattle.control_set.specs.Marks.{IsMark, IsInRange, mark_spelling, mark_at, has_spot, flag}
 use Rattle.control_set.specs.Laws.{MarksReadBack}
 
 -- the rules of the table as tests
@@ -18,7 +18,7 @@ range_kept lengths m is = and_true (nat_le 1 m.number) (nat_le m.number (2 ^ 64 
 pub set_kept : (lengths : List ℕ) (m : Mark) → IsMark lengths m → nat_lt m.at.set (length lengths) ≡ true
 set_kept lengths m is = lt-ltb m.at.set (length lengths) is.set
 
-pub room_kept : (lengths : List ℕ) (m : Mark) → IsMark lengths m → has_room lengths m.at.set m.at.place ≡ true
+pub room_kept : (lengths : List ℕ) (m : Mark) → IsMark lengths m → has_spot lengths m.at.set m.at.place ≡ true
 room_kept lengths m is = and_true (nat_lt m.at.set (length lengths)) (nat_le (m.at.place + 24) (slice_index lengths m.at.set)) (set_kept lengths m is) (le-leb (m.at.place + 24) (slice_index lengths m.at.set) is.room)
 
 up_to : (n : ℕ) → n ≤ 1 → within 0 1 n ≡ true
@@ -61,7 +61,7 @@ fields_again lengths place m rest is range =
     let three = bytes_again 8 (is_field 8) (place + 4 + 8) (session_field m.session) t3 (length-name_field 8 m.session range.session) name.0 in
     let four = byte_again (within 0 1) (place + 4 + 8 + 8) m.state_slot t4 (up_to m.state_slot is.state_slot) in
     let five = number_again w16 (2 ^ 16) wide16 (λ n. nat_lt n (length lengths)) (place + 4 + 8 + 8 + 1) m.at.set t5 range.set (set_kept lengths m is) in
-    let six = number_again w64 (2 ^ 64) wide64 (has_room lengths m.at.set) (place + 4 + 8 + 8 + 1 + 2) m.at.place t6 range.place (room_kept lengths m is) in
+    let six = number_again w64 (2 ^ 64) wide64 (has_spot lengths m.at.set) (place + 4 + 8 + 8 + 1 + 2) m.at.place t6 range.place (room_kept lengths m is) in
     let seven = number_again w64 (2 ^ 64) wide64 (nat_le 1) (place + 4 + 8 + 8 + 1 + 2 + 8) m.at.number t7 range.next (le-leb 1 m.at.number is.next) in
     let eight = number_again w64 (2 ^ 64) wide64 (nat_le 1) (place + 4 + 8 + 8 + 1 + 2 + 8 + 8) m.time.0 t8 range.time (le-leb 1 m.time.0 is.time) in
     let nine = byte_again (within 0 1) (place + 4 + 8 + 8 + 1 + 2 + 8 + 8 + 8) (flag m.ended) rest (flag_kept m.ended) in

@@ -10,7 +10,7 @@ use Rattle.control_set.specs.declared.value.Mark.{Mark}
 use Rattle.control_set.specs.declared.slot.Slot.{Slot}
 use Rattle.control_set.specs.declared.slot.Slot.TheVariants.{Closed, Holds, Damaged}
 use Rattle.control_set.specs.Marks.{IsMark, IsInRange, mark_spelling, mark_at}
-use Rattle.control_set.specs.Slots.{held, slot_of, chosen_of, chosen_mark, NoGateOpen, IsNext, is_second_free, place_of, free_place, OldOrNew}
+use Rattle.control_set.specs.Slots.{slot_read, slot_of, chosen_of, chosen_mark, NoGateOpen, IsNext, is_second_free, place_of_slot, free_place, OldOrNew}
 use Rattle.control_set.proofs.Again.{length_is, marks_again}
 use Rattle.control_set.proofs.Reading.{holds_is, closed_is, same_slot}
 
@@ -71,7 +71,7 @@ next_ok (Err place) n is = absurd is
 
 -- ---- where one slot's bytes alone have changed
 
-pub put_is : (lengths : List ℕ) (is_second : Bool) (x c : List ℕ) (own : Slot) → Torn (place_of is_second) 49 x c → slot_of lengths (drop (place_of is_second) c) ≡ own
+pub put_is : (lengths : List ℕ) (is_second : Bool) (x c : List ℕ) (own : Slot) → Torn (place_of_slot is_second) 49 x c → slot_of lengths (drop (place_of_slot is_second) c) ≡ own
     → chosen_mark lengths c ≡ chosen_with is_second own (slot_of lengths x) (slot_of lengths (drop 512 x))
 put_is lengths true x c own torn is =
     ap (λ (s : Slot). chosen_of (slot_of lengths c) s) is
@@ -80,7 +80,7 @@ put_is lengths false x c own torn is =
     ap (λ (s : Slot). chosen_of s (slot_of lengths (drop 512 c))) is
     ∙ ap (λ (l : List ℕ). chosen_of own (slot_of lengths l)) (sym (drop-drop 463 49 c) ∙ ap (λ (l : List ℕ). drop 463 l) torn.after ∙ drop-drop 463 49 x)
 
-place_low : (b : Bool) → place_of b ≤ 512
+place_low : (b : Bool) → place_of_slot b ≤ 512
 place_low true = omega arith
 place_low false = omega arith
 
@@ -89,8 +89,8 @@ module _ (lengths : List ℕ) (m : Mark) (is_mark : IsMark lengths m) (in_range 
   whole : (x : List ℕ) → slot_of lengths (1 ∷ mark_spelling m ++ x) ≡ Holds m
   whole x = holds_is lengths (mark_spelling m) x m (length_is m in_range) again
     where
-      again : held (mark_at lengths (record { place = 1; bytes = mark_spelling m })) ≡ Holds m
-      again = ap (λ (l : List ℕ). held (mark_at lengths (record { place = 1; bytes = l }))) (sym (append-nil (mark_spelling m))) ∙ ap held (marks_again lengths 1 m [] is_mark in_range)
+      again : slot_read (mark_at lengths (record { place = 1; bytes = mark_spelling m })) ≡ Holds m
+      again = ap (λ (l : List ℕ). slot_read (mark_at lengths (record { place = 1; bytes = l }))) (sym (append-nil (mark_spelling m))) ∙ ap slot_read (marks_again lengths 1 m [] is_mark in_range)
 
   module _ (x : List ℕ) (next : IsNext (chosen_mark lengths x) m.number) where
     new_is : (c : List ℕ) → Torn (free_place lengths x) 49 x c → slot_of lengths (drop (free_place lengths x) c) ≡ Holds m → chosen_mark lengths c ≡ Ok (Some m)
@@ -134,7 +134,7 @@ module _ (lengths : List ℕ) (m : Mark) (is_mark : IsMark lengths m) (in_range 
 
 -- With no gate open the free slot is the first.
 pub none_first : (lengths x : List ℕ) → NoGateOpen x → free_place lengths x ≡ 0
-none_first lengths x none = ap (λ (s : Slot). place_of (is_second_free s (slot_of lengths (drop 512 x)))) (closed_is lengths x none.first)
+none_first lengths x none = ap (λ (s : Slot). place_of_slot (is_second_free s (slot_of lengths (drop 512 x)))) (closed_is lengths x none.first)
 
 -- nothing has changed
 pub same_step : (lengths : List ℕ) (m : Mark) (place : ℕ) (x c : List ℕ) → c ≡ x → OldOrNew lengths m place x c
@@ -142,9 +142,9 @@ same_step lengths m place x c is = record { chosen = inl (ap (λ (l : List ℕ).
 
 -- ---- from the slots that were read
 
-module _ (lengths start : List ℕ) (s0 s1 : Slot) (s0_is : s0 ≡ slot_of lengths start) (s1_is : s1 ≡ slot_of lengths (drop 512 start)) (is_second : Bool) (second_is : is_second ≡ is_second_free s0 s1) (place : ℕ) (place_is : place ≡ place_of is_second) where
+module _ (lengths start : List ℕ) (s0 s1 : Slot) (s0_is : s0 ≡ slot_of lengths start) (s1_is : s1 ≡ slot_of lengths (drop 512 start)) (is_second : Bool) (second_is : is_second ≡ is_second_free s0 s1) (place : ℕ) (place_is : place ≡ place_of_slot is_second) where
   pub place_free : place ≡ free_place lengths start
-  place_free = place_is ∙ ap place_of (second_is ∙ ap (λ (s : Slot). is_second_free s s1) s0_is ∙ ap (λ (s : Slot). is_second_free (slot_of lengths start) s) s1_is)
+  place_free = place_is ∙ ap place_of_slot (second_is ∙ ap (λ (s : Slot). is_second_free s s1) s0_is ∙ ap (λ (s : Slot). is_second_free (slot_of lengths start) s) s1_is)
 
   -- a step behind that gate, in an image at the start
   pub put_step : (m : Mark) → IsMark lengths m → IsInRange m → IsNext (chosen_mark lengths start) m.number → (body : List ℕ) → body ≡ mark_spelling m → (x c : List ℕ) → x ≡ start → Gated place body x c → OldOrNew lengths m (free_place lengths start) x c

@@ -1,5 +1,5 @@
 -- A mark that was read keeps the table, whatever the bytes are.
-use Rattle.std.proofs.Common.{◌≡◌, ℕ, ◌-◌, ◌^◌, Bool, true, false, cond, nat_eq, nat_lt, nat_le, List, length, take, drop, Option, Some, None, Result, Ok, Err, IfOk, IfSome, refl, sym, ap, subst}
+use Rattle.std.proofs.Common.{◌≡◌, ℕ, ◌-◌, ◌^◌, Bool, true, false, cond, nat_eq, nat_lt, nat_le, List, length, take, drop, Option, Some, Result, Ok, Err, refl, ap, subst}
 use Rattle.std.specs.Prelude.{codes, bytes_eq, slice_range}
 use Rattle.std.specs.Int.{Width, w8, w16, w64, byte_len, from_be_bytes}
 use Rattle.std.proofs.lemmas.Bool.{leb-true}
@@ -11,8 +11,8 @@ use Rattle.tod_stamp.proofs.NameLaws.{both_true}
 use Rattle.control_set.specs.declared.value.Mark.{Mark}
 use Rattle.control_set.specs.declared.slot.Slot.{Slot}
 use Rattle.control_set.specs.declared.slot.Slot.TheVariants.{Closed, Holds, Damaged}
-use Rattle.control_set.specs.Marks.{IsMark, mark_at, has_room}
-use Rattle.control_set.specs.Slots.{HoldsMark, is_open, held, slot_of, chosen_of, chosen_mark}
+use Rattle.control_set.specs.Marks.{IsMark, mark_at, has_spot}
+use Rattle.control_set.specs.Slots.{HoldsMark, is_open, slot_read, slot_of, chosen_of, chosen_mark}
 use Rattle.control_set.proofs.Lengths.{room_is}
 
 -- a number that was read keeps its rule
@@ -35,14 +35,14 @@ mark_keeps lengths left m next e =
     let session = bind_ok (bytes_at 8 (is_field 8) number.0.1) _ (m, next) number.2 in
     let slot = bind_ok (number_at w8 (within 0 1) session.0.1) _ (m, next) session.2 in
     let set = bind_ok (number_at w16 (λ n. nat_lt n (length lengths)) slot.0.1) _ (m, next) slot.2 in
-    let place = bind_ok (number_at w64 (has_room lengths set.0.0) set.0.1) _ (m, next) set.2 in
+    let place = bind_ok (number_at w64 (has_spot lengths set.0.0) set.0.1) _ (m, next) set.2 in
     let spot = bind_ok (number_at w64 (nat_le 1) place.0.1) _ (m, next) place.2 in
     let time = bind_ok (number_at w64 (nat_le 1) spot.0.1) _ (m, next) spot.2 in
     let ended = bind_ok (number_at w8 (within 0 1) time.0.1) _ (m, next) time.2 in
     let is = ap (λ (p : Mark × Left). p.0) (mark_is _ (m, next) ended.2) in
     let among = both_true (nat_le 1 number.0.0) (nat_le number.0.0 (2 ^ 64 - 2)) (number_kept w64 (within 1 (2 ^ 64 - 2)) word.0.1 number.0.0 number.0.1 number.1) in
     let low = both_true (nat_le 0 slot.0.0) (nat_le slot.0.0 1) (number_kept w8 (within 0 1) session.0.1 slot.0.0 slot.0.1 slot.1) in
-    let room = room_is lengths set.0.0 place.0.0 (number_kept w64 (has_room lengths set.0.0) set.0.1 place.0.0 place.0.1 place.1) in
+    let room = room_is lengths set.0.0 place.0.0 (number_kept w64 (has_spot lengths set.0.0) set.0.1 place.0.0 place.0.1 place.1) in
     subst (λ (k : Mark). IsMark lengths k) is (record {
       number = leb-true 1 number.0.0 among.0;
       most = leb-true number.0.0 (2 ^ 64 - 2) among.1;
@@ -53,7 +53,7 @@ mark_keeps lengths left m next e =
       time = leb-true 1 time.0.0 (number_kept w64 (nat_le 1) spot.0.1 time.0.0 time.0.1 time.1);
     })
 
-held_keeps : (lengths : List ℕ) (left : Left) (r : Result (Mark × Left) Bad) → mark_at lengths left ≡ r → HoldsMark lengths (held r)
+held_keeps : (lengths : List ℕ) (left : Left) (r : Result (Mark × Left) Bad) → mark_at lengths left ≡ r → HoldsMark lengths (slot_read r)
 held_keeps lengths left (Ok found) e = mark_keeps lengths left found.0 found.1 e
 held_keeps lengths left (Err bad) e = tt
 
@@ -65,7 +65,7 @@ open_keeps lengths false s k = tt
 pub slot_keeps : (lengths bytes : List ℕ) → HoldsMark lengths (slot_of lengths bytes)
 slot_keeps lengths bytes =
     let left = at_place 1 (slice_range bytes 1 49) in
-    open_keeps lengths (is_open bytes) (held (mark_at lengths left)) (held_keeps lengths left (mark_at lengths left) refl)
+    open_keeps lengths (is_open bytes) (slot_read (mark_at lengths left)) (held_keeps lengths left (mark_at lengths left) refl)
 
 -- and so does the mark that counts
 pub chosen_of_keeps : (lengths : List ℕ) (first second : Slot) (m : Mark) → HoldsMark lengths first → HoldsMark lengths second → chosen_of first second ≡ Ok (Some m) → IsMark lengths m
@@ -84,9 +84,3 @@ chosen_of_keeps lengths (Holds n) (Holds l) m j k e = by_numbers (nat_eq n.numbe
 
 pub chosen_keeps : (lengths control : List ℕ) (m : Mark) → chosen_mark lengths control ≡ Ok (Some m) → IsMark lengths m
 chosen_keeps lengths control m e = chosen_of_keeps lengths _ _ m (slot_keeps lengths control) (slot_keeps lengths (drop 512 control)) e
-
--- the same of an answer
-pub found_keeps : (lengths : List ℕ) (first second : Slot) (r : Result (Option Mark) ℕ) → HoldsMark lengths first → HoldsMark lengths second → r ≡ chosen_of first second → IfOk r (λ found. IfSome found (IsMark lengths))
-found_keeps lengths first second (Ok (Some m)) j k e = chosen_of_keeps lengths first second m j k (sym e)
-found_keeps lengths first second (Ok None) j k e = tt
-found_keeps lengths first second (Err place) j k e = tt

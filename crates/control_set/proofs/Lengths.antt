@@ -5,7 +5,7 @@ use Rattle.tod_stamp.proofs.NameLaws.{both_true}
 use Rattle.crash_plant.specs.declared.device.Device.TheVariants.{Journal}
 use Rattle.crash_plant.specs.Moments.{PlantState}
 use Rattle.crash_plant.specs.Calls.{SameSite}
-use Rattle.control_set.specs.Marks.{has_room}
+use Rattle.control_set.specs.Marks.{has_spot}
 use Rattle.control_set.specs.Slots.{lengths_from, lengths_of}
 
 pub count_is : (f : ℕ → ℕ) (i n : ℕ) → length (lengths_from f i n) ≡ n
@@ -28,15 +28,15 @@ module _ (plant : PlantState) (set place : ℕ) where
   pub is_set : nat_lt set (length (lengths_of plant)) ≡ nat_lt set plant.journals
   is_set = ap (λ (n : ℕ). nat_lt set n) (count_is (λ j. plant.lengths (Journal j)) 0 plant.journals)
 
-  pub no_set : plant.journals ≤ set → has_room (lengths_of plant) set place ≡ false
+  pub no_set : plant.journals ≤ set → has_spot (lengths_of plant) set place ≡ false
   no_set past = ap (λ (b : Bool). b && nat_le (place + 24) (slice_index (lengths_of plant) set)) (is_set ∙ le-ltb set plant.journals past)
 
-  pub a_set : set < plant.journals → has_room (lengths_of plant) set place ≡ nat_le (place + 24) (plant.lengths (Journal set))
+  pub a_set : set < plant.journals → has_spot (lengths_of plant) set place ≡ nat_le (place + 24) (plant.lengths (Journal set))
   a_set lt = ap (λ (b : Bool). b && nat_le (place + 24) (slice_index (lengths_of plant) set)) (is_set ∙ lt-ltb set plant.journals lt)
       ∙ ap (λ (n : ℕ). nat_le (place + 24) n) (at_is (λ j. plant.lengths (Journal j)) 0 plant.journals set lt ∙ ap (λ (k : ℕ). plant.lengths (Journal k)) (omega arith))
 
 -- room in a journal
-pub room_is : (lengths : List ℕ) (set place : ℕ) → has_room lengths set place ≡ true → (set < length lengths) × (place + 24 ≤ slice_index lengths set)
+pub room_is : (lengths : List ℕ) (set place : ℕ) → has_spot lengths set place ≡ true → (set < length lengths) × (place + 24 ≤ slice_index lengths set)
 room_is lengths set place e =
     let parts = both_true (nat_lt set (length lengths)) (nat_le (place + 24) (slice_index lengths set)) e in
     (ltb-true set (length lengths) parts.0, leb-true (place + 24) (slice_index lengths set) parts.1)

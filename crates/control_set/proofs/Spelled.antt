@@ -9,7 +9,7 @@ use Rattle.tod_stamp.specs.Names.{is_name, is_field, is_session, session_field, 
 use Rattle.tod_stamp.proofs.FieldLaws.{bind_ok, Takes, Takes-then, wide8, wide16, wide64, number_takes, bytes_takes}
 use Rattle.tod_stamp.proofs.NameLaws.{both_true, fields_spelled}
 use Rattle.control_set.specs.declared.value.Mark.{Mark}
-use Rattle.control_set.specs.Marks.{IsMark, IsInRange, mark_spelling, mark_at, has_room, flag}
+use Rattle.control_set.specs.Marks.{IsMark, IsInRange, mark_spelling, mark_at, has_spot, flag}
 use Rattle.control_set.specs.Laws.{MarksAreSpelled}
 use Rattle.control_set.proofs.Again.{length_is}
 
@@ -61,7 +61,7 @@ module _ (lengths : List ℕ) (number : ℕ) (session : List ℕ) (state_slot : 
 
   back_takes : (left : Left) (m : Mark) (next : Left) → IsBytes left.bytes
       → (number_at w16 (λ n. nat_lt n (length lengths)) left
-      >>= (λ set. number_at w64 (has_room lengths set.0) set.1
+      >>= (λ set. number_at w64 (has_spot lengths set.0) set.1
       >>= (λ place. number_at w64 (nat_le 1) place.1
       >>= (λ next. number_at w64 (nat_le 1) next.1
       >>= (λ time. number_at w8 (within 0 1) time.1
@@ -70,8 +70,8 @@ module _ (lengths : List ℕ) (number : ℕ) (session : List ℕ) (state_slot : 
   back_takes left m next fits e =
       let one = bind_ok (number_at w16 (λ n. nat_lt n (length lengths)) left) _ (m, next) e in
       let set = number_takes w16 (2 ^ 16) wide16 (λ n. nat_lt n (length lengths)) left one.0.0 one.0.1 fits one.1 in
-      let two = bind_ok (number_at w64 (has_room lengths one.0.0) one.0.1) _ (m, next) one.2 in
-      let place = number_takes w64 (2 ^ 64) wide64 (has_room lengths one.0.0) one.0.1 two.0.0 two.0.1 set.takes.rest_bytes two.1 in
+      let two = bind_ok (number_at w64 (has_spot lengths one.0.0) one.0.1) _ (m, next) one.2 in
+      let place = number_takes w64 (2 ^ 64) wide64 (has_spot lengths one.0.0) one.0.1 two.0.0 two.0.1 set.takes.rest_bytes two.1 in
       let three = bind_ok (number_at w64 (nat_le 1) two.0.1) _ (m, next) two.2 in
       let spot = number_takes w64 (2 ^ 64) wide64 (nat_le 1) two.0.1 three.0.0 three.0.1 place.takes.rest_bytes three.1 in
       let four = bind_ok (number_at w64 (nat_le 1) three.0.1) _ (m, next) three.2 in

@@ -37,8 +37,8 @@ mark_spelling m = codes "XCTL" ++ to_be_bytes w64 m.number ++ session_field m.se
     ++ to_be_bytes w64 m.at.place ++ to_be_bytes w64 m.at.number ++ to_be_bytes w64 m.time.0 ++ flag m.ended ∷ []
 
 -- whether there is room for a switch from this place on in this journal
-abbrev pub has_room : (lengths : List ℕ) → (set place : ℕ) → Bool
-has_room lengths set place = nat_lt set (length lengths) && nat_le (place + SWITCH) (slice_index lengths set)
+abbrev pub has_spot : (lengths : List ℕ) → (set place : ℕ) → Bool
+has_spot lengths set place = nat_lt set (length lengths) && nat_le (place + SWITCH) (slice_index lengths set)
 
 -- The mark that the bytes begin with, field by field; each keeps its rule of the table.
 unfoldable pub mark_at : (lengths : List ℕ) → Left → Result (Mark × Left) Bad
@@ -48,7 +48,7 @@ mark_at lengths left = do
   session ← bytes_at 8 (is_field 8) number.1
   state_slot ← number_at w8 (within 0 1) session.1
   set ← number_at w16 (λ n. nat_lt n (length lengths)) state_slot.1
-  place ← number_at w64 (has_room lengths set.0) set.1
+  place ← number_at w64 (has_spot lengths set.0) set.1
   next ← number_at w64 (nat_le 1) place.1
   time ← number_at w64 (nat_le 1) next.1
   ended ← number_at w8 (within 0 1) time.1

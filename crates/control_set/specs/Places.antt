@@ -4,7 +4,7 @@ use Rattle.std.specs.Int.{w16, w64, from_be_bytes}
 use Rattle.tod_stamp.specs.Fields.{within}
 use Rattle.tod_stamp.specs.Names.{is_field, before_spaces}
 use Rattle.control_set.specs.declared.value.Mark.{Mark}
-use Rattle.control_set.specs.Marks.{has_room}
+use Rattle.control_set.specs.Marks.{has_spot}
 
 abbrev pub u16_at : List ℕ → ℕ → ℕ
 u16_at bytes place = from_be_bytes w16 (take 2 (drop place bytes))
@@ -30,4 +30,4 @@ mark_in bytes = record {
 abbrev pub keeps : (lengths : List ℕ) → List ℕ → Bool
 keeps lengths bytes =
     bytes_eq (codes "XCTL") (take 4 (drop 1 bytes)) && (within 1 (2 ^ 64 - 2) (u64_at bytes 5) && (is_field 8 (session_at bytes) && (within 0 1 (slice_index bytes 21) && (nat_lt (u16_at bytes 22) (length lengths)
-    && (has_room lengths (u16_at bytes 22) (u64_at bytes 24) && (nat_le 1 (u64_at bytes 32) && (nat_le 1 (u64_at bytes 40) && within 0 1 (slice_index bytes 48))))))))
+    && (has_spot lengths (u16_at bytes 22) (u64_at bytes 24) && (nat_le 1 (u64_at bytes 32) && (nat_le 1 (u64_at bytes 40) && within 0 1 (slice_index bytes 48))))))))

@@ -17,13 +17,13 @@ use Rattle.control_set.specs.Marks.{IsMark, mark_at}
 abbrev pub is_open : List ℕ → Bool
 is_open bytes = nat_le 1 (length bytes) && slice_index bytes 0 == 1
 
-abbrev pub held : Result (Mark × Left) Bad → Slot
-held (Ok found) = Holds found.0
-held (Err bad) = Damaged
+abbrev pub slot_read : Result (Mark × Left) Bad → Slot
+slot_read (Ok found) = Holds found.0
+slot_read (Err bad) = Damaged
 
 -- A slot is closed, holds the mark of the 48 bytes behind its open gate, or is damaged.
 abbrev pub slot_of : (lengths : List ℕ) → List ℕ → Slot
-slot_of lengths bytes = if is_open bytes then held (mark_at lengths (record { place = 1; bytes = slice_range bytes 1 49 })) else Closed
+slot_of lengths bytes = if is_open bytes then slot_read (mark_at lengths (record { place = 1; bytes = slice_range bytes 1 49 })) else Closed
 
 -- A slot's mark, if it holds one, keeps the table.
 abbrev pub HoldsMark : (lengths : List ℕ) → Slot → Type 0
@@ -70,12 +70,12 @@ is_second_free (Holds m) Closed = true
 is_second_free (Holds m) Damaged = true
 is_second_free (Holds m) (Holds n) = nat_lt n.number m.number
 
-abbrev pub place_of : (is_second : Bool) → ℕ
-place_of is_second = if is_second then SECOND else 0
+abbrev pub place_of_slot : (is_second : Bool) → ℕ
+place_of_slot is_second = if is_second then SECOND else 0
 
 -- The place of the slot that isn't the chosen one. With no gate open it is 0.
 abbrev pub free_place : (lengths : List ℕ) → List ℕ → ℕ
-free_place lengths control = place_of (is_second_free (slot_of lengths control) (slot_of lengths (drop SECOND control)))
+free_place lengths control = place_of_slot (is_second_free (slot_of lengths control) (slot_of lengths (drop SECOND control)))
 
 -- The chosen mark is as it was or is the value, and outside the 49 bytes at this place all is as it was.
 pub record OldOrNew (lengths : List ℕ) (value : Mark) (place : ℕ) (old new : List ℕ) : Type 0 where

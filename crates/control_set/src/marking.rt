@@ -9,7 +9,7 @@ ghost use Rattle.crash_plant.specs.Moments.{on, Follows, IsDurable};
 ghost use Rattle.crash_plant.specs.Calls.{WorksOn};
 ghost use Rattle.control_set.specs.declared.slot.Slot.TheVariants.{Holds};
 ghost use Rattle.control_set.specs.Marks.{IsMark, mark_spelling};
-ghost use Rattle.control_set.specs.Slots.{AreSlots, IsNext, NoGateOpen, OldOrNew, chosen_mark, free_place, is_closed, is_second_free, lengths_of, place_of, slot_of};
+ghost use Rattle.control_set.specs.Slots.{AreSlots, IsNext, NoGateOpen, OldOrNew, chosen_mark, free_place, is_closed, is_second_free, lengths_of, place_of_slot, slot_of};
 
 use crate::Mark;
 use crate::choosing::read_slots;
@@ -50,7 +50,7 @@ fn is_gate_open(slots: &Slots, is_second: bool) -> bool
 }
 
 fn place_of(is_second: bool) -> u64
-    ensures { result ≡ place_of is_second }
+    ensures { result ≡ place_of_slot is_second }
 {
     if is_second { SECOND } else { FIRST }
 }

@@ -2,7 +2,7 @@
 
 ghost use Rattle.std.specs.Prelude.{◌≡◌, take, drop, codes, bytes_eq, true};
 ghost use Rattle.tod_stamp.specs.Names.{before_spaces, is_field};
-ghost use Rattle.control_set.specs.Marks.{has_room};
+ghost use Rattle.control_set.specs.Marks.{has_spot};
 ghost use Rattle.control_set.specs.Places.{keeps, mark_in, session_at};
 ghost use Rattle.control_set.specs.Slots.{lengths_of, slot_of};
 
@@ -30,7 +30,7 @@ pub(crate) struct Slots {
 }
 
 pub(crate) fn has_room<P: Plant>(plant: &P, at: Spot) -> bool
-    ensures { result ≡ has_room (lengths_of (P.state plant.now)) at.set at.place }
+    ensures { result ≡ has_spot (lengths_of (P.state plant.now)) at.set at.place }
 {
     if at.set >= plant.journals() {
         return false;

@@ -21,8 +21,8 @@ abbrev pub with_formed : PlanState → PlanState
 with_formed plan = record plan { joined = plan.joined - 1 }
 
 -- whether nothing is wanted, and all that was joined is formed
-abbrev pub is_done : PlanState → Bool
-is_done plan = size plan.wanted == 0 && plan.joined == 0
+abbrev pub is_complete : PlanState → Bool
+is_complete plan = size plan.wanted == 0 && plan.joined == 0
 
 -- What every plan keeps beside its map: no more is joined than is wanted no longer; how many tracks are wanted; and a track
 -- below which none is.

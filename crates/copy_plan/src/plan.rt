@@ -2,7 +2,7 @@
 
 ghost use Rattle.std.specs.Prelude.{◌≡◌, ℕ, ◌<◌, ◌≤◌, length, IfOk, IfSome, true, false};
 ghost use Rattle.change_map.specs.Sets.{no_track, every_track, has_track, without_track, size, least_from};
-ghost use Rattle.copy_plan.specs.Plans.{fresh_plan, with_joined, with_formed, is_done};
+ghost use Rattle.copy_plan.specs.Plans.{fresh_plan, with_joined, with_formed, is_complete};
 
 use change_map::ChangeMap;
 use std::alloc::Global;
@@ -116,7 +116,7 @@ impl CopyPlan {
 
     /// Whether nothing is wanted, and all that was joined is formed.
     pub fn done(&self) -> bool
-        ensures { result ≡ is_done self.now }
+        ensures { result ≡ is_complete self.now }
     {
         self.left == 0 && self.joined == 0
     }

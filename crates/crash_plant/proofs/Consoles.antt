@@ -5,7 +5,7 @@ use Rattle.crash_plant.specs.declared.device.Heard.{Heard}
 use Rattle.crash_plant.specs.declared.device.Heard.TheVariants.{Byte, End}
 use Rattle.crash_plant.specs.declared.memory_console.MemoryConsole.{MemoryConsole}
 use Rattle.crash_plant.specs.declared.turn.Turn.{Turn}
-use Rattle.crash_plant.specs.MemoryConsole.{Hearkens, IsNext, SameConsole, Utters, heard_at, last_told, left_to_hear, said_at}
+use Rattle.crash_plant.specs.MemoryConsole.{Hearkens, HearsNext, SameConsole, Utters, heard_at, last_told, left_to_hear, said_at}
 use Rattle.crash_plant.specs.Turns.{last_turn, turn_at}
 use Rattle.crash_plant.proofs.Turns.{last_turn_push, said_within, turn_before, turn_now}
 
@@ -20,11 +20,11 @@ pub told_uttered : {T E : Type 0} (result : Result T E) (now : ℕ) (bytes : Lis
 told_uttered (Ok x) now bytes old new ok err le = omega (arith, ap (λ (t : Turn). t.at) (last_is old new _ ok.first ok.turns))
 told_uttered (Err e) now bytes old new ok err le = omega (arith, le, ap (λ (t : Turn). t.at) (last_same old new err))
 
-pub told_next : (now : ℕ) (old new : MemoryConsole) (heard : Heard) → IsNext now old new heard → last_told old ≤ now → last_told new ≤ now
+pub told_next : (now : ℕ) (old new : MemoryConsole) (heard : Heard) → HearsNext now old new heard → last_told old ≤ now → last_told new ≤ now
 told_next now old new (Byte b) next le = omega (arith, ap (λ (t : Turn). t.at) (last_is old new _ next.first next.turns))
 told_next now old new End next le = omega (arith, le, ap (λ (t : Turn). t.at) (last_same old new next.1))
 
-pub told_heard : {E : Type 0} (result : Result Heard E) (now : ℕ) (old new : MemoryConsole) → IfOk result (λ heard. IsNext now old new heard) → OnErr result (SameConsole old new) → last_told old ≤ now → last_told new ≤ now
+pub told_heard : {E : Type 0} (result : Result Heard E) (now : ℕ) (old new : MemoryConsole) → IfOk result (λ heard. HearsNext now old new heard) → OnErr result (SameConsole old new) → last_told old ≤ now → last_told new ≤ now
 told_heard (Ok heard) now old new ok err le = told_next now old new heard ok le
 told_heard (Err e) now old new ok err le = omega (arith, le, ap (λ (t : Turn). t.at) (last_same old new err))
 

@@ -6,7 +6,7 @@ use Rattle.crash_plant.specs.declared.device.Device.{Device}
 use Rattle.crash_plant.specs.declared.device.Device.TheVariants.{Control, State, Journal, Volume}
 use Rattle.crash_plant.specs.declared.fail.Fail.{Fail}
 use Rattle.crash_plant.specs.declared.fail_plan.Planned.{Planned}
-use Rattle.crash_plant.specs.Fails.{after, is_due, is_stopping, is_same, planned_at}
+use Rattle.crash_plant.specs.Fails.{after_call, fails_now, is_stopping, is_same, planned_at}
 use Rattle.std.proofs.lemmas.Bool.{cases_Bool, false_from_ne_true}
 use Rattle.std.proofs.lemmas.Bool.Decides.{nat_tests}
 use Rattle.std.proofs.Math.Seq.{get_or-append_right}
@@ -40,8 +40,8 @@ module _ {A : Type 0} (step : A → A) (xs ys : List A) (i : ℕ) (d : A) (less 
       ap (λ (b : Bool). b || now) was ∙ ap (λ (b : Bool). (before || list_any test (take i xs)) || b) (is ∙ ap test still_to_come) ∙ or_assoc before (list_any test (take i xs)) (test (get_or xs i d)) ∙ ap (λ (b : Bool). before || b) (sym (list_any_more test xs i d less))
 
 -- A call that is due stops the plant where its failure says so.
-pub stops_at : (said : ℕ) (x y : Planned) (due : Bool) → due ≡ is_due said x → y ≡ after said x → (due && y.stop) ≡ is_stopping said x
-stops_at said x y due is counted = ap (λ (b : Bool). b && y.stop) is ∙ ap (λ (p : Planned). is_due said x && p.stop) counted
+pub stops_at : (said : ℕ) (x y : Planned) (due : Bool) → due ≡ fails_now said x → y ≡ after_call said x → (due && y.stop) ≡ is_stopping said x
+stops_at said x y due is counted = ap (λ (b : Bool). b && y.stop) is ∙ ap (λ (p : Planned). fails_now said x && p.stop) counted
 
 same_here : (at : Option Device) → is_same at at ≡ true
 same_here None = refl

@@ -10,7 +10,7 @@ use Rattle.crash_plant.specs.declared.memory_console.MemoryConsole.{MemoryConsol
 use Rattle.crash_plant.specs.declared.memory_disks.MemoryDisks.{MemoryDisks}
 use Rattle.crash_plant.specs.Clock.{clock_of}
 use Rattle.crash_plant.specs.Calls.{Hears, HearsNothing, Listens, Says}
-use Rattle.crash_plant.specs.MemoryConsole.{IsNext, SameConsole, Utters, heard_at, last_told, left_to_hear, said_at}
+use Rattle.crash_plant.specs.MemoryConsole.{HearsNext, SameConsole, Utters, heard_at, last_told, left_to_hear, said_at}
 use Rattle.crash_plant.specs.MemoryPlant.{past_state}
 use Rattle.crash_plant.proofs.Consoles.{heard_before, heard_before_say, heard_now, heard_same, left_same, said_before, said_before_say, said_now, said_same, told_next, told_says}
 
@@ -74,7 +74,7 @@ module _ (a b : MemoryDisks) (x y : MemoryConsole) (clock now : ℕ) (f g : Devi
   pub hears_none : SameConsole x y → HearsNothing (past_state a x clock f p) (past_state b y now g q)
   hears_none same = record { script = left_same x y same; heard = heard_same x y now same ∙ heard_now x now (omega (arith, told, later)) ∙ sym (heard_now x clock told) }
 
-  pub hears : (heard : Heard) → IsNext now x y heard → Hears (past_state a x clock f p) (past_state b y now g q) heard
+  pub hears : (heard : Heard) → HearsNext now x y heard → Hears (past_state a x clock f p) (past_state b y now g q) heard
   hears (Byte byte) next = (
     next.is_next ∙ ap (λ (l : List ℕ). byte ∷ l) refl,
     heard_now y now (told_next now x y (Byte byte) next (omega (arith, told, later))) ∙ ap (λ (n : ℕ). take n y.script) next.next ∙ ap (λ (l : List ℕ). take (x.next + 1) l) next.script ∙ one_more x.script x.next byte (left_to_hear y) next.is_next ∙ ap (λ (l : List ℕ). l ++ byte ∷ []) (sym (heard_now x clock told)),
@@ -88,7 +88,7 @@ module _ (a b : MemoryDisks) (x y : MemoryConsole) (clock now : ℕ) (f g : Devi
     (hears_none next.1).heard,
   )
 
-  pub listens : (heard : Heard) → IsNext now x y heard → Listens (past_state a x clock f p) (past_state b y now g q)
+  pub listens : (heard : Heard) → HearsNext now x y heard → Listens (past_state a x clock f p) (past_state b y now g q)
   listens (Byte byte) next = record {
     said = λ t from to. elim (cases_lt t now) [
       | inl early ↦ said_before now byte x y t next early ∙ said_now x t (omega (arith, told, from)) ∙ sym (said_now x clock told)
@@ -105,11 +105,11 @@ module _ (a b : MemoryDisks) (x y : MemoryConsole) (clock now : ℕ) (f g : Devi
   listens End next = listens_same next.1
 
   -- The past of what was heard and said.
-  pub heard_past : (heard : Heard) → clock < now → IsNext now x y heard → (t : ℕ) → t ≤ clock → heard_at y t ≡ heard_at x t
+  pub heard_past : (heard : Heard) → clock < now → HearsNext now x y heard → (t : ℕ) → t ≤ clock → heard_at y t ≡ heard_at x t
   heard_past (Byte byte) raised next t le = heard_before now byte x y t next (omega (arith, le, raised))
   heard_past End raised next t le = heard_same x y t next.1
 
-  pub said_past : (heard : Heard) → clock < now → IsNext now x y heard → (t : ℕ) → t ≤ clock → said_at y t ≡ said_at x t
+  pub said_past : (heard : Heard) → clock < now → HearsNext now x y heard → (t : ℕ) → t ≤ clock → said_at y t ≡ said_at x t
   said_past (Byte byte) raised next t le = said_before now byte x y t next (omega (arith, le, raised))
   said_past End raised next t le = said_same x y t next.1
 

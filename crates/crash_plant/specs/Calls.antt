@@ -1,5 +1,6 @@
 -- What a call of a plant leaves as it was.
 use Rattle.std.specs.Prelude.{◌≡◌, ◌≢◌, ℕ, ◌+◌, ◌<◌, ◌≤◌, true, false, List, [], ◌∷◌, ◌++◌, length, take, ◌⊎◌}
+use Rattle.xrc_edge.specs.Causes.{Rose}
 use Rattle.crash_plant.specs.declared.device.Device.{Device}
 use Rattle.crash_plant.specs.declared.device.Device.TheVariants.{Journal, Volume}
 use Rattle.crash_plant.specs.declared.device.Heard.{Heard}
@@ -46,16 +47,25 @@ pub record Silent (old new : PlantState) : Type 0 where
   pub said : (t : ℕ) → old.clock ≤ t → t ≤ new.clock → new.said t ≡ old.said old.clock
   pub script : new.script ≡ old.script
 
+-- Each device but these is left alone.
+abbrev pub OthersStay : (among : Device → Type 0) → PlantState → PlantState → Type 0
+OthersStay among old new = (d : Device) → ¬ among d → Stays (on old d) (on new d)
+
 -- Calls work on some devices alone. What is said of bytes and moments is said of plants that tell them.
 pub record WorksOn (tells : Type 0) (among : Device → Type 0) (old new : PlantState) : Type 0 where
   pub site : SameSite old new
   pub loans : (v : ℕ) → SameLoan v old new
   pub elapses : tells → Elapses old new
   pub silent : tells → Silent old new
-  pub others : tells → (d : Device) → ¬ among d → Stays (on old d) (on new d)
+  pub others : tells → OthersStay among old new
   pub others_faults : (d : Device) → ¬ among d → new.faults d ≡ old.faults d
   pub console_faults : new.console_faults ≡ old.console_faults
   pub faults : (d : Device) → old.faults d ≤ new.faults d
+
+-- No count rose, neither a device's nor the console's.
+pub record NoneRose (old new : PlantState) : Type 0 where
+  pub devices : (d : Device) → ¬ Rose (old.faults d) (new.faults d)
+  pub console : ¬ Rose old.console_faults new.console_faults
 
 -- The next byte is heard, or the end.
 abbrev pub Hears : PlantState → PlantState → Heard → Type 0

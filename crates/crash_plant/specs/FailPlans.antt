@@ -7,7 +7,7 @@ use Rattle.crash_plant.specs.declared.fail_plan.FailPlan.{FailPlan}
 use Rattle.crash_plant.specs.declared.fail_plan.Planned.{Planned}
 use Rattle.crash_plant.specs.declared.fail_plans.FailPlans.{FailPlans}
 use Rattle.crash_plant.specs.Devices.{seen_of}
-use Rattle.crash_plant.specs.Fails.{after, is_due, is_stopping}
+use Rattle.crash_plant.specs.Fails.{after_call, fails_now, is_stopping}
 
 abbrev pub plan_faults : FailPlan → ℕ
 plan_faults plan = plan.faults
@@ -30,21 +30,21 @@ IsPlanned plans (Volume v) = v < length plans.volumes.items
 
 -- whether a call on the device fails that is made when so many bytes are said
 abbrev pub is_failing : FailPlans → ℕ → Device → Bool
-is_failing plans said device = plans.is_stopped || list_any (is_due said) (planned_of plans device)
+is_failing plans said device = plans.is_stopped || list_any (fails_now said) (planned_of plans device)
 
 -- whether such a call on the console fails
 abbrev pub is_console_failing : FailPlans → ℕ → Bool
-is_console_failing plans said = plans.is_stopped || list_any (is_due said) plans.console.planned.items
+is_console_failing plans said = plans.is_stopped || list_any (fails_now said) plans.console.planned.items
 
 -- A call on the device was counted, and no other.
 pub record Counts (said : ℕ) (device : Device) (old new : FailPlans) : Type 0 where
-  pub here : planned_of new device ≡ map (after said) (planned_of old device)
+  pub here : planned_of new device ≡ map (after_call said) (planned_of old device)
   pub others : (d : Device) → d ≢ device → planned_of new d ≡ planned_of old d
   pub console : new.console.planned.items ≡ old.console.planned.items
   pub stops : new.is_stopped ≡ (old.is_stopped || list_any (is_stopping said) (planned_of old device))
 
 -- A call on the console was counted, and no other.
 pub record CountsConsole (said : ℕ) (old new : FailPlans) : Type 0 where
-  pub here : new.console.planned.items ≡ map (after said) old.console.planned.items
+  pub here : new.console.planned.items ≡ map (after_call said) old.console.planned.items
   pub devices : (d : Device) → planned_of new d ≡ planned_of old d
   pub stops : new.is_stopped ≡ (old.is_stopped || list_any (is_stopping said) old.console.planned.items)

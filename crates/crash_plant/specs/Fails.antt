@@ -17,16 +17,16 @@ one_fewer (Some zero) = None
 one_fewer (Some (suc n)) = Some n
 
 -- whether a call that is made when so many bytes are said is the one that fails
-abbrev pub is_due : ℕ → Planned → Bool
-is_due said p = nat_le p.said said && is_zero p.left
+abbrev pub fails_now : ℕ → Planned → Bool
+fails_now said p = nat_le p.said said && is_zero p.left
 
 -- whether every later call fails too
 abbrev pub is_stopping : ℕ → Planned → Bool
-is_stopping said p = is_due said p && p.stop
+is_stopping said p = fails_now said p && p.stop
 
 -- A failure after that call: the call counts once so many bytes are said as it names.
-abbrev pub after : ℕ → Planned → Planned
-after said p = record { said = p.said; left = cond (nat_le p.said said) (one_fewer p.left) p.left; stop = p.stop }
+abbrev pub after_call : ℕ → Planned → Planned
+after_call said p = record { said = p.said; left = cond (nat_le p.said said) (one_fewer p.left) p.left; stop = p.stop }
 
 -- the same device, or the console both times
 abbrev pub is_same : Option Device → Option Device → Bool

@@ -27,14 +27,14 @@ abbrev pub fresh_of : Shelf → Fresh
 fresh_of shelf = record { bytes = shelf_bytes shelf; base = shelf_base shelf; past = shelf_past shelf; length_is = shelf_length shelf; is_lent = shelf_is_lent shelf; is_known = is_known shelf }
 
 -- a place with these bytes and no past
-abbrev pub fresh : List ℕ → ℕ → Bool → Fresh
-fresh bytes length_is is_lent = record { bytes = bytes; base = bytes; past = []; length_is = length_is; is_lent = is_lent; is_known = false }
+abbrev pub fresh_with : List ℕ → ℕ → Bool → Fresh
+fresh_with bytes length_is is_lent = record { bytes = bytes; base = bytes; past = []; length_is = length_is; is_lent = is_lent; is_known = false }
 
 abbrev pub fresh_disk : PlainDisk → Fresh
-fresh_disk disk = fresh (disk_bytes disk) (disk_length disk) false
+fresh_disk disk = fresh_with (disk_bytes disk) (disk_length disk) false
 
 abbrev pub fresh_place : Place → Fresh
-fresh_place place = fresh (place_bytes place) (place_length place) (place_is_lent place)
+fresh_place place = fresh_with (place_bytes place) (place_length place) (place_is_lent place)
 
 abbrev pub absent : Fresh
-absent = fresh [] 0 true
+absent = fresh_with [] 0 true

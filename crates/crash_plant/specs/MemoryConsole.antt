@@ -46,6 +46,6 @@ pub record Hearkens (now byte : ℕ) (old new : MemoryConsole) : Type 0 where
   pub turns : new.turns.items ≡ old.turns.items ++ record { at = now; heard = new.next; said = length old.said.items } ∷ []
 
 -- What is heard is the next byte of the script, or its end.
-abbrev pub IsNext : ℕ → MemoryConsole → MemoryConsole → Heard → Type 0
-IsNext now old new (Byte b) = Hearkens now b old new
-IsNext now old new End = (left_to_hear old ≡ []) × SameConsole old new
+abbrev pub HearsNext : ℕ → MemoryConsole → MemoryConsole → Heard → Type 0
+HearsNext now old new (Byte b) = Hearkens now b old new
+HearsNext now old new End = (left_to_hear old ≡ []) × SameConsole old new

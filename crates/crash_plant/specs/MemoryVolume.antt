@@ -4,7 +4,7 @@ use Rattle.std.specs.List.{list_any}
 use Rattle.crash_plant.specs.declared.memory_volume.MemoryVolume.{MemoryVolume}
 use Rattle.crash_plant.specs.Moments.{Standing}
 use Rattle.crash_plant.specs.Clock.{clock_of}
-use Rattle.crash_plant.specs.Fails.{after, is_due, is_stopping}
+use Rattle.crash_plant.specs.Fails.{after_call, fails_now, is_stopping}
 use Rattle.crash_plant.specs.MemoryDisk.{held, first_held, past_of}
 use Rattle.crash_plant.specs.Pasts.{Reach}
 
@@ -19,10 +19,10 @@ volume_standing volume = record {
 
 -- whether a call on it fails by plan
 abbrev pub volume_fails_by_plan : MemoryVolume → Bool
-volume_fails_by_plan volume = volume.is_stopped || list_any (is_due volume.said) volume.plan.planned.items
+volume_fails_by_plan volume = volume.is_stopped || list_any (fails_now volume.said) volume.plan.planned.items
 
 -- A call on it is counted.
 pub record CountsOwnCall (old new : MemoryVolume) : Type 0 where
-  pub here : new.plan.planned.items ≡ map (after old.said) old.plan.planned.items
+  pub here : new.plan.planned.items ≡ map (after_call old.said) old.plan.planned.items
   pub stops : new.is_stopped ≡ (old.is_stopped || list_any (is_stopping old.said) old.plan.planned.items)
   pub said : new.said ≡ old.said

@@ -24,12 +24,12 @@ pub(crate) struct FailPlan {
 }
 
 impl Planned {
-    ghost use Rattle.crash_plant.specs.Fails.{after, is_due};
+    ghost use Rattle.crash_plant.specs.Fails.{after_call, fails_now};
 
     /// Counts a call that is made when so many bytes are said. Says whether it fails.
     fn meet(&mut self, said: u64) -> bool
-        ensures due { result ≡ is_due said self.old }
-        ensures counted { self.new ≡ after said self.old }
+        ensures due { result ≡ fails_now said self.old }
+        ensures counted { self.new ≡ after_call said self.old }
     {
         if said < self.said {
             return false;
@@ -49,7 +49,7 @@ impl Planned {
 }
 
 impl FailPlan {
-    ghost use Rattle.crash_plant.specs.Fails.{after, is_due, is_stopping, planned_at};
+    ghost use Rattle.crash_plant.specs.Fails.{after_call, fails_now, is_stopping, planned_at};
 
     /// The failures of a list that are planned for a device or the console.
     pub(crate) fn of(
@@ -93,8 +93,8 @@ impl FailPlan {
     /// Counts a call that is made when so many bytes are said. It fails where a failure is due, and where calls fail for good;
     /// a failure that is due may begin that.
     pub(crate) fn meet(&mut self, said: u64, is_stopped: &mut bool) -> Result<(), Failed>
-        ensures counted { self.new.planned.items ≡ map (after said) self.old.planned.items }
-        ensures fails { IsErr result ↔ IsTrue (is_stopped.old || list_any (is_due said) self.old.planned.items) }
+        ensures counted { self.new.planned.items ≡ map (after_call said) self.old.planned.items }
+        ensures fails { IsErr result ↔ IsTrue (is_stopped.old || list_any (fails_now said) self.old.planned.items) }
         ensures stops { is_stopped.new ≡ (is_stopped.old || list_any (is_stopping said) self.old.planned.items) }
         ensures cause { HasCause self.old.faults self.new.faults result }
     {

@@ -44,7 +44,7 @@ fn utter(
 }
 
 impl MemoryConsole {
-    ghost use Rattle.crash_plant.specs.MemoryConsole.{IsNext, SameConsole, Utters, left_to_hear, last_told};
+    ghost use Rattle.crash_plant.specs.MemoryConsole.{HearsNext, SameConsole, Utters, left_to_hear, last_told};
 
     /// A console whose record begins at a moment, with this much of its script heard.
     pub(crate) fn new(
@@ -83,7 +83,7 @@ impl MemoryConsole {
     /// Hears the next byte at a moment. Without memory for the record nothing is heard.
     pub(crate) fn hear(&mut self, now: u64) -> Result<Heard, NoMemory>
         requires { last_told self.old ≤ now }
-        ensures ok { IfOk result (λ heard. IsNext now self.old self.new heard) }
+        ensures ok { IfOk result (λ heard. HearsNext now self.old self.new heard) }
         ensures end { left_to_hear self.old ≡ [] → IsOk result }
         ensures err { OnErr result (SameConsole self.old self.new) }
     {

@@ -3,7 +3,7 @@ ghost use Rattle.xrc_edge.specs.Causes.{HasCause};
 ghost use Rattle.crash_plant.specs.Bytes.{patched, Torn};
 ghost use Rattle.crash_plant.specs.Choices.{IsChoice};
 ghost use Rattle.crash_plant.specs.Clock.{clock_of, is_at_end, last_tick};
-ghost use Rattle.crash_plant.specs.MemoryConsole.{IsNext, SameConsole as SameRecord, Utters, last_told, left_to_hear};
+ghost use Rattle.crash_plant.specs.MemoryConsole.{HearsNext, SameConsole as SameRecord, Utters, last_told, left_to_hear};
 ghost use Rattle.crash_plant.specs.MemoryDisks.{IsHome, SameSizes, journals_of, view, volumes_of};
 ghost use Rattle.crash_plant.specs.Moments.{Follows, IsDurable, Raises, Same, Stands, on};
 ghost use Rattle.crash_plant.specs.Calls.{Hears, HearsNothing, IsLentOne, IsPart, IsThere, Lends, Listens, NoneLent, SameSite, Says, TakesBack, WorksOn, WorksOnConsole};
@@ -200,7 +200,7 @@ impl MemoryPlant {
 
     // Hears and raises the clock. Where it can't, nothing is heard.
     fn attend(&mut self) -> Result<Heard, Failed>
-        ensures ok { IfOk result (λ heard. IsNext (clock_of self.new.ticks) self.old.console self.new.console heard) }
+        ensures ok { IfOk result (λ heard. HearsNext (clock_of self.new.ticks) self.old.console self.new.console heard) }
         ensures end { left_to_hear self.old.console ≡ [] → IsErr result → IsTrue (is_at_end self.old.ticks) }
         ensures err { OnErr result (SameRecord self.old.console self.new.console) }
         ensures clock { OnOk result (self.new.ticks ≡ self.old.ticks + 1) }

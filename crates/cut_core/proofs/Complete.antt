@@ -11,7 +11,7 @@ use Rattle.xrc_edge.proofs.OrderLaws.{IsOrder}
 use Rattle.xrc_edge.proofs.Positions.{filter_order}
 use Rattle.cut_core.specs.Events.{Event, floor, cut_after, last_cut_from, last_cut}
 use Rattle.cut_core.specs.Events.Event.{Join, Copied, Break, Raise, Form, Drop, Carry, Resume, Forget}
-use Rattle.cut_core.specs.Groups.{Entry, entry_of, is_copy, is_write_carried, carried_by, forms, drops, still_waits, waiting_in, stands_before}
+use Rattle.cut_core.specs.Groups.{Entry, carried_entry, is_copy, is_write_carried, carried_by, forms, drops, still_waits, waiting_in, comes_before}
 use Rattle.cut_core.specs.Legal.{are_in, is_legal_next, are_legal}
 use Rattle.cut_core.specs.Cuts.{joins_above, is_dropped_in, kept_writes, GroupsAreComplete}
 use Rattle.cut_core.proofs.Filters.{filter_both}
@@ -103,9 +103,9 @@ abbrev is_kept : List Event → Entry → Bool
 is_kept later e = not (is_copy e) && not (is_dropped_in later e)
 
 same_test : (n cut low : ℕ) (past before later : List Event) (k : ℕ) (w : Write) → are_legal n past before ≡ true → low ≡ last_cut_from (last_cut past) before → last_cut past < w.stamp.0
-    → in_group cut before (entry_of k w) ≡ (is_between low cut (entry_of k w) && is_kept (before ++ Form cut ∷ later) (entry_of k w))
+    → in_group cut before (carried_entry k w) ≡ (is_between low cut (carried_entry k w) && is_kept (before ++ Form cut ∷ later) (carried_entry k w))
 same_test n cut low past before later k w legal low-is above =
-    let e = entry_of k w in
+    let e = carried_entry k w in
     elim (cases_Bool (nat_le w.stamp.0 cut)) [
       | inr more ↦ rw (more, and-false (nat_lt low w.stamp.0)) refl
       | inl le ↦ elim (cases_Bool (still_waits before e)) [
@@ -126,30 +126,30 @@ same_test n cut low past before later k w legal low-is above =
 
 -- ---- what one event carries
 
-same_on_writes : (p q : Entry → Bool) (k low high : ℕ) (c : Write → Bool) (writes : List Write) → ((w : Write) → low < w.stamp.0 → p (entry_of k w) ≡ q (entry_of k w)) → are_in low high writes ≡ true
-    → filter p (map (entry_of k) (filter c writes)) ≡ filter q (map (entry_of k) (filter c writes))
+same_on_writes : (p q : Entry → Bool) (k low high : ℕ) (c : Write → Bool) (writes : List Write) → ((w : Write) → low < w.stamp.0 → p (carried_entry k w) ≡ q (carried_entry k w)) → are_in low high writes ≡ true
+    → filter p (map (carried_entry k) (filter c writes)) ≡ filter q (map (carried_entry k) (filter c writes))
 same_on_writes p q k low high c [] same e = refl
 same_on_writes p q k low high c (w ∷ writes) same e =
     let parts = and_parts (nat_lt low w.stamp.0 && nat_le w.stamp.0 high) (are_in low high writes) e in
     let lt = ltb-true low w.stamp.0 (and_parts (nat_lt low w.stamp.0) (nat_le w.stamp.0 high) parts.0).0 in
-    with_one (c w) (p (entry_of k w)) (q (entry_of k w)) refl refl (same w lt) (same_on_writes p q k low high c writes same parts.1)
+    with_one (c w) (p (carried_entry k w)) (q (carried_entry k w)) refl refl (same w lt) (same_on_writes p q k low high c writes same parts.1)
   where
-    with_one : (t a b : Bool) → p (entry_of k w) ≡ a → q (entry_of k w) ≡ b → a ≡ b → filter p (map (entry_of k) (filter c writes)) ≡ filter q (map (entry_of k) (filter c writes))
-        → filter p (map (entry_of k) (cond t (w ∷ filter c writes) (filter c writes))) ≡ filter q (map (entry_of k) (cond t (w ∷ filter c writes) (filter c writes)))
+    with_one : (t a b : Bool) → p (carried_entry k w) ≡ a → q (carried_entry k w) ≡ b → a ≡ b → filter p (map (carried_entry k) (filter c writes)) ≡ filter q (map (carried_entry k) (filter c writes))
+        → filter p (map (carried_entry k) (cond t (w ∷ filter c writes) (filter c writes))) ≡ filter q (map (carried_entry k) (cond t (w ∷ filter c writes) (filter c writes)))
     with_one false a b pa qb ab h = h
     with_one true true true pa qb ab h = rw (pa, qb, h) refl
     with_one true false false pa qb ab h = rw (pa, qb, h) refl
     with_one true true false pa qb ab h = absurd cc
     with_one true false true pa qb ab h = absurd cc
 
-none_on_writes : (p : Entry → Bool) (k low : ℕ) (c : Write → Bool) (writes : List Write) → ((w : Write) → low < w.stamp.0 → p (entry_of k w) ≡ false) → list_all (λ w. nat_lt low w.stamp.0) writes ≡ true
-    → filter p (map (entry_of k) (filter c writes)) ≡ []
+none_on_writes : (p : Entry → Bool) (k low : ℕ) (c : Write → Bool) (writes : List Write) → ((w : Write) → low < w.stamp.0 → p (carried_entry k w) ≡ false) → list_all (λ w. nat_lt low w.stamp.0) writes ≡ true
+    → filter p (map (carried_entry k) (filter c writes)) ≡ []
 none_on_writes p k low c [] none e = refl
 none_on_writes p k low c (w ∷ writes) none e =
     let parts = and_parts (nat_lt low w.stamp.0) (list_all (λ w. nat_lt low w.stamp.0) writes) e in
     with_one (c w) (none w (ltb-true low w.stamp.0 parts.0)) (none_on_writes p k low c writes none parts.1)
   where
-    with_one : (t : Bool) → p (entry_of k w) ≡ false → filter p (map (entry_of k) (filter c writes)) ≡ [] → filter p (map (entry_of k) (cond t (w ∷ filter c writes) (filter c writes))) ≡ []
+    with_one : (t : Bool) → p (carried_entry k w) ≡ false → filter p (map (carried_entry k) (filter c writes)) ≡ [] → filter p (map (carried_entry k) (cond t (w ∷ filter c writes) (filter c writes))) ≡ []
     with_one false is h = h
     with_one true is h = rw is h
 
@@ -221,7 +221,7 @@ group_is n cut low past (x ∷ before) later legal above kept low-is =
     ∙ sym right_outer
 
 -- standing before, in numbers
-is_before : (a b : Entry) → stands_before a b ≡ true → (a.stamp < b.stamp) ⊎ ((a.stamp ≡ b.stamp) × (a.control < b.control))
+is_before : (a b : Entry) → comes_before a b ≡ true → (a.stamp < b.stamp) ⊎ ((a.stamp ≡ b.stamp) × (a.control < b.control))
 is_before a b e = elim (either_true (nat_lt a.stamp b.stamp) (nat_eq a.stamp b.stamp && nat_lt a.control b.control) e) [
   | inl lt ↦ inl (ltb-true a.stamp b.stamp lt)
   | inr both ↦
@@ -234,7 +234,7 @@ record NotBefore (a b : Entry) : Type 0 where
   stamps : b.stamp ≤ a.stamp
   controls : a.stamp ≡ b.stamp → b.control ≤ a.control
 
-not_before : (a b : Entry) → stands_before a b ≡ false → NotBefore a b
+not_before : (a b : Entry) → comes_before a b ≡ false → NotBefore a b
 not_before a b e =
     let parts = or_parts (nat_lt a.stamp b.stamp) (nat_eq a.stamp b.stamp && nat_lt a.control b.control) e in
     record {
@@ -245,7 +245,7 @@ not_before a b e =
       ];
     }
 
-stands_not : (a b : Entry) → NotBefore a b → stands_before a b ≡ false
+stands_not : (a b : Entry) → NotBefore a b → comes_before a b ≡ false
 stands_not a b h = elim (cases_Bool (nat_eq a.stamp b.stamp)) [
   | inl same ↦ or_from (nat_lt a.stamp b.stamp) (nat_eq a.stamp b.stamp && nat_lt a.control b.control) (le-ltb a.stamp b.stamp h.stamps)
       (and_right (nat_eq a.stamp b.stamp) (nat_lt a.control b.control) (le-ltb a.control b.control (h.controls (eqb-true a.stamp b.stamp same))))
@@ -253,7 +253,7 @@ stands_not a b h = elim (cases_Bool (nat_eq a.stamp b.stamp)) [
       (and_left (nat_eq a.stamp b.stamp) (nat_lt a.control b.control) other)
 ]
 
-pub before_order : IsOrder stands_before
+pub before_order : IsOrder comes_before
 before_order = record {
   one_way = λ a b e. stands_not b a (elim (is_before a b e) [
     | inl lt ↦ record { stamps = omega arith; controls = λ same. omega arith }
@@ -269,5 +269,5 @@ pub complete : GroupsAreComplete
 unfolding is_write
 complete n before later cut legal =
     let front = legal_front n [] before (Form cut ∷ later) legal in
-    filter_order stands_before before_order is_write (filter (λ e. nat_le e.stamp cut) (waiting_in [] before))
-    ∙ ap (in_order stands_before) (group_is n cut (last_cut before) [] before later front (no_late n before later cut legal) (kept_first n) refl)
+    filter_order comes_before before_order is_write (filter (λ e. nat_le e.stamp cut) (waiting_in [] before))
+    ∙ ap (in_order comes_before) (group_is n cut (last_cut before) [] before later front (no_late n before later cut legal) (kept_first n) refl)

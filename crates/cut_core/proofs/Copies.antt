@@ -4,7 +4,7 @@ use Rattle.std.specs.Prelude.{filter}
 use Rattle.std.proofs.lemmas.Bool.{and_from, ltb-true, le-leb}
 use Rattle.cut_core.specs.Events.{last_cut}
 use Rattle.cut_core.specs.Events.Event.{Form}
-use Rattle.cut_core.specs.Groups.{Entry, is_copy, waiting_in, stands_before}
+use Rattle.cut_core.specs.Groups.{Entry, is_copy, waiting_in, comes_before}
 use Rattle.cut_core.specs.Cuts.{CopiesAreBetween}
 use Rattle.cut_core.proofs.Filters.{all_filter, all_passing, all_order}
 use Rattle.cut_core.proofs.Legality.{legal_front}
@@ -27,4 +27,4 @@ copies_are_between n before later cut legal =
     let low = last_cut before in
     let due = all_passing (is_past low) (λ e. nat_le e.stamp cut) (is_between low cut) (waiting_in [] before) kept.waits
     (λ e past le. and_from (nat_le low e.stamp) (nat_le e.stamp cut) (past_from low e past) le) in
-    all_filter (is_between low cut) is_copy _ (all_order stands_before (is_between low cut) (filter (λ e. nat_le e.stamp cut) (waiting_in [] before)) due)
+    all_filter (is_between low cut) is_copy _ (all_order comes_before (is_between low cut) (filter (λ e. nat_le e.stamp cut) (waiting_in [] before)) due)

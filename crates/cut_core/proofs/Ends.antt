@@ -5,7 +5,7 @@ use Rattle.std.specs.List.{list_any, list_all}
 use Rattle.std.proofs.Math.Bool.{or-false, and-false, and-true, or_assoc, and_assoc}
 use Rattle.std.proofs.lemmas.Bool.{and_parts, and_from, or_left, or_right, cases_Bool, eqb-true}
 use Rattle.std.proofs.lemmas.List.Elements.{filter-append, filter_agree}
-use Rattle.cut_core.specs.Events.{Event, told_upto, floor, is_break_of, has_broken, is_form_at, is_done, cut_after, last_cut_from, last_cut}
+use Rattle.cut_core.specs.Events.{Event, told_upto, floor, is_break_of, is_broken_after, is_form_at, is_done, cut_after, last_cut_from, last_cut}
 use Rattle.cut_core.specs.Events.Event.{Form}
 use Rattle.cut_core.specs.Groups.{Entry, carried_by, forms, drops, still_waits, waiting_in}
 use Rattle.cut_core.proofs.Filters.{filter_both, filter_all, and_swap}
@@ -35,7 +35,7 @@ pub floor_snoc : (k : ℕ) (past : List Event) (x : Event) → floor k (past ++ 
 floor_snoc k [] x = omega arith
 floor_snoc k (y ∷ past) x = omega (arith, floor_snoc k past x)
 
-pub broken_snoc : (k : ℕ) (past : List Event) (x : Event) → has_broken k (past ++ x ∷ []) ≡ (has_broken k past || is_break_of k x)
+pub broken_snoc : (k : ℕ) (past : List Event) (x : Event) → is_broken_after k (past ++ x ∷ []) ≡ (is_broken_after k past || is_break_of k x)
 broken_snoc k past x = any_snoc (is_break_of k) past x
 
 last_cut_append : (c : ℕ) (past more : List Event) → last_cut_from c (past ++ more) ≡ last_cut_from (last_cut_from c past) more
@@ -47,18 +47,18 @@ cut_snoc past x = last_cut_append 0 past (x ∷ [])
 
 -- ---- who is done
 
-done_broke : (k : ℕ) (past : List Event) → is_done k past ≡ true → has_broken k past ≡ true
+done_broke : (k : ℕ) (past : List Event) → is_done k past ≡ true → is_broken_after k past ≡ true
 done_broke k [] e = absurd cc
 done_broke k (x ∷ past) e = elim (either_true (is_break_of k x && list_any (is_form_at (told_upto k x)) past) (is_done k past) e) [
-  | inl here ↦ or_left (is_break_of k x) (has_broken k past) (and_parts (is_break_of k x) (list_any (is_form_at (told_upto k x)) past) here).0
-  | inr there ↦ or_right (is_break_of k x) (has_broken k past) (done_broke k past there)
+  | inl here ↦ or_left (is_break_of k x) (is_broken_after k past) (and_parts (is_break_of k x) (list_any (is_form_at (told_upto k x)) past) here).0
+  | inr there ↦ or_right (is_break_of k x) (is_broken_after k past) (done_broke k past there)
 ]
 
 -- who hasn't broken isn't done
-pub not_done : (k : ℕ) (past : List Event) → has_broken k past ≡ false → is_done k past ≡ false
+pub not_done : (k : ℕ) (past : List Event) → is_broken_after k past ≡ false → is_done k past ≡ false
 not_done k past e = elim (cases_Bool (is_done k past)) [
   | inr other ↦ other
-  | inl done ↦ absurd (clash (has_broken k past) (done_broke k past done) e)
+  | inl done ↦ absurd (clash (is_broken_after k past) (done_broke k past done) e)
 ]
 
 -- who is done stays so
@@ -102,12 +102,12 @@ mix true f x t d h e = rw (e refl) (mixed f t d h)
 mix false f x t d h e = refl
 
 -- a form makes a control done where that has broken at the form's cut
-pub done_form : (k t c : ℕ) (past : List Event) → breaks_at k t past ≡ true → is_done k (past ++ Form c ∷ []) ≡ (is_done k past || (has_broken k past && c == t))
+pub done_form : (k t c : ℕ) (past : List Event) → breaks_at k t past ≡ true → is_done k (past ++ Form c ∷ []) ≡ (is_done k past || (is_broken_after k past && c == t))
 done_form k t c [] e = refl
 done_form k t c (y ∷ past) e =
     let parts = and_parts (not (is_break_of k y) || told_upto k y == t) (breaks_at k t past) e in
     rw (any_snoc (is_form_at (told_upto k y)) past (Form c), done_form k t c past parts.1)
-    (mix (is_break_of k y) (list_any (is_form_at (told_upto k y)) past) (c == told_upto k y) (c == t) (is_done k past) (has_broken k past)
+    (mix (is_break_of k y) (list_any (is_form_at (told_upto k y)) past) (c == told_upto k y) (c == t) (is_done k past) (is_broken_after k past)
     (λ is. ap (λ u. c == u) (eqb-true (told_upto k y) t (break_time (is_break_of k y) (told_upto k y == t) parts.0 is))))
 
 -- ---- what waits

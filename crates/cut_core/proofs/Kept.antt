@@ -5,9 +5,9 @@ use Rattle.std.specs.List.{list_all}
 use Rattle.std.proofs.lemmas.Bool.{and_parts, and_from, or_parts, or_right, not-true, not-false, cases_Bool, cases_lt, ltb-true, lt-ltb, leb-true, le-leb, leb-false, eqb-true, eq-eqb}
 use Rattle.std.proofs.lemmas.List.Folds.{list_all-append}
 use Rattle.ckd_track.specs.declared.write.Write.{Write}
-use Rattle.cut_core.specs.Events.{Event, told_upto, floor, is_break_of, has_broken, is_done, is_live, cut_after, last_cut}
+use Rattle.cut_core.specs.Events.{Event, told_upto, floor, is_break_of, is_broken_after, is_done, is_live, cut_after, last_cut}
 use Rattle.cut_core.specs.Events.Event.{Join, Copied, Break, Raise, Form, Drop, Carry, Resume, Forget}
-use Rattle.cut_core.specs.Groups.{Entry, entry_of, is_copy, is_write_carried, carried_by, waiting_in}
+use Rattle.cut_core.specs.Groups.{Entry, carried_entry, is_copy, is_write_carried, carried_by, waiting_in}
 use Rattle.cut_core.specs.Legal.{are_in, is_below_floors, is_legal_next, are_legal}
 use Rattle.cut_core.proofs.Filters.{all_filter, all_passing}
 use Rattle.cut_core.proofs.Legality.{joins, copies, forms_at, told}
@@ -33,7 +33,7 @@ pub record Kept (n : ℕ) (past : List Event) : Type 0 where
   pub rises : (k : ℕ) → IsRising k past
 
 -- the floor of a control that hasn't broken
-pub floor_above : (n k : ℕ) (past : List Event) → Kept n past → k < n → has_broken k past ≡ false → last_cut past ≤ floor k past
+pub floor_above : (n k : ℕ) (past : List Event) → Kept n past → k < n → is_broken_after k past ≡ false → last_cut past ≤ floor k past
 floor_above n k past kept lt unbroken = elim (kept.floors k lt) [
   | inr le ↦ le
   | inl done ↦ absurd (clash (is_done k past) done (not_done k past unbroken))
@@ -72,10 +72,10 @@ floors_next n past (Forget j v) legal at k lt = above_more (last_cut past) k pas
 -- ---- breaks
 
 -- a control that hasn't broken has no break at another time
-unbroken_at : (k t : ℕ) (past : List Event) → has_broken k past ≡ false → breaks_at k t past ≡ true
+unbroken_at : (k t : ℕ) (past : List Event) → is_broken_after k past ≡ false → breaks_at k t past ≡ true
 unbroken_at k t [] e = refl
 unbroken_at k t (y ∷ past) e =
-    let parts = or_parts (is_break_of k y) (has_broken k past) e in
+    let parts = or_parts (is_break_of k y) (is_broken_after k past) e in
     rw parts.0 (unbroken_at k t past parts.1)
 
 -- after an event that isn't the control's, and after one of a control that hasn't broken
@@ -84,19 +84,19 @@ after_quiet k past x none untold e =
     let same : floor k (past ++ x ∷ []) ≡ floor k past = omega (arith, floor_snoc k past x, untold) in
     rw (same, all_snoc (λ y. not (is_break_of k y) || told_upto k y == floor k past) past x, e, none) refl
 
-after_told : (k t : ℕ) (past : List Event) (x : Event) → has_broken k past ≡ false → (not (is_break_of k x) || told_upto k x == t) ≡ true → breaks_at k t (past ++ x ∷ []) ≡ true
+after_told : (k t : ℕ) (past : List Event) (x : Event) → is_broken_after k past ≡ false → (not (is_break_of k x) || told_upto k x == t) ≡ true → breaks_at k t (past ++ x ∷ []) ≡ true
 after_told k t past x none e = rw (all_snoc (λ y. not (is_break_of k y) || told_upto k y == t) past x, unbroken_at k t past none, e) refl
 
 breaks_next : (n k : ℕ) (past : List Event) (x : Event) → is_legal_next n past x ≡ true → breaks_at k (floor k past) past ≡ true → breaks_at k (floor k (past ++ x ∷ [])) (past ++ x ∷ []) ≡ true
 breaks_next n k past (Join b) legal e =
     elim (cases_Bool (nat_eq b.control k)) [
       | inr other ↦ after_quiet k past (Join b) refl (rw other refl) e
-      | inl same ↦ after_told k (floor k (past ++ Join b ∷ [])) past (Join b) (subst (λ j. has_broken j past ≡ false) (eqb-true b.control k same) (joins n past b legal).tells.unbroken) refl
+      | inl same ↦ after_told k (floor k (past ++ Join b ∷ [])) past (Join b) (subst (λ j. is_broken_after j past ≡ false) (eqb-true b.control k same) (joins n past b legal).tells.unbroken) refl
     ]
 breaks_next n k past (Raise j u) legal e =
     elim (cases_Bool (nat_eq j k)) [
       | inr other ↦ after_quiet k past (Raise j u) refl (rw other refl) e
-      | inl same ↦ after_told k (floor k (past ++ Raise j u ∷ [])) past (Raise j u) (subst (λ i. has_broken i past ≡ false) (eqb-true j k same) (told n j u past legal).unbroken) refl
+      | inl same ↦ after_told k (floor k (past ++ Raise j u ∷ [])) past (Raise j u) (subst (λ i. is_broken_after i past ≡ false) (eqb-true j k same) (told n j u past legal).unbroken) refl
     ]
 breaks_next n k past (Break j u) legal e =
     elim (cases_Bool (nat_eq j k)) [
@@ -107,7 +107,7 @@ breaks_next n k past (Break j u) legal e =
           let le : floor k past ≤ u = subst (λ i. floor i past ≤ u) is parts.up in
           let upto : told_upto k (Break j u) ≡ u = rw same refl in
           let up : told_upto k (Break j u) ≡ floor k (past ++ Break j u ∷ []) = omega (arith, floor_snoc k past (Break j u), upto, le) in
-          after_told k (floor k (past ++ Break j u ∷ [])) past (Break j u) (subst (λ i. has_broken i past ≡ false) is parts.unbroken)
+          after_told k (floor k (past ++ Break j u ∷ [])) past (Break j u) (subst (λ i. is_broken_after i past ≡ false) is parts.unbroken)
           (or_right (not (is_break_of k (Break j u))) (told_upto k (Break j u) == floor k (past ++ Break j u ∷ [])) (eq-eqb (told_upto k (Break j u)) (floor k (past ++ Break j u ∷ [])) up))
     ]
 breaks_next n k past (Copied j v y s) legal e = after_quiet k past (Copied j v y s) refl refl e
@@ -120,14 +120,14 @@ breaks_next n k past (Forget j v) legal e = after_quiet k past (Forget j v) refl
 -- ---- what waits
 
 -- carried writes above the floor are past the cut
-writes_past : (cut k low high : ℕ) (c : Write → Bool) (writes : List Write) → cut ≤ low → are_in low high writes ≡ true → list_all (is_past cut) (map (entry_of k) (filter c writes)) ≡ true
+writes_past : (cut k low high : ℕ) (c : Write → Bool) (writes : List Write) → cut ≤ low → are_in low high writes ≡ true → list_all (is_past cut) (map (carried_entry k) (filter c writes)) ≡ true
 writes_past cut k low high c [] le e = refl
 writes_past cut k low high c (w ∷ writes) le e =
     let parts = and_parts (nat_lt low w.stamp.0 && nat_le w.stamp.0 high) (are_in low high writes) e in
     let lt = ltb-true low w.stamp.0 (and_parts (nat_lt low w.stamp.0) (nat_le w.stamp.0 high) parts.0).0 in
     choose (c w) (lt-ltb cut w.stamp.0 (omega arith)) (writes_past cut k low high c writes le parts.1)
   where
-    choose : (t : Bool) → nat_lt cut w.stamp.0 ≡ true → list_all (is_past cut) (map (entry_of k) (filter c writes)) ≡ true → list_all (is_past cut) (map (entry_of k) (cond t (w ∷ filter c writes) (filter c writes))) ≡ true
+    choose : (t : Bool) → nat_lt cut w.stamp.0 ≡ true → list_all (is_past cut) (map (carried_entry k) (filter c writes)) ≡ true → list_all (is_past cut) (map (carried_entry k) (cond t (w ∷ filter c writes) (filter c writes))) ≡ true
     choose true lt rest = rw (lt, rest) refl
     choose false lt rest = rest
 

@@ -3,21 +3,22 @@ use Rattle.std.proofs.Common.{◌≡◌, ℕ, ◌<◌, ◌≤◌, true, false, n
 use Rattle.std.proofs.lemmas.Bool.{and_parts, and_from, not-true, ltb-true, leb-true, eqb-true}
 use Rattle.ckd_track.specs.declared.write.Batch.{Batch}
 use Rattle.xrc_edge.specs.Order.{is_in_order}
-use Rattle.cut_core.specs.Events.{Event, floor, has_broken, last_cut}
+use Rattle.cut_core.specs.Events.{Event, floor, is_broken_after, last_cut}
 use Rattle.cut_core.specs.Events.Event.{Join, Copied, Form}
 use Rattle.cut_core.specs.Shares.{share}
-use Rattle.cut_core.specs.Legal.{is_earlier, are_in, may_tell, is_below_floors, is_legal_next, are_legal}
+use Rattle.cut_core.specs.Legal.{are_in, may_tell, is_below_floors, is_legal_next, are_legal}
+use Rattle.ckd_track.specs.Writes.{is_earlier}
 
 -- it is one of the controls, hasn't broken, and tells no earlier time
 pub record Tells (n j u : ℕ) (past : List Event) : Type 0 where
   pub control : j < n
-  pub unbroken : has_broken j past ≡ false
+  pub unbroken : is_broken_after j past ≡ false
   pub up : floor j past ≤ u
 
 pub tells : (n j u : ℕ) (past : List Event) → may_tell n j past ≡ true → nat_le (floor j past) u ≡ true → Tells n j u past
 tells n j u past may le =
-    let parts = and_parts (nat_lt j n) (not (has_broken j past)) may in
-    record { control = ltb-true j n parts.0; unbroken = not-true (has_broken j past) parts.1; up = leb-true (floor j past) u le }
+    let parts = and_parts (nat_lt j n) (not (is_broken_after j past)) may in
+    record { control = ltb-true j n parts.0; unbroken = not-true (is_broken_after j past) parts.1; up = leb-true (floor j past) u le }
 
 -- of a break and of a raise
 pub told : (n j u : ℕ) (past : List Event) → (may_tell n j past && nat_le (floor j past) u) ≡ true → Tells n j u past
@@ -40,7 +41,7 @@ joins n past b legal =
 
 pub record Copies (n k v x s : ℕ) (past : List Event) : Type 0 where
   pub control : k < n
-  pub unbroken : has_broken k past ≡ false
+  pub unbroken : is_broken_after k past ≡ false
   pub wanted : (share k v x past).is_wanted ≡ true
   pub stamp : s ≡ floor k past
 
@@ -48,8 +49,8 @@ pub copies : (n k v x s : ℕ) (past : List Event) → is_legal_next n past (Cop
 copies n k v x s past legal =
     let outer = and_parts (may_tell n k past && (share k v x past).is_wanted) (nat_eq s (floor k past)) legal in
     let inner = and_parts (may_tell n k past) (share k v x past).is_wanted outer.0 in
-    let may = and_parts (nat_lt k n) (not (has_broken k past)) inner.0 in
-    record { control = ltb-true k n may.0; unbroken = not-true (has_broken k past) may.1; wanted = inner.1; stamp = eqb-true s (floor k past) outer.1 }
+    let may = and_parts (nat_lt k n) (not (is_broken_after k past)) inner.0 in
+    record { control = ltb-true k n may.0; unbroken = not-true (is_broken_after k past) may.1; wanted = inner.1; stamp = eqb-true s (floor k past) outer.1 }
 
 pub record Forms (n c : ℕ) (past : List Event) : Type 0 where
   pub above : last_cut past ≤ c

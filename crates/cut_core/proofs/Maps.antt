@@ -11,7 +11,7 @@ use Rattle.cut_core.specs.Events.Event.{Join, Copied, Break, Raise, Form, Drop, 
 use Rattle.cut_core.specs.Shares.{Share, no_share, names_volume, share_write, share_writes, share_copied, share_drop, share_by, share}
 use Rattle.cut_core.specs.Groups.{waiting_in}
 use Rattle.cut_core.specs.Legal.{is_legal_next, are_legal}
-use Rattle.cut_core.specs.Waiting.{is_on}
+use Rattle.cut_core.specs.Waiting.{waits_on}
 use Rattle.cut_core.specs.Maps.{ends_drop, drops_all, joins_on, MapsHold}
 use Rattle.cut_core.proofs.Legality.{copies, legal_after}
 use Rattle.cut_core.proofs.Shares.{shares_wait}
@@ -108,11 +108,11 @@ after_since n k v x past (y ∷ since) m is legal none =
 -- ---- the first drop
 
 -- a carried volume has no map yet; what its drop makes of a share
-first_drop : (k v x : ℕ) (before : List Event) (all : Bool) → (share k v x before).is_carried ≡ true → share k v x (before ++ Drop k v all ∷ []) ≡ dropped (all || list_any (is_on k v x) (waiting_in [] before))
+first_drop : (k v x : ℕ) (before : List Event) (all : Bool) → (share k v x before).is_carried ≡ true → share k v x (before ++ Drop k v all ∷ []) ≡ dropped (all || list_any (waits_on k v x) (waiting_in [] before))
 first_drop k v x before all carried =
     let s = share k v x before in
     let plain = plain_all k v x before no_share refl in
-    let waits = ap (λ (stamps : List ℕ). not (length stamps == 0)) (shares_wait k v x before) ∙ any_waits (is_on k v x) (waiting_in [] before) in
+    let waits = ap (λ (stamps : List ℕ). not (length stamps == 0)) (shares_wait k v x before) ∙ any_waits (waits_on k v x) (waiting_in [] before) in
     share_snoc k v x before (Drop k v all) ∙ rw (eq-eqb k k refl, eq-eqb v v refl, carried) (ap dropped (mapped s.is_mapped (not_mapped s.is_carried s.is_dropped s.is_mapped carried plain) ∙ ap (λ w. all || w) waits))
   where
     not_mapped : (c d m : Bool) → c ≡ true → (not c || (not d && not m)) ≡ true → m ≡ false
@@ -133,7 +133,7 @@ in_turn false false d j = refl
 
 pub maps_hold : MapsHold
 maps_hold n k v x before since all legal carried none =
-    let w = list_any (is_on k v x) (waiting_in [] before) in
+    let w = list_any (waits_on k v x) (waiting_in [] before) in
     let parts = and_parts true (are_legal n (before ++ Drop k v all ∷ []) since) (legal_after n [] before (Drop k v all ∷ since) legal) in
     let after = after_since n k v x (before ++ Drop k v all ∷ []) since (all || w) (first_drop k v x before all carried) parts.1 none in
     rw (eq-eqb k k refl, eq-eqb v v refl)

@@ -8,10 +8,10 @@ use Rattle.xrc_edge.proofs.OrderLaws.{order_stays}
 use Rattle.xrc_edge.proofs.Positions.{filter_order}
 use Rattle.cut_core.specs.Events.{Event, floor}
 use Rattle.cut_core.specs.Events.Event.{Join, Copied, Break, Raise, Form, Drop, Carry, Resume, Forget}
-use Rattle.cut_core.specs.Groups.{Entry, carried_by, forms, drops, waiting_in, stands_before, group}
+use Rattle.cut_core.specs.Groups.{Entry, carried_by, forms, drops, waiting_in, comes_before, group}
 use Rattle.cut_core.specs.Legal.{is_legal_next, are_legal}
 use Rattle.cut_core.specs.Cuts.{is_dropped_in}
-use Rattle.cut_core.specs.Once.{is_of, group_by, formed_in, kept_in, EachOnce}
+use Rattle.cut_core.specs.Once.{is_of_control, group_by, formed_in, kept_in, EachOnce}
 use Rattle.cut_core.proofs.Filters.{filter_both, filter_swap}
 use Rattle.cut_core.proofs.Ends.{stays, waiting_snoc}
 use Rattle.cut_core.proofs.Kept.{Kept, kept_first, kept_next}
@@ -55,7 +55,7 @@ first_taken k low high cut d (e ∷ entries) r = elim (cases_Bool (nat_le e.stam
 
 -- the control's entries that later ones don't drop
 abbrev lasts : (k : ℕ) → List Event → Entry → Bool
-lasts k later e = is_of k e && not (is_dropped_in later e)
+lasts k later e = is_of_control k e && not (is_dropped_in later e)
 
 quiet_test : (a d r : Bool) → ((a && not r) && (not false && not d)) ≡ (a && not (d || (not false && r)))
 quiet_test true true true = refl
@@ -68,7 +68,7 @@ quiet_test false d r = refl
 quiet : (k : ℕ) (y : Event) (later : List Event) (w : List Entry) → ((e : Entry) → forms e y ≡ false) → filter (lasts k later) (filter (stays y) w) ≡ filter (lasts k (y ∷ later)) w
 quiet k y later w none =
     filter_both (lasts k later) (stays y) w
-    ∙ filter_agree (λ e. lasts k later e && stays y e) (lasts k (y ∷ later)) (λ e. rw (none e) (quiet_test (is_of k e) (drops e y) (is_dropped_in later e))) w
+    ∙ filter_agree (λ e. lasts k later e && stays y e) (lasts k (y ∷ later)) (λ e. rw (none e) (quiet_test (is_of_control k e) (drops e y) (is_dropped_in later e))) w
 
 form_left : (a f r : Bool) → ((a && not r) && (not f && true)) ≡ ((not r && not f) && a)
 form_left true f true = refl
@@ -88,26 +88,26 @@ form_right false false false = refl
 
 -- a form: its group is the first of the control's entries, and the others wait
 formed : (k c : ℕ) (past later : List Event) → IsRising k past
-    → filter (is_of k) (group past c) ++ filter (lasts k later) (filter (stays (Form c)) (waiting_in [] past)) ≡ filter (lasts k (Form c ∷ later)) (waiting_in [] past)
+    → filter (is_of_control k) (group past c) ++ filter (lasts k later) (filter (stays (Form c)) (waiting_in [] past)) ≡ filter (lasts k (Form c ∷ later)) (waiting_in [] past)
 formed k c past later r =
     let w = waiting_in [] past in
     let upto : Entry → Bool = λ e. nat_le e.stamp c in
     let kept : Entry → Bool = λ e. not (is_dropped_in later e) in
-    let own = filter (is_of k) w in
-    let first : filter (is_of k) (group past c) ≡ filter upto own =
-    filter_order stands_before before_order (is_of k) (filter upto w) ∙ ap (in_order stands_before) (filter_swap (is_of k) upto w)
-    ∙ sym (filter_order stands_before before_order upto own) ∙ ap (filter upto) (order_stays stands_before own (rises_order k 0 (floor k past) own r)) in
+    let own = filter (is_of_control k) w in
+    let first : filter (is_of_control k) (group past c) ≡ filter upto own =
+    filter_order comes_before before_order (is_of_control k) (filter upto w) ∙ ap (in_order comes_before) (filter_swap (is_of_control k) upto w)
+    ∙ sym (filter_order comes_before before_order upto own) ∙ ap (filter upto) (order_stays comes_before own (rises_order k 0 (floor k past) own r)) in
     let left : filter (lasts k later) (filter (stays (Form c)) w) ≡ filter (λ e. kept e && not (upto e)) own =
     filter_both (lasts k later) (stays (Form c)) w
-    ∙ filter_agree (λ e. lasts k later e && stays (Form c) e) (λ e. (kept e && not (upto e)) && is_of k e) (λ e. form_left (is_of k e) (upto e) (is_dropped_in later e)) w
-    ∙ sym (filter_both (λ e. kept e && not (upto e)) (is_of k) w) in
+    ∙ filter_agree (λ e. lasts k later e && stays (Form c) e) (λ e. (kept e && not (upto e)) && is_of_control k e) (λ e. form_left (is_of_control k e) (upto e) (is_dropped_in later e)) w
+    ∙ sym (filter_both (λ e. kept e && not (upto e)) (is_of_control k) w) in
     let right : filter (lasts k (Form c ∷ later)) w ≡ filter (λ e. upto e || kept e) own =
-    filter_agree (lasts k (Form c ∷ later)) (λ e. (upto e || kept e) && is_of k e) (λ e. form_right (is_of k e) (upto e) (is_dropped_in later e)) w
-    ∙ sym (filter_both (λ e. upto e || kept e) (is_of k) w) in
+    filter_agree (lasts k (Form c ∷ later)) (λ e. (upto e || kept e) && is_of_control k e) (λ e. form_right (is_of_control k e) (upto e) (is_dropped_in later e)) w
+    ∙ sym (filter_both (λ e. upto e || kept e) (is_of_control k) w) in
     rw (first, left, right) (first_taken k 0 (floor k past) c kept own r)
 
 one_more : (k : ℕ) (past later : List Event) (y : Event) → IsRising k past
-    → filter (is_of k) (group_by past y) ++ filter (lasts k later) (filter (stays y) (waiting_in [] past)) ≡ filter (lasts k (y ∷ later)) (waiting_in [] past)
+    → filter (is_of_control k) (group_by past y) ++ filter (lasts k later) (filter (stays y) (waiting_in [] past)) ≡ filter (lasts k (y ∷ later)) (waiting_in [] past)
 one_more k past later (Form c) r = formed k c past later r
 one_more k past later (Join b) r = quiet k (Join b) later (waiting_in [] past) (λ e. refl)
 one_more k past later (Copied j v x s) r = quiet k (Copied j v x s) later (waiting_in [] past) (λ e. refl)
@@ -122,9 +122,9 @@ one_more k past later (Forget j v) r = quiet k (Forget j v) later (waiting_in []
 
 -- From a place on: what waits there and what is carried later, without what is dropped, is what is formed later and what waits in the end.
 from_place : (n k : ℕ) (past later : List Event) → Kept n past → are_legal n past later ≡ true
-    → formed_in k past later ++ filter (is_of k) (waiting_in [] (past ++ later)) ≡ filter (lasts k later) (waiting_in [] past) ++ kept_in k past later
+    → formed_in k past later ++ filter (is_of_control k) (waiting_in [] (past ++ later)) ≡ filter (lasts k later) (waiting_in [] past) ++ kept_in k past later
 from_place n k past [] kept legal =
-    rw (append-nil past, filter_agree (lasts k []) (is_of k) (λ e. and_all (is_of k e)) (waiting_in [] past), append-nil (filter (is_of k) (waiting_in [] past))) refl
+    rw (append-nil past, filter_agree (lasts k []) (is_of_control k) (λ e. and_all (is_of_control k e)) (waiting_in [] past), append-nil (filter (is_of_control k) (waiting_in [] past))) refl
   where
     and_all : (a : Bool) → (a && true) ≡ a
     and_all true = refl
@@ -133,13 +133,13 @@ from_place n k past (y ∷ later) kept legal =
     let parts = and_parts (is_legal_next n past y) (are_legal n (past ++ y ∷ []) later) legal in
     let next = from_place n k (past ++ y ∷ []) later (kept_next n past y parts.0 kept) parts.1 in
     let w = waiting_in [] past in
-    let g = filter (is_of k) (group_by past y) in
+    let g = filter (is_of_control k) (group_by past y) in
     let left = filter (lasts k later) (filter (stays y) w) in
     let new = filter (lasts k later) (carried_by past y) in
     let rest = kept_in k (past ++ y ∷ []) later in
     let split : filter (lasts k later) (waiting_in [] (past ++ y ∷ [])) ≡ left ++ new = ap (filter (lasts k later)) (waiting_snoc [] past y) ∙ filter-append (lasts k later) (filter (stays y) w) (carried_by past y) in
-    append_assoc g (formed_in k (past ++ y ∷ []) later) (filter (is_of k) (waiting_in [] (past ++ y ∷ later)))
-    ∙ ap (λ es. g ++ es) (subst (λ p. formed_in k (past ++ y ∷ []) later ++ filter (is_of k) (waiting_in [] p) ≡ filter (lasts k later) (waiting_in [] (past ++ y ∷ [])) ++ rest) (append_assoc past (y ∷ []) later) next
+    append_assoc g (formed_in k (past ++ y ∷ []) later) (filter (is_of_control k) (waiting_in [] (past ++ y ∷ later)))
+    ∙ ap (λ es. g ++ es) (subst (λ p. formed_in k (past ++ y ∷ []) later ++ filter (is_of_control k) (waiting_in [] p) ≡ filter (lasts k later) (waiting_in [] (past ++ y ∷ [])) ++ rest) (append_assoc past (y ∷ []) later) next
     ∙ ap (λ es. es ++ rest) split)
     ∙ regroup g left new rest
     ∙ ap (λ es. es ++ (new ++ rest)) (one_more k past later y (kept.rises k))

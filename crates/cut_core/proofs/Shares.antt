@@ -7,8 +7,8 @@ use Rattle.ckd_track.specs.declared.write.Write.{Write}
 use Rattle.cut_core.specs.Events.{Event}
 use Rattle.cut_core.specs.Events.Event.{Join, Copied, Break, Raise, Form, Drop, Carry, Resume, Forget}
 use Rattle.cut_core.specs.Shares.{Share, no_share, names_volume, share_write, share_writes, share_copied, share_drop, share_by, share}
-use Rattle.cut_core.specs.Groups.{Entry, entry_of, copy_of, is_write_carried, carried_by, waiting_in}
-use Rattle.cut_core.specs.Waiting.{is_on, SharesWait}
+use Rattle.cut_core.specs.Groups.{Entry, carried_entry, copied_entry, is_write_carried, carried_by, waiting_in}
+use Rattle.cut_core.specs.Waiting.{waits_on}
 use Rattle.cut_core.proofs.Ends.{stays, waiting_snoc}
 use Rattle.cut_core.proofs.Waits.{stamps_on, stamps_append, moved, stays_all, stays_none, same_waiting}
 
@@ -31,10 +31,10 @@ mapped s = record s { is_mapped = true }
 -- what the writes that are left make of a share
 abbrev Joins : (k v x : ℕ) (past : List Event) → List Write → Type 0
 Joins k v x past writes = (s : Share) → s.is_carried ≡ (share k v x past).is_carried → s.is_wanted ≡ (share k v x past).is_wanted
-    → (share_writes v x writes s).waiting ≡ s.waiting ++ stamps_on k v x (map (entry_of k) (filter (is_write_carried past k) writes))
+    → (share_writes v x writes s).waiting ≡ s.waiting ++ stamps_on k v x (map (carried_entry k) (filter (is_write_carried past k) writes))
 
 -- a write that isn't on the track
-joined_off : (k v x : ℕ) (w : Write) (t : Bool) (rest : List Write) → writes_on v x w ≡ false → stamps_on k v x (map (entry_of k) (cond t (w ∷ rest) rest)) ≡ stamps_on k v x (map (entry_of k) rest)
+joined_off : (k v x : ℕ) (w : Write) (t : Bool) (rest : List Write) → writes_on v x w ≡ false → stamps_on k v x (map (carried_entry k) (cond t (w ∷ rest) rest)) ≡ stamps_on k v x (map (carried_entry k) rest)
 joined_off k v x w true rest off = rw (itself k, off) refl
 joined_off k v x w false rest off = refl
 
@@ -47,9 +47,9 @@ carried_is k v x past w on =
 
 joined_on : (k v x : ℕ) (past : List Event) (w : Write) (writes : List Write) (s : Share) → Joins k v x past writes → writes_on v x w ≡ true
     → s.is_carried ≡ (share k v x past).is_carried → s.is_wanted ≡ (share k v x past).is_wanted → (c d t : Bool) → c ≡ t
-    → (share_writes v x writes (cond c (carried_on w.stamp.0 s) (cond d (mapped s) s))).waiting ≡ s.waiting ++ stamps_on k v x (map (entry_of k) (cond t (w ∷ filter (is_write_carried past k) writes) (filter (is_write_carried past k) writes)))
+    → (share_writes v x writes (cond c (carried_on w.stamp.0 s) (cond d (mapped s) s))).waiting ≡ s.waiting ++ stamps_on k v x (map (carried_entry k) (cond t (w ∷ filter (is_write_carried past k) writes) (filter (is_write_carried past k) writes)))
 joined_on k v x past w writes s rest on carried wanted true d true e =
-    rw (itself k, on) (rest (carried_on w.stamp.0 s) carried wanted ∙ append_assoc s.waiting (w.stamp.0 ∷ []) (stamps_on k v x (map (entry_of k) (filter (is_write_carried past k) writes))))
+    rw (itself k, on) (rest (carried_on w.stamp.0 s) carried wanted ∙ append_assoc s.waiting (w.stamp.0 ∷ []) (stamps_on k v x (map (carried_entry k) (filter (is_write_carried past k) writes))))
 joined_on k v x past w writes s rest on carried wanted false true false e = rest (mapped s) carried wanted
 joined_on k v x past w writes s rest on carried wanted false false false e = rest s carried wanted
 joined_on k v x past w writes s rest on carried wanted true d false e = absurd cc
@@ -60,18 +60,18 @@ joined k v x past [] s carried wanted = sym (append-nil s.waiting)
 joined k v x past (w ∷ writes) s carried wanted = choose (writes_on v x w) refl (joined k v x past writes)
   where
     choose : (t : Bool) → writes_on v x w ≡ t → Joins k v x past writes
-        → (share_writes v x writes (cond t (share_write w.stamp.0 s) s)).waiting ≡ s.waiting ++ stamps_on k v x (map (entry_of k) (cond (is_write_carried past k w) (w ∷ filter (is_write_carried past k) writes) (filter (is_write_carried past k) writes)))
+        → (share_writes v x writes (cond t (share_write w.stamp.0 s) s)).waiting ≡ s.waiting ++ stamps_on k v x (map (carried_entry k) (cond (is_write_carried past k w) (w ∷ filter (is_write_carried past k) writes) (filter (is_write_carried past k) writes)))
     choose false off rest = rest s carried wanted ∙ ap (λ xs. s.waiting ++ xs) (sym (joined_off k v x w (is_write_carried past k w) (filter (is_write_carried past k) writes) off))
     choose true on rest = joined_on k v x past w writes s rest on carried wanted (s.is_carried && not s.is_wanted) s.is_dropped (is_write_carried past k w) (rw (carried, wanted) (sym (carried_is k v x past w on)))
 
 -- writes of another control
-others : (j k v x : ℕ) (writes : List Write) → nat_eq j k ≡ false → stamps_on k v x (map (entry_of j) writes) ≡ []
+others : (j k v x : ℕ) (writes : List Write) → nat_eq j k ≡ false → stamps_on k v x (map (carried_entry j) writes) ≡ []
 others j k v x [] e = refl
 others j k v x (w ∷ writes) e = rw e (others j k v x writes e)
 
 -- ---- one more event
 
-same_names : (j u k v x : ℕ) (e : Entry) → is_on k v x e ≡ true → names_volume j u e.control e.volume ≡ names_volume j u k v
+same_names : (j u k v x : ℕ) (e : Entry) → waits_on k v x e ≡ true → names_volume j u e.control e.volume ≡ names_volume j u k v
 same_names j u k v x e on =
     let parts = and_parts (names_volume e.control e.volume k v) (e.track == x) on in
     let names = and_parts (e.control == k) (e.volume == v) parts.0 in
@@ -94,11 +94,11 @@ module _ (k v x : ℕ) (past : List Event) (h : Waits k v x past) where
   w = waiting_in [] past
 
   -- what waits still waits
-  kept : (keep : Entry → Bool) → ((e : Entry) → is_on k v x e ≡ true → keep e ≡ true) → s.waiting ≡ stamps_on k v x (filter keep w)
+  kept : (keep : Entry → Bool) → ((e : Entry) → waits_on k v x e ≡ true → keep e ≡ true) → s.waiting ≡ stamps_on k v x (filter keep w)
   kept keep all = h ∙ sym (stays_all k v x keep w all)
 
   -- and nothing is carried
-  quiet : (keep : Entry → Bool) → ((e : Entry) → is_on k v x e ≡ true → keep e ≡ true) → s.waiting ≡ stamps_on k v x (filter keep w) ++ []
+  quiet : (keep : Entry → Bool) → ((e : Entry) → waits_on k v x e ≡ true → keep e ≡ true) → s.waiting ≡ stamps_on k v x (filter keep w) ++ []
   quiet keep all = kept keep all ∙ sym (append-nil (stamps_on k v x (filter keep w)))
 
   by_event : (y : Event) → (share_by k v x s y).waiting ≡ stamps_on k v x (filter (stays y) w) ++ stamps_on k v x (carried_by past y)
@@ -118,7 +118,7 @@ module _ (k v x : ℕ) (past : List Event) (h : Waits k v x past) where
   by_event (Copied j u y stamp) = copied (names_volume j u k v && y == x)
     where
       e : Entry
-      e = copy_of j u y stamp
+      e = copied_entry j u y stamp
 
       copied : (t : Bool) → (cond t (share_copied stamp s) s).waiting ≡ stamps_on k v x (filter (stays (Copied j u y stamp)) w) ++ map (λ (e : Entry). e.stamp) (cond t (e ∷ []) [])
       copied true = ap (λ xs. xs ++ stamp ∷ []) (kept (stays (Copied j u y stamp)) (λ e on. refl))
@@ -126,10 +126,10 @@ module _ (k v x : ℕ) (past : List Event) (h : Waits k v x past) where
   by_event (Join b) = choose (nat_eq b.control k) refl
     where
       choose : (t : Bool) → nat_eq b.control k ≡ t
-          → (cond t (share_writes v x b.writes s) s).waiting ≡ stamps_on k v x (filter (stays (Join b)) w) ++ stamps_on k v x (map (entry_of b.control) (filter (is_write_carried past b.control) b.writes))
+          → (cond t (share_writes v x b.writes s) s).waiting ≡ stamps_on k v x (filter (stays (Join b)) w) ++ stamps_on k v x (map (carried_entry b.control) (filter (is_write_carried past b.control) b.writes))
       choose true is =
-          subst (λ j. (share_writes v x b.writes s).waiting ≡ stamps_on k v x (filter (stays (Join b)) w) ++ stamps_on k v x (map (entry_of j) (filter (is_write_carried past j) b.writes))) (sym (eqb-true b.control k is))
-          (joined k v x past b.writes s refl refl ∙ ap (λ xs. xs ++ stamps_on k v x (map (entry_of k) (filter (is_write_carried past k) b.writes))) (kept (stays (Join b)) (λ e on. refl)))
+          subst (λ j. (share_writes v x b.writes s).waiting ≡ stamps_on k v x (filter (stays (Join b)) w) ++ stamps_on k v x (map (carried_entry j) (filter (is_write_carried past j) b.writes))) (sym (eqb-true b.control k is))
+          (joined k v x past b.writes s refl refl ∙ ap (λ xs. xs ++ stamps_on k v x (map (carried_entry k) (filter (is_write_carried past k) b.writes))) (kept (stays (Join b)) (λ e on. refl)))
       choose false is = rw (others b.control k v x (filter (is_write_carried past b.control) b.writes) is) (quiet (stays (Join b)) (λ e on. refl))
 
 all_wait : (k v x : ℕ) (past later : List Event) → Waits k v x past → Waits k v x (past ++ later)
@@ -140,5 +140,7 @@ all_wait k v x past (y ∷ later) h =
     ∙ sym (ap (stamps_on k v x) (waiting_snoc [] past y) ∙ stamps_append k v x (filter (stays y) (waiting_in [] past)) (carried_by past y)) in
     subst (λ p. Waits k v x p) (append_assoc past (y ∷ []) later) (all_wait k v x (past ++ y ∷ []) later next)
 
-pub shares_wait : SharesWait
+-- In every history, also one that isn't legal, the two ways to say what waits agree. So a drop maps exactly the tracks of the
+-- entries that it takes out.
+pub shares_wait : (k v x : ℕ) (past : List Event) → (share k v x past).waiting ≡ map (λ e. e.stamp) (filter (waits_on k v x) (waiting_in [] past))
 shares_wait k v x past = all_wait k v x [] past refl

@@ -9,7 +9,7 @@ use Rattle.cut_core.specs.Events.{Event, told_upto, is_break_of, is_form_at, cut
 use Rattle.cut_core.specs.Events.Event.{Join, Break, Raise, Form}
 use Rattle.cut_core.specs.Legal.{is_legal_next, are_legal}
 use Rattle.cut_core.specs.declared.told.Told.{Told}
-use Rattle.cut_core.specs.Standing.{FloorsState, StandsAfter, told_of, formed}
+use Rattle.cut_core.specs.Standing.{FloorsState, StandsAfter, told_after, told_after_form}
 use Rattle.cut_core.proofs.Legality.{Tells, legal_snoc}
 use Rattle.cut_core.proofs.Ends.{cut_snoc}
 use Rattle.cut_core.proofs.Kept.{legal_kept}
@@ -17,7 +17,7 @@ use Rattle.cut_core.proofs.Steps.{as_told, told_kept, told_next, told_formed}
 
 -- what is owed of each event: the controls, the last cut, and each control's floor and phase
 pub stands_next : (f g : FloorsState) (past : List Event) (x : Event) → StandsAfter f past → is_legal_next f.controls past x ≡ true → g.controls ≡ f.controls → g.last.0 ≡ cut_after (last_cut past) x
-    → ((k : ℕ) → k < f.controls → slice_get g.told k ≡ Some (told_of k (past ++ x ∷ []))) → StandsAfter g (past ++ x ∷ [])
+    → ((k : ℕ) → k < f.controls → slice_get g.told k ≡ Some (told_after k (past ++ x ∷ []))) → StandsAfter g (past ++ x ∷ [])
 stands_next f g past x s next controls last told =
     record {
       legal = subst (λ n. IsTrue (are_legal n [] (past ++ x ∷ []))) (sym controls) (legal_snoc f.controls [] past x s.legal next);
@@ -82,9 +82,9 @@ pub stands_told : (f g : FloorsState) (past : List Event) (x : Event) (j u : ℕ
 stands_told f g past x j u b by s next says controls last told =
     stands_next f g past x s next controls (ap (λ c. c.0) last ∙ s.last ∙ sym (by.cut (last_cut past)))
     (λ k below. rw told (elim (cases_Bool (nat_eq j k)) [
-      | inl same ↦ subst (λ i. slice_get (set f.told j (as_told u false b)) i ≡ Some (told_of i (past ++ x ∷ []))) (eqb-true j k same)
-          (set_same f.told j (as_told u false b) (slice_get_within f.told j (told_of j past) (s.told j says.control)) ∙ ap Some (told_next j u b past x by.form by.break by.told says.up says.unbroken))
-      | inr differs ↦ set_other f.told j k (as_told u false b) (told_of k past) (λ e. eqb-false j k differs (sym e)) (s.told k below)
+      | inl same ↦ subst (λ i. slice_get (set f.told j (as_told u false b)) i ≡ Some (told_after i (past ++ x ∷ []))) (eqb-true j k same)
+          (set_same f.told j (as_told u false b) (slice_get_within f.told j (told_after j past) (s.told j says.control)) ∙ ap Some (told_next j u b past x by.form by.break by.told says.up says.unbroken))
+      | inr differs ↦ set_other f.told j k (as_told u false b) (told_after k past) (λ e. eqb-false j k differs (sym e)) (s.told k below)
           ∙ ap Some (sym (told_kept k past x by.form (by.other_break k differs) (by.other_told k differs)))
     ]))
 
@@ -96,8 +96,8 @@ stands_quiet f past x s next form cut break untold =
 
 -- Floors that take a form stand for the longer history.
 pub stands_formed : (f g : FloorsState) (past : List Event) (c : ℕ) → StandsAfter f past → is_legal_next f.controls past (Form c) ≡ true
-    → g.controls ≡ f.controls → g.last.0 ≡ c → g.told ≡ map (formed c) f.told → StandsAfter g (past ++ Form c ∷ [])
+    → g.controls ≡ f.controls → g.last.0 ≡ c → g.told ≡ map (told_after_form c) f.told → StandsAfter g (past ++ Form c ∷ [])
 stands_formed f g past c s next controls last told =
     stands_next f g past (Form c) s next controls last
-    (λ k below. rw told (slice_get-map (formed c) f.told k ∙ ap (option_map (formed c)) (s.told k below)
+    (λ k below. rw told (slice_get-map (told_after_form c) f.told k ∙ ap (option_map (told_after_form c)) (s.told k below)
     ∙ ap Some (sym (told_formed k c past ((legal_kept f.controls past s.legal).breaks k)))))

@@ -5,7 +5,7 @@ use Rattle.xrc_edge.specs.Order.{in_order}
 use Rattle.cut_core.specs.Events.{Event, last_cut}
 use Rattle.cut_core.specs.Legal.{are_legal}
 use Rattle.cut_core.specs.Events.Event.{Join, Form}
-use Rattle.cut_core.specs.Groups.{Entry, is_copy, carried_by, forms, drops, group, stands_before}
+use Rattle.cut_core.specs.Groups.{Entry, is_copy, carried_by, forms, drops, group, comes_before}
 
 -- ---- no later write
 
@@ -37,7 +37,7 @@ kept_writes before (event ∷ later) =
 abbrev pub GroupsAreComplete : Type 0
 GroupsAreComplete = (controls : ℕ) (before later : List Event) (cut : ℕ) → IsTrue (are_legal controls [] (before ++ Form cut ∷ later)) →
     filter (λ e. not (is_copy e)) (group before cut)
-    ≡ in_order stands_before (filter (λ e. nat_lt (last_cut before) e.stamp && nat_le e.stamp cut) (kept_writes [] (before ++ Form cut ∷ later)))
+    ≡ in_order comes_before (filter (λ e. nat_lt (last_cut before) e.stamp && nat_le e.stamp cut) (kept_writes [] (before ++ Form cut ∷ later)))
 
 -- A copied track of a form's group has a stamp from the cut before to this one.
 abbrev pub CopiesAreBetween : Type 0

@@ -38,8 +38,8 @@ abbrev pub is_break_of : (control : ℕ) → Event → Bool
 is_break_of k (Break j upto) = j == k
 is_break_of k e = false
 
-abbrev pub has_broken : (control : ℕ) → List Event → Bool
-has_broken k past = list_any (is_break_of k) past
+abbrev pub is_broken_after : (control : ℕ) → List Event → Bool
+is_broken_after k past = list_any (is_break_of k) past
 
 abbrev pub is_form_at : (cut : ℕ) → Event → Bool
 is_form_at c (Form d) = d == c

@@ -16,11 +16,11 @@ pub record Entry : Type 0 where
   pub stamp : ℕ
   pub kind : Option Kind
 
-abbrev pub entry_of : (control : ℕ) → Write → Entry
-entry_of k w = record { control = k; volume = w.volume; track = w.track; stamp = w.stamp.0; kind = Some w.kind }
+abbrev pub carried_entry : (control : ℕ) → Write → Entry
+carried_entry k w = record { control = k; volume = w.volume; track = w.track; stamp = w.stamp.0; kind = Some w.kind }
 
-abbrev pub copy_of : (control volume track stamp : ℕ) → Entry
-copy_of k v x stamp = record { control = k; volume = v; track = x; stamp = stamp; kind = None }
+abbrev pub copied_entry : (control volume track stamp : ℕ) → Entry
+copied_entry k v x stamp = record { control = k; volume = v; track = x; stamp = stamp; kind = None }
 
 abbrev pub is_copy : Entry → Bool
 is_copy e = is_none e.kind
@@ -30,8 +30,8 @@ abbrev pub is_write_carried : List Event → (control : ℕ) → Write → Bool
 is_write_carried past k w = let s = share k w.volume w.track past in s.is_carried && not s.is_wanted
 
 abbrev pub carried_by : List Event → Event → List Entry
-carried_by past (Join b) = map (entry_of b.control) (filter (is_write_carried past b.control) b.writes)
-carried_by past (Copied k v x s) = copy_of k v x s ∷ []
+carried_by past (Join b) = map (carried_entry b.control) (filter (is_write_carried past b.control) b.writes)
+carried_by past (Copied k v x s) = copied_entry k v x s ∷ []
 carried_by past e = []
 
 -- A form takes an entry with a stamp up to its cut, and a drop takes out those of its volume.
@@ -53,10 +53,10 @@ waiting_in before [] = []
 waiting_in before (e ∷ later) = filter (still_waits later) (carried_by before e) ++ waiting_in (before ++ e ∷ []) later
 
 -- whether an entry stands before another by stamp and control; entries of one stamp and control stand by position
-abbrev pub stands_before : Entry → Entry → Bool
-stands_before a b = nat_lt a.stamp b.stamp || (a.stamp == b.stamp && nat_lt a.control b.control)
+abbrev pub comes_before : Entry → Entry → Bool
+comes_before a b = nat_lt a.stamp b.stamp || (a.stamp == b.stamp && nat_lt a.control b.control)
 
 -- The group of a form after these events: the carried entries that no drop took out and no earlier form took, with a stamp
 -- at most the cut, ordered by stamp, control and position.
 abbrev pub group : List Event → (cut : ℕ) → List Entry
-group past cut = in_order stands_before (filter (λ e. nat_le e.stamp cut) (waiting_in [] past))
+group past cut = in_order comes_before (filter (λ e. nat_le e.stamp cut) (waiting_in [] past))

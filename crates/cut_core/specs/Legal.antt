@@ -3,12 +3,10 @@ use Rattle.std.specs.Prelude.{ℕ, zero, suc, ◌==◌, ◌&&◌, ◌||◌, not,
 use Rattle.std.specs.List.{list_all}
 use Rattle.ckd_track.specs.declared.write.Write.{Write}
 use Rattle.xrc_edge.specs.Order.{is_in_order}
-use Rattle.cut_core.specs.Events.{Event, floor, has_broken, is_live, last_cut}
+use Rattle.cut_core.specs.Events.{Event, floor, is_broken_after, is_live, last_cut}
 use Rattle.cut_core.specs.Events.Event.{Join, Copied, Break, Raise, Form}
 use Rattle.cut_core.specs.Shares.{share}
-
-abbrev pub is_earlier : Write → Write → Bool
-is_earlier a b = nat_lt a.stamp.0 b.stamp.0
+use Rattle.ckd_track.specs.Writes.{is_earlier}
 
 -- each write's stamp is above the one time, and at most the other
 abbrev pub are_in : (above upto : ℕ) → List Write → Bool
@@ -21,7 +19,7 @@ is_below_floors (suc k) c past = (not (is_live k past) || nat_le c (floor k past
 
 -- a control that may still tell: it is one of the controls, and hasn't broken
 abbrev pub may_tell : (controls control : ℕ) → List Event → Bool
-may_tell controls k past = nat_lt k controls && not (has_broken k past)
+may_tell controls k past = nat_lt k controls && not (is_broken_after k past)
 
 -- A batch joins where its control hasn't broken, each write's stamp is above the floor and at most `upto`, stamps don't fall,
 -- and `upto` isn't below the floor. A track is copied where it is wanted, at the floor. A break or a raise isn't below the

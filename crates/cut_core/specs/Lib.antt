@@ -9,4 +9,3 @@ pub mod Maps
 pub mod Once
 pub mod Seen
 pub mod Standing
-pub mod Vectors

@@ -6,7 +6,7 @@ use Rattle.cut_core.specs.Events.Event.{Join, Drop, Carry, Resume, Forget}
 use Rattle.cut_core.specs.Shares.{names_volume, share}
 use Rattle.cut_core.specs.Groups.{waiting_in}
 use Rattle.cut_core.specs.Legal.{are_legal}
-use Rattle.cut_core.specs.Waiting.{is_on}
+use Rattle.cut_core.specs.Waiting.{waits_on}
 
 -- an event by which a dropped volume is carried again or forgotten
 abbrev pub ends_drop : (k v : ℕ) → Event → Bool
@@ -29,4 +29,4 @@ abbrev pub MapsHold : Type 0
 MapsHold = (controls k v x : ℕ) (before since : List Event) (all : Bool) → IsTrue (are_legal controls [] (before ++ Drop k v all ∷ since))
     → IsTrue (share k v x before).is_carried → IsTrue (not (list_any (ends_drop k v) since))
     → (share k v x (before ++ Drop k v all ∷ since)).is_mapped
-    ≡ (list_any (drops_all k v) (Drop k v all ∷ since) || (list_any (is_on k v x) (waiting_in [] before) || list_any (joins_on k v x) since))
+    ≡ (list_any (drops_all k v) (Drop k v all ∷ since) || (list_any (waits_on k v x) (waiting_in [] before) || list_any (joins_on k v x) since))

@@ -6,8 +6,8 @@ use Rattle.cut_core.specs.Groups.{Entry, carried_by, waiting_in, group}
 use Rattle.cut_core.specs.Legal.{are_legal}
 use Rattle.cut_core.specs.Cuts.{is_dropped_in}
 
-abbrev pub is_of : (control : ℕ) → Entry → Bool
-is_of k e = e.control == k
+abbrev pub is_of_control : (control : ℕ) → Entry → Bool
+is_of_control k e = e.control == k
 
 -- the group that an event gives after those before
 abbrev pub group_by : List Event → Event → List Entry
@@ -17,14 +17,14 @@ group_by past e = []
 -- the control's part of the groups that the later forms give, one after another
 abbrev pub formed_in : (control : ℕ) → (before later : List Event) → List Entry
 formed_in k before [] = []
-formed_in k before (event ∷ later) = filter (is_of k) (group_by before event) ++ formed_in k (before ++ event ∷ []) later
+formed_in k before (event ∷ later) = filter (is_of_control k) (group_by before event) ++ formed_in k (before ++ event ∷ []) later
 
 -- its entries that the later part carries, without those that a drop takes out before a form does
 abbrev pub kept_in : (control : ℕ) → (before later : List Event) → List Entry
 kept_in k before [] = []
-kept_in k before (event ∷ later) = filter (λ e. is_of k e && not (is_dropped_in later e)) (carried_by before event) ++ kept_in k (before ++ event ∷ []) later
+kept_in k before (event ∷ later) = filter (λ e. is_of_control k e && not (is_dropped_in later e)) (carried_by before event) ++ kept_in k (before ++ event ∷ []) later
 
 -- In every legal history a control's part of the groups, and after it what waits, are its carried entries without the dropped
 -- ones, in order, each once.
 abbrev pub EachOnce : Type 0
-EachOnce = (controls k : ℕ) (past : List Event) → IsTrue (are_legal controls [] past) → formed_in k [] past ++ filter (is_of k) (waiting_in [] past) ≡ kept_in k [] past
+EachOnce = (controls k : ℕ) (past : List Event) → IsTrue (are_legal controls [] past) → formed_in k [] past ++ filter (is_of_control k) (waiting_in [] past) ≡ kept_in k [] past

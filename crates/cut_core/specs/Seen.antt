@@ -6,10 +6,10 @@ use Rattle.cut_core.specs.declared.event.Event.{Event}
 use Rattle.cut_core.specs.declared.event.Event.TheVariants.{Join, Copied, Break, Raise, Form, Drop}
 
 -- A drop's `all` is no part of the code's event: it changes the map alone, and no floor.
-abbrev pub seen : Event → histories.Event
-seen (Join batch) = Joins batch
-seen (Copied control volume track stamp) = Copies control volume track stamp.0
-seen (Break control upto) = Breaks control upto.0
-seen (Raise control upto) = Raises control upto.0
-seen (Form cut) = Forms cut.0
-seen (Drop control volume) = Drops control volume false
+abbrev pub history_event : Event → histories.Event
+history_event (Join batch) = Joins batch
+history_event (Copied control volume track stamp) = Copies control volume track stamp.0
+history_event (Break control upto) = Breaks control upto.0
+history_event (Raise control upto) = Raises control upto.0
+history_event (Form cut) = Forms cut.0
+history_event (Drop control volume) = Drops control volume false

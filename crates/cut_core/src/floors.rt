@@ -4,8 +4,8 @@ ghost use Rattle.std.specs.Prelude.{◌≡◌, ◌<◌, ◌≤◌, ◌∷◌, �
 ghost use Rattle.cut_core.specs.Events.{last_cut, Event as Happening};
 ghost use Rattle.cut_core.specs.Events.Event.{Drop};
 ghost use Rattle.cut_core.specs.Legal.{is_legal_next, least_floor};
-ghost use Rattle.cut_core.specs.Seen.{seen};
-ghost use Rattle.cut_core.specs.Standing.{StandsAfter, told_to, formed};
+ghost use Rattle.cut_core.specs.Seen.{history_event};
+ghost use Rattle.cut_core.specs.Standing.{StandsAfter, told_to, told_after_form};
 
 use crate::event::Event;
 use crate::told::{Phase, Told};
@@ -52,11 +52,11 @@ impl Floors {
 
     /// Takes an event that is legal after the history so far.
     pub fn step(&mut self, event: &Event)
-        requires legal { (past : List Happening) × StandsAfter self.old past × IsTrue (is_legal_next self.old.controls past (seen event.now)) }
+        requires legal { (past : List Happening) × StandsAfter self.old past × IsTrue (is_legal_next self.old.controls past (history_event event.now)) }
         ensures controls { self.new.controls ≡ self.old.controls }
-        ensures stands { (past : List Happening) → StandsAfter self.old past → IsTrue (is_legal_next self.old.controls past (seen event.now)) → StandsAfter self.new (past ++ seen event.now ∷ []) }
+        ensures stands { (past : List Happening) → StandsAfter self.old past → IsTrue (is_legal_next self.old.controls past (history_event event.now)) → StandsAfter self.new (past ++ history_event event.now ∷ []) }
         // A drop changes nothing, whatever the history says of its map.
-        ensures dropped { (control volume : ℕ) → seen event.now ≡ Drop control volume false → self.new ≡ self.old }
+        ensures dropped { (control volume : ℕ) → history_event event.now ≡ Drop control volume false → self.new ≡ self.old }
     {
         match event {
             Event::Join { batch } => self.tell(batch.control, batch.upto, Phase::Telling),
@@ -82,7 +82,7 @@ impl Floors {
     fn form(&mut self, cut: Stamp)
         ensures controls { self.new.controls ≡ self.old.controls }
         ensures last { self.new.last ≡ cut }
-        ensures told { self.new.told ≡ map (formed cut.0) self.old.told }
+        ensures told { self.new.told ≡ map (told_after_form cut.0) self.old.told }
     {
         for k in 0..MOST_CONTROLS {
             self.told[k] = self.told[k].after_form(cut);

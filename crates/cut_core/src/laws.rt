@@ -1,14 +1,9 @@
 //! The theorem on cuts, and laws of histories and floors that no call states.
 
-ghost use Rattle.std.specs.Prelude.{◌++◌, ◌∷◌, [], List, ℕ, Bool};
-ghost use Rattle.cut_core.specs.Events.{Event};
-ghost use Rattle.cut_core.specs.Events.Event.{Drop, Carry, Resume, Forget};
 ghost use Rattle.cut_core.specs.Cuts.{NoLateWrite, GroupsAreComplete, CopiesAreBetween};
 ghost use Rattle.cut_core.specs.Least.{FloorsAreAbove, LeastIsLegal, LeastIsGreatest};
-ghost use Rattle.cut_core.specs.Waiting.{SharesWait};
 ghost use Rattle.cut_core.specs.Maps.{MapsHold};
 ghost use Rattle.cut_core.specs.Once.{EachOnce};
-ghost use Rattle.cut_core.specs.Standing.{FloorsState, StandsAfter};
 
 /// The theorem on cuts. No write joins late: after a form, every joined write has a stamp above its cut. So the writes of a
 /// group are exactly the carried ones between its cuts that no drop took out, and a copied track of a group has a stamp from
@@ -31,21 +26,8 @@ pub fn each_entry_once()
     ensures { EachOnce }
 {}
 
-/// The stamps that a track's share says wait are those of the waiting entries on it.
-pub fn shares_wait()
-    ensures { SharesWait }
-{}
-
 /// The map of a dropped volume holds all its tracks where a drop said so, else those whose entries were taken out or written
 /// since.
 pub fn maps_hold()
     ensures { MapsHold }
-{}
-
-/// A drop, a carry, a resume and a forget leave the floors as they are.
-pub fn movers_events_keep_floors()
-    ensures drop { (f : FloorsState) (past : List Event) (k v : ℕ) (all : Bool) → StandsAfter f past → StandsAfter f (past ++ Drop k v all ∷ []) }
-    ensures carry { (f : FloorsState) (past : List Event) (k v : ℕ) (tracks : List ℕ) → StandsAfter f past → StandsAfter f (past ++ Carry k v tracks ∷ []) }
-    ensures resume { (f : FloorsState) (past : List Event) (k v : ℕ) → StandsAfter f past → StandsAfter f (past ++ Resume k v ∷ []) }
-    ensures forget { (f : FloorsState) (past : List Event) (k v : ℕ) → StandsAfter f past → StandsAfter f (past ++ Forget k v ∷ []) }
 {}

@@ -6,11 +6,7 @@ mod event;
 mod floors;
 mod laws;
 mod told;
-pub mod vectors;
 
 pub use event::Event;
 pub use floors::Floors;
-pub use laws::{
-    cut_theorem, each_entry_once, least_floors_are_cuts, maps_hold, movers_events_keep_floors,
-    shares_wait,
-};
+pub use laws::{cut_theorem, each_entry_once, least_floors_are_cuts, maps_hold};

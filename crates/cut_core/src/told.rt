@@ -1,7 +1,7 @@
 //! What is kept of one control.
 
 ghost use Rattle.std.specs.Prelude.{◌≡◌};
-ghost use Rattle.cut_core.specs.Standing.{formed, lesser_floor};
+ghost use Rattle.cut_core.specs.Standing.{told_after_form, lesser_floor};
 
 use tod_stamp::Stamp;
 
@@ -23,7 +23,7 @@ pub struct Told {
 impl Told {
     /// A broken control whose break time is the cut counts no longer.
     pub fn after_form(self, cut: Stamp) -> Told
-        ensures { result ≡ formed cut.0 self }
+        ensures { result ≡ told_after_form cut.0 self }
     {
         match self.phase {
             Phase::Broken if cut.0 == self.floor.0 => Told {

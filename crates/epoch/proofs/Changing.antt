@@ -12,7 +12,7 @@ use Rattle.ckd_track.specs.declared.write.Write.{Write}
 use Rattle.ckd_track.specs.Effects.{apply}
 use Rattle.pair_table.specs.declared.row.PairRow.{PairRow}
 use Rattle.pair_table.specs.Rows.{is_suspended}
-use Rattle.pending_queue.specs.Entries.{WaitingEntry, due, entries_of, entry_of, head_of, is_due, never_fall, stamp_of, stands_before}
+use Rattle.pending_queue.specs.Entries.{WaitingEntry, due, entries_of, entry_of, entry_head, is_due, entries_never_fall, entry_stamp, stands_before}
 use Rattle.primary_ctl.specs.States.{after_writes, is_on}
 use Rattle.image_former.specs.Changes.{AreSpelled, changed_through}
 use Rattle.image_former.specs.Entries.{entry_row, is_entry_on, is_row_of}
@@ -29,7 +29,7 @@ kinds_of (w ∷ writes) = w.kind ∷ kinds_of writes
 -- the row of an entry of the pair's volume
 own_row : (row : PairRow) (w : Write) → row.control ≡ 0 → w.volume ≡ row.volume → entry_row (row ∷ []) (entry_of 0 w) ≡ Some row
 own_row row w control volume =
-    let own : is_row_of (head_of 0 w) row ≡ true = and_from (nat_eq row.control 0) (nat_eq row.volume w.volume) (eq-eqb row.control 0 control) (eq-eqb row.volume w.volume (sym volume)) in
+    let own : is_row_of (entry_head 0 w) row ≡ true = and_from (nat_eq row.control 0) (nat_eq row.volume w.volume) (eq-eqb row.control 0 control) (eq-eqb row.volume w.volume (sym volume)) in
     ap (λ (b : Bool). cond b (Some row) None) own
 
 pub on_pair : (row : PairRow) (x : ℕ) (w : Write) → row.control ≡ 0 → w.volume ≡ row.volume → is_entry_on (row ∷ []) row.device x (entry_of 0 w) ≡ is_on row.volume x w
@@ -70,25 +70,25 @@ live_writes row (w ∷ writes) control live on =
 -- ---- their order
 
 -- none of one control stands before one with no later stamp
-later_stands : (low : WaitingEntry) (last : ℕ) (entries : List Write) → low.head.control ≡ 0 → stamp_of low ≤ last → never_fall last (entries_of 0 entries) ≡ true → list_all (λ b. not (stands_before b low)) (entries_of 0 entries) ≡ true
+later_stands : (low : WaitingEntry) (last : ℕ) (entries : List Write) → low.head.control ≡ 0 → entry_stamp low ≤ last → entries_never_fall last (entries_of 0 entries) ≡ true → list_all (λ b. not (stands_before b low)) (entries_of 0 entries) ≡ true
 later_stands low last [] control le up = refl
 later_stands low last (w ∷ writes) control le up =
-    let parts = and_parts (nat_le last w.stamp.0) (never_fall w.stamp.0 (entries_of 0 writes)) up in
-    let above : stamp_of low ≤ w.stamp.0 = omega (arith, leb-true last w.stamp.0 parts.0) in
-    let not_less : nat_lt w.stamp.0 (stamp_of low) ≡ false = le-ltb w.stamp.0 (stamp_of low) above in
+    let parts = and_parts (nat_le last w.stamp.0) (entries_never_fall w.stamp.0 (entries_of 0 writes)) up in
+    let above : entry_stamp low ≤ w.stamp.0 = omega (arith, leb-true last w.stamp.0 parts.0) in
+    let not_less : nat_lt w.stamp.0 (entry_stamp low) ≡ false = le-ltb w.stamp.0 (entry_stamp low) above in
     let not_control : nat_lt 0 low.head.control ≡ false = le-ltb 0 low.head.control (omega (arith, control)) in
     and_from (not (stands_before (entry_of 0 w) low)) (list_all (λ b. not (stands_before b low)) (entries_of 0 writes)) (first not_less not_control) (later_stands low w.stamp.0 writes control above parts.1)
   where
-    first : nat_lt w.stamp.0 (stamp_of low) ≡ false → nat_lt 0 low.head.control ≡ false → not (stands_before (entry_of 0 w) low) ≡ true
-    first less control = elim (cases_Bool (nat_eq w.stamp.0 (stamp_of low))) [
+    first : nat_lt w.stamp.0 (entry_stamp low) ≡ false → nat_lt 0 low.head.control ≡ false → not (stands_before (entry_of 0 w) low) ≡ true
+    first less control = elim (cases_Bool (nat_eq w.stamp.0 (entry_stamp low))) [
       | inl is ↦ rw (less, is, control) refl
       | inr is ↦ rw (less, is) refl
     ]
 
-pub writes_in_order : (last : ℕ) (writes : List Write) → never_fall last (entries_of 0 writes) ≡ true → is_in_order stands_before (entries_of 0 writes) ≡ true
+pub writes_in_order : (last : ℕ) (writes : List Write) → entries_never_fall last (entries_of 0 writes) ≡ true → is_in_order stands_before (entries_of 0 writes) ≡ true
 writes_in_order last [] up = refl
 writes_in_order last (w ∷ writes) up =
-    let parts = and_parts (nat_le last w.stamp.0) (never_fall w.stamp.0 (entries_of 0 writes)) up in
+    let parts = and_parts (nat_le last w.stamp.0) (entries_never_fall w.stamp.0 (entries_of 0 writes)) up in
     and_from (list_all (λ b. not (stands_before b (entry_of 0 w))) (entries_of 0 writes)) (is_in_order stands_before (entries_of 0 writes))
     (later_stands (entry_of 0 w) w.stamp.0 writes refl (omega arith) parts.1) (writes_in_order w.stamp.0 writes parts.1)
 

@@ -14,7 +14,7 @@ use Rattle.ckd_track.specs.Images.{image}
 use Rattle.ckd_track.specs.Tracks.{IsTrack}
 use Rattle.ckd_track.proofs.Parts.{length-image}
 use Rattle.write_trace.specs.declared.header.VolumeHead.{VolumeHead}
-use Rattle.write_trace.specs.Headers.{cylinders_of, has_track}
+use Rattle.write_trace.specs.Headers.{cylinders_of, is_track_of}
 use Rattle.pair_table.specs.declared.row.PairRow.{PairRow}
 use Rattle.pair_table.specs.declared.row.PairState.{PairState}
 use Rattle.pair_table.specs.declared.row.PairState.TheVariants.{Pending, Copy, Duplex, Suspended}
@@ -149,7 +149,7 @@ pub blocks_more : (waiting : List WaitingEntry) (head : EntryHead) (recs : List 
 blocks_more waiting head recs is =
     omega (arith, sum_by_push (λ (e : WaitingEntry). blocks_of (length e.form)) waiting (copy_of head recs), ap blocks_of (copy_length head recs), track_fits recs is)
 
-pub has_place : (volumes : List VolumeHead) (volume track : ℕ) → volume < length volumes → track < 15 * cylinders_of volumes volume → has_track volumes volume track ≡ true
+pub has_place : (volumes : List VolumeHead) (volume track : ℕ) → volume < length volumes → track < 15 * cylinders_of volumes volume → is_track_of volumes volume track ≡ true
 has_place volumes volume track there within = and_from (nat_lt volume (length volumes)) (nat_lt track (15 * cylinders_of volumes volume)) (lt-ltb volume (length volumes) there) (lt-ltb track (15 * cylinders_of volumes volume) within)
 
 -- ---- a queue of copied tracks

@@ -8,11 +8,11 @@ use Rattle.write_trace.specs.declared.header.VolumeHead.{VolumeHead}
 use Rattle.write_trace.specs.declared.entry.Entry.{Entry}
 use Rattle.write_trace.specs.declared.trace.TraceEnd.TheVariants.{BadTrace, ReadFault}
 use Rattle.write_trace.specs.Entries.{entry_at, stamp_of}
-use Rattle.write_trace.specs.Good.{bad_end, entries_from, last_stamp, most_bytes}
+use Rattle.write_trace.specs.Good.{bad_end, entries_from, last_entry_stamp, most_bytes}
 use Rattle.write_trace.specs.declared.next.Stopped.{Stopped}
 use Rattle.write_trace.specs.Answers.{ReaderState}
 use Rattle.write_trace.specs.Unread.{seen}
-use Rattle.sidefile.specs.Ahead.{IsFault, ahead, entries_of, read_of}
+use Rattle.sidefile.specs.Ahead.{IsFault, ahead, entries_ahead, read_of}
 use Rattle.sidefile.proofs.Local.{at}
 use Rattle.sidefile.proofs.LocalEntries.{local_entry}
 use Rattle.sidefile.proofs.Steps.{seen_behind}
@@ -86,7 +86,7 @@ within_most reader given fault =
     let some : List ℕ = replicate n zero in
     let long : length some ≡ n = length-replicate n zero in
     let found = read_of reader given in
-    omega (arith, long, fault_within some found.1.place (entry_at 1 reader.volumes (last_stamp reader.last found.0) found.1) (fault some long))
+    omega (arith, long, fault_within some found.1.place (entry_at 1 reader.volumes (last_entry_stamp reader.last found.0) found.1) (fault some long))
 
 read_front : (reader : ReaderState) (given left : List ℕ) → reader.left.place + length given ≤ most_bytes → IsFront (read_of reader given).0 (read_of reader (given ++ left)).0
 read_front reader given left within =
@@ -104,9 +104,9 @@ read_front reader given left within =
 pub given_front : (waiting : Option Entry) (reader : ReaderState) (given left : List ℕ) → reader.stopped ≡ None → IsFault reader given → IsFront (ahead waiting reader given) (ahead waiting reader (given ++ left))
 given_front waiting reader given left goes fault = with_waiting waiting
   where
-    open_front : IsFront (entries_of reader.stopped reader given) (entries_of reader.stopped reader (given ++ left))
+    open_front : IsFront (entries_ahead reader.stopped reader given) (entries_ahead reader.stopped reader (given ++ left))
     open_front =
-        subst (λ (s : Option Stopped). IsFront (entries_of s reader given) (entries_of s reader (given ++ left))) (sym goes) (read_front reader given left (within_most reader given fault))
+        subst (λ (s : Option Stopped). IsFront (entries_ahead s reader given) (entries_ahead s reader (given ++ left))) (sym goes) (read_front reader given left (within_most reader given fault))
 
     with_waiting : (waiting : Option Entry) → IsFront (ahead waiting reader given) (ahead waiting reader (given ++ left))
     with_waiting None = open_front

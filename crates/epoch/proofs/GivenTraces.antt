@@ -14,7 +14,7 @@ use Rattle.write_trace.specs.declared.trace.Trace.{Trace}
 use Rattle.write_trace.specs.declared.trace.TraceEnd.TheVariants as ends
 use Rattle.write_trace.specs.Entries.{stamp_of}
 use Rattle.write_trace.specs.Writes.{writes_of}
-use Rattle.primary_ctl.specs.Primaries.{after_batches, never_fall, primary}
+use Rattle.primary_ctl.specs.Primaries.{after_batches, primary}
 use Rattle.primary_ctl.specs.States.{base_in}
 use Rattle.primary_ctl.proofs.Batches.{batches_make}
 use Rattle.sidefile.specs.Ahead.{ahead}
@@ -27,6 +27,7 @@ use Rattle.epoch.proofs.Both.{and_true, both_true}
 use Rattle.epoch.proofs.GivenEntries.{IsFront, given_front}
 use Rattle.epoch.proofs.RisingEntries.{none_early, rise_behind, rise_lower, writes_rise}
 use Rattle.epoch.proofs.TakenLaws.{writes_then}
+use Rattle.ckd_track.specs.Writes.{writes_never_fall}
 
 -- ---- where runs break
 
@@ -102,17 +103,17 @@ early_of_front time low front more lt late =
     ∙ append-nil (filter early (writes_of front))
 
 -- Traces with one header and the same writes up to a time have the same primary's tracks there.
-same_primary : (a b : Trace) (time volume track : ℕ) → a.header ≡ b.header → never_fall 0 (writes_of a.entries) ≡ true → never_fall 0 (writes_of b.entries) ≡ true
+same_primary : (a b : Trace) (time volume track : ℕ) → a.header ≡ b.header → writes_never_fall 0 (writes_of a.entries) ≡ true → writes_never_fall 0 (writes_of b.entries) ≡ true
     → filter (λ w. nat_le w.stamp.0 time) (writes_of a.entries) ≡ filter (λ w. nat_le w.stamp.0 time) (writes_of b.entries) → primary (a ∷ []) time 0 volume track ≡ primary (b ∷ []) time 0 volume track
 same_primary a b time volume track header fall_a fall_b same =
     let early : Write → Bool = λ w. nat_le w.stamp.0 time in
     let writes = filter early (writes_of b.entries) in
-    let of_a = batches_make (a ∷ []) time 0 volume track a (writes ∷ []) (and_true (never_fall 0 (writes_of a.entries)) true fall_a refl) refl (append-nil writes ∙ sym same) in
-    let of_b = batches_make (b ∷ []) time 0 volume track b (writes ∷ []) (and_true (never_fall 0 (writes_of b.entries)) true fall_b refl) refl (append-nil writes) in
+    let of_a = batches_make (a ∷ []) time 0 volume track a (writes ∷ []) (and_true (writes_never_fall 0 (writes_of a.entries)) true fall_a refl) refl (append-nil writes ∙ sym same) in
+    let of_b = batches_make (b ∷ []) time 0 volume track b (writes ∷ []) (and_true (writes_never_fall 0 (writes_of b.entries)) true fall_b refl) refl (append-nil writes) in
     sym of_a ∙ ap (λ (h : Header). after_batches volume track (base_in h.base volume track) (writes ∷ [])) header ∙ of_b
 
 -- writes from the stamp 1 on don't fall from the start
-writes_from_start : (entries : List Entry) → do_rise 1 entries ≡ true → never_fall 0 (writes_of entries) ≡ true
+writes_from_start : (entries : List Entry) → do_rise 1 entries ≡ true → writes_never_fall 0 (writes_of entries) ≡ true
 writes_from_start entries rise = writes_rise 0 entries (rise_lower 0 1 entries (omega arith) rise)
 
 front_rises : (last : ℕ) (front more : List Entry) → do_rise last (front ++ more) ≡ true → do_rise last front ≡ true

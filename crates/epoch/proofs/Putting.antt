@@ -10,10 +10,10 @@ use Rattle.ckd_track.specs.Effects.{is_kind, keeps_rules}
 use Rattle.crash_plant.specs.Moments.{PlantState}
 use Rattle.write_trace.specs.declared.header.VolumeHead.{VolumeHead}
 use Rattle.write_trace.specs.declared.trace.Trace.{Trace}
-use Rattle.write_trace.specs.Headers.{has_track}
+use Rattle.write_trace.specs.Headers.{is_track_of}
 use Rattle.write_trace.specs.Writes.{IsWriteTo}
 use Rattle.pair_table.specs.declared.row.PairRow.{PairRow}
-use Rattle.pending_queue.specs.Entries.{WaitingEntry, entries_of, last_stamp, writes_never_fall}
+use Rattle.pending_queue.specs.Entries.{WaitingEntry, entries_of, last_stamp}
 use Rattle.pending_queue.specs.Queues.{QueueState, with_waiting}
 use Rattle.primary_ctl.specs.Primaries.{primary}
 use Rattle.primary_ctl.specs.States.{after_writes, is_on, track_of}
@@ -26,12 +26,13 @@ use Rattle.epoch.specs.Lanes.{IsOn, IsRowOf, Waits, WaitsFrom, is_of, tracks_of}
 use Rattle.epoch.specs.Taken.{HasReached}
 use Rattle.epoch.proofs.TakenLaws.{all_more}
 use Rattle.epoch.proofs.WaitingWrites.{last_below, one_stamp, waits_more}
+use Rattle.ckd_track.specs.Writes.{writes_never_fall}
 
 -- ---- a run
 
 -- Writes to tracks of a trace's volumes keep their kinds' rules.
 pub rules_kept : (volumes : List VolumeHead) (writes : List Write) → All (IsWriteTo volumes) writes → All (λ w. IsTrue (keeps_rules w.kind)) writes
-rules_kept volumes writes to = all_more (IsWriteTo volumes) (λ w. IsTrue (keeps_rules w.kind)) writes (λ w is. (and_parts (has_track volumes w.volume w.track) (keeps_rules w.kind) is).1) to
+rules_kept volumes writes to = all_more (IsWriteTo volumes) (λ w. IsTrue (keeps_rules w.kind)) writes (λ w is. (and_parts (is_track_of volumes w.volume w.track) (keeps_rules w.kind) is).1) to
 
 -- A run's writes don't fall from the last that waits on.
 pub run_rises : (volume tracks : ℕ) (lane : Lane) (volumes : List VolumeHead) (limit : ℕ) (batch : Batch) → Waits volume tracks lane → IsRunOf volumes 0 lane.primary.time limit batch → writes_never_fall (last_stamp lane.queue.waiting) batch.writes ≡ true

@@ -13,9 +13,9 @@ use Rattle.write_trace.specs.Headers.{place_at}
 use Rattle.write_trace.specs.Entries.{stamp_of, entry_at, write_at, kind_at}
 use Rattle.write_trace.specs.Good.{entries_from}
 use Rattle.write_trace.specs.Writes.{writes_of}
-use Rattle.primary_ctl.specs.Primaries.{never_fall}
 use Rattle.epoch.proofs.Both.{both_true, and_true}
 use Rattle.epoch.specs.Taken.{do_rise}
+use Rattle.ckd_track.specs.Writes.{writes_never_fall}
 
 -- ---- reading
 
@@ -103,18 +103,18 @@ rise_first last first entries e =
     and_true (nat_le (stamp_of first) (stamp_of first)) (do_rise (stamp_of first) entries) (le-leb (stamp_of first) (stamp_of first) (omega arith)) parts.1
 
 -- their writes
-writes_rise_from : (low last : ℕ) (entries : List Entry) → low ≤ last → do_rise last entries ≡ true → never_fall low (writes_of entries) ≡ true
+writes_rise_from : (low last : ℕ) (entries : List Entry) → low ≤ last → do_rise last entries ≡ true → writes_never_fall low (writes_of entries) ≡ true
 writes_rise_from low last [] le e = refl
 writes_rise_from low last (Written w ∷ entries) le e =
     let parts = both_true (nat_le last w.stamp.0) (do_rise w.stamp.0 entries) e in
     let from = leb-true last w.stamp.0 parts.0 in
-    and_true (nat_le low w.stamp.0) (never_fall w.stamp.0 (writes_of entries)) (le-leb low w.stamp.0 (omega arith)) (writes_rise_from w.stamp.0 w.stamp.0 entries (omega arith) parts.1)
+    and_true (nat_le low w.stamp.0) (writes_never_fall w.stamp.0 (writes_of entries)) (le-leb low w.stamp.0 (omega arith)) (writes_rise_from w.stamp.0 w.stamp.0 entries (omega arith) parts.1)
 writes_rise_from low last (Idle s ∷ entries) le e =
     let parts = both_true (nat_le last s.0) (do_rise s.0 entries) e in
     let from = leb-true last s.0 parts.0 in
     writes_rise_from low s.0 entries (omega arith) parts.1
 
-pub writes_rise : (last : ℕ) (entries : List Entry) → do_rise last entries ≡ true → never_fall last (writes_of entries) ≡ true
+pub writes_rise : (last : ℕ) (entries : List Entry) → do_rise last entries ≡ true → writes_never_fall last (writes_of entries) ≡ true
 writes_rise last entries e = writes_rise_from last last entries (omega arith) e
 
 -- none has a stamp up to a time before the first

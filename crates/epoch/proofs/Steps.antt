@@ -9,7 +9,7 @@ use Rattle.write_trace.specs.declared.trace.Trace.{Trace}
 use Rattle.tod_stamp.specs.declared.stamp.Stamp.{Stamp}
 use Rattle.pair_table.specs.declared.row.PairRow.{PairRow}
 use Rattle.pair_table.specs.declared.row.PairState.TheVariants.{Duplex}
-use Rattle.pending_queue.specs.Entries.{WaitingEntry, never_fall}
+use Rattle.pending_queue.specs.Entries.{WaitingEntry, entries_never_fall}
 use Rattle.primary_ctl.specs.Primaries.{primary}
 use Rattle.primary_ctl.specs.States.{track_of}
 use Rattle.sidefile.specs.Breaks.{has_broken}
@@ -74,7 +74,7 @@ pub waits_none : (base : ℕ → List Rec) (volume tracks : ℕ) (lane : Lane) �
 waits_none base volume tracks lane empty same = record {
   writes = [];
   entries = empty;
-  rising = ap (never_fall 0) empty;
+  rising = ap (entries_never_fall 0) empty;
   on = All-nil (IsOn volume tracks);
   stamps = All-nil (λ (w : Write). w.stamp.0 ≤ lane.primary.time);
   made = same;

@@ -18,7 +18,6 @@ use Rattle.write_trace.specs.declared.trace.Trace.{Trace}
 use Rattle.write_trace.specs.Entries.{stamp_of}
 use Rattle.write_trace.specs.Writes.{writes_of}
 use Rattle.primary_ctl.specs.States.{PrimaryState, track_of, base_in, is_on, after_writes}
-use Rattle.primary_ctl.specs.Primaries.{never_fall}
 use Rattle.std.proofs.lemmas.List.Elements.{filter-append}
 use Rattle.epoch.proofs.Both.{and_true}
 use Rattle.primary_ctl.proofs.Batches.{batches_make}
@@ -35,6 +34,7 @@ use Rattle.sidefile.proofs.RunLaws.{runs_are_all, begins}
 use Rattle.epoch.specs.Taken.{do_rise, HasTaken, HasReached, WillBreak, FailsBelow, HasFailed, FailsAsBefore}
 use Rattle.epoch.proofs.RisingEntries.{rise_behind, rise_first, writes_rise, none_early}
 use Rattle.epoch.proofs.HandLaws.{break_time_in, hand_batch, IsAbove, hand_at_limit, hand_broken, runs_from, late_break}
+use Rattle.ckd_track.specs.Writes.{writes_never_fall}
 
 -- ---- lists
 
@@ -177,7 +177,7 @@ take_limit told now t side next held after control limit taken due low upto trac
     let same : new ≡ old = sym (runs_are_all new) ∙ ap (λ (rs : List (List Entry)). flat_map (λ r. r) rs) d.1.runs ∙ runs_are_all old in
     let later = limit_later told now t side next held control limit taken due in
     let due_before : writes_of taken.before ≡ filter (λ w. nat_le w.stamp.0 limit) (writes_of t.entries) = sym (due_writes told t side held limit taken low later) in
-    let fall = and_true (never_fall 0 (writes_of t.entries)) true (writes_rise 0 t.entries taken.rise) refl in (
+    let fall = and_true (writes_never_fall 0 (writes_of t.entries)) true (writes_rise 0 t.entries taken.rise) refl in (
       record {
         rise = taken.rise;
         before = taken.before;

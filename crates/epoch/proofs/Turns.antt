@@ -10,7 +10,7 @@ use Rattle.write_trace.specs.declared.header.VolumeHead.{VolumeHead}
 use Rattle.write_trace.specs.declared.trace.Trace.{Trace}
 use Rattle.write_trace.specs.Writes.{IsWriteTo}
 use Rattle.pair_table.specs.declared.row.PairRow.{PairRow}
-use Rattle.pending_queue.specs.Entries.{WaitingEntry, never_fall}
+use Rattle.pending_queue.specs.Entries.{WaitingEntry, entries_never_fall}
 use Rattle.pending_queue.specs.Groups.{FormedGroup}
 use Rattle.pending_queue.specs.Queues.{QueueState, with_waiting}
 use Rattle.primary_ctl.specs.Primaries.{primary}
@@ -86,7 +86,7 @@ waits_later base volume tracks lane next later queue held le w =
     record {
       writes = w.writes;
       entries = ap (λ (q : QueueState). q.waiting) queue ∙ w.entries;
-      rising = ap (λ (q : QueueState). never_fall 0 q.waiting) queue ∙ w.rising;
+      rising = ap (λ (q : QueueState). entries_never_fall 0 q.waiting) queue ∙ w.rising;
       on = w.on;
       stamps = all_more (λ v. v.stamp.0 ≤ lane.primary.time) (λ v. v.stamp.0 ≤ next.primary.time) w.writes (λ v low. omega (arith, low, le, time)) w.stamps;
       made = λ x. ap (λ (p : PrimaryState). track_of p volume x) held ∙ w.made x;

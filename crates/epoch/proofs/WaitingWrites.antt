@@ -9,12 +9,12 @@ use Rattle.ckd_track.specs.declared.rec.Rec.{Rec}
 use Rattle.ckd_track.specs.declared.write.Write.{Write}
 use Rattle.ckd_track.specs.Effects.{is_kind, keeps_rules}
 use Rattle.write_trace.specs.declared.header.VolumeHead.{VolumeHead}
-use Rattle.write_trace.specs.Headers.{cylinders_of, has_track}
+use Rattle.write_trace.specs.Headers.{cylinders_of, is_track_of}
 use Rattle.write_trace.specs.Writes.{IsWriteTo}
 use Rattle.pair_table.specs.declared.row.PairRow.{PairRow}
 use Rattle.pair_table.specs.declared.row.PairState.{PairState}
 use Rattle.pair_table.specs.declared.row.PairState.TheVariants.{Duplex}
-use Rattle.pending_queue.specs.Entries.{WaitingEntry, due, entries_of, entry_of, last_stamp_from, never_fall, stands_before, writes_never_fall}
+use Rattle.pending_queue.specs.Entries.{WaitingEntry, due, entries_of, entry_of, last_stamp_from, entries_never_fall, stands_before}
 use Rattle.pending_queue.specs.Groups.{FormedGroup, empty_group, with_entries}
 use Rattle.pending_queue.proofs.EntryLaws.{pushed_never_fall}
 use Rattle.pending_queue.proofs.VolumeLaws.{carried_never_fall}
@@ -28,6 +28,7 @@ use Rattle.epoch.specs.Lanes.{IsOn, IsRowOf, WaitsFrom, is_of, tracks_of}
 use Rattle.epoch.specs.Sights.{Makes}
 use Rattle.epoch.proofs.Changing.{all_due, changed_writes, kinds_of, spelled_writes, writes_in_order}
 use Rattle.epoch.proofs.TakenLaws.{all_more, after_then}
+use Rattle.ckd_track.specs.Writes.{writes_never_fall}
 
 -- ---- the group
 
@@ -40,7 +41,7 @@ pub formed_all : (base : ℕ → List Rec) (volume tracks : ℕ) (lane : Lane) (
 formed_all base volume tracks lane w cut at =
     let early = all_more (λ v. v.stamp.0 ≤ lane.primary.time) (λ v. v.stamp.0 ≤ cut.0) w.writes (λ v le. omega (arith, le, at)) w.stamps in
     let all : due cut lane.queue.waiting ≡ entries_of 0 w.writes = ap (due cut) w.entries ∙ all_due cut w.writes early in
-    let rising : never_fall 0 (entries_of 0 w.writes) ≡ true = ap (never_fall 0) (sym w.entries) ∙ w.rising in
+    let rising : entries_never_fall 0 (entries_of 0 w.writes) ≡ true = ap (entries_never_fall 0) (sym w.entries) ∙ w.rising in
     let ordered : in_order stands_before (entries_of 0 w.writes) ≡ entries_of 0 w.writes = order_stays stands_before (entries_of 0 w.writes) (writes_in_order 0 w.writes rising) in
     ap (λ (es : List WaitingEntry). group_of cut (in_order stands_before es)) all ∙ ap (group_of cut) ordered
 
@@ -81,7 +82,7 @@ on_row volumes row (w ∷ writes) own to kinds =
     choose : All (IsOn row.volume (tracks_of row)) (filter (is_of row.volume) writes) → (b : Bool) → nat_eq w.volume row.volume ≡ b → All (IsOn row.volume (tracks_of row)) (cond b (w ∷ filter (is_of row.volume) writes) (filter (is_of row.volume) writes))
     choose rest true is =
         let volume : w.volume ≡ row.volume = eqb-true w.volume row.volume is in
-        let there = (and_parts (has_track volumes w.volume w.track) (keeps_rules w.kind) (All-head (IsWriteTo volumes) w writes to)).0 in
+        let there = (and_parts (is_track_of volumes w.volume w.track) (keeps_rules w.kind) (All-head (IsWriteTo volumes) w writes to)).0 in
         let low = ltb-true w.track (15 * cylinders_of volumes w.volume) (and_parts (nat_lt w.volume (length volumes)) (nat_lt w.track (15 * cylinders_of volumes w.volume)) there).1 in
         let lt : w.track < tracks_of row = subst (λ (n : ℕ). w.track < 15 * n) (ap (cylinders_of volumes) volume ∙ sym own.cylinders) low in
         All-cons (IsOn row.volume (tracks_of row)) w (filter (is_of row.volume) writes)
@@ -112,7 +113,7 @@ last_below time last (w ∷ writes) le all = last_below time w.stamp.0 writes (A
 
 -- With the writes of a run behind what waits, and the primary stepped, it is so again.
 pub waits_more : (base : ℕ → List Rec) (row : PairRow) (lane next : Lane) (volumes : List VolumeHead) (stamp : ℕ) (batch : List Write) (old : List Write)
-    → lane.queue.waiting ≡ entries_of 0 old → never_fall 0 lane.queue.waiting ≡ true → All (IsOn row.volume (tracks_of row)) old → All (λ w. w.stamp.0 ≤ lane.primary.time) old
+    → lane.queue.waiting ≡ entries_of 0 old → entries_never_fall 0 lane.queue.waiting ≡ true → All (IsOn row.volume (tracks_of row)) old → All (λ w. w.stamp.0 ≤ lane.primary.time) old
     → ((x : ℕ) → track_of lane.primary row.volume x ≡ after_writes (base x) (filter (is_on row.volume x) old))
     → IsRowOf volumes row → All (IsWriteTo volumes) batch → All (λ w. IsTrue (is_kind w.kind)) batch → All (λ w. w.stamp.0 ≡ stamp) batch → lane.primary.time ≤ stamp → stamp ≤ next.primary.time
     → next.queue.waiting ≡ lane.queue.waiting ++ entries_of 0 (filter (is_of row.volume) batch)
@@ -127,7 +128,7 @@ waits_more base row lane next volumes stamp batch old entries rising on stamps m
     record {
       writes = old ++ new;
       entries = queue ∙ ap (λ (es : List WaitingEntry). es ++ entries_of 0 new) entries ∙ sym (map-append (entry_of 0) old new);
-      rising = ap (never_fall 0) queue ∙ pushed_never_fall 0 0 lane.queue.waiting new rising up;
+      rising = ap (entries_never_fall 0) queue ∙ pushed_never_fall 0 0 lane.queue.waiting new rising up;
       on = All-append (IsOn row.volume (tracks_of row)) old new on (on_row volumes row batch own to kinds);
       stamps = All-append (λ w. w.stamp.0 ≤ next.primary.time) old new (all_more (λ w. w.stamp.0 ≤ lane.primary.time) (λ w. w.stamp.0 ≤ next.primary.time) old (λ w le. omega (arith, le, above, within)) stamps) (among row.volume (λ w. w.stamp.0 ≤ next.primary.time) batch late);
       made = λ x.

@@ -6,7 +6,7 @@ use Rattle.ckd_track.specs.Effects.{is_kind}
 use Rattle.write_trace.specs.declared.header.VolumeHead.{VolumeHead}
 use Rattle.write_trace.specs.Headers.{cylinders_of}
 use Rattle.pair_table.specs.declared.row.PairRow.{PairRow}
-use Rattle.pending_queue.specs.Entries.{entries_of, never_fall}
+use Rattle.pending_queue.specs.Entries.{entries_of, entries_never_fall}
 use Rattle.primary_ctl.specs.States.{after_writes, is_on, track_of}
 use Rattle.epoch.specs.declared.lane.Lane.{Lane}
 
@@ -64,7 +64,7 @@ pub record IsOn (volume tracks : ℕ) (w : Write) : Type 0 where
 pub record WaitsFrom (base : ℕ → List Rec) (volume tracks : ℕ) (lane : Lane) : Type 0 where
   pub writes : List Write
   pub entries : lane.queue.waiting ≡ entries_of 0 writes
-  pub rising : IsTrue (never_fall 0 lane.queue.waiting)
+  pub rising : IsTrue (entries_never_fall 0 lane.queue.waiting)
   pub on : All (IsOn volume tracks) writes
   pub stamps : All (λ w. w.stamp.0 ≤ lane.primary.time) writes
   pub made : (x : ℕ) → track_of lane.primary volume x ≡ after_writes (base x) (filter (is_on volume x) writes)

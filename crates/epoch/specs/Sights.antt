@@ -3,7 +3,7 @@ use Rattle.std.specs.Prelude.{◌≡◌, ◌⊎◌, ℕ, ◌<◌, ◌≤◌, Lis
 use Rattle.ckd_track.specs.declared.rec.Rec.{Rec}
 use Rattle.ckd_track.specs.declared.write.Kind.{Kind}
 use Rattle.crash_plant.specs.declared.spot.Spot.{Spot}
-use Rattle.crash_plant.specs.Choices.{Choice, IsChoice}
+use Rattle.crash_plant.specs.Choices.{AtEveryMoment, AtNow, Choice}
 use Rattle.crash_plant.specs.Moments.{PlantState}
 use Rattle.pair_table.specs.declared.row.PairRow.{PairRow}
 use Rattle.pending_queue.specs.Groups.{FormedGroup}
@@ -30,11 +30,11 @@ pub record Shows (shape : Shape) (means : Means) (device count : ℕ) (tracks : 
 
 -- Whatever a crash leaves now shows it.
 abbrev pub AllShow : Means → (device count : ℕ) → (ℕ → List Rec) → PlantState → Type 0
-AllShow means device count tracks plant = (c : Choice) → IsChoice plant plant.clock c → Shows (shape_of plant) means device count tracks c
+AllShow means device count tracks plant = AtNow (Shows (shape_of plant) means device count tracks) plant
 
 -- At every moment of calls each choice is so.
 abbrev pub EachIs : (Choice → Type 0) → PlantState → PlantState → Type 0
-EachIs is old new = (t : ℕ) → old.clock ≤ t → t ≤ new.clock → (c : Choice) → IsChoice new t c → is c
+EachIs is old new = AtEveryMoment is old new
 
 -- ---- a group
 

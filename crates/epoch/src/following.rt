@@ -8,7 +8,7 @@ ghost use Rattle.crash_plant.specs.declared.device.Device.TheVariants.{Volume as
 ghost use Rattle.crash_plant.specs.Calls.{IsPart, NoneLent};
 ghost use Rattle.write_trace.specs.declared.trace.Trace.{Trace as TraceValue};
 ghost use Rattle.pair_table.specs.declared.row.PairState.TheVariants.{Duplex};
-ghost use Rattle.pending_queue.specs.Entries.{all_keep_rules, entries_of, last_stamp, writes_never_fall};
+ghost use Rattle.pending_queue.specs.Entries.{all_keep_rules, entries_of, last_stamp};
 ghost use Rattle.pending_queue.specs.Queues.{free_room, with_waiting};
 ghost use Rattle.pending_queue.specs.Rooms.{has_room};
 ghost use Rattle.primary_ctl.specs.States.{after_writes, is_on, track_of};
@@ -28,6 +28,7 @@ ghost use Rattle.epoch.specs.Lanes.{IsFeed, IsLane, IsRowOf, Waits, is_of, most_
 ghost use Rattle.epoch.specs.Sights.{EachIs};
 ghost use Rattle.epoch.specs.Taken.{FailsAsBefore, HasFailed, HasReached, HasTaken, WillBreak};
 ghost use Rattle.epoch.specs.Works.{WorksSilently};
+ghost use Rattle.ckd_track.specs.Writes.{writes_never_fall};
 
 use crate::carried::{OfVolume, are_of_kind};
 use crate::{EpochError, Lane};

@@ -10,9 +10,9 @@ use Rattle.ckd_track.specs.declared.write.Cause.{Cause}
 use Rattle.group_state.specs.declared.phase.Phase.{Phase}
 use Rattle.group_state.specs.declared.phase.Phase.TheVariants.{Telling, Broken, Reported}
 use Rattle.group_state.specs.Volumes.{is_wanted}
-use Rattle.group_state.specs.Controls.{ControlState, new_control, is_telling, fits, fits_track, joined, copied, raised, broke, begun_volume, dropped, resumed, forgotten, cause_at, reported, break_of, phase_after, formed}
+use Rattle.group_state.specs.Controls.{ControlState, new_control, is_telling, fits, fits_track, joined, copied, raised, broke, begun_volume, dropped, resumed, forgotten, reported_cause, reported, reported_break, phase_after, formed}
 use Rattle.group_state.specs.Groups.{Group, Shown, new_controls, new_group, control_at, with_control, cut_of, formed_at}
-use Rattle.group_state.specs.Machine.{Call, after, reply_to, steps}
+use Rattle.group_state.specs.Machine.{Call, group_after, reply_to, steps}
 use Rattle.group_state.specs.Machine.Call.{Join, NextWanted, Copied, Raise, Break, Form, Carry, Drop, Resume, Forget}
 use Rattle.group_state.specs.Machine.Reply.{Made}
 use Rattle.group_state.specs.Runs.{Answer, May, Runs}
@@ -74,7 +74,7 @@ module _ (run : List Answer) (a : Answer) (s : Group) (told : WereTold run s) wh
     | inr past ↦ subst (WasTold (run ++ a ∷ []) k) (sym (get_or_past (map (formed cut) s.controls) k (new_control 0 0 0) (omega (arith, past, length-map s.controls (formed cut))))) (λ cause is. absurd cc)
   ]
 
-  by_call : (call : Call) → May s call → (reply_to s call ≡ Made → a ≡ record { call = call; reply = Made }) → WereTold (run ++ a ∷ []) (after s call)
+  by_call : (call : Call) → May s call → (reply_to s call ≡ Made → a ≡ record { call = call; reply = Made }) → WereTold (run ++ a ∷ []) (group_after s call)
   by_call (Join b) may is = choose (fits (control_at s b.control) b)
     where
       choose : (t : Bool) → WereTold (run ++ a ∷ []) (cond t (with_control b.control (joined b) s) s)
@@ -117,10 +117,10 @@ first_told n records blocks k = still_tells [] k (control_at (new_group n record
 
 -- ---- what forms show
 
-break_told : (run : List Answer) (cut : Stamp) (k : ℕ) (c : ControlState) → c.queue.control ≡ k → WasTold run k c → All (λ b. Contains run (answered_break b)) (break_of cut c)
+break_told : (run : List Answer) (cut : Stamp) (k : ℕ) (c : ControlState) → c.queue.control ≡ k → WasTold run k c → All (λ b. Contains run (answered_break b)) (reported_break cut c)
 break_told run cut k c number told = by_phase c.phase refl
   where
-    by_phase : (phase : Phase) → c.phase ≡ phase → All (λ b. Contains run (answered_break b)) (reported c.queue.control c.floor (cause_at cut c.floor phase))
+    by_phase : (phase : Phase) → c.phase ≡ phase → All (λ b. Contains run (answered_break b)) (reported c.queue.control c.floor (reported_cause cut c.floor phase))
     by_phase Telling is = All-nil (λ b. Contains run (answered_break b))
     by_phase Reported is = All-nil (λ b. Contains run (answered_break b))
     by_phase (Broken cause) is = choose (c.floor.0 == cut.0)
@@ -131,10 +131,10 @@ break_told run cut k c number told = by_phase c.phase refl
             All-cons (λ b. Contains run (answered_break b)) (c.queue.control, c.floor, cause) [] (subst (λ j. Contains run (answered_break (j, c.floor, cause))) (sym number) (told cause is)) (All-nil (λ b. Contains run (answered_break b)))
 
 breaks_told : (run : List Answer) (cut : Stamp) (first : ℕ) (controls : List ControlState) (d : ControlState) → ((i : ℕ) → i < length controls → (get_or controls i d).queue.control ≡ first + i)
-    → ((i : ℕ) → i < length controls → WasTold run (first + i) (get_or controls i d)) → All (λ b. Contains run (answered_break b)) (flat_map (break_of cut) controls)
+    → ((i : ℕ) → i < length controls → WasTold run (first + i) (get_or controls i d)) → All (λ b. Contains run (answered_break b)) (flat_map (reported_break cut) controls)
 breaks_told run cut first [] d numbers told = All-nil (λ b. Contains run (answered_break b))
 breaks_told run cut first (c ∷ controls) d numbers told =
-    All-append (λ b. Contains run (answered_break b)) (break_of cut c) (flat_map (break_of cut) controls)
+    All-append (λ b. Contains run (answered_break b)) (reported_break cut c) (flat_map (reported_break cut) controls)
     (break_told run cut (first + 0) c (numbers 0 (omega arith)) (told 0 (omega arith)))
     (breaks_told run cut (first + 1) controls d (λ i lt. numbers (suc i) (omega arith) ∙ omega arith)
     (λ i lt. subst (λ k. WasTold run k (get_or controls i d)) (omega arith) (told (suc i) (omega arith))))

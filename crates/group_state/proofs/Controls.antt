@@ -11,13 +11,13 @@ use Rattle.ckd_track.specs.declared.write.Cause.{Cause}
 use Rattle.ckd_track.specs.declared.write.Write.{Write}
 use Rattle.change_map.specs.Sets.{has_track}
 use Rattle.copy_plan.specs.Plans.{PlanState}
-use Rattle.pending_queue.specs.Entries.{WaitingEntry, entries_of, copy_of as waiting_copy, copy_head, is_of_volume, tracks_of, without_volume, is_later, left, copies}
+use Rattle.pending_queue.specs.Entries.{WaitingEntry, entries_of, copy_of as waiting_copy, copy_head, is_of_volume, entry_tracks, without_volume, is_later, left, copies}
 use Rattle.cut_core.specs.Events.{Event, floor}
 use Rattle.cut_core.specs.Events.Event.{Join, Copied, Break, Raise, Form, Drop, Carry, Resume, Forget}
 use Rattle.cut_core.specs.Shares.{Share, share_by, share}
-use Rattle.cut_core.specs.Groups.{entry_of, copy_of, is_write_carried, waiting_in}
-use Rattle.cut_core.specs.Waiting.{is_on}
-use Rattle.cut_core.specs.Once.{is_of}
+use Rattle.cut_core.specs.Groups.{carried_entry, copied_entry, is_write_carried, waiting_in}
+use Rattle.cut_core.specs.Waiting.{waits_on}
+use Rattle.cut_core.specs.Once.{is_of_control}
 use Rattle.cut_core.proofs.Ends.{stays, breaks_at}
 use Rattle.cut_core.proofs.Shares.{shares_wait}
 use Rattle.cut_core.proofs.Plain.{any_waits}
@@ -30,7 +30,7 @@ use Rattle.group_state.specs.Sound.{passes_or_none, are_distinct, is_track_withi
 use Rattle.group_state.proofs.SoundLaws.{all_kept}
 use Rattle.group_state.proofs.FormLaws.{later_not}
 use Rattle.group_state.specs.Runs.{tracks_in}
-use Rattle.group_state.specs.Follows.{AreSeen, is_within, IsShareOf, IsControlOf}
+use Rattle.group_state.specs.Follows.{AreSeen, is_track_of_volume, IsShareOf, IsControlOf}
 use Rattle.group_state.proofs.Seen.{seen_filter, seen_any}
 use Rattle.group_state.proofs.Shares.{turned, same_share, all_written, all_copied, all_begun, all_dropped, all_resumed, all_forgotten, all_formed}
 use Rattle.group_state.proofs.Told.{IsQuiet, told_quiet, told_next, told_formed, waiting_next, waiting_less, all_stay}
@@ -52,7 +52,7 @@ telling_counts Reported e = absurd cc
 -- an event by which the control tells nothing, and none of its entries goes or comes
 module _ (k : ℕ) (past : List Event) (x : Event) (c : ControlState) (q : IsQuiet k x) (h : IsControlOf k past c) where
   pub quietly : (new : ControlState) → new.floor ≡ c.floor → new.phase ≡ c.phase → ((v y : ℕ) → IsShareOf (volume_of v new.volumes) y (share_by k v y (share k v y past) x))
-      → AreSeen new.queue.waiting (filter (is_of k) (waiting_in [] (past ++ x ∷ []))) → IsControlOf k (past ++ x ∷ []) new
+      → AreSeen new.queue.waiting (filter (is_of_control k) (waiting_in [] (past ++ x ∷ []))) → IsControlOf k (past ++ x ∷ []) new
   quietly new floor phase volumes waiting =
       let t = told_quiet k past x c.floor c.phase q (told_of k past c h) in
       record {
@@ -66,7 +66,7 @@ module _ (k : ℕ) (past : List Event) (x : Event) (c : ControlState) (q : IsQui
 -- ---- a joined batch
 
 -- whether a write is carried
-carries_is : (x : ℕ) (kept : Option Volume) (s : Share) → passes_or_none (is_within x) kept ≡ true → IsShareOf kept x s → passes (carries x) kept ≡ (s.is_carried && not s.is_wanted)
+carries_is : (x : ℕ) (kept : Option Volume) (s : Share) → passes_or_none (is_track_of_volume x) kept ≡ true → IsShareOf kept x s → passes (carries x) kept ≡ (s.is_carried && not s.is_wanted)
 carries_is x None s within h = rw (sym h.carried) refl
 carries_is x (Some u) s within h = rw (sym h.carried, sym (h.wanted within)) (choose u.carried)
   where
@@ -75,15 +75,15 @@ carries_is x (Some u) s within h = rw (sym h.carried, sym (h.wanted within)) (ch
     choose false = refl
 
 joined_seen : (j k : ℕ) (past : List Event) (volumes : List Volume) (writes : List Write) → j ≡ k → are_within volumes writes ≡ true → ((v y : ℕ) → IsShareOf (volume_of v volumes) y (share k v y past))
-    → AreSeen (entries_of j (filter (is_carried volumes) writes)) (filter (is_of k) (map (entry_of k) (filter (is_write_carried past k) writes)))
+    → AreSeen (entries_of j (filter (is_carried volumes) writes)) (filter (is_of_control k) (map (carried_entry k) (filter (is_write_carried past k) writes)))
 joined_seen j k past volumes [] is within h = tt
 joined_seen j k past volumes (w ∷ writes) is within h =
     let parts = and_parts (is_track_within volumes w.volume w.track) (are_within volumes writes) within in
     choose (is_carried volumes w) (is_write_carried past k w) (carries_is w.track (volume_of w.volume volumes) (share k w.volume w.track past) parts.0 (h w.volume w.track)) (joined_seen j k past volumes writes is parts.1 h)
   where
-    choose : (b c : Bool) → b ≡ c → AreSeen (entries_of j (filter (is_carried volumes) writes)) (filter (is_of k) (map (entry_of k) (filter (is_write_carried past k) writes)))
+    choose : (b c : Bool) → b ≡ c → AreSeen (entries_of j (filter (is_carried volumes) writes)) (filter (is_of_control k) (map (carried_entry k) (filter (is_write_carried past k) writes)))
         → AreSeen (entries_of j (cond b (w ∷ filter (is_carried volumes) writes) (filter (is_carried volumes) writes)))
-        (filter (is_of k) (map (entry_of k) (cond c (w ∷ filter (is_write_carried past k) writes) (filter (is_write_carried past k) writes))))
+        (filter (is_of_control k) (map (carried_entry k) (cond c (w ∷ filter (is_write_carried past k) writes) (filter (is_write_carried past k) writes))))
     choose true true same rest = rw (itself k) (record { control = is; volume = refl; track = refl; stamp = refl; content = refl }, rest)
     choose false false same rest = rest
     choose true false same rest = absurd cc
@@ -132,7 +132,7 @@ control_broke k past upto cause c may h =
 pub control_copied : (k v x : ℕ) (past : List Event) (at : Stamp) (slot : List Rec) (c : ControlState) → c.queue.control ≡ k → IsControlOf k past c → IsControlOf k (past ++ Copied k v x at.0 ∷ []) (copied v x at slot c)
 control_copied k v x past at slot c number h =
     let y = Copied k v x at.0 in
-    let new : AreSeen (waiting_copy (copy_head c.queue.control v x at) slot ∷ []) (filter (is_of k) (copy_of k v x at.0 ∷ [])) =
+    let new : AreSeen (waiting_copy (copy_head c.queue.control v x at) slot ∷ []) (filter (is_of_control k) (copied_entry k v x at.0 ∷ [])) =
     rw (itself k) (record { control = number; volume = refl; track = refl; stamp = refl; content = refl }, tt) in
     quietly k past y c (record { form = λ c. refl; break = refl; told = refl }) h (copied v x at slot c) refl refl
     (λ w z. rw (itself k) (all_copied v w x z at.0 c.volumes (share k w z past) (h.volumes w z)))
@@ -181,23 +181,23 @@ any_of {A} ok q (a ∷ items) none = choose (ok a) refl (any_of ok q items none)
     choose false is h = rw (none a is) h
 
 -- the tracks of a volume's entries that wait are those on which the history's entries wait
-drop_waits : (k v x : ℕ) (past : List Event) (c : ControlState) → IsControlOf k past c → not (length (share k v x past).waiting == 0) ≡ list_any (λ y. y == x) (tracks_of v c.queue.waiting)
+drop_waits : (k v x : ℕ) (past : List Event) (c : ControlState) → IsControlOf k past c → not (length (share k v x past).waiting == 0) ≡ list_any (λ y. y == x) (entry_tracks v c.queue.waiting)
 drop_waits k v x past c h =
     let entries = waiting_in [] past in
-    let waits = ap (λ (stamps : List ℕ). not (length stamps == 0)) (shares_wait k v x past) ∙ any_waits (is_on k v x) entries in
-    let mine = any_of (is_of k) (is_on k v x) entries (λ e other. rw other refl) in
-    let seen = seen_any (is_of k) (λ w. is_of_volume v w && w.head.track == x) (is_on k v x) (λ w e s is. rw (s.volume, s.track, is) refl) c.queue.waiting (filter (is_of k) entries) (all_kept (is_of k) entries) h.waiting in
+    let waits = ap (λ (stamps : List ℕ). not (length stamps == 0)) (shares_wait k v x past) ∙ any_waits (waits_on k v x) entries in
+    let mine = any_of (is_of_control k) (waits_on k v x) entries (λ e other. rw other refl) in
+    let seen = seen_any (is_of_control k) (λ w. is_of_volume v w && w.head.track == x) (waits_on k v x) (λ w e s is. rw (s.volume, s.track, is) refl) c.queue.waiting (filter (is_of_control k) entries) (all_kept (is_of_control k) entries) h.waiting in
     waits ∙ sym mine ∙ sym seen ∙ sym (any_mapped (λ y. y == x) (λ (w : WaitingEntry). w.head.track) (is_of_volume v) c.queue.waiting)
 
 pub control_dropped : (k v : ℕ) (all : Bool) (past : List Event) (c : ControlState) → IsControlOf k past c → IsControlOf k (past ++ Drop k v all ∷ []) (dropped v all c)
 control_dropped k v all past c h =
     let y = Drop k v all in
-    let entries = filter (is_of k) (waiting_in [] past) in
+    let entries = filter (is_of_control k) (waiting_in [] past) in
     quietly k past y c (record { form = λ c. refl; break = refl; told = refl }) h (dropped v all c) refl refl
-    (λ w z. rw (itself k) (all_dropped v w z all (tracks_of v c.queue.waiting) c.volumes (share k w z past)
-    (λ same. subst (λ n. not (length (share k n z past).waiting == 0) ≡ list_any (λ y. y == z) (tracks_of v c.queue.waiting)) (eqb-true v w same) (drop_waits k v z past c h)) (h.volumes w z)))
+    (λ w z. rw (itself k) (all_dropped v w z all (entry_tracks v c.queue.waiting) c.volumes (share k w z past)
+    (λ same. subst (λ n. not (length (share k n z past).waiting == 0) ≡ list_any (λ y. y == z) (entry_tracks v c.queue.waiting)) (eqb-true v w same) (drop_waits k v z past c h)) (h.volumes w z)))
     (waiting_less k past y (without_volume v c.queue.waiting)
-    (seen_filter (is_of k) (λ w. not (is_of_volume v w)) (stays y) (λ w e s is. rw (s.volume, eqb-true e.control k is, itself k, turned e.volume v) refl) c.queue.waiting entries (all_kept (is_of k) (waiting_in [] past)) h.waiting) refl)
+    (seen_filter (is_of_control k) (λ w. not (is_of_volume v w)) (stays y) (λ w e s is. rw (s.volume, eqb-true e.control k is, itself k, turned e.volume v) refl) c.queue.waiting entries (all_kept (is_of_control k) (waiting_in [] past)) h.waiting) refl)
 
 -- ---- a form
 
@@ -212,6 +212,6 @@ control_formed k past cut c breaks h =
           (λ v y. same_share (volume_of v (formed cut c).volumes) y (filter (λ stamp. nat_lt cut.0 stamp) (share k v y past).waiting) (share k v y past)
           (all_formed v y c.volumes (copies (due_of cut c)) (share k v y past) (h.volumes v y)));
       waiting = waiting_less k past (Form cut.0) (left cut c.queue.waiting)
-          (seen_filter (is_of k) (is_later cut) (stays (Form cut.0)) (λ w e s is. later_not cut w ∙ rw s.stamp (sym (and-true (not (nat_le e.stamp cut.0))))) c.queue.waiting (filter (is_of k) (waiting_in [] past))
-          (all_kept (is_of k) (waiting_in [] past)) h.waiting) refl;
+          (seen_filter (is_of_control k) (is_later cut) (stays (Form cut.0)) (λ w e s is. later_not cut w ∙ rw s.stamp (sym (and-true (not (nat_le e.stamp cut.0))))) c.queue.waiting (filter (is_of_control k) (waiting_in [] past))
+          (all_kept (is_of_control k) (waiting_in [] past)) h.waiting) refl;
     }

@@ -13,7 +13,7 @@ use Rattle.pending_queue.specs.Entries.{WaitingEntry, entries_of, copy_head, cop
 use Rattle.group_state.specs.Volumes.{is_wanted}
 use Rattle.group_state.specs.Controls.{ControlState, new_control, carried_writes, fits, fits_track, joined, copied, raised, broke, begun_volume, dropped, resumed, forgotten, formed, due_of}
 use Rattle.group_state.specs.Groups.{Group, Shown, new_controls, new_group, control_at, with_control, cut_of, formed_at}
-use Rattle.group_state.specs.Machine.{Call, after, reply_to, steps}
+use Rattle.group_state.specs.Machine.{Call, group_after, reply_to, steps}
 use Rattle.group_state.specs.Machine.Call.{Join, NextWanted, Copied, Raise, Break, Form, Carry, Drop, Resume, Forget}
 use Rattle.group_state.specs.Machine.Reply.{Joined}
 use Rattle.group_state.specs.Runs.{Answer, May, Runs, history}
@@ -101,7 +101,7 @@ module _ (n : ℕ) (run : List Answer) (a : Answer) (s : Group) (h : WereCopied 
     told = subst (λ j. Contains longer (record { call = Copied j v x at slot; reply = Joined })) (sym number) (subst (Contains longer) is (Contains-push run a));
   }
 
-  by_call : (call : Call) → May s call → ((k : ℕ) → k < length s.controls → (control_at s k).queue.control ≡ k) → a ≡ record { call = call; reply = reply_to s call } → WereCopied longer (after s call)
+  by_call : (call : Call) → May s call → ((k : ℕ) → k < length s.controls → (control_at s k).queue.control ≡ k) → a ≡ record { call = call; reply = reply_to s call } → WereCopied longer (group_after s call)
   by_call (Join b) may numbers is = choose (fits (control_at s b.control) b)
     where
       choose : (t : Bool) → WereCopied longer (cond t (with_control b.control (joined b) s) s)

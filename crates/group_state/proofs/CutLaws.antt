@@ -12,7 +12,7 @@ use Rattle.cut_core.proofs.Copies.{copies_are_between}
 use Rattle.group_state.proofs.SoundLaws.{all_true}
 use Rattle.group_state.specs.Runs.{history}
 use Rattle.group_state.specs.Follows.{HasContent, IsSeen, AreSeen}
-use Rattle.group_state.specs.HistoryLaws.{is_from, FormsAreComplete}
+use Rattle.group_state.specs.HistoryLaws.{is_between_cuts, FormsAreComplete}
 use Rattle.group_state.proofs.Seen.{seen_filter}
 use Rattle.group_state.proofs.RunLaws.{forms_give_groups, form_legal}
 
@@ -43,6 +43,6 @@ forms_are_complete n before later limit shown f =
     seen_filter (λ e. true) (λ w. w.is_copy) is_copy (λ w e seen ok. copy_is_seen w e.kind seen.content) shown.entries (group past cut) all given.entries in
     record {
       writes = subst (AreSeen (filter (λ w. not w.is_copy) shown.entries)) (complete n past (history later) cut legal) writes;
-      copies = seen_all (is_from (last_cut past) cut) (λ e. nat_le (last_cut past) e.stamp && nat_le e.stamp cut) (λ w e seen. rw seen.stamp refl)
+      copies = seen_all (is_between_cuts (last_cut past) cut) (λ e. nat_le (last_cut past) e.stamp && nat_le e.stamp cut) (λ w e seen. rw seen.stamp refl)
           (filter (λ w. w.is_copy) shown.entries) (filter is_copy (group past cut)) copies (copies_are_between n past (history later) cut legal);
     }

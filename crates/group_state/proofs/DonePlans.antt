@@ -10,7 +10,7 @@ use Rattle.cut_core.specs.Events.{Event}
 use Rattle.cut_core.specs.Events.Event.{Form as Forms}
 use Rattle.cut_core.specs.Shares.{Share, share}
 use Rattle.cut_core.specs.Groups.{waiting_in}
-use Rattle.cut_core.specs.Once.{is_of}
+use Rattle.cut_core.specs.Once.{is_of_control}
 use Rattle.group_state.specs.declared.volume.Volume.{Volume}
 use Rattle.group_state.specs.Volumes.{is_numbered, volume_of, has_volume, passes, is_volume_done}
 use Rattle.group_state.specs.Controls.{ControlState, new_control, done_of}
@@ -125,8 +125,8 @@ none_counted {A} test (a ∷ items) = choose (test a) refl (none_counted test it
 -- the copied tracks that wait
 copies_wait : (k v : ℕ) (past : List Event) (c : ControlState) → IsControlOf k past c → list_any (is_copy_of v) c.queue.waiting ≡ list_any (is_copy_on k v) (waiting_in [] past)
 copies_wait k v past c h =
-    seen_any (is_of k) (is_copy_of v) (is_copy_on k v) (λ w e s is. rw (s.volume, is, copy_is_seen w e.kind s.content) refl) c.queue.waiting (filter (is_of k) (waiting_in [] past)) (all_kept (is_of k) (waiting_in [] past)) h.waiting
-    ∙ any_of (is_of k) (is_copy_on k v) (waiting_in [] past) (λ e other. rw other refl)
+    seen_any (is_of_control k) (is_copy_of v) (is_copy_on k v) (λ w e s is. rw (s.volume, is, copy_is_seen w e.kind s.content) refl) c.queue.waiting (filter (is_of_control k) (waiting_in [] past)) (all_kept (is_of_control k) (waiting_in [] past)) h.waiting
+    ∙ any_of (is_of_control k) (is_copy_on k v) (waiting_in [] past) (λ e other. rw other refl)
 
 -- what all volumes pass, a found one passes
 pub found_passes : (test : Volume → Bool) (v : ℕ) (volumes : List Volume) → list_all test volumes ≡ true → passes_or_none test (volume_of v volumes) ≡ true

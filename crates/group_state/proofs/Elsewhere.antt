@@ -8,8 +8,8 @@ use Rattle.ckd_track.specs.declared.write.Write.{Write}
 use Rattle.cut_core.specs.Events.{Event}
 use Rattle.cut_core.specs.Events.Event.{Join, Copied, Break, Raise, Drop, Carry, Resume, Forget}
 use Rattle.cut_core.specs.Shares.{Share, no_share, share_by, share}
-use Rattle.cut_core.specs.Groups.{Entry, entry_of, is_write_carried, carried_by}
-use Rattle.cut_core.specs.Once.{is_of}
+use Rattle.cut_core.specs.Groups.{Entry, carried_entry, is_write_carried, carried_by}
+use Rattle.cut_core.specs.Once.{is_of_control}
 use Rattle.cut_core.proofs.Ends.{stays}
 use Rattle.group_state.specs.Volumes.{volume_of}
 use Rattle.group_state.specs.Controls.{ControlState}
@@ -28,8 +28,8 @@ told_of k past c h = record { told = h.told; telling = h.telling; live = h.live 
 pub record IsElsewhere (k : ℕ) (past : List Event) (x : Event) : Type 0 where
   pub quiet : IsQuiet k x
   pub shares : (v y : ℕ) (s : Share) → share_by k v y s x ≡ s
-  pub stay : (e : Entry) → is_of k e ≡ true → stays x e ≡ true
-  pub none : filter (is_of k) (carried_by past x) ≡ []
+  pub stay : (e : Entry) → is_of_control k e ≡ true → stays x e ≡ true
+  pub none : filter (is_of_control k) (carried_by past x) ≡ []
 
 pub control_aside : (k : ℕ) (past : List Event) (x : Event) (c : ControlState) → IsElsewhere k past x → IsControlOf k past c → IsControlOf k (past ++ x ∷ []) c
 control_aside k past x c e h =
@@ -42,7 +42,7 @@ control_aside k past x c e h =
       waiting = waiting_less k past x c.queue.waiting (all_stay k past x c.queue.waiting e.stay h.waiting) e.none;
     }
 
-others : (j k : ℕ) (writes : List Write) → nat_eq j k ≡ false → filter (is_of k) (map (entry_of j) writes) ≡ []
+others : (j k : ℕ) (writes : List Write) → nat_eq j k ≡ false → filter (is_of_control k) (map (carried_entry j) writes) ≡ []
 others j k [] e = refl
 others j k (w ∷ writes) e = rw e (others j k writes e)
 

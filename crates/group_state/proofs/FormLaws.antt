@@ -9,13 +9,13 @@ use Rattle.std.proofs.lemmas.List.{append-nil}
 use Rattle.std.proofs.lemmas.List.Sums.{fold_push, sum_by-take-le, sum_by_more}
 use Rattle.tod_stamp.specs.declared.stamp.Stamp.{Stamp}
 use Rattle.change_map.specs.Sets.{has_track, size}
-use Rattle.pending_queue.specs.Entries.{WaitingEntry, stamp_of, is_of_volume, is_copy_of, copies, is_due, is_later, due, left}
+use Rattle.pending_queue.specs.Entries.{WaitingEntry, entry_stamp, is_of_volume, is_copy_of, copies, is_due, is_later, due, left}
 use Rattle.pending_queue.specs.Groups.{FormedGroup}
 use Rattle.group_state.specs.declared.volume.Volume.{Volume}
 use Rattle.group_state.specs.Volumes.{is_numbered, volume_of, has_volume, with_volume, passes, formed_track, with_formed_copy, with_formed_copies, is_volume_done, is_done_after, numbers_of}
-use Rattle.group_state.specs.Controls.{ControlState, formed, break_of, done_of}
+use Rattle.group_state.specs.Controls.{ControlState, formed, reported_break, done_of}
 use Rattle.group_state.specs.Groups.{with_news}
-use Rattle.group_state.specs.Sound.{passes_or_none, has_sizes, are_distinct, may_wait, is_entry_of, may_form, has_joined, AreCounted, Sound}
+use Rattle.group_state.specs.Sound.{passes_or_none, has_sizes, are_distinct, may_wait, is_entry_of, may_form, has_joined, CopiesAreCounted, Sound}
 use Rattle.group_state.proofs.VolumeLaws.{distinct_with, all_with, or_none_with, none_found}
 use Rattle.group_state.proofs.SoundLaws.{all_filter, entries_with, count_cons, swapped}
 
@@ -70,9 +70,9 @@ copies_count v (e ∷ entries) = choose e.is_copy refl (copies_count v entries)
     choose false is rest = omega (arith, rest, count_cons (is_copy_of v) e entries, ap {B = ℕ} (λ b. cond (is_of_volume v e && b) 1 0) is, false_none (is_of_volume v e))
 
 pub later_not : (cut : Stamp) (e : WaitingEntry) → is_later cut e ≡ not (is_due cut e)
-later_not cut e = elim (cases_lt cut.0 (stamp_of e)) [
-  | inl lt ↦ rw (lt-ltb cut.0 (stamp_of e) lt, lt-leb (stamp_of e) cut.0 lt) refl
-  | inr le ↦ rw (le-ltb cut.0 (stamp_of e) le, le-leb (stamp_of e) cut.0 le) refl
+later_not cut e = elim (cases_lt cut.0 (entry_stamp e)) [
+  | inl lt ↦ rw (lt-ltb cut.0 (entry_stamp e) lt, lt-leb (entry_stamp e) cut.0 lt) refl
+  | inr le ↦ rw (le-ltb cut.0 (entry_stamp e) le, le-leb (entry_stamp e) cut.0 le) refl
 ]
 
 -- those that a cut takes, and those that it leaves
@@ -84,7 +84,7 @@ sound_formed cut c s =
     let waiting = c.queue.waiting in
     let taken = copies (due cut waiting) in
     record {
-      stamps = all_filter (λ e. nat_le (stamp_of e) c.floor.0) (is_later cut) waiting s.stamps;
+      stamps = all_filter (λ e. nat_le (entry_stamp e) c.floor.0) (is_later cut) waiting s.stamps;
       sizes = sizes_formed c.volumes taken s.sizes;
       distinct = distinct_formed c.volumes taken ∙ s.distinct;
       entries = all_filter (is_entry_of (with_formed_copies c.volumes taken)) (is_later cut) waiting (entries_formed c.volumes taken waiting s.entries);
@@ -117,7 +117,7 @@ all_at test (a ∷ items) zero d e lt = (and_parts (test a) (list_all test items
 all_at test (a ∷ items) (suc k) d e lt = all_at test items k d (and_parts (test a) (list_all test items) e).1 (omega arith)
 
 -- the next due copy's volume has a joined track
-pub may_form_next : (volumes : List Volume) (cut : Stamp) (waiting : List WaitingEntry) (k : ℕ) (e : WaitingEntry) → k < length waiting → e ≡ get_or waiting k e → e.is_copy ≡ true → list_all (is_entry_of volumes) waiting ≡ true → AreCounted waiting volumes
+pub may_form_next : (volumes : List Volume) (cut : Stamp) (waiting : List WaitingEntry) (k : ℕ) (e : WaitingEntry) → k < length waiting → e ≡ get_or waiting k e → e.is_copy ≡ true → list_all (is_entry_of volumes) waiting ≡ true → CopiesAreCounted waiting volumes
     → passes (may_form e.head.track) (volume_of e.head.volume (with_formed_copies volumes (copies (due cut (take k waiting))))) ≡ true
 may_form_next volumes cut waiting k e lt is copy entries counts =
     let v = e.head.volume in
@@ -262,5 +262,5 @@ done_is cut c s =
 
 -- what one control shows of a form, before it is made
 pub announced : (cut : Stamp) (c : ControlState) (out : FormedGroup) → Sound c
-    → (let told = record out { breaks = out.breaks ++ break_of cut c } in record told { done = told.done ++ numbers_of c.queue.control (filter (is_done_after cut c.queue.waiting) c.volumes) }) ≡ with_news cut (c ∷ []) out
-announced cut c out s = λ i. record out { breaks = out.breaks ++ sym (append-nil (break_of cut c)) i; done = out.done ++ (sym (done_is cut c s) ∙ sym (append-nil (done_of (formed cut c)))) i }
+    → (let told = record out { breaks = out.breaks ++ reported_break cut c } in record told { done = told.done ++ numbers_of c.queue.control (filter (is_done_after cut c.queue.waiting) c.volumes) }) ≡ with_news cut (c ∷ []) out
+announced cut c out s = λ i. record out { breaks = out.breaks ++ sym (append-nil (reported_break cut c)) i; done = out.done ++ (sym (done_is cut c s) ∙ sym (append-nil (done_of (formed cut c)))) i }

@@ -6,7 +6,7 @@ use Rattle.std.specs.List.{flat_map, range_with_len}
 use Rattle.std.proofs.lemmas.List.{take_more, take_all, get_or-map, length-map, map-append}
 use Rattle.std.proofs.lemmas.List.Sums.{fold_push}
 use Rattle.tod_stamp.specs.declared.stamp.Stamp.{Stamp}
-use Rattle.cut_core.specs.Events.{Event, floor, has_broken, is_done, is_live}
+use Rattle.cut_core.specs.Events.{Event, floor, is_broken_after, is_done, is_live}
 use Rattle.cut_core.specs.Events.Event.{Form}
 use Rattle.cut_core.specs.Shares.{Share, share_by}
 use Rattle.cut_core.specs.Groups.{Entry, waiting_in, group}
@@ -18,13 +18,13 @@ use Rattle.cut_core.proofs.Kept.{legal_kept}
 use Rattle.cut_core.proofs.Least.{least_is_legal}
 use Rattle.group_state.specs.declared.phase.Phase.{Phase}
 use Rattle.group_state.specs.declared.phase.Phase.TheVariants.{Telling, Broken, Reported}
-use Rattle.group_state.specs.Controls.{ControlState, new_control, counts, is_telling, lesser, formed, due_of, cause_at, reported, break_of}
+use Rattle.group_state.specs.Controls.{ControlState, new_control, counts, is_telling, lesser, formed, due_of, reported_cause, reported, reported_break}
 use Rattle.group_state.specs.Groups.{Group, control_at, cut_of, formed_at, shown_at}
 use Rattle.group_state.specs.Sound.{Sound}
 use Rattle.group_state.proofs.FormLaws.{sound_formed}
-use Rattle.cut_core.specs.Once.{is_of}
+use Rattle.cut_core.specs.Once.{is_of_control}
 use Rattle.group_state.specs.Follows.{AreSeen, IsControlOf}
-use Rattle.group_state.specs.HistoryLaws.{ends_at, named, break_in, IsGroupOf}
+use Rattle.group_state.specs.HistoryLaws.{ends_with_form, named, break_at_floor, IsGroupOf}
 use Rattle.group_state.proofs.Seen.{seen_order}
 use Rattle.group_state.proofs.ByControl.{by_control, order_by_control, due_seen}
 use Rattle.group_state.proofs.Told.{at_cut}
@@ -84,51 +84,51 @@ entries_shown n past s cut h =
     let entries = waiting_in [] past in
     let due = filter (λ (e : Entry). nat_le e.stamp cut.0) entries in
     let seen : AreSeen (flat_map (due_of cut) s.controls) (by_control 0 (length s.controls) due) = due_seen cut entries 0 s.controls (new_control 0 0 0)
-    (λ i lt. subst (λ k. AreSeen (control_at s i).queue.waiting (filter (is_of k) entries)) (omega arith) (h.follows.each i (omega (arith, lt, h.follows.count))).waiting) in
+    (λ i lt. subst (λ k. AreSeen (control_at s i).queue.waiting (filter (is_of_control k) entries)) (omega arith) (h.follows.each i (omega (arith, lt, h.follows.count))).waiting) in
     let below : are_below (length s.controls) due ≡ true = all_filter (λ (e : Entry). nat_lt e.control (length s.controls)) (λ (e : Entry). nat_le e.stamp cut.0) entries (ap (λ m. are_below m entries) h.follows.count ∙ h.below) in
     subst (AreSeen (shown_at cut s).entries) (order_by_control (length s.controls) due below)
     (seen_order (flat_map (due_of cut) s.controls) (by_control 0 (length s.controls) due) seen)
 
 -- the break of one control
 break_is : (k : ℕ) (past : List Event) (cut : Stamp) (c : ControlState) → c.queue.control ≡ k → breaks_at k (floor k past) past ≡ true → IsControlOf k past c
-    → map named (break_of cut c) ≡ map (break_in past) (filter (ends_at cut.0 past) (k ∷ []))
+    → map named (reported_break cut c) ≡ map (break_at_floor past) (filter (ends_with_form cut.0 past) (k ∷ []))
 break_is k past cut c number breaks h =
-    rw (done_form k (floor k past) cut.0 past breaks) (by_phase c.phase (is_done k past) (has_broken k past) (cut.0 == floor k past) (c.floor.0 == cut.0) (at_cut c.floor.0 cut.0 (floor k past) h.told) refl h.telling h.live)
+    rw (done_form k (floor k past) cut.0 past breaks) (by_phase c.phase (is_done k past) (is_broken_after k past) (cut.0 == floor k past) (c.floor.0 == cut.0) (at_cut c.floor.0 cut.0 (floor k past) h.told) refl h.telling h.live)
   where
     by_phase : (phase : Phase) (d b same at : Bool) → at ≡ same → (c.floor.0 == cut.0) ≡ at → is_telling phase ≡ not b → counts phase ≡ not d
-        → map named (reported c.queue.control c.floor (cause_at cut c.floor phase)) ≡ map (break_in past) (cond (not d && not (not (d || (b && same)))) (k ∷ []) [])
+        → map named (reported c.queue.control c.floor (reported_cause cut c.floor phase)) ≡ map (break_at_floor past) (cond (not d && not (not (d || (b && same)))) (k ∷ []) [])
     by_phase Telling d b same at is here telling live = none d b telling live
       where
-        none : (d b : Bool) → true ≡ not b → true ≡ not d → map named [] ≡ map (break_in past) (cond (not d && not (not (d || (b && same)))) (k ∷ []) [])
+        none : (d b : Bool) → true ≡ not b → true ≡ not d → map named [] ≡ map (break_at_floor past) (cond (not d && not (not (d || (b && same)))) (k ∷ []) [])
         none false false e f = refl
         none d true e f = absurd cc
         none true false e f = absurd cc
     by_phase Reported d b same at is here telling live = none d live
       where
-        none : (d : Bool) → false ≡ not d → map named [] ≡ map (break_in past) (cond (not d && not (not (d || (b && same)))) (k ∷ []) [])
+        none : (d : Bool) → false ≡ not d → map named [] ≡ map (break_at_floor past) (cond (not d && not (not (d || (b && same)))) (k ∷ []) [])
         none true e = refl
         none false e = absurd cc
     by_phase (Broken cause) d b same at is here telling live = rw (here, is) (one d b same telling live)
       where
         one : (d b same : Bool) → false ≡ not b → true ≡ not d
-            → map named (reported c.queue.control c.floor (cond same (Some cause) None)) ≡ map (break_in past) (cond (not d && not (not (d || (b && same)))) (k ∷ []) [])
+            → map named (reported c.queue.control c.floor (cond same (Some cause) None)) ≡ map (break_at_floor past) (cond (not d && not (not (d || (b && same)))) (k ∷ []) [])
         one false true true e f = rw (number, h.told) refl
         one false true false e f = refl
         one d false same e f = absurd cc
         one true true same e f = absurd cc
 
 breaks_shown : (past : List Event) (cut : Stamp) (first : ℕ) (controls : List ControlState) (d : ControlState)
-    → ((i : ℕ) → i < length controls → map named (break_of cut (get_or controls i d)) ≡ map (break_in past) (filter (ends_at cut.0 past) ((first + i) ∷ [])))
-    → map named (flat_map (break_of cut) controls) ≡ map (break_in past) (filter (ends_at cut.0 past) (range_with_len first (length controls)))
+    → ((i : ℕ) → i < length controls → map named (reported_break cut (get_or controls i d)) ≡ map (break_at_floor past) (filter (ends_with_form cut.0 past) ((first + i) ∷ [])))
+    → map named (flat_map (reported_break cut) controls) ≡ map (break_at_floor past) (filter (ends_with_form cut.0 past) (range_with_len first (length controls)))
 breaks_shown past cut first [] d each = refl
 breaks_shown past cut first (c ∷ controls) d each =
-    let here : map named (break_of cut c) ≡ map (break_in past) (filter (ends_at cut.0 past) (first ∷ [])) =
-    subst (λ k. map named (break_of cut c) ≡ map (break_in past) (filter (ends_at cut.0 past) (k ∷ []))) (omega arith) (each 0 (omega arith)) in
+    let here : map named (reported_break cut c) ≡ map (break_at_floor past) (filter (ends_with_form cut.0 past) (first ∷ [])) =
+    subst (λ k. map named (reported_break cut c) ≡ map (break_at_floor past) (filter (ends_with_form cut.0 past) (k ∷ []))) (omega arith) (each 0 (omega arith)) in
     let rest = breaks_shown past cut (first + 1) controls d
-    (λ i lt. subst (λ k. map named (break_of cut (get_or controls i d)) ≡ map (break_in past) (filter (ends_at cut.0 past) (k ∷ []))) (omega arith) (each (suc i) (omega arith))) in
-    map-append named (break_of cut c) (flat_map (break_of cut) controls) ∙ rw (here, rest) (both (ends_at cut.0 past first) (filter (ends_at cut.0 past) (range_with_len (first + 1) (length controls))))
+    (λ i lt. subst (λ k. map named (reported_break cut (get_or controls i d)) ≡ map (break_at_floor past) (filter (ends_with_form cut.0 past) (k ∷ []))) (omega arith) (each (suc i) (omega arith))) in
+    map-append named (reported_break cut c) (flat_map (reported_break cut) controls) ∙ rw (here, rest) (both (ends_with_form cut.0 past first) (filter (ends_with_form cut.0 past) (range_with_len (first + 1) (length controls))))
   where
-    both : (t : Bool) (ks : List ℕ) → map (break_in past) (cond t (first ∷ []) []) ++ map (break_in past) ks ≡ map (break_in past) (cond t (first ∷ ks) ks)
+    both : (t : Bool) (ks : List ℕ) → map (break_at_floor past) (cond t (first ∷ []) []) ++ map (break_at_floor past) ks ≡ map (break_at_floor past) (cond t (first ∷ ks) ks)
     both true ks = refl
     both false ks = refl
 
@@ -138,10 +138,10 @@ shows_group n past s limit h =
     let kept = legal_kept n past h.follows.legal in
     let breaks = breaks_shown past cut 0 s.controls (new_control 0 0 0) (λ i lt.
     let below : i < n = omega (arith, lt, h.follows.count) in
-    subst (λ k. map named (break_of cut (control_at s i)) ≡ map (break_in past) (filter (ends_at cut.0 past) (k ∷ []))) (omega arith)
+    subst (λ k. map named (reported_break cut (control_at s i)) ≡ map (break_at_floor past) (filter (ends_with_form cut.0 past) (k ∷ []))) (omega arith)
     (break_is i past cut (control_at s i) (h.numbers i below) (kept.breaks i) (h.follows.each i below))) in
     record {
       cut = cut_is n past s limit h;
       entries = entries_shown n past s cut h;
-      breaks = breaks ∙ ap (λ m. map (break_in past) (filter (ends_at cut.0 past) (range_with_len 0 m))) h.follows.count;
+      breaks = breaks ∙ ap (λ m. map (break_at_floor past) (filter (ends_with_form cut.0 past) (range_with_len 0 m))) h.follows.count;
     }

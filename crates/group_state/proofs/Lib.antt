@@ -2,7 +2,6 @@ pub mod VolumeLaws
 pub mod SoundLaws
 pub mod FormLaws
 pub mod GroupLaws
-pub mod NothingLaws
 pub mod WantedLaws
 pub mod Seen
 pub mod Shares
@@ -16,7 +15,6 @@ pub mod Steps
 pub mod RunLaws
 pub mod CutLaws
 pub mod Causes
-pub mod WorkedRuns
 pub mod Tracks
 pub mod DonePlans
 pub mod CopiedTracks

@@ -5,7 +5,7 @@ use Rattle.std.specs.List.{list_all, list_any}
 use Rattle.std.proofs.lemmas.Bool.{and_parts}
 use Rattle.xrc_edge.specs.Order.{put_in_order, in_order}
 use Rattle.pending_queue.specs.Entries.{WaitingEntry, stands_before as waits_before}
-use Rattle.cut_core.specs.Groups.{Entry, stands_before}
+use Rattle.cut_core.specs.Groups.{Entry, comes_before}
 use Rattle.group_state.specs.Follows.{IsSeen, AreSeen}
 
 pub seen_append : (ws vs : List WaitingEntry) (es fs : List Entry) → AreSeen ws es → AreSeen vs fs → AreSeen (ws ++ vs) (es ++ fs)
@@ -41,24 +41,24 @@ seen_any ok p q same (w ∷ ws) (e ∷ es) all s =
 
 -- ---- in order
 
-seen_before : (w v : WaitingEntry) (e f : Entry) → IsSeen w e → IsSeen v f → waits_before w v ≡ stands_before e f
+seen_before : (w v : WaitingEntry) (e f : Entry) → IsSeen w e → IsSeen v f → waits_before w v ≡ comes_before e f
 seen_before w v e f s t = rw (s.stamp, t.stamp, s.control, t.control) refl
 
-seen_put : (w : WaitingEntry) (e : Entry) (ws : List WaitingEntry) (es : List Entry) → IsSeen w e → AreSeen ws es → AreSeen (put_in_order waits_before w ws) (put_in_order stands_before e es)
+seen_put : (w : WaitingEntry) (e : Entry) (ws : List WaitingEntry) (es : List Entry) → IsSeen w e → AreSeen ws es → AreSeen (put_in_order waits_before w ws) (put_in_order comes_before e es)
 seen_put w e [] [] s t = (s, tt)
 seen_put w e [] (f ∷ es) s t = absurd t
 seen_put w e (v ∷ ws) [] s t = absurd t
-seen_put w e (v ∷ ws) (f ∷ es) s t = choose (waits_before v w) (stands_before f e) (seen_before v w f e t.0 s) (seen_put w e ws es s t.1)
+seen_put w e (v ∷ ws) (f ∷ es) s t = choose (waits_before v w) (comes_before f e) (seen_before v w f e t.0 s) (seen_put w e ws es s t.1)
   where
-    choose : (b c : Bool) → b ≡ c → AreSeen (put_in_order waits_before w ws) (put_in_order stands_before e es)
-        → AreSeen (cond b (v ∷ put_in_order waits_before w ws) (w ∷ v ∷ ws)) (cond c (f ∷ put_in_order stands_before e es) (e ∷ f ∷ es))
+    choose : (b c : Bool) → b ≡ c → AreSeen (put_in_order waits_before w ws) (put_in_order comes_before e es)
+        → AreSeen (cond b (v ∷ put_in_order waits_before w ws) (w ∷ v ∷ ws)) (cond c (f ∷ put_in_order comes_before e es) (e ∷ f ∷ es))
     choose true true is rest = (t.0, rest)
     choose false false is rest = (s, t)
     choose true false is rest = absurd cc
     choose false true is rest = absurd cc
 
-pub seen_order : (ws : List WaitingEntry) (es : List Entry) → AreSeen ws es → AreSeen (in_order waits_before ws) (in_order stands_before es)
+pub seen_order : (ws : List WaitingEntry) (es : List Entry) → AreSeen ws es → AreSeen (in_order waits_before ws) (in_order comes_before es)
 seen_order [] [] s = tt
 seen_order [] (e ∷ es) s = absurd s
 seen_order (w ∷ ws) [] s = absurd s
-seen_order (w ∷ ws) (e ∷ es) s = seen_put w e (in_order waits_before ws) (in_order stands_before es) s.0 (seen_order ws es s.1)
+seen_order (w ∷ ws) (e ∷ es) s = seen_put w e (in_order waits_before ws) (in_order comes_before es) s.0 (seen_order ws es s.1)

@@ -14,7 +14,7 @@ use Rattle.pending_queue.specs.Entries.{WaitingEntry}
 use Rattle.pending_queue.specs.Maps.{with_tracks}
 use Rattle.cut_core.specs.Shares.{Share, no_share, share_write, share_writes, share_copied, share_drop, share_carry, share_resume}
 use Rattle.group_state.specs.declared.volume.Volume.{Volume}
-use Rattle.group_state.specs.Volumes.{volume_of, has_volume, with_volume, without_number, passes, begun, written, with_write, with_writes, copied_track, formed_track, with_formed_copies, dropped_map, dropped_volume, resumed_volume}
+use Rattle.group_state.specs.Volumes.{volume_of, has_volume, with_volume, without_number, passes, begun, noted_write, with_write, with_writes, copied_track, formed_track, with_formed_copies, dropped_map, dropped_volume, resumed_volume}
 use Rattle.group_state.specs.Sound.{are_distinct, is_dropped}
 use Rattle.group_state.proofs.SoundLaws.{length_dropped}
 use Rattle.group_state.proofs.VolumeLaws.{Keeps, found_with, found_behind, found_without, none_found}
@@ -129,7 +129,7 @@ has_in set x = in_range (has_track set) x 0 (length set) ∙ choose (has_track s
 
 -- ---- a joined batch
 
-pub written_number : (x : ℕ) → Keeps (written x)
+pub written_number : (x : ℕ) → Keeps (noted_write x)
 written_number x u = choose u.carried
   where
     choose : (t : Bool) → (let v : Volume = cond t u (record u { map = with_track u.map x }) in v.number) ≡ u.number
@@ -137,7 +137,7 @@ written_number x u = choose u.carried
     choose false = refl
 
 -- a write on the track
-written_on : (x stamp : ℕ) (kept : Option Volume) (s : Share) → IsShareOf kept x s → IsShareOf (option_map (written x) kept) x (share_write stamp s)
+written_on : (x stamp : ℕ) (kept : Option Volume) (s : Share) → IsShareOf kept x s → IsShareOf (option_map (noted_write x) kept) x (share_write stamp s)
 written_on x stamp None s h = rw (sym h.carried, sym h.dropped) (record { carried = refl; dropped = refl; wanted = h.wanted; mapped = h.mapped })
 written_on x stamp (Some u) s h = choose u.carried refl
   where
@@ -163,7 +163,7 @@ written_on x stamp (Some u) s h = choose u.carried refl
     })
 
 -- a write on another track
-written_off : (x y : ℕ) (kept : Option Volume) (s : Share) → nat_eq x y ≡ false → IsShareOf kept y s → IsShareOf (option_map (written x) kept) y s
+written_off : (x y : ℕ) (kept : Option Volume) (s : Share) → nat_eq x y ≡ false → IsShareOf kept y s → IsShareOf (option_map (noted_write x) kept) y s
 written_off x y None s other h = h
 written_off x y (Some u) s other h = choose u.carried
   where
@@ -181,11 +181,11 @@ written_off x y (Some u) s other h = choose u.carried
 
 one_written : (v x : ℕ) (w : Write) (volumes : List Volume) (s : Share) → IsShareOf (volume_of v volumes) x s → IsShareOf (volume_of v (with_write volumes w)) x (cond (w.volume == v && w.track == x) (share_write w.stamp.0 s) s)
 one_written v x w volumes s h =
-    share_with w.volume v x (written w.track) (written_number w.track) volumes (cond (w.volume == v && w.track == x) (share_write w.stamp.0 s) s)
+    share_with w.volume v x (noted_write w.track) (written_number w.track) volumes (cond (w.volume == v && w.track == x) (share_write w.stamp.0 s) s)
     (λ same. rw same (here (nat_eq w.track x) refl)) (λ other. rw other h)
   where
-    here : (t : Bool) → nat_eq w.track x ≡ t → IsShareOf (option_map (written w.track) (volume_of v volumes)) x (cond t (share_write w.stamp.0 s) s)
-    here true is = subst (λ y. IsShareOf (option_map (written y) (volume_of v volumes)) x (share_write w.stamp.0 s)) (sym (eqb-true w.track x is)) (written_on x w.stamp.0 (volume_of v volumes) s h)
+    here : (t : Bool) → nat_eq w.track x ≡ t → IsShareOf (option_map (noted_write w.track) (volume_of v volumes)) x (cond t (share_write w.stamp.0 s) s)
+    here true is = subst (λ y. IsShareOf (option_map (noted_write y) (volume_of v volumes)) x (share_write w.stamp.0 s)) (sym (eqb-true w.track x is)) (written_on x w.stamp.0 (volume_of v volumes) s h)
     here false is = written_off w.track x (volume_of v volumes) s is h
 
 pub all_written : (v x : ℕ) (writes : List Write) (volumes : List Volume) (s : Share) → IsShareOf (volume_of v volumes) x s → IsShareOf (volume_of v (with_writes volumes writes)) x (share_writes v x writes s)

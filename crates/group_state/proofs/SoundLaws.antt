@@ -14,17 +14,18 @@ use Rattle.ckd_track.specs.declared.write.Batch.{Batch}
 use Rattle.ckd_track.specs.declared.write.Cause.{Cause}
 use Rattle.ckd_track.specs.declared.write.Write.{Write}
 use Rattle.xrc_edge.specs.Order.{is_in_order}
-use Rattle.cut_core.specs.Legal.{is_earlier, are_in}
+use Rattle.cut_core.specs.Legal.{are_in}
 use Rattle.change_map.specs.Sets.{no_track, has_track, with_track, without_track}
 use Rattle.change_map.proofs.InSets.{has_without}
 use Rattle.copy_plan.specs.Plans.{PlanState}
-use Rattle.pending_queue.specs.Entries.{WaitingEntry, entry_of, entries_of, copy_of, copy_head, stamp_of, last_stamp_from, writes_never_fall, is_of_volume, is_copy_of, without_volume, tracks_of}
+use Rattle.pending_queue.specs.Entries.{WaitingEntry, entry_of, entries_of, copy_of, copy_head, entry_stamp, last_stamp_from, is_of_volume, is_copy_of, without_volume, entry_tracks}
 use Rattle.pending_queue.specs.Maps.{with_tracks}
 use Rattle.group_state.specs.declared.volume.Volume.{Volume}
-use Rattle.group_state.specs.Volumes.{is_numbered, volume_of, has_volume, with_volume, without_number, passes, carries, is_carried, is_wanted, wants, begun, written, with_write, with_writes, copied_track, dropped_map, dropped_volume, resumed_volume}
+use Rattle.group_state.specs.Volumes.{is_numbered, volume_of, has_volume, with_volume, without_number, passes, carries, is_carried, is_wanted, wants, begun, noted_write, with_write, with_writes, copied_track, dropped_map, dropped_volume, resumed_volume}
 use Rattle.group_state.specs.Controls.{ControlState, carried_writes, joined, copied, raised, broke, begun_volume, dropped, resumed, forgotten}
 use Rattle.group_state.specs.Sound.{passes_or_none, has_sizes, are_distinct, may_wait, is_entry_of, has_joined, are_up_to, Sound, is_track_within, are_within, MayTell, MayJoin, MayCarry, is_dropped}
 use Rattle.group_state.proofs.VolumeLaws.{Keeps, found_with, distinct_with, all_with, passes_with, same_or_none, or_none_with, none_found, has_found, found_behind, distinct_behind, distinct_without, all_without, found_without}
+use Rattle.ckd_track.specs.Writes.{is_earlier, writes_never_fall}
 
 -- ---- tests over lists
 
@@ -97,11 +98,11 @@ all_true test (a ∷ items) all = and_from (test a) (list_all test items) (all a
 pub last_up_to : (time : Stamp) (low : ℕ) (entries : List WaitingEntry) → low ≤ time.0 → are_up_to time entries ≡ true → last_stamp_from low entries ≤ time.0
 last_up_to time low [] le e = le
 last_up_to time low (x ∷ entries) le e =
-    let parts = and_parts (nat_le (stamp_of x) time.0) (are_up_to time entries) e in
-    last_up_to time (stamp_of x) entries (leb-true (stamp_of x) time.0 parts.0) parts.1
+    let parts = and_parts (nat_le (entry_stamp x) time.0) (are_up_to time entries) e in
+    last_up_to time (entry_stamp x) entries (leb-true (entry_stamp x) time.0 parts.0) parts.1
 
 later : (one two : Stamp) (entries : List WaitingEntry) → one.0 ≤ two.0 → are_up_to one entries ≡ true → are_up_to two entries ≡ true
-later one two entries le e = all_up (λ x. nat_le (stamp_of x) one.0) (λ x. nat_le (stamp_of x) two.0) entries (λ x is. le-leb (stamp_of x) two.0 (omega (arith, le, leb-true (stamp_of x) one.0 is))) e
+later one two entries le e = all_up (λ x. nat_le (entry_stamp x) one.0) (λ x. nat_le (entry_stamp x) two.0) entries (λ x is. le-leb (entry_stamp x) two.0 (omega (arith, le, leb-true (entry_stamp x) one.0 is))) e
 
 -- the entries of a batch's writes
 pub written_up_to : (k low : ℕ) (upto : Stamp) (test : Write → Bool) (writes : List Write) → are_in low upto.0 writes ≡ true → are_up_to upto (entries_of k (filter test writes)) ≡ true
@@ -123,10 +124,6 @@ swapped a b e = choose (nat_eq b a) refl
     choose true is = absurd (true≢false (sym (eq-eqb a b (sym (eqb-true b a is))) ∙ e))
     choose false is = refl
 
-passes_up : (test after : Volume → Bool) (o : Option Volume) → ((u : Volume) → test u ≡ true → after u ≡ true) → passes test o ≡ true → passes after o ≡ true
-passes_up test after None up e = absurd cc
-passes_up test after (Some u) up e = up u e
-
 -- entries that may wait may still wait after a change of a volume
 pub entries_with : (v : ℕ) (change : Volume → Volume) (keeps : Keeps change) → ((e : WaitingEntry) (u : Volume) → may_wait e u ≡ true → may_wait e (change u) ≡ true) → (volumes : List Volume) (entries : List WaitingEntry)
     → list_all (is_entry_of volumes) entries ≡ true → list_all (is_entry_of (with_volume v change volumes)) entries ≡ true
@@ -140,35 +137,35 @@ entry_aside v change keeps volumes x other is = rw (found_with v x.head.volume c
 
 -- ---- a joined batch
 
-written_keeps : (x : ℕ) → Keeps (written x)
+written_keeps : (x : ℕ) → Keeps (noted_write x)
 written_keeps x u = choose u.carried
   where
     choose : (t : Bool) → (let v : Volume = cond t u (record u { map = with_track u.map x }) in v.number) ≡ u.number
     choose true = refl
     choose false = refl
 
-written_sizes : (x : ℕ) (u : Volume) → has_sizes u ≡ true → has_sizes (written x u) ≡ true
+written_sizes : (x : ℕ) (u : Volume) → has_sizes u ≡ true → has_sizes (noted_write x u) ≡ true
 written_sizes x u e = choose u.carried
   where
     choose : (t : Bool) → has_sizes (cond t u (record u { map = with_track u.map x })) ≡ true
     choose true = e
     choose false = ap (λ n. nat_eq n (length u.plan.wanted)) (length-set u.map x true) ∙ e
 
-written_waits : (x : ℕ) (e : WaitingEntry) (u : Volume) → may_wait e u ≡ true → may_wait e (written x u) ≡ true
+written_waits : (x : ℕ) (e : WaitingEntry) (u : Volume) → may_wait e u ≡ true → may_wait e (noted_write x u) ≡ true
 written_waits x e u ok = choose u.carried
   where
     choose : (t : Bool) → may_wait e (cond t u (record u { map = with_track u.map x })) ≡ true
     choose true = ok
     choose false = ap (λ n. u.carried && (nat_lt e.head.track n && not (e.is_copy && has_track u.plan.wanted e.head.track))) (length-set u.map x true) ∙ ok
 
-written_joined : (x n : ℕ) (u : Volume) → has_joined n (written x u) ≡ has_joined n u
+written_joined : (x n : ℕ) (u : Volume) → has_joined n (noted_write x u) ≡ has_joined n u
 written_joined x n u = choose u.carried
   where
     choose : (t : Bool) → has_joined n (cond t u (record u { map = with_track u.map x })) ≡ has_joined n u
     choose true = refl
     choose false = refl
 
-written_within : (x y : ℕ) (u : Volume) → nat_lt y (length (written x u).map) ≡ nat_lt y (length u.map)
+written_within : (x y : ℕ) (u : Volume) → nat_lt y (length (noted_write x u).map) ≡ nat_lt y (length u.map)
 written_within x y u = choose u.carried
   where
     choose : (t : Bool) → (let v : Volume = cond t u (record u { map = with_track u.map x }) in nat_lt y (length v.map)) ≡ nat_lt y (length u.map)
@@ -176,26 +173,26 @@ written_within x y u = choose u.carried
     choose false = ap (λ n. nat_lt y n) (length-set u.map x true)
 
 pub within_write : (w : Write) (volumes : List Volume) (v x : ℕ) → is_track_within (with_write volumes w) v x ≡ is_track_within volumes v x
-within_write w volumes v x = same_or_none (λ u. nat_lt x (length u.map)) w.volume v (written w.track) (written_keeps w.track) (written_within w.track x) volumes
+within_write w volumes v x = same_or_none (λ u. nat_lt x (length u.map)) w.volume v (noted_write w.track) (written_keeps w.track) (written_within w.track x) volumes
 
 pub all_within_write : (w : Write) (volumes : List Volume) (writes : List Write) → are_within volumes writes ≡ true → are_within (with_write volumes w) writes ≡ true
 all_within_write w volumes writes e = all_up (λ x. is_track_within volumes x.volume x.track) (λ x. is_track_within (with_write volumes w) x.volume x.track) writes (λ x is. within_write w volumes x.volume x.track ∙ is) e
 
 sizes_written : (volumes : List Volume) (writes : List Write) → list_all has_sizes volumes ≡ true → list_all has_sizes (with_writes volumes writes) ≡ true
 sizes_written volumes [] e = e
-sizes_written volumes (w ∷ writes) e = sizes_written (with_write volumes w) writes (all_with has_sizes w.volume (written w.track) (written_sizes w.track) volumes e)
+sizes_written volumes (w ∷ writes) e = sizes_written (with_write volumes w) writes (all_with has_sizes w.volume (noted_write w.track) (written_sizes w.track) volumes e)
 
 distinct_written : (volumes : List Volume) (writes : List Write) → are_distinct (with_writes volumes writes) ≡ are_distinct volumes
 distinct_written volumes [] = refl
-distinct_written volumes (w ∷ writes) = distinct_written (with_write volumes w) writes ∙ distinct_with w.volume (written w.track) (written_keeps w.track) volumes
+distinct_written volumes (w ∷ writes) = distinct_written (with_write volumes w) writes ∙ distinct_with w.volume (noted_write w.track) (written_keeps w.track) volumes
 
 entries_written : (volumes : List Volume) (writes : List Write) (entries : List WaitingEntry) → list_all (is_entry_of volumes) entries ≡ true → list_all (is_entry_of (with_writes volumes writes)) entries ≡ true
 entries_written volumes [] entries e = e
-entries_written volumes (w ∷ writes) entries e = entries_written (with_write volumes w) writes entries (entries_with w.volume (written w.track) (written_keeps w.track) (written_waits w.track) volumes entries e)
+entries_written volumes (w ∷ writes) entries e = entries_written (with_write volumes w) writes entries (entries_with w.volume (noted_write w.track) (written_keeps w.track) (written_waits w.track) volumes entries e)
 
 joined_written : (volumes : List Volume) (writes : List Write) (v n : ℕ) → passes_or_none (has_joined n) (volume_of v (with_writes volumes writes)) ≡ passes_or_none (has_joined n) (volume_of v volumes)
 joined_written volumes [] v n = refl
-joined_written volumes (w ∷ writes) v n = joined_written (with_write volumes w) writes v n ∙ same_or_none (has_joined n) w.volume v (written w.track) (written_keeps w.track) (written_joined w.track n) volumes
+joined_written volumes (w ∷ writes) v n = joined_written (with_write volumes w) writes v n ∙ same_or_none (has_joined n) w.volume v (noted_write w.track) (written_keeps w.track) (written_joined w.track n) volumes
 
 -- a carried write may wait as an entry
 write_waits : (k : ℕ) (volumes : List Volume) (w : Write) → is_carried volumes w ≡ true → is_track_within volumes w.volume w.track ≡ true → is_entry_of volumes (entry_of k w) ≡ true
@@ -231,7 +228,7 @@ sound_joined b c s may =
     let waiting = c.queue.waiting in
     let new = entries_of c.queue.control (carried_writes c b) in
     record {
-      stamps = all_joined (λ e. nat_le (stamp_of e) b.upto.0) waiting new (later c.floor b.upto waiting may.tells.up s.stamps) (written_up_to c.queue.control c.floor.0 b.upto (is_carried c.volumes) b.writes may.within);
+      stamps = all_joined (λ e. nat_le (entry_stamp e) b.upto.0) waiting new (later c.floor b.upto waiting may.tells.up s.stamps) (written_up_to c.queue.control c.floor.0 b.upto (is_carried c.volumes) b.writes may.within);
       sizes = sizes_written c.volumes b.writes s.sizes;
       distinct = distinct_written c.volumes b.writes ∙ s.distinct;
       entries = all_joined (is_entry_of (with_writes c.volumes b.writes)) waiting new (entries_written c.volumes b.writes waiting s.entries) (entries_written c.volumes b.writes new (writes_wait c.queue.control c.volumes b.writes may.tracks));
@@ -252,10 +249,6 @@ sound_broke upto cause c s may = record { stamps = later c.floor upto c.queue.wa
 
 copied_sizes : (x : ℕ) (u : Volume) → has_sizes u ≡ true → has_sizes (copied_track x u) ≡ true
 copied_sizes x u e = ap (λ n. nat_eq (length u.map) n) (length-set u.plan.wanted x false) ∙ e
-
-not_more : (a b : Bool) → not b ≡ true → not (a && b) ≡ true
-not_more true b e = e
-not_more false b e = refl
 
 copied_waits : (x : ℕ) (e : WaitingEntry) (u : Volume) → may_wait e u ≡ true → may_wait e (copied_track x u) ≡ true
 copied_waits x e u ok =
@@ -299,7 +292,7 @@ sound_copied v x at recs c s floor wanted within =
     let e = copy_of (copy_head c.queue.control v x at) recs in
     let volumes = with_volume v (copied_track x) c.volumes in
     record {
-      stamps = all_joined (λ e. nat_le (stamp_of e) c.floor.0) waiting (e ∷ []) s.stamps (and_from (nat_le at.0 c.floor.0) true (le-leb at.0 c.floor.0 (omega (arith, ap (λ (t : Stamp). t.0) floor))) refl);
+      stamps = all_joined (λ e. nat_le (entry_stamp e) c.floor.0) waiting (e ∷ []) s.stamps (and_from (nat_le at.0 c.floor.0) true (le-leb at.0 c.floor.0 (omega (arith, ap (λ (t : Stamp). t.0) floor))) refl);
       sizes = all_with has_sizes v (copied_track x) (copied_sizes x) c.volumes s.sizes;
       distinct = distinct_with v (copied_track x) (λ u. refl) c.volumes ∙ s.distinct;
       entries = all_joined (is_entry_of volumes) waiting (e ∷ []) (entries_with v (copied_track x) (λ u. refl) (copied_waits x) c.volumes waiting s.entries)
@@ -385,7 +378,7 @@ length_dropped true tracks set = length-replicate (length set) true
 length_dropped false tracks set = length_tracks set tracks
 
 -- the tracks of a volume's entries are those of its map
-pub tracks_within : (v : ℕ) (u : Volume) (volumes : List Volume) (waiting : List WaitingEntry) → volume_of v volumes ≡ Some u → list_all (is_entry_of volumes) waiting ≡ true → list_all (λ x. nat_lt x (length u.map)) (tracks_of v waiting) ≡ true
+pub tracks_within : (v : ℕ) (u : Volume) (volumes : List Volume) (waiting : List WaitingEntry) → volume_of v volumes ≡ Some u → list_all (is_entry_of volumes) waiting ≡ true → list_all (λ x. nat_lt x (length u.map)) (entry_tracks v waiting) ≡ true
 tracks_within v u volumes [] found e = refl
 tracks_within v u volumes (x ∷ waiting) found e =
     let parts = and_parts (is_entry_of volumes x) (list_all (is_entry_of volumes) waiting) e in
@@ -397,9 +390,9 @@ tracks_within v u volumes (x ∷ waiting) found e =
         let ok : may_wait x u ≡ true = subst (λ o. passes (may_wait x) o ≡ true) found at in
         (and_parts (nat_lt x.head.track (length u.map)) (not (x.is_copy && has_track u.plan.wanted x.head.track)) (and_parts u.carried (nat_lt x.head.track (length u.map) && not (x.is_copy && has_track u.plan.wanted x.head.track)) ok).1).0
 
-    choose : (t : Bool) → is_of_volume v x ≡ t → is_entry_of volumes x ≡ true → list_all (λ y. nat_lt y (length u.map)) (tracks_of v waiting) ≡ true
+    choose : (t : Bool) → is_of_volume v x ≡ t → is_entry_of volumes x ≡ true → list_all (λ y. nat_lt y (length u.map)) (entry_tracks v waiting) ≡ true
         → list_all (λ y. nat_lt y (length u.map)) (map (λ (e : WaitingEntry). e.head.track) (cond t (x ∷ filter (is_of_volume v) waiting) (filter (is_of_volume v) waiting))) ≡ true
-    choose true of is rest = and_from (nat_lt x.head.track (length u.map)) (list_all (λ y. nat_lt y (length u.map)) (tracks_of v waiting)) (here of is) rest
+    choose true of is rest = and_from (nat_lt x.head.track (length u.map)) (list_all (λ y. nat_lt y (length u.map)) (entry_tracks v waiting)) (here of is) rest
     choose false of is rest = rest
 
 -- the entries of other volumes are counted as before
@@ -414,11 +407,11 @@ count_without v w waiting other = count_filter (is_copy_of w) (λ e. not (is_of_
 
 pub sound_dropped : (v : ℕ) (all : Bool) (c : ControlState) → Sound c → Sound (dropped v all c)
 sound_dropped v all c s =
-    let tracks = tracks_of v c.queue.waiting in
+    let tracks = entry_tracks v c.queue.waiting in
     let others = without_volume v c.queue.waiting in
     let volumes = with_volume v (dropped_volume all tracks) c.volumes in
     record {
-      stamps = all_filter (λ e. nat_le (stamp_of e) c.floor.0) (λ e. not (is_of_volume v e)) c.queue.waiting s.stamps;
+      stamps = all_filter (λ e. nat_le (entry_stamp e) c.floor.0) (λ e. not (is_of_volume v e)) c.queue.waiting s.stamps;
       sizes = all_with has_sizes v (dropped_volume all tracks) (λ u e. ap (λ n. nat_eq n (length u.plan.wanted)) (length_dropped all tracks u.map) ∙ e) c.volumes s.sizes;
       distinct = distinct_with v (dropped_volume all tracks) (λ u. refl) c.volumes ∙ s.distinct;
       entries = all_up (λ e. not (is_of_volume v e) && is_entry_of c.volumes e) (is_entry_of volumes) others

@@ -8,16 +8,16 @@ use Rattle.ckd_track.specs.declared.write.Batch.{Batch}
 use Rattle.ckd_track.specs.declared.write.Cause.{Cause}
 use Rattle.xrc_edge.specs.Order.{is_in_order}
 use Rattle.copy_plan.specs.Plans.{PlanState}
-use Rattle.cut_core.specs.Events.{Event, floor, has_broken}
+use Rattle.cut_core.specs.Events.{Event, floor, is_broken_after}
 use Rattle.cut_core.specs.Events.Event.{Join as Joins, Copied as Copies, Break as Breaks, Raise as Raises, Drop as Drops, Carry as Carries, Resume as Resumes, Forget as Forgets}
 use Rattle.cut_core.specs.Groups.{is_write_carried}
 use Rattle.cut_core.specs.Shares.{share}
-use Rattle.cut_core.specs.Legal.{is_earlier, are_in, may_tell, is_legal_next}
+use Rattle.cut_core.specs.Legal.{are_in, may_tell, is_legal_next}
 use Rattle.group_state.specs.Volumes.{is_wanted}
 use Rattle.group_state.specs.Controls.{ControlState, is_telling, fits, fits_track, room_of, joined, copied, raised, broke, begun_volume, dropped, resumed, forgotten}
 use Rattle.group_state.specs.Groups.{Group, control_at, with_control, cut_of, gives_nothing, formed_at, shown_at}
 use Rattle.group_state.specs.Sound.{MayTell}
-use Rattle.group_state.specs.Machine.{Call, Reply, reply_to, after, steps}
+use Rattle.group_state.specs.Machine.{Call, Reply, reply_to, group_after, steps}
 use Rattle.group_state.specs.Machine.Call.{Join, NextWanted, Copied, Raise, Break, Form, Carry, Drop, Resume, Forget}
 use Rattle.group_state.specs.Machine.Reply.{Made, Joined, Held, Stale, Wanted, Formed, Nothing, Owed, NoMemory}
 use Rattle.group_state.proofs.SoundLaws.{sound_joined, sound_raised, sound_broke, sound_copied, sound_begun, sound_dropped, sound_resumed, sound_forgotten}
@@ -27,6 +27,7 @@ use Rattle.group_state.proofs.Elsewhere.{join_elsewhere, copied_elsewhere, raise
 use Rattle.group_state.proofs.Controls.{control_joined, control_raised, control_broke, control_copied, control_begun, control_resumed, control_forgotten, control_dropped}
 use Rattle.group_state.proofs.Stands.{Stands, stands_next, written_below}
 use Rattle.group_state.proofs.Forms.{stands_formed}
+use Rattle.ckd_track.specs.Writes.{is_earlier}
 
 -- a history with one more event, where there is one
 abbrev pub with_event : List Event → Option Event → List Event
@@ -36,7 +37,7 @@ with_event past (Some x) = past ++ x ∷ []
 -- ---- legal events
 
 tells : (n k : ℕ) (past : List Event) (c : ControlState) → k < n → is_telling c.phase ≡ true → IsControlOf k past c → may_tell n k past ≡ true
-tells n k past c lt telling h = and_from (nat_lt k n) (not (has_broken k past)) (lt-ltb k n lt) (sym h.telling ∙ telling)
+tells n k past c lt telling h = and_from (nat_lt k n) (not (is_broken_after k past)) (lt-ltb k n lt) (sym h.telling ∙ telling)
 
 told : (n k : ℕ) (past : List Event) (upto : Stamp) (c : ControlState) → k < n → MayTell c upto → IsControlOf k past c → (may_tell n k past && nat_le (floor k past) upto.0) ≡ true
 told n k past upto c lt may h = and_from (may_tell n k past) (nat_le (floor k past) upto.0) (tells n k past c lt may.telling h) (le-leb (floor k past) upto.0 (omega (arith, h.told, may.up)))
@@ -118,7 +119,7 @@ stands_forgotten n past s k v h may =
 
 -- ---- each call
 
-answered_step : (n : ℕ) (past : List Event) (s : Group) (call : Call) → Stands n past s → May s call → Stands n (with_event past (event_by call (reply_to s call))) (after s call)
+answered_step : (n : ℕ) (past : List Event) (s : Group) (call : Call) → Stands n past s → May s call → Stands n (with_event past (event_by call (reply_to s call))) (group_after s call)
 answered_step n past s (Join b) h may = choose (fits (control_at s b.control) b)
   where
     choose : (t : Bool) → Stands n (with_event past (event_by (Join b) (cond t Joined (Held (room_of (control_at s b.control)))))) (cond t (with_control b.control (joined b) s) s)
@@ -147,7 +148,7 @@ answered_step n past s (Forget k v) h may = stands_forgotten n past s k v h may
 -- ---- the reply of a step
 
 -- a step is by want of memory, or the machine's
-pub either_step : (old : Group) (call : Call) (reply : Reply) (new : Group) → steps old call reply new → ((reply ≡ NoMemory) × (new ≡ old)) ⊎ ((reply ≡ reply_to old call) × (new ≡ after old call))
+pub either_step : (old : Group) (call : Call) (reply : Reply) (new : Group) → steps old call reply new → ((reply ≡ NoMemory) × (new ≡ old)) ⊎ ((reply ≡ reply_to old call) × (new ≡ group_after old call))
 either_step old call NoMemory new step = inl (refl, step.1)
 either_step old call Made new step = inr step
 either_step old call Joined new step = inr step

@@ -6,10 +6,10 @@ use Rattle.std.proofs.lemmas.Bool.{eqb-true, eq-eqb, cases_Bool, ne_eqb, eqb-fal
 use Rattle.std.proofs.lemmas.List.Elements.{filter-append}
 use Rattle.tod_stamp.specs.declared.stamp.Stamp.{Stamp}
 use Rattle.pending_queue.specs.Entries.{WaitingEntry}
-use Rattle.cut_core.specs.Events.{Event, told_upto, floor, is_break_of, has_broken, is_form_at, is_done, is_live}
+use Rattle.cut_core.specs.Events.{Event, told_upto, floor, is_break_of, is_broken_after, is_form_at, is_done, is_live}
 use Rattle.cut_core.specs.Events.Event.{Form}
 use Rattle.cut_core.specs.Groups.{Entry, carried_by, waiting_in}
-use Rattle.cut_core.specs.Once.{is_of}
+use Rattle.cut_core.specs.Once.{is_of_control}
 use Rattle.cut_core.proofs.Filters.{filter_swap}
 use Rattle.cut_core.proofs.Ends.{floor_snoc, broken_snoc, done_stays, done_form, not_done, breaks_at, stays, waiting_snoc}
 use Rattle.group_state.specs.declared.phase.Phase.{Phase}
@@ -22,7 +22,7 @@ use Rattle.group_state.proofs.Seen.{seen_append}
 
 pub record IsTold (k : ℕ) (past : List Event) (time : Stamp) (phase : Phase) : Type 0 where
   pub told : time.0 ≡ floor k past
-  pub telling : is_telling phase ≡ not (has_broken k past)
+  pub telling : is_telling phase ≡ not (is_broken_after k past)
   pub live : counts phase ≡ is_live k past
 
 -- an event by which a control tells nothing
@@ -34,13 +34,13 @@ pub record IsQuiet (k : ℕ) (x : Event) : Type 0 where
 pub told_quiet : (k : ℕ) (past : List Event) (x : Event) (time : Stamp) (phase : Phase) → IsQuiet k x → IsTold k past time phase → IsTold k (past ++ x ∷ []) time phase
 told_quiet k past x time phase q t = record {
   told = omega (arith, t.told, floor_snoc k past x, q.told);
-  telling = t.telling ∙ sym (ap not (broken_snoc k past x ∙ rw q.break (or-false (has_broken k past))));
+  telling = t.telling ∙ sym (ap not (broken_snoc k past x ∙ rw q.break (or-false (is_broken_after k past))));
   live = t.live ∙ sym (ap not (done_stays k past x q.form));
 }
 
 -- a control that tells
-pub unbroken : (k : ℕ) (past : List Event) (time : Stamp) (phase : Phase) → IsTold k past time phase → is_telling phase ≡ true → has_broken k past ≡ false
-unbroken k past time phase t tells = choose (has_broken k past) (sym t.telling ∙ tells)
+pub unbroken : (k : ℕ) (past : List Event) (time : Stamp) (phase : Phase) → IsTold k past time phase → is_telling phase ≡ true → is_broken_after k past ≡ false
+unbroken k past time phase t tells = choose (is_broken_after k past) (sym t.telling ∙ tells)
   where
     choose : (b : Bool) → not b ≡ true → b ≡ false
     choose true e = absurd cc
@@ -69,8 +69,8 @@ pub told_formed : (k : ℕ) (past : List Event) (cut time : Stamp) (phase : Phas
     → IsTold k (past ++ Form cut.0 ∷ []) time (phase_after cut time phase)
 told_formed k past cut time phase breaks t = record {
   told = omega (arith, t.told, floor_snoc k past (Form cut.0));
-  telling = telling_after phase ∙ t.telling ∙ sym (ap not (broken_snoc k past (Form cut.0) ∙ or-false (has_broken k past)));
-  live = live_after phase (is_done k past) (has_broken k past) (cut.0 == floor k past) (at_cut time.0 cut.0 (floor k past) t.told) t.telling t.live ∙ sym (ap not (done_form k (floor k past) cut.0 past breaks));
+  telling = telling_after phase ∙ t.telling ∙ sym (ap not (broken_snoc k past (Form cut.0) ∙ or-false (is_broken_after k past)));
+  live = live_after phase (is_done k past) (is_broken_after k past) (cut.0 == floor k past) (at_cut time.0 cut.0 (floor k past) t.told) t.telling t.live ∙ sym (ap not (done_form k (floor k past) cut.0 past breaks));
 }
   where
     either : (p : Phase → Bool) (same : Bool) (one two : Phase) → p one ≡ p two → p (cond same one two) ≡ p two
@@ -104,19 +104,19 @@ told_formed k past cut time phase breaks t = record {
 
 -- ---- what waits
 
-pub waiting_next : (k : ℕ) (past : List Event) (x : Event) (ws vs : List WaitingEntry) → AreSeen ws (filter (stays x) (filter (is_of k) (waiting_in [] past)))
-    → AreSeen vs (filter (is_of k) (carried_by past x)) → AreSeen (ws ++ vs) (filter (is_of k) (waiting_in [] (past ++ x ∷ [])))
+pub waiting_next : (k : ℕ) (past : List Event) (x : Event) (ws vs : List WaitingEntry) → AreSeen ws (filter (stays x) (filter (is_of_control k) (waiting_in [] past)))
+    → AreSeen vs (filter (is_of_control k) (carried_by past x)) → AreSeen (ws ++ vs) (filter (is_of_control k) (waiting_in [] (past ++ x ∷ [])))
 waiting_next k past x ws vs stay new =
     let w = waiting_in [] past in
-    let split = ap (filter (is_of k)) (waiting_snoc [] past x) ∙ filter-append (is_of k) (filter (stays x) w) (carried_by past x)
-    ∙ ap (λ (es : List Entry). es ++ filter (is_of k) (carried_by past x)) (filter_swap (is_of k) (stays x) w) in
-    subst (AreSeen (ws ++ vs)) (sym split) (seen_append ws vs (filter (stays x) (filter (is_of k) w)) (filter (is_of k) (carried_by past x)) stay new)
+    let split = ap (filter (is_of_control k)) (waiting_snoc [] past x) ∙ filter-append (is_of_control k) (filter (stays x) w) (carried_by past x)
+    ∙ ap (λ (es : List Entry). es ++ filter (is_of_control k) (carried_by past x)) (filter_swap (is_of_control k) (stays x) w) in
+    subst (AreSeen (ws ++ vs)) (sym split) (seen_append ws vs (filter (stays x) (filter (is_of_control k) w)) (filter (is_of_control k) (carried_by past x)) stay new)
 
 -- nothing new waits
-pub waiting_less : (k : ℕ) (past : List Event) (x : Event) (ws : List WaitingEntry) → AreSeen ws (filter (stays x) (filter (is_of k) (waiting_in [] past)))
-    → filter (is_of k) (carried_by past x) ≡ [] → AreSeen ws (filter (is_of k) (waiting_in [] (past ++ x ∷ [])))
+pub waiting_less : (k : ℕ) (past : List Event) (x : Event) (ws : List WaitingEntry) → AreSeen ws (filter (stays x) (filter (is_of_control k) (waiting_in [] past)))
+    → filter (is_of_control k) (carried_by past x) ≡ [] → AreSeen ws (filter (is_of_control k) (waiting_in [] (past ++ x ∷ [])))
 waiting_less k past x ws stay none =
-    subst (λ vs. AreSeen vs (filter (is_of k) (waiting_in [] (past ++ x ∷ [])))) (append-nil ws)
+    subst (λ vs. AreSeen vs (filter (is_of_control k) (waiting_in [] (past ++ x ∷ [])))) (append-nil ws)
     (waiting_next k past x ws [] stay (subst (AreSeen []) (sym none) tt))
 
 -- what a test of all of them keeps
@@ -129,6 +129,6 @@ kept_all ok p (e ∷ es) all = choose (ok e) refl (kept_all ok p es all)
     choose false is h = h
 
 -- all that waited still waits
-pub all_stay : (k : ℕ) (past : List Event) (x : Event) (ws : List WaitingEntry) → ((e : Entry) → is_of k e ≡ true → stays x e ≡ true) → AreSeen ws (filter (is_of k) (waiting_in [] past))
-    → AreSeen ws (filter (stays x) (filter (is_of k) (waiting_in [] past)))
-all_stay k past x ws all seen = subst (AreSeen ws) (sym (kept_all (is_of k) (stays x) (waiting_in [] past) all)) seen
+pub all_stay : (k : ℕ) (past : List Event) (x : Event) (ws : List WaitingEntry) → ((e : Entry) → is_of_control k e ≡ true → stays x e ≡ true) → AreSeen ws (filter (is_of_control k) (waiting_in [] past))
+    → AreSeen ws (filter (stays x) (filter (is_of_control k) (waiting_in [] past)))
+all_stay k past x ws all seen = subst (AreSeen ws) (sym (kept_all (is_of_control k) (stays x) (waiting_in [] past) all)) seen

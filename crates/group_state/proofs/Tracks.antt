@@ -9,13 +9,13 @@ use Rattle.tod_stamp.specs.declared.stamp.Stamp.{Stamp}
 use Rattle.ckd_track.specs.declared.write.Write.{Write}
 use Rattle.change_map.specs.Sets.{with_track}
 use Rattle.copy_plan.specs.Plans.{PlanState}
-use Rattle.pending_queue.specs.Entries.{WaitingEntry, tracks_of, copies}
+use Rattle.pending_queue.specs.Entries.{WaitingEntry, entry_tracks, copies}
 use Rattle.group_state.specs.declared.volume.Volume.{Volume}
-use Rattle.group_state.specs.Volumes.{volume_of, has_volume, with_volume, without_number, begun, written, with_write, with_writes, copied_track, formed_track, with_formed_copies, dropped_volume, resumed_volume, is_wanted}
+use Rattle.group_state.specs.Volumes.{volume_of, has_volume, with_volume, without_number, begun, noted_write, with_write, with_writes, copied_track, formed_track, with_formed_copies, dropped_volume, resumed_volume, is_wanted}
 use Rattle.group_state.specs.Controls.{ControlState, new_control, fits, fits_track, joined, copied, raised, broke, begun_volume, dropped, resumed, forgotten, formed, due_of}
 use Rattle.group_state.specs.Groups.{Group, new_controls, new_group, control_at, with_control, cut_of, formed_at}
 use Rattle.group_state.specs.Sound.{passes_or_none, are_distinct, Sound}
-use Rattle.group_state.specs.Machine.{Call, after, reply_to, steps}
+use Rattle.group_state.specs.Machine.{Call, group_after, reply_to, steps}
 use Rattle.group_state.specs.Machine.Call.{Join, NextWanted, Copied, Raise, Break, Form, Carry, Drop, Resume, Forget}
 use Rattle.group_state.specs.Machine.Reply.{Made, NoMemory}
 use Rattle.group_state.proofs.VolumeLaws.{same_or_none, found_behind, found_without}
@@ -36,7 +36,7 @@ Have tracks volumes = (v : ℕ) → passes_or_none (has_tracks (tracks v)) (volu
 
 -- ---- each change
 
-written_tracks : (x n : ℕ) (u : Volume) → has_tracks n (written x u) ≡ has_tracks n u
+written_tracks : (x n : ℕ) (u : Volume) → has_tracks n (noted_write x u) ≡ has_tracks n u
 written_tracks x n u = choose u.carried
   where
     choose : (t : Bool) → has_tracks n (cond t u (record u { map = with_track u.map x })) ≡ has_tracks n u
@@ -46,7 +46,7 @@ written_tracks x n u = choose u.carried
 have_written : (tracks : ℕ → ℕ) (writes : List Write) (volumes : List Volume) → Have tracks volumes → Have tracks (with_writes volumes writes)
 have_written tracks [] volumes h = h
 have_written tracks (w ∷ writes) volumes h =
-    have_written tracks writes (with_write volumes w) (λ v. same_or_none (has_tracks (tracks v)) w.volume v (written w.track) (written_number w.track) (written_tracks w.track (tracks v)) volumes ∙ h v)
+    have_written tracks writes (with_write volumes w) (λ v. same_or_none (has_tracks (tracks v)) w.volume v (noted_write w.track) (written_number w.track) (written_tracks w.track (tracks v)) volumes ∙ h v)
 
 have_formed : (tracks : ℕ → ℕ) (formed : List WaitingEntry) (volumes : List Volume) → Have tracks volumes → Have tracks (with_formed_copies volumes formed)
 have_formed tracks [] volumes h = h
@@ -90,7 +90,7 @@ module _ (tracks : ℕ → ℕ → ℕ) (s : Group) (h : HaveAll tracks s) where
     | inr past ↦ subst (λ (c : ControlState). Have (tracks k) c.volumes) (sym (get_or_past (map (formed cut) s.controls) k (new_control 0 0 0) (omega (arith, past, length-map s.controls (formed cut))))) (λ v. refl)
   ]
 
-  by_call : (call : Call) → May s call → ((k : ℕ) → k < length s.controls → Sound (control_at s k)) → HaveAll (λ k v. tracks_by k v (tracks k v) call (reply_to s call)) (after s call)
+  by_call : (call : Call) → May s call → ((k : ℕ) → k < length s.controls → Sound (control_at s k)) → HaveAll (λ k v. tracks_by k v (tracks k v) call (reply_to s call)) (group_after s call)
   by_call (Join b) may sound = choose (fits (control_at s b.control) b)
     where
       choose : (t : Bool) → HaveAll tracks (cond t (with_control b.control (joined b) s) s)
@@ -108,8 +108,8 @@ module _ (tracks : ℕ → ℕ → ℕ) (s : Group) (h : HaveAll tracks s) where
   by_call (Carry k v plan) may sound = at_each (λ j c. Have (λ w. tracks_by j w (tracks j w) (Carry k v plan) Made) c.volumes) s k (begun_volume v plan) may.0
       (λ w. rw (eq-eqb k k refl) (have_begun (tracks k) v plan (control_at s k).volumes may.1.unknown (h k) w)) (λ j other w. rw other (h j w))
   by_call (Drop k v all) may sound = changed k (dropped v all) may
-      (λ w. same_or_none (has_tracks (tracks k w)) v w (dropped_volume all (tracks_of v (control_at s k).queue.waiting)) (λ u. refl)
-      (λ u. ap (λ m. nat_eq m (tracks k w)) (length_dropped all (tracks_of v (control_at s k).queue.waiting) u.map)) (control_at s k).volumes ∙ h k w)
+      (λ w. same_or_none (has_tracks (tracks k w)) v w (dropped_volume all (entry_tracks v (control_at s k).queue.waiting)) (λ u. refl)
+      (λ u. ap (λ m. nat_eq m (tracks k w)) (length_dropped all (entry_tracks v (control_at s k).queue.waiting) u.map)) (control_at s k).volumes ∙ h k w)
   by_call (Resume k v) may sound = changed k (resumed v) may.0
       (λ w. same_or_none (has_tracks (tracks k w)) v w resumed_volume (λ u. refl) (λ u. ap (λ m. nat_eq m (tracks k w)) (length-replicate (length u.map) false)) (control_at s k).volumes ∙ h k w)
   by_call (Forget k v) may sound = changed k (forgotten v) may.0 (have_forgotten (tracks k) v (control_at s k).volumes (sound k may.0).distinct (h k))

@@ -138,16 +138,6 @@ passes_with test after v w change keeps same up volumes e = rw (found_with v w c
     choose true (Some u) e = up u e
     choose false (Some u) e = same u e
 
-pub same_passes : (test : Volume → Bool) (v w : ℕ) (change : Volume → Volume) (keeps : Keeps change) → ((u : Volume) → test (change u) ≡ test u) → (volumes : List Volume)
-    → passes test (volume_of w (with_volume v change volumes)) ≡ passes test (volume_of w volumes)
-same_passes test v w change keeps same volumes = rw (found_with v w change keeps volumes) (choose (nat_eq v w) (volume_of w volumes))
-  where
-    choose : (t : Bool) (o : Option Volume) → passes test (cond t (option_map change o) o) ≡ passes test o
-    choose true None = refl
-    choose false None = refl
-    choose true (Some u) = same u
-    choose false (Some u) = refl
-
 pub same_or_none : (test : Volume → Bool) (v w : ℕ) (change : Volume → Volume) (keeps : Keeps change) → ((u : Volume) → test (change u) ≡ test u) → (volumes : List Volume)
     → passes_or_none test (volume_of w (with_volume v change volumes)) ≡ passes_or_none test (volume_of w volumes)
 same_or_none test v w change keeps same volumes = rw (found_with v w change keeps volumes) (choose (nat_eq v w) (volume_of w volumes))

@@ -2,10 +2,10 @@
 use Rattle.std.proofs.Common.{◌≡◌, ℕ, Bool, true, false, true≢false, cond, ◌&&◌, not, List, [], ◌∷◌, Option, Some, None, refl, sym, ap, subst, ◌∙◌, arith}
 use Rattle.std.specs.Prelude.{IfSome, ◌↔◌}
 use Rattle.std.proofs.lemmas.Bool.{and_parts, not-true, eqb-true, eq-eqb}
-use Rattle.change_map.specs.Sets.{has_track, least_from, size}
+use Rattle.change_map.specs.Sets.{has_track, least_from}
 use Rattle.change_map.proofs.InSets.{least_is_some, least_is_none}
 use Rattle.group_state.specs.declared.volume.Volume.{Volume}
-use Rattle.group_state.specs.Volumes.{is_numbered, volume_of, has_volume, passes, wants, is_wanted, next_in, next_of, next_wanted, owed_in}
+use Rattle.group_state.specs.Volumes.{is_numbered, volume_of, has_volume, passes, wants, is_wanted, next_in, first_wanted, next_wanted}
 use Rattle.group_state.specs.Sound.{are_distinct}
 use Rattle.group_state.proofs.VolumeLaws.{none_found}
 
@@ -42,7 +42,7 @@ next_is (u ∷ volumes) distinct =
     choose (next_in u) refl (next_wanted volumes) (not-true (has_volume u.number volumes) parts.0) (next_is volumes parts.1)
   where
     choose : (o : Option ℕ) → next_in u ≡ o → (later : Option (ℕ × ℕ)) → has_volume u.number volumes ≡ false → IfSome later (λ p. is_wanted p.0 p.1 volumes ≡ true)
-        → IfSome (next_of u.number o later) (λ p. is_wanted p.0 p.1 (u ∷ volumes) ≡ true)
+        → IfSome (first_wanted u.number o later) (λ p. is_wanted p.0 p.1 (u ∷ volumes) ≡ true)
     choose None is None none rest = tt
     choose None is (Some p) none rest = wanted_behind u volumes none p.0 p.1 rest
     choose (Some x) is later none rest = rw (eq-eqb u.number u.number refl) (next_wants u x is)
@@ -55,7 +55,7 @@ none_next (u ∷ volumes) is v x = choose (next_in u) refl (none_next volumes) i
     by_number true none rest = none_wants u none x
     by_number false none rest = rest
 
-    choose : (o : Option ℕ) → next_in u ≡ o → (next_wanted volumes ≡ None → (v x : ℕ) → is_wanted v x volumes ≡ false) → next_of u.number o (next_wanted volumes) ≡ None → is_wanted v x (u ∷ volumes) ≡ false
+    choose : (o : Option ℕ) → next_in u ≡ o → (next_wanted volumes ≡ None → (v x : ℕ) → is_wanted v x volumes ≡ false) → first_wanted u.number o (next_wanted volumes) ≡ None → is_wanted v x (u ∷ volumes) ≡ false
     choose None here rest is = by_number (is_numbered v u) here (rest is v x)
     choose (Some y) here rest is = absurd cc
 
@@ -70,8 +70,3 @@ answer_none volumes distinct r is = (λ none. none_next volumes (sym is ∙ none
     choose : (o : Option (ℕ × ℕ)) → ((v x : ℕ) → is_wanted v x volumes ≡ false) → IfSome o (λ p. is_wanted p.0 p.1 volumes ≡ true) → o ≡ None
     choose None nothing wanted = refl
     choose (Some p) nothing wanted = absurd (true≢false (sym wanted ∙ nothing p.0 p.1))
-
--- what a resume owes is the size of the volume's map
-pub owed_is : (n : ℕ) (o : Option Volume) → n ≡ owed_in o → IfSome o (λ u. n ≡ size u.map)
-owed_is n None is = tt
-owed_is n (Some u) is = is

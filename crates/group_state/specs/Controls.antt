@@ -7,7 +7,7 @@ use Rattle.ckd_track.specs.declared.write.Cause.{Cause}
 use Rattle.ckd_track.specs.declared.write.Write.{Write}
 use Rattle.copy_plan.specs.Plans.{PlanState}
 use Rattle.pending_queue.specs.declared.room.Room.{Room}
-use Rattle.pending_queue.specs.Entries.{WaitingEntry, entries_of, copy_of, copy_head, copies, due, left, without_volume, tracks_of}
+use Rattle.pending_queue.specs.Entries.{WaitingEntry, entries_of, copy_of, copy_head, copies, due, left, without_volume, entry_tracks}
 use Rattle.pending_queue.specs.Queues.{QueueState, empty_queue, with_waiting, free_room}
 use Rattle.pending_queue.specs.Rooms.{has_room, has_room_for_track}
 use Rattle.group_state.specs.declared.phase.Phase.{Phase}
@@ -57,8 +57,8 @@ fits_track c recs = has_room_for_track (room_of c) recs
 
 -- ---- changes
 
-abbrev pub with_entries : ControlState → List WaitingEntry → ControlState
-with_entries c entries = record c { queue = with_waiting c.queue entries }
+abbrev pub with_queue_entries : ControlState → List WaitingEntry → ControlState
+with_queue_entries c entries = record c { queue = with_waiting c.queue entries }
 
 abbrev pub joined : Batch → ControlState → ControlState
 joined b c = record c { queue = with_waiting c.queue (c.queue.waiting ++ entries_of c.queue.control (carried_writes c b)); floor = b.upto; volumes = with_writes c.volumes b.writes }
@@ -77,7 +77,7 @@ begun_volume v plan c = record c { volumes = c.volumes ++ begun v plan ∷ [] }
 
 -- A drop takes out the volume's entries. A volume that was never carried, or was forgotten, has none, and no map.
 abbrev pub dropped : (volume : ℕ) → (all : Bool) → ControlState → ControlState
-dropped v all c = record c { queue = with_waiting c.queue (without_volume v c.queue.waiting); volumes = with_volume v (dropped_volume all (tracks_of v c.queue.waiting)) c.volumes }
+dropped v all c = record c { queue = with_waiting c.queue (without_volume v c.queue.waiting); volumes = with_volume v (dropped_volume all (entry_tracks v c.queue.waiting)) c.volumes }
 
 abbrev pub resumed : (volume : ℕ) → ControlState → ControlState
 resumed v c = record c { volumes = with_volume v resumed_volume c.volumes }
@@ -92,17 +92,17 @@ abbrev pub lesser : (cut : ℕ) → ControlState → ℕ
 lesser cut c = if counts c.phase then min cut c.floor.0 else cut
 
 -- the cause of the break that a form with this cut reports: that of a broken control whose break time is the cut
-abbrev pub cause_at : (cut floor : Stamp) → Phase → Option Cause
-cause_at cut floor Telling = None
-cause_at cut floor (Broken cause) = if floor.0 == cut.0 then Some cause else None
-cause_at cut floor Reported = None
+abbrev pub reported_cause : (cut floor : Stamp) → Phase → Option Cause
+reported_cause cut floor Telling = None
+reported_cause cut floor (Broken cause) = if floor.0 == cut.0 then Some cause else None
+reported_cause cut floor Reported = None
 
 abbrev pub reported : (control : ℕ) → (floor : Stamp) → Option Cause → List (ℕ × Stamp × Cause)
 reported k floor None = []
 reported k floor (Some cause) = (k, floor, cause) ∷ []
 
-abbrev pub break_of : (cut : Stamp) → ControlState → List (ℕ × Stamp × Cause)
-break_of cut c = reported c.queue.control c.floor (cause_at cut c.floor c.phase)
+abbrev pub reported_break : (cut : Stamp) → ControlState → List (ℕ × Stamp × Cause)
+reported_break cut c = reported c.queue.control c.floor (reported_cause cut c.floor c.phase)
 
 -- a broken control whose break time is the cut is reported
 abbrev pub phase_after : (cut floor : Stamp) → Phase → Phase
@@ -119,7 +119,7 @@ formed cut c = record c { queue = with_waiting c.queue (left cut c.queue.waiting
 
 -- whether a form with this cut takes an entry of the control or reports its break
 abbrev pub has_news : (cut : Stamp) → ControlState → Bool
-has_news cut c = not (length (due_of cut c) == 0) || is_some (cause_at cut c.floor c.phase)
+has_news cut c = not (length (due_of cut c) == 0) || is_some (reported_cause cut c.floor c.phase)
 
 abbrev pub done_of : ControlState → List (ℕ × ℕ)
 done_of c = numbers_of c.queue.control (filter is_volume_done c.volumes)

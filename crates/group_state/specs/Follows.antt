@@ -4,11 +4,11 @@ use Rattle.std.specs.List.{AllZip}
 use Rattle.ckd_track.specs.declared.write.Kind.{Kind}
 use Rattle.change_map.specs.Sets.{has_track}
 use Rattle.pending_queue.specs.Entries.{WaitingEntry, write_of, entry_of}
-use Rattle.cut_core.specs.Events.{Event, floor, has_broken, is_live, last_cut}
+use Rattle.cut_core.specs.Events.{Event, floor, is_broken_after, is_live, last_cut}
 use Rattle.cut_core.specs.Shares.{Share, share}
 use Rattle.cut_core.specs.Groups.{Entry, waiting_in}
 use Rattle.cut_core.specs.Legal.{are_legal}
-use Rattle.cut_core.specs.Once.{is_of}
+use Rattle.cut_core.specs.Once.{is_of_control}
 use Rattle.group_state.specs.declared.volume.Volume.{Volume}
 use Rattle.group_state.specs.Volumes.{volume_of, passes, wants}
 use Rattle.group_state.specs.Controls.{ControlState, is_telling, counts}
@@ -41,28 +41,28 @@ abbrev pub has_mapped : (track : ℕ) → Volume → Bool
 has_mapped x u = has_track u.map x
 
 -- a track of the volume
-abbrev pub is_within : (track : ℕ) → Volume → Bool
-is_within x u = nat_lt x (length u.map)
+abbrev pub is_track_of_volume : (track : ℕ) → Volume → Bool
+is_track_of_volume x u = nat_lt x (length u.map)
 
 -- What is kept of a volume, if anything, is what the history makes of its track x.
 pub record IsShareOf (kept : Option Volume) (x : ℕ) (s : Share) : Type 0 where
   pub carried : passes (λ u. u.carried) kept ≡ s.is_carried
   pub dropped : passes (λ u. not u.carried) kept ≡ s.is_dropped
-  pub wanted : IsTrue (passes_or_none (is_within x) kept) → passes (wants x) kept ≡ s.is_wanted
-  pub mapped : IsTrue (passes_or_none (is_within x) kept) → passes (has_mapped x) kept ≡ s.is_mapped
+  pub wanted : IsTrue (passes_or_none (is_track_of_volume x) kept) → passes (wants x) kept ≡ s.is_wanted
+  pub mapped : IsTrue (passes_or_none (is_track_of_volume x) kept) → passes (has_mapped x) kept ≡ s.is_mapped
 
 -- ---- controls
 
 -- What is kept of a control is what the history says of it.
 pub record IsControlOf (k : ℕ) (past : List Event) (c : ControlState) : Type 0 where
   pub told : c.floor.0 ≡ floor k past
-  pub telling : is_telling c.phase ≡ not (has_broken k past)
+  pub telling : is_telling c.phase ≡ not (is_broken_after k past)
   pub live : counts c.phase ≡ is_live k past
   pub volumes : (v x : ℕ) → IsShareOf (volume_of v c.volumes) x (share k v x past)
-  pub waiting : AreSeen c.queue.waiting (filter (is_of k) (waiting_in [] past))
+  pub waiting : AreSeen c.queue.waiting (filter (is_of_control k) (waiting_in [] past))
 
 -- The history is legal, and the state is what it makes.
-pub record Follows (controls : ℕ) (past : List Event) (s : Group) : Type 0 where
+pub record FollowsHistory (controls : ℕ) (past : List Event) (s : Group) : Type 0 where
   pub legal : IsTrue (are_legal controls [] past)
   pub count : length s.controls ≡ controls
   pub last : s.last.0 ≡ last_cut past

@@ -8,7 +8,7 @@ use Rattle.xrc_edge.specs.Order.{in_order}
 use Rattle.ckd_track.specs.declared.write.Cause.{Cause}
 use Rattle.pending_queue.specs.Entries.{WaitingEntry, stands_before}
 use Rattle.pending_queue.specs.Groups.{FormedGroup}
-use Rattle.group_state.specs.Controls.{ControlState, new_control, lesser, break_of, due_of, has_news, formed, done_of}
+use Rattle.group_state.specs.Controls.{ControlState, new_control, lesser, reported_break, due_of, has_news, formed, done_of}
 
 pub record Group : Type 0 where
   -- the controls in order of their numbers
@@ -57,7 +57,7 @@ abbrev pub shown_at : (cut : Stamp) → Group → Shown
 shown_at cut s = record {
   cut = cut;
   entries = in_order stands_before (flat_map (due_of cut) s.controls);
-  breaks = flat_map (break_of cut) s.controls;
+  breaks = flat_map (reported_break cut) s.controls;
   done = flat_map done_of (map (formed cut) s.controls);
 }
 
@@ -67,7 +67,7 @@ shown_in group = record { cut = group.cut; entries = group.entries; breaks = gro
 
 -- the group with the breaks of a form at this cut, and the volumes whose plans are done after it
 abbrev pub with_news : (cut : Stamp) → List ControlState → FormedGroup → FormedGroup
-with_news cut controls group = record group { breaks = group.breaks ++ flat_map (break_of cut) controls; done = group.done ++ flat_map done_of (map (formed cut) controls) }
+with_news cut controls group = record group { breaks = group.breaks ++ flat_map (reported_break cut) controls; done = group.done ++ flat_map done_of (map (formed cut) controls) }
 
 -- ---- the rules over several controls
 

@@ -6,11 +6,11 @@ use Rattle.ckd_track.specs.declared.rec.Rec.{Rec}
 use Rattle.ckd_track.specs.declared.write.Batch.{Batch}
 use Rattle.ckd_track.specs.declared.write.Cause.{Cause}
 use Rattle.xrc_edge.specs.Order.{in_order}
-use Rattle.pending_queue.specs.Entries.{WaitingEntry, copy_head, copy_of, stamp_of}
+use Rattle.pending_queue.specs.Entries.{WaitingEntry, copy_head, copy_of, entry_stamp}
 use Rattle.cut_core.specs.Events.{Event, floor, is_live, last_cut}
 use Rattle.cut_core.specs.Events.Event.{Form as Forms}
 use Rattle.cut_core.specs.Shares.{names_volume, share}
-use Rattle.cut_core.specs.Groups.{Entry, is_copy, stands_before, waiting_in, group}
+use Rattle.cut_core.specs.Groups.{Entry, is_copy, comes_before, waiting_in, group}
 use Rattle.cut_core.specs.Legal.{least_floor}
 use Rattle.cut_core.specs.Cuts.{kept_writes}
 use Rattle.group_state.specs.declared.volume.Volume.{Volume}
@@ -22,12 +22,12 @@ use Rattle.group_state.specs.Machine.{Call, Reply}
 use Rattle.group_state.specs.Machine.Call.{Join, Copied, Break, Form, Carry, Resume}
 use Rattle.group_state.specs.Machine.Reply.{Made, Joined, Owed}
 use Rattle.group_state.specs.Runs.{Answer, Runs, history, shown_by}
-use Rattle.group_state.specs.Follows.{AreSeen, Follows}
+use Rattle.group_state.specs.Follows.{AreSeen, FollowsHistory}
 
 -- ---- what is kept
 
 abbrev pub RunsAreHistories : Type 0
-RunsAreHistories = (controls records blocks : ℕ) (run : List Answer) (s : Group) → Runs (new_group controls records blocks) run s → Follows controls (history run) s
+RunsAreHistories = (controls records blocks : ℕ) (run : List Answer) (s : Group) → Runs (new_group controls records blocks) run s → FollowsHistory controls (history run) s
 
 -- ---- what forms show
 
@@ -44,22 +44,22 @@ pub record HasForm (controls : ℕ) (before later : List Answer) (limit : Stamp)
   pub runs : Runs (new_group controls records blocks) (before ++ answered limit reply ∷ later) last
 
 -- a control that is live, and after a form with this cut no longer
-abbrev pub ends_at : (cut : ℕ) → List Event → (control : ℕ) → Bool
-ends_at cut past k = is_live k past && not (is_live k (past ++ Forms cut ∷ []))
+abbrev pub ends_with_form : (cut : ℕ) → List Event → (control : ℕ) → Bool
+ends_with_form cut past k = is_live k past && not (is_live k (past ++ Forms cut ∷ []))
 
 -- control and time of a break that is shown, and of one in a history
 abbrev pub named : ℕ × Stamp × Cause → ℕ × ℕ
 named shown = (shown.0, shown.1.0)
 
-abbrev pub break_in : List Event → (control : ℕ) → ℕ × ℕ
-break_in past k = (k, floor k past)
+abbrev pub break_at_floor : List Event → (control : ℕ) → ℕ × ℕ
+break_at_floor past k = (k, floor k past)
 
 -- What a form shows is the history's: the cut is the least of the limit and all live floors, the entries are the group, one for
 -- one and in order, and the breaks are those of the controls that this form ends, each once, at their floors.
 pub record IsGroupOf (controls : ℕ) (limit : Stamp) (past : List Event) (shown : Shown) : Type 0 where
   pub cut : shown.cut.0 ≡ least_floor controls limit.0 past
   pub entries : AreSeen shown.entries (group past shown.cut.0)
-  pub breaks : map named shown.breaks ≡ map (break_in past) (filter (ends_at shown.cut.0 past) (range_with_len 0 controls))
+  pub breaks : map named shown.breaks ≡ map (break_at_floor past) (filter (ends_with_form shown.cut.0 past) (range_with_len 0 controls))
 
 abbrev pub FormsGiveGroups : Type 0
 FormsGiveGroups = (controls : ℕ) (before later : List Answer) (limit : Stamp) (shown : Shown) → HasForm controls before later limit shown → IsGroupOf controls limit (history before) shown
@@ -163,15 +163,15 @@ NoLateJoin = (controls : ℕ) (before between later : List Answer) (limit : Stam
 abbrev pub is_after : (last cut : ℕ) → Entry → Bool
 is_after last cut e = nat_lt last e.stamp && nat_le e.stamp cut
 
-abbrev pub is_from : (last cut : ℕ) → WaitingEntry → Bool
-is_from last cut w = nat_le last (stamp_of w) && nat_le (stamp_of w) cut
+abbrev pub is_between_cuts : (last cut : ℕ) → WaitingEntry → Bool
+is_between_cuts last cut w = nat_le last (entry_stamp w) && nat_le (entry_stamp w) cut
 
 -- The writes that a form shows are exactly all carried writes, joined anywhere in the run, that no drop took out and that have a
 -- stamp above the cut before and at most this one, in order. Copied tracks that it shows have a stamp from the cut before to this
 -- one.
 pub record IsComplete (before run : List Event) (shown : Shown) : Type 0 where
-  pub writes : AreSeen (filter (λ w. not w.is_copy) shown.entries) (in_order stands_before (filter (is_after (last_cut before) shown.cut.0) (kept_writes [] run)))
-  pub copies : IsTrue (list_all (is_from (last_cut before) shown.cut.0) (filter (λ w. w.is_copy) shown.entries))
+  pub writes : AreSeen (filter (λ w. not w.is_copy) shown.entries) (in_order comes_before (filter (is_after (last_cut before) shown.cut.0) (kept_writes [] run)))
+  pub copies : IsTrue (list_all (is_between_cuts (last_cut before) shown.cut.0) (filter (λ w. w.is_copy) shown.entries))
 
 abbrev pub FormsAreComplete : Type 0
 FormsAreComplete = (controls : ℕ) (before later : List Answer) (limit : Stamp) (shown : Shown) → HasForm controls before later limit shown

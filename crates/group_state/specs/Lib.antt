@@ -4,9 +4,6 @@ pub mod Groups
 pub mod Sound
 pub mod Machine
 pub mod Answers
-pub mod Vectors
-pub mod Laws
 pub mod Runs
 pub mod Follows
 pub mod HistoryLaws
-pub mod HistoryVectors

@@ -51,17 +51,17 @@ reply_to s (Drop k v all) = Made
 reply_to s (Resume k v) = Owed (owed v (control_at s k).volumes)
 reply_to s (Forget k v) = Made
 
-abbrev pub after : Group → Call → Group
-after s (Join b) = if fits (control_at s b.control) b then with_control b.control (joined b) s else s
-after s (NextWanted k) = s
-after s (Copied k v x at recs) = if is_wanted v x (control_at s k).volumes && fits_track (control_at s k) recs then with_control k (copied v x at recs) s else s
-after s (Raise k upto) = with_control k (raised upto) s
-after s (Break k upto cause) = with_control k (broke upto cause) s
-after s (Form limit) = formed_at (cut_of s limit) s
-after s (Carry k v plan) = with_control k (begun_volume v plan) s
-after s (Drop k v all) = with_control k (dropped v all) s
-after s (Resume k v) = with_control k (resumed v) s
-after s (Forget k v) = with_control k (forgotten v) s
+abbrev pub group_after : Group → Call → Group
+group_after s (Join b) = if fits (control_at s b.control) b then with_control b.control (joined b) s else s
+group_after s (NextWanted k) = s
+group_after s (Copied k v x at recs) = if is_wanted v x (control_at s k).volumes && fits_track (control_at s k) recs then with_control k (copied v x at recs) s else s
+group_after s (Raise k upto) = with_control k (raised upto) s
+group_after s (Break k upto cause) = with_control k (broke upto cause) s
+group_after s (Form limit) = formed_at (cut_of s limit) s
+group_after s (Carry k v plan) = with_control k (begun_volume v plan) s
+group_after s (Drop k v all) = with_control k (dropped v all) s
+group_after s (Resume k v) = with_control k (resumed v) s
+group_after s (Forget k v) = with_control k (forgotten v) s
 
 -- the calls that can lack memory
 abbrev pub takes_memory : Call → Bool
@@ -80,4 +80,4 @@ takes_memory (Forget k v) = false
 -- the machine's.
 abbrev pub steps : Group → Call → Reply → Group → Type 0
 steps old call NoMemory new = IsTrue (takes_memory call) × (new ≡ old)
-steps old call reply new = (reply ≡ reply_to old call) × (new ≡ after old call)
+steps old call reply new = (reply ≡ reply_to old call) × (new ≡ group_after old call)

@@ -5,13 +5,14 @@ use Rattle.tod_stamp.specs.declared.stamp.Stamp.{Stamp}
 use Rattle.ckd_track.specs.declared.write.Batch.{Batch}
 use Rattle.ckd_track.specs.declared.write.Write.{Write}
 use Rattle.xrc_edge.specs.Order.{is_in_order}
-use Rattle.cut_core.specs.Legal.{is_earlier, are_in}
+use Rattle.cut_core.specs.Legal.{are_in}
 use Rattle.change_map.specs.Sets.{has_track}
 use Rattle.copy_plan.specs.Plans.{PlanState}
-use Rattle.pending_queue.specs.Entries.{WaitingEntry, stamp_of, is_copy_of}
+use Rattle.pending_queue.specs.Entries.{WaitingEntry, entry_stamp, is_copy_of}
 use Rattle.group_state.specs.declared.volume.Volume.{Volume}
 use Rattle.group_state.specs.Volumes.{volume_of, has_volume, passes}
 use Rattle.group_state.specs.Controls.{ControlState, is_telling}
+use Rattle.ckd_track.specs.Writes.{is_earlier}
 
 abbrev pub passes_or_none : (Volume → Bool) → Option Volume → Bool
 passes_or_none test None = true
@@ -44,12 +45,12 @@ abbrev pub has_joined : (count : ℕ) → Volume → Bool
 has_joined count u = not u.carried || u.plan.joined == count
 
 -- the copied tracks of a carried volume that wait are as many as its plan has joined
-abbrev pub AreCounted : List WaitingEntry → List Volume → Type 0
-AreCounted waiting volumes = (v : ℕ) → IsTrue (passes_or_none (has_joined (count_by (is_copy_of v) waiting)) (volume_of v volumes))
+abbrev pub CopiesAreCounted : List WaitingEntry → List Volume → Type 0
+CopiesAreCounted waiting volumes = (v : ℕ) → IsTrue (passes_or_none (has_joined (count_by (is_copy_of v) waiting)) (volume_of v volumes))
 
 -- stamps are at most a time
 abbrev pub are_up_to : (time : Stamp) → List WaitingEntry → Bool
-are_up_to time entries = list_all (λ e. nat_le (stamp_of e) time.0) entries
+are_up_to time entries = list_all (λ e. nat_le (entry_stamp e) time.0) entries
 
 pub record Sound (c : ControlState) : Type 0 where
   -- no entry is above the floor
@@ -57,7 +58,7 @@ pub record Sound (c : ControlState) : Type 0 where
   pub sizes : IsTrue (list_all has_sizes c.volumes)
   pub distinct : IsTrue (are_distinct c.volumes)
   pub entries : IsTrue (list_all (is_entry_of c.volumes) c.queue.waiting)
-  pub counts : AreCounted c.queue.waiting c.volumes
+  pub counts : CopiesAreCounted c.queue.waiting c.volumes
 
 -- ---- when a call may be made
 

@@ -4,7 +4,7 @@ use Rattle.std.specs.List.{list_any, remove}
 use Rattle.tod_stamp.specs.declared.stamp.Stamp.{Stamp}
 use Rattle.ckd_track.specs.declared.write.Write.{Write}
 use Rattle.change_map.specs.Sets.{no_track, every_track, has_track, with_track, least_from, size}
-use Rattle.copy_plan.specs.Plans.{PlanState, is_done, with_joined, with_formed, fresh_plan}
+use Rattle.copy_plan.specs.Plans.{PlanState, is_complete, with_joined, with_formed, fresh_plan}
 use Rattle.pending_queue.specs.Entries.{WaitingEntry, is_copy_of, is_due, left}
 use Rattle.pending_queue.specs.Maps.{with_tracks}
 use Rattle.group_state.specs.declared.volume.Volume.{Volume}
@@ -61,13 +61,13 @@ abbrev pub next_in : Volume → Option ℕ
 next_in u = if u.carried then least_from u.plan.wanted 0 else None
 
 -- the least wanted track of the first volume that wants one
-abbrev pub next_of : (volume : ℕ) → Option ℕ → Option (ℕ × ℕ) → Option (ℕ × ℕ)
-next_of v None later = later
-next_of v (Some x) later = Some (v, x)
+abbrev pub first_wanted : (volume : ℕ) → Option ℕ → Option (ℕ × ℕ) → Option (ℕ × ℕ)
+first_wanted v None later = later
+first_wanted v (Some x) later = Some (v, x)
 
 abbrev pub next_wanted : List Volume → Option (ℕ × ℕ)
 next_wanted [] = None
-next_wanted (u ∷ volumes) = next_of u.number (next_in u) (next_wanted volumes)
+next_wanted (u ∷ volumes) = first_wanted u.number (next_in u) (next_wanted volumes)
 
 -- ---- changes
 
@@ -76,11 +76,11 @@ abbrev pub begun : (volume : ℕ) → PlanState → Volume
 begun v plan = record { number = v; carried = true; plan = plan; map = no_track (length plan.wanted) }
 
 -- a write on a dropped volume goes into its map
-abbrev pub written : (track : ℕ) → Volume → Volume
-written x u = if u.carried then u else record u { map = with_track u.map x }
+abbrev pub noted_write : (track : ℕ) → Volume → Volume
+noted_write x u = if u.carried then u else record u { map = with_track u.map x }
 
 abbrev pub with_write : List Volume → Write → List Volume
-with_write volumes w = with_volume w.volume (written w.track) volumes
+with_write volumes w = with_volume w.volume (noted_write w.track) volumes
 
 abbrev pub with_writes : List Volume → List Write → List Volume
 with_writes volumes writes = fold with_write volumes writes
@@ -116,7 +116,7 @@ resumed_volume u = record u { carried = true; plan = fresh_plan u.map; map = no_
 
 -- whether a volume is carried and all of its plan is formed
 abbrev pub is_volume_done : Volume → Bool
-is_volume_done u = u.carried && is_done u.plan
+is_volume_done u = u.carried && is_complete u.plan
 
 -- The same once a cut has taken what is due of these waiting entries: nothing is wanted, and no copied track is left.
 abbrev pub is_done_after : (cut : Stamp) → List WaitingEntry → Volume → Bool

@@ -5,12 +5,9 @@
 mod control;
 mod forming;
 mod history_laws;
-pub mod history_vectors;
 mod joining;
-mod laws;
 mod phase;
 mod state;
-pub mod vectors;
 mod volume;
 mod volumes;
 
@@ -18,5 +15,4 @@ pub use history_laws::{
     forms_give_groups, resumes_owe_mapped, runs_are_histories, runs_keep_to_cuts, sizes_are_told,
 };
 pub use joining::{CopyJoin, Forming, Joining};
-pub use laws::nothing_changes;
 pub use state::GroupState;

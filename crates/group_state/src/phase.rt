@@ -1,7 +1,7 @@
 //! Whether a control still tells.
 
 ghost use Rattle.std.specs.Prelude.{◌≡◌, if◌then◌else◌};
-ghost use Rattle.group_state.specs.Controls.{phase_after, cause_at};
+ghost use Rattle.group_state.specs.Controls.{phase_after, reported_cause};
 
 use ckd_track::Cause;
 use tod_stamp::Stamp;
@@ -17,7 +17,7 @@ pub enum Phase {
 impl Phase {
     /// The cause of the break that a form with this cut reports, of a control with this floor.
     pub fn cause_at(self, cut: Stamp, floor: Stamp) -> Option<Cause>
-        ensures { result ≡ cause_at cut floor self }
+        ensures { result ≡ reported_cause cut floor self }
     {
         match self {
             Phase::Broken(cause) if floor.0 == cut.0 => Some(cause),

@@ -3,9 +3,9 @@
 ghost use Rattle.std.specs.Prelude.{◌≡◌, ◌<◌, length, nat_lt, IsTrue};
 ghost use Rattle.std.specs.List.{list_all};
 ghost use Rattle.change_map.specs.Sets.{size};
-ghost use Rattle.pending_queue.specs.Entries.{without_volume, tracks_of};
+ghost use Rattle.pending_queue.specs.Entries.{without_volume, entry_tracks};
 ghost use Rattle.pending_queue.specs.Queues.{with_waiting};
-ghost use Rattle.group_state.specs.Volumes.{wants, carries, next_in, written, dropped_map, dropped_volume, resumed_volume, is_done_after};
+ghost use Rattle.group_state.specs.Volumes.{wants, carries, next_in, noted_write, dropped_map, dropped_volume, resumed_volume, is_done_after};
 
 use change_map::ChangeMap;
 use copy_plan::CopyPlan;
@@ -50,7 +50,7 @@ impl Volume {
     /// A write on the track goes into the map of a dropped volume.
     pub fn note_write(&mut self, track: u32)
         requires within { track < length self.old.map }
-        ensures { self.new ≡ written track self.old }
+        ensures { self.new ≡ noted_write track self.old }
     {
         if !self.carried {
             self.map.set(track);
@@ -59,9 +59,9 @@ impl Volume {
 
     /// The volume is dropped, and its entries are taken out of the queue.
     pub fn drop_from(&mut self, queue: &mut Queue, all: bool)
-        requires tracks { IsTrue (list_all (λ x. nat_lt x (length self.old.map)) (tracks_of self.old.number queue.old.waiting)) }
+        requires tracks { IsTrue (list_all (λ x. nat_lt x (length self.old.map)) (entry_tracks self.old.number queue.old.waiting)) }
         ensures queue { queue.new ≡ with_waiting queue.old (without_volume self.old.number queue.old.waiting) }
-        ensures volume { self.new ≡ dropped_volume all (tracks_of self.old.number queue.old.waiting) self.old }
+        ensures volume { self.new ≡ dropped_volume all (entry_tracks self.old.number queue.old.waiting) self.old }
     {
         take_out(queue, self.number, &mut self.map, all);
         self.carried = false;
@@ -89,9 +89,9 @@ impl Volume {
 
 /// Takes a volume's entries out of a queue. The map then holds their tracks, or all.
 fn take_out(queue: &mut Queue, number: u16, map: &mut ChangeMap, all: bool)
-    requires tracks { IsTrue (list_all (λ x. nat_lt x (length map.old)) (tracks_of number queue.old.waiting)) }
+    requires tracks { IsTrue (list_all (λ x. nat_lt x (length map.old)) (entry_tracks number queue.old.waiting)) }
     ensures queue { queue.new ≡ with_waiting queue.old (without_volume number queue.old.waiting) }
-    ensures map { map.new ≡ dropped_map all (tracks_of number queue.old.waiting) map.old }
+    ensures map { map.new ≡ dropped_map all (entry_tracks number queue.old.waiting) map.old }
 {
     queue.drop_volume(number, map);
     if all {

@@ -3,10 +3,10 @@
 ghost use Rattle.std.specs.Prelude.{◌≡◌, ◌<◌, length, slice_index_or, filter, ◌++◌, true, OnOk, IsTrue, IfSome, None};
 ghost use Rattle.ckd_track.specs.declared.write.Write.{Write as WriteIs};
 ghost use Rattle.std.specs.List.{list_all};
-ghost use Rattle.pending_queue.specs.Entries.{WaitingEntry, copies, due, without_volume, tracks_of};
+ghost use Rattle.pending_queue.specs.Entries.{WaitingEntry, copies, due, without_volume, entry_tracks};
 ghost use Rattle.pending_queue.specs.Queues.{with_waiting};
 ghost use Rattle.group_state.specs.Volumes.{is_carried, is_wanted, next_wanted, owed, copied_track, dropped_volume, resumed_volume, with_write, with_writes, with_volume, formed_track, with_formed_copies, is_due_copy, is_done_after, numbers_of, volume_of, passes, IsPlaceOf};
-ghost use Rattle.group_state.specs.Sound.{has_sizes, is_dropped, is_track_within, are_within, is_entry_of, AreCounted, may_form};
+ghost use Rattle.group_state.specs.Sound.{has_sizes, is_dropped, is_track_within, are_within, is_entry_of, CopiesAreCounted, may_form};
 
 use crate::volume::Volume;
 use ckd_track::Write;
@@ -81,7 +81,7 @@ fn note_write(volumes: &mut [Volume], write: &Write)
 /// The copied tracks that a cut takes out of a queue are formed.
 pub fn form_copies(queue: &Queue, cut: Stamp, volumes: &mut [Volume])
     requires entries { IsTrue (list_all (is_entry_of volumes.old) queue.now.waiting) }
-    requires counts { AreCounted queue.now.waiting volumes.old }
+    requires counts { CopiesAreCounted queue.now.waiting volumes.old }
     ensures { volumes.new ≡ with_formed_copies volumes.old (copies (due cut queue.now.waiting)) }
 {
     for place in 0..queue.len() {
@@ -136,7 +136,7 @@ pub fn join_copy(volumes: &mut [Volume], number: u16, track: u32)
 pub fn drop_volume(volumes: &mut [Volume], queue: &mut Queue, number: u16, all: bool)
     requires entries { IsTrue (list_all (is_entry_of volumes.old) queue.old.waiting) }
     ensures queue { queue.new ≡ with_waiting queue.old (without_volume number queue.old.waiting) }
-    ensures volumes { volumes.new ≡ with_volume number (dropped_volume all (tracks_of number queue.old.waiting)) volumes.old }
+    ensures volumes { volumes.new ≡ with_volume number (dropped_volume all (entry_tracks number queue.old.waiting)) volumes.old }
 {
     let Some(place) = place_of(volumes, number) else {
         return;

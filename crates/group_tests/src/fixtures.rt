@@ -1,7 +1,8 @@
 //! An assertion, bytes, writes, batches and slots that several tests name.
 
 ghost use Rattle.std.specs.Prelude.{◌≡◌, ◌∷◌, [], length, replicate};
-ghost use Rattle.group_state.specs.Vectors.{whole_on, batch};
+ghost use Rattle.group_tests.specs.CutVectors.{whole_on};
+ghost use Rattle.group_tests.specs.StateVectors.{batch};
 
 use ckd_track::{Batch, Kind, Rec, Slot, Track, Write, WriteList};
 use std::alloc::Global;

@@ -3,9 +3,9 @@
 ghost use Rattle.std.specs.Prelude.{◌≡◌, ◌≤◌, ◌∷◌, [], map, IsTrue};
 ghost use Rattle.cut_core.specs.Events.Event.{Raise, Break, Form};
 ghost use Rattle.cut_core.specs.Legal.{are_legal};
-ghost use Rattle.cut_core.specs.Seen.{seen};
+ghost use Rattle.cut_core.specs.Seen.{history_event};
 ghost use Rattle.cut_core.specs.Standing.{StandsAfter};
-ghost use Rattle.cut_core.specs.Vectors.{join, whole_on};
+ghost use Rattle.group_tests.specs.CutVectors.{join, whole_on};
 
 use crate::fixtures::{assert_same, one_write};
 use cut_core::{Event, Floors};
@@ -17,9 +17,9 @@ use tod_stamp::Stamp;
 fn after(controls: u16, events: &[Event]) -> Floors
     requires some { 1 ≤ controls }
     requires few { controls ≤ 16 }
-    requires legal { IsTrue (are_legal controls [] (map seen events.now)) }
+    requires legal { IsTrue (are_legal controls [] (map history_event events.now)) }
     ensures controls { result.controls ≡ controls }
-    ensures stands { StandsAfter result (map seen events.now) }
+    ensures stands { StandsAfter result (map history_event events.now) }
 {
     let mut floors = Floors::make(controls);
     for event in events {
@@ -29,7 +29,7 @@ fn after(controls: u16, events: &[Event]) -> Floors
 }
 
 fn raise(control: u16, upto: u64) -> Event
-    ensures { seen result ≡ Raise control upto }
+    ensures { history_event result ≡ Raise control upto }
 {
     Event::Raise {
         control,
@@ -38,7 +38,7 @@ fn raise(control: u16, upto: u64) -> Event
 }
 
 fn broken(control: u16, upto: u64) -> Event
-    ensures { seen result ≡ Break control upto }
+    ensures { history_event result ≡ Break control upto }
 {
     Event::Break {
         control,
@@ -47,7 +47,7 @@ fn broken(control: u16, upto: u64) -> Event
 }
 
 fn form(cut: u64) -> Event
-    ensures { seen result ≡ Form cut }
+    ensures { history_event result ≡ Form cut }
 {
     Event::Form { cut: Stamp(cut) }
 }
@@ -81,7 +81,7 @@ fn sixteen_controls_count(rt: HostRuntime) {
 
 /// A batch of one write on volume 0 joins.
 fn joined(rt: &impl Abort, alloc: Global, control: u16, stamp: u64, upto: u64) -> Event
-    ensures { seen result ≡ join control (whole_on 3 stamp ∷ []) upto }
+    ensures { history_event result ≡ join control (whole_on 3 stamp ∷ []) upto }
 {
     let batch = one_write(rt, alloc, control, 3, stamp, upto);
     Event::Join { batch }

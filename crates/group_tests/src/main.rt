@@ -3,15 +3,21 @@
 #![tactic(auto)]
 
 #[cfg(test)]
+mod cut_vectors;
+#[cfg(test)]
 mod fixtures;
 #[cfg(test)]
 mod floors;
+#[cfg(test)]
+mod history_vectors;
 #[cfg(test)]
 mod parts;
 #[cfg(test)]
 mod queues;
 #[cfg(test)]
 mod runs;
+#[cfg(test)]
+mod state_vectors;
 
 /// Its tests are all that this crate has. It is a program, so that no crate stands on it.
 fn main() {}

@@ -4,10 +4,11 @@ ghost use Rattle.std.specs.Prelude.{◌≡◌, ◌<◌, ◌≤◌, ◌∷◌, []
 ghost use Rattle.pending_queue.specs.Entries.{all_keep_rules};
 ghost use Rattle.group_state.specs.Groups.{control_at};
 ghost use Rattle.group_state.specs.Sound.{MayJoin, MayCarry};
-ghost use Rattle.group_state.specs.Machine.{after};
+ghost use Rattle.group_state.specs.Machine.{group_after};
 ghost use Rattle.group_state.specs.Machine.Call.{Join, Copied, Form, Carry};
 ghost use Rattle.group_state.specs.Runs.{MayCopy};
-ghost use Rattle.group_state.specs.Vectors.{whole_on, batch, none_wanted, both_wanted, update_of};
+ghost use Rattle.group_tests.specs.CutVectors.{whole_on};
+ghost use Rattle.group_tests.specs.StateVectors.{batch, none_wanted, both_wanted, update_of};
 
 use crate::fixtures::{assert_same, batch_of, filled, one_write, slot_of_one, whole};
 use change_map::ChangeMap;
@@ -24,7 +25,7 @@ fn join(rt: &impl Abort, alloc: Global, state: &mut GroupState, batch: Batch)
     requires control { batch.control < length state.old.controls }
     requires rules { IsTrue (all_keep_rules batch.writes) }
     requires legal { MayJoin (control_at state.old batch.control) batch }
-    ensures { state.new ≡ after state.old (Join batch) }
+    ensures { state.new ≡ group_after state.old (Join batch) }
 {
     let joined = state.join(alloc, batch);
     assert!(rt; matches!(&joined, Joining::Joined));
@@ -34,7 +35,7 @@ fn join(rt: &impl Abort, alloc: Global, state: &mut GroupState, batch: Batch)
 fn carry(rt: &impl Abort, alloc: Global, state: &mut GroupState, control: u16)
     requires control { control < length state.old.controls }
     requires may { MayCarry (control_at state.old control) 0 none_wanted }
-    ensures { state.new ≡ after state.old (Carry control 0 none_wanted) }
+    ensures { state.new ≡ group_after state.old (Carry control 0 none_wanted) }
 {
     let plan = CopyPlan::owed(ChangeMap::make(alloc, 2).expect(rt, "memory"));
     let map = ChangeMap::make(alloc, 2).expect(rt, "memory");
@@ -46,7 +47,7 @@ fn carry(rt: &impl Abort, alloc: Global, state: &mut GroupState, control: u16)
 fn form(rt: &impl Abort, alloc: Global, state: &mut GroupState, limit: u64, out: &mut Formed)
     requires limit { state.old.last.0 ≤ limit }
     requires room { length state.old.controls ≤ out.old.controls }
-    ensures state { state.new ≡ after state.old (Form (record { 0 = limit })) }
+    ensures state { state.new ≡ group_after state.old (Form (record { 0 = limit })) }
     ensures room { out.new.controls ≡ out.old.controls }
 {
     let formed = state.form(alloc, Stamp(limit), out);
@@ -85,7 +86,7 @@ fn long_update(rt: &impl Abort, alloc: Global) -> Batch
 fn carry_wanted(rt: &impl Abort, alloc: Global, state: &mut GroupState, volume: u16)
     requires control { 0 < length state.old.controls }
     requires may { MayCarry (control_at state.old 0) volume both_wanted }
-    ensures { state.new ≡ after state.old (Carry 0 volume both_wanted) }
+    ensures { state.new ≡ group_after state.old (Carry 0 volume both_wanted) }
 {
     let plan = CopyPlan::first(alloc, 2).expect(rt, "memory");
     let map = ChangeMap::make(alloc, 2).expect(rt, "memory");
@@ -105,7 +106,7 @@ fn copy(
 )
     requires control { 0 < length state.old.controls }
     requires may { MayCopy (control_at state.old 0) volume track (record { 0 = at }) }
-    ensures { state.new ≡ after state.old (Copied 0 volume track (record { 0 = at }) slot.now) }
+    ensures { state.new ≡ group_after state.old (Copied 0 volume track (record { 0 = at }) slot.now) }
 {
     let copied = state.copied(alloc, 0, volume, track, Stamp(at), slot);
     assert_eq!(rt; copied, CopyJoin::Joined);

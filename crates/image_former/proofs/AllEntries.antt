@@ -21,7 +21,7 @@ use Rattle.image_former.specs.Entries.{is_entry_on, HasEntry}
 use Rattle.image_former.specs.Changes.{changed_through}
 use Rattle.image_former.specs.Jobs.{is_failed_of, HasFailed, OnVolumes}
 use Rattle.image_former.specs.Forms.{is_image, StandFor, AreItemsWhereAllowed}
-use Rattle.image_former.specs.Steps.{OnlyReads, GoesBy, OfBytes, StandForTracks, StandOnJob, AreFormed}
+use Rattle.image_former.specs.Steps.{OnlyReadsDisk, GoesBy, OfBytes, StandForTracks, StandOnJob, AreFormed}
 use Rattle.image_former.proofs.Lists.{zip_map}
 use Rattle.image_former.proofs.Changing.{changed_none}
 use Rattle.image_former.proofs.Going.{volume_map, volume_stays, stays_failed}
@@ -110,7 +110,7 @@ module _ {D : Type 0} (state : D → Standing) (tells : Type 0) (rows : List Pai
       subst (λ (n : ℕ). OnVolume state (λ was is. StandFor rows entries n items was.bytes) old.disk new.disk) by.goes.device
       (by_disk old.disk new.disk (by.goes.reads (stays_failed state tells old new by.goes good)) (on good))
     where
-      by_disk : (a b : Option D) → OnVolume state (OnlyReads tells new.failed) a b → OfBytes state (StandForTracks rows entries entries new.device items) b → OnVolume state (λ was is. StandFor rows entries new.device items was.bytes) a b
+      by_disk : (a b : Option D) → OnVolume state (OnlyReadsDisk tells new.failed) a b → OfBytes state (StandForTracks rows entries entries new.device items) b → OnVolume state (λ was is. StandFor rows entries new.device items was.bytes) a b
       by_disk (Some a) (Some b) reads is = subst (λ (l : List ℕ). StandFor rows entries new.device items l) (reads.bytes told) (stands (state b).bytes is)
       by_disk (Some a) None reads is = absurd reads
       by_disk None (Some b) reads is = absurd reads
@@ -130,27 +130,27 @@ module _ {D : Type 0} (state : D → Standing) (tells : Type 0) (rows : List Pai
 
   -- ---- jobs
 
-  reads_one : (holds : Standing → Standing → Type 0) → ((x : Standing) → holds x x) → ((failed : Bool) (x y : Standing) → OnlyReads tells failed x y → holds x y) → (old new : VolumeJob D) → GoesBy state tells rows entries old new → OnVolume state holds old.disk new.disk
+  reads_one : (holds : Standing → Standing → Type 0) → ((x : Standing) → holds x x) → ((failed : Bool) (x y : Standing) → OnlyReadsDisk tells failed x y → holds x y) → (old new : VolumeJob D) → GoesBy state tells rows entries old new → OnVolume state holds old.disk new.disk
   reads_one holds here by old new goes = by_failed old.failed refl
     where
       by_failed : (f : Bool) → old.failed ≡ f → OnVolume state holds old.disk new.disk
       by_failed true bad = subst (λ (j : VolumeJob D). OnVolume state holds old.disk j.disk) (sym (goes.goes.alone bad)) (volume_stays state tells holds old.disk here)
-      by_failed false good = volume_map state tells (OnlyReads tells new.failed) holds old.disk new.disk (by new.failed) (goes.goes.reads good)
+      by_failed false good = volume_map state tells (OnlyReadsDisk tells new.failed) holds old.disk new.disk (by new.failed) (goes.goes.reads good)
 
-  pub reads_all : (holds : Standing → Standing → Type 0) → ((x : Standing) → holds x x) → ((failed : Bool) (x y : Standing) → OnlyReads tells failed x y → holds x y) → (olds news : List (VolumeJob D)) → AllZip (GoesBy state tells rows entries) olds news
+  pub reads_all : (holds : Standing → Standing → Type 0) → ((x : Standing) → holds x x) → ((failed : Bool) (x y : Standing) → OnlyReadsDisk tells failed x y → holds x y) → (olds news : List (VolumeJob D)) → AllZip (GoesBy state tells rows entries) olds news
       → OnVolumes state holds olds news
   reads_all holds here by olds news goes = zip_map (GoesBy state tells rows entries) (λ old new. OnVolume state holds old.disk new.disk) (reads_one holds here by) olds news goes
 
   pub cause_all : (olds news : List (VolumeJob D)) → AllZip (GoesBy state tells rows entries) olds news
       → AllZip (λ old new. old.failed ≡ false → OnVolume state (λ was is. FailsByCount new.failed was.faults is.faults) old.disk new.disk) olds news
   cause_all olds news goes = zip_map (GoesBy state tells rows entries) (λ old new. old.failed ≡ false → OnVolume state (λ was is. FailsByCount new.failed was.faults is.faults) old.disk new.disk)
-      (λ old new by good. volume_map state tells (OnlyReads tells new.failed) (λ was is. FailsByCount new.failed was.faults is.faults) old.disk new.disk (λ x y reads. reads.cause) (by.goes.reads good)) olds news goes
+      (λ old new by good. volume_map state tells (OnlyReadsDisk tells new.failed) (λ was is. FailsByCount new.failed was.faults is.faults) old.disk new.disk (λ x y reads. reads.cause) (by.goes.reads good)) olds news goes
 
   pub length_all : (olds news : List (VolumeJob D)) → AllZip (GoesBy state tells rows entries) olds news → OnVolumes state (λ was is. is.length_is ≡ was.length_is) olds news
   length_all olds news goes = reads_all (λ was is. is.length_is ≡ was.length_is) (λ x. refl) (λ failed x y reads. reads.length_is) olds news goes
 
   pub by_one_all : (olds news : List (VolumeJob D)) → AllZip (GoesBy state tells rows entries) olds news → OnVolumes state (λ was is. is.faults ≤ was.faults + 1) olds news
-  by_one_all olds news goes = reads_all (λ was is. is.faults ≤ was.faults + 1) (λ x. omega arith) (λ failed x y reads. reads.by_one) olds news goes
+  by_one_all olds news goes = reads_all (λ was is. is.faults ≤ was.faults + 1) (λ x. omega arith) (λ failed x y reads. reads.cause.by_one) olds news goes
 
   pub bytes_all : tells → (olds news : List (VolumeJob D)) → AllZip (GoesBy state tells rows entries) olds news → OnVolumes state (λ was is. is.bytes ≡ was.bytes) olds news
   bytes_all told olds news goes = reads_all (λ was is. is.bytes ≡ was.bytes) (λ x. refl) (λ failed x y reads. reads.bytes told) olds news goes

@@ -21,7 +21,7 @@ use Rattle.image_former.specs.Entries.{entry_row, row_device, entry_device, is_d
 use Rattle.image_former.specs.Changes.{AreSpelled, changed_through}
 use Rattle.image_former.specs.Jobs.{is_job_of, is_failed_of, HasOneJob}
 use Rattle.image_former.specs.Forms.{is_image}
-use Rattle.image_former.specs.Steps.{Goes, OfBytes, OnlyReads, StandForTracks, StandOnJob, AreFormed}
+use Rattle.image_former.specs.Steps.{Goes, OfBytes, OnlyReadsDisk, StandForTracks, StandOnJob, AreFormed}
 
 -- ---- a device with one job
 
@@ -95,7 +95,7 @@ module _ {D : Type 0} (state : D → Standing) where
   of_both P Q R (Some disk) each is also = each (state disk).bytes is also
   of_both P Q R None each is also = tt
 
-  pub of_after : (tells : Type 0) (failed : Bool) (P : List ℕ → Type 0) (a b : Option D) → tells → OnVolume state (OnlyReads tells failed) a b → OfBytes state P a → OfBytes state P b
+  pub of_after : (tells : Type 0) (failed : Bool) (P : List ℕ → Type 0) (a b : Option D) → tells → OnVolume state (OnlyReadsDisk tells failed) a b → OfBytes state P a → OfBytes state P b
   of_after tells failed P (Some a) (Some b) told on is = subst P (sym (on.bytes told)) is
   of_after tells failed P (Some a) None told on is = absurd on
   of_after tells failed P None (Some b) told on is = absurd on

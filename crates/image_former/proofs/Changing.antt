@@ -14,7 +14,7 @@ use Rattle.ckd_track.specs.Entries.{AppliesEntry}
 use Rattle.pending_queue.specs.declared.head.EntryHead.{EntryHead}
 use Rattle.pending_queue.specs.Entries.{WaitingEntry, IsSpelled, write_of}
 use Rattle.image_former.specs.Changes.{AreSpelled, changed_by, changed_where}
-use Rattle.image_former.specs.Steps.{BeginsWith, DoesEntries, is_beside, same_track}
+use Rattle.image_former.specs.Steps.{StartsFromTrack, DoesEntries, is_beside, same_track}
 use Rattle.image_former.proofs.Lists.{drop_there}
 use Rattle.image_former.proofs.Entries.{EntryThere}
 
@@ -51,7 +51,7 @@ pub applied : (e : WaitingEntry) (kind : Kind) (form : List ℕ) (old new : List
 applied e kind form old new spelled shown applies = applies (write_of e.head kind) spelled.keeps (sym shown ∙ spelled.spelled)
 
 -- The first entry on a track replaces it, or finds it read.
-pub begins_same : (e : WaitingEntry) (kind : Kind) (old : Option (List Rec)) (recs : List Rec) → IsSpelled e.head kind e.form → BeginsWith e.head old recs → apply recs kind ≡ apply (unwrap_or old []) kind
+pub begins_same : (e : WaitingEntry) (kind : Kind) (old : Option (List Rec)) (recs : List Rec) → IsSpelled e.head kind e.form → StartsFromTrack e.head old recs → apply recs kind ≡ apply (unwrap_or old []) kind
 begins_same e (Update number bytes) old recs spelled begins = ap (λ (l : List Rec). apply l (Update number bytes)) (begins spelled.whole)
 begins_same e (Format after given) old recs spelled begins = ap (λ (l : List Rec). apply l (Format after given)) (begins spelled.whole)
 begins_same e (Whole track) old recs spelled begins = refl
@@ -91,7 +91,7 @@ any_agree on other (suc i) (e ∷ entries) same = λ j. same.0 j || any_agree on
 
 -- What is left to do to a slot is what the entry at the place and those behind it do.
 abbrev pub Applying : EntryHead → (place later : ℕ) → List WaitingEntry → (first now : List Rec) → Type 0
-Applying head place later entries first now = (old : Option (List Rec)) (kinds : List Kind) → BeginsWith head old first → AreSpelled entries kinds
+Applying head place later entries first now = (old : Option (List Rec)) (kinds : List Kind) → StartsFromTrack head old first → AreSpelled entries kinds
     → changed_where (is_beside head) (drop later entries) (drop later kinds) (Some now) ≡ changed_where (is_beside head) (drop place entries) (drop place kinds) old
 
 beside_itself : (head : EntryHead) → same_track head head ≡ true
@@ -103,7 +103,7 @@ apply_first head place entries e form first now shown applies old kinds begins s
     let t = kind_there entries kinds place e.entry spelled e.there in
     let here : is_beside head e.entry ≡ true = ap (same_track head) e.head ∙ beside_itself head in
     let new : now ≡ apply (unwrap_or old []) t.kind =
-    applied e.entry t.kind form first now t.spelled shown applies ∙ begins_same e.entry t.kind old first t.spelled (subst (λ (h : EntryHead). BeginsWith h old first) (sym e.head) begins) in
+    applied e.entry t.kind form first now t.spelled shown applies ∙ begins_same e.entry t.kind old first t.spelled (subst (λ (h : EntryHead). StartsFromTrack h old first) (sym e.head) begins) in
     sym (changed_there (is_beside head) entries kinds place e.entry t old e.there
     ∙ ap (λ (o : Option (List Rec)). changed_where (is_beside head) (drop (place + 1) entries) (drop (place + 1) kinds) o) (changed_on (is_beside head e.entry) t.kind old here ∙ ap (λ (l : List Rec). Some l) (sym new)))
 
@@ -127,6 +127,6 @@ apply_other head g place later entries e first now so_far other old kinds begins
     ∙ so_far old kinds begins spelled
 
 pub apply_all : (head : EntryHead) (place later : ℕ) (entries : List WaitingEntry) (first now : List Rec) → Applying head place later entries first now → length entries ≤ later
-    → (old : Option (List Rec)) → BeginsWith head old first → DoesEntries head place entries old now
+    → (old : Option (List Rec)) → StartsFromTrack head old first → DoesEntries head place entries old now
 apply_all head place later entries first now so_far end old begins kinds spelled =
     ap (λ (l : List WaitingEntry). changed_where (is_beside head) l (drop later kinds) (Some now)) (sym (drop_all later entries end)) ∙ so_far old kinds begins spelled

@@ -14,22 +14,21 @@ use Rattle.pair_table.specs.declared.row.PairRow.{PairRow}
 use Rattle.pending_queue.specs.Entries.{WaitingEntry}
 use Rattle.image_former.specs.Entries.{entry_device}
 use Rattle.image_former.specs.Jobs.{is_job_of, HoldsSlots, HasSlotsOf, BeginsWhole, HasNoEntry}
-use Rattle.image_former.specs.Steps.{OnlyReads, Goes, GoesBy, is_live, AreReady}
+use Rattle.image_former.specs.Steps.{OnlyReadsDisk, Goes, GoesBy, is_job_live, AreReady}
 use Rattle.image_former.proofs.Lists.{zip_refl}
 
 -- ---- one standing
 
-reads_here : (tells : Type 0) (a : Standing) → OnlyReads tells false a a
+reads_here : (tells : Type 0) (a : Standing) → OnlyReadsDisk tells false a a
 reads_here tells a = record {
   length_is = refl;
   bytes = λ told. refl;
   past = λ told. kept_here a;
   moments = λ told. follows_here a Same (λ b now. refl);
-  cause = record { later = omega arith; same = λ good. refl; rose = λ bad. absurd cc };
-  by_one = omega arith;
+  cause = record { later = omega arith; by_one = omega arith; same = λ good. refl; rose = λ bad. absurd cc };
 }
 
-reads_then : (tells : Type 0) (failed : Bool) (a b c : Standing) → OnlyReads tells false a b → OnlyReads tells failed b c → OnlyReads tells failed a c
+reads_then : (tells : Type 0) (failed : Bool) (a b c : Standing) → OnlyReadsDisk tells false a b → OnlyReadsDisk tells failed b c → OnlyReadsDisk tells failed a c
 reads_then tells failed a b c x y =
     let still : b.faults ≡ a.faults = x.cause.same refl in
     record {
@@ -39,20 +38,20 @@ reads_then tells failed a b c x y =
       moments = λ told. follows_then a b c Same Same Same (x.past told).later (x.moments told) (y.past told) (y.moments told) (λ p q here e. e) (λ p q r here there e e2. e2 ∙ e);
       cause = record {
         later = omega (arith, y.cause.later, still);
+        by_one = omega (arith, y.cause.by_one, still);
         same = λ good. y.cause.same good ∙ still;
         rose = λ bad. subst (λ (n : ℕ). Rose n c.faults) still (y.cause.rose bad);
       };
-      by_one = omega (arith, y.by_one, still);
     }
 
 -- ---- one volume
 
 module _ {D : Type 0} (state : D → Standing) (tells : Type 0) where
-  volume_here : (disk : Option D) → OnVolume state (OnlyReads tells false) disk disk
+  volume_here : (disk : Option D) → OnVolume state (OnlyReadsDisk tells false) disk disk
   volume_here (Some disk) = reads_here tells (state disk)
   volume_here None = tt
 
-  volume_then : (failed : Bool) (a b c : Option D) → OnVolume state (OnlyReads tells false) a b → OnVolume state (OnlyReads tells failed) b c → OnVolume state (OnlyReads tells failed) a c
+  volume_then : (failed : Bool) (a b c : Option D) → OnVolume state (OnlyReadsDisk tells false) a b → OnVolume state (OnlyReadsDisk tells failed) b c → OnVolume state (OnlyReadsDisk tells failed) a c
   volume_then failed (Some a) (Some b) (Some c) x y = reads_then tells failed (state a) (state b) (state c) x y
   volume_then failed (Some a) (Some b) None x y = absurd y
   volume_then failed (Some a) None c x y = absurd x
@@ -74,7 +73,7 @@ module _ {D : Type 0} (state : D → Standing) (tells : Type 0) where
   -- ---- one job
 
   pub goes_here : (a : VolumeJob D) → Goes state tells a a
-  goes_here a = record { device = refl; alone = λ bad. refl; reads = λ good. subst (λ (f : Bool). OnVolume state (OnlyReads tells f) a.disk a.disk) (sym good) (volume_here a.disk) }
+  goes_here a = record { device = refl; alone = λ bad. refl; reads = λ good. subst (λ (f : Bool). OnVolume state (OnlyReadsDisk tells f) a.disk a.disk) (sym good) (volume_here a.disk) }
 
   pub goes_then : (a b c : VolumeJob D) → Goes state tells a b → Goes state tells b c → Goes state tells a c
   goes_then a b c x y = record {
@@ -83,9 +82,9 @@ module _ {D : Type 0} (state : D → Standing) (tells : Type 0) where
     reads = λ good. by_mid b.failed refl good;
   }
     where
-      by_mid : (f : Bool) → b.failed ≡ f → a.failed ≡ false → OnVolume state (OnlyReads tells c.failed) a.disk c.disk
-      by_mid true bad good = subst (λ (j : VolumeJob D). OnVolume state (OnlyReads tells j.failed) a.disk j.disk) (sym (y.alone bad)) (x.reads good)
-      by_mid false still good = volume_then c.failed a.disk b.disk c.disk (subst (λ (f : Bool). OnVolume state (OnlyReads tells f) a.disk b.disk) still (x.reads good)) (y.reads still)
+      by_mid : (f : Bool) → b.failed ≡ f → a.failed ≡ false → OnVolume state (OnlyReadsDisk tells c.failed) a.disk c.disk
+      by_mid true bad good = subst (λ (j : VolumeJob D). OnVolume state (OnlyReadsDisk tells j.failed) a.disk j.disk) (sym (y.alone bad)) (x.reads good)
+      by_mid false still good = volume_then c.failed a.disk b.disk c.disk (subst (λ (f : Bool). OnVolume state (OnlyReadsDisk tells f) a.disk b.disk) still (x.reads good)) (y.reads still)
 
   -- A job doesn't recover.
   pub stays_failed : (a b : VolumeJob D) → Goes state tells a b → b.failed ≡ false → a.failed ≡ false
@@ -121,13 +120,13 @@ module _ {D : Type 0} (state : D → Standing) (tells : Type 0) where
         ∙ sym (sum_by-cons (λ (j : VolumeJob D). cond (is_job_of device j) 1 0) x xs)
 
     -- No job more is live.
-    pub live_falls : (a b : List (VolumeJob D)) → AllZip (GoesBy state tells rows entries) a b → count_by is_live b ≤ count_by is_live a
+    pub live_falls : (a b : List (VolumeJob D)) → AllZip (GoesBy state tells rows entries) a b → count_by is_job_live b ≤ count_by is_job_live a
     live_falls [] [] all = omega arith
     live_falls [] (y ∷ ys) all = absurd all
     live_falls (x ∷ xs) [] all = absurd all
     live_falls (x ∷ xs) (y ∷ ys) all =
-        let new = sum_by-cons (λ (j : VolumeJob D). cond (is_live j) 1 0) y ys in
-        let old = sum_by-cons (λ (j : VolumeJob D). cond (is_live j) 1 0) x xs in
+        let new = sum_by-cons (λ (j : VolumeJob D). cond (is_job_live j) 1 0) y ys in
+        let old = sum_by-cons (λ (j : VolumeJob D). cond (is_job_live j) 1 0) x xs in
         omega (arith, new, old, live_falls xs ys all.1, one x.failed y.failed refl refl)
       where
         one : (f g : Bool) → x.failed ≡ f → y.failed ≡ g → cond (not y.failed) 1 0 ≤ cond (not x.failed) 1 0
@@ -150,7 +149,7 @@ module _ {D : Type 0} (state : D → Standing) (tells : Type 0) where
     slots_all (x ∷ xs) (y ∷ ys) all slots = All-cons (HasSlotsOf state rows entries) y ys (λ good.
         let was = stays_failed x y all.0.goes good in
         subst (λ (d : ℕ). HoldsSlots state rows d entries y.disk) (sym all.0.goes.device)
-        (slots_after x.device x.disk y.disk (OnlyReads tells y.failed) (λ s t on. on.length_is) (all.0.goes.reads was) (All-head (HasSlotsOf state rows entries) x xs slots was)))
+        (slots_after x.device x.disk y.disk (OnlyReadsDisk tells y.failed) (λ s t on. on.length_is) (all.0.goes.reads was) (All-head (HasSlotsOf state rows entries) x xs slots was)))
         (slots_all xs ys all.1 (All-tail (HasSlotsOf state rows entries) x xs slots))
 
     some_and : (o : Option ℕ) (P Q : ℕ → Type 0) → ((n : ℕ) → P n → Q n) → IsSomeAnd o P → IsSomeAnd o Q
@@ -170,15 +169,15 @@ zip_set R each [] i new is = tt
 zip_set R each (x ∷ xs) zero new is = (is x, zip_refl R each xs)
 zip_set R each (x ∷ xs) (suc i) new is = (each x, zip_set R each xs i new is)
 
-pub live_set : {D : Type 0} (jobs : List (VolumeJob D)) (i : ℕ) (new old : VolumeJob D) → i < length jobs → old ≡ get_or jobs i old → old.failed ≡ false → new.failed ≡ true → count_by is_live (set jobs i new) < count_by is_live jobs
+pub live_set : {D : Type 0} (jobs : List (VolumeJob D)) (i : ℕ) (new old : VolumeJob D) → i < length jobs → old ≡ get_or jobs i old → old.failed ≡ false → new.failed ≡ true → count_by is_job_live (set jobs i new) < count_by is_job_live jobs
 live_set [] i new old lt is good bad = absurd (omega (arith, lt))
 live_set (x ∷ jobs) zero new old lt is good bad =
-    let before = sum_by-cons (λ (j : VolumeJob _). cond (is_live j) 1 0) x jobs in
-    let after = sum_by-cons (λ (j : VolumeJob _). cond (is_live j) 1 0) new jobs in
-    let was : ◌≡◌ {A = ℕ} (cond (is_live x) 1 0) 1 = ap (λ (j : VolumeJob _). cond (is_live j) 1 0) (sym is) ∙ ap (λ (f : Bool). cond (not f) 1 0) good in
-    let now : ◌≡◌ {A = ℕ} (cond (is_live new) 1 0) 0 = ap (λ (f : Bool). cond (not f) 1 0) bad in
+    let before = sum_by-cons (λ (j : VolumeJob _). cond (is_job_live j) 1 0) x jobs in
+    let after = sum_by-cons (λ (j : VolumeJob _). cond (is_job_live j) 1 0) new jobs in
+    let was : ◌≡◌ {A = ℕ} (cond (is_job_live x) 1 0) 1 = ap (λ (j : VolumeJob _). cond (is_job_live j) 1 0) (sym is) ∙ ap (λ (f : Bool). cond (not f) 1 0) good in
+    let now : ◌≡◌ {A = ℕ} (cond (is_job_live new) 1 0) 0 = ap (λ (f : Bool). cond (not f) 1 0) bad in
     omega (arith, before, after, was, now)
 live_set (x ∷ jobs) (suc i) new old lt is good bad =
-    let before = sum_by-cons (λ (j : VolumeJob _). cond (is_live j) 1 0) x jobs in
-    let after = sum_by-cons (λ (j : VolumeJob _). cond (is_live j) 1 0) x (set jobs i new) in
+    let before = sum_by-cons (λ (j : VolumeJob _). cond (is_job_live j) 1 0) x jobs in
+    let after = sum_by-cons (λ (j : VolumeJob _). cond (is_job_live j) 1 0) x (set jobs i new) in
     omega (arith, before, after, live_set jobs i new old (omega (arith, lt)) is good bad)

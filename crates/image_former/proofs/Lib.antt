@@ -6,4 +6,3 @@ pub mod Going
 pub mod Bodying
 pub mod OneEntry
 pub mod AllEntries
-pub mod Writes

@@ -1,5 +1,5 @@
 -- What entries do to the content of a track.
-use Rattle.std.specs.Prelude.{◌≡◌, ℕ, List, [], ◌∷◌, Bool, Option, Some, unwrap_or, if◌then◌else◌}
+use Rattle.std.specs.Prelude.{ℕ, List, [], ◌∷◌, Bool, Option, Some, unwrap_or, if◌then◌else◌}
 use Rattle.std.specs.List.{AllZip}
 use Rattle.ckd_track.specs.declared.rec.Rec.{Rec}
 use Rattle.ckd_track.specs.declared.write.Kind.{Kind}
@@ -11,12 +11,6 @@ use Rattle.image_former.specs.Entries.{is_entry_on}
 -- The entries are those of writes that do this to their tracks, each to its own.
 abbrev pub AreSpelled : List WaitingEntry → List Kind → Type 0
 AreSpelled entries kinds = AllZip (λ entry kind. IsSpelled entry.head kind entry.form) entries kinds
-
--- Entries are of writes, and what these do is determined.
-pub record HaveKinds (entries : List WaitingEntry) : Type 0 where
-  pub kinds : List Kind
-  pub spelled : AreSpelled entries kinds
-  pub only : (others : List Kind) → AreSpelled entries others → others ≡ kinds
 
 -- What a write of this kind leaves of a track, where it is on it: where there is no track, it changes the empty one.
 abbrev pub changed_by : (on : Bool) → Kind → Option (List Rec) → Option (List Rec)

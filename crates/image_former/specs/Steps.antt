@@ -33,8 +33,8 @@ abbrev pub DoesEntries : EntryHead → (place : ℕ) → List WaitingEntry → (
 DoesEntries head place entries old new = (kinds : List Kind) → AreSpelled entries kinds → Some new ≡ changed_where (is_beside head) (drop place entries) (drop place kinds) old
 
 -- The records are those of the track, where the entry of this head doesn't replace it.
-abbrev pub BeginsWith : EntryHead → (old : Option (List Rec)) → (recs : List Rec) → Type 0
-BeginsWith head old recs = head.whole ≡ false → recs ≡ unwrap_or old []
+abbrev pub StartsFromTrack : EntryHead → (old : Option (List Rec)) → (recs : List Rec) → Type 0
+StartsFromTrack head old recs = head.whole ≡ false → recs ≡ unwrap_or old []
 
 -- ---- a volume that is read
 
@@ -57,19 +57,18 @@ OfBytes state holds (Some disk) = holds (state disk).bytes
 OfBytes state holds None = Unit {0}
 
 -- What calls that only read leave of a standing.
-pub record OnlyReads (tells : Type 0) (failed : Bool) (old new : Standing) : Type 0 where
+pub record OnlyReadsDisk (tells : Type 0) (failed : Bool) (old new : Standing) : Type 0 where
   pub length_is : new.length_is ≡ old.length_is
   pub bytes : tells → new.bytes ≡ old.bytes
   pub past : tells → Kept old new
   pub moments : tells → Follows Same old new
   pub cause : FailsByCount failed old.faults new.faults
-  pub by_one : new.faults ≤ old.faults + 1
 
 -- What such calls leave of a job. One that had failed is left alone.
 pub record Goes {D : Type 0} (state : D → Standing) (tells : Type 0) (old new : VolumeJob D) : Type 0 where
   pub device : new.device ≡ old.device
   pub alone : old.failed ≡ true → new ≡ old
-  pub reads : old.failed ≡ false → OnVolume state (OnlyReads tells new.failed) old.disk new.disk
+  pub reads : old.failed ≡ false → OnVolume state (OnlyReadsDisk tells new.failed) old.disk new.disk
 
 -- The same for a job with these entries.
 pub record GoesBy {D : Type 0} (state : D → Standing) (tells : Type 0) (rows : List PairRow) (entries : List WaitingEntry) (old new : VolumeJob D) : Type 0 where
@@ -79,8 +78,8 @@ pub record GoesBy {D : Type 0} (state : D → Standing) (tells : Type 0) (rows :
 
 -- ---- bodies that are formed
 
-abbrev pub is_live : {D : Type 0} → VolumeJob D → Bool
-is_live job = not job.failed
+abbrev pub is_job_live : {D : Type 0} → VolumeJob D → Bool
+is_job_live job = not job.failed
 
 -- what every round of a call needs of the jobs
 pub record AreReady {D : Type 0} (state : D → Standing) (rows : List PairRow) (entries : List WaitingEntry) (jobs : List (VolumeJob D)) : Type 0 where

@@ -3,7 +3,7 @@
 ghost use Rattle.std.specs.Prelude.{◌≡◌, ◌<◌, ◌≤◌, ◌+◌, ◌*◌, ◌↔◌, ℕ, [], false, true, length, take, count_by, OnOk, OnErr};
 ghost use Rattle.std.specs.List.{All, AllZip, list_all};
 ghost use Rattle.crash_plant.specs.Moments.{Follows, Kept, Same};
-ghost use Rattle.xrc_journal.specs.Items.{body_spelling, item_spelling};
+ghost use Rattle.xrc_journal.specs.Items.{AreItems, anywhere, body_spelling, item_spelling};
 ghost use Rattle.xrc_journal.specs.Items.Item.{Image};
 ghost use Rattle.xrc_journal.specs.Bodies.{are_late, have_image, with_item};
 ghost use Rattle.xrc_journal.specs.Contents.{HasItem};
@@ -11,7 +11,7 @@ ghost use Rattle.xrc_journal.specs.Jobs.{FailsByCount, OnVolume};
 ghost use Rattle.image_former.specs.Entries.{HasEntry};
 ghost use Rattle.image_former.specs.Jobs.{BeginsWhole, HasFailed, HasNoEntry, HasOneJob, HasSlotsOf, OnVolumes};
 ghost use Rattle.image_former.specs.Forms.{AreItemsWhereAllowed, StandFor, is_image};
-ghost use Rattle.image_former.specs.Steps.{AreFormed, AreReady, GoesBy, is_live};
+ghost use Rattle.image_former.specs.Steps.{AreFormed, AreReady, GoesBy, is_job_live};
 
 use crate::places::{device_of, has_earlier, job_place};
 use crate::tracks::form_track;
@@ -27,9 +27,10 @@ fn put_track<D>(job: &VolumeJob<D>, track: u32, body: &mut Body)
     requires early { are_late body.old.items ≡ false }
     requires first { have_image body.old.items job.now.device track ≡ false }
     ensures put { body.new ≡ with_item (Image job.now.device track job.now.slot) body.old }
+    ensures keep { AreItems anywhere body.new.items }
     ensures short { length (item_spelling (Image job.now.device track job.now.slot)) ≤ 56669 }
 {
-    let _valid = job.slot.bytes();
+    let _short = job.slot.bytes();
     body.put_image(job.device, track, &job.slot);
 }
 
@@ -44,10 +45,12 @@ fn form_image<D: Disk>(
     requires within { place < length formed.now.entries }
     requires ready { AreReady D.state table.now.rows formed.now.entries jobs.old }
     requires formed { AreFormed D.state D.tells table.now.rows formed.now.entries (take place formed.now.entries) jobs.old body.old.items }
+    requires keep { AreItems anywhere body.old.items }
     requires room { 56670 * length formed.now.entries ≤ body.old.room }
     ensures goes { AllZip (GoesBy D.state D.tells table.now.rows formed.now.entries) jobs.old jobs.new }
     ensures formed { OnOk result (AreFormed D.state D.tells table.now.rows formed.now.entries (take (place + 1) formed.now.entries) jobs.new body.new.items) }
-    ensures fewer { OnErr result (count_by is_live jobs.new < count_by is_live jobs.old) }
+    ensures keep { AreItems anywhere body.new.items }
+    ensures fewer { OnErr result (count_by is_job_live jobs.new < count_by is_job_live jobs.old) }
     ensures room { body.new.room ≡ body.old.room }
 {
     let head = formed.head(place);
@@ -72,7 +75,8 @@ fn form_images<D: Disk>(
     requires room { 56670 * length formed.now.entries ≤ body.old.room }
     ensures goes { AllZip (GoesBy D.state D.tells table.now.rows formed.now.entries) jobs.old jobs.new }
     ensures formed { OnOk result (AreFormed D.state D.tells table.now.rows formed.now.entries formed.now.entries jobs.new body.new.items) }
-    ensures fewer { OnErr result (count_by is_live jobs.new < count_by is_live jobs.old) }
+    ensures keep { AreItems anywhere body.new.items }
+    ensures fewer { OnErr result (count_by is_job_live jobs.new < count_by is_job_live jobs.old) }
     ensures room { body.new.room ≡ body.old.room }
 {
     for place in 0..formed.count() {
@@ -88,6 +92,7 @@ fn form_all<D: Disk>(formed: &Formed, table: &PairTable, jobs: &mut [VolumeJob<D
     requires room { 56670 * length formed.now.entries ≤ body.old.room }
     ensures goes { AllZip (GoesBy D.state D.tells table.now.rows formed.now.entries) jobs.old jobs.new }
     ensures formed { AreFormed D.state D.tells table.now.rows formed.now.entries formed.now.entries jobs.new body.new.items }
+    ensures keep { AreItems anywhere body.new.items }
     ensures room { body.new.room ≡ body.old.room }
 {
     while form_images(formed, table, jobs, body).is_err() {
@@ -127,5 +132,4 @@ pub fn form_body<D: Disk>(
     ensures bytes { D.tells → OnVolumes D.state (λ was is. is.bytes ≡ was.bytes) jobs.old jobs.new }
 {
     form_all(formed, table, jobs, body);
-    let _valid = body.bytes();
 }

@@ -2,9 +2,7 @@
 #![tactic(auto)]
 
 mod forming;
-mod laws;
 mod places;
 mod tracks;
 
 pub use forming::form_body;
-pub use laws::kinds_of_entries;

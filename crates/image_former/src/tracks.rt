@@ -4,7 +4,7 @@ ghost use Rattle.std.specs.Prelude.{◌≡◌, ◌<◌, ◌≤◌, ℕ, List, []
 ghost use Rattle.ckd_track.specs.declared.rec.Rec.{Rec};
 ghost use Rattle.ckd_track.specs.SlotPlaces.{slot_end, slot_track};
 ghost use Rattle.pending_queue.specs.Groups.{heads};
-ghost use Rattle.image_former.specs.Steps.{BeginsWith, DoesEntries, Goes, HoldsSlot, OfBytes, Reads};
+ghost use Rattle.image_former.specs.Steps.{StartsFromTrack, DoesEntries, Goes, HoldsSlot, OfBytes, Reads};
 
 use crate::places::is_same_track;
 use ckd_track::{SLOT_LENGTH, Slot, slot_place};
@@ -46,7 +46,7 @@ fn read_job<D: Disk>(job: &mut VolumeJob<D>, track: u32) -> Result<(), Failed>
 fn apply_entries(formed: &Formed, head: EntryHead, place: u32, slot: &mut Slot)
     requires within { place < length formed.now.entries }
     requires head { slice_get (heads formed.now) place ≡ Some head }
-    ensures { (old : Option (List Rec)) → BeginsWith head old slot.old → DoesEntries head place formed.now.entries old slot.new }
+    ensures { (old : Option (List Rec)) → StartsFromTrack head old slot.old → DoesEntries head place formed.now.entries old slot.new }
 {
     let count = formed.count();
     slot.apply_entry(formed.entry(place));

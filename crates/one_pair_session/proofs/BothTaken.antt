@@ -9,10 +9,10 @@ use Rattle.write_trace.specs.declared.entry.Entry.{Entry}
 use Rattle.write_trace.specs.declared.trace.Trace.{Trace}
 use Rattle.write_trace.specs.Writes.{writes_of}
 use Rattle.write_trace.specs.declared.next.Stopped.{Stopped}
-use Rattle.primary_ctl.specs.Primaries.{never_fall, primary}
+use Rattle.primary_ctl.specs.Primaries.{primary}
 use Rattle.primary_ctl.specs.States.{PrimaryState, after_writes, is_on, track_of}
 use Rattle.primary_ctl.proofs.Batches.{batches_make}
-use Rattle.sidefile.specs.Ahead.{ahead, cause_ahead, cause_to_come, entries_of, waiting_first}
+use Rattle.sidefile.specs.Ahead.{ahead, cause_ahead, cause_to_come, entries_ahead, waiting_first}
 use Rattle.sidefile.specs.Breaks.{break_in, break_of, is_below}
 use Rattle.sidefile.specs.Runs.{runs}
 use Rattle.sidefile.specs.States.{SidefileState}
@@ -21,6 +21,7 @@ use Rattle.epoch.specs.Taken.{HasReached, HasTaken}
 use Rattle.epoch.proofs.Both.{and_true}
 use Rattle.epoch.proofs.RisingEntries.{writes_rise}
 use Rattle.epoch.proofs.TakenLaws.{all_early, all_more, writes_then}
+use Rattle.ckd_track.specs.Writes.{writes_never_fall}
 
 module _ (told : Option (List ℕ)) (side : SidefileState) (held : PrimaryState) (limit : ℕ) (upto : side.upto ≤ limit) where
   -- whether a write comes up to the limit
@@ -44,14 +45,14 @@ module _ (told : Option (List ℕ)) (side : SidefileState) (held : PrimaryState)
   primary_is : (t : Trace) (taken : HasTaken told t side held) (volume track : ℕ) → primary (t ∷ []) limit 0 volume track ≡ after_writes (track_of held volume track) (due (ahead side.waiting side.reader taken.rest) volume track)
   primary_is t taken volume track =
       let rest = ahead side.waiting side.reader taken.rest in
-      let fall = and_true (never_fall 0 (writes_of t.entries)) true (writes_rise 0 t.entries taken.rise) refl in
+      let fall = and_true (writes_never_fall 0 (writes_of t.entries)) true (writes_rise 0 t.entries taken.rise) refl in
       sym (batches_make (t ∷ []) limit 0 volume track t (writes_of taken.before ∷ filter early (writes_of rest) ∷ []) fall refl (all_due t taken))
       ∙ ap (λ (recs : List Rec). after_writes recs (due rest volume track)) (sym (taken.tracks volume track))
 
   module _ (a b : Trace) (one : HasTaken told a side held) (two : HasTaken told b side held) where
     -- The same entries are ahead, with the same end.
-    entries_same : (stopped : Option Stopped) → side.reader.stopped ≡ stopped → entries_of stopped side.reader one.rest ≡ entries_of stopped side.reader two.rest
-    entries_same None goes = ap (entries_of None side.reader) (same_some one.rest two.rest (sym (one.there goes) ∙ two.there goes))
+    entries_same : (stopped : Option Stopped) → side.reader.stopped ≡ stopped → entries_ahead stopped side.reader one.rest ≡ entries_ahead stopped side.reader two.rest
+    entries_same None goes = ap (entries_ahead None side.reader) (same_some one.rest two.rest (sym (one.there goes) ∙ two.there goes))
     entries_same (Some why) goes = refl
 
     end_same : (stopped : Option Stopped) → side.reader.stopped ≡ stopped → cause_to_come stopped side.reader one.rest ≡ cause_to_come stopped side.reader two.rest

@@ -18,9 +18,9 @@ use Rattle.pair_table.specs.declared.command.Command.{Command}
 use Rattle.pair_table.specs.declared.command.Command.TheVariants.{AddPair}
 use Rattle.pair_table.specs.declared.row.PairRow.{PairRow}
 use Rattle.pair_table.specs.Commands.{new_row}
-use Rattle.pair_table.specs.Naming.{label_of, primary_of}
+use Rattle.pair_table.specs.Naming.{labelled_device, primary_of}
 use Rattle.consistency.specs.Bears.{Run, names_of}
-use Rattle.consistency.specs.Courses.{Answered, AreAsked, begun, first_line, is_whole, later_line, lines_begun, most_lines, next_line, stage_at, texts_of}
+use Rattle.consistency.specs.Courses.{Answered, AreAsked, lines_begun_from, first_line, is_whole_line, later_line, lines_begun, most_lines, next_line, stage_at, texts_of}
 use Rattle.consistency.specs.Keeping.{Keeps, stage_now}
 use Rattle.consistency.specs.Steps.{TimedCommand}
 use Rattle.consistency.proofs.Lines.{next_not_before, same_some, whole_at_end}
@@ -47,18 +47,18 @@ use Rattle.one_pair_session.specs.Traces.IsTraceOf.{Failed, Whole as WholeTrace}
 -- ---- a line that is whole
 
 -- No line begins in no byte alone.
-none_begun : (text : List ℕ) → begun false text ≡ 0 → text ≡ []
+none_begun : (text : List ℕ) → lines_begun_from false text ≡ 0 → text ≡ []
 none_begun [] none = refl
 none_begun (x ∷ text) none = absurd (omega (arith, none))
 
 -- One byte more before such a text.
-fed_by : (b : ℕ) (text : List ℕ) → (begun true text ≡ 0 → has_feed text ≡ true → text ≡ first_line text ++ 10 ∷ []) → (t : Bool) → nat_eq b 10 ≡ t → begun (cond t false true) text ≡ 0 → (t || has_feed text) ≡ true
+fed_by : (b : ℕ) (text : List ℕ) → (lines_begun_from true text ≡ 0 → has_feed text ≡ true → text ≡ first_line text ++ 10 ∷ []) → (t : Bool) → nat_eq b 10 ≡ t → lines_begun_from (cond t false true) text ≡ 0 → (t || has_feed text) ≡ true
     → b ∷ text ≡ cond t [] (b ∷ first_line text) ++ 10 ∷ []
 fed_by b text rest true is none fed = ap (λ (l : List ℕ). b ∷ l) (none_begun text none) ∙ ap (λ (x : ℕ). let l : List ℕ = x ∷ [] in l) (eqb-true b 10 is)
 fed_by b text rest false is none fed = ap (λ (l : List ℕ). b ∷ l) (rest none fed)
 
 -- A text in which no line begins behind the one that it stands in, and which has a line feed, ends with it.
-inside_fed : (text : List ℕ) → begun true text ≡ 0 → has_feed text ≡ true → text ≡ first_line text ++ 10 ∷ []
+inside_fed : (text : List ℕ) → lines_begun_from true text ≡ 0 → has_feed text ≡ true → text ≡ first_line text ++ 10 ∷ []
 inside_fed [] none fed = absurd cc
 inside_fed (b ∷ text) none fed = fed_by b text (inside_fed text) (nat_eq b 10) refl (omega (arith, none)) fed
 
@@ -94,8 +94,8 @@ whole_by at_end text left line one asks ends false plain whole =
     inr (record { some = some; front = record { short = omega (arith, ap length all, short_line (first_line text) line asks); no_feed = plain }; at_end = λ told. ends parts.0 })
 
 -- The next line was heard whole, and is what its text asks.
-next_parts : (grammar : List ℕ → Option TimedCommand) (answered before : ℕ) (at_end : Bool) (text : List ℕ) (line : TimedCommand) → next_line grammar answered before at_end text ≡ Some line → (is_whole at_end text ≡ true) × (grammar (first_line text) ≡ Some line)
-next_parts grammar answered before at_end text line is = whole (is_whole at_end text) (grammar (first_line text)) is
+next_parts : (grammar : List ℕ → Option TimedCommand) (answered before : ℕ) (at_end : Bool) (text : List ℕ) (line : TimedCommand) → next_line grammar answered before at_end text ≡ Some line → (is_whole_line at_end text ≡ true) × (grammar (first_line text) ≡ Some line)
+next_parts grammar answered before at_end text line is = whole (is_whole_line at_end text) (grammar (first_line text)) is
   where
     counted : (b : Bool) (l : TimedCommand) → cond b (Some l) None ≡ Some line → Some l ≡ Some line
     counted true l is = is
@@ -410,5 +410,5 @@ asked_once run other script a b =
 pub added_once : (run : Run) (row other : PairRow) → IsAdded run row → IsAdded run other → row.primary ≡ other.primary → row.secondary ≡ other.secondary → row ≡ other
 added_once run row other a b primary secondary =
     let volume : a.volume ≡ b.volume = same_some a.volume b.volume (sym a.named ∙ ap (λ (s : List ℕ). primary_of s (names_of run)) primary ∙ b.named) in
-    let label : a.label ≡ b.label = same_some a.label b.label (sym a.labelled ∙ ap (λ (s : List ℕ). label_of s (names_of run)) secondary ∙ b.labelled) in
+    let label : a.label ≡ b.label = same_some a.label b.label (sym a.labelled ∙ ap (λ (s : List ℕ). labelled_device s (names_of run)) secondary ∙ b.labelled) in
     a.made ∙ (λ i. new_row (secondary i) (volume i) (label i)) ∙ sym b.made

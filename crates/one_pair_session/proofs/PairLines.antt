@@ -6,7 +6,7 @@ use Rattle.sidefile.specs.Breaks.{has_broken}
 use Rattle.pair_table.specs.declared.row.PairRow.{PairRow}
 use Rattle.site_means.specs.Images.{shape_of}
 use Rattle.one_pair_site.specs.Sites.{SiteState}
-use Rattle.consistency.specs.Bears.{Run, tracks_of}
+use Rattle.consistency.specs.Bears.{Run, tracks_of_row}
 use Rattle.consistency.specs.Steps.{TimedCommand}
 use Rattle.pair_course.specs.Course.{IsAdded, MeansRows}
 use Rattle.epoch.specs.declared.lane.Lane.{Lane}
@@ -40,7 +40,7 @@ hears_pair session run t start row before time text first old new has keeps next
 
 -- The reply may be said where the row stands at the line's time.
 pub may_pair : (tells : Type 0) (told : tells) (lane : Lane) (site : SiteState) (run : Run) (t : Trace) (start : Started) (row : PairRow) (tracks at : ℕ) (text : List ℕ) (first now : PlantState) → IsBetween tells lane site now → site.table.rows ≡ row ∷ [] → site.time ≡ at
-    → run.session ≡ site.table.session → HasHeardPair run t start row at text first now → IsAdded run row → tracks ≡ tracks_of row → has_broken t at ≡ false → MayPair run t (paired_at start row tracks at text) first now
+    → run.session ≡ site.table.session → HasHeardPair run t start row at text first now → IsAdded run row → tracks ≡ tracks_of_row row → has_broken t at ≡ false → MayPair run t (paired_at start row tracks at text) first now
 may_pair tells told lane site run t start row tracks at text first now between rows time session heard added counted whole = record {
   started = heard.started;
   heard = heard.heard;

@@ -13,7 +13,7 @@ use Rattle.write_trace.specs.declared.trace.Trace.{Trace}
 use Rattle.write_trace.specs.Headers.{are_volumes, cylinders_of, is_header_of, most_cylinders}
 use Rattle.pair_table.specs.declared.row.PairRow.{PairRow}
 use Rattle.pair_table.specs.declared.row.PairState.TheVariants.{Pending}
-use Rattle.pair_table.specs.Rows.{keeps_rules}
+use Rattle.pair_table.specs.Rows.{keeps_row_rules}
 use Rattle.volume_label.specs.declared.label.Label.{Label}
 use Rattle.consistency.specs.Bears.{Run}
 use Rattle.pair_course.specs.Course.{IsAdded, IsPairRun}
@@ -93,7 +93,7 @@ module _ (heads : List VolumeHead) (are : IsTrue (are_volumes 1 [] heads)) (few 
   }
 
   -- Its numbers are in their ranges.
-  pub made_keeps : (primary secondary : List ℕ) → IsTrue (keeps_rules (row_made primary secondary volume head.cylinders))
+  pub made_keeps : (primary secondary : List ℕ) → IsTrue (keeps_row_rules (row_made primary secondary volume head.cylinders))
   made_keeps primary secondary =
       let low = slice_get_within heads volume head at in
       and_from (nat_le volume 31) (within 1 65520 head.cylinders) (le-leb volume 31 (omega (arith, low, few))) (cylinders_within [] heads volume head are at)

@@ -7,7 +7,7 @@ use Rattle.crash_plant.specs.Moments.{PlantState}
 use Rattle.write_trace.specs.declared.trace.Trace.{Trace}
 use Rattle.sidefile.specs.States.{SidefileState}
 use Rattle.pair_table.specs.declared.row.PairRow.{PairRow}
-use Rattle.pair_table.specs.Rows.{keeps_rules}
+use Rattle.pair_table.specs.Rows.{keeps_row_rules}
 use Rattle.one_pair_site.specs.Sites.{SiteState}
 use Rattle.consistency.specs.Bears.{Run}
 use Rattle.epoch.specs.declared.lane.Lane.{Lane}
@@ -29,7 +29,7 @@ standing_at tells lane site plant run start between session time = record { sess
 -- ---- the reply
 
 -- A row that keeps its rules has few cylinders.
-pub rules_few : (row : PairRow) → IsTrue (keeps_rules row) → row.cylinders ≤ 65520
+pub rules_few : (row : PairRow) → IsTrue (keeps_row_rules row) → row.cylinders ≤ 65520
 rules_few row rules =
     let numbers = and_parts (nat_le row.control 15 && nat_le row.volume 31) (within 1 65520 row.cylinders) rules in
     leb-true row.cylinders 65520 (and_parts (nat_le 1 row.cylinders) (nat_le row.cylinders 65520) numbers.1).1

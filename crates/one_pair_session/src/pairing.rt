@@ -10,9 +10,9 @@ ghost use Rattle.write_trace.specs.Headers.{are_volumes};
 ghost use Rattle.sidefile.specs.Breaks.{has_broken};
 ghost use Rattle.pair_table.specs.declared.row.PairRow.{PairRow as RowValue};
 ghost use Rattle.pair_table.specs.declared.row.PairState.TheVariants.{Pending};
-ghost use Rattle.pair_table.specs.Rows.{keeps_rules};
+ghost use Rattle.pair_table.specs.Rows.{keeps_row_rules};
 ghost use Rattle.pair_table.specs.Tables.{with_rows};
-ghost use Rattle.volume_label.specs.Labels.{has_room};
+ghost use Rattle.volume_label.specs.Labels.{holds_cylinders};
 ghost use Rattle.xrc_journal.specs.Items.Item.{Pair};
 ghost use Rattle.one_pair_site.specs.Changes.{behind_record};
 ghost use Rattle.one_pair_site.specs.Sites.{with_table};
@@ -87,7 +87,7 @@ fn new_row(
     requires heads { IsTrue (are_volumes 1 [] volumes.now) }
     requires few { length volumes.now ≤ 32 }
     ensures row { IfSome result (λ row. IsNewRow volumes.now label row) }
-    ensures rules { IfSome result (λ row. IsTrue (keeps_rules row)) }
+    ensures rules { IfSome result (λ row. IsTrue (keeps_row_rules row)) }
     ensures primary { IfSome result (λ row. row.primary ≡ primary) }
     ensures secondary { IfSome result (λ row. row.secondary ≡ secondary) }
     ensures none { IsNone result → (row : RowValue) → IsNewRow volumes.now label row → row.primary ≡ primary → row.secondary ≢ secondary }
@@ -113,7 +113,7 @@ fn new_row(
 
 /// How many tracks a row's primary has.
 fn tracks_of(row: &PairRow) -> u32
-    requires { IsTrue (keeps_rules row.now) }
+    requires { IsTrue (keeps_row_rules row.now) }
     ensures { result ≡ 15 * row.now.cylinders }
 {
     HEADS * row.cylinders
@@ -132,7 +132,7 @@ fn hear_row<P: Plant>(
     requires few { length volumes.now ≤ 32 }
     ensures asked { IfOk result (λ asked. AsksPair session text.new before.0 asked.time.0 asked.row.primary asked.row.secondary) }
     ensures row { IfOk result (λ asked. IsNewRow volumes.now label asked.row) }
-    ensures rules { IfOk result (λ asked. IsTrue (keeps_rules asked.row)) }
+    ensures rules { IfOk result (λ asked. IsTrue (keeps_row_rules asked.row)) }
     ensures next { P.tells → (first : P) → IfOk result (λ asked. IsNext before.0 text.new (named_line session asked.time.0 asked.row.primary asked.row.secondary) (P.state first) (P.state plant.old)) }
     ensures keeps { P.tells → (first : P) → KeepsHearing [] text.new (P.state first) (P.state plant.old) (P.state plant.new) }
     ensures only { WorksOnConsole P.tells (P.state plant.old) (P.state plant.new) }
@@ -273,7 +273,7 @@ fn put_pair<P: Plant>(
     requires fits { Fits site.old (P.state plant.old) }
     requires counted { IsCounted site.old (P.state plant.old) }
     requires stands { P.tells → Stands [] site.old (P.state plant.old) }
-    requires rules { IsTrue (keeps_rules row) }
+    requires rules { IsTrue (keeps_row_rules row) }
     requires device { row.device ≡ 0 }
     requires room { IsTrue (has_volume (P.state plant.old) row) }
     ensures ok { OnOk result (site.new ≡ behind_record at.0 (Pair row ∷ []) (with_table (with_rows site.old.table (row ∷ [])) site.old)) }
@@ -320,7 +320,7 @@ fn take_pair<R: Threads + Sync, S: Source, P: Plant>(
     requires begins { site.old.at.place ≡ 0 }
     requires there { 1 ≤ (P.state plant.old).volumes }
     requires later { site.old.time ≤ at.0 }
-    requires rules { IsTrue (keeps_rules row.now) }
+    requires rules { IsTrue (keeps_row_rules row.now) }
     requires device { row.now.device ≡ 0 }
     requires room { IsTrue (has_volume (P.state plant.old) row.now) }
     ensures between { OnOk result (IsBetween P.tells lane.new site.new (P.state plant.new)) }
@@ -369,7 +369,7 @@ pub(crate) fn add_pair<R: Threads + Sync, S: Source, P: Plant>(
     requires session { started.old.site.table.session ≡ session }
     // No record was logged yet, so the journal has room for the line's time and for the row.
     requires begins { started.old.site.at.place ≡ 0 }
-    requires room { IfSome started.old.label (λ l. IsTrue (has_room ((P.state plant.old).lengths (VolumeDevice 0)) l.cylinders)) }
+    requires room { IfSome started.old.label (λ l. IsTrue (holds_cylinders ((P.state plant.old).lengths (VolumeDevice 0)) l.cylinders)) }
     requires there { 1 ≤ (P.state plant.old).volumes }
     ensures between { OnOk result (IsBetween P.tells lane.new started.new.site (P.state plant.new)) }
     ensures row { IfOk result (λ row. (started.new.site.table.rows ≡ row ∷ []) × (row.state ≡ Pending) × IsRowOf lane.old.primary.volumes row × (row.device ≡ 0)) }

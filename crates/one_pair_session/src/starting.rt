@@ -8,7 +8,7 @@ ghost use Rattle.crash_plant.specs.Moments.{IsDurable, on};
 ghost use Rattle.write_trace.specs.declared.trace.Trace.{Trace as TraceValue};
 ghost use Rattle.sidefile.specs.Breaks.{has_broken};
 ghost use Rattle.pair_table.specs.declared.level.Level.TheVariants.{Volume};
-ghost use Rattle.volume_label.specs.Labels.{has_room, label_of};
+ghost use Rattle.volume_label.specs.Labels.{holds_cylinders, label_of};
 ghost use Rattle.one_pair_site.specs.Sites.{first_spot, new_site};
 ghost use Rattle.one_pair_site.specs.Standing.{Fits, HasLengths, Stands};
 ghost use Rattle.consistency.specs.Bears.{Run};
@@ -67,7 +67,7 @@ fn format<P: Plant>(
     ensures counted { IfOk result (λ started. IsCounted started.site (P.state plant.new)) }
     ensures stands { P.tells → IfOk result (λ started. Stands [] started.site (P.state plant.new)) }
     ensures label { P.tells → IfOk result (λ started. started.label ≡ label_of ((P.state plant.old).lengths (VolumeDevice 0)) (take 14 ((P.state plant.old).bytes (VolumeDevice 0)))) }
-    ensures room { IfOk result (λ started. IfSome started.label (λ l. IsTrue (has_room ((P.state plant.old).lengths (VolumeDevice 0)) l.cylinders))) }
+    ensures room { IfOk result (λ started. IfSome started.label (λ l. IsTrue (holds_cylinders ((P.state plant.old).lengths (VolumeDevice 0)) l.cylinders))) }
     ensures quiet { OnOk result (NoneRose (P.state plant.old) (P.state plant.new)) }
     ensures works { WorksSilently P.tells (P.state plant.old) (P.state plant.new) }
     ensures home { NoneLent (P.state plant.new) }
@@ -115,7 +115,7 @@ fn set_up<S: Source, P: Plant>(
     ensures at { IfOk result (λ started. started.site.at ≡ first_spot) }
     ensures volumes { OnOk result (lane.new.primary.volumes ≡ lane.old.primary.volumes) }
     ensures label { P.tells → IfOk result (λ started. started.label ≡ label_of ((P.state plant.old).lengths (VolumeDevice 0)) (take 14 ((P.state plant.old).bytes (VolumeDevice 0)))) }
-    ensures room { IfOk result (λ started. IfSome started.label (λ l. IsTrue (has_room ((P.state plant.old).lengths (VolumeDevice 0)) l.cylinders))) }
+    ensures room { IfOk result (λ started. IfSome started.label (λ l. IsTrue (holds_cylinders ((P.state plant.old).lengths (VolumeDevice 0)) l.cylinders))) }
     ensures foresees { OnOk result ((t : TraceValue) (upto : ℕ) → Foresees (S.left source.old) lane.old upto t → Foresees (S.left source.new) lane.new upto t) }
     ensures fails { OnOk result (FailsAsBefore (S.left source.old) (S.left source.new) lane.old.side lane.new.side) }
     ensures rises { lane.old.side.upto ≤ lane.new.side.upto }
@@ -162,7 +162,7 @@ pub(crate) fn start<S: Source, P: Plant>(
     ensures session { IfOk result (λ started. started.site.table.session ≡ session) }
     ensures volumes { OnOk result (lane.new.primary.volumes ≡ lane.old.primary.volumes) }
     ensures label { P.tells → IfOk result (λ started. started.label ≡ label_of ((P.state plant.old).lengths (VolumeDevice 0)) (take 14 ((P.state plant.old).bytes (VolumeDevice 0)))) }
-    ensures room { IfOk result (λ started. IfSome started.label (λ l. IsTrue (has_room ((P.state plant.old).lengths (VolumeDevice 0)) l.cylinders))) }
+    ensures room { IfOk result (λ started. IfSome started.label (λ l. IsTrue (holds_cylinders ((P.state plant.old).lengths (VolumeDevice 0)) l.cylinders))) }
     // No record was logged yet.
     ensures at { IfOk result (λ started. started.site.at ≡ first_spot) }
     ensures asked { IfOk result (λ started. AsksStart session text.new started.site.time) }

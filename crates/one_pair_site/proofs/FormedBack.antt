@@ -173,7 +173,7 @@ module _ {D : Type 0} (tells own : Type 0) (state : D → Standing) (rows : List
             let unchanged : get_or given i d ≡ get_or lent i d = AllZip-get_or _ lent given i d d not_called lt (none_on none) in
             let fine : (get_or given i d).failed ≡ false = ap (λ (j : VolumeJob D). j.failed) unchanged ∙ good in
             let stays = idle_stays i d lt none in
-            record { later = omega (arith, stays); same = λ e. stays; rose = λ bad. absurd (cc (bad, fine)) }
+            record { later = omega (arith, stays); by_one = omega (arith, stays); same = λ e. stays; rose = λ bad. absurd (cc (bad, fine)) }
         by_disk (Some a) None is holds came by_count = absurd came
         by_disk None (Some b) is holds came by_count = absurd came
 

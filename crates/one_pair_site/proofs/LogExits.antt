@@ -65,6 +65,7 @@ fails_then was failed before mid now same fails = record {
   alone = λ d within bad. let f = fails.alone d within bad in (f.0, same d ∙ f.1);
   by_count = λ d within good. let f = fails.by_count d within good in record {
     later = omega (arith, f.later, same d);
+    by_one = omega (arith, f.by_one, same d);
     same = λ fine. same d ∙ f.same fine;
     rose = λ bad. subst (λ (n : ℕ). Rose (before (Volume d)) n) (sym (same d)) (f.rose bad);
   };

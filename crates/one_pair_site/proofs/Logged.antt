@@ -21,7 +21,7 @@ use Rattle.pending_queue.specs.Groups.{FormedGroup}
 use Rattle.state_set.specs.Slots.{are_rows, state_of}
 use Rattle.xrc_journal.specs.Items.{Item, body_spelling, form_of}
 use Rattle.xrc_journal.specs.Records.{spot_after}
-use Rattle.xrc_journal.specs.Walks.{Adds, Appends, Keeps, Logged}
+use Rattle.xrc_journal.specs.Walks.{Adds, Appends, KeepsWalks, Logged}
 use Rattle.xrc_journal.specs.Contents.{HasItem, content_through, is_of_track}
 use Rattle.site_means.specs.declared.means.Means.{Means}
 use Rattle.site_means.specs.Images.{Shape, shape_of}
@@ -114,9 +114,9 @@ module _ (tells : Type 0) (told : tells) (site : SiteState) (old new : PlantStat
     meant_before : meaning old b ≡ Meant means w
     meant_before = stands.meant b is
 
-    kept : Keeps (form_of old) old.journals site.mark.at site.at (b journal) (c journal) → meaning old c ≡ Meant means w
+    kept : KeepsWalks (form_of old) old.journals site.mark.at site.at (b journal) (c journal) → meaning old c ≡ Meant means w
     kept keeps = kept_same (shape_of old) b c means w meant_before same_mark one_set alone.number
-        (subst (λ (n : ℕ). Keeps (form_of old) old.journals site.mark.at w.at (b (Journal n)) (c (Journal n))) alone.set (subst (λ (k : Spot). Keeps (form_of old) old.journals site.mark.at k (b journal) (c journal)) (sym stands.at) keeps))
+        (subst (λ (n : ℕ). KeepsWalks (form_of old) old.journals site.mark.at w.at (b (Journal n)) (c (Journal n))) alone.set (subst (λ (k : Spot). KeepsWalks (form_of old) old.journals site.mark.at k (b journal) (c journal)) (sym stands.at) keeps))
 
     added : Adds (form_of old) old.journals site.mark.at site.at logged (b journal) (c journal) → meaning old c ≡ Meant (with_group logged means) (and_group logged after w)
     added adds = appended_added (shape_of old) b c means w logged meant_before same_mark one_set alone.number

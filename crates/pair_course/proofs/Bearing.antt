@@ -10,7 +10,7 @@ use Rattle.pair_table.specs.Tables.{in_state}
 use Rattle.site_means.specs.declared.means.Means.{Means}
 use Rattle.site_means.specs.Images.{Images, Shape}
 use Rattle.site_means.specs.Sight.{content_in, means_in}
-use Rattle.consistency.specs.Bears.{AreRows, Bears, HoldsPrimaries, IsFlag, IsTime, Run, Stage, tracks_of}
+use Rattle.consistency.specs.Bears.{AreRows, Bears, HoldsPrimaries, IsFlag, IsTime, Run, Stage, tracks_of_row}
 use Rattle.consistency.specs.Changes.{Timed}
 use Rattle.consistency.specs.Moments.{MeansPairs}
 use Rattle.consistency.specs.Steps.{TimedCommand}
@@ -57,7 +57,7 @@ same_row a b e = cc
 pub one_holds : (run : Run) (t : Trace) (row : PairRow) (state : PairState) (shape : Shape) (images : Images) (time : ℕ) → IsPairRun run t → row.control ≡ 0 → (state ≡ Duplex → HoldsTracks t shape images row time)
     → HoldsPrimaries run shape images (in_state state row ∷ []) time
 one_holds run t row state shape images time pair control holds zero r at =
-    subst (λ (x : PairRow). x.state ≡ Duplex → (track : ℕ) → track < tracks_of x → content_in shape images x.device track ≡ Some (primary run.traces time x.control x.volume track)) (same_row (in_state state row) r at)
+    subst (λ (x : PairRow). x.state ≡ Duplex → (track : ℕ) → track < tracks_of_row x → content_in shape images x.device track ≡ Some (primary run.traces time x.control x.volume track)) (same_row (in_state state row) r at)
     (λ duplex track below. holds duplex track below ∙ ap (λ (recs : List Rec). let o : Option (List Rec) = Some recs in o) (sym (own track)))
   where
     own : (track : ℕ) → primary run.traces time row.control row.volume track ≡ primary (t ∷ []) time 0 row.volume track

@@ -8,7 +8,7 @@ use Rattle.sidefile.specs.Breaks.{break_time, has_broken, is_below}
 use Rattle.consistency.specs.Bears.{Run, breaks_of}
 use Rattle.consistency.specs.Changes.{Timed}
 use Rattle.consistency.specs.Steps.{broken_at}
-use Rattle.consistency.specs.Toward.{all_broke, is_break_of, lies_in}
+use Rattle.consistency.specs.Toward.{all_broke, breaks_control, lies_in}
 use Rattle.pair_course.specs.Course.{IsPairRun}
 
 -- ---- one break time
@@ -20,8 +20,8 @@ lies_not_in from time (Some b) none = and_right (nat_le from b) (nat_lt b time) 
 
 one_broke : (from time : ℕ) (b : Option ℕ) (changes : List Timed) → is_below b time ≡ false → all_broke from time 0 (b ∷ []) changes ≡ true
 one_broke from time b changes none =
-    let here = or_left (not (lies_in from time b)) (list_any (is_break_of 0) changes) (not_from_false (lies_in from time b) (lies_not_in from time b none)) in
-    and_from (not (lies_in from time b) || list_any (is_break_of 0) changes) true here refl
+    let here = or_left (not (lies_in from time b)) (list_any (breaks_control 0) changes) (not_from_false (lies_in from time b) (lies_not_in from time b none)) in
+    and_from (not (lies_in from time b) || list_any (breaks_control 0) changes) true here refl
 
 one_unbroken : (time : ℕ) (b : Option ℕ) → is_below b time ≡ false → broken_at time 0 (b ∷ []) ≡ []
 one_unbroken time b none = ap (λ (t : Bool). let l : List ℕ = cond t (0 ∷ []) [] in l) none

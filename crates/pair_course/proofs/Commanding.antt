@@ -8,7 +8,7 @@ use Rattle.pair_table.specs.declared.command.Refusal.TheVariants.{ControlBroken,
 use Rattle.pair_table.specs.declared.level.Level.TheVariants.{Volume}
 use Rattle.pair_table.specs.declared.row.PairRow.{PairRow}
 use Rattle.pair_table.specs.Commands.{accepted, add_to, new_row, new_row_for, pairs_after, rows_after}
-use Rattle.pair_table.specs.Naming.{NamedDevice, NamedVolume, Naming, is_broken, label_of, primary_of}
+use Rattle.pair_table.specs.Naming.{NamedDevice, NamedVolume, Naming, is_broken, labelled_device, primary_of}
 use Rattle.pair_table.specs.Refusals.{refusal, refuses_label, refuses_primary}
 use Rattle.consistency.specs.Courses.{unstarted}
 use Rattle.pair_course.specs.Course.{pairs_with}
@@ -35,7 +35,7 @@ module _ (names : Naming) (session : List ℕ) where
 
   -- ---- a pair
 
-  module _ (primary secondary : List ℕ) (volume : NamedVolume) (label : NamedDevice) (named : primary_of primary names ≡ Some volume) (labelled : label_of secondary names ≡ Some label) (whole : is_broken volume.control names ≡ false)
+  module _ (primary secondary : List ℕ) (volume : NamedVolume) (label : NamedDevice) (named : primary_of primary names ≡ Some volume) (labelled : labelled_device secondary names ≡ Some label) (whole : is_broken volume.control names ≡ false)
       (enough : nat_lt label.cylinders volume.cylinders ≡ false) where
     asks_primary : refusal names (pairs_with session [] false) session (AddPair primary secondary) ≡ refuses_primary primary secondary names [] (primary_of primary names)
     asks_primary = rw (same_name session) refl
@@ -43,11 +43,11 @@ module _ (names : Naming) (session : List ℕ) where
     pub pair_allowed : refusal names (pairs_with session [] false) session (AddPair primary secondary) ≡ None
     pair_allowed =
         asks_primary ∙ ap (refuses_primary primary secondary names []) named
-        ∙ ap (λ (b : Bool). if b then Some (ControlBroken volume.control) else refuses_label primary secondary [] volume (label_of secondary names)) whole ∙ ap (refuses_label primary secondary [] volume) labelled
+        ∙ ap (λ (b : Bool). if b then Some (ControlBroken volume.control) else refuses_label primary secondary [] volume (labelled_device secondary names)) whole ∙ ap (refuses_label primary secondary [] volume) labelled
         ∙ ap (λ (b : Bool). let o : Option Refusal = if b then Some (TooSmall (15 * volume.cylinders)) else None in o) enough
 
     rows_added : (time : ℕ) → rows_after names time (AddPair primary secondary) [] ≡ new_row secondary volume label ∷ []
-    rows_added time = ap (λ (o : Option NamedVolume). add_to [] None (new_row_for secondary o (label_of secondary names))) named ∙ ap (λ (o : Option NamedDevice). add_to [] None (new_row_for secondary (Some volume) o)) labelled
+    rows_added time = ap (λ (o : Option NamedVolume). add_to [] None (new_row_for secondary o (labelled_device secondary names))) named ∙ ap (λ (o : Option NamedDevice). add_to [] None (new_row_for secondary (Some volume) o)) labelled
 
     pub pair_made : (time : ℕ) → pairs_after names (pairs_with session [] false) session (AddPair primary secondary) time ≡ pairs_with session (new_row secondary volume label ∷ []) false
     pair_made time =

@@ -10,13 +10,13 @@ use Rattle.pair_table.specs.declared.row.PairRow.{PairRow}
 use Rattle.pair_table.specs.declared.row.PairState.{PairState}
 use Rattle.pair_table.specs.declared.row.PairState.TheVariants.{Pending, Copy, Duplex}
 use Rattle.pair_table.specs.Commands.{new_row}
-use Rattle.pair_table.specs.Naming.{NamedDevice, NamedVolume, label_of, primary_of}
+use Rattle.pair_table.specs.Naming.{NamedDevice, NamedVolume, labelled_device, primary_of}
 use Rattle.pair_table.specs.Refusals.{Pairs}
 use Rattle.pair_table.specs.Tables.{in_state}
 use Rattle.site_means.specs.declared.means.Means.{Means}
 use Rattle.site_means.specs.Images.{Images, Shape}
 use Rattle.site_means.specs.Sight.{content_in, means_in}
-use Rattle.consistency.specs.Bears.{Run, Stage, names_of, tracks_of}
+use Rattle.consistency.specs.Bears.{Run, Stage, names_of, tracks_of_row}
 use Rattle.consistency.specs.Changes.{Timed}
 use Rattle.consistency.specs.Changes.RowChange.{Mature}
 use Rattle.consistency.specs.Courses.{Answered}
@@ -43,7 +43,7 @@ pub record IsAdded (run : Run) (row : PairRow) : Type 0 where
   pub label : NamedDevice
   pub named : primary_of row.primary (names_of run) ≡ Some volume
   pub control : volume.control ≡ 0
-  pub labelled : label_of row.secondary (names_of run) ≡ Some label
+  pub labelled : labelled_device row.secondary (names_of run) ≡ Some label
   pub enough : volume.cylinders ≤ label.cylinders
   pub made : row ≡ new_row row.secondary volume label
 
@@ -107,7 +107,7 @@ pub record MeansRows (run : Run) (shape : Shape) (images : Images) (rows : List 
 
 -- The device of a pair holds its primary's tracks at a time.
 abbrev pub HoldsTracks : Trace → Shape → Images → PairRow → (time : ℕ) → Type 0
-HoldsTracks t shape images row time = (x : ℕ) → x < tracks_of row → content_in shape images row.device x ≡ Some (primary (t ∷ []) time 0 row.volume x)
+HoldsTracks t shape images row time = (x : ℕ) → x < tracks_of_row row → content_in shape images row.device x ≡ Some (primary (t ∷ []) time 0 row.volume x)
 
 -- the states of a pair that isn't suspended
 abbrev pub IsLive : PairState → Type 0

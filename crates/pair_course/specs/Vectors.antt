@@ -4,11 +4,25 @@ use Rattle.write_trace.specs.declared.trace.Trace.{Trace}
 use Rattle.write_trace.specs.declared.trace.TraceEnd.{TraceEnd}
 use Rattle.pair_table.specs.declared.level.Level.TheVariants.{Volume}
 use Rattle.pair_table.specs.declared.row.PairState.TheVariants.{Pending}
-use Rattle.pair_table.specs.Vectors.{abc, first_row, named_device}
+use Rattle.pair_table.specs.declared.row.PairRow.{PairRow}
+use Rattle.pair_table.specs.declared.row.PairState.{PairState}
+use Rattle.pair_table.specs.Naming.{NamedDevice}
 use Rattle.consistency.specs.Bears.{Run}
 use Rattle.consistency.specs.Courses.{Answered}
-use Rattle.consistency.specs.Vectors.{line_feed}
 use Rattle.pair_course.specs.Course.{end_answered, end_reply, pair_answered, pair_reply, start_answered, start_reply}
+
+abbrev pub abc : List ℕ
+abc = codes "ABC"
+
+-- PRIM01 and SEC001, the first volume of the first control and the first device, of one cylinder
+abbrev pub first_row : PairState → PairRow
+first_row state = record { primary = codes "PRIM01"; secondary = codes "SEC001"; control = 0; volume = 0; device = 0; cylinders = 1; state = state }
+
+abbrev pub named_device : (device : ℕ) → (serial : List ℕ) → NamedDevice
+named_device device serial = record { device = device; serial = serial; cylinders = 1 }
+
+abbrev pub line_feed : List ℕ
+line_feed = 10 ∷ []
 
 -- the trace, with this end
 abbrev pub worked_trace : TraceEnd → Trace

@@ -3,12 +3,11 @@
 ghost use Rattle.std.specs.Prelude.{◌≡◌, ◌∷◌, [], codes, false, true, Some, None};
 ghost use Rattle.write_trace.specs.declared.trace.TraceEnd.TheVariants.{BadTrace, Ended};
 ghost use Rattle.pair_table.specs.declared.row.PairState.TheVariants.{Duplex, Pending};
-ghost use Rattle.pair_table.specs.Vectors.{abc, first_row};
 ghost use Rattle.consistency.specs.Bears.{accepts};
 ghost use Rattle.consistency.specs.Courses.{IsAnswered, IsCourse, replies_of, stage_at};
 ghost use Rattle.consistency.specs.Times.{times_said};
 ghost use Rattle.pair_course.specs.Course.{IsAdded, LiesBefore, end_answered, end_line, ended_stage, has_matured, pair_line, paired_stage, pairs_with};
-ghost use Rattle.pair_course.specs.Vectors.{end_text, worked_lines, worked_replies, worked_run};
+ghost use Rattle.pair_course.specs.Vectors.{abc, end_text, first_row, worked_lines, worked_replies, worked_run};
 
 /// The three lines of the worked run are answered, with these replies, and leave the pair duplex and the session ended.
 pub fn one_pair()

@@ -5,4 +5,3 @@ pub mod FieldPlaces
 pub mod PutLaws
 pub mod RowsAgain
 pub mod RowReads
-pub mod LookUps

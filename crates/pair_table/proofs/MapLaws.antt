@@ -8,7 +8,7 @@ use Rattle.std.proofs.lemmas.Bool.{eqb-true}
 use Rattle.indexmap.specs.IndexMap.{insert_entry}
 use Rattle.pair_table.specs.declared.row.PairState.{PairState}
 use Rattle.pair_table.specs.declared.row.PairRow.{PairRow}
-use Rattle.pair_table.specs.Rows.{is_row, keeps_rules}
+use Rattle.pair_table.specs.Rows.{is_row, keeps_row_rules}
 use Rattle.pair_table.specs.Tables.{is_of, row_of, with_row, without_row, in_state, with_state, none_clash, KeepsRows}
 use Rattle.pair_table.specs.Maps.{by_device, KeepsMap}
 use Rattle.pair_table.proofs.RowRules.{both_true, row_keeps}
@@ -81,7 +81,7 @@ entry_is (d ∷ entries) zero e all at =
 entry_is (d ∷ entries) (suc place) e all at = entry_is entries place e (both_true (is_row d.1) (list_all is_row (values_of entries)) all).1 at
 
 -- a row that is shown keeps the rules
-pub shown_keeps : (shown : Option (Bor PairRow)) (device : ℕ) (rows : List PairRow) → list_all is_row rows ≡ true → option_copied shown ≡ row_of device rows → IfSome shown (λ row. IsTrue (keeps_rules row.now))
+pub shown_keeps : (shown : Option (Bor PairRow)) (device : ℕ) (rows : List PairRow) → list_all is_row rows ≡ true → option_copied shown ≡ row_of device rows → IfSome shown (λ row. IsTrue (keeps_row_rules row.now))
 shown_keeps None device rows all is = tt
 shown_keeps (Some row) device rows all is = row_keeps row.now (row_found device rows row.now all (sym is))
 

@@ -7,7 +7,7 @@ use Rattle.std.specs.Map.{values_of, lookup}
 use Rattle.std.proofs.lemmas.Bool.{eqb-true, eq-eqb, le-leb, leb-true, lt-ltb, ltb-true}
 use Rattle.std.proofs.lemmas.Slice.Eq.{bytes_eq-Decides}
 use Rattle.pair_table.specs.declared.row.PairRow.{PairRow}
-use Rattle.pair_table.specs.Rows.{keeps_rules}
+use Rattle.pair_table.specs.Rows.{keeps_row_rules}
 use Rattle.pair_table.specs.Tables.{is_of, row_of, HasRow, with_row, clashes, none_clash, clashes_apart, most_rows, KeepsRows, MayPut}
 use Rattle.pair_table.specs.Maps.{KeepsMap}
 use Rattle.pair_table.proofs.TableLaws.{either_false, first_apart}
@@ -134,7 +134,7 @@ place_behind entries row keeps none =
 -- ---- a row may be put
 
 -- where the row is in its ranges and has a place, it may be put exactly where no row of another device clashes with it
-pub may_put : (row : PairRow) (rows : List PairRow) (found : Bool) → KeepsRows rows → keeps_rules row ≡ true → nat_le (length (with_row row rows)) most_rows ≡ true → found ≡ list_any (clashes_apart row) rows
+pub may_put : (row : PairRow) (rows : List PairRow) (found : Bool) → KeepsRows rows → keeps_row_rules row ≡ true → nat_le (length (with_row row rows)) most_rows ≡ true → found ≡ list_any (clashes_apart row) rows
     → (not found ≡ true → MayPut row rows) × (MayPut row rows → not found ≡ true)
 may_put row rows found keeps rules few is =
     let apart : none_clash (with_row row rows) ≡ not found = none-with_row row rows keeps.apart ∙ ap not (sym is) in

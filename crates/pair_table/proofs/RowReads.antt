@@ -13,10 +13,11 @@ use Rattle.pair_table.specs.declared.row.SuspendCause.TheVariants.{Command, Devi
 use Rattle.pair_table.specs.declared.row.PairState.{PairState}
 use Rattle.pair_table.specs.declared.row.PairState.TheVariants.{Pending, Copy, Duplex, Suspended}
 use Rattle.pair_table.specs.declared.row.PairRow.{PairRow}
-use Rattle.pair_table.specs.Rows.{◌>>=◌, keeps_rules, is_state, is_row, cause_number, state_numbers, state_spelling, row_spelling, cause_of, plain_state, state_of, allowed, row_with, fields_of, row_at}
+use Rattle.pair_table.specs.Rows.{keeps_row_rules, is_state, is_row, cause_number, state_numbers, state_spelling, row_spelling, cause_of_number, causeless_state, state_of_numbers, allowed, row_with, fields_of, row_at}
 use Rattle.pair_table.specs.Laws.{RowsAreSpelled, RowsKeepRules}
 use Rattle.pair_table.proofs.RowRules.{both_true, is_row_by}
 use Rattle.pair_table.proofs.FieldPlaces.{field_and_rest, IsBytes-field, number_spelled, time_spelled}
+use Rattle.tod_stamp.specs.Options.{◌>>=◌}
 
 -- ---- steps that gave a value
 
@@ -43,7 +44,7 @@ name_read bytes name e =
 
 -- ---- states
 
-cause_read : (n : ℕ) (cause : SuspendCause) → cause_of n ≡ Some cause → cause_number cause ≡ n
+cause_read : (n : ℕ) (cause : SuspendCause) → cause_of_number n ≡ Some cause → cause_number cause ≡ n
 cause_read n cause e = first (nat_eq n 1) refl e
   where
     is : (k : ℕ) (x : SuspendCause) → nat_eq n k ≡ true → cause_number x ≡ k → x ≡ cause → cause_number cause ≡ n
@@ -65,7 +66,7 @@ cause_read n cause e = first (nat_eq n 1) refl e
     first true at e = is 1 Command at refl (some_is Command cause e)
     first false at e = second (nat_eq n 2) refl e
 
-plain_read : (n : ℕ) (state : PairState) → plain_state n ≡ Some state → (state_numbers state ≡ (n, 0, 0)) × (is_state state ≡ true)
+plain_read : (n : ℕ) (state : PairState) → causeless_state n ≡ Some state → (state_numbers state ≡ (n, 0, 0)) × (is_state state ≡ true)
 plain_read n state e = first (nat_eq n 0) refl e
   where
     Is : PairState → Type 0
@@ -88,20 +89,20 @@ record StateRead (n c t : ℕ) (state : PairState) : Type 0 where
   numbers : state_numbers state ≡ (n, c, t)
   valid : is_state state ≡ true
 
-state_read : (n c t : ℕ) (state : PairState) → t < 2 ^ 64 → state_of n c t ≡ Some state → StateRead n c t state
+state_read : (n c t : ℕ) (state : PairState) → t < 2 ^ 64 → state_of_numbers n c t ≡ Some state → StateRead n c t state
 state_read n c t state fits e = choose (nat_eq n 3) refl e
   where
     named : SuspendCause → Option PairState
     named cause = Some (Suspended cause (record { 0 = t }))
 
-    choose : (b : Bool) → nat_eq n 3 ≡ b → cond b (cause_of c >>= named) (cond (nat_eq c 0 && nat_eq t 0) (plain_state n) None) ≡ Some state → StateRead n c t state
+    choose : (b : Bool) → nat_eq n 3 ≡ b → cond b (cause_of_number c >>= named) (cond (nat_eq c 0 && nat_eq t 0) (causeless_state n) None) ≡ Some state → StateRead n c t state
     choose true at e =
-        let one = bind_some (cause_of c) named state e in
+        let one = bind_some (cause_of_number c) named state e in
         let cause = cause_read c one.0 one.1 in
         subst (StateRead n c t) (some_is (Suspended one.0 (record { 0 = t })) state one.2)
         (record { numbers = ap (λ (k : ℕ). (k, cause_number one.0, t)) (sym (eqb-true n 3 at)) ∙ ap (λ (k : ℕ). (n, k, t)) cause; valid = lt-ltb t (2 ^ 64) fits })
     choose false at e =
-        let one = where_true (nat_eq c 0 && nat_eq t 0) (plain_state n) state e in
+        let one = where_true (nat_eq c 0 && nat_eq t 0) (causeless_state n) state e in
         let zeros = both_true (nat_eq c 0) (nat_eq t 0) one.0 in
         let plain = plain_read n state one.1 in
         record { numbers = plain.0 ∙ ap (λ (k : ℕ). (n, k, 0)) (sym (eqb-true c 0 zeros.0)) ∙ ap (λ (k : ℕ). (n, c, k)) (sym (eqb-true t 0 zeros.1)); valid = plain.1 }
@@ -116,19 +117,19 @@ record RowRead (bytes : List ℕ) (r : PairRow) : Type 0 where
   long : length bytes ≡ 30
   name : name_in 6 (slice_range bytes 0 6) ≡ Some primary
   other : name_in 6 (slice_range bytes 6 12) ≡ Some secondary
-  states : state_of (slice_index bytes 20) (slice_index bytes 21) (from_be_bytes w64 (slice_range bytes 22 30)) ≡ Some state
-  rules : keeps_rules r ≡ true
+  states : state_of_numbers (slice_index bytes 20) (slice_index bytes 21) (from_be_bytes w64 (slice_range bytes 22 30)) ≡ Some state
+  rules : keeps_row_rules r ≡ true
   is : row_with bytes primary secondary state ≡ r
 
 row_read : (bytes : List ℕ) (r : PairRow) → row_at bytes ≡ Some r → RowRead bytes r
 row_read bytes r e =
-    let numbers = state_of (slice_index bytes 20) (slice_index bytes 21) (from_be_bytes w64 (slice_range bytes 22 30)) in
+    let numbers = state_of_numbers (slice_index bytes 20) (slice_index bytes 21) (from_be_bytes w64 (slice_range bytes 22 30)) in
     let zero = where_true (nat_eq (length bytes) 30) (fields_of bytes) r e in
     let one = bind_some (name_in 6 (slice_range bytes 0 6)) (λ p. name_in 6 (slice_range bytes 6 12) >>= (λ s. numbers >>= (λ t. allowed (row_with bytes p s t)))) r zero.1 in
     let two = bind_some (name_in 6 (slice_range bytes 6 12)) (λ s. numbers >>= (λ t. allowed (row_with bytes one.0 s t))) r one.2 in
     let three = bind_some numbers (λ t. allowed (row_with bytes one.0 two.0 t)) r two.2 in
     let row = row_with bytes one.0 two.0 three.0 in
-    let last = where_true (keeps_rules row) (Some row) r three.2 in
+    let last = where_true (keeps_row_rules row) (Some row) r three.2 in
     let is : row ≡ r = some_is row r last.1 in
     record {
       primary = one.0;
@@ -138,7 +139,7 @@ row_read bytes r e =
       name = one.1;
       other = two.1;
       states = three.1;
-      rules = subst (λ (x : PairRow). keeps_rules x ≡ true) is last.0;
+      rules = subst (λ (x : PairRow). keeps_row_rules x ≡ true) is last.0;
       is = is;
     }
 
@@ -151,7 +152,7 @@ rows_keep bytes r fits e =
     let row = row_with bytes read.primary read.secondary read.state in
     let state = state_read (slice_index bytes 20) (slice_index bytes 21) (from_be_bytes w64 (slice_range bytes 22 30)) read.state (time_below bytes fits) read.states in
     let device : nat_lt row.device (2 ^ 16) ≡ true = lt-ltb row.device (2 ^ 16) (wide16.below (slice_range bytes 16 18) (IsBytes-field bytes 16 18 fits)) in
-    let rules : keeps_rules row ≡ true = subst (λ (x : PairRow). keeps_rules x ≡ true) (sym read.is) read.rules in
+    let rules : keeps_row_rules row ≡ true = subst (λ (x : PairRow). keeps_row_rules x ≡ true) (sym read.is) read.rules in
     subst (λ (x : PairRow). is_row x ≡ true) read.is
     (is_row_by row (name_read (slice_range bytes 0 6) read.primary read.name).1 (name_read (slice_range bytes 6 12) read.secondary read.other).1 rules device state.valid)
 

@@ -4,7 +4,7 @@ use Rattle.std.proofs.lemmas.Bool.{ltb-true, leb-true}
 use Rattle.tod_stamp.specs.Fields.{within}
 use Rattle.tod_stamp.specs.Names.{is_serial}
 use Rattle.pair_table.specs.declared.row.PairRow.{PairRow}
-use Rattle.pair_table.specs.Rows.{keeps_rules, is_state, is_row}
+use Rattle.pair_table.specs.Rows.{keeps_row_rules, is_state, is_row}
 
 pub both_true : (a b : Bool) → (a && b) ≡ true → (a ≡ true) × (b ≡ true)
 both_true true b e = (refl, e)
@@ -25,17 +25,17 @@ pub record RowRules (r : PairRow) : Type 0 where
   pub device_lt : nat_lt r.device (2 ^ 16) ≡ true
   pub state : is_state r.state ≡ true
 
-pub row_keeps : (r : PairRow) → is_row r ≡ true → keeps_rules r ≡ true
+pub row_keeps : (r : PairRow) → is_row r ≡ true → keeps_row_rules r ≡ true
 row_keeps r is =
-    let a = both_true (is_serial r.primary && is_serial r.secondary && keeps_rules r && nat_lt r.device (2 ^ 16)) (is_state r.state) is in
-    let b = both_true (is_serial r.primary && is_serial r.secondary && keeps_rules r) (nat_lt r.device (2 ^ 16)) a.0 in
-    (both_true (is_serial r.primary && is_serial r.secondary) (keeps_rules r) b.0).1
+    let a = both_true (is_serial r.primary && is_serial r.secondary && keeps_row_rules r && nat_lt r.device (2 ^ 16)) (is_state r.state) is in
+    let b = both_true (is_serial r.primary && is_serial r.secondary && keeps_row_rules r) (nat_lt r.device (2 ^ 16)) a.0 in
+    (both_true (is_serial r.primary && is_serial r.secondary) (keeps_row_rules r) b.0).1
 
 pub row_rules : (r : PairRow) → is_row r ≡ true → RowRules r
 row_rules r is =
-    let a = both_true (is_serial r.primary && is_serial r.secondary && keeps_rules r && nat_lt r.device (2 ^ 16)) (is_state r.state) is in
-    let b = both_true (is_serial r.primary && is_serial r.secondary && keeps_rules r) (nat_lt r.device (2 ^ 16)) a.0 in
-    let c = both_true (is_serial r.primary && is_serial r.secondary) (keeps_rules r) b.0 in
+    let a = both_true (is_serial r.primary && is_serial r.secondary && keeps_row_rules r && nat_lt r.device (2 ^ 16)) (is_state r.state) is in
+    let b = both_true (is_serial r.primary && is_serial r.secondary && keeps_row_rules r) (nat_lt r.device (2 ^ 16)) a.0 in
+    let c = both_true (is_serial r.primary && is_serial r.secondary) (keeps_row_rules r) b.0 in
     let names = both_true (is_serial r.primary) (is_serial r.secondary) c.0 in
     let d = both_true (nat_le r.control 15 && nat_le r.volume 31) (within 1 65520 r.cylinders) c.1 in
     let e = both_true (nat_le r.control 15) (nat_le r.volume 31) d.0 in
@@ -51,8 +51,8 @@ row_rules r is =
       state = a.1;
     }
 
-pub is_row_by : (r : PairRow) → is_serial r.primary ≡ true → is_serial r.secondary ≡ true → keeps_rules r ≡ true → nat_lt r.device (2 ^ 16) ≡ true → is_state r.state ≡ true → is_row r ≡ true
+pub is_row_by : (r : PairRow) → is_serial r.primary ≡ true → is_serial r.secondary ≡ true → keeps_row_rules r ≡ true → nat_lt r.device (2 ^ 16) ≡ true → is_state r.state ≡ true → is_row r ≡ true
 is_row_by r primary secondary rules device state =
-    and_true (is_serial r.primary && is_serial r.secondary && keeps_rules r && nat_lt r.device (2 ^ 16)) (is_state r.state)
-    (and_true (is_serial r.primary && is_serial r.secondary && keeps_rules r) (nat_lt r.device (2 ^ 16))
-    (and_true (is_serial r.primary && is_serial r.secondary) (keeps_rules r) (and_true (is_serial r.primary) (is_serial r.secondary) primary secondary) rules) device) state
+    and_true (is_serial r.primary && is_serial r.secondary && keeps_row_rules r && nat_lt r.device (2 ^ 16)) (is_state r.state)
+    (and_true (is_serial r.primary && is_serial r.secondary && keeps_row_rules r) (nat_lt r.device (2 ^ 16))
+    (and_true (is_serial r.primary && is_serial r.secondary) (keeps_row_rules r) (and_true (is_serial r.primary) (is_serial r.secondary) primary secondary) rules) device) state

@@ -11,20 +11,20 @@ use Rattle.pair_table.specs.declared.row.SuspendCause.TheVariants.{Command, Devi
 use Rattle.pair_table.specs.declared.row.PairState.{PairState}
 use Rattle.pair_table.specs.declared.row.PairState.TheVariants.{Pending, Copy, Duplex, Suspended}
 use Rattle.pair_table.specs.declared.row.PairRow.{PairRow}
-use Rattle.pair_table.specs.Rows.{keeps_rules, is_state, state_numbers, state_spelling, numbers_spelling, row_spelling, state_of, allowed, row_with, row_at}
+use Rattle.pair_table.specs.Rows.{keeps_row_rules, is_state, state_numbers, state_spelling, numbers_spelling, row_spelling, state_of_numbers, allowed, row_with, row_at}
 use Rattle.pair_table.specs.Laws.{RowsReadBack}
 use Rattle.pair_table.proofs.RowRules.{row_keeps, row_rules}
 use Rattle.pair_table.proofs.FieldPlaces.{drop_past, index_past}
 
 -- 30 bytes whose names and state are read
 pub read_row : (bytes primary secondary : List ℕ) (state : PairState) → length bytes ≡ 30 → name_in 6 (slice_range bytes 0 6) ≡ Some primary → name_in 6 (slice_range bytes 6 12) ≡ Some secondary
-    → state_of (slice_index bytes 20) (slice_index bytes 21) (from_be_bytes w64 (slice_range bytes 22 30)) ≡ Some state → row_at bytes ≡ allowed (row_with bytes primary secondary state)
+    → state_of_numbers (slice_index bytes 20) (slice_index bytes 21) (from_be_bytes w64 (slice_range bytes 22 30)) ≡ Some state → row_at bytes ≡ allowed (row_with bytes primary secondary state)
 read_row bytes primary secondary state len p s t = rw (eq-eqb (length bytes) 30 len, p, s, t) refl
 
-pub allowed_row : (r : PairRow) → keeps_rules r ≡ true → allowed r ≡ Some r
+pub allowed_row : (r : PairRow) → keeps_row_rules r ≡ true → allowed r ≡ Some r
 allowed_row r keeps = rw keeps refl
 
-state_again : (state : PairState) → state_of (state_numbers state).0 (state_numbers state).1 (state_numbers state).2 ≡ Some state
+state_again : (state : PairState) → state_of_numbers (state_numbers state).0 (state_numbers state).1 (state_numbers state).2 ≡ Some state
 state_again Pending = refl
 state_again Copy = refl
 state_again Duplex = refl
@@ -59,7 +59,7 @@ rows_back r is =
     let cause_byte : slice_index bytes 21 ≡ (state_numbers r.state).1 = index_past (a ++ b) rest 12 9 21 front_len refl in
     let time : from_be_bytes w64 (slice_range bytes 22 30) ≡ (state_numbers r.state).2 =
     ap (λ (t : List ℕ). from_be_bytes w64 (take 8 t)) (drop_past (a ++ b) rest 12 10 22 front_len refl) ∙ wide64.again (state_numbers r.state).2 (time_fits r.state rules.state) in
-    let state : state_of (slice_index bytes 20) (slice_index bytes 21) (from_be_bytes w64 (slice_range bytes 22 30)) ≡ Some r.state = rw (state_byte, cause_byte, time) (state_again r.state) in
+    let state : state_of_numbers (slice_index bytes 20) (slice_index bytes 21) (from_be_bytes w64 (slice_range bytes 22 30)) ≡ Some r.state = rw (state_byte, cause_byte, time) (state_again r.state) in
     let control : from_be_bytes w16 (slice_range bytes 12 14) ≡ r.control =
     ap (λ (t : List ℕ). from_be_bytes w16 (take 2 t)) (drop_past (a ++ b) rest 12 0 12 front_len refl) ∙ wide16.again r.control (omega (arith, rules.control)) in
     let volume : from_be_bytes w16 (slice_range bytes 14 16) ≡ r.volume =

@@ -10,7 +10,7 @@ use Rattle.pair_table.specs.declared.command.Refusal.{Refusal}
 use Rattle.pair_table.specs.declared.row.PairRow.{PairRow}
 use Rattle.pair_table.specs.declared.row.PairState.TheVariants.{Pending, Suspended}
 use Rattle.pair_table.specs.declared.row.SuspendCause.TheVariants.{Command as ByCommand}
-use Rattle.pair_table.specs.Naming.{NamedDevice, NamedVolume, Naming, label_of, primary_of}
+use Rattle.pair_table.specs.Naming.{NamedDevice, NamedVolume, Naming, labelled_device, primary_of}
 use Rattle.pair_table.specs.Refusals.{Pairs, is_of_primary, is_pair, refusal, row_of_primary}
 use Rattle.pair_table.specs.Rows.{is_suspended}
 use Rattle.pair_table.specs.Tables.{in_state}
@@ -44,7 +44,7 @@ suspended_since choice time r = if is_to_suspend choice r then in_state (Suspend
 -- The rows after an accepted command at a time. A new row goes last, pending; a suspended one becomes pending in its place. The
 -- chosen rows go. Those of the chosen that aren't suspended become so by the command, since the time.
 abbrev pub rows_after : Naming → (time : ℕ) → Command → List PairRow → List PairRow
-rows_after names time (AddPair primary secondary) rows = add_to rows (row_of_primary primary rows) (new_row_for secondary (primary_of primary names) (label_of secondary names))
+rows_after names time (AddPair primary secondary) rows = add_to rows (row_of_primary primary rows) (new_row_for secondary (primary_of primary names) (labelled_device secondary names))
 rows_after names time (DelPair choice) rows = filter (λ r. not (is_chosen choice r)) rows
 rows_after names time (Suspend choice) rows = map (suspended_since choice time) rows
 rows_after names time (Start level) rows = []
@@ -63,7 +63,7 @@ added None None = Nothing
 
 -- What a command changes: the devices of rows that go, and of rows that become suspended.
 abbrev pub change_of : Naming → Command → List PairRow → Change
-change_of names (AddPair primary secondary) rows = added (row_of_primary primary rows) (label_of secondary names)
+change_of names (AddPair primary secondary) rows = added (row_of_primary primary rows) (labelled_device secondary names)
 change_of names (DelPair choice) rows = Gone (devices_of (filter (is_chosen choice) rows))
 change_of names (Suspend choice) rows = SuspendedRows (devices_of (filter (is_to_suspend choice) rows))
 change_of names (Start level) rows = Started

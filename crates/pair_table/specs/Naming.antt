@@ -34,8 +34,8 @@ abbrev pub label_in : (serial : List ℕ) → List NamedDevice → Option NamedD
 label_in serial [] = None
 label_in serial (l ∷ labels) = if bytes_eq l.serial serial then Some (lower l (label_in serial labels)) else label_in serial labels
 
-abbrev pub label_of : (serial : List ℕ) → Naming → Option NamedDevice
-label_of serial names = label_in serial names.labels
+abbrev pub labelled_device : (serial : List ℕ) → Naming → Option NamedDevice
+labelled_device serial names = label_in serial names.labels
 
 abbrev pub is_broken : (control : ℕ) → Naming → Bool
 is_broken control names = list_any (λ k. k == control) names.broken

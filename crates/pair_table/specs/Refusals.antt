@@ -9,7 +9,7 @@ use Rattle.pair_table.specs.declared.command.Command.TheVariants.{Start, AddPair
 use Rattle.pair_table.specs.declared.command.Refusal.{Refusal}
 use Rattle.pair_table.specs.declared.command.Refusal.TheVariants.{NoSession, SessionExists, NoPrimary, NoSecondary, SecondaryInUse, AlreadyPaired, TooSmall, OtherSecondary, NotPaired, Ended, ControlBroken}
 use Rattle.pair_table.specs.declared.row.PairRow.{PairRow}
-use Rattle.pair_table.specs.Naming.{NamedDevice, NamedVolume, Naming, is_broken, label_of, primary_of}
+use Rattle.pair_table.specs.Naming.{NamedDevice, NamedVolume, Naming, is_broken, labelled_device, primary_of}
 use Rattle.pair_table.specs.Rows.{is_suspended}
 use Rattle.pair_table.specs.Tables.{Table, is_of}
 
@@ -56,7 +56,7 @@ refuses_label primary secondary rows v (Some l) = refuses_found secondary rows v
 abbrev pub refuses_primary : (primary secondary : List ℕ) → Naming → List PairRow → Option NamedVolume → Option Refusal
 refuses_primary primary secondary names rows None = Some NoPrimary
 refuses_primary primary secondary names rows (Some v) =
-    if is_broken v.control names then Some (ControlBroken v.control) else refuses_label primary secondary rows v (label_of secondary names)
+    if is_broken v.control names then Some (ControlBroken v.control) else refuses_label primary secondary rows v (labelled_device secondary names)
 
 -- A choice of one pair is refused where no row has both names. All pairs are never refused.
 abbrev pub refuses_choice : Choice → List PairRow → Option Refusal

@@ -10,12 +10,13 @@ use Rattle.pair_table.specs.declared.row.SuspendCause.TheVariants.{Command, Devi
 use Rattle.pair_table.specs.declared.row.PairState.{PairState}
 use Rattle.pair_table.specs.declared.row.PairState.TheVariants.{Pending, Copy, Duplex, Suspended}
 use Rattle.pair_table.specs.declared.row.PairRow.{PairRow}
+use Rattle.tod_stamp.specs.Options.{◌>>=◌}
 
 -- ---- ranges
 
 -- the rules of a row that its types leave open: control and volume are below their numbers, and there are 1 to the most cylinders
-abbrev pub keeps_rules : PairRow → Bool
-keeps_rules r = nat_le r.control (MOST_CONTROLS - 1) && nat_le r.volume (MOST_VOLUMES - 1) && within 1 MOST_CYLINDERS r.cylinders
+abbrev pub keeps_row_rules : PairRow → Bool
+keeps_row_rules r = nat_le r.control (MOST_CONTROLS - 1) && nat_le r.volume (MOST_VOLUMES - 1) && within 1 MOST_CYLINDERS r.cylinders
 
 abbrev pub is_suspended : PairState → Bool
 is_suspended (Suspended cause since) = true
@@ -32,7 +33,7 @@ is_state (Suspended cause since) = nat_lt since.0 (2 ^ 64)
 
 -- a row by itself: two serials, a device of 16 bits, a state, and the rules above
 abbrev pub is_row : PairRow → Bool
-is_row r = is_serial r.primary && is_serial r.secondary && keeps_rules r && nat_lt r.device (2 ^ 16) && is_state r.state
+is_row r = is_serial r.primary && is_serial r.secondary && keeps_row_rules r && nat_lt r.device (2 ^ 16) && is_state r.state
 
 -- ---- the spelling
 
@@ -69,30 +70,25 @@ row_spelling r = names_spelling r ++ numbers_spelling r ++ state_spelling r.stat
 -- ---- reading it
 
 -- the second step, if the first gave a value
-infixl 10 ◌>>=◌
-abbrev pub ◌>>=◌ : {A B : Type 0} → Option A → (A → Option B) → Option B
-(Some x) >>= f = f x
-None >>= f = None
-
-abbrev pub cause_of : (number : ℕ) → Option SuspendCause
-cause_of n = if n == 1 then Some Command else if n == 2 then Some Device else if n == 3 then Some Session else if n == 4 then Some Control else None
+abbrev pub cause_of_number : (number : ℕ) → Option SuspendCause
+cause_of_number n = if n == 1 then Some Command else if n == 2 then Some Device else if n == 3 then Some Session else if n == 4 then Some Control else None
 
 -- the states without a cause
-abbrev pub plain_state : (number : ℕ) → Option PairState
-plain_state n = if n == 0 then Some Pending else if n == 1 then Some Copy else if n == 2 then Some Duplex else None
+abbrev pub causeless_state : (number : ℕ) → Option PairState
+causeless_state n = if n == 0 then Some Pending else if n == 1 then Some Copy else if n == 2 then Some Duplex else None
 
 -- the state that three numbers are
-abbrev pub state_of : (state cause since : ℕ) → Option PairState
-state_of state cause since =
+abbrev pub state_of_numbers : (state cause since : ℕ) → Option PairState
+state_of_numbers state cause since =
     if state == 3 then (do
-      named ← cause_of cause
+      named ← cause_of_number cause
       Some (Suspended named (record { 0 = since })))
-    else if cause == 0 && since == 0 then plain_state state
+    else if cause == 0 && since == 0 then causeless_state state
     else None
 
 -- the row, where it keeps the rules
 abbrev pub allowed : PairRow → Option PairRow
-allowed r = if keeps_rules r then Some r else None
+allowed r = if keeps_row_rules r then Some r else None
 
 -- the row of these names and this state, with the numbers that stand at their offsets
 abbrev pub row_with : List ℕ → (primary secondary : List ℕ) → PairState → PairRow
@@ -111,7 +107,7 @@ abbrev pub fields_of : List ℕ → Option PairRow
 fields_of bytes = do
   primary ← name_in 6 (slice_range bytes 0 6)
   secondary ← name_in 6 (slice_range bytes 6 12)
-  state ← state_of (slice_index bytes 20) (slice_index bytes 21) (from_be_bytes w64 (slice_range bytes 22 30))
+  state ← state_of_numbers (slice_index bytes 20) (slice_index bytes 21) (from_be_bytes w64 (slice_range bytes 22 30))
   allowed (row_with bytes primary secondary state)
 
 -- The row that the bytes spell: there are 30, and each field stands at its offset and is in its range.

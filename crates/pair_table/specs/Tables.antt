@@ -4,7 +4,7 @@ use Rattle.std.specs.List.{list_any, list_all}
 use Rattle.pair_table.specs.declared.limits.TheConstants.{MOST_ROWS}
 use Rattle.pair_table.specs.declared.row.PairState.{PairState}
 use Rattle.pair_table.specs.declared.row.PairRow.{PairRow}
-use Rattle.pair_table.specs.Rows.{keeps_rules, is_row}
+use Rattle.pair_table.specs.Rows.{keeps_row_rules, is_row}
 
 pub record Table : Type 0 where
   -- the session's name
@@ -84,6 +84,6 @@ pub record KeepsRows (rows : List PairRow) : Type 0 where
 
 -- A row may be put where it keeps the rules that its types leave open, and the rows with it keep those over several rows.
 pub record MayPut (row : PairRow) (rows : List PairRow) : Type 0 where
-  pub rules : IsTrue (keeps_rules row)
+  pub rules : IsTrue (keeps_row_rules row)
   pub apart : IsTrue (none_clash (with_row row rows))
   pub few : length (with_row row rows) ≤ most_rows

@@ -2,7 +2,8 @@
 //! volume of the control, device and cylinders (2 each), state (1), cause (1), and the time since it is suspended (8).
 
 ghost use Rattle.std.specs.Prelude.{◌≡◌, ◌<◌, ◌^◌, IsTrue};
-ghost use Rattle.pair_table.specs.Rows.{keeps_rules, cause_number, state_numbers, cause_of, plain_state, state_of as state_in, allowed, names_spelling, numbers_spelling, state_spelling, row_spelling, row_at};
+ghost use Rattle.tod_stamp.specs.Names.{is_serial};
+ghost use Rattle.pair_table.specs.Rows.{is_row, is_state, keeps_row_rules, cause_number, state_numbers, cause_of_number, causeless_state, state_of_numbers as state_in, allowed, names_spelling, numbers_spelling, state_spelling, row_spelling, row_at};
 
 use crate::limits::ROW_LENGTH;
 use crate::row::{PairRow, PairState, SuspendCause};
@@ -11,8 +12,9 @@ use tod_stamp::{Serial, Stamp};
 
 /// The row's bytes.
 pub fn encode_row(row: &PairRow) -> [u8; ROW_LENGTH]
-    requires { IsTrue (keeps_rules row.now) }
-    ensures { result ≡ row_spelling row.now }
+    requires { IsTrue (keeps_row_rules row.now) }
+    ensures spelled { result ≡ row_spelling row.now }
+    ensures row { IsTrue (is_row row.now) }
 {
     let mut bytes = [0; ROW_LENGTH];
     bytes[20..].copy_from_slice(&state_bytes(row.state));
@@ -22,7 +24,9 @@ pub fn encode_row(row: &PairRow) -> [u8; ROW_LENGTH]
 }
 
 fn names_bytes(row: &PairRow) -> [u8; 12]
-    ensures { result ≡ names_spelling row.now }
+    ensures spelled { result ≡ names_spelling row.now }
+    ensures primary { IsTrue (is_serial row.now.primary) }
+    ensures secondary { IsTrue (is_serial row.now.secondary) }
 {
     let mut bytes = [0; 12];
     bytes[6..].copy_from_slice(&row.secondary.field());
@@ -31,19 +35,22 @@ fn names_bytes(row: &PairRow) -> [u8; 12]
 }
 
 fn numbers_bytes(row: &PairRow) -> [u8; 8]
-    requires { IsTrue (keeps_rules row.now) }
-    ensures { result ≡ numbers_spelling row.now }
+    requires { IsTrue (keeps_row_rules row.now) }
+    ensures spelled { result ≡ numbers_spelling row.now }
+    ensures device { row.now.device < 2 ^ 16 }
 {
+    let device = row.device;
     let mut bytes = [0; 8];
     BigEndian::write_u16(&mut bytes, row.control);
     BigEndian::write_u16(&mut bytes[2..], row.volume);
-    BigEndian::write_u16(&mut bytes[4..], row.device);
+    BigEndian::write_u16(&mut bytes[4..], device);
     BigEndian::write_u16(&mut bytes[6..], row.cylinders as u16);
     bytes
 }
 
 fn state_bytes(state: PairState) -> [u8; 10]
-    ensures { result ≡ state_spelling state }
+    ensures spelled { result ≡ state_spelling state }
+    ensures valid { IsTrue (is_state state) }
 {
     let (state, cause, since) = numbers_of(state);
     let mut bytes = [state, cause, 0, 0, 0, 0, 0, 0, 0, 0];
@@ -76,7 +83,8 @@ fn allowed(row: PairRow) -> Option<PairRow>
 
 /// The numbers of state and cause, and the time.
 fn numbers_of(state: PairState) -> (u8, u8, u64)
-    ensures { result ≡ state_numbers state }
+    ensures numbers { result ≡ state_numbers state }
+    ensures valid { IsTrue (is_state state) }
 {
     match state {
         PairState::Pending => (0, 0, 0),
@@ -114,7 +122,7 @@ fn state_of(state: u8, cause: u8, since: u64) -> Option<PairState>
 }
 
 fn cause_of(number: u8) -> Option<SuspendCause>
-    ensures { result ≡ cause_of number }
+    ensures { result ≡ cause_of_number number }
 {
     match number {
         1 => Some(SuspendCause::Command),
@@ -127,7 +135,7 @@ fn cause_of(number: u8) -> Option<SuspendCause>
 
 /// The state of a row that isn't suspended.
 fn plain_state(number: u8) -> Option<PairState>
-    ensures { result ≡ plain_state number }
+    ensures { result ≡ causeless_state number }
 {
     match number {
         0 => Some(PairState::Pending),

@@ -10,14 +10,10 @@ mod level;
 mod limits;
 mod row;
 mod table;
-pub mod vectors;
 
 pub use command::{Change, Choice, Command, CommandError, DeviceList, Refusal};
 pub use format::{decode_row, encode_row};
-pub use laws::{
-    places_stay, put_rows_are_found, removed_rows_are_gone, rows_are_spelled, rows_keep_rules,
-    rows_read_back, states_are_changed,
-};
+pub use laws::rows_read_back;
 pub use level::Level;
 pub use limits::{MOST_ROWS, ROW_LENGTH};
 pub use row::{PairRow, PairState, SuspendCause};

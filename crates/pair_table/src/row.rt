@@ -71,12 +71,12 @@ const LAST_VOLUME: u16 = MOST_VOLUMES - 1;
 
 impl PairRow {
     ghost use Rattle.std.specs.Prelude.{◌≡◌};
-    ghost use Rattle.pair_table.specs.Rows.{keeps_rules, is_row};
+    ghost use Rattle.pair_table.specs.Rows.{keeps_row_rules, is_row};
     ghost use Rattle.pair_table.specs.Tables.{clashes};
 
     /// Whether control, volume and cylinders are in their ranges.
     pub(crate) fn keeps_rules(&self) -> bool
-        ensures rules { result ≡ keeps_rules self.now }
+        ensures rules { result ≡ keeps_row_rules self.now }
         ensures row { result ≡ is_row self.now }
     {
         // The other fields are in theirs by their types.

@@ -3,7 +3,7 @@
 ghost use Rattle.std.specs.Prelude.{◌≡◌, ◌≤◌, ◌↔◌, length, nat_le, slice_get, true, IfOk, IsSome, IfSome, OnOk, OnErr, IsTrue};
 ghost use Rattle.std.specs.List.{list_any};
 ghost use Rattle.std.specs.Option.{option_copied};
-ghost use Rattle.pair_table.specs.Rows.{keeps_rules};
+ghost use Rattle.pair_table.specs.Rows.{keeps_row_rules};
 ghost use Rattle.pair_table.specs.Tables.{most_rows, new_table, with_rows, row_of, HasRow, with_row, without_row, with_state, clashes_apart, KeepsRows, MayPut, are_below};
 
 use crate::limits::MOST_ROWS;
@@ -64,7 +64,7 @@ impl PairTable {
     /// The row at a place, counted from 0, in order of adding. None exactly where none stands there.
     pub fn row(&self, place: u16) -> Option<&PairRow>
         ensures row { option_copied result ≡ slice_get self.now.rows place }
-        ensures rules { IfSome result (λ row. IsTrue (keeps_rules row.now)) }
+        ensures rules { IfSome result (λ row. IsTrue (keeps_row_rules row.now)) }
     {
         let (_, row) = self.rows.get_index(place as usize)?;
         Some(row)
@@ -74,7 +74,7 @@ impl PairTable {
     pub fn row_of(&self, device: u16) -> Option<&PairRow>
         ensures row { option_copied result ≡ row_of device self.now.rows }
         ensures found { IsSome result ↔ HasRow device self.now.rows }
-        ensures rules { IfSome result (λ row. IsTrue (keeps_rules row.now)) }
+        ensures rules { IfSome result (λ row. IsTrue (keeps_row_rules row.now)) }
     {
         self.rows.get(&device)
     }

@@ -1,52 +1,52 @@
 -- Entries: the order of a group, what a cut takes, and the room that entries take.
-use Rattle.std.proofs.Common.{◌≡◌, ℕ, suc, ◌≤◌, ◌<◌, ◌+◌, Bool, true, false, ◌&&◌, List, [], ◌∷◌, ◌++◌, length, get_or, take, inl, inr, refl, sym, ap, ◌∙◌, arith, append_assoc, length-append}
+use Rattle.std.proofs.Common.{◌≡◌, ℕ, suc, ◌≤◌, ◌<◌, ◌+◌, Bool, true, false, ◌&&◌, List, [], ◌∷◌, ◌++◌, length, get_or, inl, inr, refl, sym, ap, ◌∙◌, arith, append_assoc, length-append}
 use Rattle.std.specs.Prelude.{◌⊎◌, nat_eq, nat_lt, nat_le, map, filter}
-use Rattle.std.specs.List.{sum_by, list_all}
-use Rattle.std.proofs.lemmas.Bool.{cases_Bool, and_parts, and_from, and_cases, and_left, and_right, or_cases, or_parts, or_from, true_from_ne_false, eqb-true, eqb-false, ltb-true, ltb-false, leb-true, leb-false, lt-ltb, le-ltb, le-leb, lt-leb}
-use Rattle.std.proofs.lemmas.List.{length-map, append-nil, take_more, map-append}
+use Rattle.std.specs.List.{sum_by}
+use Rattle.std.proofs.lemmas.Bool.{cases_Bool, and_parts, and_from, and_cases, and_left, and_right, or_cases, or_parts, or_from, eqb-true, eqb-false, ltb-true, ltb-false, leb-true, leb-false, lt-ltb, le-ltb, le-leb, lt-leb}
+use Rattle.std.proofs.lemmas.List.{length-map, append-nil}
 use Rattle.std.proofs.lemmas.List.Sums.{sum_by-cons, sum_by-append, length-filter, count_by-le-length}
 use Rattle.tod_stamp.specs.declared.stamp.Stamp.{Stamp}
 use Rattle.ckd_track.specs.declared.write.Kind.{Kind}
 use Rattle.ckd_track.specs.declared.write.Write.{Write}
 use Rattle.pending_queue.specs.declared.head.EntryHead.{EntryHead}
-use Rattle.pending_queue.specs.Entries.{IsOfWrite, IsSpelled, WaitingEntry, write_of, entry_of, entries_of, stamp_of, last_stamp_from, never_fall, writes_never_fall, is_due, is_later, due, left, stands_before}
+use Rattle.pending_queue.specs.Entries.{IsOfWrite, IsSpelled, WaitingEntry, write_of, entry_of, entries_of, entry_stamp, last_stamp_from, entries_never_fall, is_due, is_later, due, left, stands_before}
 use Rattle.pending_queue.specs.Rooms.{blocks_of, blocks_needed, blocks_taken}
 use Rattle.xrc_edge.specs.Order.{in_order, is_in_order}
-use Rattle.pending_queue.specs.Laws.{stands_at}
 use Rattle.xrc_edge.proofs.OrderLaws.{IsOrder, order_orders, order_stays}
 use Rattle.xrc_edge.proofs.Merges.{order_grows}
+use Rattle.ckd_track.specs.Writes.{writes_never_fall}
 
 -- ---- the order of a group, in numbers
 
-is_before : (a b : WaitingEntry) → stands_before a b ≡ true → (stamp_of a < stamp_of b) ⊎ ((stamp_of a ≡ stamp_of b) × (a.head.control < b.head.control))
-is_before a b e = elim (or_cases (nat_lt (stamp_of a) (stamp_of b)) (nat_eq (stamp_of a) (stamp_of b) && nat_lt a.head.control b.head.control) e) [
-  | inl lt ↦ inl (ltb-true (stamp_of a) (stamp_of b) lt)
+is_before : (a b : WaitingEntry) → stands_before a b ≡ true → (entry_stamp a < entry_stamp b) ⊎ ((entry_stamp a ≡ entry_stamp b) × (a.head.control < b.head.control))
+is_before a b e = elim (or_cases (nat_lt (entry_stamp a) (entry_stamp b)) (nat_eq (entry_stamp a) (entry_stamp b) && nat_lt a.head.control b.head.control) e) [
+  | inl lt ↦ inl (ltb-true (entry_stamp a) (entry_stamp b) lt)
   | inr both ↦
-      let parts = and_parts (nat_eq (stamp_of a) (stamp_of b)) (nat_lt a.head.control b.head.control) both in
-      inr (eqb-true (stamp_of a) (stamp_of b) parts.0, ltb-true a.head.control b.head.control parts.1)
+      let parts = and_parts (nat_eq (entry_stamp a) (entry_stamp b)) (nat_lt a.head.control b.head.control) both in
+      inr (eqb-true (entry_stamp a) (entry_stamp b) parts.0, ltb-true a.head.control b.head.control parts.1)
 ]
 
 record NotBefore (a b : WaitingEntry) : Type 0 where
-  stamps : stamp_of b ≤ stamp_of a
-  controls : stamp_of a ≡ stamp_of b → b.head.control ≤ a.head.control
+  stamps : entry_stamp b ≤ entry_stamp a
+  controls : entry_stamp a ≡ entry_stamp b → b.head.control ≤ a.head.control
 
 not_before : (a b : WaitingEntry) → stands_before a b ≡ false → NotBefore a b
 not_before a b e =
-    let parts = or_parts (nat_lt (stamp_of a) (stamp_of b)) (nat_eq (stamp_of a) (stamp_of b) && nat_lt a.head.control b.head.control) e in
+    let parts = or_parts (nat_lt (entry_stamp a) (entry_stamp b)) (nat_eq (entry_stamp a) (entry_stamp b) && nat_lt a.head.control b.head.control) e in
     record {
-      stamps = ltb-false (stamp_of a) (stamp_of b) parts.0;
-      controls = λ same. elim (and_cases (nat_eq (stamp_of a) (stamp_of b)) (nat_lt a.head.control b.head.control) parts.1) [
-        | inl other ↦ absurd (eqb-false (stamp_of a) (stamp_of b) other same)
+      stamps = ltb-false (entry_stamp a) (entry_stamp b) parts.0;
+      controls = λ same. elim (and_cases (nat_eq (entry_stamp a) (entry_stamp b)) (nat_lt a.head.control b.head.control) parts.1) [
+        | inl other ↦ absurd (eqb-false (entry_stamp a) (entry_stamp b) other same)
         | inr ge ↦ ltb-false a.head.control b.head.control ge
       ];
     }
 
 stands_not : (a b : WaitingEntry) → NotBefore a b → stands_before a b ≡ false
-stands_not a b h = elim (cases_Bool (nat_eq (stamp_of a) (stamp_of b))) [
-  | inl same ↦ or_from (nat_lt (stamp_of a) (stamp_of b)) (nat_eq (stamp_of a) (stamp_of b) && nat_lt a.head.control b.head.control) (le-ltb (stamp_of a) (stamp_of b) h.stamps)
-      (and_right (nat_eq (stamp_of a) (stamp_of b)) (nat_lt a.head.control b.head.control) (le-ltb a.head.control b.head.control (h.controls (eqb-true (stamp_of a) (stamp_of b) same))))
-  | inr other ↦ or_from (nat_lt (stamp_of a) (stamp_of b)) (nat_eq (stamp_of a) (stamp_of b) && nat_lt a.head.control b.head.control) (le-ltb (stamp_of a) (stamp_of b) h.stamps)
-      (and_left (nat_eq (stamp_of a) (stamp_of b)) (nat_lt a.head.control b.head.control) other)
+stands_not a b h = elim (cases_Bool (nat_eq (entry_stamp a) (entry_stamp b))) [
+  | inl same ↦ or_from (nat_lt (entry_stamp a) (entry_stamp b)) (nat_eq (entry_stamp a) (entry_stamp b) && nat_lt a.head.control b.head.control) (le-ltb (entry_stamp a) (entry_stamp b) h.stamps)
+      (and_right (nat_eq (entry_stamp a) (entry_stamp b)) (nat_lt a.head.control b.head.control) (le-ltb a.head.control b.head.control (h.controls (eqb-true (entry_stamp a) (entry_stamp b) same))))
+  | inr other ↦ or_from (nat_lt (entry_stamp a) (entry_stamp b)) (nat_eq (entry_stamp a) (entry_stamp b) && nat_lt a.head.control b.head.control) (le-ltb (entry_stamp a) (entry_stamp b) h.stamps)
+      (and_left (nat_eq (entry_stamp a) (entry_stamp b)) (nat_lt a.head.control b.head.control) other)
 ]
 
 pub before_order : IsOrder stands_before
@@ -61,80 +61,63 @@ before_order = record {
   });
 }
 
--- Of two entries of different controls one stands before the other.
-pub controls_apart : (a b : WaitingEntry) → nat_eq a.head.control b.head.control ≡ false → stands_before a b ≡ false → stands_before b a ≡ true
-controls_apart a b other ab = true_from_ne_false (stands_before b a) (λ ba.
-    let x = not_before a b ab in
-    let y = not_before b a ba in
-    let same : stamp_of a ≡ stamp_of b = omega (arith, x.stamps, y.stamps) in
-    eqb-false a.head.control b.head.control other (omega (arith, x.controls same, y.controls (sym same))))
-
 -- ---- stamps that don't fall
 
-never_fall_lower : (low last : ℕ) (entries : List WaitingEntry) → low ≤ last → never_fall last entries ≡ true → never_fall low entries ≡ true
+never_fall_lower : (low last : ℕ) (entries : List WaitingEntry) → low ≤ last → entries_never_fall last entries ≡ true → entries_never_fall low entries ≡ true
 never_fall_lower low last [] le e = refl
 never_fall_lower low last (x ∷ entries) le e =
-    let parts = and_parts (nat_le last (stamp_of x)) (never_fall (stamp_of x) entries) e in
-    and_from (nat_le low (stamp_of x)) (never_fall (stamp_of x) entries) (le-leb low (stamp_of x) (omega (arith, leb-true last (stamp_of x) parts.0))) parts.1
+    let parts = and_parts (nat_le last (entry_stamp x)) (entries_never_fall (entry_stamp x) entries) e in
+    and_from (nat_le low (entry_stamp x)) (entries_never_fall (entry_stamp x) entries) (le-leb low (entry_stamp x) (omega (arith, leb-true last (entry_stamp x) parts.0))) parts.1
 
-pub never_fall_filter : (test : WaitingEntry → Bool) (last : ℕ) (entries : List WaitingEntry) → never_fall last entries ≡ true → never_fall last (filter test entries) ≡ true
+pub never_fall_filter : (test : WaitingEntry → Bool) (last : ℕ) (entries : List WaitingEntry) → entries_never_fall last entries ≡ true → entries_never_fall last (filter test entries) ≡ true
 never_fall_filter test last [] e = refl
 never_fall_filter test last (x ∷ entries) e =
-    let parts = and_parts (nat_le last (stamp_of x)) (never_fall (stamp_of x) entries) e in
+    let parts = and_parts (nat_le last (entry_stamp x)) (entries_never_fall (entry_stamp x) entries) e in
     elim (cases_Bool (test x)) [
-      | inl is ↦ simp is (and_from (nat_le last (stamp_of x)) (never_fall (stamp_of x) (filter test entries)) parts.0 (never_fall_filter test (stamp_of x) entries parts.1))
-      | inr is ↦ simp is (never_fall_filter test last entries (never_fall_lower last (stamp_of x) entries (leb-true last (stamp_of x) parts.0) parts.1))
+      | inl is ↦ simp is (and_from (nat_le last (entry_stamp x)) (entries_never_fall (entry_stamp x) (filter test entries)) parts.0 (never_fall_filter test (entry_stamp x) entries parts.1))
+      | inr is ↦ simp is (never_fall_filter test last entries (never_fall_lower last (entry_stamp x) entries (leb-true last (entry_stamp x) parts.0) parts.1))
     ]
 
-pub left_never_falls : (cut : Stamp) (entries : List WaitingEntry) → never_fall 0 entries ≡ true → never_fall 0 (left cut entries) ≡ true
+pub left_never_falls : (cut : Stamp) (entries : List WaitingEntry) → entries_never_fall 0 entries ≡ true → entries_never_fall 0 (left cut entries) ≡ true
 left_never_falls cut entries e = never_fall_filter (is_later cut) 0 entries e
 
 -- the entries of writes behind those that wait
-pub pushed_never_fall : (control last : ℕ) (waiting : List WaitingEntry) (writes : List Write) → never_fall last waiting ≡ true → writes_never_fall (last_stamp_from last waiting) writes ≡ true
-    → never_fall last (waiting ++ entries_of control writes) ≡ true
+pub pushed_never_fall : (control last : ℕ) (waiting : List WaitingEntry) (writes : List Write) → entries_never_fall last waiting ≡ true → writes_never_fall (last_stamp_from last waiting) writes ≡ true
+    → entries_never_fall last (waiting ++ entries_of control writes) ≡ true
 pushed_never_fall k last [] [] e f = refl
 pushed_never_fall k last [] (w ∷ writes) e f =
     let parts = and_parts (nat_le last w.stamp.0) (writes_never_fall w.stamp.0 writes) f in
-    and_from (nat_le last w.stamp.0) (never_fall w.stamp.0 (entries_of k writes)) parts.0 (pushed_never_fall k w.stamp.0 [] writes refl parts.1)
+    and_from (nat_le last w.stamp.0) (entries_never_fall w.stamp.0 (entries_of k writes)) parts.0 (pushed_never_fall k w.stamp.0 [] writes refl parts.1)
 pushed_never_fall k last (x ∷ waiting) writes e f =
-    let parts = and_parts (nat_le last (stamp_of x)) (never_fall (stamp_of x) waiting) e in
-    and_from (nat_le last (stamp_of x)) (never_fall (stamp_of x) (waiting ++ entries_of k writes)) parts.0 (pushed_never_fall k (stamp_of x) waiting writes parts.1 f)
+    let parts = and_parts (nat_le last (entry_stamp x)) (entries_never_fall (entry_stamp x) waiting) e in
+    and_from (nat_le last (entry_stamp x)) (entries_never_fall (entry_stamp x) (waiting ++ entries_of k writes)) parts.0 (pushed_never_fall k (entry_stamp x) waiting writes parts.1 f)
 
 -- ---- cuts
 
 -- Behind an entry that a cut leaves, it leaves all.
-pub all_later : (cut : Stamp) (last : ℕ) (entries : List WaitingEntry) → cut.0 < last → never_fall last entries ≡ true → (due cut entries ≡ []) × (left cut entries ≡ entries)
+pub all_later : (cut : Stamp) (last : ℕ) (entries : List WaitingEntry) → cut.0 < last → entries_never_fall last entries ≡ true → (due cut entries ≡ []) × (left cut entries ≡ entries)
 all_later cut last [] lt e = (refl, refl)
 all_later cut last (x ∷ entries) lt e =
-    let parts = and_parts (nat_le last (stamp_of x)) (never_fall (stamp_of x) entries) e in
-    let above : cut.0 < stamp_of x = omega (arith, leb-true last (stamp_of x) parts.0) in
-    let not_due = lt-leb (stamp_of x) cut.0 above in
-    let later = lt-ltb cut.0 (stamp_of x) above in
-    let rest = all_later cut (stamp_of x) entries above parts.1 in
+    let parts = and_parts (nat_le last (entry_stamp x)) (entries_never_fall (entry_stamp x) entries) e in
+    let above : cut.0 < entry_stamp x = omega (arith, leb-true last (entry_stamp x) parts.0) in
+    let not_due = lt-leb (entry_stamp x) cut.0 above in
+    let later = lt-ltb cut.0 (entry_stamp x) above in
+    let rest = all_later cut (entry_stamp x) entries above parts.1 in
     (simp not_due rest.0, simp later (ap (λ (t : List WaitingEntry). x ∷ t) rest.1))
 
-pub each_once : (cut : Stamp) (last : ℕ) (entries : List WaitingEntry) → never_fall last entries ≡ true → due cut entries ++ left cut entries ≡ entries
+pub each_once : (cut : Stamp) (last : ℕ) (entries : List WaitingEntry) → entries_never_fall last entries ≡ true → due cut entries ++ left cut entries ≡ entries
 each_once cut last [] e = refl
 each_once cut last (x ∷ entries) e =
-    let parts = and_parts (nat_le last (stamp_of x)) (never_fall (stamp_of x) entries) e in
-    elim (cases_Bool (nat_le (stamp_of x) cut.0)) [
+    let parts = and_parts (nat_le last (entry_stamp x)) (entries_never_fall (entry_stamp x) entries) e in
+    elim (cases_Bool (nat_le (entry_stamp x) cut.0)) [
       | inl is ↦
-          let later = le-ltb cut.0 (stamp_of x) (leb-true (stamp_of x) cut.0 is) in
-          simp (is, later) (ap (λ (t : List WaitingEntry). x ∷ t) (each_once cut (stamp_of x) entries parts.1))
+          let later = le-ltb cut.0 (entry_stamp x) (leb-true (entry_stamp x) cut.0 is) in
+          simp (is, later) (ap (λ (t : List WaitingEntry). x ∷ t) (each_once cut (entry_stamp x) entries parts.1))
       | inr is ↦
-          let above = leb-false (stamp_of x) cut.0 is in
-          let later = lt-ltb cut.0 (stamp_of x) above in
-          let rest = all_later cut (stamp_of x) entries above parts.1 in
+          let above = leb-false (entry_stamp x) cut.0 is in
+          let later = lt-ltb cut.0 (entry_stamp x) above in
+          let rest = all_later cut (entry_stamp x) entries above parts.1 in
           simp (is, later, rest.0, rest.1)
-    ]
-
--- a test passes what its filter keeps
-pub filter_passes : {A : Type 0} (test : A → Bool) (items : List A) → list_all test (filter test items) ≡ true
-filter_passes test [] = refl
-filter_passes test (x ∷ items) =
-    elim (cases_Bool (test x)) [
-      | inl is ↦ simp (is, filter_passes test items)
-      | inr is ↦ simp (is, filter_passes test items)
     ]
 
 -- ---- room
@@ -151,11 +134,11 @@ pushed_blocks k waiting writes =
 pub pushed_records : (control : ℕ) (waiting : List WaitingEntry) (writes : List Write) → length (waiting ++ entries_of control writes) ≡ length waiting + length writes
 pushed_records k waiting writes = simp (length-append, length-map)
 
-pub left_blocks : (cut : Stamp) (last : ℕ) (entries : List WaitingEntry) → never_fall last entries ≡ true → blocks_taken (left cut entries) ≤ blocks_taken entries
+pub left_blocks : (cut : Stamp) (last : ℕ) (entries : List WaitingEntry) → entries_never_fall last entries ≡ true → blocks_taken (left cut entries) ≤ blocks_taken entries
 left_blocks cut last entries e =
     omega (arith, sum_by-append (λ (entry : WaitingEntry). blocks_of (length entry.form)) (due cut entries) (left cut entries), ap blocks_taken (each_once cut last entries e))
 
-pub left_records : (cut : Stamp) (last : ℕ) (entries : List WaitingEntry) → never_fall last entries ≡ true → length (left cut entries) ≤ length entries
+pub left_records : (cut : Stamp) (last : ℕ) (entries : List WaitingEntry) → entries_never_fall last entries ≡ true → length (left cut entries) ≤ length entries
 left_records cut last entries e =
     omega (arith, length-append (due cut entries) (left cut entries), ap length (each_once cut last entries e))
 
@@ -163,19 +146,19 @@ left_records cut last entries e =
 
 -- An entry that is due moves from the front of a queue to its place in a group.
 pub record IsMoved (cut : Stamp) (entry : WaitingEntry) (rest entries now : List WaitingEntry) : Type 0 where
-  pub rising : never_fall 0 rest ≡ true
+  pub rising : entries_never_fall 0 rest ≡ true
   pub ordered : is_in_order stands_before now ≡ true
   pub stays : left cut rest ≡ left cut (entry ∷ rest)
   pub moves : in_order stands_before (now ++ due cut rest) ≡ in_order stands_before (entries ++ due cut (entry ∷ rest))
   pub fewer : length (due cut (entry ∷ rest)) ≡ suc (length (due cut rest))
 
-pub moved : (cut : Stamp) (entry : WaitingEntry) (rest entries now : List WaitingEntry) → never_fall 0 (entry ∷ rest) ≡ true → is_due cut entry ≡ true
+pub moved : (cut : Stamp) (entry : WaitingEntry) (rest entries now : List WaitingEntry) → entries_never_fall 0 (entry ∷ rest) ≡ true → is_due cut entry ≡ true
     → now ≡ in_order stands_before (entries ++ entry ∷ []) → IsMoved cut entry rest entries now
 moved cut entry rest entries now e is put =
-    let parts = and_parts (nat_le 0 (stamp_of entry)) (never_fall (stamp_of entry) rest) e in
-    let not_later = le-ltb cut.0 (stamp_of entry) (leb-true (stamp_of entry) cut.0 is) in
+    let parts = and_parts (nat_le 0 (entry_stamp entry)) (entries_never_fall (entry_stamp entry) rest) e in
+    let not_later = le-ltb cut.0 (entry_stamp entry) (leb-true (entry_stamp entry) cut.0 is) in
     record {
-      rising = never_fall_lower 0 (stamp_of entry) rest (omega arith) parts.1;
+      rising = never_fall_lower 0 (entry_stamp entry) rest (omega arith) parts.1;
       ordered = ap (is_in_order stands_before) put ∙ order_orders stands_before before_order (entries ++ entry ∷ []);
       stays = simp not_later;
       moves =
@@ -187,47 +170,28 @@ moved cut entry rest entries now e is put =
     }
 
 -- Where the first entry isn't due, none is.
-pub none_due : (cut : Stamp) (entry : WaitingEntry) (rest : List WaitingEntry) → never_fall 0 (entry ∷ rest) ≡ true → is_due cut entry ≡ false → (due cut (entry ∷ rest) ≡ []) × (left cut (entry ∷ rest) ≡ entry ∷ rest)
+pub none_due : (cut : Stamp) (entry : WaitingEntry) (rest : List WaitingEntry) → entries_never_fall 0 (entry ∷ rest) ≡ true → is_due cut entry ≡ false → (due cut (entry ∷ rest) ≡ []) × (left cut (entry ∷ rest) ≡ entry ∷ rest)
 none_due cut entry rest e not_due =
-    let parts = and_parts (nat_le 0 (stamp_of entry)) (never_fall (stamp_of entry) rest) e in
-    all_later cut (stamp_of entry) (entry ∷ rest) (leb-false (stamp_of entry) cut.0 not_due)
-    (and_from (nat_le (stamp_of entry) (stamp_of entry)) (never_fall (stamp_of entry) rest) (le-leb (stamp_of entry) (stamp_of entry) (omega arith)) parts.1)
+    let parts = and_parts (nat_le 0 (entry_stamp entry)) (entries_never_fall (entry_stamp entry) rest) e in
+    all_later cut (entry_stamp entry) (entry ∷ rest) (leb-false (entry_stamp entry) cut.0 not_due)
+    (and_from (nat_le (entry_stamp entry) (entry_stamp entry)) (entries_never_fall (entry_stamp entry) rest) (le-leb (entry_stamp entry) (entry_stamp entry) (omega arith)) parts.1)
 
 -- A group that takes nothing stays as it is.
 pub nothing_moves : (entries : List WaitingEntry) → is_in_order stands_before entries ≡ true → in_order stands_before (entries ++ []) ≡ entries
 nothing_moves entries ordered = ap (in_order stands_before) (append-nil entries) ∙ order_stays stands_before entries ordered
 
 -- the same of the entry that is read at the front of a queue
-pub none_due_behind : (cut : Stamp) (entries : List WaitingEntry) (first : WaitingEntry) → never_fall 0 entries ≡ true → first ≡ get_or entries 0 first → cut.0 < stamp_of first
+pub none_due_behind : (cut : Stamp) (entries : List WaitingEntry) (first : WaitingEntry) → entries_never_fall 0 entries ≡ true → first ≡ get_or entries 0 first → cut.0 < entry_stamp first
     → (due cut entries ≡ []) × (left cut entries ≡ entries)
 none_due_behind cut [] first e is above = (refl, refl)
 none_due_behind cut (entry ∷ rest) first e is above =
-    none_due cut entry rest e (ap (λ (x : WaitingEntry). is_due cut x) (sym is) ∙ lt-leb (stamp_of first) cut.0 above)
-
--- ---- one more write
-
-pub one_more_entry : (control : ℕ) (writes : List Write) (i : ℕ) (write : Write) → i < length writes → write ≡ get_or writes i write
-    → entries_of control (take (i + 1) writes) ≡ entries_of control (take i writes) ++ entry_of control write ∷ []
-one_more_entry k writes i write lt is =
-    ap (entries_of k) (take_more writes i write lt) ∙ map-append (entry_of k) (take i writes) (get_or writes i write ∷ [])
-    ∙ ap (λ (w : Write). entries_of k (take i writes) ++ entry_of k w ∷ []) (sym is)
-
--- ---- positions
-
--- Of two entries of one stamp and control none stands before the other.
-pub none_before : (stamp control : ℕ) (a b : WaitingEntry) → stands_at stamp control a ≡ true → stands_at stamp control b ≡ true → stands_before b a ≡ false
-none_before stamp k a b at_a at_b =
-    let x = and_parts (nat_eq (stamp_of a) stamp) (nat_eq a.head.control k) at_a in
-    let y = and_parts (nat_eq (stamp_of b) stamp) (nat_eq b.head.control k) at_b in
-    let stamps : stamp_of a ≡ stamp_of b = eqb-true (stamp_of a) stamp x.0 ∙ sym (eqb-true (stamp_of b) stamp y.0) in
-    let controls : a.head.control ≡ b.head.control = eqb-true a.head.control k x.1 ∙ sym (eqb-true b.head.control k y.1) in
-    stands_not b a (record { stamps = omega arith; controls = λ same. omega arith })
+    none_due cut entry rest e (ap (λ (x : WaitingEntry). is_due cut x) (sym is) ∙ lt-leb (entry_stamp first) cut.0 above)
 
 -- ---- the last stamp, and how many a cut takes
 
-pub last_stamp_pushed : (last : ℕ) (entries : List WaitingEntry) (entry : WaitingEntry) → last_stamp_from last (entries ++ entry ∷ []) ≡ stamp_of entry
+pub last_stamp_pushed : (last : ℕ) (entries : List WaitingEntry) (entry : WaitingEntry) → last_stamp_from last (entries ++ entry ∷ []) ≡ entry_stamp entry
 last_stamp_pushed last [] entry = refl
-last_stamp_pushed last (x ∷ entries) entry = last_stamp_pushed (stamp_of x) entries entry
+last_stamp_pushed last (x ∷ entries) entry = last_stamp_pushed (entry_stamp x) entries entry
 
 pub due_within : (cut : Stamp) (entries : List WaitingEntry) → length (due cut entries) ≤ length entries
 due_within cut entries = omega (arith, length-filter (is_due cut) entries, count_by-le-length (is_due cut) entries)

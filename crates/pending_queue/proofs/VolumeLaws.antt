@@ -1,53 +1,34 @@
 -- A volume's entries among those that wait: their tracks, and a queue without them.
 use Rattle.std.proofs.Common.{◌≡◌, ℕ, zero, suc, ◌≤◌, ◌<◌, ◌+◌, Bool, true, false, not, cond, ◌||◌, List, [], ◌∷◌, ◌++◌, length, get_or, take, refl, sym, ap, ◌∙◌, arith, true≢false}
-use Rattle.std.specs.Prelude.{nat_lt, nat_le, map, filter, fold}
+use Rattle.std.specs.Prelude.{nat_lt, nat_le, map, filter}
 use Rattle.std.specs.List.{list_all, list_any}
 use Rattle.std.proofs.lemmas.Bool.{and_parts, and_from, ltb-true, leb-true, le-leb, or_right}
-use Rattle.std.proofs.lemmas.List.{map-append}
-use Rattle.std.proofs.lemmas.List.Elements.{filter_more}
-use Rattle.std.proofs.lemmas.List.Sums.{fold-append, sum_by-cons, length-filter, count_by-le-length, sum_by-take-le}
+use Rattle.std.proofs.lemmas.List.Sums.{sum_by-cons, length-filter, count_by-le-length, sum_by-take-le}
 use Rattle.tod_stamp.specs.declared.stamp.Stamp.{Stamp}
 use Rattle.ckd_track.specs.declared.rec.Rec.{Rec}
 use Rattle.ckd_track.specs.declared.write.Write.{Write}
 use Rattle.ckd_track.specs.Images.{image}
-use Rattle.change_map.specs.Sets.{with_track}
-use Rattle.pending_queue.specs.Entries.{WaitingEntry, copy_of, is_of_volume, without_volume, tracks_of, stamp_of, last_stamp_from, never_fall, writes_never_fall, is_copy_of, is_due, due, is_later, left}
+use Rattle.pending_queue.specs.Entries.{WaitingEntry, copy_of, is_of_volume, without_volume, entry_tracks, entry_stamp, last_stamp_from, entries_never_fall, is_copy_of, is_due, due, is_later, left}
 use Rattle.pending_queue.specs.declared.head.EntryHead.{EntryHead}
 use Rattle.pending_queue.specs.Rooms.{blocks_of, blocks_taken}
-use Rattle.pending_queue.specs.Maps.{with_tracks}
 use Rattle.pending_queue.proofs.EntryLaws.{never_fall_filter, none_due}
+use Rattle.ckd_track.specs.Writes.{writes_never_fall}
 
 -- ---- tracks
 
-pub track_below : (v bound : ℕ) (entries : List WaitingEntry) (k : ℕ) (d : WaitingEntry) → list_all (λ x. nat_lt x bound) (tracks_of v entries) ≡ true → k < length entries → is_of_volume v (get_or entries k d) ≡ true
+pub track_below : (v bound : ℕ) (entries : List WaitingEntry) (k : ℕ) (d : WaitingEntry) → list_all (λ x. nat_lt x bound) (entry_tracks v entries) ≡ true → k < length entries → is_of_volume v (get_or entries k d) ≡ true
     → (get_or entries k d).head.track < bound
 track_below v bound [] k d all lt is = absurd (omega arith)
 track_below v bound (e ∷ entries) zero d all lt is = ltb-true e.head.track bound (here (is_of_volume v e) is all)
   where
     here : (t : Bool) → t ≡ true → list_all (λ x. nat_lt x bound) (map (λ (e : WaitingEntry). e.head.track) (cond t (e ∷ filter (is_of_volume v) entries) (filter (is_of_volume v) entries))) ≡ true → nat_lt e.head.track bound ≡ true
-    here true is all = (and_parts (nat_lt e.head.track bound) (list_all (λ x. nat_lt x bound) (tracks_of v entries)) all).0
+    here true is all = (and_parts (nat_lt e.head.track bound) (list_all (λ x. nat_lt x bound) (entry_tracks v entries)) all).0
     here false is all = absurd cc
 track_below v bound (e ∷ entries) (suc k) d all lt is = track_below v bound entries k d (rest (is_of_volume v e) all) (omega arith) is
   where
-    rest : (t : Bool) → list_all (λ x. nat_lt x bound) (map (λ (e : WaitingEntry). e.head.track) (cond t (e ∷ filter (is_of_volume v) entries) (filter (is_of_volume v) entries))) ≡ true → list_all (λ x. nat_lt x bound) (tracks_of v entries) ≡ true
-    rest true all = (and_parts (nat_lt e.head.track bound) (list_all (λ x. nat_lt x bound) (tracks_of v entries)) all).1
+    rest : (t : Bool) → list_all (λ x. nat_lt x bound) (map (λ (e : WaitingEntry). e.head.track) (cond t (e ∷ filter (is_of_volume v) entries) (filter (is_of_volume v) entries))) ≡ true → list_all (λ x. nat_lt x bound) (entry_tracks v entries) ≡ true
+    rest true all = (and_parts (nat_lt e.head.track bound) (list_all (λ x. nat_lt x bound) (entry_tracks v entries)) all).1
     rest false all = all
-
--- one entry more
-pub tracks_more : (v : ℕ) (set : List Bool) (entries : List WaitingEntry) (k : ℕ) (e : WaitingEntry) → k < length entries → e ≡ get_or entries k e
-    → with_tracks set (tracks_of v (take (k + 1) entries)) ≡ cond (is_of_volume v e) (with_track (with_tracks set (tracks_of v (take k entries))) e.head.track) (with_tracks set (tracks_of v (take k entries)))
-tracks_more v set entries k e lt is =
-    let before = tracks_of v (take k entries) in
-    let parts : tracks_of v (take (k + 1) entries) ≡ before ++ map (λ (e : WaitingEntry). e.head.track) (cond (is_of_volume v e) (e ∷ []) []) =
-    ap (λ (es : List WaitingEntry). map (λ (e : WaitingEntry). e.head.track) es) (filter_more (is_of_volume v) entries k e lt)
-    ∙ map-append (λ (e : WaitingEntry). e.head.track) (filter (is_of_volume v) (take k entries)) (cond (is_of_volume v (get_or entries k e)) (get_or entries k e ∷ []) [])
-    ∙ ap (λ (x : WaitingEntry). before ++ map (λ (e : WaitingEntry). e.head.track) (cond (is_of_volume v x) (x ∷ []) [])) (sym is) in
-    ap (with_tracks set) parts ∙ fold-append with_track set before (map (λ (e : WaitingEntry). e.head.track) (cond (is_of_volume v e) (e ∷ []) [])) ∙ choose (is_of_volume v e)
-  where
-    choose : (t : Bool) → (let before = tracks_of v (take k entries) in
-        fold with_track (fold with_track set before) (map (λ (e : WaitingEntry). e.head.track) (cond t (e ∷ []) [])) ≡ cond t (with_track (with_tracks set before) e.head.track) (with_tracks set before))
-    choose true = refl
-    choose false = refl
 
 -- ---- a queue with fewer entries
 
@@ -65,7 +46,7 @@ filter_blocks test (e ∷ entries) = choose (test e) (filter_blocks test entries
 pub filter_records : (test : WaitingEntry → Bool) (entries : List WaitingEntry) → length (filter test entries) ≤ length entries
 filter_records test entries = omega (arith, length-filter test entries, count_by-le-length test entries)
 
-pub without_never_falls : (v : ℕ) (entries : List WaitingEntry) → never_fall 0 entries ≡ true → never_fall 0 (without_volume v entries) ≡ true
+pub without_never_falls : (v : ℕ) (entries : List WaitingEntry) → entries_never_fall 0 entries ≡ true → entries_never_fall 0 (without_volume v entries) ≡ true
 without_never_falls v entries e = never_fall_filter (λ e. not (is_of_volume v e)) 0 entries e
 
 -- ---- copied tracks that a cut leaves
@@ -98,7 +79,7 @@ left_copy_at v cut (x ∷ entries) (suc k) e lt is copy later = there (is_later 
 none_taken : (e : WaitingEntry) (rest : List WaitingEntry) → (e ∷ rest ≡ []) → ⊥
 none_taken e rest is = cc
 
-pub due_first : (cut : Stamp) (entries : List WaitingEntry) (first : WaitingEntry) (b : Bool) → 0 < length entries → first ≡ get_or entries 0 first → never_fall 0 entries ≡ true → b ≡ nat_le (stamp_of first) cut.0
+pub due_first : (cut : Stamp) (entries : List WaitingEntry) (first : WaitingEntry) (b : Bool) → 0 < length entries → first ≡ get_or entries 0 first → entries_never_fall 0 entries ≡ true → b ≡ nat_le (entry_stamp first) cut.0
     → (b ≡ true → due cut entries ≡ [] → ⊥) × ((due cut entries ≡ [] → ⊥) → b ≡ true)
 due_first cut [] first b some is rising test = absurd (omega arith)
 due_first cut (e ∷ rest) first b some is rising test = choose (is_due cut e) refl
@@ -135,11 +116,11 @@ carried_never_fall test last (w ∷ writes) e =
     choose false le rest = writes_lower last w.stamp.0 (filter test writes) (leb-true last w.stamp.0 le) rest
 
 -- one more entry at the end
-pub pushed_rises : (last : ℕ) (entries : List WaitingEntry) (e : WaitingEntry) → never_fall last entries ≡ true → last_stamp_from last entries ≤ stamp_of e → never_fall last (entries ++ e ∷ []) ≡ true
-pushed_rises last [] e rising le = and_from (nat_le last (stamp_of e)) true (le-leb last (stamp_of e) le) refl
+pub pushed_rises : (last : ℕ) (entries : List WaitingEntry) (e : WaitingEntry) → entries_never_fall last entries ≡ true → last_stamp_from last entries ≤ entry_stamp e → entries_never_fall last (entries ++ e ∷ []) ≡ true
+pushed_rises last [] e rising le = and_from (nat_le last (entry_stamp e)) true (le-leb last (entry_stamp e) le) refl
 pushed_rises last (x ∷ entries) e rising le =
-    let parts = and_parts (nat_le last (stamp_of x)) (never_fall (stamp_of x) entries) rising in
-    and_from (nat_le last (stamp_of x)) (never_fall (stamp_of x) (entries ++ e ∷ [])) parts.0 (pushed_rises (stamp_of x) entries e parts.1 le)
+    let parts = and_parts (nat_le last (entry_stamp x)) (entries_never_fall (entry_stamp x) entries) rising in
+    and_from (nat_le last (entry_stamp x)) (entries_never_fall (entry_stamp x) (entries ++ e ∷ [])) parts.0 (pushed_rises (entry_stamp x) entries e parts.1 le)
 
 pub all_carried : (writes : List Write) → filter (λ w. true) writes ≡ writes
 all_carried [] = refl

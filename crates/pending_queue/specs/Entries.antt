@@ -7,6 +7,7 @@ use Rattle.ckd_track.specs.declared.write.Kind.TheVariants.{Update, Format, Whol
 use Rattle.ckd_track.specs.declared.write.Write.{Write}
 use Rattle.ckd_track.specs.Effects.{is_kind, keeps_rules}
 use Rattle.ckd_track.specs.Entries.{queue_form}
+use Rattle.xrc_edge.specs.Order.{never_fall}
 use Rattle.std.specs.List.{list_all}
 use Rattle.pending_queue.specs.declared.entry.Effect.{Effect}
 use Rattle.pending_queue.specs.declared.entry.Effect.TheVariants.{Write as WriteEffect, Copy as CopyEffect}
@@ -23,11 +24,11 @@ is_whole (Update number bytes) = false
 is_whole (Format after recs) = false
 is_whole (Whole track) = true
 
-abbrev pub head_of : (control : ℕ) → Write → EntryHead
-head_of k write = record { control = k; volume = write.volume; track = write.track; stamp = write.stamp; whole = is_whole write.kind }
+abbrev pub entry_head : (control : ℕ) → Write → EntryHead
+entry_head k write = record { control = k; volume = write.volume; track = write.track; stamp = write.stamp; whole = is_whole write.kind }
 
 abbrev pub entry_of : (control : ℕ) → Write → WaitingEntry
-entry_of k write = record { head = head_of k write; form = queue_form write; is_copy = false }
+entry_of k write = record { head = entry_head k write; form = queue_form write; is_copy = false }
 
 -- the write of a head that does this to its track
 abbrev pub write_of : EntryHead → Kind → Write
@@ -52,7 +53,7 @@ pub record IsSpelled (head : EntryHead) (kind : Kind) (form : List ℕ) : Type 0
 pub record IsOfWrite (entry : WaitingEntry) : Type 0 where
   pub write : Write
   pub keeps : IsTrue (is_kind write.kind)
-  pub is : entry ≡ record { head = head_of entry.head.control write; form = queue_form write; is_copy = entry.is_copy }
+  pub is : entry ≡ record { head = entry_head entry.head.control write; form = queue_form write; is_copy = entry.is_copy }
 
 abbrev pub entries_of : (control : ℕ) → List Write → List WaitingEntry
 entries_of k writes = map (entry_of k) writes
@@ -70,27 +71,21 @@ all_keep_rules writes = list_all (λ write. keeps_rules write.kind) writes
 
 -- ---- stamps
 
-abbrev pub stamp_of : WaitingEntry → ℕ
-stamp_of entry = entry.head.stamp.0
+abbrev pub entry_stamp : WaitingEntry → ℕ
+entry_stamp entry = entry.head.stamp.0
 
 -- the stamp of the last entry, where `last` stands before the first
 abbrev pub last_stamp_from : (last : ℕ) → List WaitingEntry → ℕ
 last_stamp_from last [] = last
-last_stamp_from last (entry ∷ entries) = last_stamp_from (stamp_of entry) entries
+last_stamp_from last (entry ∷ entries) = last_stamp_from (entry_stamp entry) entries
 
 -- the stamp of the last entry, or 0
 abbrev pub last_stamp : List WaitingEntry → ℕ
 last_stamp entries = last_stamp_from 0 entries
 
--- The stamps of entries don't fall, from `last` on.
-abbrev pub never_fall : (last : ℕ) → List WaitingEntry → Bool
-never_fall last [] = true
-never_fall last (entry ∷ entries) = nat_le last (stamp_of entry) && never_fall (stamp_of entry) entries
-
--- The stamps of writes don't fall, from `last` on.
-abbrev pub writes_never_fall : (last : ℕ) → List Write → Bool
-writes_never_fall last [] = true
-writes_never_fall last (write ∷ writes) = nat_le last write.stamp.0 && writes_never_fall write.stamp.0 writes
+-- the stamps of entries never fall, from `last` on
+abbrev pub entries_never_fall : (last : ℕ) → List WaitingEntry → Bool
+entries_never_fall last entries = never_fall last (map entry_stamp entries)
 
 -- ---- volumes
 
@@ -102,12 +97,12 @@ abbrev pub without_volume : (volume : ℕ) → List WaitingEntry → List Waitin
 without_volume v entries = filter (λ entry. not (is_of_volume v entry)) entries
 
 -- the tracks of a volume's entries, in order
-abbrev pub tracks_of : (volume : ℕ) → List WaitingEntry → List ℕ
-tracks_of v entries = map (λ entry. entry.head.track) (filter (is_of_volume v) entries)
+abbrev pub entry_tracks : (volume : ℕ) → List WaitingEntry → List ℕ
+entry_tracks v entries = map (λ entry. entry.head.track) (filter (is_of_volume v) entries)
 
 -- whether an entry is on track x of the volume
-abbrev pub is_on : (volume x : ℕ) → WaitingEntry → Bool
-is_on v x entry = is_of_volume v entry && entry.head.track == x
+abbrev pub is_queued_on : (volume x : ℕ) → WaitingEntry → Bool
+is_queued_on v x entry = is_of_volume v entry && entry.head.track == x
 
 -- whether an entry is a copied track of the volume
 abbrev pub is_copy_of : (volume : ℕ) → WaitingEntry → Bool
@@ -121,10 +116,10 @@ copies entries = filter (λ entry. entry.is_copy) entries
 
 -- A cut takes the entries with a stamp at most its own.
 abbrev pub is_due : (cut : Stamp) → WaitingEntry → Bool
-is_due cut entry = nat_le (stamp_of entry) cut.0
+is_due cut entry = nat_le (entry_stamp entry) cut.0
 
 abbrev pub is_later : (cut : Stamp) → WaitingEntry → Bool
-is_later cut entry = nat_lt cut.0 (stamp_of entry)
+is_later cut entry = nat_lt cut.0 (entry_stamp entry)
 
 -- the entries that a cut takes
 abbrev pub due : (cut : Stamp) → List WaitingEntry → List WaitingEntry

@@ -43,8 +43,8 @@ HasRoomFor group count = length group.entries + count ≤ most_of_control * grou
 abbrev pub heads : FormedGroup → List EntryHead
 heads group = map (λ entry. entry.head) group.entries
 
-abbrev pub forms : FormedGroup → List (List ℕ)
-forms group = map (λ entry. entry.form) group.entries
+abbrev pub forms_of : FormedGroup → List (List ℕ)
+forms_of group = map (λ entry. entry.form) group.entries
 
 -- What every group keeps: it stands in order, and has no more entries than there is room for.
 pub record KeepsOrder (controls capacity : ℕ) (entries : List WaitingEntry) : Type 0 where

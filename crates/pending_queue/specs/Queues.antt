@@ -1,7 +1,7 @@
 -- What a queue is to its callers.
 use Rattle.std.specs.Prelude.{ℕ, ◌≤◌, ◌-◌, List, [], length, IsTrue}
 use Rattle.pending_queue.specs.declared.room.Room.{Room}
-use Rattle.pending_queue.specs.Entries.{WaitingEntry, never_fall}
+use Rattle.pending_queue.specs.Entries.{WaitingEntry, entries_never_fall}
 use Rattle.pending_queue.specs.Rooms.{blocks_taken}
 
 pub record QueueState : Type 0 where
@@ -28,4 +28,4 @@ free_room queue = record { records = queue.records - length queue.waiting; block
 pub record KeepsRoom (records blocks : ℕ) (waiting : List WaitingEntry) : Type 0 where
   pub within_records : length waiting ≤ records
   pub within_blocks : blocks_taken waiting ≤ blocks
-  pub rising : IsTrue (never_fall 0 waiting)
+  pub rising : IsTrue (entries_never_fall 0 waiting)

@@ -4,7 +4,7 @@ ghost use Rattle.std.specs.Prelude.{◌≡◌, ◌≤◌, ◌+◌, length, IfOk,
 ghost use Rattle.ckd_track.specs.Effects.{keeps_rules};
 ghost use Rattle.ckd_track.specs.Entries.{longest_entry};
 ghost use Rattle.ckd_track.specs.Images.{image};
-ghost use Rattle.pending_queue.specs.Entries.{IsOfWrite, entry_of, copy_of, is_copied, is_whole, head_of};
+ghost use Rattle.pending_queue.specs.Entries.{IsOfWrite, entry_of, copy_of, is_copied, is_whole, entry_head};
 ghost use Rattle.pending_queue.specs.Rooms.{blocks_of};
 
 use crate::head::EntryHead;
@@ -126,7 +126,7 @@ impl Entry {
 }
 
 fn head_of(control: u16, write: &Write) -> EntryHead
-    ensures { result ≡ head_of control write.now }
+    ensures { result ≡ entry_head control write.now }
 {
     EntryHead {
         control,

@@ -1,8 +1,8 @@
 //! Formed groups.
 
 ghost use Rattle.std.specs.Prelude.{◌≡◌, ◌<◌, ◌≤◌, ◌*◌, length, slice_get, Some, IfOk, IfSome, OnOk, OnErr, IsTrue};
-ghost use Rattle.pending_queue.specs.Entries.{IsOfWrite, never_fall, due, left};
-ghost use Rattle.pending_queue.specs.Groups.{empty_group, with_entries, with_break, with_done, HasRoomFor, heads, forms, most_of_control};
+ghost use Rattle.pending_queue.specs.Entries.{IsOfWrite, entries_never_fall, due, left};
+ghost use Rattle.pending_queue.specs.Groups.{empty_group, with_entries, with_break, with_done, HasRoomFor, heads, forms_of, most_of_control};
 
 use crate::entry::Entry;
 use crate::head::EntryHead;
@@ -86,7 +86,7 @@ impl Formed {
 
     /// Moves the entries with a stamp at most the cut from the front of a queue to their places.
     pub(crate) fn take_due(&mut self, cut: Stamp, waiting: &mut VecDeque<Entry>)
-        requires rising { IsTrue (never_fall 0 waiting.old.items) }
+        requires rising { IsTrue (entries_never_fall 0 waiting.old.items) }
         requires room { HasRoomFor self.old (length (due cut waiting.old.items)) }
         ensures moved { self.new ≡ with_entries self.old (due cut waiting.old.items) }
         ensures left { waiting.new.items ≡ left cut waiting.old.items }
@@ -126,7 +126,7 @@ impl Formed {
     /// The queue form of the entry at a place, counted from 0.
     pub fn entry(&self, place: u32) -> &[u8]
         requires { place < length self.now.entries }
-        ensures form { slice_get (forms self.now) place ≡ Some result.now }
+        ensures form { slice_get (forms_of self.now) place ≡ Some result.now }
         // It is that of a write, which the head speaks of.
         ensures write { IfSome (slice_get self.now.entries place) IsOfWrite }
     {

@@ -15,9 +15,6 @@ pub use carrier::{Carrier, Everything};
 pub use ckd_track::Cause;
 pub use formed::Formed;
 pub use head::EntryHead;
-pub use laws::{
-    controls_may_be_popped_apart, each_entry_once, groups_are_in_order, groups_grow,
-    groups_keep_entries, groups_keep_positions, groups_of_some, none_due_is_left,
-};
+pub use laws::groups_keep_entries;
 pub use queue::Queue;
 pub use room::{PushError, Room};

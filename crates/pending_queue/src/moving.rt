@@ -1,7 +1,7 @@
 //! Moving entries from a queue into a group.
 
 ghost use Rattle.std.specs.Prelude.{◌≡◌, ◌≤◌, ◌+◌, ◌∷◌, [], ◌++◌, length, vec_len, vec_capacity, IfSome, IfNone, IsTrue};
-ghost use Rattle.pending_queue.specs.Entries.{never_fall, is_due, due, left, head_before, stands_before};
+ghost use Rattle.pending_queue.specs.Entries.{entries_never_fall, is_due, due, left, head_before, stands_before};
 ghost use Rattle.xrc_edge.specs.Order.{in_order, is_in_order};
 
 use crate::entry::Entry;
@@ -18,7 +18,7 @@ fn head_before(one: EntryHead, other: EntryHead) -> bool
 
 /// Moves the entries with a stamp at most the cut from the front of a queue to their places in a group, which has room.
 pub fn move_due(waiting: &mut VecDeque<Entry>, cut: Stamp, entries: &mut Vec<Entry>)
-    requires rising { IsTrue (never_fall 0 waiting.old.items) }
+    requires rising { IsTrue (entries_never_fall 0 waiting.old.items) }
     requires ordered { IsTrue (is_in_order stands_before entries.old.items) }
     requires room { vec_len entries.old + length (due cut waiting.old.items) ≤ vec_capacity entries.old }
     ensures left { waiting.new.items ≡ left cut waiting.old.items }
@@ -32,7 +32,7 @@ pub fn move_due(waiting: &mut VecDeque<Entry>, cut: Stamp, entries: &mut Vec<Ent
 
 /// Takes the first entry out of a queue where its stamp is at most the cut.
 fn pop_due(waiting: &mut VecDeque<Entry>, cut: Stamp) -> Option<Entry>
-    requires rising { IsTrue (never_fall 0 waiting.old.items) }
+    requires rising { IsTrue (entries_never_fall 0 waiting.old.items) }
     ensures first { IfSome result (λ entry. waiting.old.items ≡ entry ∷ waiting.new.items) }
     ensures due { IfSome result (λ entry. IsTrue (is_due cut entry)) }
     ensures stays { IfNone result (waiting.new.items ≡ waiting.old.items) }

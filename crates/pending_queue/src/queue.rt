@@ -2,11 +2,12 @@
 
 ghost use Rattle.std.specs.Prelude.{◌≡◌, ◌≢◌, ◌≤◌, ◌<◌, ◌^◌, ◌+◌, ◌↔◌, ◌++◌, ◌∷◌, [], length, filter, nat_lt, slice_index_or, false, Err, IfOk, OnOk, OnErr, IsOk, IsTrue};
 ghost use Rattle.std.specs.List.{list_any, list_all};
-ghost use Rattle.pending_queue.specs.Entries.{WaitingEntry, entries_of, copy_of, copy_head, all_keep_rules, writes_never_fall, last_stamp, due, left, without_volume, tracks_of, is_copy_of};
+ghost use Rattle.pending_queue.specs.Entries.{WaitingEntry, entries_of, copy_of, copy_head, all_keep_rules, last_stamp, due, left, without_volume, entry_tracks, is_copy_of};
 ghost use Rattle.pending_queue.specs.Rooms.{blocks_taken, has_room, has_room_for_track};
 ghost use Rattle.pending_queue.specs.Maps.{with_tracks};
 ghost use Rattle.pending_queue.specs.Queues.{empty_queue, with_waiting, free_room};
 ghost use Rattle.pending_queue.specs.Groups.{HasRoomFor, with_entries};
+ghost use Rattle.ckd_track.specs.Writes.{writes_never_fall};
 
 use crate::carrier::{Carrier, Everything};
 use crate::entry::Entry;
@@ -199,9 +200,9 @@ impl Queue {
 
     /// Takes out a volume's entries, and puts their tracks into its map.
     pub fn drop_volume(&mut self, volume: u16, map: &mut ChangeMap)
-        requires tracks { IsTrue (list_all (λ x. nat_lt x (length map.old)) (tracks_of volume self.old.waiting)) }
+        requires tracks { IsTrue (list_all (λ x. nat_lt x (length map.old)) (entry_tracks volume self.old.waiting)) }
         ensures left { self.new ≡ with_waiting self.old (without_volume volume self.old.waiting) }
-        ensures mapped { map.new ≡ with_tracks map.old (tracks_of volume self.old.waiting) }
+        ensures mapped { map.new ≡ with_tracks map.old (entry_tracks volume self.old.waiting) }
     {
         map_tracks(&self.waiting, volume, map);
         take_out(&mut self.waiting, volume);
@@ -237,8 +238,8 @@ fn blocks_taken(waiting: &VecDeque<Entry>) -> u32
 
 /// Puts the tracks of a volume's entries into its map.
 fn map_tracks(waiting: &VecDeque<Entry>, volume: u16, map: &mut ChangeMap)
-    requires tracks { IsTrue (list_all (λ x. nat_lt x (length map.old)) (tracks_of volume waiting.now.items)) }
-    ensures { map.new ≡ with_tracks map.old (tracks_of volume waiting.now.items) }
+    requires tracks { IsTrue (list_all (λ x. nat_lt x (length map.old)) (entry_tracks volume waiting.now.items)) }
+    ensures { map.new ≡ with_tracks map.old (entry_tracks volume waiting.now.items) }
 {
     for k in 0..waiting.len() {
         let head = waiting[k].head();

@@ -5,7 +5,7 @@ use Rattle.std.proofs.lemmas.Bool.{eqb-true, ltb-true, leb-true, ne_eqb}
 use Rattle.ckd_track.specs.declared.rec.Rec.{Rec}
 use Rattle.ckd_track.specs.Tracks.{is_track}
 use Rattle.write_trace.specs.declared.header.VolumeHead.{VolumeHead}
-use Rattle.write_trace.specs.Headers.{Base, has_track, is_from, are_bases}
+use Rattle.write_trace.specs.Headers.{Base, is_track_of, is_from, are_bases}
 use Rattle.primary_ctl.specs.States.{is_place, base_in}
 
 both_true : (a b : Bool) → (a && b) ≡ true → (a ≡ true) × (b ≡ true)
@@ -48,9 +48,9 @@ not_here v t x y (inr at) = second (nat_eq x v)
 -- the parts of the rules
 pub parts : (volumes : List VolumeHead) (low : ℕ × ℕ) (b : Base) (base : List Base) → are_bases volumes low (b ∷ base) ≡ true → (is_from low (b.0, b.1) ≡ true) × (are_bases volumes (b.0, b.1 + 1) base ≡ true)
 parts volumes low b base e =
-    let last = both_true (has_track volumes b.0 b.1 && is_from low (b.0, b.1) && is_track b.2) (are_bases volumes (b.0, b.1 + 1) base) e in
-    let third = both_true (has_track volumes b.0 b.1 && is_from low (b.0, b.1)) (is_track b.2) last.0 in
-    let second = both_true (has_track volumes b.0 b.1) (is_from low (b.0, b.1)) third.0 in
+    let last = both_true (is_track_of volumes b.0 b.1 && is_from low (b.0, b.1) && is_track b.2) (are_bases volumes (b.0, b.1 + 1) base) e in
+    let third = both_true (is_track_of volumes b.0 b.1 && is_from low (b.0, b.1)) (is_track b.2) last.0 in
+    let second = both_true (is_track_of volumes b.0 b.1) (is_from low (b.0, b.1)) third.0 in
     (second.1, last.1)
 
 -- none that is listed above a place changes it

@@ -1,6 +1,6 @@
 -- The writes of all controls up to a time, what they make of a primary's track, and the laws that one control's own batches make
 -- the same.
-use Rattle.std.specs.Prelude.{◌≡◌, ℕ, zero, suc, ◌+◌, ◌==◌, ◌&&◌, List, [], ◌∷◌, ◌++◌, map, filter, fold, slice_get, Bool, true, Some, nat_lt, nat_le, IsTrue}
+use Rattle.std.specs.Prelude.{◌≡◌, ℕ, zero, suc, ◌+◌, ◌==◌, ◌&&◌, List, [], ◌∷◌, ◌++◌, map, filter, fold, slice_get, Bool, Some, nat_le, IsTrue}
 use Rattle.std.specs.List.{list_all, flat_map}
 use Rattle.ckd_track.specs.declared.rec.Rec.{Rec}
 use Rattle.ckd_track.specs.declared.write.Write.{Write}
@@ -8,27 +8,28 @@ use Rattle.write_trace.specs.declared.trace.Trace.{Trace}
 use Rattle.write_trace.specs.Writes.{writes_of}
 use Rattle.xrc_edge.specs.Order.{in_order}
 use Rattle.primary_ctl.specs.States.{base_in, is_on, after_writes}
+use Rattle.ckd_track.specs.Writes.{is_earlier, writes_never_fall}
 
 -- a write with the control in whose trace it stands
 pub record ControlWrite : Type 0 where
   pub control : ℕ
   pub write : Write
 
-abbrev pub of_control : ℕ → Write → ControlWrite
-of_control control write = record { control = control; write = write }
+abbrev pub write_of_control : ℕ → Write → ControlWrite
+write_of_control control write = record { control = control; write = write }
 
 -- the good writes of all controls, by control and then by position
 abbrev pub all_writes : (control : ℕ) → List Trace → List ControlWrite
 all_writes control [] = []
-all_writes control (t ∷ traces) = map (of_control control) (writes_of t.entries) ++ all_writes (control + 1) traces
+all_writes control (t ∷ traces) = map (write_of_control control) (writes_of t.entries) ++ all_writes (control + 1) traces
 
 -- whether a write has the lower stamp
-abbrev pub is_earlier : ControlWrite → ControlWrite → Bool
-is_earlier a b = nat_lt a.write.stamp.0 b.write.stamp.0
+abbrev pub is_written_earlier : ControlWrite → ControlWrite → Bool
+is_written_earlier a b = is_earlier a.write b.write
 
 -- All good writes with a stamp at most `time`, ordered by stamp, then control, then position.
 abbrev pub writes_up_to : List Trace → (time : ℕ) → List ControlWrite
-writes_up_to traces time = in_order is_earlier (filter (λ w. nat_le w.write.stamp.0 time) (all_writes 0 traces))
+writes_up_to traces time = in_order is_written_earlier (filter (λ w. nat_le w.write.stamp.0 time) (all_writes 0 traces))
 
 -- the base track of a control's volume
 abbrev pub base_track : List Trace → (control volume track : ℕ) → List Rec
@@ -47,18 +48,8 @@ primary traces time control volume track =
 
 -- ---- the laws
 
--- the stamps of writes never fall, from `last` on
-abbrev pub never_fall : (last : ℕ) → List Write → Bool
-never_fall last [] = true
-never_fall last (w ∷ writes) = nat_le last w.stamp.0 && never_fall w.stamp.0 writes
-
 abbrev pub none_falls : List Trace → Bool
-none_falls traces = list_all (λ t. never_fall 0 (writes_of t.entries)) traces
-
--- Where no trace's stamps fall, only the control's own writes count for its track, in their order.
-abbrev pub OwnWritesDecide : Type 0
-OwnWritesDecide = (traces : List Trace) (time control volume track : ℕ) (t : Trace) → IsTrue (none_falls traces) → slice_get traces control ≡ Some t →
-    primary traces time control volume track ≡ after_writes (base_in t.header.base volume track) (filter (λ w. is_on volume track w && nat_le w.stamp.0 time) (writes_of t.entries))
+none_falls traces = list_all (λ t. writes_never_fall 0 (writes_of t.entries)) traces
 
 -- the track after batches
 abbrev pub after_batches : (volume track : ℕ) → List Rec → List (List Write) → List Rec

@@ -5,5 +5,5 @@ mod held;
 mod laws;
 mod primary;
 
-pub use laws::{batches_make_the_primary, own_writes_decide};
+pub use laws::batches_make_the_primary;
 pub use primary::Primary;

@@ -1,5 +1,5 @@
 ghost use Rattle.std.specs.Prelude.{◌≡◌, ◌≤◌, ℕ, filter, All, IfOk, OnOk, IsTrue};
-ghost use Rattle.write_trace.specs.Headers.{has_track, is_header_of};
+ghost use Rattle.write_trace.specs.Headers.{is_track_of, is_header_of};
 ghost use Rattle.ckd_track.specs.declared.write.Write.{Write};
 ghost use Rattle.write_trace.specs.Writes.{IsWriteTo};
 ghost use Rattle.primary_ctl.specs.States.{PrimaryState, track_of, base_in, after_writes, is_on};
@@ -83,7 +83,7 @@ impl Primary {
 
     /// Sets `out` to a track, and gives the time.
     pub fn read_track(&self, volume: u16, track: u32, out: &mut Slot) -> Stamp
-        requires { IsTrue (has_track self.now.volumes volume track) }
+        requires { IsTrue (is_track_of self.now.volumes volume track) }
         ensures track { out.new ≡ track_of self.now volume track }
         ensures time { result.0 ≡ self.now.time }
     {

@@ -12,10 +12,10 @@ use Rattle.pair_table.specs.declared.row.PairState.TheVariants.{Pending, Copy, D
 use Rattle.pair_table.specs.declared.row.SuspendCause.TheVariants.{Control as ByControl}
 use Rattle.pair_table.specs.Rows.{is_suspended}
 use Rattle.pair_table.specs.Tables.{clashes, in_state, none_clash, row_of}
-use Rattle.row_changes.specs.Changes.{RowChange, Timed, after_change, after_changes, break_time_of, changed_row, due_after, is_at, may_all_come, may_come, may_mature, row_may_mature, since}
+use Rattle.row_changes.specs.Changes.{RowChange, Timed, after_change, after_changes, break_time_of, row_after_change, due_after, is_at, may_all_come, may_come, may_mature, row_may_mature, since}
 use Rattle.row_changes.specs.Changes.RowChange.{Break, Hit, MarkedHit, Mature, Reached}
 use Rattle.row_changes.specs.Changes.Due.{NoneDue}
-use Rattle.row_changes.specs.Toward.{all_broke, has_no_hit, is_break, is_break_of, is_maturing, is_settled, lies_in, next_row, next_state}
+use Rattle.row_changes.specs.Toward.{all_broke, has_no_hit, is_break, breaks_control, is_maturing, is_settled, lies_in, next_row, next_state}
 
 -- ---- booleans
 
@@ -32,11 +32,11 @@ same_eq a b = choose (nat_eq a b) (nat_eq b a) refl refl
 -- what changes make of one row
 abbrev pub row_after : Level → List Timed → PairRow → PairRow
 row_after level [] r = r
-row_after level (t ∷ changes) r = row_after level changes (changed_row level t r)
+row_after level (t ∷ changes) r = row_after level changes (row_after_change level t r)
 
 pub after_rows : (level : Level) (changes : List Timed) (rows : List PairRow) → after_changes level changes rows ≡ map (row_after level changes) rows
 after_rows level [] rows = sym (map-id rows)
-after_rows level (t ∷ changes) rows = after_rows level changes (after_change level t rows) ∙ map-map (row_after level changes) (changed_row level t) rows
+after_rows level (t ∷ changes) rows = after_rows level changes (after_change level t rows) ∙ map-map (row_after level changes) (row_after_change level t) rows
 
 abbrev is_plain : Timed → Bool
 is_plain t = is_break t || is_maturing t
@@ -55,7 +55,7 @@ abbrev pub state_after : List Timed → (device control : ℕ) → PairState →
 state_after [] device control state = state
 state_after (t ∷ changes) device control state = state_after changes device control (state_by t device control state)
 
-changed_is : (level : Level) (time : ℕ) (change : RowChange) (r : PairRow) → let t : Timed = record { time = time; change = change } in is_plain t ≡ true → changed_row level t r ≡ in_state (state_by t r.device r.control r.state) r
+changed_is : (level : Level) (time : ℕ) (change : RowChange) (r : PairRow) → let t : Timed = record { time = time; change = change } in is_plain t ≡ true → row_after_change level t r ≡ in_state (state_by t r.device r.control r.state) r
 changed_is level time (Mature d s) r plain = choose (nat_eq d r.device)
   where
     choose : (b : Bool) → cond b (in_state s r) r ≡ in_state (cond b s r.state) r
@@ -93,7 +93,7 @@ found_in_map f keeps d (x ∷ rows) r e = choose (nat_eq d x.device) refl (found
 -- the device's row after a change that is no hit
 found_after : (level : Level) (t : Timed) (d : ℕ) (rows : List PairRow) (r : PairRow) → is_plain t ≡ true → row_of d rows ≡ Some r → row_of d (after_change level t rows) ≡ Some (in_state (state_by t r.device r.control r.state) r)
 found_after level t d rows r plain e =
-    found_in_map (changed_row level t) (λ x. ap (λ (y : PairRow). y.device) (changed_is level t.time t.change x plain)) d rows r e
+    found_in_map (row_after_change level t) (λ x. ap (λ (y : PairRow). y.device) (changed_is level t.time t.change x plain)) d rows r e
     ∙ ap (λ (y : PairRow). let s : Option PairRow = Some y in s) (changed_is level t.time t.change r plain)
 
 -- ---- the state of a row after changes
@@ -119,8 +119,8 @@ matures_from (Suspended cause time) to may = absurd cc
 -- control's break, which lies between, where that came, and isn't suspended where it didn't.
 pub record Settles (breaks : List (Option ℕ)) (from to control : ℕ) (changes : List Timed) (old new : PairState) : Type 0 where
   pub stays : is_suspended old ≡ true → new ≡ old
-  pub broken : is_suspended old ≡ false → list_any (is_break_of control) changes ≡ true → (b : ℕ) × (break_time_of control breaks ≡ Some b) × (from ≤ b) × (b < to) × (new ≡ since ByControl b)
-  pub whole : is_suspended old ≡ false → list_any (is_break_of control) changes ≡ false → is_suspended new ≡ false
+  pub broken : is_suspended old ≡ false → list_any (breaks_control control) changes ≡ true → (b : ℕ) × (break_time_of control breaks ≡ Some b) × (from ≤ b) × (b < to) × (new ≡ since ByControl b)
+  pub whole : is_suspended old ≡ false → list_any (breaks_control control) changes ≡ false → is_suspended new ≡ false
 
 other_below : (a b : ℕ) → nat_eq a b ≡ false → a ≤ b → a < b
 other_below a b is le = omega (arith, eqb-false a b is, le)
@@ -171,11 +171,11 @@ module _ (level : Level) (breaks : List (Option ℕ)) (to device control : ℕ) 
       broke true false is suspended later = record {
         stays = λ was. absurd (true≢false (sym was ∙ suspended));
         broken = λ none any. (time, ap (λ n. break_time_of n breaks) (eqb-true control k is) ∙ is_at_is time (break_time_of k breaks) may, after, below_end time to differs before, later.stays refl);
-        whole = λ none any. absurd (true≢false (sym (same_eq k control ∙ is) ∙ (or_parts (nat_eq k control) (list_any (is_break_of control) changes) any).0));
+        whole = λ none any. absurd (true≢false (sym (same_eq k control ∙ is) ∙ (or_parts (nat_eq k control) (list_any (breaks_control control) changes) any).0));
       }
       broke false c is suspended later =
           let other : nat_eq k control ≡ false = same_eq k control ∙ is in
-          let rest : list_any (is_break_of control) (record { time = time; change = Break k } ∷ changes) ≡ list_any (is_break_of control) changes = rw other refl in
+          let rest : list_any (breaks_control control) (record { time = time; change = Break k } ∷ changes) ≡ list_any (breaks_control control) changes = rw other refl in
           record {
             stays = later.stays;
             broken = λ none any. let b = later.broken none (sym rest ∙ any) in (b.0, b.1, omega (arith, after, b.2), b.3, b.4);
@@ -216,18 +216,18 @@ module _ (level : Level) (breaks : List (Option ℕ)) (to device control : ℕ) 
 
 -- ---- breaks that must have come
 
-broke_from : (from to first control : ℕ) (breaks : List (Option ℕ)) (changes : List Timed) → all_broke from to first breaks changes ≡ true → lies_in from to (break_time_of control breaks) ≡ true → list_any (is_break_of (first + control)) changes ≡ true
+broke_from : (from to first control : ℕ) (breaks : List (Option ℕ)) (changes : List Timed) → all_broke from to first breaks changes ≡ true → lies_in from to (break_time_of control breaks) ≡ true → list_any (breaks_control (first + control)) changes ≡ true
 broke_from from to first control [] changes all lies = absurd cc
 broke_from from to first zero (b ∷ breaks) changes all lies =
-    let here = and_parts (not (lies_in from to b) || list_any (is_break_of first) changes) (all_broke from to (first + 1) breaks changes) all in
-    subst (λ k. list_any (is_break_of k) changes ≡ true) (let e : first ≡ first + 0 = omega arith in e) (came (lies_in from to b) (list_any (is_break_of first) changes) lies here.0)
+    let here = and_parts (not (lies_in from to b) || list_any (breaks_control first) changes) (all_broke from to (first + 1) breaks changes) all in
+    subst (λ k. list_any (breaks_control k) changes ≡ true) (let e : first ≡ first + 0 = omega arith in e) (came (lies_in from to b) (list_any (breaks_control first) changes) lies here.0)
   where
     came : (l a : Bool) → l ≡ true → (not l || a) ≡ true → a ≡ true
     came true a is or = or
     came false a is or = absurd cc
 broke_from from to first (suc control) (b ∷ breaks) changes all lies =
-    let here = and_parts (not (lies_in from to b) || list_any (is_break_of first) changes) (all_broke from to (first + 1) breaks changes) all in
-    subst (λ k. list_any (is_break_of k) changes ≡ true) (let e : first + 1 + control ≡ first + suc control = omega arith in e) (broke_from from to (first + 1) control breaks changes here.1 lies)
+    let here = and_parts (not (lies_in from to b) || list_any (breaks_control first) changes) (all_broke from to (first + 1) breaks changes) all in
+    subst (λ k. list_any (breaks_control k) changes ≡ true) (let e : first + 1 + control ≡ first + suc control = omega arith in e) (broke_from from to (first + 1) control breaks changes here.1 lies)
 
 -- ---- the row before the command
 
@@ -247,13 +247,13 @@ next_inside from to b after before = rw (and_from (nat_le from b) (nat_lt b to) 
 -- A row that isn't suspended has the next state, once it is settled.
 state_is : (breaks : List (Option ℕ)) (from to control : ℕ) (changes : List Timed) (old new : PairState) → all_broke from to 0 breaks changes ≡ true → Settles breaks from to control changes old new
     → is_settled new ≡ true → is_suspended old ≡ false → new ≡ next_state from to (break_time_of control breaks)
-state_is breaks from to control changes old new all s settled none = choose (list_any (is_break_of control) changes) refl
+state_is breaks from to control changes old new all s settled none = choose (list_any (breaks_control control) changes) refl
   where
-    outside : (l : Bool) → lies_in from to (break_time_of control breaks) ≡ l → list_any (is_break_of control) changes ≡ false → l ≡ false
-    outside true lies any = absurd (true≢false (sym (broke_from from to 0 control breaks changes all lies) ∙ ap (λ k. list_any (is_break_of k) changes) (let e : 0 + control ≡ control = omega arith in e) ∙ any))
+    outside : (l : Bool) → lies_in from to (break_time_of control breaks) ≡ l → list_any (breaks_control control) changes ≡ false → l ≡ false
+    outside true lies any = absurd (true≢false (sym (broke_from from to 0 control breaks changes all lies) ∙ ap (λ k. list_any (breaks_control k) changes) (let e : 0 + control ≡ control = omega arith in e) ∙ any))
     outside false lies any = refl
 
-    choose : (a : Bool) → list_any (is_break_of control) changes ≡ a → new ≡ next_state from to (break_time_of control breaks)
+    choose : (a : Bool) → list_any (breaks_control control) changes ≡ a → new ≡ next_state from to (break_time_of control breaks)
     choose true any = let b = s.broken none any in b.4 ∙ sym (next_inside from to b.0 b.2 b.3) ∙ ap (next_state from to) (sym b.1)
     choose false any = settled_is new (s.whole none any) settled ∙ sym (next_outside from to (break_time_of control breaks) (outside (lies_in from to (break_time_of control breaks)) refl any))
 

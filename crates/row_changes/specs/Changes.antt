@@ -10,6 +10,7 @@ use Rattle.pair_table.specs.declared.row.SuspendCause.{SuspendCause}
 use Rattle.pair_table.specs.declared.row.SuspendCause.TheVariants.{Device as ByDevice, Session as BySession, Control as ByControl}
 use Rattle.pair_table.specs.Rows.{is_suspended}
 use Rattle.pair_table.specs.Tables.{changed_row as row_in_state, in_state, is_of, row_of}
+use Rattle.pair_table.specs.Devices.{is_among}
 
 -- A change of rows. Rows are named by their devices.
 --   Mature: a pending row becomes copying or duplex, or a copying row duplex.
@@ -32,9 +33,6 @@ pub record Timed : Type 0 where
 
 -- ---- what each does to a row
 
-abbrev pub is_among : (device : ℕ) → List ℕ → Bool
-is_among device devices = list_any (λ d. d == device) devices
-
 abbrev pub since : SuspendCause → (time : ℕ) → PairState
 since cause time = Suspended cause (record { 0 = time })
 
@@ -54,8 +52,8 @@ abbrev pub reached_row : Level → (time : ℕ) → PairRow → PairRow
 reached_row VolumeLevel time r = r
 reached_row SessionLevel time r = suspended_by BySession time r
 
-abbrev pub changed_row : Level → Timed → PairRow → PairRow
-changed_row level t r = elim t.change [
+abbrev pub row_after_change : Level → Timed → PairRow → PairRow
+row_after_change level t r = elim t.change [
   | Mature device state ↦ row_in_state device state r
   | Break control ↦ broken_row control t.time r
   | Hit devices ↦ reached_row level t.time (hit_row devices t.time r)
@@ -64,7 +62,7 @@ changed_row level t r = elim t.change [
 ]
 
 abbrev pub after_change : Level → Timed → List PairRow → List PairRow
-after_change level t rows = map (changed_row level t) rows
+after_change level t rows = map (row_after_change level t) rows
 
 abbrev pub after_changes : Level → List Timed → List PairRow → List PairRow
 after_changes level [] rows = rows
@@ -129,10 +127,10 @@ is_of_mark NoneDue time = true
 is_of_mark (DueSince mark) time = time == mark
 is_of_mark (DueIn cut) time = false
 
-abbrev pub is_due : Due → Bool
-is_due NoneDue = false
-is_due (DueSince mark) = true
-is_due (DueIn cut) = true
+abbrev pub is_some_due : Due → Bool
+is_some_due NoneDue = false
+is_some_due (DueSince mark) = true
+is_some_due (DueIn cut) = true
 
 -- what is due once a record's changes come at a time
 abbrev pub due_in_record : Due → (time : ℕ) → Due
@@ -160,7 +158,7 @@ may_come breaks due rows t = elim t.change [
   | Break control ↦ is_of_record due t.time && is_at t.time (break_time_of control breaks)
   | Hit devices ↦ is_of_record due t.time && are_hit devices rows
   | MarkedHit devices ↦ is_of_mark due t.time && are_hit devices rows
-  | Reached ↦ is_due due && is_of_record due t.time
+  | Reached ↦ is_some_due due && is_of_record due t.time
 ]
 
 -- At the end none is due, or others are since a mark at the very end, where that may be: its record hasn't come.

@@ -1,4 +1,3 @@
 pub mod Changes
 pub mod Toward
 pub mod Laws
-pub mod Vectors

@@ -8,14 +8,15 @@ use Rattle.pair_table.specs.declared.row.PairState.TheVariants.{Pending, Copy, D
 use Rattle.pair_table.specs.declared.row.SuspendCause.TheVariants.{Control as ByControl}
 use Rattle.pair_table.specs.Rows.{is_suspended}
 use Rattle.pair_table.specs.Tables.{in_state}
-use Rattle.row_changes.specs.Changes.{Timed, break_time_of, is_among, may_all_come, since}
+use Rattle.row_changes.specs.Changes.{Timed, break_time_of, may_all_come, since}
 use Rattle.row_changes.specs.Changes.Due.{NoneDue}
 use Rattle.row_changes.specs.Changes.RowChange.{Mature, Break, Hit, MarkedHit, Reached}
+use Rattle.pair_table.specs.Devices.{is_among}
 
 -- ---- breaks and hits among changes
 
-abbrev pub is_break_of : (control : ℕ) → Timed → Bool
-is_break_of control t = elim t.change [ Break k ↦ k == control | Mature device state ↦ false | Hit devices ↦ false | MarkedHit devices ↦ false | Reached ↦ false ]
+abbrev pub breaks_control : (control : ℕ) → Timed → Bool
+breaks_control control t = elim t.change [ Break k ↦ k == control | Mature device state ↦ false | Hit devices ↦ false | MarkedHit devices ↦ false | Reached ↦ false ]
 
 abbrev pub is_break : Timed → Bool
 is_break t = elim t.change [ Break k ↦ true | Mature device state ↦ false | Hit devices ↦ false | MarkedHit devices ↦ false | Reached ↦ false ]
@@ -48,7 +49,7 @@ lies_in from to (Some b) = nat_le from b && nat_lt b to
 -- before.)
 abbrev pub all_broke : (from to control : ℕ) → (breaks : List (Option ℕ)) → List Timed → Bool
 all_broke from to k [] changes = true
-all_broke from to k (b ∷ breaks) changes = (not (lies_in from to b) || list_any (is_break_of k) changes) && all_broke from to (k + 1) breaks changes
+all_broke from to k (b ∷ breaks) changes = (not (lies_in from to b) || list_any (breaks_control k) changes) && all_broke from to (k + 1) breaks changes
 
 -- Changes of rows lead from one time to another, after which every control with a break time below has broken and none with one
 -- above. `may_be_due` says whether other rows may be due at the end.

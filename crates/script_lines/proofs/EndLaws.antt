@@ -4,8 +4,13 @@ use Rattle.std.proofs.lemmas.Bool.{or_parts, or_right}
 use Rattle.std.proofs.lemmas.List.{length_push}
 use Rattle.script_lines.specs.declared.line_end.LineEnd.{LineEnd}
 use Rattle.script_lines.specs.declared.line_end.LineEnd.TheVariants.{Nothing, TooLong, Whole}
-use Rattle.script_lines.specs.Laws.{Ends, EndsAreToldApart}
-use Rattle.script_lines.specs.Texts.{IsFed, has_feed}
+use Rattle.script_lines.specs.Texts.{IsFed, has_feed, IsNothing, IsTooLong, IsWhole}
+
+-- How a hearing ended that didn't fail, by what was heard and what is left.
+abbrev pub Ends : LineEnd → (text left : List ℕ) → Type 0
+Ends Whole text left = IsWhole (Unit {0}) text left
+Ends TooLong text left = IsTooLong text
+Ends Nothing text left = IsNothing (Unit {0}) text left
 
 -- ---- the next line of a script
 
@@ -81,7 +86,7 @@ same_end Nothing TooLong text left rest e f = absurd (long_nothing text rest f l
 same_end Nothing Nothing text left rest e f = refl
 
 -- Both are the same for the same script.
-pub told_apart : EndsAreToldApart
+pub told_apart : (script text other left rest : List ℕ) (x y : LineEnd) → script ≡ text ++ left → script ≡ other ++ rest → Ends x text left → Ends y other rest → (x ≡ y) × (text ≡ other)
 told_apart script a b left rest x y first second e f =
     let same : a ≡ b = sym (ends_next 257 refl x a left e) ∙ ap (next_text 257) (sym first ∙ second) ∙ ends_next 257 refl y b rest f in
     (same_end x y b left rest (subst (λ (l : List ℕ). Ends x l left) same e) f, same)

@@ -49,7 +49,7 @@ bytes_of (Byte b) = b ∷ []
 bytes_of End = []
 
 -- How the line ended with what was heard behind its front. None where it goes on.
-abbrev pub end_of : (front : List ℕ) → Heard → Option LineEnd
-end_of front (Byte b) = if b == 10 then Some Whole else None
-end_of [] End = Some Nothing
-end_of (b ∷ front) End = Some Whole
+abbrev pub end_after : (front : List ℕ) → Heard → Option LineEnd
+end_after front (Byte b) = if b == 10 then Some Whole else None
+end_after [] End = Some Nothing
+end_after (b ∷ front) End = Some Whole

@@ -2,7 +2,7 @@ ghost use Rattle.std.specs.Prelude.{◌≡◌, ◌+◌, ◌++◌, [], false, len
 ghost use Rattle.xrc_edge.specs.Causes.{HasCause};
 ghost use Rattle.crash_plant.specs.Calls.{WorksOnConsole};
 ghost use Rattle.script_lines.specs.Hearing.{HearsText, KeepsHearing, SaysNothing};
-ghost use Rattle.script_lines.specs.Texts.{IsFront, IsNothing, IsTooLong, IsWhole, bytes_of, end_of, has_feed};
+ghost use Rattle.script_lines.specs.Texts.{IsFront, IsNothing, IsTooLong, IsWhole, bytes_of, end_after, has_feed};
 ghost use Rattle.script_lines.specs.declared.line_end.LineEnd.TheVariants.{Nothing, TooLong, Whole};
 
 use crate::line_end::LineEnd;
@@ -14,7 +14,7 @@ use xrc_edge::Failed;
 fn put_heard(text: &mut LineText, heard: Heard) -> Option<LineEnd>
     requires { IsFront text.old }
     ensures text { text.new ≡ text.old ++ bytes_of heard }
-    ensures end { result ≡ end_of text.old heard }
+    ensures end { result ≡ end_after text.old heard }
 {
     match heard {
         Heard::Byte(byte) => {

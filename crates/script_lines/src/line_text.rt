@@ -1,8 +1,9 @@
-ghost use Rattle.std.specs.Prelude.{◌≡◌, ◌≤◌, ◌<◌, ◌+◌, ◌++◌, ◌∷◌, ◌↔◌, ◌==◌, [], ℕ, List, IsTrue, length, take};
+ghost use Rattle.std.specs.Prelude.{◌≡◌, ◌≤◌, ◌++◌, ◌∷◌, ◌↔◌, ◌==◌, [], ℕ, List, IsTrue, length};
 ghost use Rattle.std.specs.List.{position};
 ghost use Rattle.consistency.specs.Courses.{first_line};
 
 use std::marker::Model;
+use xrc_edge::Text;
 
 /// The most bytes that are heard of a line: 256 before its line feed, and one more.
 pub(crate) const MOST: usize = 257;
@@ -10,16 +11,13 @@ pub(crate) const MOST: usize = 257;
 /// What was heard of a line, with its line feed: at most 257 bytes. It takes no memory. Contracts see the list of its bytes.
 #[derive(Drop)]
 pub struct LineText {
-    bytes: [u8; MOST],
-    used: usize,
+    text: Text,
 }
 
 impl Model for LineText {
     ghost Value = { List ℕ };
 
-    ghost view = { λ text. take text.used text.bytes };
-
-    ghost invariant = { λ text. text.used ≤ 257 };
+    ghost view = { λ line. line.text };
 }
 
 impl LineText {
@@ -27,17 +25,14 @@ impl LineText {
     pub fn make() -> LineText
         ensures { result ≡ [] }
     {
-        LineText {
-            bytes: [0; MOST],
-            used: 0,
-        }
+        LineText { text: Text::make() }
     }
 
     /// What was heard, with the line feed.
     pub fn as_bytes(&self) -> &[u8]
         ensures { result.now ≡ self.now }
     {
-        &self.bytes[..self.used]
+        self.text.as_bytes()
     }
 
     /// What was heard before the line feed.
@@ -52,21 +47,20 @@ impl LineText {
     pub(crate) fn is_empty(&self) -> bool
         ensures { IsTrue result ↔ (self.now ≡ []) }
     {
-        self.used == 0
+        self.text.is_empty()
     }
 
     pub(crate) fn clear(&mut self)
         ensures { self.new ≡ [] }
     {
-        self.used = 0;
+        self.text.clear();
     }
 
     pub(crate) fn push(&mut self, byte: u8)
         requires { length self.old ≤ 256 }
         ensures { self.new ≡ self.old ++ byte ∷ [] }
     {
-        self.bytes[self.used] = byte;
-        self.used += 1;
+        self.text.push(byte);
     }
 }
 

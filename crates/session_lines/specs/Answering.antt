@@ -6,7 +6,7 @@ use Rattle.sidefile.specs.Breaks.{has_broken}
 use Rattle.pair_table.specs.declared.row.PairState.TheVariants.{Duplex}
 use Rattle.pair_table.specs.Tables.{in_state}
 use Rattle.site_means.specs.Images.{shape_of}
-use Rattle.consistency.specs.Bears.{Run, tracks_of}
+use Rattle.consistency.specs.Bears.{Run, tracks_of_row}
 use Rattle.pair_course.specs.Course.{HoldsTracks, IsAdded, MeansRows, end_line, pair_line, start_line}
 use Rattle.session_lines.specs.Asking.{AsksStart}
 use Rattle.session_lines.specs.Meanings.{NowMeans}
@@ -27,7 +27,7 @@ pub record MayPair (run : Run) (t : Trace) (p : Paired) (first now : PlantState)
   pub heard : line_heard run first (started_lines run p.start) p.text ≡ Some (pair_line run.session p.time p.row)
   pub whole : has_broken t p.time ≡ false
   pub added : IsAdded run p.row
-  pub counted : p.tracks ≡ tracks_of p.row
+  pub counted : p.tracks ≡ tracks_of_row p.row
   pub means : NowMeans now (λ c. MeansRows run (shape_of now) c (p.row ∷ []) p.time false)
 
 -- An end was heard behind the pair, and a crash leaves the ended session at its time, with the pair duplex and its primary's tracks.

@@ -1,7 +1,7 @@
 -- What a crash may leave between two calls of a run with one pair.
 use Rattle.std.specs.Prelude.{◌≡◌, ℕ, ◌≤◌, [], ◌∷◌, Bool, false, Option}
 use Rattle.crash_plant.specs.Calls.{Elapses, SameSite, Silent}
-use Rattle.crash_plant.specs.Choices.{Choice, IsChoice}
+use Rattle.crash_plant.specs.Choices.{AtEveryMoment, AtNow, Choice}
 use Rattle.crash_plant.specs.Moments.{PlantState}
 use Rattle.write_trace.specs.declared.trace.Trace.{Trace}
 use Rattle.sidefile.specs.Breaks.{has_broken}
@@ -22,11 +22,11 @@ pub record WorkSilently (old new : PlantState) : Type 0 where
 
 -- Each choice at each moment of some calls means this.
 abbrev pub EachMeans : (old new : PlantState) → (Choice → Type 0) → Type 0
-EachMeans old new means = (u : ℕ) → old.clock ≤ u → u ≤ new.clock → (c : Choice) → IsChoice new u c → means c
+EachMeans old new means = AtEveryMoment means old new
 
 -- Each choice that a crash may leave now means this.
 abbrev pub NowMeans : PlantState → (Choice → Type 0) → Type 0
-NowMeans now means = (c : Choice) → IsChoice now now.clock c → means c
+NowMeans now means = AtNow means now
 
 -- Images mean the session without a pair, at a time before the next line, up to which the trace hasn't broken.
 pub record MeanNone (run : Run) (t : Trace) (next : Option TimedCommand) (from : ℕ) (shape : Shape) (images : Images) : Type 0 where

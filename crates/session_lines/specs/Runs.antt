@@ -4,7 +4,7 @@ use Rattle.crash_plant.specs.Moments.{PlantState}
 use Rattle.write_trace.specs.declared.trace.Trace.{Trace}
 use Rattle.sidefile.specs.Breaks.{has_broken}
 use Rattle.pair_table.specs.declared.row.PairRow.{PairRow}
-use Rattle.consistency.specs.Bears.{Run, tracks_of}
+use Rattle.consistency.specs.Bears.{Run, tracks_of_row}
 use Rattle.consistency.specs.Courses.{Answered}
 use Rattle.consistency.specs.Keeping.{Keeps, stage_now}
 use Rattle.consistency.specs.Steps.{TimedCommand}
@@ -72,7 +72,7 @@ pub record IsStart (run : Run) (t : Trace) (s : Started) : Type 0 where
 pub record IsPair (run : Run) (t : Trace) (p : Paired) : Type 0 where
   pub start : IsStart run t p.start
   pub added : IsAdded run p.row
-  pub counted : p.tracks ≡ tracks_of p.row
+  pub counted : p.tracks ≡ tracks_of_row p.row
   pub whole : has_broken t p.time ≡ false
 
 -- An end behind such a pair, by whose time the trace hasn't broken.

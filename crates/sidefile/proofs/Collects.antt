@@ -14,14 +14,14 @@ use Rattle.ckd_track.specs.Effects.{is_kind, keeps_rules}
 use Rattle.write_trace.specs.declared.header.VolumeHead.{VolumeHead}
 use Rattle.write_trace.specs.declared.entry.Entry.{Entry}
 use Rattle.write_trace.specs.declared.entry.Entry.TheVariants.{Written, Idle}
-use Rattle.write_trace.specs.Headers.{has_track}
+use Rattle.write_trace.specs.Headers.{is_track_of}
 use Rattle.write_trace.specs.Entries.{stamp_of, is_entry, is_stamp_from}
 use Rattle.write_trace.specs.Writes.{writes_of, IsWriteTo}
 use Rattle.write_trace.specs.Answers.{ReaderState, ReadsEntry}
 use Rattle.sidefile.specs.declared.look.Look.{Look}
 use Rattle.sidefile.specs.declared.look.Look.TheVariants as looks
 use Rattle.sidefile.specs.Runs.{quota}
-use Rattle.sidefile.specs.Looks.{Finds, IsKept, ReadsAll, EndsAfter, FailsAfter, have_stamp, AddsWrites, TakesRun}
+use Rattle.sidefile.specs.Looks.{FindsNext, IsEntryTo, ReadsAllEntries, EndsAfter, FailsAfter, have_stamp, AddsWrites, TakesRun}
 use Rattle.sidefile.proofs.Steps.{reads_all, ends_there, bad_there, fails_there, none_read, read_then, ends_then, fails_then, writes_then}
 
 -- ---- what a test of two stamps says
@@ -61,13 +61,13 @@ stamp_from last stamp e =
     let inner = both_true (nat_le 1 stamp) (nat_le last stamp) outer.0 in
     (leb-true 1 stamp inner.0, leb-true last stamp inner.1)
 
-pub entry_kept : (volumes : List VolumeHead) (last : ℕ) (e : Entry) → is_entry volumes last e ≡ true → IsKept volumes e × (last ≤ stamp_of e)
+pub entry_kept : (volumes : List VolumeHead) (last : ℕ) (e : Entry) → is_entry volumes last e ≡ true → IsEntryTo volumes e × (last ≤ stamp_of e)
 entry_kept volumes last (Idle stamp) e = let s = stamp_from last stamp.0 e in ((s.0, All-nil (IsWriteTo volumes)), s.1)
 entry_kept volumes last (Written w) e =
-    let outer = both_true (is_stamp_from last w.stamp.0 && has_track volumes w.volume w.track) (is_kind w.kind) e in
-    let inner = both_true (is_stamp_from last w.stamp.0) (has_track volumes w.volume w.track) outer.0 in
+    let outer = both_true (is_stamp_from last w.stamp.0 && is_track_of volumes w.volume w.track) (is_kind w.kind) e in
+    let inner = both_true (is_stamp_from last w.stamp.0) (is_track_of volumes w.volume w.track) outer.0 in
     let s = stamp_from last w.stamp.0 inner.0 in
-    let to : IsWriteTo volumes w = and_true (has_track volumes w.volume w.track) (keeps_rules w.kind) inner.1 (kind_keeps w.kind outer.1) in
+    let to : IsWriteTo volumes w = and_true (is_track_of volumes w.volume w.track) (keeps_rules w.kind) inner.1 (kind_keeps w.kind outer.1) in
     ((s.0, All-cons (IsWriteTo volumes) w [] to (All-nil (IsWriteTo volumes))), s.1)
 
 pub writes_append : (xs ys : List Entry) → writes_of (xs ++ ys) ≡ writes_of xs ++ writes_of ys
@@ -87,7 +87,7 @@ pub record Collected (before now : Option (List ℕ)) (faults risen : ℕ) (old 
   pub last : new.last ≡ stamp
   pub goes_on : new.stopped ≡ None
   pub same_count : risen ≡ faults
-  pub reads : ReadsAll before now old new taken
+  pub reads : ReadsAllEntries before now old new taken
 
 pub collected_none : (told : Option (List ℕ)) (faults : ℕ) (r : ReaderState) (stamp : ℕ) (first : List Write) → length first ≤ quota → r.last ≡ stamp → r.stopped ≡ None → Collected told told faults faults r r stamp first first
 collected_none told faults r stamp first room last goes = record {
@@ -105,12 +105,12 @@ collected_none told faults r stamp first room last goes = record {
 
 module _ {a b c : Option (List ℕ)} {f1 f2 : ℕ} {r0 r1 r2 : ReaderState} {stamp : ℕ} {first all : List Write} (h : Collected a b f1 f2 r0 r1 stamp first all) where
   -- what was taken with one more entry
-  reads_more : (e : Entry) → ReadsEntry b c r1 r2 e → ReadsAll a c r0 r2 (h.taken ++ e ∷ [])
+  reads_more : (e : Entry) → ReadsEntry b c r1 r2 e → ReadsAllEntries a c r0 r2 (h.taken ++ e ∷ [])
   reads_more e reads = read_then a b c r0 r1 r2 h.taken (e ∷ []) h.reads (reads_all b c r1 r2 e h.goes_on reads)
 
-  kept_more : (e : Entry) → ReadsEntry b c r1 r2 e → IsKept r0.volumes e × (stamp ≤ stamp_of e)
+  kept_more : (e : Entry) → ReadsEntry b c r1 r2 e → IsEntryTo r0.volumes e × (stamp ≤ stamp_of e)
   kept_more e reads = let k = entry_kept r1.volumes r1.last e reads.kept in
-      (subst (λ (v : List VolumeHead). IsKept v e) h.volumes k.0, subst (λ n. n ≤ stamp_of e) h.last k.1)
+      (subst (λ (v : List VolumeHead). IsEntryTo v e) h.volumes k.0, subst (λ n. n ≤ stamp_of e) h.last k.1)
 
 module _ {a b c : Option (List ℕ)} {f1 f2 f3 : ℕ} {r0 r1 r2 : ReaderState} {stamp : ℕ} {first all : List Write} (h : Collected a b f1 f2 r0 r1 stamp first all) where
   pub collected_more : (e : Entry) (more : List Write) → ReadsEntry b c r1 r2 e → stamp_of e ≡ stamp → more ≡ all ++ writes_of (e ∷ []) → length more ≤ quota → f3 ≡ f2 → Collected a c f1 f3 r0 r2 stamp first more
@@ -144,7 +144,7 @@ module _ {a b c : Option (List ℕ)} {f1 f2 f3 : ℕ} {r0 r1 r2 : ReaderState} {
       }
 
   -- no entry
-  pub run_ends : (look : Look) → ((e : Entry) → look ≡ looks.Next e → ⊥) → Finds b c f2 f3 r1 r2 look → TakesRun a c f1 f3 r0 r2 stamp first all look
+  pub run_ends : (look : Look) → ((e : Entry) → look ≡ looks.Next e → ⊥) → FindsNext b c f2 f3 r1 r2 look → TakesRun a c f1 f3 r0 r2 stamp first all look
   run_ends (looks.Next e) other finds = absurd (other e refl)
   run_ends looks.Ended other finds = record {
     taken = h.taken;
@@ -202,7 +202,7 @@ module _ {a b c : Option (List ℕ)} {f1 f2 f3 : ℕ} {r0 r1 r2 : ReaderState} {
         found = (
           ap (λ (x : Stamp). x.0) (sym at) ∙ stamped,
           ap length is ∙ full,
-          writes_then a c r0 r2 h.taken w stamp (subst (λ (x : Entry). ReadsAll a c r0 r2 (h.taken ++ x ∷ [])) written (reads_more h e reads)) stamped,
+          writes_then a c r0 r2 h.taken w stamp (subst (λ (x : Entry). ReadsAllEntries a c r0 r2 (h.taken ++ x ∷ [])) written (reads_more h e reads)) stamped,
           count ∙ h.same_count,
         );
       }

@@ -16,9 +16,9 @@ use Rattle.sidefile.specs.declared.turn.Turn.{Turn}
 use Rattle.sidefile.specs.Runs.{runs}
 use Rattle.sidefile.specs.Breaks.{stamp}
 use Rattle.sidefile.specs.Hands.{hand, left_after}
-use Rattle.sidefile.specs.Ahead.{IsAhead, IsFault, read_of, entries_of, ahead, cause_ahead}
+use Rattle.sidefile.specs.Ahead.{IsAhead, IsFault, read_of, entries_ahead, ahead, cause_ahead}
 use Rattle.sidefile.specs.Exact.{Front, HandsSame, IsHand, LeavesRuns, IsDue, runs_ahead}
-use Rattle.sidefile.specs.Looks.{AreRead, Finds}
+use Rattle.sidefile.specs.Looks.{EntriesAreRead, FindsNext}
 use Rattle.sidefile.specs.States.{HoldsRun, HasFault}
 use Rattle.sidefile.specs.Turns.{front, IsTurn}
 use Rattle.sidefile.proofs.Steps.{reads_all, ends_there, bad_there, fails_there, fault_before}
@@ -30,15 +30,15 @@ waiting_is {control} {limit} {upto} {before} {now} {faults} {risen} {old} {new} 
 
 -- where no entry waits
 pub ahead_none : (r : ReaderState) (bytes : List ℕ) → r.stopped ≡ None → ahead None r bytes ≡ (read_of r bytes).0
-ahead_none r bytes goes = ap (λ (s : Option Stopped). entries_of s r bytes) goes
+ahead_none r bytes goes = ap (λ (s : Option Stopped). entries_ahead s r bytes) goes
 
 -- ---- an entry was read first
 
 module _ {before mid : Option (List ℕ)} {r s : ReaderState} (e : Entry) (goes : r.stopped ≡ None) (reads : ReadsEntry before mid r s e) where
-  same_ahead : (bytes rest : List ℕ) (p : AreRead r s (e ∷ []) bytes rest) (behind : List ℕ) → ahead None r (p.used ++ behind) ≡ ahead (Some e) s behind
+  same_ahead : (bytes rest : List ℕ) (p : EntriesAreRead r s (e ∷ []) bytes rest) (behind : List ℕ) → ahead None r (p.used ++ behind) ≡ ahead (Some e) s behind
   same_ahead bytes rest p behind = ahead_none r (p.used ++ behind) goes ∙ ap (λ (x : List Entry × Left). x.0) (p.fronts behind) ∙ sym (ahead_open e s behind reads.goes_on)
 
-  same_all : (bytes rest : List ℕ) → AreRead r s (e ∷ []) bytes rest → ahead None r bytes ≡ ahead (Some e) s rest
+  same_all : (bytes rest : List ℕ) → EntriesAreRead r s (e ∷ []) bytes rest → ahead None r bytes ≡ ahead (Some e) s rest
   same_all bytes rest p = ap (ahead None r) p.split ∙ same_ahead bytes rest p rest
 
   -- the same hand is due
@@ -49,7 +49,7 @@ module _ {before mid : Option (List ℕ)} {r s : ReaderState} (e : Entry) (goes 
       let same = same_all bytes rest p in
       due rest (λ g. told) ∙ ap (λ (c : Option Cause). hand control c limit (runs_ahead (front (Some e) s) rest)) p.same_end ∙ ap (λ (es : List Entry). hand control (cause_ahead r bytes) limit (runs es)) (sym same)
 
-  same_behind : (control limit : ℕ) (after : Front) (given : Hand) (bytes rest : List ℕ) (p : AreRead r s (e ∷ []) bytes rest) (used behind : List ℕ)
+  same_behind : (control limit : ℕ) (after : Front) (given : Hand) (bytes rest : List ℕ) (p : EntriesAreRead r s (e ∷ []) bytes rest) (used behind : List ℕ)
       → HandsSame control limit (front (Some e) s) after used behind given → HandsSame control limit (front None r) after (p.used ++ used) behind given
   same_behind control limit after given bytes rest p used behind same =
       let parts = append_assoc p.used used behind in
@@ -141,7 +141,7 @@ turn_ended control limit upto before now f1 f2 r t le none volumes stopped count
   keeps = inr stopped;
 }
 
-pub turn_bad : (control limit upto : ℕ) (before now : Option (List ℕ)) (f1 f2 : ℕ) (r t : ReaderState) (cause : Cause) → upto ≡ 0 → r.stopped ≡ None → Finds before now f1 f2 r t (looks.Bad cause)
+pub turn_bad : (control limit upto : ℕ) (before now : Option (List ℕ)) (f1 f2 : ℕ) (r t : ReaderState) (cause : Cause) → upto ≡ 0 → r.stopped ≡ None → FindsNext before now f1 f2 r t (looks.Bad cause)
     → IsTurn control limit upto before now f1 f2 None r t (record { hand = hands.Broken cause (stamp 0); waiting = None })
 turn_bad control limit upto before now f1 f2 r t (BadTrace place) zero goes (at, bad, stops, count) = record {
   due = λ bytes is_ahead.
@@ -166,10 +166,6 @@ turn_bad control limit upto before now f1 f2 r t ReadFault zero goes (fails, sto
   keeps = tt;
 }
 turn_bad control limit upto before now f1 f2 r t (Crowded s) zero goes finds = absurd finds
-
-pub turn_starved : (control limit upto : ℕ) (before now : Option (List ℕ)) (f1 f2 : ℕ) (waiting : Option Entry) (r t : ReaderState) → upto ≤ limit → t.volumes ≡ r.volumes → f2 ≡ f1
-    → IsTurn control limit upto before now f1 f2 waiting r t (record { hand = hands.NoMemory; waiting = None })
-turn_starved control limit upto before now f1 f2 waiting r t le volumes count = record { due = tt; holds = tt; fault = count; volumes = volumes; rises = omega arith; within = le; keeps = tt }
 
 -- where a look read no entry at its end
 pub none_left : (before : Option (List ℕ)) (r : ReaderState) → r.stopped ≡ None → EndsThere before r → (bytes : List ℕ) → IsAhead r before bytes → (ahead None r bytes ≡ []) × (cause_ahead r bytes ≡ None)

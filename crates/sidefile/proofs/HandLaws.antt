@@ -1,28 +1,17 @@
 -- Hands one after another: what each takes, and what they all hand over.
-use Rattle.std.proofs.Common.{◌≡◌, ◌≢◌, ℕ, ◌-◌, ◌<◌, ◌≤◌, min, Bool, true, false, cond, nat_eq, nat_lt, nat_le, eq-eqb, ◌&&◌, List, [], ◌∷◌, length, take, drop, map, Option, Some, None, refl, sym, ap, subst, ◌∙◌, arith}
-use Rattle.std.specs.List.{list_all}
-use Rattle.std.proofs.lemmas.Bool.{eqb-true, eqb-false, ltb-true, ltb-false, leb-true}
+use Rattle.std.proofs.Common.{◌≡◌, ◌≢◌, ℕ, ◌-◌, ◌<◌, ◌≤◌, min, Bool, true, false, nat_lt, List, [], ◌∷◌, length, take, drop, map, Option, Some, None, refl, sym, ap, subst, ◌∙◌, arith}
+use Rattle.std.proofs.lemmas.Bool.{ltb-true, ltb-false}
 use Rattle.tod_stamp.specs.declared.stamp.Stamp.{Stamp}
 use Rattle.ckd_track.specs.declared.write.Write.{Write}
 use Rattle.ckd_track.specs.declared.write.Cause.{Cause}
 use Rattle.write_trace.specs.declared.entry.Entry.{Entry}
-use Rattle.write_trace.specs.declared.entry.Entry.TheVariants.{Written, Idle}
-use Rattle.write_trace.specs.Entries.{stamp_of}
 use Rattle.write_trace.specs.Writes.{writes_of}
 use Rattle.sidefile.specs.declared.hand.Hand.{Hand}
 use Rattle.sidefile.specs.declared.hand.Hand.TheVariants as hands
-use Rattle.sidefile.specs.Runs.{run_stamp, with_first, runs, is_crowded}
+use Rattle.sidefile.specs.Runs.{run_stamp, runs, is_crowded}
 use Rattle.sidefile.specs.Breaks.{Break, stamp, crowd, break_in}
 use Rattle.sidefile.specs.Hands.{batch_of, broken, hand, left_after}
-use Rattle.sidefile.specs.Laws.{hands_at, left_at, batches_in, stamps_rise, BreaksAreTheBreak, HandedAreTheFirst}
-
-pub both_true : (a b : Bool) → (a && b) ≡ true → (a ≡ true) × (b ≡ true)
-both_true true b e = (refl, e)
-both_true false b e = absurd cc
-
-pub and_true : (a b : Bool) → a ≡ true → b ≡ true → (a && b) ≡ true
-and_true true b e f = f
-and_true false b e f = absurd cc
+use Rattle.sidefile.specs.Laws.{hands_at, left_after_all, batches_in, BreaksAreTheBreak, HandedAreTheFirst}
 
 -- ---- what one hand does
 
@@ -92,7 +81,7 @@ break_here control limit cause all b (Takes run more upto is h there goes k clea
 break_here control limit cause all b (Waits h above clean) e = absurd cc
 break_here control limit cause all b (Breaks c h upto there some br) e = br ∙ ap (λ (x : Break). Some x) (one_break c b (sym h ∙ e))
 
-breaks_of : (control limit : ℕ) (cause : Option Cause) (limits : List ℕ) (all : List (List Entry)) (b : Break) → hand control cause limit (left_at control cause limits all) ≡ broken b → break_in cause all ≡ Some b
+breaks_of : (control limit : ℕ) (cause : Option Cause) (limits : List ℕ) (all : List (List Entry)) (b : Break) → hand control cause limit (left_after_all control cause limits all) ≡ broken b → break_in cause all ≡ Some b
 breaks_of control limit cause [] all b e = break_here control limit cause all b (step control cause limit all) e
 breaks_of control limit cause (l ∷ limits) all b e = break_before control l cause all b (step control cause l all) (breaks_of control limit cause limits (left_after (hand control cause l all) all) b e)
 
@@ -105,12 +94,12 @@ breaks_are control limit cause limits entries b e = breaks_of control limit caus
 abbrev FirstsFrom : (control : ℕ) → Option Cause → (limits : List ℕ) → (all : List (List Entry)) → Hand → Type 0
 FirstsFrom control cause limits all h =
     (batches_in (h ∷ hands_at control cause limits (left_after h all)) ≡ map writes_of (take (length (batches_in (h ∷ hands_at control cause limits (left_after h all)))) all))
-    × (left_at control cause limits (left_after h all) ≡ drop (length (batches_in (h ∷ hands_at control cause limits (left_after h all)))) all)
+    × (left_after_all control cause limits (left_after h all) ≡ drop (length (batches_in (h ∷ hands_at control cause limits (left_after h all)))) all)
 
 abbrev Firsts : (control : ℕ) → Option Cause → (limits : List ℕ) → (all : List (List Entry)) → Type 0
 Firsts control cause limits all =
     (batches_in (hands_at control cause limits all) ≡ map writes_of (take (length (batches_in (hands_at control cause limits all))) all))
-    × (left_at control cause limits all ≡ drop (length (batches_in (hands_at control cause limits all))) all)
+    × (left_after_all control cause limits all ≡ drop (length (batches_in (hands_at control cause limits all))) all)
 
 firsts_by : (control l : ℕ) (cause : Option Cause) (limits : List ℕ) (all : List (List Entry)) → Step control cause l all
     → ((left : List (List Entry)) → Firsts control cause limits left) → FirstsFrom control cause limits all (hand control cause l all)
@@ -124,48 +113,3 @@ firsts_by control l cause limits all (Breaks c h upto there some br) others = su
 pub handed_first : HandedAreTheFirst
 handed_first control cause [] all = (refl, refl)
 handed_first control cause (l ∷ limits) all = firsts_by control l cause limits all (step control cause l all) (λ left. handed_first control cause limits left)
-
--- ---- runs in order
-
-abbrev pub of_stamp : (s : ℕ) → List Write → Bool
-of_stamp s writes = list_all (λ w. nat_eq w.stamp.0 s) writes
-
--- Each run's writes have its stamp, and stamps of runs rise from above `low` on.
-abbrev pub Ordered : (low : ℕ) → List (List Entry) → Type 0
-Ordered low [] = Unit {0}
-Ordered low (run ∷ more) = (low < run_stamp run) × (of_stamp (run_stamp run) (writes_of run) ≡ true) × Ordered (run_stamp run) more
-
--- the same, where the first stamp may be `last`
-abbrev pub OrderedFrom : (last : ℕ) → List (List Entry) → Type 0
-OrderedFrom last [] = Unit {0}
-OrderedFrom last (run ∷ more) = (last ≤ run_stamp run) × (of_stamp (run_stamp run) (writes_of run) ≡ true) × Ordered (run_stamp run) more
-
-first_of_stamp : (e : Entry) (run : List Entry) → of_stamp (stamp_of e) (writes_of run) ≡ true → of_stamp (stamp_of e) (writes_of (e ∷ run)) ≡ true
-first_of_stamp (Written w) run h = and_true (nat_eq w.stamp.0 w.stamp.0) (of_stamp w.stamp.0 (writes_of run)) (eq-eqb w.stamp.0 w.stamp.0 refl) h
-first_of_stamp (Idle s) run h = h
-
-ordered_with : (last : ℕ) (e : Entry) (all : List (List Entry)) → last ≤ stamp_of e → OrderedFrom (stamp_of e) all → OrderedFrom last (with_first e all)
-ordered_with last e [] le h = (le, first_of_stamp e [] refl, tt)
-ordered_with last e (run ∷ more) le (from, own, others) = choose (nat_eq (stamp_of e) (run_stamp run)) refl
-  where
-    choose : (t : Bool) → nat_eq (stamp_of e) (run_stamp run) ≡ t → OrderedFrom last (cond t ((e ∷ run) ∷ more) ((e ∷ []) ∷ run ∷ more))
-    choose true is =
-        let same : run_stamp run ≡ stamp_of e = sym (eqb-true (stamp_of e) (run_stamp run) is) in
-        (le, first_of_stamp e run (subst (λ n. of_stamp n (writes_of run) ≡ true) same own), subst (λ n. Ordered n more) same others)
-    choose false is =
-        let other : stamp_of e ≢ run_stamp run = eqb-false (stamp_of e) (run_stamp run) is in
-        (le, first_of_stamp e [] refl, (omega (arith, from, other), own, others))
-
-pub ordered_runs : (last : ℕ) (entries : List Entry) → stamps_rise last entries ≡ true → OrderedFrom last (runs entries)
-ordered_runs last [] e = tt
-ordered_runs last (x ∷ entries) e =
-    let parts = both_true (nat_le last (stamp_of x)) (stamps_rise (stamp_of x) entries) e in
-    ordered_with last x (runs entries) (leb-true last (stamp_of x) parts.0) (ordered_runs (stamp_of x) entries parts.1)
-
-pub strictly : (all : List (List Entry)) → OrderedFrom 1 all → Ordered 0 all
-strictly [] h = tt
-strictly (run ∷ more) (from, own, others) = (omega (arith, from), own, others)
-
-pub raised : (low limit : ℕ) (all : List (List Entry)) → Ordered low all → IsAbove limit all → Ordered limit all
-raised low limit [] h above = tt
-raised low limit (run ∷ more) (from, own, others) above = (above, own, others)

@@ -9,6 +9,4 @@ pub mod RunLaws
 pub mod TurnLaws
 pub mod FirstTurns
 pub mod HandLaws
-pub mod UpTo
 pub mod TraceLaws
-pub mod HandoverLaws

@@ -1,15 +1,16 @@
 -- The same for entries.
 use Rattle.std.proofs.Common.{ℕ, ◌+◌, ◌*◌, cond, nat_eq, nat_lt, nat_le, ◌&&◌, List, length, Ok}
 use Rattle.std.specs.Int.{w8, w16, w64}
-use Rattle.tod_stamp.specs.Fields.{◌>>=◌, bytes_at, number_at, within}
+use Rattle.tod_stamp.specs.Fields.{◌>>=◌, bytes_at, number_at, within, any}
 use Rattle.ckd_track.specs.declared.write.Kind.TheVariants.{Update, Format, Whole}
 use Rattle.ckd_track.specs.Effects.{longest_update}
 use Rattle.write_trace.specs.declared.header.VolumeHead.{VolumeHead}
 use Rattle.write_trace.specs.Headers.{place_at, cylinders_of, cylinder_width, image_field}
-use Rattle.write_trace.specs.Entries.{any, update_at, format_at, whole_at, kind_at, write_at, entry_at, records_field}
+use Rattle.write_trace.specs.Entries.{format_at, whole_at, kind_at, write_at, entry_at, records_field}
 use Rattle.write_trace.specs.declared.entry.Entry.TheVariants.{Written, Idle}
 use Rattle.sidefile.proofs.Local.{IsLocal, local_number, local_bytes, local_done, local_then, local_choice}
 use Rattle.sidefile.proofs.LocalImages.{local_image, local_records}
+use Rattle.ckd_track.specs.Fields.{update_at}
 
 local_update : IsLocal update_at
 unfolding update_at

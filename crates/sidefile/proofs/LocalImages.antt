@@ -6,7 +6,7 @@ use Rattle.std.proofs.lemmas.List.{drop_at, take-append-drop, take-append-le}
 use Rattle.tod_stamp.specs.Fields.{◌>>=◌, Left}
 use Rattle.tod_stamp.proofs.FieldLaws.{bind_ok, guard_ok}
 use Rattle.ckd_track.specs.declared.rec.Rec.{Rec}
-use Rattle.ckd_track.specs.Tracks.{size, capacity}
+use Rattle.ckd_track.specs.Tracks.{record_size, capacity}
 use Rattle.ckd_track.specs.declared.fault.ImageError.{ImageError}
 use Rattle.ckd_track.specs.declared.fault.ImageError.TheVariants.{Short, TooBig, Order, NoMemory}
 use Rattle.ckd_track.specs.Images.{record_spelling, record_after_head, record_at, records_at, image_at}
@@ -89,15 +89,15 @@ unfolding records_at
 records_local zero place last room bytes x e = subst (λ (p : List Rec × List ℕ). TakenImage (records_at zero place last room) bytes p) (given_is ([], bytes) x e)
     (record { text = []; parts = refl; again = λ more. refl })
 records_local (suc count) place last room bytes x e =
-    let g : Rec × List ℕ → Result (List Rec × List ℕ) ImageError = λ first. records_at count (place + length (record_spelling first.0)) first.0.number (room - size first.0) first.1 >>= λ others. Ok (first.0 ∷ others.0, others.1) in
+    let g : Rec × List ℕ → Result (List Rec × List ℕ) ImageError = λ first. records_at count (place + length (record_spelling first.0)) first.0.number (room - record_size first.0) first.1 >>= λ others. Ok (first.0 ∷ others.0, others.1) in
     let b = bind_ok (record_at place last room bytes) g x e in
     let r = b.0.0 in
     let h : List Rec × List ℕ → Result (List Rec × List ℕ) ImageError = λ others. Ok (r ∷ others.0, others.1) in
-    let c = bind_ok (records_at count (place + length (record_spelling r)) r.number (room - size r) b.0.1) h x b.2 in
+    let c = bind_ok (records_at count (place + length (record_spelling r)) r.number (room - record_size r) b.0.1) h x b.2 in
     let last_part : TakenImage (λ rest. h (c.0.0, rest)) c.0.1 x = subst (λ (p : List Rec × List ℕ). TakenImage (λ rest. h (c.0.0, rest)) c.0.1 p) (given_is (r ∷ c.0.0, c.0.1) x c.2)
     (record { text = []; parts = refl; again = λ more. refl }) in
     then_local (record_at place last room) g bytes x b.0 (record_local place last room bytes b.0 b.1)
-    (then_local (records_at count (place + length (record_spelling r)) r.number (room - size r)) h b.0.1 x c.0 (records_local count (place + length (record_spelling r)) r.number (room - size r) b.0.1 c.0 c.1) last_part)
+    (then_local (records_at count (place + length (record_spelling r)) r.number (room - record_size r)) h b.0.1 x c.0 (records_local count (place + length (record_spelling r)) r.number (room - record_size r) b.0.1 c.0 c.1) last_part)
 
 image_again : (a b : ℕ) (rest : List ℕ) (y : List Rec × List ℕ) → nat_lt 255 (from_be_bytes w16 (a ∷ b ∷ [])) ≡ false → records_at (from_be_bytes w16 (a ∷ b ∷ [])) 2 0 capacity rest ≡ Ok y → image_at (a ∷ b ∷ rest) ≡ Ok y
 unfolding image_at

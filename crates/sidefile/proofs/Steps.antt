@@ -14,13 +14,13 @@ use Rattle.write_trace.specs.declared.entry.Entry.TheVariants.{Written}
 use Rattle.write_trace.specs.declared.trace.TraceEnd.TheVariants as ends
 use Rattle.write_trace.specs.declared.trace.TraceEnd.TheVariants.{Ended}
 use Rattle.write_trace.specs.Entries.{entry_spelling, entry_at, stamp_of}
-use Rattle.write_trace.specs.Good.{most_bytes, entries_from, last_stamp, end_of, bad_end}
+use Rattle.write_trace.specs.Good.{most_bytes, entries_from, last_entry_stamp, end_of, bad_end}
 use Rattle.write_trace.specs.declared.next.Stopped.{Stopped}
 use Rattle.write_trace.specs.Unread.{unread, seen}
 use Rattle.write_trace.specs.Answers.{ReaderState, ReadsEntry, EndsThere, IsBadThere, FailsThere}
 use Rattle.sidefile.specs.Breaks.{cause_of}
 use Rattle.sidefile.specs.Ahead.{IsFault, read_of, end_at, cause_ahead, cause_to_come}
-use Rattle.sidefile.specs.Looks.{AreRead, ReadsAll, EndsAfter, FailsAfter, WritesAfter}
+use Rattle.sidefile.specs.Looks.{EntriesAreRead, ReadsAllEntries, EndsAfter, FailsAfter, WritesAfter}
 use Rattle.sidefile.proofs.Local.{at}
 use Rattle.sidefile.proofs.LocalEntries.{local_entry}
 use Rattle.sidefile.proofs.Turns.{turn_ok, turn_err, shorter, enough_turns, none_there}
@@ -94,7 +94,7 @@ read_behind old new e bytes rest t volumes last front =
 pub cause_open : (r : ReaderState) (bytes : List ℕ) → r.stopped ≡ None → cause_ahead r bytes ≡ cause_of (end_at (r.left.place + length bytes) (read_of r bytes).1)
 cause_open r bytes goes = ap (λ (s : Option Stopped). cause_to_come s r bytes) goes
 
-pub reads_all : (before now : Option (List ℕ)) (old new : ReaderState) (e : Entry) → old.stopped ≡ None → ReadsEntry before now old new e → ReadsAll before now old new (e ∷ [])
+pub reads_all : (before now : Option (List ℕ)) (old new : ReaderState) (e : Entry) → old.stopped ≡ None → ReadsEntry before now old new e → ReadsAllEntries before now old new (e ∷ [])
 reads_all before now old new e goes reads bytes told =
     let (rest, there, t) = took before now old new e reads bytes told in
     let behind = λ (front : List ℕ). read_behind old new e bytes rest t reads.volumes reads.last front in
@@ -166,22 +166,22 @@ fails_there before now old new fails bytes told =
     (left, source, held, split, ap (λ (p : List Entry × Left). p.0) read, λ given len. fault_of given read (omega (arith, len, fails.place, fails.within)))
   where
     fault_of : (given : List ℕ) → read_of old new.left.bytes ≡ ([], seen old.left.place new.left.bytes) → length given ≤ most_bytes
-        → end_of true given 1 old.volumes (last_stamp old.last (read_of old new.left.bytes).0) (read_of old new.left.bytes).1 ≡ ends.ReadFault
+        → end_of true given 1 old.volumes (last_entry_stamp old.last (read_of old new.left.bytes).0) (read_of old new.left.bytes).1 ≡ ends.ReadFault
     fault_of given read le =
-        ap (λ (x : List Entry × Left). end_of true given 1 old.volumes (last_stamp old.last x.0) x.1) read
+        ap (λ (x : List Entry × Left). end_of true given 1 old.volumes (last_entry_stamp old.last x.0) x.1) read
         ∙ ap (bad_end true given old.left.place) fails.cut.1
         ∙ ap (λ b. cond b ends.ReadFault (ends.BadTrace old.left.place)) (le-leb (length given) most_bytes le)
 
 -- ---- one after another
 
-pub none_read : (told : Option (List ℕ)) (r : ReaderState) → ReadsAll told told r r []
+pub none_read : (told : Option (List ℕ)) (r : ReaderState) → ReadsAllEntries told told r r []
 none_read told r bytes there = (bytes, there, record { used = []; split = refl; place = omega arith; fronts = λ front. refl; last = refl; volumes = refl; same_end = refl })
 
-last_append : (last : ℕ) (xs ys : List Entry) → last_stamp last (xs ++ ys) ≡ last_stamp (last_stamp last xs) ys
+last_append : (last : ℕ) (xs ys : List Entry) → last_entry_stamp last (xs ++ ys) ≡ last_entry_stamp (last_entry_stamp last xs) ys
 last_append last [] ys = refl
 last_append last (x ∷ xs) ys = last_append (stamp_of x) xs ys
 
-pub read_then : (a b c : Option (List ℕ)) (r s t : ReaderState) (xs ys : List Entry) → ReadsAll a b r s xs → ReadsAll b c s t ys → ReadsAll a c r t (xs ++ ys)
+pub read_then : (a b c : Option (List ℕ)) (r s t : ReaderState) (xs ys : List Entry) → ReadsAllEntries a b r s xs → ReadsAllEntries b c s t ys → ReadsAllEntries a c r t (xs ++ ys)
 read_then a b c r s t xs ys one two bytes told =
     let (mid, there, p) = one bytes told in
     let (rest, last, q) = two mid there in (
@@ -196,33 +196,33 @@ read_then a b c r s t xs ys one two bytes told =
             ∙ p.fronts (q.used ++ front)
             ∙ ap (λ (x : List Entry × Left). (xs ++ x.0, x.1)) (q.fronts front)
             ∙ ap (λ (es : List Entry). (es, (read_of t front).1)) (sym (append_assoc xs ys (read_of t front).0));
-        last = q.last ∙ ap (λ n. last_stamp n ys) p.last ∙ sym (last_append r.last xs ys);
+        last = q.last ∙ ap (λ n. last_entry_stamp n ys) p.last ∙ sym (last_append r.last xs ys);
         volumes = q.volumes ∙ p.volumes;
         same_end = q.same_end ∙ p.same_end;
       },
     )
 
 -- all bytes, where nothing is left out
-pub whole_read : (r s : ReaderState) (xs : List Entry) (bytes rest : List ℕ) → AreRead r s xs bytes rest → (read_of r bytes).0 ≡ xs ++ (read_of s rest).0
+pub whole_read : (r s : ReaderState) (xs : List Entry) (bytes rest : List ℕ) → EntriesAreRead r s xs bytes rest → (read_of r bytes).0 ≡ xs ++ (read_of s rest).0
 whole_read r s xs bytes rest p =
     ap (λ (b : List ℕ). (read_of r b).0) p.split ∙ ap (λ (x : List Entry × Left). x.0) (p.fronts rest)
 
-pub ends_then : (a b : Option (List ℕ)) (r s : ReaderState) (xs ys : List Entry) (cause : Option Cause) → ReadsAll a b r s xs → EndsAfter b s ys cause → EndsAfter a r (xs ++ ys) cause
+pub ends_then : (a b : Option (List ℕ)) (r s : ReaderState) (xs ys : List Entry) (cause : Option Cause) → ReadsAllEntries a b r s xs → EndsAfter b s ys cause → EndsAfter a r (xs ++ ys) cause
 ends_then a b r s xs ys cause one two bytes told =
     let (mid, there, p) = one bytes told in
     let (read, end) = two mid there in
     (whole_read r s xs bytes mid p ∙ ap (λ (es : List Entry). xs ++ es) read, sym p.same_end ∙ end)
 
 -- a fault behind bytes that follow entries is a fault behind them all
-pub fault_before : (r s : ReaderState) (xs : List Entry) (bytes rest : List ℕ) (p : AreRead r s xs bytes rest) (front : List ℕ) → IsFault s front → IsFault r (p.used ++ front)
+pub fault_before : (r s : ReaderState) (xs : List Entry) (bytes rest : List ℕ) (p : EntriesAreRead r s xs bytes rest) (front : List ℕ) → IsFault s front → IsFault r (p.used ++ front)
 fault_before r s xs bytes rest p front fault given len =
     let behind = read_of s front in
-    ap (λ (x : List Entry × Left). end_of true given 1 r.volumes (last_stamp r.last x.0) x.1) (p.fronts front)
-    ∙ ap (λ n. end_of true given 1 r.volumes n behind.1) (last_append r.last xs behind.0 ∙ ap (λ n. last_stamp n behind.0) (sym p.last))
-    ∙ ap (λ (v : List VolumeHead). end_of true given 1 v (last_stamp s.last behind.0) behind.1) (sym p.volumes)
+    ap (λ (x : List Entry × Left). end_of true given 1 r.volumes (last_entry_stamp r.last x.0) x.1) (p.fronts front)
+    ∙ ap (λ n. end_of true given 1 r.volumes n behind.1) (last_append r.last xs behind.0 ∙ ap (λ n. last_entry_stamp n behind.0) (sym p.last))
+    ∙ ap (λ (v : List VolumeHead). end_of true given 1 v (last_entry_stamp s.last behind.0) behind.1) (sym p.volumes)
     ∙ fault given (omega (arith, len, p.place, length-append p.used front))
 
-pub fails_then : (a b c : Option (List ℕ)) (r s : ReaderState) (xs ys : List Entry) → ReadsAll a b r s xs → FailsAfter b c s ys → FailsAfter a c r (xs ++ ys)
+pub fails_then : (a b c : Option (List ℕ)) (r s : ReaderState) (xs ys : List Entry) → ReadsAllEntries a b r s xs → FailsAfter b c s ys → FailsAfter a c r (xs ++ ys)
 fails_then a b c r s xs ys one two bytes told =
     let (mid, there, p) = one bytes told in
     let (left, source, front, split, read, fault) = two mid there in (
@@ -234,7 +234,7 @@ fails_then a b c r s xs ys one two bytes told =
       fault_before r s xs bytes mid p front fault,
     )
 
-pub writes_then : (a b : Option (List ℕ)) (r s : ReaderState) (xs : List Entry) (w : Write) (stamp : ℕ) → ReadsAll a b r s (xs ++ Written w ∷ []) → w.stamp.0 ≡ stamp → WritesAfter a r xs stamp
+pub writes_then : (a b : Option (List ℕ)) (r s : ReaderState) (xs : List Entry) (w : Write) (stamp : ℕ) → ReadsAllEntries a b r s (xs ++ Written w ∷ []) → w.stamp.0 ≡ stamp → WritesAfter a r xs stamp
 writes_then a b r s xs w stamp one is bytes told =
     let (mid, there, p) = one bytes told in
     (w, (read_of s mid).0, whole_read r s (xs ++ Written w ∷ []) bytes mid p ∙ append_assoc xs (Written w ∷ []) (read_of s mid).0, is)

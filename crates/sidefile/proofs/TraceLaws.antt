@@ -12,14 +12,15 @@ use Rattle.write_trace.specs.declared.trace.TraceEnd.{TraceEnd}
 use Rattle.write_trace.specs.declared.trace.TraceEnd.TheVariants.{Ended, BadTrace, ReadFault}
 use Rattle.write_trace.specs.Headers.{header_at}
 use Rattle.write_trace.specs.Entries.{entry_at}
-use Rattle.write_trace.specs.Good.{most_bytes, whole_trace, entries_from, bad_start, after_header, end_of, bad_end, last_stamp, trace_of}
+use Rattle.write_trace.specs.Good.{most_bytes, whole_trace, entries_from, bad_start, after_header, end_of, bad_end, last_entry_stamp, trace_of}
 use Rattle.write_trace.specs.Unread.{seen}
 use Rattle.sidefile.specs.Breaks.{cause_of}
-use Rattle.sidefile.specs.Ahead.{read_of, end_at, ahead}
-use Rattle.sidefile.specs.Laws.{AheadIsTheTrace, GivenIsTheTrace}
+use Rattle.sidefile.specs.Ahead.{read_of, end_at, ahead, IsFault, cause_ahead}
 use Rattle.sidefile.proofs.FirstTurns.{ahead_none}
 use Rattle.sidefile.proofs.Steps.{cause_open}
 use Rattle.sidefile.proofs.LocalHeaders.{header_of_front}
+use Rattle.write_trace.specs.Answers.{ReaderState}
+use Rattle.std.specs.Prelude.{◌++◌}
 
 -- the trace by what was read as its header
 abbrev trace_by : (failed : Bool) → List ℕ → Result (Header × Left) Bad → Result Trace HeaderError
@@ -44,7 +45,13 @@ end_without given version volumes last left bytes_end e =
 one_trace : (a b : Trace) → (let x : Result Trace HeaderError = Ok a in let y : Result Trace HeaderError = Ok b in x ≡ y) → a ≡ b
 one_trace a b e = cc
 
-pub ahead_trace : AheadIsTheTrace
+-- What is ahead of the reader that stands behind a trace's header are the trace's entries, with the trace's end: where the source
+-- didn't fail, and where it failed behind these bytes.
+pub ahead_trace : (failed : Bool) (given rest : List ℕ) (header : Header) (reader : ReaderState) (trace : Trace) →
+    header_at 1 (whole_trace given) ≡ Ok (header, seen reader.left.place rest) → length given ≡ reader.left.place + length rest →
+    header.version ≡ 1 → reader.volumes ≡ header.volumes → reader.last ≡ 0 → reader.stopped ≡ None →
+    trace_of 1 failed given ≡ Ok trace →
+    (ahead None reader rest ≡ trace.entries) × (failed ≡ false → cause_ahead reader rest ≡ cause_of trace.end) × (failed ≡ true → IsFault reader rest → trace.end ≡ ReadFault)
 ahead_trace failed given rest header reader trace read len version volumes last goes is =
     let left = seen reader.left.place rest in
     let n = length left.bytes in
@@ -54,19 +61,19 @@ ahead_trace failed given rest header reader trace read len version volumes last 
     let trace_is : made ≡ trace = one_trace made trace whole in
     let same : read_of reader rest ≡ found =
     ap (λ (v : List VolumeHead). entries_from n 1 v reader.last left) volumes ∙ ap (λ s. entries_from n 1 header.volumes s left) last ∙ ap (λ k. entries_from n k header.volumes 0 left) (sym version) in
-    let end = end_of failed given header.version header.volumes (last_stamp 0 found.0) found.1 in (
+    let end = end_of failed given header.version header.volumes (last_entry_stamp 0 found.0) found.1 in (
       ahead_none reader rest goes ∙ ap (λ (p : List Entry × Left). p.0) same ∙ ap (λ (t : Trace). t.entries) trace_is,
       λ clean. cause_open reader rest goes
           ∙ ap (λ (p : List Entry × Left). cause_of (end_at (reader.left.place + length rest) p.1)) same
-          ∙ ap (λ (x : TraceEnd). cause_of x) (sym (end_without given header.version header.volumes (last_stamp 0 found.0) found.1 (reader.left.place + length rest) len))
-          ∙ ap (λ b. cause_of (end_of b given header.version header.volumes (last_stamp 0 found.0) found.1)) (sym clean)
+          ∙ ap (λ (x : TraceEnd). cause_of x) (sym (end_without given header.version header.volumes (last_entry_stamp 0 found.0) found.1 (reader.left.place + length rest) len))
+          ∙ ap (λ b. cause_of (end_of b given header.version header.volumes (last_entry_stamp 0 found.0) found.1)) (sym clean)
           ∙ ap (λ (t : Trace). cause_of t.end) trace_is,
       λ fails fault. sym (ap (λ (t : Trace). t.end) trace_is)
-          ∙ ap (λ b. end_of b given header.version header.volumes (last_stamp 0 found.0) found.1) fails
-          ∙ ap (λ k. end_of true given k header.volumes (last_stamp 0 found.0) found.1) version
-          ∙ ap (λ (v : List VolumeHead). end_of true given 1 v (last_stamp 0 found.0) found.1) (sym volumes)
-          ∙ ap (λ s. end_of true given 1 reader.volumes (last_stamp s found.0) found.1) (sym last)
-          ∙ ap (λ (p : List Entry × Left). end_of true given 1 reader.volumes (last_stamp reader.last p.0) p.1) (sym same)
+          ∙ ap (λ b. end_of b given header.version header.volumes (last_entry_stamp 0 found.0) found.1) fails
+          ∙ ap (λ k. end_of true given k header.volumes (last_entry_stamp 0 found.0) found.1) version
+          ∙ ap (λ (v : List VolumeHead). end_of true given 1 v (last_entry_stamp 0 found.0) found.1) (sym volumes)
+          ∙ ap (λ s. end_of true given 1 reader.volumes (last_entry_stamp s found.0) found.1) (sym last)
+          ∙ ap (λ (p : List Entry × Left). end_of true given 1 reader.volumes (last_entry_stamp reader.last p.0) p.1) (sym same)
           ∙ fault given len,
     )
 
@@ -82,14 +89,20 @@ fault_within given place (Err (Cut at)) h = within (nat_le (length given) most_b
     within true is h = leb-true (length given) most_bytes is
     within false is h = absurd cc
 
-pub given_trace : GivenIsTheTrace
+-- Where the header of all bytes was read, and the source failed behind a front of those that follow it: the trace of the bytes that
+-- it gave has this header, the entries that are read of the front, and ends by the fault.
+pub given_trace : (bytes rest front left : List ℕ) (header : Header) (reader : ReaderState) →
+    header_at 1 (whole_trace bytes) ≡ Ok (header, seen reader.left.place rest) → length bytes ≡ reader.left.place + length rest →
+    header.version ≡ 1 → reader.volumes ≡ header.volumes → reader.last ≡ 0 → reader.stopped ≡ None →
+    rest ≡ front ++ left → IsFault reader front →
+    trace_of 1 true (take (length bytes - length left) bytes) ≡ Ok (record { header = header; entries = ahead None reader front; end = ReadFault })
 given_trace bytes rest front left header reader read len version volumes last goes split fault =
     let place = reader.left.place in
     let n = place + length front in
     let less : length bytes - length left ≡ n = omega (arith, len, ap length split, length-append front left) in
     let long : length (take n bytes) ≡ n = omega (arith, length-take n bytes, len, ap length split, length-append front left) in
     let found = read_of reader front in
-    let within = fault_within (take n bytes) found.1.place (entry_at 1 reader.volumes (last_stamp reader.last found.0) found.1) (fault (take n bytes) long) in
+    let within = fault_within (take n bytes) found.1.place (entry_at 1 reader.volumes (last_entry_stamp reader.last found.0) found.1) (fault (take n bytes) long) in
     let (given, is, same) = header_of_front bytes rest front left header place read split (omega (arith, long, within)) in
     let trace = after_header true given header (entries_from (length (seen place front).bytes) header.version header.volumes 0 (seen place front)) in
     let made : trace_of 1 true given ≡ Ok trace = by_header true given ∙ ap (trace_by true given) same in

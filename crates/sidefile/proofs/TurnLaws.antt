@@ -26,9 +26,9 @@ use Rattle.sidefile.specs.declared.turn.Turn.{Turn}
 use Rattle.sidefile.specs.Runs.{runs, quota}
 use Rattle.sidefile.specs.Breaks.{stamp, break_after}
 use Rattle.sidefile.specs.Hands.{batch_of, broken_or, hand, left_after}
-use Rattle.sidefile.specs.Ahead.{IsAhead, read_of, entries_of, ahead, cause_ahead, cause_to_come}
+use Rattle.sidefile.specs.Ahead.{IsAhead, read_of, entries_ahead, ahead, cause_ahead, cause_to_come}
 use Rattle.sidefile.specs.Exact.{Front, HandsSame, IsHand, LeavesRuns, runs_ahead}
-use Rattle.sidefile.specs.Looks.{IsKept, AreRead, have_stamp, FoundBehind, TakesRun}
+use Rattle.sidefile.specs.Looks.{IsEntryTo, EntriesAreRead, have_stamp, FoundBehind, TakesRun}
 use Rattle.sidefile.specs.States.{IsRunOf}
 use Rattle.sidefile.specs.Turns.{IsTurn, front}
 use Rattle.sidefile.proofs.RunLaws.{hand_above, hand_before, hand_at_end, hand_crowded, left_before, left_at_end}
@@ -40,10 +40,10 @@ both_true false b e = absurd cc
 
 -- what is ahead behind an entry that waits, where the reader goes on, and where it does not
 pub ahead_open : (first : Entry) (r : ReaderState) (bytes : List ℕ) → r.stopped ≡ None → ahead (Some first) r bytes ≡ first ∷ (read_of r bytes).0
-ahead_open first r bytes goes = ap (λ (s : Option Stopped). first ∷ entries_of s r bytes) goes
+ahead_open first r bytes goes = ap (λ (s : Option Stopped). first ∷ entries_ahead s r bytes) goes
 
 pub ahead_ended : (r : ReaderState) (bytes : List ℕ) → r.stopped ≡ Some (AtEnd ends.Ended) → (ahead None r bytes ≡ []) × (cause_ahead r bytes ≡ None)
-ahead_ended r bytes stopped = (ap (λ (s : Option Stopped). entries_of s r bytes) stopped, ap (λ (s : Option Stopped). cause_to_come s r bytes) stopped)
+ahead_ended r bytes stopped = (ap (λ (s : Option Stopped). entries_ahead s r bytes) stopped, ap (λ (s : Option Stopped). cause_to_come s r bytes) stopped)
 
 stamps_are : (s : ℕ) (entries : List Entry) → have_stamp s entries ≡ true → All (λ w. w.stamp.0 ≡ s) (writes_of entries)
 stamps_are s [] e = All-nil (λ (w : Write). w.stamp.0 ≡ s)
@@ -98,7 +98,7 @@ leaves_same control limit told old new used rest bytes given split there end goe
 -- ---- above the limit
 
 pub turn_above : (control limit upto : ℕ) (told : Option (List ℕ)) (faults : ℕ) (first : Entry) (r : ReaderState)
-    → limit < stamp_of first → upto ≤ limit → IsKept r.volumes first → r.last ≡ stamp_of first → r.stopped ≡ None
+    → limit < stamp_of first → upto ≤ limit → IsEntryTo r.volumes first → r.last ≡ stamp_of first → r.stopped ≡ None
     → IsTurn control limit upto told told faults faults (Some first) r r (record { hand = hands.AtLimit; waiting = Some first })
 turn_above control limit upto told faults first r above le kept last goes = record {
   due = λ bytes there. leaves_same control limit told (front (Some first) r) (front (Some first) r) [] bytes bytes hands.AtLimit refl there refl goes (λ behind. record {
@@ -117,7 +117,7 @@ turn_above control limit upto told faults first r above le kept last goes = reco
 -- ---- a run
 
 module _ {before now : Option (List ℕ)} {faults risen : ℕ} {old new : ReaderState} {one all : List Write} {look : Look} (first : Entry) (h : TakesRun before now faults risen old new (stamp_of first) one all look)
-    (control limit upto : ℕ) (kept : IsKept old.volumes first) (goes : old.stopped ≡ None) (there : stamp_of first ≤ limit) (above : upto < stamp_of first) (is_one : one ≡ [] ++ writes_of (first ∷ [])) where
+    (control limit upto : ℕ) (kept : IsEntryTo old.volumes first) (goes : old.stopped ≡ None) (there : stamp_of first ≤ limit) (above : upto < stamp_of first) (is_one : one ≡ [] ++ writes_of (first ∷ [])) where
   writes_are : all ≡ writes_of (first ∷ h.taken)
   writes_are = all_writes first h.taken one all is_one h.writes
 
@@ -146,7 +146,7 @@ module _ {before now : Option (List ℕ)} {faults risen : ℕ} {old new : Reader
   at_end cause bytes e = ap (λ (es : List Entry). hand control cause limit (runs es)) (ahead_is bytes h.taken e) ∙ hand_at_end control cause limit first h.taken h.stamps there room
 
   -- the same is handed over whatever stands behind the next entry
-  same_next : (e : Entry) (time : Stamp) (bytes rest : List ℕ) (p : AreRead old new (h.taken ++ e ∷ []) bytes rest) → stamp_of first ≢ stamp_of e → new.stopped ≡ None → time.0 ≡ min limit (stamp_of e - 1)
+  same_next : (e : Entry) (time : Stamp) (bytes rest : List ℕ) (p : EntriesAreRead old new (h.taken ++ e ∷ []) bytes rest) → stamp_of first ≢ stamp_of e → new.stopped ≡ None → time.0 ≡ min limit (stamp_of e - 1)
       → (behind : List ℕ) → HandsSame control limit (front (Some first) old) (front (Some e) new) p.used behind (hands.Batch (record { control = control; writes = all; upto = time }))
   same_next e time bytes rest p other goes_on is behind =
       let more = (read_of new behind).0 in
@@ -178,7 +178,7 @@ module _ {before now : Option (List ℕ)} {faults risen : ℕ} {old new : Reader
         volumes = h.volumes;
         rises = omega (arith, above, from);
         within = within;
-        keeps = (subst (λ (v : List VolumeHead). IsKept v e) (sym h.volumes) e_kept, early, last, goes_on);
+        keeps = (subst (λ (v : List VolumeHead). IsEntryTo v e) (sym h.volumes) e_kept, early, last, goes_on);
       }
 
   pub last_turn : FoundBehind before now faults risen old new (stamp_of first) h.taken all looks.Ended → (time : Stamp) → time.0 ≡ limit

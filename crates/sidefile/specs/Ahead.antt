@@ -5,7 +5,7 @@ use Rattle.ckd_track.specs.declared.write.Cause.{Cause}
 use Rattle.write_trace.specs.declared.entry.Entry.{Entry}
 use Rattle.write_trace.specs.declared.trace.TraceEnd.{TraceEnd}
 use Rattle.write_trace.specs.declared.trace.TraceEnd.TheVariants.{Ended, BadTrace, ReadFault}
-use Rattle.write_trace.specs.Good.{entries_from, last_stamp, end_of}
+use Rattle.write_trace.specs.Good.{entries_from, last_entry_stamp, end_of}
 use Rattle.write_trace.specs.declared.next.Stopped.{Stopped}
 use Rattle.write_trace.specs.declared.next.Stopped.TheVariants.{AtEnd, NoMemory}
 use Rattle.write_trace.specs.Unread.{unread, seen}
@@ -21,9 +21,9 @@ IsAhead reader told bytes = reader.stopped ≡ None → unread reader.left.bytes
 abbrev pub read_of : ReaderState → List ℕ → List Entry × Left
 read_of reader bytes = entries_from (length (seen reader.left.place bytes).bytes) 1 reader.volumes reader.last (seen reader.left.place bytes)
 
-abbrev pub entries_of : Option Stopped → ReaderState → List ℕ → List Entry
-entries_of None reader bytes = (read_of reader bytes).0
-entries_of (Some why) reader bytes = []
+abbrev pub entries_ahead : Option Stopped → ReaderState → List ℕ → List Entry
+entries_ahead None reader bytes = (read_of reader bytes).0
+entries_ahead (Some why) reader bytes = []
 
 -- Where the source doesn't fail, a trace ends cleanly where its bytes end, and badly at every other place.
 abbrev pub end_at : (bytes_end : ℕ) → Left → TraceEnd
@@ -32,7 +32,7 @@ end_at bytes_end left = if left.place == bytes_end then Ended else BadTrace left
 -- The source failed behind these bytes, and behind the entries that are read of them stands one that is cut.
 abbrev pub IsFault : ReaderState → List ℕ → Type 0
 IsFault reader bytes =
-    (given : List ℕ) → length given ≡ reader.left.place + length bytes → end_of true given 1 reader.volumes (last_stamp reader.last (read_of reader bytes).0) (read_of reader bytes).1 ≡ ReadFault
+    (given : List ℕ) → length given ≡ reader.left.place + length bytes → end_of true given 1 reader.volumes (last_entry_stamp reader.last (read_of reader bytes).0) (read_of reader bytes).1 ≡ ReadFault
 
 abbrev pub cause_of_stop : Stopped → Option Cause
 cause_of_stop (AtEnd end) = cause_of end
@@ -48,7 +48,7 @@ waiting_first (Some e) entries = e ∷ entries
 
 -- the good entries of these bytes, behind the one that waits
 abbrev pub ahead : Option Entry → ReaderState → List ℕ → List Entry
-ahead waiting reader bytes = waiting_first waiting (entries_of reader.stopped reader bytes)
+ahead waiting reader bytes = waiting_first waiting (entries_ahead reader.stopped reader bytes)
 
 -- why the control will break after them, if it will
 abbrev pub cause_ahead : ReaderState → List ℕ → Option Cause

@@ -8,4 +8,3 @@ pub mod Looks
 pub mod States
 pub mod Turns
 pub mod Laws
-pub mod Handovers

@@ -10,7 +10,7 @@ use Rattle.write_trace.specs.declared.entry.Entry.{Entry}
 use Rattle.write_trace.specs.declared.entry.Entry.TheVariants.{Written}
 use Rattle.write_trace.specs.declared.trace.TraceEnd.TheVariants as ends
 use Rattle.write_trace.specs.Entries.{stamp_of}
-use Rattle.write_trace.specs.Good.{last_stamp}
+use Rattle.write_trace.specs.Good.{last_entry_stamp}
 use Rattle.write_trace.specs.Writes.{writes_of, IsWriteTo}
 use Rattle.write_trace.specs.declared.next.Stopped.TheVariants.{AtEnd, NoMemory}
 use Rattle.write_trace.specs.Unread.{unread}
@@ -23,35 +23,35 @@ use Rattle.sidefile.specs.Ahead.{IsFault, read_of, cause_ahead}
 -- ---- one look
 
 -- What a reader that goes on finds.
-abbrev pub Finds : (before now : Option (List ℕ)) → (faults risen : ℕ) → (old new : ReaderState) → Look → Type 0
-Finds before now faults risen old new (looks.Next e) = ReadsEntry before now old new e × (risen ≡ faults)
-Finds before now faults risen old new looks.Ended = EndsThere before old × Stops old new (AtEnd ends.Ended) × (risen ≡ faults)
-Finds before now faults risen old new (looks.Bad (BadTrace place)) =
+abbrev pub FindsNext : (before now : Option (List ℕ)) → (faults risen : ℕ) → (old new : ReaderState) → Look → Type 0
+FindsNext before now faults risen old new (looks.Next e) = ReadsEntry before now old new e × (risen ≡ faults)
+FindsNext before now faults risen old new looks.Ended = EndsThere before old × Stops old new (AtEnd ends.Ended) × (risen ≡ faults)
+FindsNext before now faults risen old new (looks.Bad (BadTrace place)) =
     (place ≡ old.left.place) × IsBadThere before old × Stops old new (AtEnd (ends.BadTrace place)) × (risen ≡ faults)
-Finds before now faults risen old new (looks.Bad ReadFault) = FailsThere before now old new × Stops old new (AtEnd ends.ReadFault) × Rose faults risen
-Finds before now faults risen old new (looks.Bad (Crowded stamp)) = ⊥
-Finds before now faults risen old new looks.NoMemory = Stops old new NoMemory × (risen ≡ faults)
+FindsNext before now faults risen old new (looks.Bad ReadFault) = FailsThere before now old new × Stops old new (AtEnd ends.ReadFault) × Rose faults risen
+FindsNext before now faults risen old new (looks.Bad (Crowded stamp)) = ⊥
+FindsNext before now faults risen old new looks.NoMemory = Stops old new NoMemory × (risen ≡ faults)
 
 -- ---- a row of entries
 
 -- The entry's write, if it has one, names a track of these volumes and keeps its rules, and its stamp is 1 at least.
-abbrev pub IsKept : List VolumeHead → Entry → Type 0
-IsKept volumes e = (1 ≤ stamp_of e) × All (IsWriteTo volumes) (writes_of (e ∷ []))
+abbrev pub IsEntryTo : List VolumeHead → Entry → Type 0
+IsEntryTo volumes e = (1 ≤ stamp_of e) × All (IsWriteTo volumes) (writes_of (e ∷ []))
 
 -- Entries were read one after another, where the source tells its bytes: whatever stands behind the bytes of these entries, they
 -- are read as these and what is read of it.
-pub record AreRead (old new : ReaderState) (taken : List Entry) (bytes rest : List ℕ) : Type 0 where
+pub record EntriesAreRead (old new : ReaderState) (taken : List Entry) (bytes rest : List ℕ) : Type 0 where
   pub used : List ℕ
   pub split : bytes ≡ used ++ rest
   pub place : new.left.place ≡ old.left.place + length used
   pub fronts : (front : List ℕ) → read_of old (used ++ front) ≡ (taken ++ (read_of new front).0, (read_of new front).1)
-  pub last : new.last ≡ last_stamp old.last taken
+  pub last : new.last ≡ last_entry_stamp old.last taken
   pub volumes : new.volumes ≡ old.volumes
   pub same_end : cause_ahead new rest ≡ cause_ahead old bytes
 
-abbrev pub ReadsAll : (before now : Option (List ℕ)) → (old new : ReaderState) → (taken : List Entry) → Type 0
-ReadsAll before now old new taken =
-    (bytes : List ℕ) → unread old.left.bytes before ≡ Some bytes → (rest : List ℕ) × (unread new.left.bytes now ≡ Some rest) × AreRead old new taken bytes rest
+abbrev pub ReadsAllEntries : (before now : Option (List ℕ)) → (old new : ReaderState) → (taken : List Entry) → Type 0
+ReadsAllEntries before now old new taken =
+    (bytes : List ℕ) → unread old.left.bytes before ≡ Some bytes → (rest : List ℕ) × (unread new.left.bytes now ≡ Some rest) × EntriesAreRead old new taken bytes rest
 
 -- These are all entries that are ahead, and then the trace ends so.
 abbrev pub EndsAfter : (before : Option (List ℕ)) → (old : ReaderState) → (taken : List Entry) → Option Cause → Type 0
@@ -82,7 +82,7 @@ have_stamp stamp entries = list_all (λ e. stamp_of e == stamp) entries
 -- What was found behind the entries of a stamp that were taken.
 abbrev pub FoundBehind : (before now : Option (List ℕ)) → (faults risen : ℕ) → (old new : ReaderState) → (stamp : ℕ) → (taken : List Entry) → (writes : List Write) → Look → Type 0
 FoundBehind before now faults risen old new stamp taken writes (looks.Next e) =
-    ReadsAll before now old new (taken ++ e ∷ []) × IsKept old.volumes e × (stamp < stamp_of e) × (new.last ≡ stamp_of e) × (new.stopped ≡ None) × (risen ≡ faults)
+    ReadsAllEntries before now old new (taken ++ e ∷ []) × IsEntryTo old.volumes e × (stamp < stamp_of e) × (new.last ≡ stamp_of e) × (new.stopped ≡ None) × (risen ≡ faults)
 FoundBehind before now faults risen old new stamp taken writes looks.Ended = EndsAfter before old taken None × (new.stopped ≡ Some (AtEnd ends.Ended)) × (risen ≡ faults)
 FoundBehind before now faults risen old new stamp taken writes (looks.Bad (BadTrace place)) = EndsAfter before old taken (Some (BadTrace place)) × (risen ≡ faults)
 FoundBehind before now faults risen old new stamp taken writes (looks.Bad ReadFault) = FailsAfter before now old taken × Rose faults risen

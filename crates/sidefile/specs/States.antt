@@ -14,7 +14,7 @@ use Rattle.sidefile.specs.declared.hand.Hand.{Hand}
 use Rattle.sidefile.specs.declared.hand.Hand.TheVariants as hands
 use Rattle.sidefile.specs.declared.hand.Halt.{Halt}
 use Rattle.sidefile.specs.Runs.{quota}
-use Rattle.sidefile.specs.Looks.{IsKept}
+use Rattle.sidefile.specs.Looks.{IsEntryTo}
 use Rattle.sidefile.specs.Exact.{Front}
 
 -- A sidefile: its control, the entry that was looked at and waits, its reader, up to when its control has reported, and why it
@@ -33,7 +33,7 @@ front_of s = record { waiting = s.waiting; reader = s.reader }
 -- yet, or the trace ended.
 abbrev pub IsWaiting : Option Entry → ReaderState → (upto : ℕ) → Type 0
 IsWaiting None reader upto = ((upto ≡ 0) × (reader.stopped ≡ None)) ⊎ (reader.stopped ≡ Some (AtEnd ends.Ended))
-IsWaiting (Some e) reader upto = IsKept reader.volumes e × (upto < stamp_of e) × (reader.last ≡ stamp_of e) × (reader.stopped ≡ None)
+IsWaiting (Some e) reader upto = IsEntryTo reader.volumes e × (upto < stamp_of e) × (reader.last ≡ stamp_of e) × (reader.stopped ≡ None)
 
 -- A sidefile that is not halted has such an entry or none.
 abbrev pub IsSidefile : Option Halt → Option Entry → ReaderState → (upto : ℕ) → Type 0

@@ -10,9 +10,5 @@ mod turn;
 
 pub use ckd_track::Cause;
 pub use hand::{Halt, Hand};
-pub use laws::{
-    ahead_is_the_trace, breaks_are_the_break, given_is_the_trace, handed_are_the_first,
-    handed_are_up_to, handed_of_all, handed_up_to_a_fault, later_is_above, runs_are_all,
-    trace_up_to_a_fault,
-};
+pub use laws::{breaks_are_the_break, handed_are_the_first, runs_are_all};
 pub use sidefile::Sidefile;

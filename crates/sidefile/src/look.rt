@@ -3,7 +3,7 @@
 ghost use Rattle.std.specs.Prelude.{◌≡◌, None, Some};
 ghost use Rattle.write_trace.specs.declared.trace.TraceEnd.TheVariants as ends;
 ghost use Rattle.write_trace.specs.declared.next.Stopped.TheVariants.{AtEnd};
-ghost use Rattle.sidefile.specs.Looks.{Finds};
+ghost use Rattle.sidefile.specs.Looks.{FindsNext};
 
 use ckd_track::Cause;
 use std::alloc::Global;
@@ -25,7 +25,7 @@ pub enum Look {
 
 /// The next entry of a reader, or why there is none. A trace that ended stays so.
 pub fn look_ahead<S: Source>(reader: &mut TraceReader, alloc: Global, source: &mut S) -> Look
-    ensures finds { reader.old.stopped ≡ None → Finds (S.left source.old) (S.left source.new) (S.faults source.old) (S.faults source.new) reader.old reader.new result }
+    ensures finds { reader.old.stopped ≡ None → FindsNext (S.left source.old) (S.left source.new) (S.faults source.old) (S.faults source.new) reader.old reader.new result }
     ensures again { reader.old.stopped ≡ Some (AtEnd ends.Ended) → (result ≡ Look.Ended) × (reader.new ≡ reader.old) }
     ensures unasked { reader.old.stopped ≡ Some (AtEnd ends.Ended) → source.new ≡ source.old }
 {

@@ -2,7 +2,7 @@
 
 ghost use Rattle.std.specs.Prelude.{◌≡◌, ◌<◌, ◌≤◌, ◌-◌, ℕ, min, None, Some};
 ghost use Rattle.write_trace.specs.Entries.{stamp_of as stamp_of_entry};
-ghost use Rattle.sidefile.specs.Looks.{IsKept};
+ghost use Rattle.sidefile.specs.Looks.{IsEntryTo};
 ghost use Rattle.sidefile.specs.States.{IsWaiting};
 ghost use Rattle.sidefile.specs.Turns.{IsTurn, IsSomeWaiting};
 
@@ -64,7 +64,7 @@ pub fn take_turn<S: Source>(
 ) -> Turn
     requires goes_on { reader.old.stopped ≡ None }
     requires last { reader.old.last ≡ stamp_of_entry first }
-    requires kept { IsKept reader.old.volumes first }
+    requires kept { IsEntryTo reader.old.volumes first }
     ensures { (upto : ℕ) → upto < stamp_of_entry first → upto ≤ limit.0 → IsTurn control limit.0 upto (S.left source.old) (S.left source.new) (S.faults source.old) (S.faults source.new) (Some first) reader.old reader.new result }
 {
     let stamp = stamp_of(&first);

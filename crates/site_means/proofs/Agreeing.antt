@@ -6,11 +6,11 @@ use Rattle.pair_table.specs.declared.row.PairRow.{PairRow}
 use Rattle.state_set.specs.Slots.{Stored}
 use Rattle.xrc_journal.specs.Records.{walk_one}
 use Rattle.site_means.specs.Images.{Images, Shape}
-use Rattle.site_means.specs.Walk.{Standing, Step, Walk, has_entered, start, step, step_by, turns_at, walk_from, walk_on, with_before}
-use Rattle.site_means.specs.Walk.Step.{Ends, GoesOn, Breaks}
+use Rattle.site_means.specs.Walk.{WalkState, WalkStep, Walk, has_entered, start, step, step_by, turns_at, walk_from, walk_on, with_before}
+use Rattle.site_means.specs.Walk.WalkStep.{Ends, GoesOn, Breaks}
 use Rattle.site_means.specs.Meaning.{chosen_in, meaning_by_mark, meaning_by_state, meaning_by_walk, stored_in}
-use Rattle.site_means.specs.Laws.{Agree, MeaningsAgree, RowsAreChangedInTurn}
-use Rattle.site_means.proofs.Goes.{entered_here, entered_last, entered_stays, rows_of_walk}
+use Rattle.site_means.specs.Laws.{Agree, MeaningsAgree}
+use Rattle.site_means.proofs.Goes.{entered_here, entered_last, entered_stays}
 
 -- ---- the same journals
 
@@ -18,17 +18,17 @@ use Rattle.site_means.proofs.Goes.{entered_here, entered_last, entered_stays, ro
 abbrev SameSets : (a b : Images) → List ℕ → Type 0
 SameSets a b entered = (j : ℕ) → has_entered j entered ≡ true → b (Journal j) ≡ a (Journal j)
 
-step_same : (shape : Shape) (a b : Images) (s : Standing) → b (Journal s.at.set) ≡ a (Journal s.at.set) → step shape b s ≡ step shape a s
+step_same : (shape : Shape) (a b : Images) (s : WalkState) → b (Journal s.at.set) ≡ a (Journal s.at.set) → step shape b s ≡ step shape a s
 step_same shape a b s same = ap (λ (l : List ℕ). step_by shape s (walk_one shape.form shape.sets l s.at s.last)) same
 
-pub walk_same : (turns : ℕ) (shape : Shape) (a b : Images) (s : Standing) → has_entered s.at.set s.entered ≡ true → SameSets a b (walk_from turns shape a s).entered → walk_from turns shape b s ≡ walk_from turns shape a s
+pub walk_same : (turns : ℕ) (shape : Shape) (a b : Images) (s : WalkState) → has_entered s.at.set s.entered ≡ true → SameSets a b (walk_from turns shape a s).entered → walk_from turns shape b s ≡ walk_from turns shape a s
 unfolding walk_from
 walk_same zero shape a b s here same = refl
 walk_same (suc turns) shape a b s here same =
     let st = step_same shape a b s (same s.at.set (entered_stays (suc turns) shape a s s.at.set here)) in
-    ap (λ (k : Step). walk_on s k (λ n. walk_from turns shape b n)) st ∙ by_step (step shape a s) refl (λ n h more. walk_same turns shape a b n h more) same
+    ap (λ (k : WalkStep). walk_on s k (λ n. walk_from turns shape b n)) st ∙ by_step (step shape a s) refl (λ n h more. walk_same turns shape a b n h more) same
   where
-    by_step : (k : Step) → step shape a s ≡ k → ((n : Standing) → has_entered n.at.set n.entered ≡ true → SameSets a b (walk_from turns shape a n).entered → walk_from turns shape b n ≡ walk_from turns shape a n)
+    by_step : (k : WalkStep) → step shape a s ≡ k → ((n : WalkState) → has_entered n.at.set n.entered ≡ true → SameSets a b (walk_from turns shape a n).entered → walk_from turns shape b n ≡ walk_from turns shape a n)
         → SameSets a b (walk_on s k (λ n. walk_from turns shape a n)).entered → walk_on s k (λ n. walk_from turns shape b n) ≡ walk_on s k (λ n. walk_from turns shape a n)
     by_step Ends e more same = refl
     by_step (Breaks place) e more same = refl
@@ -52,6 +52,3 @@ module _ (shape : Shape) (a b : Images) (agree : Agree shape a b) where
 
 pub meanings_agree : MeaningsAgree
 meanings_agree shape a b agree = ap (λ (c : Result (Option Mark) ℕ). meaning_by_mark shape b c) agree.mark.chosen ∙ by_chosen shape a b agree (chosen_in shape a) refl
-
-pub rows_in_turn : RowsAreChangedInTurn
-rows_in_turn shape images m rows = rows_of_walk (turns_at m.at) shape images (start m rows)

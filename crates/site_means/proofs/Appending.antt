@@ -7,18 +7,19 @@ use Rattle.pair_table.specs.declared.row.PairRow.{PairRow}
 use Rattle.state_set.specs.Slots.{Stored}
 use Rattle.xrc_journal.specs.Items.{Item, body_spelling}
 use Rattle.xrc_journal.specs.Records.{spot_after}
-use Rattle.xrc_journal.specs.Walks.{Adds, Keeps, Logged, Walks}
+use Rattle.xrc_journal.specs.Walks.{Adds, KeepsWalks, Logged, Walks}
 use Rattle.site_means.specs.declared.means.Means.{Means}
 use Rattle.site_means.specs.Images.{Images, Shape}
 use Rattle.site_means.specs.Walk.{Walk, first_unfit, rows_through, walk_in, walk_items}
-use Rattle.site_means.specs.Meaning.{means_by}
+use Rattle.site_means.specs.Meaning.{means_by, meaning_in}
 use Rattle.site_means.specs.Meaning.Meaning.{Meant}
-use Rattle.site_means.specs.Laws.{AppendedGroupsAreAdded, FitRows, KeptWalksMeanTheSame, and_group, one_set}
+use Rattle.site_means.specs.Laws.{FitRows, KeptWalksMeanTheSame, and_group, one_set, AgreeOnMark, with_group}
 use Rattle.site_means.proofs.Contents.{items_last}
 use Rattle.site_means.proofs.Goes.{rows_append}
 use Rattle.site_means.proofs.Meanings.{by_walk}
 use Rattle.site_means.proofs.OneSet.{walk_alone, walks_are}
 use Rattle.site_means.proofs.Reaching.{MeantBy, added_means, meant_by, rows_end, rows_turn, same_mark}
+use Rattle.std.specs.Prelude.{◌≤◌}
 
 -- ---- rows that fit
 
@@ -59,13 +60,16 @@ kept_same shape a b means w meant agree one lt keeps =
     let from = from_is shape a means w by in
     let number : m.at.number < 2 ^ 64 = subst (λ (k : Spot). k.number < 2 ^ 64) from lt in
     let alone = alone_by shape a means w by (one ∙ ap (λ (k : Spot). k.set ∷ []) from) number in
-    let kept = subst (λ (k : Spot). Keeps shape.form shape.sets k w.at (a (Journal k.set)) (b (Journal k.set))) from keeps in
+    let kept = subst (λ (k : Spot). KeepsWalks shape.form shape.sets k w.at (a (Journal k.set)) (b (Journal k.set))) from keeps in
     let walk : walk_in shape b m rows ≡ w = walks_are shape b m rows w.groups w.at w.last number (kept m.time.0 w.last w.groups alone.walks) alone.fits ∙ sym alone.is in
     let mark = same_mark shape a b means w by agree in
     by_walk shape b m by.stored mark.0 mark.1 None (ap (λ (k : Walk). k.bad) walk ∙ by.good)
     ∙ ap (λ (k : Walk). Meant (means_by m by.stored k) k) walk ∙ ap (λ (k : Means). Meant k w) by.means_are
 
-pub appended_added : AppendedGroupsAreAdded
+-- Where each walk to its end has a group more over the other image, which fits the rows, so has the meaning.
+pub appended_added : (shape : Shape) (a b : Images) (means : Means) (w : Walk) (g : Logged) → meaning_in shape a ≡ Meant means w → AgreeOnMark shape a b → w.entered ≡ means.from.set ∷ [] → means.from.number < 2 ^ 64
+    → Adds shape.form shape.sets means.from w.at g (a (Journal means.from.set)) (b (Journal means.from.set)) → w.last ≤ g.time → first_unfit shape.volumes 0 means.table.rows g.items ≡ None
+    → meaning_in shape b ≡ Meant (with_group g means) (and_group g (spot_after w.at (length (body_spelling g.items))) w)
 appended_added shape a b means w g meant agree one lt adds late fits =
     let by = meant_by shape a means w meant in
     let m = by.mark in

@@ -14,8 +14,8 @@ use Rattle.site_means.specs.declared.site_error.SiteError.TheVariants.{NoSession
 use Rattle.site_means.specs.declared.walking.Walking.{Walking}
 use Rattle.site_means.specs.Images.{Images, Shape}
 use Rattle.site_means.specs.Walk.{Walk, body_place, first_unfit, group_step, has_entered, last_time, rows_through, step, with_before}
-use Rattle.site_means.specs.Walk.Step.{Ends, GoesOn, Breaks}
-use Rattle.site_means.specs.Steps.{Finishes, Moves, Passes, Reports, Stands, StandsBehind, TakesRows, moved_on, standing_of, walk_of}
+use Rattle.site_means.specs.Walk.WalkStep.{Ends, GoesOn, Breaks}
+use Rattle.site_means.specs.Steps.{Finishes, WentOn, AnswersStep, AnswersWalk, WalkStands, StandsBehind, TakesRows, moved_on, standing_of, walk_of}
 use Rattle.site_means.proofs.Goes.{before_both, entered_stays, rest_breaks, rest_ends, rest_goes}
 
 -- how far the walk has come
@@ -32,7 +32,7 @@ time_append : (mark : ℕ) (a b : List Logged) → last_time mark (a ++ b) ≡ l
 time_append mark [] b = refl
 time_append mark (g ∷ a) b = time_append g.time a b
 
-pub going_next : (shape : Shape) (images : Images) (first now next : Walking) → now.at.number < 2 ^ 64 → Going shape images first now → Moves (step shape images (standing_of now)) now next → Going shape images first next
+pub going_next : (shape : Shape) (images : Images) (first now next : Walking) → now.at.number < 2 ^ 64 → Going shape images first now → WentOn (step shape images (standing_of now)) now next → Going shape images first next
 going_next shape images first now next lt g m = record {
   groups = g.groups ++ m.groups;
   is = g.is ∙ ap (λ (w : Walk). with_before g.groups w) (rest_goes shape images (standing_of now) (standing_of next) m.groups lt m.is) ∙ before_both g.groups m.groups (walk_of shape images next);
@@ -47,7 +47,7 @@ on_ok_two (Err e) f a b = tt
 
 -- ---- where it stands
 
-pub stands_later : (old new : PlantState) (w : Walking) → SameSite old new → Stands old w → Stands new w
+pub stands_later : (old new : PlantState) (w : Walking) → SameSite old new → WalkStands old w → WalkStands new w
 stands_later old new w site s = record {
   set = omega (arith, s.set, site.journals);
   place = omega (arith, s.place, site.lengths (Journal w.at.set));
@@ -57,7 +57,7 @@ stands_later old new w site s = record {
 }
 
 -- behind a record
-pub stands_behind : (plant : PlantState) (now next : Walking) (after : Spot) (rows : List PairRow) → Stands plant now → StandsBehind after rows next → after.set < plant.journals → after.place < plant.lengths (Journal after.set) → are_below plant.volumes rows ≡ true → Stands plant next
+pub stands_behind : (plant : PlantState) (now next : Walking) (after : Spot) (rows : List PairRow) → WalkStands plant now → StandsBehind after rows next → after.set < plant.journals → after.place < plant.lengths (Journal after.set) → are_below plant.volumes rows ≡ true → WalkStands plant next
 stands_behind plant now next after rows s b set place below = record {
   set = subst (λ (k : Spot). k.set < plant.journals) (sym b.at) set;
   place = subst (λ (k : Spot). k.place < plant.lengths (Journal k.set)) (sym b.at) place;
@@ -65,9 +65,6 @@ stands_behind plant now next after rows s b set place below = record {
   long = s.long;
   here = ap (λ (k : Spot). has_entered k.set next.entered.items) b.at ∙ b.here;
 }
-
-pub stands_as : (plant : PlantState) (now next : Walking) → next ≡ now → Stands plant now → Stands plant next
-stands_as plant now next same s = subst (λ (w : Walking). Stands plant w) (sym same) s
 
 -- ---- how it ends
 
@@ -87,7 +84,7 @@ going_entered shape images first now g here = ap (λ (w : Walk). has_entered now
 
 -- an error of a step is the walk's
 pub going_fails : (shape : Shape) (images : Images) (first now new : Walking) (e : SiteError) → now.at.number < 2 ^ 64 → Going shape images first now → has_entered now.at.set now.entered.items ≡ true
-    → Passes (step shape images (standing_of now)) now new (Err e) → Reports (walk_of shape images first) first new (Err e)
+    → AnswersStep (step shape images (standing_of now)) now new (Err e) → AnswersWalk (walk_of shape images first) first new (Err e)
 going_fails shape images first now new (Damaged d place) lt g here p = (now.at.set, p.0, going_breaks shape images first now place lt g p.1)
 going_fails shape images first now new (Fault d) lt g here p = (now.at.set, p, going_entered shape images first now g here)
 going_fails shape images first now new NoMemory lt g here p = tt
@@ -98,7 +95,7 @@ going_fails shape images first now new (TooSmall d needed) lt g here p = p
 
 -- The rows took the items, and the walk stands behind them.
 pub group_moves : (volumes : ℕ) (time : Stamp) (after : Spot) (items : List Item) (old mid new : Walking) → mid ≡ record old { table = mid.table } → TakesRows volumes (body_place old.at) items None old.table mid.table
-    → new ≡ moved_on time after (record mid { time = time }) → Moves (group_step (standing_of old) time.0 items after (first_unfit volumes (body_place old.at) old.table.rows items)) old new
+    → new ≡ moved_on time after (record mid { time = time }) → WentOn (group_step (standing_of old) time.0 items after (first_unfit volumes (body_place old.at) old.table.rows items)) old new
 group_moves volumes time after items old mid new rest taken is = record {
   groups = record { time = time.0; items = items } ∷ [];
   is = ap (λ (b : Option ℕ). group_step (standing_of old) time.0 items after b) (sym taken.0)

@@ -7,7 +7,7 @@ use Rattle.tod_stamp.proofs.FieldLaws.{at_place, bind_ok}
 use Rattle.crash_plant.specs.declared.spot.Spot.{Spot}
 use Rattle.xrc_journal.specs.Items.{Item, Form, anywhere, none_earlier, are_items_behind, body_spelling}
 use Rattle.xrc_journal.specs.Reading.{Items, items_at}
-use Rattle.xrc_journal.specs.Records.{Found, Head, head_at, is_body_length, next_set, spot_in, stretch, group_or, switch_or, switch_of, record_or, walk_one}
+use Rattle.xrc_journal.specs.Records.{Found, Head, record_head_at, is_body_length, next_set, spot_in, stretch, group_or, switch_or, switch_of, record_or, walk_one}
 use Rattle.xrc_journal.specs.Records.Found.{End, Group, Switch, Damaged}
 use Rattle.xrc_journal.specs.declared.spot.Walked.TheVariants.{End as WalkedEnd, Group as WalkedGroup, Switch as WalkedSwitch}
 use Rattle.xrc_journal.specs.declared.spot.WalkError.TheVariants.{Damaged as WalkDamaged}
@@ -48,8 +48,8 @@ told_damaged set (Damaged p items) j place e = let same : p ≡ place = cc in (�
 -- ---- a header
 
 -- the body's length keeps its rule
-head_fits : (size : ℕ) (at : Spot) (last : ℕ) (left : Left) (head : Head) (next : Left) → head_at size at last left ≡ Ok (head, next) → is_body_length size at head.kind head.len ≡ true
-unfolding head_at
+head_fits : (size : ℕ) (at : Spot) (last : ℕ) (left : Left) (head : Head) (next : Left) → record_head_at size at last left ≡ Ok (head, next) → is_body_length size at head.kind head.len ≡ true
+unfolding record_head_at
 head_fits size at last left head next e =
     let expected : ℕ → Bool = λ n. nat_eq n at.number && nat_lt n (2 ^ 64 - 1) in
     let one = bind_ok (number_at w8 (within 1 2) left) (λ k. number_at w64 expected k.1 >>= (λ n. number_at w64 (nat_le last) n.1 >>= (λ t. number_at w32 (is_body_length size at k.0) t.1 >>= (λ l. Ok (record { kind = k.0; time = t.0; len = l.0 }, l.1))))) (head, next) e in
@@ -96,7 +96,7 @@ module _ (form : Form) (sets : ℕ) (journal : List ℕ) (at : Spot) (last : ℕ
   abbrev Lie : List Item → Type 0
   Lie items = (items ≡ []) ⊎ (at.place + 22 + length (body_spelling items) ≤ length journal)
 
-  by_kind : (head : Head) (left : Left) (group : Bool) → head_at (length journal) at last (at_place (at.place + 1) (stretch (at.place + 1) 21 journal)) ≡ Ok (head, left) → nat_eq head.kind 1 ≡ group
+  by_kind : (head : Head) (left : Left) (group : Bool) → record_head_at (length journal) at last (at_place (at.place + 1) (stretch (at.place + 1) 21 journal)) ≡ Ok (head, left) → nat_eq head.kind 1 ≡ group
       → (let read = items_at form (at.place + 22) (stretch (at.place + 22) head.len journal) in let found = cond group (group_or at head read read.bad) (switch_of sets journal at head) in
       are_items_behind anywhere none_earlier (items_found found) ≡ true → Lie (items_found found))
   by_kind head left true header kind keep =
@@ -109,13 +109,13 @@ module _ (form : Form) (sets : ℕ) (journal : List ℕ) (at : Spot) (last : ℕ
       inr (omega (arith, bounds.1, size, long, ap (λ (l : List Item). length (body_spelling l)) good))
   by_kind head left false header kind keep = inl (switch_items head (number_at w16 (λ n. nat_eq n (next_set sets at.set)) (at_place (at.place + 22) (stretch (at.place + 22) 2 journal))))
 
-  by_head : (read : Result (Head × Left) Bad) → head_at (length journal) at last (at_place (at.place + 1) (stretch (at.place + 1) 21 journal)) ≡ read → are_items_behind anywhere none_earlier (items_found (record_or form sets journal at read)) ≡ true
+  by_head : (read : Result (Head × Left) Bad) → record_head_at (length journal) at last (at_place (at.place + 1) (stretch (at.place + 1) 21 journal)) ≡ read → are_items_behind anywhere none_earlier (items_found (record_or form sets journal at read)) ≡ true
       → Lie (items_found (record_or form sets journal at read))
   by_head (Ok head) header keep = by_kind head.0 head.1 (nat_eq head.0.kind 1) header refl keep
   by_head (Err bad) header keep = inl refl
 
-  by_gate : (is_open : Bool) → (let found = cond is_open (record_or form sets journal at (head_at (length journal) at last (at_place (at.place + 1) (stretch (at.place + 1) 21 journal)))) End in are_items_behind anywhere none_earlier (items_found found) ≡ true → Lie (items_found found))
-  by_gate true keep = by_head (head_at (length journal) at last (at_place (at.place + 1) (stretch (at.place + 1) 21 journal))) refl keep
+  by_gate : (is_open : Bool) → (let found = cond is_open (record_or form sets journal at (record_head_at (length journal) at last (at_place (at.place + 1) (stretch (at.place + 1) 21 journal)))) End in are_items_behind anywhere none_earlier (items_found found) ≡ true → Lie (items_found found))
+  by_gate true keep = by_head (record_head_at (length journal) at last (at_place (at.place + 1) (stretch (at.place + 1) 21 journal))) refl keep
   by_gate false keep = inl refl
 
   lie : are_items_behind anywhere none_earlier (items_found (walk_one form sets journal at last)) ≡ true → Lie (items_found (walk_one form sets journal at last))
@@ -152,8 +152,8 @@ module _ (form : Form) (sets : ℕ) (journal : List ℕ) (at : Spot) (last : ℕ
   switch_by_head (Ok head) time after e = switch_by_kind head.0 (nat_eq head.0.kind 1) time after e
   switch_by_head (Err bad) time after e = absurd cc
 
-  switch_by_gate : (is_open : Bool) (time : ℕ) (after : Spot) → cond is_open (record_or form sets journal at (head_at (length journal) at last (at_place (at.place + 1) (stretch (at.place + 1) 21 journal)))) End ≡ Switch time after → after ≡ spot_in (next_set sets at.set) at
-  switch_by_gate true time after e = switch_by_head (head_at (length journal) at last (at_place (at.place + 1) (stretch (at.place + 1) 21 journal))) time after e
+  switch_by_gate : (is_open : Bool) (time : ℕ) (after : Spot) → cond is_open (record_or form sets journal at (record_head_at (length journal) at last (at_place (at.place + 1) (stretch (at.place + 1) 21 journal)))) End ≡ Switch time after → after ≡ spot_in (next_set sets at.set) at
+  switch_by_gate true time after e = switch_by_head (record_head_at (length journal) at last (at_place (at.place + 1) (stretch (at.place + 1) 21 journal))) time after e
   switch_by_gate false time after e = absurd cc
 
   pub switch_leads : (time : ℕ) (after : Spot) → walk_one form sets journal at last ≡ Switch time after → after ≡ spot_in (next_set sets at.set) at

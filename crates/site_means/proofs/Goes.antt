@@ -14,8 +14,8 @@ use Rattle.xrc_journal.specs.Records.Found.{End, Group, Switch, Damaged}
 use Rattle.xrc_journal.specs.Walks.{Logged}
 use Rattle.xrc_journal.proofs.Appends.{same_form}
 use Rattle.site_means.specs.Images.{Images, Shape, shape_of}
-use Rattle.site_means.specs.Walk.{Standing, Step, Walk, ends_at, first_unfit, fits_rows, found_at, group_step, has_entered, rows_by, rows_through, step, step_by, turns_at, unfit_in, walk_from, walk_items, walk_on, with_before}
-use Rattle.site_means.specs.Walk.Step.{Ends, GoesOn, Breaks}
+use Rattle.site_means.specs.Walk.{WalkState, WalkStep, Walk, ends_at, first_unfit, fits_rows, found_at, group_step, has_entered, rows_by, rows_through, step, step_by, turns_at, unfit_in, walk_from, walk_items, walk_on, with_before}
+use Rattle.site_means.specs.Walk.WalkStep.{Ends, GoesOn, Breaks}
 use Rattle.site_means.proofs.Found.{group_ends, switch_leads}
 use Rattle.site_means.proofs.Taking.{below_by}
 
@@ -31,7 +31,7 @@ shape_same old new site =
 -- ---- one step
 
 -- behind a group
-pub record ByGroup (shape : Shape) (images : Images) (s : Standing) (groups : List Logged) (n : Standing) : Type 0 where
+pub record ByGroup (shape : Shape) (images : Images) (s : WalkState) (groups : List Logged) (n : WalkState) : Type 0 where
   pub time : ℕ
   pub items : List Item
   pub after : Spot
@@ -41,7 +41,7 @@ pub record ByGroup (shape : Shape) (images : Images) (s : Standing) (groups : Li
   pub next_is : n ≡ record { rows = rows_through items s.rows; entered = s.entered; at = after; last = time }
 
 -- behind a switch
-pub record BySwitch (shape : Shape) (images : Images) (s : Standing) (groups : List Logged) (n : Standing) : Type 0 where
+pub record BySwitch (shape : Shape) (images : Images) (s : WalkState) (groups : List Logged) (n : WalkState) : Type 0 where
   pub time : ℕ
   pub after : Spot
   pub found : found_at shape images s ≡ Switch time after
@@ -49,10 +49,10 @@ pub record BySwitch (shape : Shape) (images : Images) (s : Standing) (groups : L
   pub groups_are : groups ≡ []
   pub next_is : n ≡ record { rows = s.rows; entered = s.entered ++ after.set ∷ []; at = after; last = time }
 
-goes_same : (a b : List Logged) (m n : Standing) → GoesOn a m ≡ GoesOn b n → (b ≡ a) × (n ≡ m)
+goes_same : (a b : List Logged) (m n : WalkState) → GoesOn a m ≡ GoesOn b n → (b ≡ a) × (n ≡ m)
 goes_same a b m n e = (cc, cc)
 
-module _ (shape : Shape) (images : Images) (s : Standing) (groups : List Logged) (n : Standing) where
+module _ (shape : Shape) (images : Images) (s : WalkState) (groups : List Logged) (n : WalkState) where
   by_unfit : (time : ℕ) (items : List Item) (after : Spot) (bad : Option ℕ) → found_at shape images s ≡ Group time items after → unfit_in shape s items ≡ bad → group_step s time items after bad ≡ GoesOn groups n → ByGroup shape images s groups n
   by_unfit time items after None found fits e =
       let same = goes_same _ groups _ n e in
@@ -78,8 +78,8 @@ module _ (shape : Shape) (images : Images) (s : Standing) (groups : List Logged)
   -- Numbers go up by one.
   pub next_number : step shape images s ≡ GoesOn groups n → n.at.number ≡ s.at.number + 1
   next_number e = elim (goes_by e) [
-    | inl g ↦ ap (λ (k : Standing). k.at.number) g.next_is ∙ (group_ends shape.form shape.sets (images (Journal s.at.set)) s.at s.last g.time g.items g.after g.found).number
-    | inr w ↦ ap (λ (k : Standing). k.at.number) w.next_is ∙ ap (λ (k : Spot). k.number) (switch_leads shape.form shape.sets (images (Journal s.at.set)) s.at s.last w.time w.after w.found)
+    | inl g ↦ ap (λ (k : WalkState). k.at.number) g.next_is ∙ (group_ends shape.form shape.sets (images (Journal s.at.set)) s.at s.last g.time g.items g.after g.found).number
+    | inr w ↦ ap (λ (k : WalkState). k.at.number) w.next_is ∙ ap (λ (k : Spot). k.number) (switch_leads shape.form shape.sets (images (Journal s.at.set)) s.at s.last w.time w.after w.found)
   ]
 
 -- ---- data sets entered
@@ -101,27 +101,27 @@ entered_last k (x ∷ xs) = by_first (nat_eq x k) (entered_last k xs)
     by_first false more = more
 
 -- what was entered stays so
-pub entered_next : (shape : Shape) (images : Images) (s n : Standing) (groups : List Logged) (k : ℕ) → step shape images s ≡ GoesOn groups n → has_entered k s.entered ≡ true → has_entered k n.entered ≡ true
+pub entered_next : (shape : Shape) (images : Images) (s n : WalkState) (groups : List Logged) (k : ℕ) → step shape images s ≡ GoesOn groups n → has_entered k s.entered ≡ true → has_entered k n.entered ≡ true
 entered_next shape images s n groups k e is = elim (goes_by shape images s groups n e) [
-  | inl g ↦ ap (λ (m : Standing). has_entered k m.entered) g.next_is ∙ is
-  | inr w ↦ ap (λ (m : Standing). has_entered k m.entered) w.next_is ∙ entered_front k s.entered (w.after.set ∷ []) is
+  | inl g ↦ ap (λ (m : WalkState). has_entered k m.entered) g.next_is ∙ is
+  | inr w ↦ ap (λ (m : WalkState). has_entered k m.entered) w.next_is ∙ entered_front k s.entered (w.after.set ∷ []) is
 ]
 
 -- the data set in which the walk stands was entered
-pub entered_here : (shape : Shape) (images : Images) (s n : Standing) (groups : List Logged) → step shape images s ≡ GoesOn groups n → has_entered s.at.set s.entered ≡ true → has_entered n.at.set n.entered ≡ true
+pub entered_here : (shape : Shape) (images : Images) (s n : WalkState) (groups : List Logged) → step shape images s ≡ GoesOn groups n → has_entered s.at.set s.entered ≡ true → has_entered n.at.set n.entered ≡ true
 entered_here shape images s n groups e is = elim (goes_by shape images s groups n e) [
   | inl g ↦
       let ends = group_ends shape.form shape.sets (images (Journal s.at.set)) s.at s.last g.time g.items g.after g.found in
-      ap (λ (m : Standing). has_entered m.at.set m.entered) g.next_is ∙ ap (λ (k : ℕ). has_entered k s.entered) ends.set ∙ is
-  | inr w ↦ ap (λ (m : Standing). has_entered m.at.set m.entered) w.next_is ∙ entered_last w.after.set s.entered
+      ap (λ (m : WalkState). has_entered m.at.set m.entered) g.next_is ∙ ap (λ (k : ℕ). has_entered k s.entered) ends.set ∙ is
+  | inr w ↦ ap (λ (m : WalkState). has_entered m.at.set m.entered) w.next_is ∙ entered_last w.after.set s.entered
 ]
 
-pub entered_stays : (turns : ℕ) (shape : Shape) (images : Images) (s : Standing) (k : ℕ) → has_entered k s.entered ≡ true → has_entered k (walk_from turns shape images s).entered ≡ true
+pub entered_stays : (turns : ℕ) (shape : Shape) (images : Images) (s : WalkState) (k : ℕ) → has_entered k s.entered ≡ true → has_entered k (walk_from turns shape images s).entered ≡ true
 unfolding walk_from
 entered_stays zero shape images s k is = is
 entered_stays (suc turns) shape images s k is = by_step (step shape images s) refl (λ n more. entered_stays turns shape images n k more)
   where
-    by_step : (st : Step) → step shape images s ≡ st → ((n : Standing) → has_entered k n.entered ≡ true → has_entered k (walk_from turns shape images n).entered ≡ true) → has_entered k (walk_on s st (λ n. walk_from turns shape images n)).entered ≡ true
+    by_step : (st : WalkStep) → step shape images s ≡ st → ((n : WalkState) → has_entered k n.entered ≡ true → has_entered k (walk_from turns shape images n).entered ≡ true) → has_entered k (walk_on s st (λ n. walk_from turns shape images n)).entered ≡ true
     by_step Ends e more = is
     by_step (Breaks place) e more = is
     by_step (GoesOn groups n) e more = more n (entered_next shape images s n groups k e is)
@@ -133,21 +133,21 @@ rows_append [] ys rows = refl
 rows_append (x ∷ xs) ys rows = rows_append xs ys (rows_by x rows)
 
 -- The rows at a walk's end are those at its start, changed by its items in turn.
-pub rows_of_walk : (turns : ℕ) (shape : Shape) (images : Images) (s : Standing) → (walk_from turns shape images s).rows ≡ rows_through (walk_items (walk_from turns shape images s)) s.rows
+pub rows_of_walk : (turns : ℕ) (shape : Shape) (images : Images) (s : WalkState) → (walk_from turns shape images s).rows ≡ rows_through (walk_items (walk_from turns shape images s)) s.rows
 unfolding walk_from
 rows_of_walk zero shape images s = refl
 rows_of_walk (suc turns) shape images s = by_step (step shape images s) refl (λ n. rows_of_walk turns shape images n)
   where
-    by_groups : (groups : List Logged) (n : Standing) → ByGroup shape images s groups n ⊎ BySwitch shape images s groups n → (let w = walk_from turns shape images n in w.rows ≡ rows_through (walk_items w) n.rows)
+    by_groups : (groups : List Logged) (n : WalkState) → ByGroup shape images s groups n ⊎ BySwitch shape images s groups n → (let w = walk_from turns shape images n in w.rows ≡ rows_through (walk_items w) n.rows)
         → (let w = walk_from turns shape images n in w.rows ≡ rows_through (walk_items (with_before groups w)) s.rows)
     by_groups groups n (inl g) more =
         let w = walk_from turns shape images n in
-        more ∙ ap (λ (m : Standing). rows_through (walk_items w) m.rows) g.next_is ∙ sym (rows_append g.items (walk_items w) s.rows) ∙ ap (λ (l : List Logged). rows_through (walk_items (with_before l w)) s.rows) (sym g.groups_are)
+        more ∙ ap (λ (m : WalkState). rows_through (walk_items w) m.rows) g.next_is ∙ sym (rows_append g.items (walk_items w) s.rows) ∙ ap (λ (l : List Logged). rows_through (walk_items (with_before l w)) s.rows) (sym g.groups_are)
     by_groups groups n (inr k) more =
         let w = walk_from turns shape images n in
-        more ∙ ap (λ (m : Standing). rows_through (walk_items w) m.rows) k.next_is ∙ ap (λ (l : List Logged). rows_through (walk_items (with_before l w)) s.rows) (sym k.groups_are)
+        more ∙ ap (λ (m : WalkState). rows_through (walk_items w) m.rows) k.next_is ∙ ap (λ (l : List Logged). rows_through (walk_items (with_before l w)) s.rows) (sym k.groups_are)
 
-    by_step : (st : Step) → step shape images s ≡ st → ((n : Standing) → (walk_from turns shape images n).rows ≡ rows_through (walk_items (walk_from turns shape images n)) n.rows)
+    by_step : (st : WalkStep) → step shape images s ≡ st → ((n : WalkState) → (walk_from turns shape images n).rows ≡ rows_through (walk_items (walk_from turns shape images n)) n.rows)
         → (let w = walk_on s st (λ n. walk_from turns shape images n) in w.rows ≡ rows_through (walk_items w) s.rows)
     by_step Ends e more = refl
     by_step (Breaks place) e more = refl
@@ -166,23 +166,23 @@ below_through volumes place rows (i ∷ items) below fits = by_fit (fits_rows vo
 -- ---- whole walks
 
 -- the walk from where it stands
-abbrev pub rest_of : Shape → Images → Standing → Walk
+abbrev pub rest_of : Shape → Images → WalkState → Walk
 rest_of shape images s = walk_from (turns_at s.at) shape images s
 
-one_turn : (shape : Shape) (images : Images) (s : Standing) → s.at.number < 2 ^ 64 → rest_of shape images s ≡ walk_on s (step shape images s) (λ n. walk_from (2 ^ 64 - (s.at.number + 1)) shape images n)
+one_turn : (shape : Shape) (images : Images) (s : WalkState) → s.at.number < 2 ^ 64 → rest_of shape images s ≡ walk_on s (step shape images s) (λ n. walk_from (2 ^ 64 - (s.at.number + 1)) shape images n)
 unfolding walk_from
 one_turn shape images s lt = let left : turns_at s.at ≡ suc (2 ^ 64 - (s.at.number + 1)) = omega (arith, lt) in ap (λ (t : ℕ). walk_from t shape images s) left
 
-pub rest_goes : (shape : Shape) (images : Images) (s n : Standing) (groups : List Logged) → s.at.number < 2 ^ 64 → step shape images s ≡ GoesOn groups n → rest_of shape images s ≡ with_before groups (rest_of shape images n)
+pub rest_goes : (shape : Shape) (images : Images) (s n : WalkState) (groups : List Logged) → s.at.number < 2 ^ 64 → step shape images s ≡ GoesOn groups n → rest_of shape images s ≡ with_before groups (rest_of shape images n)
 rest_goes shape images s n groups lt e =
     let left : 2 ^ 64 - (s.at.number + 1) ≡ turns_at n.at = omega (arith, next_number shape images s groups n e) in
-    one_turn shape images s lt ∙ ap (λ (st : Step). walk_on s st (λ m. walk_from (2 ^ 64 - (s.at.number + 1)) shape images m)) e ∙ ap (λ (t : ℕ). with_before groups (walk_from t shape images n)) left
+    one_turn shape images s lt ∙ ap (λ (st : WalkStep). walk_on s st (λ m. walk_from (2 ^ 64 - (s.at.number + 1)) shape images m)) e ∙ ap (λ (t : ℕ). with_before groups (walk_from t shape images n)) left
 
-pub rest_ends : (shape : Shape) (images : Images) (s : Standing) → s.at.number < 2 ^ 64 → step shape images s ≡ Ends → rest_of shape images s ≡ ends_at s None
-rest_ends shape images s lt e = one_turn shape images s lt ∙ ap (λ (st : Step). walk_on s st (λ m. walk_from (2 ^ 64 - (s.at.number + 1)) shape images m)) e
+pub rest_ends : (shape : Shape) (images : Images) (s : WalkState) → s.at.number < 2 ^ 64 → step shape images s ≡ Ends → rest_of shape images s ≡ ends_at s None
+rest_ends shape images s lt e = one_turn shape images s lt ∙ ap (λ (st : WalkStep). walk_on s st (λ m. walk_from (2 ^ 64 - (s.at.number + 1)) shape images m)) e
 
-pub rest_breaks : (shape : Shape) (images : Images) (s : Standing) (place : ℕ) → s.at.number < 2 ^ 64 → step shape images s ≡ Breaks place → rest_of shape images s ≡ ends_at s (Some (s.at.set, place))
-rest_breaks shape images s place lt e = one_turn shape images s lt ∙ ap (λ (st : Step). walk_on s st (λ m. walk_from (2 ^ 64 - (s.at.number + 1)) shape images m)) e
+pub rest_breaks : (shape : Shape) (images : Images) (s : WalkState) (place : ℕ) → s.at.number < 2 ^ 64 → step shape images s ≡ Breaks place → rest_of shape images s ≡ ends_at s (Some (s.at.set, place))
+rest_breaks shape images s place lt e = one_turn shape images s lt ∙ ap (λ (st : WalkStep). walk_on s st (λ m. walk_from (2 ^ 64 - (s.at.number + 1)) shape images m)) e
 
 pub before_both : (a b : List Logged) (w : Walk) → with_before a (with_before b w) ≡ with_before (a ++ b) w
 before_both a b w = ap (λ (l : List Logged). let v : Walk = record { groups = l; rows = w.rows; entered = w.entered; at = w.at; last = w.last; bad = w.bad } in v) (sym (append_assoc a b w.groups))

@@ -4,19 +4,19 @@ use Rattle.std.specs.Prelude.{slice_range}
 use Rattle.std.specs.List.{flat_map}
 use Rattle.std.specs.Int.{Width, w8, w16, w32, byte_len, from_be_bytes}
 use Rattle.std.proofs.lemmas.Bool.{ltb-false, and_parts}
-use Rattle.tod_stamp.specs.Fields.{◌>>=◌, Left, Bad, bytes_at, number_at, after}
+use Rattle.tod_stamp.specs.Fields.{◌>>=◌, Left, Bad, bytes_at, number_at, after, any}
 use Rattle.tod_stamp.specs.Fields.Bad.{Cut, Broken}
 use Rattle.tod_stamp.proofs.FieldLaws.{bind_ok, guard_ok, allow_ok}
 use Rattle.ckd_track.specs.declared.fault.ImageError.{ImageError}
 use Rattle.ckd_track.specs.declared.fault.ImageError.TheVariants.{Short, TooBig, Order}
 use Rattle.ckd_track.specs.declared.rec.Rec.{Rec}
-use Rattle.ckd_track.specs.Tracks.{size, capacity}
+use Rattle.ckd_track.specs.Tracks.{record_size, capacity}
 use Rattle.ckd_track.specs.Images.{image, image_at, record_after_head, record_at, record_spelling, records_at}
 use Rattle.pair_table.specs.Rows.{row_at}
 use Rattle.xrc_journal.specs.Items.{Item, Form, Earlier, anywhere, may_draw, behind, is_item, are_items_behind, item_spelling, body_spelling}
 use Rattle.xrc_journal.specs.Items.Item.{Image, Delta, Pair, Gone}
-use Rattle.xrc_journal.specs.Deltas.{any, change_at}
-use Rattle.xrc_journal.specs.Reading.{Items, track_at, image_field, row_or, image_item_at, delta_item_at, pair_item_at, gone_item_at, is_tag, item_at, no_items, first_and_rest, items_from}
+use Rattle.xrc_journal.specs.Deltas.{change_at}
+use Rattle.xrc_journal.specs.Reading.{Items, track_at, body_image_field, row_or, image_item_at, delta_item_at, pair_item_at, gone_item_at, is_tag, item_at, no_items, first_and_rest, items_from}
 use Rattle.xrc_journal.proofs.Fields.{given_is, field_ok, spelled_length}
 
 -- ---- fields
@@ -77,10 +77,10 @@ records_long zero place last room bytes recs rest e =
     let is = records_is ([], bytes) (recs, rest) e in
     omega (arith, ap (λ (p : List Rec × List ℕ). length (flat_map record_spelling p.0)) is, ap (λ (p : List Rec × List ℕ). length p.1) is)
 records_long (suc count) place last room bytes recs rest e =
-    let first = bind_ok (record_at place last room bytes) (λ f. records_at count (place + length (record_spelling f.0)) f.0.number (room - size f.0) f.1 >>= (λ o. Ok (f.0 ∷ o.0, o.1))) (recs, rest) e in
+    let first = bind_ok (record_at place last room bytes) (λ f. records_at count (place + length (record_spelling f.0)) f.0.number (room - record_size f.0) f.1 >>= (λ o. Ok (f.0 ∷ o.0, o.1))) (recs, rest) e in
     let r = first.0.0 in
-    let more = bind_ok (records_at count (place + length (record_spelling r)) r.number (room - size r) first.0.1) (λ o. Ok (r ∷ o.0, o.1)) (recs, rest) first.2 in
-    let others = records_long count (place + length (record_spelling r)) r.number (room - size r) first.0.1 more.0.0 more.0.1 more.1 in
+    let more = bind_ok (records_at count (place + length (record_spelling r)) r.number (room - record_size r) first.0.1) (λ o. Ok (r ∷ o.0, o.1)) (recs, rest) first.2 in
+    let others = records_long count (place + length (record_spelling r)) r.number (room - record_size r) first.0.1 more.0.0 more.0.1 more.1 in
     let is = records_is (r ∷ more.0.0, more.0.1) (recs, rest) more.2 in
     omega (
       arith,
@@ -105,11 +105,11 @@ module _ (form : Form) (earlier : Earlier) (left : Left) (item : Item) (next : L
   image_item_long : image_item_at form earlier left ≡ Ok (item, next) → 1 + length left.bytes ≡ length (item_spelling item) + length next.bytes
   unfolding image_item_at track_at
   image_item_long e =
-      let one = bind_ok (track_at (may_draw form earlier) left) (λ at. image_field at.1 >>= (λ r. Ok (Image at.0.0 at.0.1 r.0, r.1))) (item, next) e in
+      let one = bind_ok (track_at (may_draw form earlier) left) (λ at. body_image_field at.1 >>= (λ r. Ok (Image at.0.0 at.0.1 r.0, r.1))) (item, next) e in
       let device = bind_ok (number_at w16 any left) (λ d. number_at w32 (may_draw form earlier d.0) d.1 >>= (λ t. Ok ((d.0, t.0), t.1))) one.0 one.1 in
       let track = bind_ok (number_at w32 (may_draw form earlier device.0.0) device.0.1) (λ t. Ok ((device.0.0, t.0), t.1)) one.0 device.2 in
       let at_is = given_is ((device.0.0, track.0.0), track.0.1) one.0 track.2 in
-      let two = bind_ok (image_field one.0.1) (λ r. Ok (Image one.0.0.0 one.0.0.1 r.0, r.1)) (item, next) one.2 in
+      let two = bind_ok (body_image_field one.0.1) (λ r. Ok (Image one.0.0.0 one.0.0.1 r.0, r.1)) (item, next) one.2 in
       let read = field_ok one.0.1 (image_at one.0.1.bytes) two.0.0 two.0.1 two.1 in
       let is = given_is (Image one.0.0.0 one.0.0.1 two.0.0, two.0.1) (item, next) two.2 in
       omega (

@@ -1,26 +1,21 @@
 -- The rows of a meaning, marks at the end of a walk, and what images leave of a track.
-use Rattle.std.proofs.Common.{◌≡◌, ◌≢◌, inl, inr, ℕ, zero, suc, Bool, true, false, cond, ◌||◌, List, [], ◌∷◌, slice_index, Option, Some, None, refl, sym, ap, subst, ◌∙◌}
+use Rattle.std.proofs.Common.{◌≡◌, ◌≢◌, ℕ, Bool, true, false, cond, ◌||◌, List, [], ◌∷◌, slice_index, Option, Some, None, refl, sym, ap, subst, ◌∙◌}
 use Rattle.std.specs.List.{list_any}
 use Rattle.ckd_track.specs.declared.rec.Rec.{Rec}
 use Rattle.crash_plant.specs.declared.device.Device.TheVariants.{Journal}
 use Rattle.crash_plant.specs.declared.spot.Spot.{Spot}
-use Rattle.pair_table.specs.declared.row.PairRow.{PairRow}
-use Rattle.pair_table.specs.Tables.{are_below}
 use Rattle.state_set.specs.Slots.{Stored, started_table}
 use Rattle.xrc_journal.specs.Items.{Item}
 use Rattle.xrc_journal.specs.Items.Item.{Image, Delta, Pair, Gone}
 use Rattle.xrc_journal.specs.Bodies.{draws}
-use Rattle.xrc_journal.specs.Walks.{Logged}
 use Rattle.xrc_journal.specs.Contents.{content_by, content_through}
 use Rattle.site_means.specs.declared.means.Means.{Means}
-use Rattle.site_means.specs.Images.{Images, Shape}
-use Rattle.site_means.specs.Walk.{Standing, Walk, body_place, ends_at, start, turns_at, walk_in}
+use Rattle.site_means.specs.Walk.{Walk, ends_at, start, turns_at, walk_in}
 use Rattle.site_means.specs.Meaning.{means_by}
 use Rattle.site_means.specs.Meaning.Meaning.{Meant}
-use Rattle.site_means.specs.Laws.{ContentsAreDrawn, MarksMeanTheSame, RowsAreOfThePlant}
-use Rattle.site_means.proofs.Goes.{below_through, goes_by}
-use Rattle.site_means.proofs.Meanings.{by_walk, rows_below}
-use Rattle.site_means.proofs.Reaching.{Reaches, ends_here, meant_by, reached, rows_end, shut_ends}
+use Rattle.site_means.specs.Laws.{MarksMeanTheSame}
+use Rattle.site_means.proofs.Meanings.{by_walk}
+use Rattle.site_means.proofs.Reaching.{ends_here, meant_by, shut_ends}
 
 same_draw : (device track : ℕ) (i : Item) (old new : Option (List Rec)) → draws device track i ≡ true → content_by device track new i ≡ content_by device track old i
 same_draw device track (Image d x recs) old new e = ap (λ (b : Bool). cond b (Some recs) new) e ∙ sym (ap (λ (b : Bool). cond b (Some recs) old) e)
@@ -28,7 +23,8 @@ same_draw device track (Delta d x kind) old new e = absurd cc
 same_draw device track (Pair row) old new e = absurd cc
 same_draw device track (Gone d) old new e = absurd cc
 
-pub contents_are_drawn : ContentsAreDrawn
+-- Where the items have an image of a track, its content doesn't depend on what stood there before.
+pub contents_are_drawn : (device track : ℕ) (items : List Item) (old new : Option (List Rec)) → list_any (draws device track) items ≡ true → content_through device track items new ≡ content_through device track items old
 contents_are_drawn device track [] old new has = absurd cc
 contents_are_drawn device track (i ∷ items) old new has =
     by_draws (draws device track i) refl (λ more. contents_are_drawn device track items (content_by device track old i) (content_by device track new i) more)
@@ -37,22 +33,6 @@ contents_are_drawn device track (i ∷ items) old new has =
         → content_through device track items (content_by device track new i) ≡ content_through device track items (content_by device track old i)
     by_draws true e more = ap (λ (o : Option (List Rec)). content_through device track items o) (same_draw device track i old new e)
     by_draws false e more = more (ap (λ (b : Bool). b || list_any (draws device track) items) (sym e) ∙ has)
-
-below_reaches : (records : ℕ) (shape : Shape) (images : Images) (s e : Standing) (groups : List Logged) → Reaches shape images records s groups e → are_below shape.volumes s.rows ≡ true → are_below shape.volumes e.rows ≡ true
-below_reaches zero shape images s e groups r below = ap (λ (k : Standing). are_below shape.volumes k.rows) r.1 ∙ below
-below_reaches (suc records) shape images s e groups r below =
-    let next : are_below shape.volumes r.1.rows ≡ true = elim (goes_by shape images s r.0 r.1 r.3) [
-      | inl g ↦ ap (λ (k : Standing). are_below shape.volumes k.rows) g.next_is ∙ below_through shape.volumes (body_place s.at) s.rows g.items below g.fits
-      | inr w ↦ ap (λ (k : Standing). are_below shape.volumes k.rows) w.next_is ∙ below
-    ] in
-    below_reaches records shape images r.1 e r.2 r.5 next
-
-pub rows_are_of_the_plant : RowsAreOfThePlant
-rows_are_of_the_plant shape images means w meant =
-    let by = meant_by shape images means w meant in
-    let first = reached (turns_at by.mark.at) shape images (start by.mark by.stored.rows) (ap (λ (k : Walk). k.bad) by.walk_is ∙ by.good) in
-    let below = below_reaches first.records shape images (start by.mark by.stored.rows) first.end (walk_in shape images by.mark by.stored.rows).groups first.reaches (rows_below shape images by.mark by.stored by.holds) in
-    ap (λ (l : List PairRow). are_below shape.volumes l) (sym (rows_end shape images means w by) ∙ ap (λ (k : Walk). k.rows) (sym by.walk_is ∙ first.is)) ∙ below
 
 pub marks_mean_the_same : MarksMeanTheSame
 marks_mean_the_same shape a b means w m meant shut chosen stored at session time =

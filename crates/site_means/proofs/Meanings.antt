@@ -1,10 +1,7 @@
 -- What a finished walk says of the meaning.
-use Rattle.std.proofs.Common.{◌≡◌, ℕ, ◌≤◌, ◌<◌, Bool, true, false, cond, List, [], slice_index, Option, Some, None, Result, Ok, Err, refl, sym, ap, subst, ◌∙◌, append-nil, arith}
-use Rattle.std.specs.Prelude.{ok_or, drop, slice_range}
-use Rattle.std.specs.Int.{w16, from_be_bytes}
-use Rattle.std.proofs.lemmas.Option.{same_Some}
+use Rattle.std.proofs.Common.{◌≡◌, ℕ, ◌≤◌, ◌<◌, true, List, [], slice_index, Option, Some, None, Result, Ok, Err, sym, ap, subst, ◌∙◌, append-nil, arith}
 use Rattle.crash_plant.specs.declared.device.Device.{Device}
-use Rattle.crash_plant.specs.declared.device.Device.TheVariants.{Journal, State}
+use Rattle.crash_plant.specs.declared.device.Device.TheVariants.{Journal}
 use Rattle.crash_plant.specs.declared.spot.Spot.{Spot}
 use Rattle.tod_stamp.specs.declared.stamp.Stamp.{Stamp}
 use Rattle.crash_plant.specs.Calls.{SameSite}
@@ -13,72 +10,34 @@ use Rattle.control_set.specs.declared.value.Mark.{Mark}
 use Rattle.control_set.specs.Slots.{lengths_of}
 use Rattle.control_set.proofs.Lengths.{at_is, count_is}
 use Rattle.pair_table.specs.declared.row.PairRow.{PairRow}
-use Rattle.pair_table.specs.Rows.{◌>>=◌}
 use Rattle.pair_table.specs.Tables.{Table, with_rows, are_below}
-use Rattle.state_set.specs.Slots.{Stored, slot_place, are_rows, fields_of, has_title, kept, level_of, rows_at, state_at, started_table}
-use Rattle.state_set.proofs.Behind.{rows_parts}
+use Rattle.state_set.specs.Slots.{Stored, started_table}
 use Rattle.xrc_journal.specs.Walks.{Logged}
 use Rattle.site_means.specs.declared.means.Means.{Means}
 use Rattle.site_means.specs.declared.site_error.SiteError.{SiteError}
 use Rattle.site_means.specs.declared.site_error.SiteError.TheVariants.{NoSession, Damaged, Fault, TooSmall, NoMemory}
 use Rattle.site_means.specs.declared.walking.Walking.{Walking}
 use Rattle.site_means.specs.Images.{Images, Shape, shape_of}
-use Rattle.site_means.specs.Walk.{Standing, Walk, ends_at, has_entered, last_time, rows_through, start, turns_at, walk_in, walk_items, with_before}
+use Rattle.site_means.specs.Walk.{WalkState, Walk, ends_at, has_entered, last_time, rows_through, start, turns_at, walk_in, walk_items, with_before}
 use Rattle.site_means.specs.Meaning.{chosen_in, meaning_by_mark, meaning_by_state, meaning_by_walk, meaning_in, stored_in}
 use Rattle.site_means.specs.Meaning.Meaning.{DamagedAt, Meant}
-use Rattle.site_means.specs.Answers.{IsReached, Mean, ReadsAll, Says}
-use Rattle.site_means.specs.Steps.{BeginsAt, Finishes, Reports, Stands, standing_of, walk_of}
+use Rattle.site_means.specs.Answers.{IsReached, Mean, ReadsAll, AnswersMeaning}
+use Rattle.site_means.specs.Steps.{BeginsAt, Finishes, AnswersWalk, WalkStands, standing_of, walk_of}
 use Rattle.site_means.proofs.Goes.{entered_last, rest_of, rows_of_walk, shape_same}
 use Rattle.control_set.specs.Marks.{IsMark}
 use Rattle.site_means.specs.Answers.{HasSpot}
 
--- ---- rows of a state slot
-
-bind_some : {A B : Type 0} (o : Option A) (f : A → Option B) (y : B) → (o >>= f) ≡ Some y → (x : A) × (o ≡ Some x) × (f x ≡ Some y)
-bind_some (Some x) f y e = (x, refl, e)
-bind_some None f y e = absurd cc
-
-kept_rows : (volumes : ℕ) (o : Option (List PairRow)) (rows : List PairRow) → kept volumes o ≡ Some rows → are_rows volumes rows ≡ true
-kept_rows volumes None rows e = absurd cc
-kept_rows volumes (Some found) rows e = by_rules (are_rows volumes found) refl e
-  where
-    by_rules : (b : Bool) → are_rows volumes found ≡ b → cond b (Some found) None ≡ Some rows → are_rows volumes rows ≡ true
-    by_rules true is e = ap (λ (l : List PairRow). are_rows volumes l) (sym (same_Some found rows e)) ∙ is
-    by_rules false is e = absurd cc
-
-stored_rows : (volumes : ℕ) (session bytes : List ℕ) (s : Stored) → state_at volumes session bytes ≡ Some s → are_rows volumes s.rows ≡ true
-stored_rows volumes session bytes s e = by_title (has_title session bytes) e
-  where
-    by_fields : fields_of volumes bytes ≡ Some s → are_rows volumes s.rows ≡ true
-    by_fields e =
-        let read = kept volumes (rows_at (from_be_bytes w16 (slice_range bytes 13 15)) (drop 15 bytes)) in
-        let level = bind_some {B = Stored} (level_of (slice_index bytes 12)) (λ l. read >>= (λ rows. Some (record { level = l; rows = rows }))) s e in
-        let rows = bind_some {B = Stored} read (λ rows. Some (record { level = level.0; rows = rows })) s level.2 in
-        let is = same_Some (record { level = level.0; rows = rows.0 }) s rows.2 in
-        ap (λ (k : Stored). are_rows volumes k.rows) (sym is) ∙ kept_rows volumes (rows_at (from_be_bytes w16 (slice_range bytes 13 15)) (drop 15 bytes)) rows.0 rows.1
-
-    by_title : (titled : Bool) → cond titled (fields_of volumes bytes) None ≡ Some s → are_rows volumes s.rows ≡ true
-    by_title true e = by_fields e
-    by_title false e = absurd cc
-
-found_state : (o : Option Stored) (place : ℕ) (s : Stored) → ok_or o place ≡ Ok s → o ≡ Some s
-found_state None place s e = absurd cc
-found_state (Some found) place s e = let same : found ≡ s = cc in ap (λ (k : Stored). Some k) same
-
-pub rows_below : (shape : Shape) (images : Images) (m : Mark) (s : Stored) → stored_in shape images m ≡ Ok s → are_below shape.volumes s.rows ≡ true
-rows_below shape images m s e = (rows_parts shape.volumes s.rows (stored_rows shape.volumes m.session (drop (slot_place m.state_slot) (images State)) s (found_state (state_at shape.volumes m.session (drop (slot_place m.state_slot) (images State))) (slot_place m.state_slot) s e))).below
-
 -- ---- where a walk begins
 
-pub stands_first : (plant : PlantState) (m : Mark) (table : Table) (w : Walking) → ((j : ℕ) → j < plant.journals → 1 ≤ plant.lengths (Journal j)) → HasSpot plant m.at → are_below plant.volumes table.rows ≡ true → BeginsAt m table w → Stands plant w
+pub stands_first : (plant : PlantState) (m : Mark) (table : Table) (w : Walking) → ((j : ℕ) → j < plant.journals → 1 ≤ plant.lengths (Journal j)) → HasSpot plant m.at → are_below plant.volumes table.rows ≡ true → BeginsAt m table w → WalkStands plant w
 stands_first plant m table w long spot below b =
-    let at : w.at ≡ m.at = ap (λ (k : Standing). k.at) b.standing in
+    let at : w.at ≡ m.at = ap (λ (k : WalkState). k.at) b.standing in
     record {
       set = subst (λ (k : Spot). k.set < plant.journals) (sym at) spot.set;
       place = subst (λ (k : Spot). k.place < plant.lengths (Journal k.set)) (sym at) (omega (arith, spot.room));
-      below = ap (λ (k : Standing). are_below plant.volumes k.rows) b.standing ∙ below;
+      below = ap (λ (k : WalkState). are_below plant.volumes k.rows) b.standing ∙ below;
       long = long;
-      here = ap (λ (k : Standing). has_entered k.at.set k.entered) b.standing ∙ entered_last m.at.set [];
+      here = ap (λ (k : WalkState). has_entered k.at.set k.entered) b.standing ∙ entered_last m.at.set [];
     }
 
 pub spot_later : (old new : PlantState) (at : Spot) → SameSite old new → HasSpot old at → HasSpot new at
@@ -104,7 +63,7 @@ module _ (shape : Shape) (images : Images) (m : Mark) (s : Stored) (chosen : cho
     -- the walk in the code is this one
     module _ (table : Table) (first : Walking) (rows : table.rows ≡ s.rows) (b : BeginsAt m table first) where
       walk_is : walk_of shape images first ≡ walk_in shape images m s.rows
-      walk_is = ap (λ (k : Standing). rest_of shape images k) (b.standing ∙ ap (λ (l : List PairRow). start m l) rows)
+      walk_is = ap (λ (k : WalkState). rest_of shape images k) (b.standing ∙ ap (λ (l : List PairRow). start m l) rows)
 
       -- It ended well.
       pub finish_means : (new : Walking) → table ≡ started_table m.session table.rows → Finishes (walk_of shape images first) first new
@@ -123,14 +82,14 @@ module _ (shape : Shape) (images : Images) (m : Mark) (s : Stored) (chosen : cho
           )
 
       -- It ended with an error.
-      pub reports_say : {X : Type 0} (good : X → Type 0) (new : Walking) (e : SiteError) → Reports (walk_of shape images first) first new (Err e) → Says good (meaning_in shape images) (Err e)
+      pub reports_say : {X : Type 0} (good : X → Type 0) (new : Walking) (e : SiteError) → AnswersWalk (walk_of shape images first) first new (Err e) → AnswersMeaning good (meaning_in shape images) (Err e)
       reports_say good new (Damaged d place) p = by_walk (Some (p.0, place)) (ap (λ (k : Walk). k.bad) (sym walk_is) ∙ p.2) ∙ ap (λ (k : Device). DamagedAt k place) (sym p.1)
       reports_say good new (Fault d) p = tt
       reports_say good new NoMemory p = tt
       reports_say good new NoSession p = absurd p
       reports_say good new (TooSmall d needed) p = tt
 
-      pub reports_reach : (new : Walking) (d : Device) → Reports (walk_of shape images first) first new (Err (Fault d)) → IsReached shape images d
+      pub reports_reach : (new : Walking) (d : Device) → AnswersWalk (walk_of shape images first) first new (Err (Fault d)) → IsReached shape images d
       reports_reach new d p = subst (λ (k : Device). IsReached shape images k) (sym p.1) (record {
         mark = m;
         stored = s;
@@ -163,13 +122,13 @@ module _ (old new : PlantState) (seen : SameSeen old new) where
   seen_reached d is = subst (λ (p : Shape × Images). IsReached p.0 p.1 d) {x = (shape_of new, new.bytes)} {y = (shape_of old, old.bytes)} (λ i. (seen.shape i, seen.bytes i)) is
 
   -- an error says the same of both
-  pub seen_error : {X Y : Type 0} (good : X → Type 0) (other : Y → Type 0) (e : SiteError) → Says good (meaning_in (shape_of new) new.bytes) (Err e) → Says other (meaning_in (shape_of old) old.bytes) (Err e)
+  pub seen_error : {X Y : Type 0} (good : X → Type 0) (other : Y → Type 0) (e : SiteError) → AnswersMeaning good (meaning_in (shape_of new) new.bytes) (Err e) → AnswersMeaning other (meaning_in (shape_of old) old.bytes) (Err e)
   seen_error good other NoSession s = sym seen_meaning ∙ s
   seen_error good other (Damaged d place) s = sym seen_meaning ∙ s
   seen_error good other (Fault d) s = tt
   seen_error good other (TooSmall d needed) s = tt
   seen_error good other NoMemory s = tt
 
-  pub seen_answer : (r : Result Means SiteError) → Says (λ means. Mean (meaning_in (shape_of new) new.bytes) means) (meaning_in (shape_of new) new.bytes) r → Says (λ means. Mean (meaning_in (shape_of old) old.bytes) means) (meaning_in (shape_of old) old.bytes) r
+  pub seen_answer : (r : Result Means SiteError) → AnswersMeaning (λ means. Mean (meaning_in (shape_of new) new.bytes) means) (meaning_in (shape_of new) new.bytes) r → AnswersMeaning (λ means. Mean (meaning_in (shape_of old) old.bytes) means) (meaning_in (shape_of old) old.bytes) r
   seen_answer (Ok means) s = (s.0, sym seen_meaning ∙ s.1)
   seen_answer (Err e) s = seen_error {X = Means} {Y = Means} (λ means. Mean (meaning_in (shape_of new) new.bytes) means) (λ means. Mean (meaning_in (shape_of old) old.bytes) means) e s

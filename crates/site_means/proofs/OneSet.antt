@@ -8,30 +8,31 @@ use Rattle.xrc_journal.specs.Records.{Found}
 use Rattle.xrc_journal.specs.Records.Found.{End, Group, Switch, Damaged}
 use Rattle.xrc_journal.specs.Walks.{Logged, Walks}
 use Rattle.site_means.specs.Images.{Images, Shape}
-use Rattle.site_means.specs.Walk.{Standing, Step, Walk, body_place, first_unfit, found_at, group_step, has_entered, rows_through, start, step, step_by, turns_at, unfit_in, walk_from, walk_items, walk_on, with_before}
-use Rattle.site_means.specs.Walk.Step.{Ends, GoesOn, Breaks}
-use Rattle.site_means.specs.Laws.{FitRows, SitesWalkOneSet, WalksAreTheSites}
+use Rattle.site_means.specs.Walk.{WalkState, WalkStep, Walk, body_place, first_unfit, found_at, group_step, has_entered, rows_through, start, step, step_by, turns_at, unfit_in, walk_from, walk_items, walk_on, with_before, walk_in}
+use Rattle.site_means.specs.Walk.WalkStep.{Ends, GoesOn, Breaks}
+use Rattle.site_means.specs.Laws.{FitRows, one_set}
 use Rattle.site_means.proofs.Found.{group_ends}
 use Rattle.site_means.proofs.Goes.{goes_by, rest_ends, rest_goes, rest_of, rows_append}
 use Rattle.site_means.proofs.Reaching.{fits_anywhere, group_number}
 use Rattle.site_means.proofs.Taking.{shifted, unfit_shifted}
+use Rattle.control_set.specs.declared.value.Mark.{Mark}
 
 -- ---- from the walk over one data set
 
 -- the walk behind these groups
-abbrev set_walk : Standing → List Logged → (to : Spot) → (time : ℕ) → Walk
+abbrev set_walk : WalkState → List Logged → (to : Spot) → (time : ℕ) → Walk
 set_walk s groups to time =
     let w : Walk = record { groups = groups; rows = s.rows; entered = s.entered; at = to; last = time; bad = None } in
     record { groups = groups; rows = rows_through (walk_items w) s.rows; entered = s.entered; at = to; last = time; bad = None }
 
-rest_walks : (shape : Shape) (images : Images) (s : Standing) (groups : List Logged) (to : Spot) (time : ℕ) → s.at.number < 2 ^ 64 → Walks shape.form shape.sets (images (Journal s.at.set)) s.at s.last groups to time → FitRows shape.volumes s.rows groups
+rest_walks : (shape : Shape) (images : Images) (s : WalkState) (groups : List Logged) (to : Spot) (time : ℕ) → s.at.number < 2 ^ 64 → Walks shape.form shape.sets (images (Journal s.at.set)) s.at s.last groups to time → FitRows shape.volumes s.rows groups
     → rest_of shape images s ≡ set_walk s groups to time
 rest_walks shape images s [] to time lt w fits =
     rest_ends shape images s lt (ap (λ (f : Found). step_by shape s f) w.0)
     ∙ (λ i. let v : Walk = record { groups = []; rows = s.rows; entered = s.entered; at = sym w.1 i; last = sym w.2 i; bad = None } in v)
 rest_walks shape images s (g ∷ groups) to time lt w fits =
     let after = w.0 in
-    let n : Standing = record { rows = rows_through g.items s.rows; entered = s.entered; at = after; last = g.time } in
+    let n : WalkState = record { rows = rows_through g.items s.rows; entered = s.entered; at = after; last = g.time } in
     let journal = images (Journal s.at.set) in
     let ends = group_ends shape.form shape.sets journal s.at s.last g.time g.items after w.1 in
     let below = group_number shape journal s.at s.last g.time g.items after w.1 in
@@ -44,26 +45,28 @@ rest_walks shape images s (g ∷ groups) to time lt w fits =
     rows : rows_through (walk_items (set_walk (record { rows = rows_through g.items s.rows; entered = s.entered; at = w.0; last = g.time }) groups to time)) (rows_through g.items s.rows) ≡ rows_through (walk_items (set_walk s (g ∷ groups) to time)) s.rows
     rows = sym (rows_append g.items (walk_items (set_walk s groups to time)) s.rows)
 
-pub walks_are : WalksAreTheSites
+-- Where the walk over one data set is defined and fits the rows, it is the site's.
+pub walks_are : (shape : Shape) (images : Images) (m : Mark) (rows : List PairRow) (groups : List Logged) (to : Spot) (time : ℕ) → m.at.number < 2 ^ 64
+    → Walks shape.form shape.sets (images (Journal m.at.set)) m.at m.time.0 groups to time → FitRows shape.volumes rows groups → walk_in shape images m rows ≡ one_set m rows groups to time
 walks_are shape images m rows groups to time lt w fits = rest_walks shape images (start m rows) groups to time lt w fits
 
 -- ---- and back
 
-entered_long : (turns : ℕ) (shape : Shape) (images : Images) (s : Standing) → length s.entered ≤ length (walk_from turns shape images s).entered
+entered_long : (turns : ℕ) (shape : Shape) (images : Images) (s : WalkState) → length s.entered ≤ length (walk_from turns shape images s).entered
 unfolding walk_from
 entered_long zero shape images s = omega arith
 entered_long (suc turns) shape images s = by_step (step shape images s) refl (λ n. entered_long turns shape images n)
   where
-    by_step : (k : Step) → step shape images s ≡ k → ((n : Standing) → length n.entered ≤ length (walk_from turns shape images n).entered) → length s.entered ≤ length (walk_on s k (λ n. walk_from turns shape images n)).entered
+    by_step : (k : WalkStep) → step shape images s ≡ k → ((n : WalkState) → length n.entered ≤ length (walk_from turns shape images n).entered) → length s.entered ≤ length (walk_on s k (λ n. walk_from turns shape images n)).entered
     by_step Ends e more = omega arith
     by_step (Breaks place) e more = omega arith
     by_step (GoesOn groups n) e more = elim (goes_by shape images s groups n e) [
-      | inl g ↦ omega (arith, more n, ap (λ (m : Standing). length m.entered) g.next_is)
-      | inr w ↦ omega (arith, more n, ap (λ (m : Standing). length m.entered) w.next_is, length-append s.entered (w.after.set ∷ []))
+      | inl g ↦ omega (arith, more n, ap (λ (m : WalkState). length m.entered) g.next_is)
+      | inr w ↦ omega (arith, more n, ap (λ (m : WalkState). length m.entered) w.next_is, length-append s.entered (w.after.set ∷ []))
     ]
 
 -- a walk that ends at once has no record there
-end_found : (shape : Shape) (s : Standing) (f : Found) → step_by shape s f ≡ Ends → f ≡ End
+end_found : (shape : Shape) (s : WalkState) (f : Found) → step_by shape s f ≡ Ends → f ≡ End
 end_found shape s End e = refl
 end_found shape s (Group time items after) e = absurd (by_unfit (unfit_in shape s items) e)
   where
@@ -88,16 +91,16 @@ fits_first volumes place rows items none =
     by_first (Some k) e = absurd cc
 
 -- what the walk over one data set is, and that the groups fit
-abbrev AloneIn : Shape → Images → Standing → Walk → Type 0
+abbrev AloneIn : Shape → Images → WalkState → Walk → Type 0
 AloneIn shape images s w = Walks shape.form shape.sets (images (Journal s.at.set)) s.at s.last w.groups w.at w.last × FitRows shape.volumes s.rows w.groups
 
-alone : (turns : ℕ) (shape : Shape) (images : Images) (s : Standing) → s.at.number + turns ≡ 2 ^ 64 → 1 ≤ turns → (let w = walk_from turns shape images s in w.bad ≡ None → length w.entered ≤ length s.entered → AloneIn shape images s w)
+alone : (turns : ℕ) (shape : Shape) (images : Images) (s : WalkState) → s.at.number + turns ≡ 2 ^ 64 → 1 ≤ turns → (let w = walk_from turns shape images s in w.bad ≡ None → length w.entered ≤ length s.entered → AloneIn shape images s w)
 unfolding walk_from
 alone zero shape images s number some good few = absurd (omega (arith, some))
 alone (suc turns) shape images s number some good few = by_step (step shape images s) refl good few (λ n e some good few. alone turns shape images n e some good few)
   where
-    by_step : (k : Step) → step shape images s ≡ k → (walk_on s k (λ n. walk_from turns shape images n)).bad ≡ None → length (walk_on s k (λ n. walk_from turns shape images n)).entered ≤ length s.entered
-        → ((n : Standing) → n.at.number + turns ≡ 2 ^ 64 → 1 ≤ turns → (walk_from turns shape images n).bad ≡ None → length (walk_from turns shape images n).entered ≤ length n.entered → AloneIn shape images n (walk_from turns shape images n))
+    by_step : (k : WalkStep) → step shape images s ≡ k → (walk_on s k (λ n. walk_from turns shape images n)).bad ≡ None → length (walk_on s k (λ n. walk_from turns shape images n)).entered ≤ length s.entered
+        → ((n : WalkState) → n.at.number + turns ≡ 2 ^ 64 → 1 ≤ turns → (walk_from turns shape images n).bad ≡ None → length (walk_from turns shape images n).entered ≤ length n.entered → AloneIn shape images n (walk_from turns shape images n))
         → AloneIn shape images s (walk_on s k (λ n. walk_from turns shape images n))
     by_step Ends e good few more = ((end_found shape s (found_at shape images s) e, refl, refl), tt)
     by_step (Breaks place) e good few more = absurd cc
@@ -107,16 +110,18 @@ alone (suc turns) shape images s number some good few = by_step (step shape imag
           let ends = group_ends shape.form shape.sets journal s.at s.last g.time g.items g.after g.found in
           let below = group_number shape journal s.at s.last g.time g.items g.after g.found in
           let next = g.next_is in
-          let rest = more n (omega (arith, number, ends.number, ap (λ (m : Standing). m.at.number) next)) (omega (arith, number, below)) good (omega (arith, few, ap (λ (m : Standing). length m.entered) next)) in
+          let rest = more n (omega (arith, number, ends.number, ap (λ (m : WalkState). m.at.number) next)) (omega (arith, number, below)) good (omega (arith, few, ap (λ (m : WalkState). length m.entered) next)) in
           let w = walk_from turns shape images n in
           let one : Logged = record { time = g.time; items = g.items } in
           let walks : Walks shape.form shape.sets journal g.after g.time w.groups w.at w.last =
           subst (λ (k : ℕ). Walks shape.form shape.sets (images (Journal k)) g.after g.time w.groups w.at w.last) (ends.set)
-          (subst (λ (m : Standing). Walks shape.form shape.sets (images (Journal m.at.set)) m.at m.last w.groups w.at w.last) next rest.0) in
-          let fits : FitRows shape.volumes (rows_through g.items s.rows) w.groups = subst (λ (m : Standing). FitRows shape.volumes m.rows w.groups) next rest.1 in
+          (subst (λ (m : WalkState). Walks shape.form shape.sets (images (Journal m.at.set)) m.at m.last w.groups w.at w.last) next rest.0) in
+          let fits : FitRows shape.volumes (rows_through g.items s.rows) w.groups = subst (λ (m : WalkState). FitRows shape.volumes m.rows w.groups) next rest.1 in
           subst (λ (l : List Logged). AloneIn shape images s (with_before l w)) (sym g.groups_are) ((g.after, g.found, walks), (fits_first shape.volumes (body_place s.at) s.rows g.items g.fits, fits))
-      | inr w ↦ absurd (omega (arith, few, entered_long turns shape images n, ap (λ (m : Standing). length m.entered) w.next_is, length-append s.entered (w.after.set ∷ [])))
+      | inr w ↦ absurd (omega (arith, few, entered_long turns shape images n, ap (λ (m : WalkState). length m.entered) w.next_is, length-append s.entered (w.after.set ∷ [])))
     ]
 
-pub walk_alone : SitesWalkOneSet
+-- A site's walk that is defined and enters no other data set is the walk over that one, and fits the rows.
+pub walk_alone : (shape : Shape) (images : Images) (m : Mark) (rows : List PairRow) → m.at.number < 2 ^ 64 → (walk_in shape images m rows).bad ≡ None → (walk_in shape images m rows).entered ≡ m.at.set ∷ []
+    → (let w = walk_in shape images m rows in Walks shape.form shape.sets (images (Journal m.at.set)) m.at m.time.0 w.groups w.at w.last × FitRows shape.volumes rows w.groups)
 walk_alone shape images m rows lt good one = alone (turns_at m.at) shape images (start m rows) (omega (arith, lt)) (omega (arith, lt)) good (omega (arith, ap length one))

@@ -10,7 +10,7 @@ use Rattle.crash_plant.specs.Moments.{PlantState, on, Follows, Same}
 use Rattle.crash_plant.specs.Calls.{WorksOn}
 use Rattle.crash_plant.proofs.Choices.{device_cases}
 use Rattle.crash_plant.proofs.Steps.{follows_here, follows_then, works_on_here, works_on_more, works_on_trans}
-use Rattle.site_means.specs.Answers.{Fails, IsExamined, ReadsAll}
+use Rattle.site_means.specs.Answers.{FaultsAreCounted, IsExamined, ReadsAll}
 
 -- a call on one device
 pub reads_one : (tells : Type 0) (d : Device) (old new : PlantState) → IsExamined d → (tells → new.bytes d ≡ old.bytes d) → (tells → Follows Same (on old d) (on new d)) → WorksOn tells (λ e. e ≡ d) old new → ReadsAll tells old new
@@ -49,14 +49,14 @@ fault_is : {X : Type 0} (d e : Device) → (let a : Result X SiteError = Err (Fa
 fault_is d e is = cc
 
 -- a fault of one device
-pub fails_one : {X : Type 0} (tells : Type 0) (d : Device) (old new : PlantState) → Rose (old.faults d) (new.faults d) → WorksOn tells (λ e. e ≡ d) old new → (let r : Result X SiteError = Err (Fault d) in Fails old.faults new.faults r)
+pub fails_one : {X : Type 0} (tells : Type 0) (d : Device) (old new : PlantState) → Rose (old.faults d) (new.faults d) → WorksOn tells (λ e. e ≡ d) old new → (let r : Result X SiteError = Err (Fault d) in FaultsAreCounted old.faults new.faults r)
 fails_one {X = X} tells d old new rose only = record {
   rose = λ e is. subst (λ (f : Device). Rose (old.faults f) (new.faults f)) (fault_is {X = X} d e is) rose;
   others = λ e other. only.others_faults e (λ here. other (ap (λ (f : Device). Err (Fault f)) (sym here)));
 }
 
 -- an answer behind a call that answered no fault
-pub fails_then : {X : Type 0} (a b c : Device → ℕ) (r : Result X SiteError) → ((d : Device) → b d ≡ a d) → Fails b c r → Fails a c r
+pub fails_then : {X : Type 0} (a b c : Device → ℕ) (r : Result X SiteError) → ((d : Device) → b d ≡ a d) → FaultsAreCounted b c r → FaultsAreCounted a c r
 fails_then a b c r same f = record {
   rose = λ d is. subst (λ (n : ℕ). Rose n (c d)) (same d) (f.rose d is);
   others = λ d other. f.others d other ∙ same d;
@@ -66,7 +66,7 @@ pub error_is : {Y : Type 0} (e f : SiteError) → (let a : Result Y SiteError = 
 error_is e f is = cc
 
 -- the same error of a call that gives something else
-pub fails_as : {X Y : Type 0} (a b : Device → ℕ) (e : SiteError) → (let r : Result X SiteError = Err e in Fails a b r) → (let r : Result Y SiteError = Err e in Fails a b r)
+pub fails_as : {X Y : Type 0} (a b : Device → ℕ) (e : SiteError) → (let r : Result X SiteError = Err e in FaultsAreCounted a b r) → (let r : Result Y SiteError = Err e in FaultsAreCounted a b r)
 fails_as {X = X} {Y = Y} a b e f = record {
   rose = λ d is. f.rose d (ap (λ (k : SiteError). Err k) (error_is {Y = Y} e (Fault d) is));
   others = λ d other. f.others d (λ is. other (ap (λ (k : SiteError). Err k) (error_is {Y = X} e (Fault d) is)));

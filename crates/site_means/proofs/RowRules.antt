@@ -2,7 +2,7 @@
 use Rattle.std.proofs.Common.{◌≡◌, ℕ, ◌≤◌, ◌<◌, Bool, true, false, not, cond, nat_lt, ◌&&◌, List, [], ◌∷◌, refl, sym, ap, ◌∙◌}
 use Rattle.std.proofs.lemmas.Bool.{and_parts, and_from, le-ltb, lt-ltb}
 use Rattle.pair_table.specs.declared.row.PairRow.{PairRow}
-use Rattle.pair_table.specs.Rows.{keeps_rules}
+use Rattle.pair_table.specs.Rows.{keeps_row_rules}
 use Rattle.pair_table.specs.Tables.{is_of, with_row, without_row, MayPut, are_below}
 use Rattle.state_set.specs.Slots.{are_rows}
 use Rattle.state_set.proofs.Behind.{not_then, same_bool, rows_parts, rows_from}
@@ -40,7 +40,7 @@ below_without volumes device (r ∷ rows) e =
     by_device false first more = more
 
 -- the tests of a row that is put
-module _ (volumes : ℕ) (rows : List PairRow) (row : PairRow) (rules : keeps_rules row ≡ true) (below : are_below volumes rows ≡ true) where
+module _ (volumes : ℕ) (rows : List PairRow) (row : PairRow) (rules : keeps_row_rules row ≡ true) (below : are_below volumes rows ≡ true) where
   pub put_beyond : volumes ≤ row.device → are_rows volumes (with_row row rows) ≡ false
   put_beyond le = not_then (are_rows volumes (with_row row rows)) (nat_lt row.device volumes) (λ e. sym (below_with volumes rows row below) ∙ (rows_parts volumes (with_row row rows) e).below) (le-ltb row.device volumes le)
 

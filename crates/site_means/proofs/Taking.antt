@@ -1,14 +1,11 @@
 -- The items of a body taken one after another.
-use Rattle.std.proofs.Common.{◌≡◌, ◌⊎◌, inl, inr, ℕ, ◌+◌, ◌-◌, ◌^◌, ◌≤◌, ◌<◌, Bool, true, false, cond, nat_lt, ◌&&◌, List, [], ◌∷◌, ◌++◌, length, take, drop, Option, Some, None, refl, sym, ap, subst, ◌∙◌, arith, length-append, length-drop}
+use Rattle.std.proofs.Common.{◌≡◌, ◌⊎◌, inl, inr, ℕ, ◌+◌, ◌-◌, ◌^◌, ◌≤◌, ◌<◌, Bool, true, false, cond, List, [], ◌∷◌, ◌++◌, length, take, drop, Option, Some, None, refl, sym, ap, subst, ◌∙◌, arith, length-append, length-drop}
 use Rattle.std.proofs.lemmas.Bool.{and_parts}
 use Rattle.std.proofs.lemmas.Option.{same_Some}
 use Rattle.std.proofs.lemmas.List.{take_all, drop_at, drop-drop}
 use Rattle.crash_plant.specs.declared.spot.Spot.{Spot}
-use Rattle.tod_stamp.specs.Names.{is_serial}
 use Rattle.pair_table.specs.declared.row.PairRow.{PairRow}
-use Rattle.pair_table.specs.Rows.{keeps_rules, is_row, is_state}
 use Rattle.pair_table.specs.Tables.{Table, with_row, with_rows, are_below}
-use Rattle.state_set.specs.Slots.{are_rows}
 use Rattle.state_set.proofs.Behind.{rows_parts}
 use Rattle.xrc_journal.specs.declared.reading.BodyItem.{BodyItem}
 use Rattle.xrc_journal.specs.Items.{Item, Earlier, none_earlier, anywhere, behind, is_item, are_items_behind, item_spelling, body_spelling}
@@ -20,24 +17,6 @@ use Rattle.site_means.specs.Steps.{TakesRows}
 use Rattle.site_means.proofs.RowRules.{below_without}
 
 -- ---- one item
-
-pub told_pair : (row : PairRow) (i : Item) → BodyItem.Pair row ≡ told i → i ≡ Pair row
-told_pair row (Image device track recs) e = absurd cc
-told_pair row (Delta device track kind) e = absurd cc
-told_pair row (Pair r) e = let same : row ≡ r = cc in ap (λ (k : PairRow). Pair k) (sym same)
-told_pair row (Gone device) e = absurd cc
-
-pub row_rules : (row : PairRow) → is_row row ≡ true → keeps_rules row ≡ true
-row_rules row is =
-    let a = and_parts (is_serial row.primary && is_serial row.secondary && keeps_rules row && nat_lt row.device 65536) (is_state row.state) is in
-    let b = and_parts (is_serial row.primary && is_serial row.secondary && keeps_rules row) (nat_lt row.device 65536) a.0 in
-    (and_parts (is_serial row.primary && is_serial row.secondary) (keeps_rules row) b.0).1
-
--- whether a pair fits
-pub pair_fits : (volumes : ℕ) (rows : List PairRow) (row : PairRow) (earlier : Earlier) (i : Item) (b : Bool) → is_item anywhere earlier i ≡ true → BodyItem.Pair row ≡ told i → (keeps_rules row ≡ true → b ≡ are_rows volumes (with_row row rows)) → b ≡ fits_rows volumes rows i
-pair_fits volumes rows row earlier i b is e test =
-    let same = told_pair row i e in
-    test (row_rules row (subst (λ (k : Item). is_item anywhere earlier k ≡ true) same is)) ∙ ap (λ (k : Item). fits_rows volumes rows k) (sym same)
 
 -- rows that an item fits stay below
 pub below_by : (volumes : ℕ) (rows : List PairRow) (i : Item) → are_below volumes rows ≡ true → fits_rows volumes rows i ≡ true → are_below volumes (rows_by i rows) ≡ true

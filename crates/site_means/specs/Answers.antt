@@ -54,21 +54,21 @@ pub record HasSpot (plant : PlantState) (at : Spot) : Type 0 where
 -- ---- the meaning
 
 -- What was found is good, or the answer is what the images mean, unless a device failed or there was no memory.
-abbrev pub Says : {X : Type 0} → (good : X → Type 0) → Meaning → Result X SiteError → Type 0
-Says good meaning (Ok x) = good x
-Says good meaning (Err NoSession) = meaning ≡ NoMark
-Says good meaning (Err (Damaged d place)) = meaning ≡ DamagedAt d place
-Says good meaning (Err (Fault d)) = Unit {0}
-Says good meaning (Err (TooSmall d needed)) = Unit {0}
-Says good meaning (Err NoMemory) = Unit {0}
+abbrev pub AnswersMeaning : {X : Type 0} → (good : X → Type 0) → Meaning → Result X SiteError → Type 0
+AnswersMeaning good meaning (Ok x) = good x
+AnswersMeaning good meaning (Err NoSession) = meaning ≡ NoMark
+AnswersMeaning good meaning (Err (Damaged d place)) = meaning ≡ DamagedAt d place
+AnswersMeaning good meaning (Err (Fault d)) = Unit {0}
+AnswersMeaning good meaning (Err (TooSmall d needed)) = Unit {0}
+AnswersMeaning good meaning (Err NoMemory) = Unit {0}
 
 -- The images mean this, by some walk.
 abbrev pub Mean : Meaning → Means → Type 0
 Mean meaning means = (walk : Walk) × (meaning ≡ Meant means walk)
 
 -- The answer is what the devices of a plant mean by what its reads give.
-abbrev pub Tells : PlantState → Result Means SiteError → Type 0
-Tells plant result = Says (λ means. Mean (meaning plant plant.bytes) means) (meaning plant plant.bytes) result
+abbrev pub TellsMeaning : PlantState → Result Means SiteError → Type 0
+TellsMeaning plant result = AnswersMeaning (λ means. Mean (meaning plant plant.bytes) means) (meaning plant plant.bytes) result
 
 -- the mark that counts by what the reads give
 abbrev pub IsChosen : PlantState → Mark → Type 0
@@ -81,7 +81,7 @@ IsStored plant m level rows = stored_in (shape_of plant) plant.bytes m ≡ Ok (r
 -- ---- faults
 
 -- A fault is answered only of a device whose count rose, and the count of each other device stays.
-pub record Fails {X : Type 0} (old new : Device → ℕ) (result : Result X SiteError) : Type 0 where
+pub record FaultsAreCounted {X : Type 0} (old new : Device → ℕ) (result : Result X SiteError) : Type 0 where
   pub rose : (d : Device) → IsErrOf result (Fault d) → Rose (old d) (new d)
   pub others : (d : Device) → ¬ IsErrOf result (Fault d) → new d ≡ old d
 

@@ -1,9 +1,7 @@
 pub mod Images
 pub mod Walk
 pub mod Meaning
-pub mod Content
 pub mod Sight
 pub mod Answers
 pub mod Steps
 pub mod Laws
-pub mod Vectors

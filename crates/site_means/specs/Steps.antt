@@ -15,16 +15,20 @@ use Rattle.site_means.specs.declared.site_error.SiteError.{SiteError}
 use Rattle.site_means.specs.declared.site_error.SiteError.TheVariants.{NoSession, Damaged, Fault, TooSmall, NoMemory}
 use Rattle.site_means.specs.declared.walking.Walking.{Walking}
 use Rattle.site_means.specs.Images.{Images, Shape}
-use Rattle.site_means.specs.Walk.{Standing, Step, start, Walk, walk_from, turns_at, ends_at, with_before, last_time, has_entered, first_unfit, rows_through}
-use Rattle.site_means.specs.Walk.Step.{Ends, GoesOn, Breaks}
+use Rattle.site_means.specs.Walk.{WalkState, WalkStep, start, Walk, walk_from, turns_at, ends_at, with_before, last_time, has_entered, first_unfit, rows_through}
+use Rattle.site_means.specs.Walk.WalkStep.{Ends, GoesOn, Breaks}
 
 -- where the walk stands
-abbrev pub standing_of : Walking → Standing
+abbrev pub standing_of : Walking → WalkState
 standing_of w = record { rows = w.table.rows; entered = w.entered.items; at = w.at; last = w.last.0 }
 
 -- The buffer has room for the body of every record.
-abbrev pub HasRoom : PlantState → (room : ℕ) → Type 0
-HasRoom plant room = (j : ℕ) → j < plant.journals → min (plant.lengths (Journal j)) most_body ≤ room
+abbrev pub HoldsEveryBody : PlantState → (room : ℕ) → Type 0
+HoldsEveryBody plant room = (j : ℕ) → j < plant.journals → min (plant.lengths (Journal j)) most_body ≤ room
+
+-- No more than one of them can have.
+abbrev pub IsLongest : PlantState → (room : ℕ) → Type 0
+IsLongest plant room = (room ≡ 0) ⊎ ((j : ℕ) × (j < plant.journals) × (room ≡ min (plant.lengths (Journal j)) most_body))
 
 -- The rows were changed by the items, or the place of the first that doesn't fit was given.
 abbrev pub TakesRows : (volumes place : ℕ) → List Item → (bad : Option ℕ) → (old new : Table) → Type 0
@@ -58,7 +62,7 @@ pub record BeginsAt (m : Mark) (table : Table) (w : Walking) : Type 0 where
 
 -- What holds where a walk stands: the spot lies in a journal, the rows name devices of the plant, no journal is empty,
 -- and the spot's data set was entered.
-pub record Stands (plant : PlantState) (w : Walking) : Type 0 where
+pub record WalkStands (plant : PlantState) (w : Walking) : Type 0 where
   pub set : w.at.set < plant.journals
   pub place : w.at.place < plant.lengths (Journal w.at.set)
   pub below : are_below plant.volumes w.table.rows ≡ true
@@ -72,21 +76,21 @@ pub record StandsBehind (after : Spot) (rows : List PairRow) (w : Walking) : Typ
   pub here : has_entered after.set w.entered.items ≡ true
 
 -- The walk went on, with these groups.
-pub record Moves (step : Step) (old new : Walking) : Type 0 where
+pub record WentOn (step : WalkStep) (old new : Walking) : Type 0 where
   pub groups : List Logged
   pub is : step ≡ GoesOn groups (standing_of new)
   pub time : new.time.0 ≡ last_time old.time.0 groups
   pub table : new.table ≡ with_rows old.table new.table.rows
 
 -- The answer is what the walk does at its spot.
-abbrev pub Passes : Step → (old new : Walking) → Result Bool SiteError → Type 0
-Passes step old new (Ok true) = Moves step old new
-Passes step old new (Ok false) = (step ≡ Ends) × (new ≡ old)
-Passes step old new (Err (Damaged d place)) = (d ≡ Journal old.at.set) × (step ≡ Breaks place)
-Passes step old new (Err (Fault d)) = d ≡ Journal old.at.set
-Passes step old new (Err NoMemory) = Unit {0}
-Passes step old new (Err NoSession) = ⊥
-Passes step old new (Err (TooSmall d needed)) = ⊥
+abbrev pub AnswersStep : WalkStep → (old new : Walking) → Result Bool SiteError → Type 0
+AnswersStep step old new (Ok true) = WentOn step old new
+AnswersStep step old new (Ok false) = (step ≡ Ends) × (new ≡ old)
+AnswersStep step old new (Err (Damaged d place)) = (d ≡ Journal old.at.set) × (step ≡ Breaks place)
+AnswersStep step old new (Err (Fault d)) = d ≡ Journal old.at.set
+AnswersStep step old new (Err NoMemory) = Unit {0}
+AnswersStep step old new (Err NoSession) = ⊥
+AnswersStep step old new (Err (TooSmall d needed)) = ⊥
 
 -- The walk from where it stood ends where it stands now.
 pub record Finishes (w : Walk) (old new : Walking) : Type 0 where
@@ -96,13 +100,13 @@ pub record Finishes (w : Walk) (old new : Walking) : Type 0 where
   pub table : new.table ≡ with_rows old.table new.table.rows
 
 -- The answer is how the walk ends.
-abbrev pub Reports : Walk → (old new : Walking) → Result (Unit {0}) SiteError → Type 0
-Reports w old new (Ok done) = Finishes w old new
-Reports w old new (Err (Damaged d place)) = (set : ℕ) × (d ≡ Journal set) × (w.bad ≡ Some (set, place))
-Reports w old new (Err (Fault d)) = (set : ℕ) × (d ≡ Journal set) × (has_entered set w.entered ≡ true)
-Reports w old new (Err NoMemory) = Unit {0}
-Reports w old new (Err NoSession) = ⊥
-Reports w old new (Err (TooSmall d needed)) = ⊥
+abbrev pub AnswersWalk : Walk → (old new : Walking) → Result (Unit {0}) SiteError → Type 0
+AnswersWalk w old new (Ok done) = Finishes w old new
+AnswersWalk w old new (Err (Damaged d place)) = (set : ℕ) × (d ≡ Journal set) × (w.bad ≡ Some (set, place))
+AnswersWalk w old new (Err (Fault d)) = (set : ℕ) × (d ≡ Journal set) × (has_entered set w.entered ≡ true)
+AnswersWalk w old new (Err NoMemory) = Unit {0}
+AnswersWalk w old new (Err NoSession) = ⊥
+AnswersWalk w old new (Err (TooSmall d needed)) = ⊥
 
 -- the whole walk from where it stands
 abbrev pub walk_of : Shape → Images → Walking → Walk

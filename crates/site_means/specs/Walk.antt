@@ -45,7 +45,7 @@ first_unfit volumes place rows (i ∷ items) = if fits_rows volumes rows i then 
 -- ---- one record
 
 -- where a walk stands: the rows so far, the data sets that it has entered in order, the spot, and the time of the record before
-pub record Standing : Type 0 where
+pub record WalkState : Type 0 where
   pub rows : List PairRow
   pub entered : List ℕ
   pub at : Spot
@@ -53,19 +53,19 @@ pub record Standing : Type 0 where
 
 -- What a walk does at a spot: it ends there, or it goes on behind a record with the groups that this adds, or a rule is broken
 -- at a place of this data set.
-pub data Step : Type 0 where
-  Ends : Step
-  GoesOn : (groups : List Logged) → (next : Standing) → Step
-  Breaks : (place : ℕ) → Step
+pub data WalkStep : Type 0 where
+  Ends : WalkStep
+  GoesOn : (groups : List Logged) → (next : WalkState) → WalkStep
+  Breaks : (place : ℕ) → WalkStep
 
 -- the place of a record's first item
 abbrev pub body_place : Spot → ℕ
 body_place at = at.place + FRONT
 
-abbrev pub unfit_in : Shape → Standing → List Item → Option ℕ
+abbrev pub unfit_in : Shape → WalkState → List Item → Option ℕ
 unfit_in shape s items = first_unfit shape.volumes (body_place s.at) s.rows items
 
-abbrev pub group_step : Standing → (time : ℕ) → List Item → Spot → Option ℕ → Step
+abbrev pub group_step : WalkState → (time : ℕ) → List Item → Spot → Option ℕ → WalkStep
 group_step s time items after None = GoesOn (record { time = time; items = items } ∷ []) (record { rows = rows_through items s.rows; entered = s.entered; at = after; last = time })
 group_step s time items after (Some place) = Breaks place
 
@@ -74,21 +74,21 @@ abbrev pub has_entered : (set : ℕ) → List ℕ → Bool
 has_entered set entered = list_any (λ e. e == set) entered
 
 -- A data set that was entered before is not entered again.
-abbrev pub switch_step : Standing → (time : ℕ) → Spot → Step
+abbrev pub switch_step : WalkState → (time : ℕ) → Spot → WalkStep
 switch_step s time after =
     if has_entered after.set s.entered then Breaks s.at.place else GoesOn [] (record { rows = s.rows; entered = s.entered ++ after.set ∷ []; at = after; last = time })
 
 -- Where a record breaks rules of both kinds, the first place in byte order counts.
-abbrev pub step_by : Shape → Standing → Found → Step
+abbrev pub step_by : Shape → WalkState → Found → WalkStep
 step_by shape s End = Ends
 step_by shape s (Group time items after) = group_step s time items after (unfit_in shape s items)
 step_by shape s (Switch time after) = switch_step s time after
 step_by shape s (Damaged place items) = Breaks (unwrap_or (unfit_in shape s items) place)
 
-abbrev pub found_at : Shape → Images → Standing → Found
+abbrev pub found_at : Shape → Images → WalkState → Found
 found_at shape images s = walk_one shape.form shape.sets (images (Journal s.at.set)) s.at s.last
 
-abbrev pub step : Shape → Images → Standing → Step
+abbrev pub step : Shape → Images → WalkState → WalkStep
 step shape images s = step_by shape s (found_at shape images s)
 
 -- ---- the walk
@@ -102,20 +102,20 @@ pub record Walk : Type 0 where
   pub last : ℕ
   pub bad : Option (ℕ × ℕ)
 
-abbrev pub ends_at : Standing → Option (ℕ × ℕ) → Walk
+abbrev pub ends_at : WalkState → Option (ℕ × ℕ) → Walk
 ends_at s bad = record { groups = []; rows = s.rows; entered = s.entered; at = s.at; last = s.last; bad = bad }
 
 -- the walk with more groups before its own
 abbrev pub with_before : List Logged → Walk → Walk
 with_before groups w = record { groups = groups ++ w.groups; rows = w.rows; entered = w.entered; at = w.at; last = w.last; bad = w.bad }
 
-abbrev pub walk_on : Standing → Step → (Standing → Walk) → Walk
+abbrev pub walk_on : WalkState → WalkStep → (WalkState → Walk) → Walk
 walk_on s Ends rest = ends_at s None
 walk_on s (GoesOn groups next) rest = with_before groups (rest next)
 walk_on s (Breaks place) rest = ends_at s (Some (s.at.set, place))
 
 -- record by record, up to the first gate that isn't 1
-unfoldable pub walk_from : (turns : ℕ) → Shape → Images → Standing → Walk
+unfoldable pub walk_from : (turns : ℕ) → Shape → Images → WalkState → Walk
 walk_from zero shape images s = ends_at s None
 walk_from (suc turns) shape images s = walk_on s (step shape images s) (λ n. walk_from turns shape images n)
 
@@ -125,7 +125,7 @@ abbrev pub turns_at : Spot → ℕ
 turns_at at = 2 ^ 64 - at.number
 
 -- where the walk begins
-abbrev pub start : Mark → List PairRow → Standing
+abbrev pub start : Mark → List PairRow → WalkState
 start m rows = record { rows = rows; entered = m.at.set ∷ []; at = m.at; last = m.time.0 }
 
 abbrev pub walk_in : Shape → Images → Mark → List PairRow → Walk

@@ -10,7 +10,7 @@ ghost use Rattle.state_set.specs.Slots.{started_table};
 ghost use Rattle.site_means.specs.declared.site_error.SiteError.{SiteError as SiteErrorValue};
 ghost use Rattle.site_means.specs.declared.site_error.SiteError.TheVariants.{Fault, TooSmall};
 ghost use Rattle.site_means.specs.Meaning.{meaning};
-ghost use Rattle.site_means.specs.Answers.{Fails, HasSpot, IsChosen, IsExamined, IsInTurn, IsStored, ReadsAll, Says, Tells, first_short, need};
+ghost use Rattle.site_means.specs.Answers.{FaultsAreCounted, HasSpot, IsChosen, IsExamined, IsInTurn, IsStored, ReadsAll, AnswersMeaning, TellsMeaning, first_short, need};
 
 use crate::lengths::{first_short, longest_body, need};
 use crate::walking::{Buffers, Walking};
@@ -37,13 +37,13 @@ pub fn check_lengths<P: Plant>(plant: &P) -> Result<(), SiteError>
 /// the control is open, and Damaged at the first byte of the first slot that breaks a rule.
 pub fn read_mark<P: Plant>(plant: &mut P) -> Result<Mark, SiteError>
     requires { CONTROL_LENGTH ≤ (P.state plant.old).lengths Control }
-    ensures says { P.tells → Says (λ mark. IsChosen (P.state plant.old) mark) (meaning (P.state plant.old) (P.state plant.old).bytes) result }
+    ensures says { P.tells → AnswersMeaning (λ mark. IsChosen (P.state plant.old) mark) (meaning (P.state plant.old) (P.state plant.old).bytes) result }
     // Whatever a read gave, the mark names state slot 0 or 1, and its spot lies in a journal.
     ensures slot { IfOk result (λ mark. mark.state_slot ≤ 1) }
     ensures spot { IfOk result (λ mark. HasSpot (P.state plant.old) mark.at) }
     ensures reached { (d : AnyDevice) → IsErrOf result (Fault d) → d ≡ Control }
     ensures short { (d : AnyDevice) (needed : ℕ) → ¬ IsErrOf result (TooSmall d needed) }
-    ensures fails { Fails (P.state plant.old).faults (P.state plant.new).faults result }
+    ensures fails { FaultsAreCounted (P.state plant.old).faults (P.state plant.new).faults result }
     ensures reads { ReadsAll P.tells (P.state plant.old) (P.state plant.new) }
 {
     match choose(plant) {
@@ -64,13 +64,13 @@ pub fn read_state<P: Plant>(
     requires long { STATE_LENGTH ≤ (P.state plant.old).lengths State }
     requires slot { mark.now.state_slot ≤ 1 }
     ensures says { P.tells → IsChosen (P.state plant.old) mark.now
-        → Says (λ found. IsStored (P.state plant.old) mark.now found.0 found.1.rows) (meaning (P.state plant.old) (P.state plant.old).bytes) result }
+        → AnswersMeaning (λ found. IsStored (P.state plant.old) mark.now found.0 found.1.rows) (meaning (P.state plant.old) (P.state plant.old).bytes) result }
     ensures started { IfOk result (λ found. found.1 ≡ started_table mark.now.session found.1.rows) }
     // Whatever a read gave, the devices of the rows are the plant's.
     ensures below { IfOk result (λ found. IsTrue (are_below (P.state plant.old).volumes found.1.rows)) }
     ensures reached { (d : AnyDevice) → IsErrOf result (Fault d) → d ≡ State }
     ensures short { (d : AnyDevice) (needed : ℕ) → ¬ IsErrOf result (TooSmall d needed) }
-    ensures fails { Fails (P.state plant.old).faults (P.state plant.new).faults result }
+    ensures fails { FaultsAreCounted (P.state plant.old).faults (P.state plant.new).faults result }
     ensures reads { ReadsAll P.tells (P.state plant.old) (P.state plant.new) }
 {
     match get(alloc, plant, mark.state_slot, mark.session) {
@@ -97,7 +97,7 @@ pub fn read_journals<P: Plant>(
     requires below { IsTrue (are_below (P.state plant.old).volumes table.rows) }
     ensures says { P.tells → IsChosen (P.state plant.old) mark.now
         → IsStored (P.state plant.old) mark.now level table.rows
-        → Tells (P.state plant.old) result }
+        → TellsMeaning (P.state plant.old) result }
     // Whatever reads gave, the devices of the rows are the plant's; the spot is the mark's.
     ensures below { IfOk result (λ means. IsTrue (are_below (P.state plant.old).volumes means.table.rows)) }
     ensures from { IfOk result (λ means. means.from ≡ mark.now.at) }
@@ -106,7 +106,7 @@ pub fn read_journals<P: Plant>(
         → (d : AnyDevice) → IsErrOf result (Fault d) → IsInTurn (P.state plant.old) d }
     ensures examined { (d : AnyDevice) → IsErrOf result (Fault d) → IsExamined d }
     ensures short { (d : AnyDevice) (needed : ℕ) → ¬ IsErrOf result (TooSmall d needed) }
-    ensures fails { Fails (P.state plant.old).faults (P.state plant.new).faults result }
+    ensures fails { FaultsAreCounted (P.state plant.old).faults (P.state plant.new).faults result }
     ensures reads { ReadsAll P.tells (P.state plant.old) (P.state plant.new) }
 {
     let mut buffers = Buffers::make(alloc, longest_body(plant))?;
@@ -123,7 +123,7 @@ pub fn read_journals<P: Plant>(
 pub fn examine<P: Plant>(alloc: Global, plant: &mut P) -> Result<Means, SiteError>
     requires home { NoneLent (P.state plant.old) }
     // What the reads give means this; no gate is open; or this is the first bad place.
-    ensures says { P.tells → Tells (P.state plant.old) result }
+    ensures says { P.tells → TellsMeaning (P.state plant.old) result }
     // A device that is too small is answered before anything is read.
     ensures short { (d : AnyDevice) → first_short (P.state plant.old) ≡ Some d → result ≡ Err (TooSmall d (need d)) }
     ensures too_small { (d : AnyDevice) (needed : ℕ) → IsErrOf result (TooSmall d needed) → (first_short (P.state plant.old) ≡ Some d) × (needed ≡ need d) }
@@ -131,7 +131,7 @@ pub fn examine<P: Plant>(alloc: Global, plant: &mut P) -> Result<Means, SiteErro
     ensures below { IfOk result (λ means. IsTrue (are_below (P.state plant.old).volumes means.table.rows)) }
     ensures from { IfOk result (λ means. HasSpot (P.state plant.old) means.from) }
     // Why it fails, and in which order.
-    ensures fails { Fails (P.state plant.old).faults (P.state plant.new).faults result }
+    ensures fails { FaultsAreCounted (P.state plant.old).faults (P.state plant.new).faults result }
     ensures examined { (d : AnyDevice) → IsErrOf result (Fault d) → IsExamined d }
     ensures reached { P.tells → (d : AnyDevice) → IsErrOf result (Fault d) → IsInTurn (P.state plant.old) d }
     // What reads give stays, and a crash leaves nothing that it couldn't leave before.

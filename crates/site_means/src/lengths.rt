@@ -5,7 +5,7 @@ ghost use Rattle.crash_plant.specs.Calls.{IsThere, NoneLent};
 ghost use Rattle.crash_plant.specs.declared.device.Device.TheVariants.{Journal};
 ghost use Rattle.xrc_journal.specs.Records.{most_body};
 ghost use Rattle.site_means.specs.Answers.{first_short, is_short, need};
-ghost use Rattle.site_means.specs.Steps.{HasRoom};
+ghost use Rattle.site_means.specs.Steps.{HoldsEveryBody, IsLongest};
 
 use crash_plant::{CONTROL_LENGTH, Device, Plant, STATE_LENGTH};
 use xrc_journal::{MOST_BODY, journal_length};
@@ -49,7 +49,8 @@ pub(crate) fn first_short<P: Plant>(plant: &P) -> Option<Device>
 
 /// The most bytes that a record's body can have in one of the plant's journals: a buffer for bodies of these needs no more.
 pub fn longest_body<P: Plant>(plant: &P) -> u32
-    ensures { HasRoom (P.state plant.now) result }
+    ensures room { HoldsEveryBody (P.state plant.now) result }
+    ensures exact { IsLongest (P.state plant.now) result }
 {
     let mut longest = 0;
     for number in 0..plant.journals() {

@@ -2,7 +2,7 @@
 
 ghost use Rattle.std.specs.Prelude.{◌≡◌, IfOk, IsTrue, true};
 ghost use Rattle.pair_table.specs.Tables.{MayPut, with_row, with_rows, are_below};
-ghost use Rattle.pair_table.specs.Rows.{keeps_rules};
+ghost use Rattle.pair_table.specs.Rows.{keeps_row_rules};
 ghost use Rattle.state_set.specs.Slots.{are_rows};
 ghost use Rattle.xrc_journal.specs.Items.{AreItems, Earlier, Item, anywhere, is_item};
 ghost use Rattle.xrc_journal.specs.Views.{told};
@@ -17,7 +17,7 @@ use xrc_journal::{Body, BodyItem, first_item};
 
 /// Whether the rows keep the rules with a row put into the table, which is one by itself.
 fn may_take(volumes: u16, table: &PairTable, row: &PairRow) -> bool
-    ensures keep { IsTrue (keeps_rules row.now) → IsTrue (are_below volumes table.now.rows) → result ≡ are_rows volumes (with_row row.now table.now.rows) }
+    ensures keep { IsTrue (keeps_row_rules row.now) → IsTrue (are_below volumes table.now.rows) → result ≡ are_rows volumes (with_row row.now table.now.rows) }
     ensures may { IsTrue result → MayPut row.now table.now.rows }
 {
     row.device < volumes && table.may_put(row)

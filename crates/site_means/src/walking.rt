@@ -7,10 +7,10 @@ ghost use Rattle.crash_plant.specs.Calls.{NoneLent};
 ghost use Rattle.pair_table.specs.Tables.{are_below};
 ghost use Rattle.site_means.specs.declared.site_error.SiteError.TheVariants.{Damaged, Fault, TooSmall};
 ghost use Rattle.site_means.specs.Images.{shape_of};
-ghost use Rattle.site_means.specs.Walk.Step.{Breaks};
+ghost use Rattle.site_means.specs.Walk.WalkStep.{Breaks};
 ghost use Rattle.site_means.specs.Walk.{body_place, first_unfit, group_step, has_entered, step, switch_step};
-ghost use Rattle.site_means.specs.Answers.{Fails, IsExamined, ReadsAll};
-ghost use Rattle.site_means.specs.Steps.{BeginsAt, HasRoom, HavePlaces, IsDamage, OnlyDamage, Passes, Reports, Stands, StandsBehind, TakesRows, moved_on, standing_of, walk_of};
+ghost use Rattle.site_means.specs.Answers.{FaultsAreCounted, IsExamined, ReadsAll};
+ghost use Rattle.site_means.specs.Steps.{BeginsAt, HoldsEveryBody, HavePlaces, IsDamage, OnlyDamage, AnswersStep, AnswersWalk, WalkStands, StandsBehind, TakesRows, moved_on, standing_of, walk_of};
 
 use crate::rows::take_rows;
 use crate::{Means, SiteError};
@@ -87,7 +87,7 @@ impl Walking {
 
     /// Goes on behind a switch, where the next data set wasn't entered before.
     fn enter(&mut self, time: Stamp, after: Spot) -> Result<bool, SiteError>
-        ensures passes { Passes (switch_step (standing_of self.old) time.0 after) self.old self.new result }
+        ensures passes { AnswersStep (switch_step (standing_of self.old) time.0 after) self.old self.new result }
         ensures behind { OnOk result (StandsBehind after self.old.table.rows self.new) }
         ensures others { OnlyDamage result }
     {
@@ -145,7 +145,7 @@ impl Walking {
         requires same_set { after.set ≡ self.old.at.set }
         requires here { has_entered self.old.at.set self.old.entered.items ≡ true }
         ensures passes { HavePlaces self.old.at buffers.old.body.items
-            → Passes (group_step (standing_of self.old) time.0 buffers.old.body.items after (first_unfit volumes (body_place self.old.at) self.old.table.rows buffers.old.body.items)) self.old self.new result }
+            → AnswersStep (group_step (standing_of self.old) time.0 buffers.old.body.items after (first_unfit volumes (body_place self.old.at) self.old.table.rows buffers.old.body.items)) self.old self.new result }
         ensures behind { OnOk result (StandsBehind after self.new.table.rows self.new) }
         ensures below { OnOk result (IsTrue (are_below volumes self.new.table.rows)) }
         ensures others { OnlyDamage result }
@@ -171,7 +171,7 @@ impl Walking {
         place: u64,
     ) -> SiteError
         ensures passes { IsTrue (are_below volumes self.old.table.rows) → HavePlaces self.old.at buffers.old.body.items
-            → Passes (Breaks (unwrap_or (first_unfit volumes (body_place self.old.at) self.old.table.rows buffers.old.body.items) place)) self.old self.new (Err result) }
+            → AnswersStep (Breaks (unwrap_or (first_unfit volumes (body_place self.old.at) self.old.table.rows buffers.old.body.items) place)) self.old self.new (Err result) }
         ensures others { IsDamage result }
         ensures body { buffers.new.body ≡ buffers.old.body }
     {
@@ -190,16 +190,16 @@ impl Walking {
         buffers: &mut Buffers,
     ) -> Result<bool, SiteError>
         requires home { NoneLent (P.state plant.old) }
-        requires room { HasRoom (P.state plant.old) buffers.old.body.room }
-        requires stands { Stands (P.state plant.old) self.old }
-        ensures passes { P.tells → Passes (step (shape_of (P.state plant.old)) (P.state plant.old).bytes (standing_of self.old)) self.old self.new result }
+        requires room { HoldsEveryBody (P.state plant.old) buffers.old.body.room }
+        requires stands { WalkStands (P.state plant.old) self.old }
+        ensures passes { P.tells → AnswersStep (step (shape_of (P.state plant.old)) (P.state plant.old).bytes (standing_of self.old)) self.old self.new result }
         ensures number { self.old.at.number < 2 ^ 64 }
         ensures forth { IfOk result (λ more. more ≡ true → self.old.at.number < self.new.at.number) }
-        ensures stands { OnOk result (Stands (P.state plant.new) self.new) }
+        ensures stands { OnOk result (WalkStands (P.state plant.new) self.new) }
         ensures room { buffers.new.body.room ≡ buffers.old.body.room }
         ensures short { (d : AnyDevice) (needed : ℕ) → ¬ IsErrOf result (TooSmall d needed) }
         ensures examined { (d : AnyDevice) → IsErrOf result (Fault d) → IsExamined d }
-        ensures fails { Fails (P.state plant.old).faults (P.state plant.new).faults result }
+        ensures fails { FaultsAreCounted (P.state plant.old).faults (P.state plant.new).faults result }
         ensures reads { ReadsAll P.tells (P.state plant.old) (P.state plant.new) }
     {
         let at = self.at;
@@ -228,13 +228,13 @@ impl Walking {
         buffers: &mut Buffers,
     ) -> Result<(), SiteError>
         requires home { NoneLent (P.state plant.old) }
-        requires room { HasRoom (P.state plant.old) buffers.old.body.room }
-        requires stands { Stands (P.state plant.old) self.old }
+        requires room { HoldsEveryBody (P.state plant.old) buffers.old.body.room }
+        requires stands { WalkStands (P.state plant.old) self.old }
         ensures below { OnOk result (IsTrue (are_below (P.state plant.old).volumes self.new.table.rows)) }
-        ensures reports { P.tells → Reports (walk_of (shape_of (P.state plant.old)) (P.state plant.old).bytes self.old) self.old self.new result }
+        ensures reports { P.tells → AnswersWalk (walk_of (shape_of (P.state plant.old)) (P.state plant.old).bytes self.old) self.old self.new result }
         ensures short { (d : AnyDevice) (needed : ℕ) → ¬ IsErrOf result (TooSmall d needed) }
         ensures examined { (d : AnyDevice) → IsErrOf result (Fault d) → IsExamined d }
-        ensures fails { Fails (P.state plant.old).faults (P.state plant.new).faults result }
+        ensures fails { FaultsAreCounted (P.state plant.old).faults (P.state plant.new).faults result }
         ensures reads { ReadsAll P.tells (P.state plant.old) (P.state plant.new) }
     {
         loop {

@@ -5,7 +5,11 @@
 #[cfg(test)]
 mod bodies;
 #[cfg(test)]
+mod change_vectors;
+#[cfg(test)]
 mod changes;
+#[cfg(test)]
+mod course_vectors;
 #[cfg(test)]
 mod entries;
 #[cfg(test)]
@@ -13,7 +17,15 @@ mod fixtures;
 #[cfg(test)]
 mod images;
 #[cfg(test)]
+mod journal_vectors;
+#[cfg(test)]
 mod lines;
+#[cfg(test)]
+mod pair_vectors;
+#[cfg(test)]
+mod site_vectors;
+#[cfg(test)]
+mod state_vectors;
 #[cfg(test)]
 mod states;
 

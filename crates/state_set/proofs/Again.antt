@@ -1,24 +1,24 @@
 -- A state that is spelled is read again.
-use Rattle.std.proofs.Common.{◌≡◌, ℕ, ◌≤◌, true, false, List, [], ◌∷◌, ◌++◌, length, take, drop, slice_index, Some, refl, sym, ap, ◌∙◌, arith, append_assoc, length-append}
+use Rattle.std.proofs.Common.{◌≡◌, ℕ, ◌≤◌, true, List, [], ◌∷◌, ◌++◌, length, take, drop, slice_index, Some, refl, sym, ap, ◌∙◌, arith, append_assoc, length-append}
 use Rattle.std.specs.Prelude.{bytes_eq, codes, slice_range}
 use Rattle.std.specs.List.{list_all}
 use Rattle.std.specs.Int.{w16, to_be_bytes, from_be_bytes}
-use Rattle.std.proofs.lemmas.Bool.{and_parts, false_from_ne_true}
+use Rattle.std.proofs.lemmas.Bool.{and_parts}
 use Rattle.std.proofs.lemmas.List.{take_at, drop_at}
 use Rattle.std.proofs.lemmas.Slice.Eq.{bytes_eq-Decides}
-use Rattle.tod_stamp.specs.Names.{session_field, is_session, before_spaces}
+use Rattle.tod_stamp.specs.Names.{session_field, is_session}
 use Rattle.tod_stamp.proofs.FieldLaws.{wide16}
-use Rattle.tod_stamp.proofs.NameLaws.{length-name_field, fields_back}
+use Rattle.tod_stamp.proofs.NameLaws.{length-name_field}
 use Rattle.pair_table.specs.declared.level.Level.{Level}
 use Rattle.pair_table.specs.declared.level.Level.TheVariants.{Volume, Session}
 use Rattle.pair_table.specs.declared.row.PairRow.{PairRow}
 use Rattle.pair_table.specs.Rows.{is_row, row_spelling}
 use Rattle.pair_table.proofs.FieldPlaces.{drop_past, index_past}
 use Rattle.pair_table.proofs.RowsAgain.{rows_back}
-use Rattle.state_set.specs.Slots.{title, level_number, rows_spelling, state_spelling, level_of, rows_at, kept, rows_in, state_at}
-use Rattle.state_set.specs.Laws.{StatesReadBack, OthersAreNotRead}
+use Rattle.state_set.specs.Slots.{title, level_number, rows_spelling, slot_spelling, level_of_number, rows_at, kept, rows_in, state_at}
+use Rattle.state_set.specs.Laws.{StatesReadBack}
 use Rattle.state_set.proofs.Behind.{rows_from}
-use Rattle.state_set.proofs.Fields.{with_level, untitled, of_level}
+use Rattle.state_set.proofs.Fields.{with_level, of_level}
 use Rattle.state_set.proofs.Spelled.{row_length}
 
 -- ---- rows
@@ -38,7 +38,7 @@ rows_again (r ∷ rows) rest e =
 pub length-title : (session : List ℕ) → is_session session ≡ true → length (title session) ≡ 12
 length-title session is = omega (arith, length-append (codes "XST1") (session_field session), length-name_field 8 session is)
 
-level_again : (level : Level) → level_of (level_number level) ≡ Some level
+level_again : (level : Level) → level_of_number (level_number level) ≡ Some level
 level_again Volume = refl
 level_again Session = refl
 
@@ -46,7 +46,7 @@ level_again Session = refl
 abbrev behind_title : Level → List PairRow → List ℕ → List ℕ
 behind_title level rows rest = level_number level ∷ to_be_bytes w16 (length rows) ++ (rows_spelling rows ++ rest)
 
-pub titled_is : (session : List ℕ) (level : Level) (rows : List PairRow) (rest : List ℕ) → state_spelling session level rows ++ rest ≡ title session ++ behind_title level rows rest
+pub titled_is : (session : List ℕ) (level : Level) (rows : List PairRow) (rest : List ℕ) → slot_spelling session level rows ++ rest ≡ title session ++ behind_title level rows rest
 titled_is session level rows rest =
     append_assoc (title session ++ (level_number level ∷ to_be_bytes w16 (length rows))) (rows_spelling rows) rest
     ∙ append_assoc (title session) (level_number level ∷ to_be_bytes w16 (length rows)) (rows_spelling rows ++ rest)
@@ -71,7 +71,7 @@ pub states_back : StatesReadBack
 states_back volumes session level rows rest is keeps below =
     let bytes = title session ++ behind_title level rows rest in
     let titled = (bytes_eq-Decides (title session) (take 12 bytes)).1 (sym (title_again session is level rows rest)) in
-    let fields = of_level volumes session bytes (long_enough session is level rows rest) titled level (ap level_of (level_there session is level rows rest) ∙ level_again level) in
+    let fields = of_level volumes session bytes (long_enough session is level rows rest) titled level (ap level_of_number (level_there session is level rows rest) ∙ level_again level) in
     let are = rows_from volumes rows (record { few = keeps.few; apart = keeps.apart; below = below }) in
     let read : rows_in volumes (from_be_bytes w16 (slice_range bytes 13 15)) (drop 15 bytes) ≡ Some rows =
     ap (λ (n : ℕ). rows_in volumes n (drop 15 bytes)) (count_there session is level rows rest keeps.few)
@@ -79,18 +79,3 @@ states_back volumes session level rows rest is keeps below =
     ∙ ap (kept volumes) (rows_again rows rest keeps.each)
     ∙ rw are refl in
     ap (state_at volumes session) (titled_is session level rows rest) ∙ fields ∙ ap (with_level level) read
-
--- ---- another session's
-
-same_names : (session other : List ℕ) → is_session session ≡ true → is_session other ≡ true → title other ≡ title session → session ≡ other
-same_names session other is is_other e =
-    let fields : session_field other ≡ session_field session = ap (drop 4) e in
-    sym (fields_back 8 session is).1 ∙ ap before_spaces (sym fields) ∙ (fields_back 8 other is_other).1
-
-pub others_not_read : OthersAreNotRead
-others_not_read volumes session other level rows rest is is_other differs =
-    let bytes = title session ++ behind_title level rows rest in
-    let no : bytes_eq (title other) (take 12 bytes) ≡ false =
-    false_from_ne_true (bytes_eq (title other) (take 12 bytes))
-    (λ same. differs (same_names session other is is_other ((bytes_eq-Decides (title other) (take 12 bytes)).0 same ∙ title_again session is level rows rest))) in
-    ap (state_at volumes other) (titled_is session level rows rest) ∙ untitled volumes other bytes no

@@ -4,7 +4,7 @@ use Rattle.std.specs.Prelude.{bytes_eq, IsSome}
 use Rattle.std.specs.List.{list_any}
 use Rattle.std.proofs.lemmas.Bool.{and_parts, and_from, or_parts, or_from, not_from_false, not_from_true, false_from_ne_true, eqb-true, eq-eqb, leb-true, le-leb, lt-ltb, le-ltb}
 use Rattle.pair_table.specs.declared.row.PairRow.{PairRow}
-use Rattle.pair_table.specs.Rows.{keeps_rules}
+use Rattle.pair_table.specs.Rows.{keeps_row_rules}
 use Rattle.pair_table.specs.Tables.{is_of, HasRow, with_row, clashes, none_clash, most_rows, MayPut, are_below}
 use Rattle.state_set.specs.Slots.{are_rows}
 
@@ -105,7 +105,7 @@ pub record Follows (volumes : ℕ) (rows : List PairRow) (row : PairRow) : Type 
   pub absent : list_any (is_of row.device) rows ≡ false
   pub may : MayPut row rows
 
-pub follows : (volumes : ℕ) (rows : List PairRow) (row : PairRow) → keeps_rules row ≡ true → are_rows volumes (rows ++ row ∷ []) ≡ true → Follows volumes rows row
+pub follows : (volumes : ℕ) (rows : List PairRow) (row : PairRow) → keeps_row_rules row ≡ true → are_rows volumes (rows ++ row ∷ []) ≡ true → Follows volumes rows row
 follows volumes rows row rules e =
     let are = rows_parts volumes (rows ++ row ∷ []) e in
     let absent = last_apart rows row are.apart in
@@ -132,7 +132,7 @@ same_bool true b f g = sym (f refl)
 same_bool false true f g = g refl
 same_bool false false f g = refl
 
-module _ (volumes : ℕ) (rows : List PairRow) (row : PairRow) (rules : keeps_rules row ≡ true) (before : are_rows volumes rows ≡ true) where
+module _ (volumes : ℕ) (rows : List PairRow) (row : PairRow) (rules : keeps_row_rules row ≡ true) (before : are_rows volumes rows ≡ true) where
   pub beyond : volumes ≤ row.device → are_rows volumes (rows ++ row ∷ []) ≡ false
   beyond le = not_then (are_rows volumes (rows ++ row ∷ [])) (nat_lt row.device volumes) (λ e. (follows volumes rows row rules e).below) (le-ltb row.device volumes le)
 

@@ -5,10 +5,10 @@ use Rattle.std.specs.Int.{w16, from_be_bytes}
 use Rattle.std.proofs.lemmas.Option.{same_Some}
 use Rattle.pair_table.specs.declared.level.Level.{Level}
 use Rattle.pair_table.specs.declared.row.PairRow.{PairRow}
-use Rattle.pair_table.specs.Rows.{◌>>=◌}
 use Rattle.pair_table.specs.Tables.{Table, are_below}
-use Rattle.state_set.specs.Slots.{Stored, level_of, are_rows, rows_at, kept, rows_in, has_title, fields_of, state_at, with_table}
+use Rattle.state_set.specs.Slots.{Stored, level_of_number, are_rows, rows_at, kept, rows_in, has_title, slot_fields, state_at, with_table}
 use Rattle.state_set.proofs.Behind.{rows_parts}
+use Rattle.tod_stamp.specs.Options.{◌>>=◌}
 
 kept_rows : (volumes : ℕ) (o : Option (List PairRow)) (rows : List PairRow) → kept volumes o ≡ Some rows → are_rows volumes rows ≡ true
 kept_rows volumes None rows e = absurd cc
@@ -32,8 +32,8 @@ state_rows volumes session bytes s e = by_title (has_title session bytes) e
     by_level None e = absurd cc
     by_level (Some level) e = by_rows level (rows_in volumes (from_be_bytes w16 (slice_range bytes 13 15)) (drop 15 bytes)) refl e
 
-    by_title : (titled : Bool) → cond titled (fields_of volumes bytes) None ≡ Some s → are_rows volumes s.rows ≡ true
-    by_title true e = by_level (level_of (slice_index bytes 12)) e
+    by_title : (titled : Bool) → cond titled (slot_fields volumes bytes) None ≡ Some s → are_rows volumes s.rows ≡ true
+    by_title true e = by_level (level_of_number (slice_index bytes 12)) e
     by_title false e = absurd cc
 
 -- those of a table that was read are below

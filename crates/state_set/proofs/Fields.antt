@@ -6,11 +6,11 @@ use Rattle.std.proofs.lemmas.Bool.{le-leb}
 use Rattle.std.proofs.lemmas.Option.{same_Some}
 use Rattle.pair_table.specs.declared.level.Level.{Level}
 use Rattle.pair_table.specs.declared.row.PairRow.{PairRow}
-use Rattle.pair_table.specs.Rows.{◌>>=◌}
 use Rattle.pair_table.specs.Tables.{Table}
-use Rattle.state_set.specs.Slots.{Stored, title, level_of, are_rows, rows_at, kept, rows_in, fields_of, state_at, started_table, with_table}
+use Rattle.state_set.specs.Slots.{Stored, title, level_of_number, are_rows, rows_at, kept, rows_in, slot_fields, state_at, started_table, with_table}
 use Rattle.state_set.proofs.Behind.{not_then, rows_parts}
 use Rattle.state_set.proofs.RowsAt.{rows_count}
+use Rattle.tod_stamp.specs.Options.{◌>>=◌}
 
 -- the level, with rows if there are any
 abbrev pub with_level : Level → Option (List PairRow) → Option Stored
@@ -31,19 +31,19 @@ module _ (volumes : ℕ) (session bytes : List ℕ) where
   pub untitled : bytes_eq (title session) (take 12 bytes) ≡ false → state_at volumes session bytes ≡ None
   untitled e = by_length (nat_le 15 (length bytes)) (bytes_eq (title session) (take 12 bytes)) e
     where
-      by_length : (a b : Bool) → b ≡ false → cond (a && b) (fields_of volumes bytes) None ≡ None
+      by_length : (a b : Bool) → b ≡ false → cond (a && b) (slot_fields volumes bytes) None ≡ None
       by_length true true e = absurd cc
       by_length true false e = refl
       by_length false b e = refl
 
   module _ (long : 15 ≤ length bytes) (titled : bytes_eq (title session) (take 12 bytes) ≡ true) where
-    pub is_fields : state_at volumes session bytes ≡ fields_of volumes bytes
+    pub is_fields : state_at volumes session bytes ≡ slot_fields volumes bytes
     is_fields = rw (le-leb 15 (length bytes) long, titled) refl
 
-    pub no_level : level_of (slice_index bytes 12) ≡ None → state_at volumes session bytes ≡ None
+    pub no_level : level_of_number (slice_index bytes 12) ≡ None → state_at volumes session bytes ≡ None
     no_level e = is_fields ∙ rw e refl
 
-    pub of_level : (level : Level) → level_of (slice_index bytes 12) ≡ Some level → state_at volumes session bytes ≡ with_level level (rows_in volumes (from_be_bytes w16 (slice_range bytes 13 15)) (drop 15 bytes))
+    pub of_level : (level : Level) → level_of_number (slice_index bytes 12) ≡ Some level → state_at volumes session bytes ≡ with_level level (rows_in volumes (from_be_bytes w16 (slice_range bytes 13 15)) (drop 15 bytes))
     of_level level e = is_fields ∙ rw e (by_rows (rows_in volumes (from_be_bytes w16 (slice_range bytes 13 15)) (drop 15 bytes)))
       where
         by_rows : (o : Option (List PairRow)) → (o >>= (λ rows. Some (record { level = level; rows = rows }))) ≡ with_level level o

@@ -6,9 +6,10 @@ use Rattle.std.proofs.lemmas.List.{take-take, drop-drop, drop-take}
 use Rattle.std.proofs.lemmas.Option.{cond_some, same_Some}
 use Rattle.tod_stamp.specs.Names.{name_in}
 use Rattle.pair_table.specs.declared.row.PairRow.{PairRow}
-use Rattle.pair_table.specs.Rows.{◌>>=◌, keeps_rules, allowed, row_with, state_of, fields_of, row_at}
+use Rattle.pair_table.specs.Rows.{keeps_row_rules, allowed, row_with, state_of_numbers, fields_of, row_at}
 use Rattle.state_set.specs.Slots.{are_rows, rows_at, kept, rows_in}
 use Rattle.state_set.proofs.Behind.{not_then, rows_front}
+use Rattle.tod_stamp.specs.Options.{◌>>=◌}
 
 -- the value of a step that gave one
 pub bind_some : {A B : Type 0} (o : Option A) (f : A → Option B) (y : B) → (o >>= f) ≡ Some y → (x : A) × (o ≡ Some x) × (f x ≡ Some y)
@@ -16,9 +17,9 @@ bind_some (Some x) f y e = (x, refl, e)
 bind_some None f y e = absurd cc
 
 -- a row that is read keeps the rules that types leave open
-pub read_keeps : (bytes : List ℕ) (r : PairRow) → row_at bytes ≡ Some r → keeps_rules r ≡ true
+pub read_keeps : (bytes : List ℕ) (r : PairRow) → row_at bytes ≡ Some r → keeps_row_rules r ≡ true
 read_keeps bytes r e =
-    let numbers = state_of (slice_index bytes 20) (slice_index bytes 21) (from_be_bytes w64 (slice_range bytes 22 30)) in
+    let numbers = state_of_numbers (slice_index bytes 20) (slice_index bytes 21) (from_be_bytes w64 (slice_range bytes 22 30)) in
     let zero = cond_fields e in
     let one = bind_some (name_in 6 (slice_range bytes 0 6)) (λ p. name_in 6 (slice_range bytes 6 12) >>= (λ s. numbers >>= (λ t. allowed (row_with bytes p s t)))) r zero in
     let two = bind_some (name_in 6 (slice_range bytes 6 12)) (λ s. numbers >>= (λ t. allowed (row_with bytes one.0 s t))) r one.2 in
@@ -32,10 +33,10 @@ read_keeps bytes r e =
         by_length true e = e
         by_length false e = absurd cc
 
-    allowed_keeps : (x : PairRow) → allowed x ≡ Some r → keeps_rules r ≡ true
-    allowed_keeps x e = let parts = cond_some (keeps_rules x) x r e in subst (λ (y : PairRow). keeps_rules y ≡ true) parts.1 parts.0
+    allowed_keeps : (x : PairRow) → allowed x ≡ Some r → keeps_row_rules r ≡ true
+    allowed_keeps x e = let parts = cond_some (keeps_row_rules x) x r e in subst (λ (y : PairRow). keeps_row_rules y ≡ true) parts.1 parts.0
 
-pub given_keeps : (bytes : List ℕ) (row : Option PairRow) → row ≡ row_at bytes → IfSome row (λ r. keeps_rules r ≡ true)
+pub given_keeps : (bytes : List ℕ) (row : Option PairRow) → row ≡ row_at bytes → IfSome row (λ r. keeps_row_rules r ≡ true)
 given_keeps bytes None e = tt
 given_keeps bytes (Some r) e = read_keeps bytes r (sym e)
 

@@ -12,14 +12,15 @@ use Rattle.tod_stamp.proofs.FieldLaws.{IsBytes-drop, IsBytes-take}
 use Rattle.pair_table.specs.declared.level.Level.{Level}
 use Rattle.pair_table.specs.declared.level.Level.TheVariants.{Volume, Session}
 use Rattle.pair_table.specs.declared.row.PairRow.{PairRow}
-use Rattle.pair_table.specs.Rows.{◌>>=◌, is_row, row_spelling, row_at}
+use Rattle.pair_table.specs.Rows.{is_row, row_spelling, row_at}
 use Rattle.pair_table.specs.Tables.{KeepsRows, are_below}
 use Rattle.pair_table.proofs.FieldPlaces.{field_and_rest, number_spelled}
 use Rattle.pair_table.proofs.RowReads.{rows_keep, rows_spelled}
-use Rattle.state_set.specs.Slots.{Stored, title, level_number, rows_spelling, state_spelling, state_length, are_rows, level_of, rows_at, kept, rows_in, has_title, fields_of}
+use Rattle.state_set.specs.Slots.{Stored, title, level_number, rows_spelling, slot_spelling, state_length, are_rows, level_of_number, rows_at, kept, rows_in, has_title, slot_fields}
 use Rattle.state_set.specs.Laws.{StatesAreSpelled}
 use Rattle.state_set.proofs.Behind.{rows_parts}
 use Rattle.state_set.proofs.RowsAt.{bind_some, rows_count}
+use Rattle.tod_stamp.specs.Options.{◌>>=◌}
 
 -- ---- rows
 
@@ -45,7 +46,7 @@ rows_read (suc count) bytes rows fits e =
 
 -- ---- the fields before them
 
-level_read : (n : ℕ) (level : Level) → level_of n ≡ Some level → level_number level ≡ n
+level_read : (n : ℕ) (level : Level) → level_of_number n ≡ Some level → level_number level ≡ n
 level_read n level e = first (nat_eq n 0) refl e
   where
     second : (b : Bool) → nat_eq n 1 ≡ b → cond b (Some Session) None ≡ Some level → level_number level ≡ n
@@ -63,7 +64,7 @@ kept_is volumes (Some found) rows e =
     (ap Some parts.1, subst (λ (t : List PairRow). are_rows volumes t ≡ true) parts.1 parts.0)
 
 titled_then : (session bytes : List ℕ) → 15 ≤ length bytes → IsBytes bytes → title session ≡ take 12 bytes → (level : Level) → level_number level ≡ slice_index bytes 12 → (count : ℕ) → count ≡ from_be_bytes w16 (slice_range bytes 13 15)
-    → (rows : List PairRow) (rest : List ℕ) → length rows ≡ count → drop 15 bytes ≡ rows_spelling rows ++ rest → bytes ≡ state_spelling session level rows ++ rest
+    → (rows : List PairRow) (rest : List ℕ) → length rows ≡ count → drop 15 bytes ≡ rows_spelling rows ++ rest → bytes ≡ slot_spelling session level rows ++ rest
 titled_then session bytes long fits titled level level_is count count_is rows rest many spelled =
     let number : to_be_bytes w16 (length rows) ≡ slice_range bytes 13 15 = ap (to_be_bytes w16) (many ∙ count_is) ∙ number_spelled bytes 13 15 (omega arith) long refl fits in
     let behind : drop 12 bytes ≡ level_number level ∷ to_be_bytes w16 (length rows) ++ (rows_spelling rows ++ rest) =
@@ -80,7 +81,7 @@ states_spelled volumes session bytes s fits e =
     let count = from_be_bytes w16 (slice_range bytes 13 15) in
     let zero = by_title (has_title session bytes) refl e in
     let front = and_parts (nat_le 15 (length bytes)) (bytes_eq (title session) (take 12 bytes)) zero.0 in
-    let one = bind_some (level_of (slice_index bytes 12)) (λ level. rows_in volumes count (drop 15 bytes) >>= (λ rows. Some (record { level = level; rows = rows }))) s zero.1 in
+    let one = bind_some (level_of_number (slice_index bytes 12)) (λ level. rows_in volumes count (drop 15 bytes) >>= (λ rows. Some (record { level = level; rows = rows }))) s zero.1 in
     let two = bind_some (rows_in volumes count (drop 15 bytes)) (λ rows. Some (record { level = one.0; rows = rows })) s one.2 in
     let kept = kept_is volumes (rows_at count (drop 15 bytes)) two.0 two.1 in
     let many = rows_count count (drop 15 bytes) two.0 kept.0 in
@@ -89,9 +90,9 @@ states_spelled volumes session bytes s fits e =
     let end : drop (30 * count) (drop 15 bytes) ≡ drop (state_length two.0) bytes = drop-drop (30 * count) 15 bytes ∙ ap (λ (k : ℕ). drop k bytes) (omega (arith, many)) in
     let spelled = titled_then session bytes (leb-true 15 (length bytes) front.0) fits ((bytes_eq-Decides (title session) (take 12 bytes)).0 front.1) one.0 (level_read (slice_index bytes 12) one.0 one.1) count refl two.0
     (drop (state_length two.0) bytes) many (read.spelled ∙ ap (λ (t : List ℕ). rows_spelling two.0 ++ t) end) in
-    subst (λ (x : Stored). (bytes ≡ state_spelling session x.level x.rows ++ drop (state_length x.rows) bytes) × KeepsRows x.rows × (are_below volumes x.rows ≡ true)) (same_Some (record { level = one.0; rows = two.0 }) s two.2)
+    subst (λ (x : Stored). (bytes ≡ slot_spelling session x.level x.rows ++ drop (state_length x.rows) bytes) × KeepsRows x.rows × (are_below volumes x.rows ≡ true)) (same_Some (record { level = one.0; rows = two.0 }) s two.2)
     (spelled, record { each = read.each; apart = are.apart; few = are.few }, are.below)
   where
-    by_title : (b : Bool) → has_title session bytes ≡ b → cond b (fields_of volumes bytes) None ≡ Some s → (has_title session bytes ≡ true) × (fields_of volumes bytes ≡ Some s)
+    by_title : (b : Bool) → has_title session bytes ≡ b → cond b (slot_fields volumes bytes) None ≡ Some s → (has_title session bytes ≡ true) × (slot_fields volumes bytes ≡ Some s)
     by_title true is e = (is, e)
     by_title false is e = absurd cc

@@ -1,21 +1,19 @@
 -- A slot's state stands in its first 1,935 bytes, so what is written into one slot leaves the other.
-use Rattle.std.proofs.Common.{◌≡◌, ◌≢◌, ℕ, zero, suc, ◌+◌, ◌-◌, ◌≤◌, true, false, nat_le, List, ◌++◌, length, take, drop, slice_index, get_or-take, option_map, Option, Some, None, ok_or, refl, sym, ap, subst, ◌∙◌, arith, inl, inr, length-take, append_assoc}
-use Rattle.std.specs.Prelude.{bytes_eq, slice_range, replicate}
+use Rattle.std.proofs.Common.{◌≡◌, ◌≢◌, ℕ, zero, suc, ◌+◌, ◌-◌, ◌≤◌, true, nat_le, List, ◌++◌, length, take, drop, slice_index, get_or-take, option_map, Option, Some, None, ok_or, refl, sym, ap, subst, ◌∙◌, arith, inl, inr, length-take, append_assoc}
+use Rattle.std.specs.Prelude.{slice_range}
 use Rattle.std.specs.Int.{w16, from_be_bytes}
-use Rattle.std.proofs.lemmas.Bool.{cases_lt, le-leb, leb-true, false_from_ne_true}
-use Rattle.std.proofs.lemmas.List.{take-take, drop-take, drop-drop, drop_at, get_or-drop}
+use Rattle.std.proofs.lemmas.Bool.{cases_lt, le-leb, leb-true}
+use Rattle.std.proofs.lemmas.List.{take-take, drop-take, drop-drop, drop_at}
 use Rattle.std.proofs.lemmas.Option.{same_Some}
-use Rattle.std.proofs.lemmas.Slice.Eq.{bytes_eq-Decides}
 use Rattle.tod_stamp.specs.Names.{is_session}
 use Rattle.crash_plant.specs.Bytes.{patched, Torn}
 use Rattle.pair_table.specs.declared.level.Level.{Level}
 use Rattle.pair_table.specs.declared.row.PairRow.{PairRow}
 use Rattle.pair_table.specs.Tables.{Table, KeepsRows, are_below}
-use Rattle.state_set.specs.Slots.{Stored, slot_place, title, state_spelling, kept, rows_in, state_at, state_of, OneSlot, with_table}
-use Rattle.state_set.specs.Laws.{ZerosHoldNone}
+use Rattle.state_set.specs.Slots.{Stored, state_slot_place, slot_spelling, kept, rows_in, state_at, state_of, OneSlot, with_table}
 use Rattle.state_set.proofs.Behind.{same_bool}
 use Rattle.state_set.proofs.RowsAt.{rows_window}
-use Rattle.state_set.proofs.Fields.{too_many, untitled}
+use Rattle.state_set.proofs.Fields.{too_many}
 use Rattle.state_set.proofs.Again.{states_back}
 
 rows_same : (volumes count m : ℕ) (bytes : List ℕ) → 1920 ≤ m → rows_in volumes count (take m bytes) ≡ rows_in volumes count bytes
@@ -39,15 +37,15 @@ window volumes session m bytes le =
 
 -- ---- the other slot
 
-second_stays : (n : ℕ) (old new : List ℕ) → n ≤ 8192 → Torn (slot_place 0) n old new → drop 8192 new ≡ drop 8192 old
+second_stays : (n : ℕ) (old new : List ℕ) → n ≤ 8192 → Torn (state_slot_place 0) n old new → drop 8192 new ≡ drop 8192 old
 second_stays n old new le torn =
     let split : n + (8192 - n) ≡ 8192 = omega (arith, le) in
-    let here : slot_place 0 + n ≡ n = omega arith in
+    let here : state_slot_place 0 + n ≡ n = omega arith in
     let after : drop n new ≡ drop n old = ap (λ (k : ℕ). drop k new) (sym here) ∙ torn.after ∙ ap (λ (k : ℕ). drop k old) here in
     let back : (l : List ℕ) → drop (8192 - n) (drop n l) ≡ drop 8192 l = λ l. drop-drop (8192 - n) n l ∙ ap (λ (k : ℕ). drop k l) split in
     sym (back new) ∙ ap (drop (8192 - n)) after ∙ back old
 
-pub other_stays : (slot n : ℕ) (old new : List ℕ) → slot ≤ 1 → n ≤ 8192 → Torn (slot_place slot) n old new → (volumes : ℕ) (session : List ℕ) (other : ℕ) → other ≤ 1 → other ≢ slot → state_of volumes session other new ≡ state_of volumes session other old
+pub other_stays : (slot n : ℕ) (old new : List ℕ) → slot ≤ 1 → n ≤ 8192 → Torn (state_slot_place slot) n old new → (volumes : ℕ) (session : List ℕ) (other : ℕ) → other ≤ 1 → other ≢ slot → state_of volumes session other new ≡ state_of volumes session other old
 other_stays zero n old new at le torn volumes session zero within differs = absurd (differs refl)
 other_stays zero n old new at le torn volumes session (suc zero) within differs = ap (λ (t : List ℕ). ok_or (state_at volumes session t) 8192) (second_stays n old new le torn)
 other_stays zero n old new at le torn volumes session (suc (suc other)) within differs = absurd (omega (arith, within))
@@ -59,29 +57,29 @@ other_stays (suc zero) n old new at le torn volumes session (suc zero) within di
 other_stays (suc zero) n old new at le torn volumes session (suc (suc other)) within differs = absurd (omega (arith, within))
 other_stays (suc (suc slot)) n old new at le torn volumes session other within differs = absurd (omega (arith, at))
 
-pub one_slot : (slot n place k : ℕ) (old new : List ℕ) → slot ≤ 1 → n ≤ 8192 → place ≡ slot_place slot → k ≡ n → Torn place k old new → OneSlot slot n old new
+pub one_slot : (slot n place k : ℕ) (old new : List ℕ) → slot ≤ 1 → n ≤ 8192 → place ≡ state_slot_place slot → k ≡ n → Torn place k old new → OneSlot slot n old new
 one_slot slot n place k old new at le place_is k_is torn =
     let there = subst (λ (p : ℕ). Torn p k old new) place_is torn in
-    let here = subst (λ (j : ℕ). Torn (slot_place slot) j old new) k_is there in
+    let here = subst (λ (j : ℕ). Torn (state_slot_place slot) j old new) k_is there in
     record { torn = here; others = other_stays slot n old new at le here }
 
 -- ---- what was written is there
 
-pub stands : (volumes slot : ℕ) (session : List ℕ) (level : Level) (rows : List PairRow) (old new : List ℕ) → is_session session ≡ true → KeepsRows rows → are_below volumes rows ≡ true → slot_place slot ≤ length old
-    → new ≡ patched (slot_place slot) (state_spelling session level rows) old → state_of volumes session slot new ≡ ok_or (Some (record { level = level; rows = rows })) (slot_place slot)
+pub stands : (volumes slot : ℕ) (session : List ℕ) (level : Level) (rows : List PairRow) (old new : List ℕ) → is_session session ≡ true → KeepsRows rows → are_below volumes rows ≡ true → state_slot_place slot ≤ length old
+    → new ≡ patched (state_slot_place slot) (slot_spelling session level rows) old → state_of volumes session slot new ≡ ok_or (Some (record { level = level; rows = rows })) (state_slot_place slot)
 stands volumes slot session level rows old new is keeps below long written =
-    let spelled = state_spelling session level rows in
-    let front = take (slot_place slot) old in
-    let rest = drop (slot_place slot + length spelled) old in
-    let there : drop (slot_place slot) new ≡ spelled ++ rest =
-    ap (drop (slot_place slot)) (written ∙ append_assoc front spelled rest) ∙ drop_at front (spelled ++ rest) (slot_place slot) (omega (arith, length-take (slot_place slot) old, long)) in
-    ap (λ (t : List ℕ). ok_or (state_at volumes session t) (slot_place slot)) there ∙ ap (λ (o : Option Stored). ok_or o (slot_place slot)) (states_back volumes session level rows rest is keeps below)
+    let spelled = slot_spelling session level rows in
+    let front = take (state_slot_place slot) old in
+    let rest = drop (state_slot_place slot + length spelled) old in
+    let there : drop (state_slot_place slot) new ≡ spelled ++ rest =
+    ap (drop (state_slot_place slot)) (written ∙ append_assoc front spelled rest) ∙ drop_at front (spelled ++ rest) (state_slot_place slot) (omega (arith, length-take (state_slot_place slot) old, long)) in
+    ap (λ (t : List ℕ). ok_or (state_at volumes session t) (state_slot_place slot)) there ∙ ap (λ (o : Option Stored). ok_or o (state_slot_place slot)) (states_back volumes session level rows rest is keeps below)
 
 -- ---- what was read of a slot
 
-pub read_is : (volumes slot : ℕ) (session state bytes : List ℕ) → bytes ≡ take 1935 (drop (slot_place slot) state) → state_of volumes session slot state ≡ ok_or (state_at volumes session bytes) (slot_place slot)
+pub read_is : (volumes slot : ℕ) (session state bytes : List ℕ) → bytes ≡ take 1935 (drop (state_slot_place slot) state) → state_of volumes session slot state ≡ ok_or (state_at volumes session bytes) (state_slot_place slot)
 read_is volumes slot session state bytes is =
-    ap (λ (o : Option Stored). ok_or o (slot_place slot)) (sym (ap (state_at volumes session) is ∙ window volumes session 1935 (drop (slot_place slot) state) (omega arith)))
+    ap (λ (o : Option Stored). ok_or o (state_slot_place slot)) (sym (ap (state_at volumes session) is ∙ window volumes session 1935 (drop (state_slot_place slot) state) (omega arith)))
 
 -- a level and a table
 pub some_state : (session : List ℕ) (o : Option Stored) (found : Level × Table) → Some found ≡ option_map (with_table session) o → o ≡ Some (record { level = found.0; rows = found.1.rows })
@@ -91,21 +89,3 @@ some_state session (Some s) found e = ap (λ (f : Level × Table). Some (record 
 pub no_state : (session : List ℕ) (o : Option Stored) → None ≡ option_map (with_table session) o → o ≡ None
 no_state session None e = refl
 no_state session (Some s) e = absurd cc
-
--- ---- zeros
-
-pub zeros_none : ZerosHoldNone
-zeros_none volumes session slot n =
-    let bytes = drop (slot_place slot) (replicate n 0) in
-    let first : slice_index (take 12 bytes) 0 ≡ 0 = get_or-take 12 bytes 0 0 (omega arith) ∙ get_or-drop (slot_place slot) (replicate n 0) 0 0 ∙ zero_at n (slot_place slot + 0) in
-    let no : bytes_eq (title session) (take 12 bytes) ≡ false = false_from_ne_true (bytes_eq (title session) (take 12 bytes))
-    (λ same. other_byte (ap (λ (t : List ℕ). slice_index t 0) ((bytes_eq-Decides (title session) (take 12 bytes)).0 same) ∙ first)) in
-    ap (λ (o : Option Stored). ok_or o (slot_place slot)) (untitled volumes session bytes no)
-  where
-    zero_at : (n i : ℕ) → slice_index (replicate n 0) i ≡ 0
-    zero_at zero i = refl
-    zero_at (suc n) zero = refl
-    zero_at (suc n) (suc i) = zero_at n i
-
-    other_byte : ◌≡◌ {A = ℕ} 88 0 → ⊥
-    other_byte e = omega (arith, e)

@@ -1,27 +1,18 @@
 -- The laws of states. Each is the contract of a public function without parameters.
-use Rattle.std.specs.Prelude.{◌≡◌, ◌≢◌, ℕ, List, ◌++◌, drop, replicate, Some, None, Err, IsTrue}
+use Rattle.std.specs.Prelude.{◌≡◌, ℕ, List, ◌++◌, drop, Some, IsTrue}
 use Rattle.tod_stamp.specs.Fields.{IsBytes}
 use Rattle.tod_stamp.specs.Names.{is_session}
 use Rattle.pair_table.specs.declared.level.Level.{Level}
 use Rattle.pair_table.specs.declared.row.PairRow.{PairRow}
 use Rattle.pair_table.specs.Tables.{KeepsRows, are_below}
-use Rattle.state_set.specs.Slots.{Stored, slot_place, state_spelling, state_length, state_at, state_of}
+use Rattle.state_set.specs.Slots.{Stored, slot_spelling, state_length, state_at}
 
 -- What rows that keep the rules spell is read again, whatever follows.
 abbrev pub StatesReadBack : Type 0
 StatesReadBack = (volumes : ℕ) (session : List ℕ) (level : Level) (rows : List PairRow) (rest : List ℕ) → IsTrue (is_session session) → KeepsRows rows → IsTrue (are_below volumes rows) →
-    state_at volumes session (state_spelling session level rows ++ rest) ≡ Some (record { level = level; rows = rows })
+    state_at volumes session (slot_spelling session level rows ++ rest) ≡ Some (record { level = level; rows = rows })
 
 -- What is read was spelled so, and its rows keep the rules.
 abbrev pub StatesAreSpelled : Type 0
 StatesAreSpelled = (volumes : ℕ) (session bytes : List ℕ) (s : Stored) → IsBytes bytes → state_at volumes session bytes ≡ Some s →
-    (bytes ≡ state_spelling session s.level s.rows ++ drop (state_length s.rows) bytes) × KeepsRows s.rows × IsTrue (are_below volumes s.rows)
-
--- Another session's state isn't read.
-abbrev pub OthersAreNotRead : Type 0
-OthersAreNotRead = (volumes : ℕ) (session other : List ℕ) (level : Level) (rows : List PairRow) (rest : List ℕ) → IsTrue (is_session session) → IsTrue (is_session other) → session ≢ other →
-    state_at volumes other (state_spelling session level rows ++ rest) ≡ None
-
--- A device of zeros holds no state.
-abbrev pub ZerosHoldNone : Type 0
-ZerosHoldNone = (volumes : ℕ) (session : List ℕ) (slot n : ℕ) → state_of volumes session slot (replicate n 0) ≡ Err (slot_place slot)
+    (bytes ≡ slot_spelling session s.level s.rows ++ drop (state_length s.rows) bytes) × KeepsRows s.rows × IsTrue (are_below volumes s.rows)

@@ -9,8 +9,9 @@ use Rattle.crash_plant.specs.Bytes.{Torn}
 use Rattle.pair_table.specs.declared.level.Level.{Level}
 use Rattle.pair_table.specs.declared.level.Level.TheVariants.{Volume, Session}
 use Rattle.pair_table.specs.declared.row.PairRow.{PairRow}
-use Rattle.pair_table.specs.Rows.{◌>>=◌, row_spelling, row_at}
+use Rattle.pair_table.specs.Rows.{row_spelling, row_at}
 use Rattle.pair_table.specs.Tables.{Table, are_below, most_rows, none_clash}
+use Rattle.tod_stamp.specs.Options.{◌>>=◌}
 
 -- what a slot holds of a session
 pub record Stored : Type 0 where
@@ -18,8 +19,8 @@ pub record Stored : Type 0 where
   pub rows : List PairRow
 
 -- the place of a slot, 0 or 1
-abbrev pub slot_place : (slot : ℕ) → ℕ
-slot_place slot = SLOT * slot
+abbrev pub state_slot_place : (slot : ℕ) → ℕ
+state_slot_place slot = SLOT * slot
 
 -- ---- the spelling
 
@@ -40,8 +41,8 @@ abbrev pub rows_spelling : List PairRow → List ℕ
 rows_spelling rows = flat_map row_spelling rows
 
 -- the bytes that a slot begins with
-abbrev pub state_spelling : (session : List ℕ) → Level → List PairRow → List ℕ
-state_spelling session level rows = head_spelling session level (length rows) ++ rows_spelling rows
+abbrev pub slot_spelling : (session : List ℕ) → Level → List PairRow → List ℕ
+slot_spelling session level rows = head_spelling session level (length rows) ++ rows_spelling rows
 
 -- how many they are
 abbrev pub state_length : List PairRow → ℕ
@@ -55,8 +56,8 @@ are_rows volumes rows = nat_le (length rows) most_rows && none_clash rows && are
 
 -- ---- reading it
 
-abbrev pub level_of : (number : ℕ) → Option Level
-level_of n = if n == 0 then Some Volume else if n == 1 then Some Session else None
+abbrev pub level_of_number : (number : ℕ) → Option Level
+level_of_number n = if n == 0 then Some Volume else if n == 1 then Some Session else None
 
 -- so many rows, each by itself
 abbrev pub rows_at : (count : ℕ) → List ℕ → Option (List PairRow)
@@ -79,25 +80,25 @@ abbrev pub has_title : (session : List ℕ) → List ℕ → Bool
 has_title session bytes = nat_le HEAD (length bytes) && bytes_eq (title session) (take 12 bytes)
 
 -- the level and the rows of these bytes, of which those before the rows are there
-abbrev pub fields_of : (volumes : ℕ) → List ℕ → Option Stored
-fields_of volumes bytes = do
-  level ← level_of (slice_index bytes 12)
+abbrev pub slot_fields : (volumes : ℕ) → List ℕ → Option Stored
+slot_fields volumes bytes = do
+  level ← level_of_number (slice_index bytes 12)
   rows ← rows_in volumes (from_be_bytes w16 (slice_range bytes 13 HEAD)) (drop HEAD bytes)
   Some (record { level = level; rows = rows })
 
 -- What the bytes hold of this session, if they begin with it. The volumes are those of the plant.
 abbrev pub state_at : (volumes : ℕ) → (session : List ℕ) → List ℕ → Option Stored
-state_at volumes session bytes = if has_title session bytes then fields_of volumes bytes else None
+state_at volumes session bytes = if has_title session bytes then slot_fields volumes bytes else None
 
 -- What a slot of these bytes of the device holds of this session. A slot that breaks a rule is damaged at its first byte.
 abbrev pub state_of : (volumes : ℕ) → (session : List ℕ) → (slot : ℕ) → (state : List ℕ) → Result Stored ℕ
-state_of volumes session slot state = ok_or (state_at volumes session (drop (slot_place slot) state)) (slot_place slot)
+state_of volumes session slot state = ok_or (state_at volumes session (drop (state_slot_place slot) state)) (state_slot_place slot)
 
 -- ---- writing it
 
 -- While n bytes are written into a slot, all else is as it was, and the other slot holds what it held.
 pub record OneSlot (slot n : ℕ) (old new : List ℕ) : Type 0 where
-  pub torn : Torn (slot_place slot) n old new
+  pub torn : Torn (state_slot_place slot) n old new
   pub others : (volumes : ℕ) (session : List ℕ) (other : ℕ) → other ≤ 1 → other ≢ slot → state_of volumes session other new ≡ state_of volumes session other old
 
 -- ---- tables

@@ -7,8 +7,7 @@ mod reading;
 mod slots;
 mod spelling;
 mod state_error;
-pub mod vectors;
 
-pub use laws::{others_are_not_read, states_are_spelled, states_read_back, zeros_hold_none};
+pub use laws::states_read_back;
 pub use slots::{get, put};
 pub use state_error::StateError;

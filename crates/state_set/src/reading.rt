@@ -1,8 +1,8 @@
 //! What the bytes of a slot hold.
 
 ghost use Rattle.std.specs.Prelude.{◌≡◌, ◌≤◌, ◌+◌, ◌*◌, ◌++◌, ◌∷◌, [], length, take, drop, option_map, bytes_eq, IfOk, IfSome, IsTrue};
-ghost use Rattle.pair_table.specs.Rows.{keeps_rules, row_at as row_in};
-ghost use Rattle.state_set.specs.Slots.{title, level_of, are_rows, rows_in, state_at, started_table, with_table};
+ghost use Rattle.pair_table.specs.Rows.{keeps_row_rules, row_at as row_in};
+ghost use Rattle.state_set.specs.Slots.{title, level_of_number, are_rows, rows_in, state_at, started_table, with_table};
 
 use crate::lengths::{HEAD, LONGEST};
 use crate::spelling::title;
@@ -20,7 +20,7 @@ fn has_title(bytes: &[u8; LONGEST], session: Session) -> bool
 }
 
 fn level_of(number: u8) -> Option<Level>
-    ensures { result ≡ level_of number }
+    ensures { result ≡ level_of_number number }
 {
     match number {
         0 => Some(Level::Volume),
@@ -31,7 +31,7 @@ fn level_of(number: u8) -> Option<Level>
 
 /// Whether the rows of the table and this one behind them keep the rules.
 fn may_follow(table: &PairTable, volumes: u16, row: &PairRow) -> bool
-    requires row { IsTrue (keeps_rules row.now) }
+    requires row { IsTrue (keeps_row_rules row.now) }
     requires rows { IsTrue (are_rows volumes table.now.rows) }
     ensures { result ≡ are_rows volumes (table.now.rows ++ row.now ∷ []) }
 {
@@ -42,7 +42,7 @@ fn may_follow(table: &PairTable, volumes: u16, row: &PairRow) -> bool
 fn row_at(bytes: &[u8], place: usize) -> Option<PairRow>
     requires { ROW_LENGTH * place + ROW_LENGTH ≤ length bytes.now }
     ensures row { result ≡ row_in (take ROW_LENGTH (drop (ROW_LENGTH * place) bytes.now)) }
-    ensures rules { IfSome result (λ row. IsTrue (keeps_rules row)) }
+    ensures rules { IfSome result (λ row. IsTrue (keeps_row_rules row)) }
 {
     let from = ROW_LENGTH * place;
     let mut row = [0; ROW_LENGTH];

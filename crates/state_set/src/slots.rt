@@ -10,7 +10,7 @@ ghost use Rattle.crash_plant.specs.Calls.{WorksOn};
 ghost use Rattle.state_set.specs.declared.state_error.StateError.{StateError};
 ghost use Rattle.state_set.specs.declared.state_error.StateError.TheVariants.{Damaged, Fault, NoMemory};
 ghost use Rattle.pair_table.specs.Tables.{are_below};
-ghost use Rattle.state_set.specs.Slots.{OneSlot, slot_place, started_table, state_length, state_of, state_spelling};
+ghost use Rattle.state_set.specs.Slots.{OneSlot, state_slot_place, started_table, state_length, state_of, slot_spelling};
 
 use crate::StateError;
 use crate::lengths::{LONGEST, SLOT};
@@ -24,7 +24,7 @@ use xrc_edge::{Failed, NoMemory};
 
 fn slot_place(slot: u8) -> u64
     requires { slot ≤ 1 }
-    ensures { result ≡ slot_place slot }
+    ensures { result ≡ state_slot_place slot }
 {
     SLOT * u64::from(slot)
 }
@@ -44,7 +44,7 @@ pub fn put<P: Plant>(
     // At every moment of the call all but these bytes of the slot is as it was, and the other slot holds what it held.
     ensures moments { P.tells → Follows (OneSlot slot (state_length table.now.rows)) (on (P.state plant.old) State) (on (P.state plant.new) State) }
     // After Ok the slot begins with the state, which is read there again, in every image.
-    ensures written { P.tells → OnOk result ((P.state plant.new).bytes State ≡ patched (slot_place slot) (state_spelling table.now.session level table.now.rows) ((P.state plant.old).bytes State)) }
+    ensures written { P.tells → OnOk result ((P.state plant.new).bytes State ≡ patched (state_slot_place slot) (slot_spelling table.now.session level table.now.rows) ((P.state plant.old).bytes State)) }
     ensures holds { P.tells → OnOk result (state_of (P.state plant.new).volumes table.now.session slot ((P.state plant.new).bytes State) ≡ Ok (record { level = level; rows = table.now.rows })) }
     ensures durable { P.tells → OnOk result (IsDurable (on (P.state plant.new) State)) }
     // All else is as before, on all devices and the console.
@@ -64,7 +64,7 @@ pub fn put<P: Plant>(
 fn read_slot<P: Plant>(plant: &mut P, slot: u8) -> Result<[u8; LONGEST], Failed>
     requires slot { slot ≤ 1 }
     requires long { STATE_LENGTH ≤ (P.state plant.old).lengths State }
-    ensures bytes { P.tells → IfOk result (λ bytes. bytes ≡ take LONGEST (drop (slot_place slot) ((P.state plant.old).bytes State))) }
+    ensures bytes { P.tells → IfOk result (λ bytes. bytes ≡ take LONGEST (drop (state_slot_place slot) ((P.state plant.old).bytes State))) }
     ensures same { P.tells → (P.state plant.new).bytes State ≡ (P.state plant.old).bytes State }
     ensures moments { P.tells → Follows Same (on (P.state plant.old) State) (on (P.state plant.new) State) }
     ensures only { WorksOn P.tells (λ d. d ≡ State) (P.state plant.old) (P.state plant.new) }
@@ -88,7 +88,7 @@ pub fn get<P: Plant>(
     ensures holds { P.tells → IfOk result (λ found. state_of (P.state plant.old).volumes session slot ((P.state plant.old).bytes State) ≡ Ok (record { level = found.0; rows = found.1.rows })) }
     ensures started { IfOk result (λ found. found.1 ≡ started_table session found.1.rows) }
     ensures damaged { P.tells → (place : ℕ) → IsErrOf result (Damaged place) → state_of (P.state plant.old).volumes session slot ((P.state plant.old).bytes State) ≡ Err place }
-    ensures place { (place : ℕ) → IsErrOf result (Damaged place) → place ≡ slot_place slot }
+    ensures place { (place : ℕ) → IsErrOf result (Damaged place) → place ≡ state_slot_place slot }
     // Whatever a read gave, the devices of the rows are the plant's.
     ensures below { IfOk result (λ found. IsTrue (are_below (P.state plant.old).volumes found.1.rows)) }
     // Why it fails.

@@ -4,7 +4,7 @@ ghost use Rattle.std.specs.Prelude.{◌≡◌, ◌≤◌, ◌<◌, ◌+◌, ◌*
 ghost use Rattle.tod_stamp.specs.Names.{is_session};
 ghost use Rattle.pair_table.specs.Rows.{row_spelling};
 ghost use Rattle.pair_table.specs.Tables.{KeepsRows};
-ghost use Rattle.state_set.specs.Slots.{title, level_number, head_spelling, rows_spelling, state_spelling, state_length};
+ghost use Rattle.state_set.specs.Slots.{title, level_number, head_spelling, rows_spelling, slot_spelling, state_length};
 
 use crate::lengths::{HEAD, LONGEST};
 use byteorder::{BigEndian, ByteOrder};
@@ -63,7 +63,7 @@ fn put_rows(table: &PairTable, out: &mut [u8])
 
 /// Writes the state to the front of a buffer, and gives its length.
 pub(crate) fn encode(level: Level, table: &PairTable, out: &mut [u8; LONGEST]) -> usize
-    ensures spelled { take (state_length table.now.rows) out.new ≡ state_spelling table.now.session level table.now.rows }
+    ensures spelled { take (state_length table.now.rows) out.new ≡ slot_spelling table.now.session level table.now.rows }
     ensures length { result ≡ state_length table.now.rows }
     ensures rules { KeepsRows table.now.rows }
     ensures valid { IsTrue (is_session table.now.session) }

@@ -1,6 +1,6 @@
 //! Plants of zeros, other lengths, and calls that fail.
 
-ghost use Rattle.std.specs.Prelude.{◌≡◌, true, IfOk};
+ghost use Rattle.std.specs.Prelude.{◌≡◌, true, false, IfOk};
 ghost use Rattle.crash_plant.specs.Calls.{IsThere, NoneLent};
 ghost use Rattle.crash_plant.specs.Made.{IsMade, Resizes, SameDevices};
 ghost use Rattle.crash_plant.specs.MemoryPlant.{IsPlannedAs, memory_state};
@@ -43,6 +43,7 @@ pub fn resized(alloc: Global, plant: &mut PlainPlant, device: Device, length: u6
     ensures home { NoneLent (plain_state plant.new) }
     ensures there { result ≡ true → IsThere (plain_state plant.old) device }
     ensures length { result ≡ true → Resizes device length (plain_state plant.old) (plain_state plant.new) }
+    ensures refused { result ≡ false → SameDevices (plain_state plant.old) (plain_state plant.new) }
 {
     is_there(plant, device) && plant.resize(alloc, device, length).is_ok()
 }

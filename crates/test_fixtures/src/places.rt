@@ -1,8 +1,9 @@
 //! Devices of a plant of which no volume is lent, and the bytes at their places.
 
-ghost use Rattle.std.specs.Prelude.{◌≡◌, ◌≤◌, ◌+◌, ◌↔◌, true, length, slice_range, IfSome};
+ghost use Rattle.std.specs.Prelude.{◌≡◌, ◌≤◌, ◌+◌, ◌↔◌, true, false, length, slice_range, IfSome, IsNone};
 ghost use Rattle.crash_plant.specs.Bytes.{patched};
 ghost use Rattle.crash_plant.specs.Calls.{IsThere, NoneLent, SameSite};
+ghost use Rattle.xrc_edge.specs.Causes.{Rose};
 
 use crash_plant::{Device, Plant};
 
@@ -39,6 +40,7 @@ pub fn put<P: Plant>(plant: &mut P, device: Device, place: u64, bytes: &[u8]) ->
     ensures site { SameSite (P.state plant.old) (P.state plant.new) }
     ensures there { result ≡ true → IsThere (P.state plant.old) device }
     ensures written { P.tells → result ≡ true → (P.state plant.new).bytes device ≡ patched place bytes.now ((P.state plant.old).bytes device) }
+    ensures cause { result ≡ false → IsThere (P.state plant.old) device → place + length bytes.now ≤ (P.state plant.old).lengths device → Rose ((P.state plant.old).faults device) ((P.state plant.new).faults device) }
 {
     is_within(plant, device, place, bytes.len()) && plant.write(device, place, bytes).is_ok()
 }
@@ -54,10 +56,12 @@ pub fn content<P: Plant, const N: usize>(
     ensures home { NoneLent (P.state plant.new) }
     ensures site { SameSite (P.state plant.old) (P.state plant.new) }
     ensures found { P.tells → IfSome result (λ bytes. bytes ≡ slice_range ((P.state plant.old).bytes device) place (place + N)) }
+    ensures cause { IsNone result → IsThere (P.state plant.old) device → place + N ≤ (P.state plant.old).lengths device → Rose ((P.state plant.old).faults device) ((P.state plant.new).faults device) }
 {
     if !is_within(plant, device, place, N) {
         return None;
     }
+    // Not zeros, so that a read that writes nothing shows.
     let mut bytes = [9; N];
     match plant.read(device, place, &mut bytes) {
         Ok(()) => Some(bytes),

@@ -9,10 +9,7 @@ mod serial;
 mod session;
 mod stamp;
 
-pub use laws::{
-    fields_are_spelled, fields_read_back, names_are_read, names_read_back, texts_are_spelled,
-    texts_read_back, what_is_read_is_a_name,
-};
+pub use laws::{names_read_back, texts_read_back};
 pub use limits::{MOST_CONTROLS, MOST_CYLINDERS, MOST_VOLUMES, TRACKS_OF_CYLINDER};
 pub use name_error::NameError;
 pub use serial::Serial;

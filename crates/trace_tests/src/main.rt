@@ -12,6 +12,8 @@ mod sources;
 #[cfg(test)]
 mod texts;
 #[cfg(test)]
+mod trace_vectors;
+#[cfg(test)]
 mod traces;
 #[cfg(test)]
 mod tracks;

@@ -13,7 +13,7 @@ use Rattle.crash_plant.specs.Bytes.{patched, Torn}
 use Rattle.crash_plant.specs.Moments.{Standing, Follows, Kept, Same}
 use Rattle.crash_plant.proofs.Steps.{follows_then}
 use Rattle.volume_label.specs.declared.label.Label.{Label}
-use Rattle.volume_label.specs.Labels.{has_room, label_of, label_spelling, with_serial}
+use Rattle.volume_label.specs.Labels.{holds_cylinders, label_of, label_spelling, with_serial}
 use Rattle.volume_label.specs.Laws.{IsValid, LabelsAreSpelled, LabelsReadBack}
 
 abbrev mark : List ℕ
@@ -61,7 +61,7 @@ name_parts bytes name e = choose (length bytes == 6 && is_field 6 bytes) refl e
 pub spelled : LabelsAreSpelled
 spelled device_length bytes label fits e = choose (length bytes == 14 && bytes_eq mark (take 4 bytes)) refl e
   where
-    by_room : (serial : List ℕ) (room : Bool) → length bytes ≡ 14 → mark ≡ take 4 bytes → name_in 6 (slice_range bytes 4 10) ≡ Some serial → has_room device_length (number_of bytes) ≡ room
+    by_room : (serial : List ℕ) (room : Bool) → length bytes ≡ 14 → mark ≡ take 4 bytes → name_in 6 (slice_range bytes 4 10) ≡ Some serial → holds_cylinders device_length (number_of bytes) ≡ room
         → cond room (Some (record { serial = serial; cylinders = (number_of bytes) })) None ≡ Some label → IsValid device_length label × (bytes ≡ label_spelling label)
     by_room serial true len begins named room e =
         let parts = name_parts (slice_range bytes 4 10) serial named in
@@ -75,7 +75,7 @@ spelled device_length bytes label fits e = choose (length bytes == 14 && bytes_e
 
     by_name : (o : Option (List ℕ)) → length bytes ≡ 14 → mark ≡ take 4 bytes → name_in 6 (slice_range bytes 4 10) ≡ o → with_serial device_length o (number_of bytes) ≡ Some label → IsValid device_length label × (bytes ≡ label_spelling label)
     by_name None len begins named e = absurd cc
-    by_name (Some serial) len begins named e = by_room serial (has_room device_length (number_of bytes)) len begins named refl e
+    by_name (Some serial) len begins named e = by_room serial (holds_cylinders device_length (number_of bytes)) len begins named refl e
 
     choose : (t : Bool) → (length bytes == 14 && bytes_eq mark (take 4 bytes)) ≡ t → cond t (with_serial device_length (name_in 6 (slice_range bytes 4 10)) (number_of bytes)) None ≡ Some label → IsValid device_length label × (bytes ≡ label_spelling label)
     choose true holds e =
@@ -86,19 +86,19 @@ spelled device_length bytes label fits e = choose (length bytes == 14 && bytes_e
 -- ---- a device
 
 -- whatever the bytes are, a label that they are has room
-pub room_of : (device_length : ℕ) (bytes : List ℕ) (o : Option Label) → o ≡ label_of device_length bytes → IfSome o (λ l. has_room device_length l.cylinders ≡ true)
+pub room_of : (device_length : ℕ) (bytes : List ℕ) (o : Option Label) → o ≡ label_of device_length bytes → IfSome o (λ l. holds_cylinders device_length l.cylinders ≡ true)
 room_of device_length bytes None e = tt
 room_of device_length bytes (Some label) e = choose (length bytes == 14 && bytes_eq mark (take 4 bytes)) (sym e)
   where
-    by_room : (serial : List ℕ) (room : Bool) → has_room device_length (number_of bytes) ≡ room → cond room (Some (record { serial = serial; cylinders = (number_of bytes) })) None ≡ Some label → has_room device_length label.cylinders ≡ true
-    by_room serial true is e = let l : Label = record { serial = serial; cylinders = (number_of bytes) } in ap (λ (k : Label). has_room device_length k.cylinders) (sym (same_Some l label e)) ∙ is
+    by_room : (serial : List ℕ) (room : Bool) → holds_cylinders device_length (number_of bytes) ≡ room → cond room (Some (record { serial = serial; cylinders = (number_of bytes) })) None ≡ Some label → holds_cylinders device_length label.cylinders ≡ true
+    by_room serial true is e = let l : Label = record { serial = serial; cylinders = (number_of bytes) } in ap (λ (k : Label). holds_cylinders device_length k.cylinders) (sym (same_Some l label e)) ∙ is
     by_room serial false is e = absurd cc
 
-    by_name : (o : Option (List ℕ)) → with_serial device_length o (number_of bytes) ≡ Some label → has_room device_length label.cylinders ≡ true
+    by_name : (o : Option (List ℕ)) → with_serial device_length o (number_of bytes) ≡ Some label → holds_cylinders device_length label.cylinders ≡ true
     by_name None e = absurd cc
-    by_name (Some serial) e = by_room serial (has_room device_length (number_of bytes)) refl e
+    by_name (Some serial) e = by_room serial (holds_cylinders device_length (number_of bytes)) refl e
 
-    choose : (t : Bool) → cond t (with_serial device_length (name_in 6 (slice_range bytes 4 10)) (number_of bytes)) None ≡ Some label → has_room device_length label.cylinders ≡ true
+    choose : (t : Bool) → cond t (with_serial device_length (name_in 6 (slice_range bytes 4 10)) (number_of bytes)) None ≡ Some label → holds_cylinders device_length label.cylinders ≡ true
     choose true e = by_name (name_in 6 (slice_range bytes 4 10)) e
     choose false e = absurd cc
 

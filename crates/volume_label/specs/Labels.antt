@@ -6,12 +6,12 @@ use Rattle.tod_stamp.specs.Names.{serial_field, name_in}
 use Rattle.volume_label.specs.declared.label.Label.{Label}
 
 -- how many bytes a device with so many cylinders needs
-abbrev pub need : (cylinders : ℕ) → ℕ
-need cylinders = FIRST_SLOT + cylinders * CYLINDER_LENGTH
+abbrev pub volume_need : (cylinders : ℕ) → ℕ
+volume_need cylinders = FIRST_SLOT + cylinders * CYLINDER_LENGTH
 
 -- There is a cylinder, and a device of this length has room for all of them.
-abbrev pub has_room : (device_length cylinders : ℕ) → Bool
-has_room device_length cylinders = nat_le 1 cylinders && nat_le (need cylinders) device_length
+abbrev pub holds_cylinders : (device_length cylinders : ℕ) → Bool
+holds_cylinders device_length cylinders = nat_le 1 cylinders && nat_le (volume_need cylinders) device_length
 
 -- mark, serial and cylinders
 abbrev pub label_spelling : Label → List ℕ
@@ -19,7 +19,7 @@ label_spelling label = codes "XVOL" ++ serial_field label.serial ++ to_be_bytes 
 
 abbrev pub with_serial : (device_length : ℕ) → Option (List ℕ) → (cylinders : ℕ) → Option Label
 with_serial device_length None cylinders = None
-with_serial device_length (Some serial) cylinders = if has_room device_length cylinders then Some (record { serial = serial; cylinders = cylinders }) else None
+with_serial device_length (Some serial) cylinders = if holds_cylinders device_length cylinders then Some (record { serial = serial; cylinders = cylinders }) else None
 
 -- the label that 14 bytes at the front of a device of this length are
 abbrev pub label_of : (device_length : ℕ) → List ℕ → Option Label

@@ -3,13 +3,13 @@ use Rattle.std.specs.Prelude.{◌≡◌, ◌<◌, ◌^◌, ℕ, List, Some, IsTr
 use Rattle.tod_stamp.specs.Fields.{IsBytes}
 use Rattle.tod_stamp.specs.Names.{is_serial}
 use Rattle.volume_label.specs.declared.label.Label.{Label}
-use Rattle.volume_label.specs.Labels.{has_room, label_of, label_spelling}
+use Rattle.volume_label.specs.Labels.{holds_cylinders, label_of, label_spelling}
 
 -- What every label keeps by its types, and that a device of this length has room for its cylinders.
 pub record IsValid (device_length : ℕ) (label : Label) : Type 0 where
   pub serial : IsTrue (is_serial label.serial)
   pub fits : label.cylinders < 2 ^ 32
-  pub room : IsTrue (has_room device_length label.cylinders)
+  pub room : IsTrue (holds_cylinders device_length label.cylinders)
 
 -- What a valid label spells is read again.
 abbrev pub LabelsReadBack : Type 0

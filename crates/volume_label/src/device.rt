@@ -6,7 +6,7 @@ ghost use Rattle.crash_plant.specs.declared.device.Device.TheVariants.{Volume};
 ghost use Rattle.crash_plant.specs.Bytes.{patched, Torn};
 ghost use Rattle.crash_plant.specs.Moments.{on, Follows, IsDurable, Same};
 ghost use Rattle.crash_plant.specs.Calls.{IsThere, WorksOn};
-ghost use Rattle.volume_label.specs.Labels.{has_room, label_of, label_spelling};
+ghost use Rattle.volume_label.specs.Labels.{holds_cylinders, label_of, label_spelling};
 
 use crate::label::{LENGTH, Label, decode_label, encode_label};
 use crash_plant::{Device, Plant};
@@ -20,7 +20,7 @@ pub fn read_label<P: Plant>(plant: &mut P, device: u16) -> Result<Option<Label>,
     // One of fewer than 14 bytes has none, and isn't called.
     ensures short { (P.state plant.old).lengths (Volume device) < 14 → (result ≡ Ok None) × (plant.new ≡ plant.old) }
     // Whatever a read gave, the device has room for the label's cylinders.
-    ensures room { IfOk result (λ label. IfSome label (λ l. IsTrue (has_room ((P.state plant.old).lengths (Volume device)) l.cylinders))) }
+    ensures room { IfOk result (λ label. IfSome label (λ l. IsTrue (holds_cylinders ((P.state plant.old).lengths (Volume device)) l.cylinders))) }
     // What a read gives stays, and a crash leaves nothing that it couldn't leave before; all else is as before.
     ensures same { P.tells → (P.state plant.new).bytes (Volume device) ≡ (P.state plant.old).bytes (Volume device) }
     ensures moments { P.tells → Follows Same (on (P.state plant.old) (Volume device)) (on (P.state plant.new) (Volume device)) }
@@ -49,7 +49,7 @@ pub fn write_label<P: Plant>(plant: &mut P, device: u16, label: &Label) -> Resul
     ensures begins { P.tells → OnOk result (take 14 ((P.state plant.new).bytes (Volume device)) ≡ label_spelling label.now) }
     ensures durable { P.tells → OnOk result (IsDurable (on (P.state plant.new) (Volume device))) }
     // A valid one is read there again.
-    ensures stands { P.tells → IsTrue (has_room ((P.state plant.old).lengths (Volume device)) label.now.cylinders) → OnOk result (label_of ((P.state plant.new).lengths (Volume device)) (take 14 ((P.state plant.new).bytes (Volume device))) ≡ Some label.now) }
+    ensures stands { P.tells → IsTrue (holds_cylinders ((P.state plant.old).lengths (Volume device)) label.now.cylinders) → OnOk result (label_of ((P.state plant.new).lengths (Volume device)) (take 14 ((P.state plant.new).bytes (Volume device))) ≡ Some label.now) }
     ensures only { WorksOn P.tells (λ d. d ≡ Volume device) (P.state plant.old) (P.state plant.new) }
     ensures cause { HasCause ((P.state plant.old).faults (Volume device)) ((P.state plant.new).faults (Volume device)) result }
 {

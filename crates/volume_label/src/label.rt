@@ -3,7 +3,7 @@
 ghost use Rattle.std.specs.Prelude.{◌≡◌, ◌<◌, ◌^◌, length, take, drop, codes, bytes_eq, IsTrue};
 ghost use Rattle.std.specs.Int.{w32, from_be_bytes, to_be_bytes};
 ghost use Rattle.tod_stamp.specs.Names.{is_serial};
-ghost use Rattle.volume_label.specs.Labels.{has_room, label_of, label_spelling, need};
+ghost use Rattle.volume_label.specs.Labels.{holds_cylinders, label_of, label_spelling, volume_need};
 
 use ckd_track::{CYLINDER_LENGTH, FIRST_SLOT};
 use tod_stamp::Serial;
@@ -20,14 +20,14 @@ pub(crate) const LENGTH: usize = 14;
 
 /// How many bytes a device with so many cylinders needs: those before the first slot, and the slots of each cylinder.
 pub fn need(cylinders: u32) -> u64
-    ensures { result ≡ need cylinders }
+    ensures { result ≡ volume_need cylinders }
 {
     FIRST_SLOT + u64::from(cylinders) * CYLINDER_LENGTH
 }
 
 /// Whether there is a cylinder, and a device of this length has room for all of them.
 fn has_room(device_length: u64, cylinders: u32) -> bool
-    ensures { result ≡ has_room device_length cylinders }
+    ensures { result ≡ holds_cylinders device_length cylinders }
 {
     cylinders >= 1 && need(cylinders) <= device_length
 }

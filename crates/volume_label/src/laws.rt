@@ -2,12 +2,8 @@
 
 ghost use Rattle.volume_label.specs.Laws.{LabelsAreSpelled, LabelsReadBack};
 
-/// What a valid label spells is read again.
+/// What a valid label spells is read again, and what is read as a label is valid and was spelled so.
 pub fn labels_read_back()
-    ensures { LabelsReadBack }
-{}
-
-/// What is read as a label is valid, and was spelled so.
-pub fn labels_are_spelled()
-    ensures { LabelsAreSpelled }
+    ensures back { LabelsReadBack }
+    ensures spelled { LabelsAreSpelled }
 {}

@@ -7,4 +7,4 @@ mod laws;
 
 pub use device::{read_label, write_label};
 pub use label::{Label, decode_label, encode_label, need};
-pub use laws::{labels_are_spelled, labels_read_back};
+pub use laws::labels_read_back;

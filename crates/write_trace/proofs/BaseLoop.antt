@@ -13,14 +13,14 @@ use Rattle.write_trace.specs.declared.header.VolumeHead.{VolumeHead}
 use Rattle.write_trace.specs.declared.header.Header.{Header}
 use Rattle.write_trace.specs.declared.trace.HeaderError.{HeaderError}
 use Rattle.write_trace.specs.declared.trace.HeaderError.TheVariants.{BadHeader, HeaderFault, NoMemory}
-use Rattle.write_trace.specs.Headers.{Base, mark, is_mark, tracks_of, has_track, is_from, are_volumes, are_bases, is_header_of, version_at, volumes_at, base_at, bases_at, header_at}
+use Rattle.write_trace.specs.Headers.{Base, mark, is_mark, tracks_of, is_track_of, is_from, are_volumes, are_bases, is_header_of, version_at, volumes_at, base_at, bases_at, header_at}
 use Rattle.write_trace.specs.Good.{whole_trace}
 use Rattle.write_trace.proofs.FieldSteps.{and_true}
 use Rattle.write_trace.specs.Unread.{unread, seen}
 use Rattle.write_trace.specs.Answers.{ReaderState}
 use Rattle.write_trace.specs.Starts.{ReadsHeader, Starts}
-use Rattle.write_trace.specs.Reached.{Reader, Reach, Reached, ReadsPart}
-use Rattle.write_trace.specs.HeaderParts.{head_at}
+use Rattle.write_trace.specs.Reached.{Reader, ReachesHeader, Reached, ReadsPart}
+use Rattle.write_trace.specs.HeaderParts.{header_front_at}
 use Rattle.write_trace.proofs.HeaderSteps.{bytes_keep}
 
 -- readers that give the same
@@ -113,7 +113,7 @@ KeepsFront volumes low front = (rest : List Base) → are_bases volumes low rest
 pub keeps_none : (volumes : List VolumeHead) (front : List Base) → front ≡ [] → KeepsFront volumes (0, 0) front
 keeps_none volumes front none rest is = ap (λ (f : List Base). are_bases volumes (0, 0) (f ++ rest)) none ∙ is
 
-pub keeps_next : (volumes : List VolumeHead) (low : ℕ × ℕ) (front : List Base) (b : Base) → has_track volumes b.0 b.1 ≡ true → is_from low (b.0, b.1) ≡ true → IsTrack b.2 → KeepsFront volumes low front → KeepsFront volumes (b.0, b.1 + 1) (front ++ b ∷ [])
+pub keeps_next : (volumes : List VolumeHead) (low : ℕ × ℕ) (front : List Base) (b : Base) → is_track_of volumes b.0 b.1 ≡ true → is_from low (b.0, b.1) ≡ true → IsTrack b.2 → KeepsFront volumes low front → KeepsFront volumes (b.0, b.1 + 1) (front ++ b ∷ [])
 keeps_next volumes low front b there from track keeps rest is =
     ap (are_bases volumes (0, 0)) (append_assoc front (b ∷ []) rest) ∙ keeps (b ∷ rest) (and_true _ _ (and_true _ _ (and_true _ _ there from) track) is)
 
@@ -170,13 +170,13 @@ mark_part (Ok x) first = ap (λ v. behind_mark v x.1) (first x refl) ∙ count_p
 mark_part (Err e) first = refl
 
 -- A header is its head, and then its base tracks.
-pub header_parts : (left : Left) → header_at 1 left ≡ (head_at left >>= behind_head)
-unfolding header_at head_at
+pub header_parts : (left : Left) → header_at 1 left ≡ (header_front_at left >>= behind_head)
+unfolding header_at header_front_at
 header_parts left = mark_part (version_at 1 left) (mark_is_first left)
 
 -- At the start nothing was given, and all remains.
-pub at_start : (before : Option (List ℕ)) (held : Left) → held ≡ record { place = 0; bytes = [] } → Reached before before (λ left. head_at left >>= behind_head) held
-at_start before held is bytes told = subst (λ (l : Left). Reach before (λ left. head_at left >>= behind_head) l bytes) (sym is) (record {
+pub at_start : (before : Option (List ℕ)) (held : Left) → held ≡ record { place = 0; bytes = [] } → Reached before before (λ left. header_front_at left >>= behind_head) held
+at_start before held is bytes told = subst (λ (l : Left). ReachesHeader before (λ left. header_front_at left >>= behind_head) l bytes) (sym is) (record {
   left = bytes;
   told = told;
   given = [];

@@ -11,7 +11,7 @@ use Rattle.tod_stamp.proofs.NameLaws.{fields_back, length-name_field}
 use Rattle.ckd_track.specs.Tracks.{is_track}
 use Rattle.ckd_track.specs.Images.{image}
 use Rattle.write_trace.specs.declared.header.VolumeHead.{VolumeHead}
-use Rattle.write_trace.specs.Headers.{Base, cylinder_width, most_cylinders, mark, tracks_of, has_track, place_spelling, volume_spelling, base_spelling, header_spelling, are_volumes, is_from, are_bases, is_mark, version_at, is_new_serial, volume_at, volumes_at, base_at, bases_at, header_at}
+use Rattle.write_trace.specs.Headers.{Base, cylinder_width, most_cylinders, mark, tracks_of, is_track_of, place_spelling, volume_spelling, base_spelling, header_spelling, are_volumes, is_from, are_bases, is_mark, version_at, is_new_serial, volume_at, volumes_at, base_at, bases_at, header_at}
 use Rattle.write_trace.specs.Laws.{HeadersReadBack}
 use Rattle.write_trace.proofs.FieldSteps.{both_true, and_true, cylinder_limit, cylinder_wide}
 use Rattle.write_trace.proofs.FieldsAgain.{in_limit, FirstVolume, first_volume, place_again, image_back}
@@ -51,12 +51,12 @@ volumes_again version place seen (v ∷ volumes) rest are =
 -- ---- base tracks
 
 base_again : (version place : ℕ) (volumes : List VolumeHead) (low : ℕ × ℕ) (b : Base) (rest : List ℕ) → length volumes ≤ 32 → are_volumes version [] volumes ≡ true
-    → (has_track volumes b.0 b.1 && is_from low (b.0, b.1) && is_track b.2) ≡ true
+    → (is_track_of volumes b.0 b.1 && is_from low (b.0, b.1) && is_track b.2) ≡ true
     → base_at version volumes low (at_place place (base_spelling version b ++ rest)) ≡ Ok (b, at_place (place + length (base_spelling version b)) rest)
 unfolding base_at
 base_again version place volumes low b rest few are kept =
-    let c = both_true (has_track volumes b.0 b.1 && is_from low (b.0, b.1)) (is_track b.2) kept in
-    let d = both_true (has_track volumes b.0 b.1) (is_from low (b.0, b.1)) c.0 in
+    let c = both_true (is_track_of volumes b.0 b.1 && is_from low (b.0, b.1)) (is_track b.2) kept in
+    let d = both_true (is_track_of volumes b.0 b.1) (is_from low (b.0, b.1)) c.0 in
     let spot = place_spelling version b.0 b.1 in
     let one = place_again version place volumes b.0 b.1 (image b.2 ++ rest) few are d.0 in
     let two = image_back (place + length spot) b.2 rest c.1 in
@@ -68,7 +68,7 @@ bases_again : (version place : ℕ) (volumes : List VolumeHead) (low : ℕ × �
 unfolding bases_at
 bases_again version place volumes low [] rest few are kept = ap (λ n. Ok ([], at_place n rest)) (omega arith)
 bases_again version place volumes low (b ∷ base) rest few are kept =
-    let a = both_true (has_track volumes b.0 b.1 && is_from low (b.0, b.1) && is_track b.2) (are_bases volumes (b.0, b.1 + 1) base) kept in
+    let a = both_true (is_track_of volumes b.0 b.1 && is_from low (b.0, b.1) && is_track b.2) (are_bases volumes (b.0, b.1 + 1) base) kept in
     let text = flat_map (base_spelling version) base in
     let first = base_again version place volumes low b (text ++ rest) few are a.0 in
     let others = bases_again version (place + length (base_spelling version b)) volumes (b.0, b.1 + 1) base rest few are a.1 in

@@ -9,7 +9,7 @@ use Rattle.tod_stamp.specs.Names.{is_serial}
 use Rattle.ckd_track.specs.Tracks.{is_track}
 use Rattle.write_trace.specs.declared.header.VolumeHead.{VolumeHead}
 use Rattle.write_trace.specs.declared.header.Header.{Header}
-use Rattle.write_trace.specs.Headers.{Base, cylinders_of, has_track, are_volumes, are_bases, is_from, is_header_of, most_cylinders}
+use Rattle.write_trace.specs.Headers.{Base, cylinders_of, is_track_of, are_volumes, are_bases, is_from, is_header_of, most_cylinders}
 use Rattle.write_trace.proofs.BaseCounts.{count_bases, few_tracks}
 use Rattle.write_trace.proofs.FieldSteps.{both_true}
 
@@ -44,9 +44,9 @@ record FirstBase (volumes : List VolumeHead) (low : ℕ × ℕ) (b : Base) (base
 
 first_base : (volumes : List VolumeHead) (low : ℕ × ℕ) (b : Base) (base : List Base) → are_bases volumes low (b ∷ base) ≡ true → FirstBase volumes low b base
 first_base volumes low b base is =
-    let a = both_true (has_track volumes b.0 b.1 && is_from low (b.0, b.1) && is_track b.2) (are_bases volumes (b.0, b.1 + 1) base) is in
-    let c = both_true (has_track volumes b.0 b.1 && is_from low (b.0, b.1)) (is_track b.2) a.0 in
-    let d = both_true (has_track volumes b.0 b.1) (is_from low (b.0, b.1)) c.0 in
+    let a = both_true (is_track_of volumes b.0 b.1 && is_from low (b.0, b.1) && is_track b.2) (are_bases volumes (b.0, b.1 + 1) base) is in
+    let c = both_true (is_track_of volumes b.0 b.1 && is_from low (b.0, b.1)) (is_track b.2) a.0 in
+    let d = both_true (is_track_of volumes b.0 b.1) (is_from low (b.0, b.1)) c.0 in
     let e = both_true (nat_lt b.0 (length volumes)) (nat_lt b.1 (15 * cylinders_of volumes b.0)) d.0 in
     record { track = ltb-true _ _ e.1; others = a.1 }
 
@@ -58,7 +58,7 @@ near_bases volumes low (b ∷ base) vs is =
     All-cons (λ (b : Base). b.1 < 15 * most_cylinders 1) b base (omega (arith, first.track, cylinders_below [] volumes b.0 vs)) (near_bases volumes (b.0, b.1 + 1) base vs first.others)
 
 -- a track of a volume has a number of three bytes
-pub near_track : (volumes : List VolumeHead) (volume track : ℕ) → are_volumes 1 [] volumes ≡ true → has_track volumes volume track ≡ true → track < 982800
+pub near_track : (volumes : List VolumeHead) (volume track : ℕ) → are_volumes 1 [] volumes ≡ true → is_track_of volumes volume track ≡ true → track < 982800
 near_track volumes volume track vs there =
     let e = both_true (nat_lt volume (length volumes)) (nat_lt track (15 * cylinders_of volumes volume)) there in
     omega (arith, ltb-true _ _ e.1, cylinders_below [] volumes volume vs)

@@ -14,7 +14,7 @@ use Rattle.ckd_track.specs.Tracks.{is_track}
 use Rattle.ckd_track.specs.Images.{image}
 use Rattle.write_trace.specs.declared.header.VolumeHead.{VolumeHead}
 use Rattle.write_trace.specs.declared.header.Header.{Header}
-use Rattle.write_trace.specs.Headers.{Base, cylinder_width, most_cylinders, mark, tracks_of, has_track, place_spelling, volume_spelling, base_spelling, header_spelling, are_volumes, is_from, are_bases, is_header_of, is_mark, version_at, is_new_serial, volume_at, volumes_at, place_at, image_field, base_at, bases_at, header_at}
+use Rattle.write_trace.specs.Headers.{Base, cylinder_width, most_cylinders, mark, tracks_of, is_track_of, place_spelling, volume_spelling, base_spelling, header_spelling, are_volumes, is_from, are_bases, is_header_of, is_mark, version_at, is_new_serial, volume_at, volumes_at, place_at, image_field, base_at, bases_at, header_at}
 use Rattle.write_trace.specs.Laws.{HeadersAreSpelled}
 use Rattle.write_trace.proofs.FieldSteps.{both_true, and_true, given_is, none_taken, cylinder_limit, cylinder_wide, place_takes, image_takes}
 
@@ -93,7 +93,7 @@ admit_ok false d x y e = absurd cc
 -- what was read as a base track
 pub record BaseTaken (version : ℕ) (volumes : List VolumeHead) (low : ℕ × ℕ) (left : Left) (b : Base) (next : Left) : Type 0 where
   pub takes : Takes left (base_spelling version b) next
-  pub kept : (has_track volumes b.0 b.1 && is_from low (b.0, b.1) && is_track b.2) ≡ true
+  pub kept : (is_track_of volumes b.0 b.1 && is_from low (b.0, b.1) && is_track b.2) ≡ true
 
 pub base_takes : (version : ℕ) (volumes : List VolumeHead) (low : ℕ × ℕ) (left : Left) (b : Base) (next : Left) → IsBytes left.bytes → base_at version volumes low left ≡ Ok (b, next) → BaseTaken version volumes low left b next
 unfolding base_at
@@ -106,7 +106,7 @@ base_takes version volumes low left b next fits e =
     let track = image_takes one.0.1 two.0.0 two.0.1 place.0.rest_bytes may.1 in
     subst (λ (p : Base × Left). BaseTaken version volumes low left p.0 p.1) (given_is ((at.0, at.1, two.0.0), two.0.1) (b, next) two.2) (record {
       takes = Takes-then left (place_spelling version at.0 at.1) one.0.1 (image two.0.0) two.0.1 place.0 track.0;
-      kept = and_true (has_track volumes at.0 at.1 && is_from low at) (is_track two.0.0) (and_true (has_track volumes at.0 at.1) (is_from low at) place.1 may.0) track.1;
+      kept = and_true (is_track_of volumes at.0 at.1 && is_from low at) (is_track two.0.0) (and_true (is_track_of volumes at.0 at.1) (is_from low at) place.1 may.0) track.1;
     })
 
 -- what was read as so many base tracks
@@ -127,7 +127,7 @@ bases_take version volumes (suc count) low left base next fits e =
     let others = bases_take version volumes count (b.0, b.1 + 1) one.0.1 two.0.0 two.0.1 first.takes.rest_bytes two.1 in
     subst (λ (p : List Base × Left). BasesTaken version volumes (suc count) low left p.0 p.1) (given_is (b ∷ two.0.0, two.0.1) (base, next) two.2) (record {
       takes = Takes-then left (base_spelling version b) one.0.1 (flat_map (base_spelling version) two.0.0) two.0.1 first.takes others.takes;
-      kept = and_true (has_track volumes b.0 b.1 && is_from low (b.0, b.1) && is_track b.2) (are_bases volumes (b.0, b.1 + 1) two.0.0) first.kept others.kept;
+      kept = and_true (is_track_of volumes b.0 b.1 && is_from low (b.0, b.1) && is_track b.2) (are_bases volumes (b.0, b.1 + 1) two.0.0) first.kept others.kept;
       number = ap suc others.number;
     })
 

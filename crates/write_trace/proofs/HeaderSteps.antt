@@ -5,18 +5,17 @@ use Rattle.std.specs.Int.{Width, w16, w32, byte_len, from_be_bytes}
 use Rattle.std.specs.List.{list_any, list_all}
 use Rattle.std.proofs.lemmas.Bool.{ltb-false, eq-eqb}
 use Rattle.std.proofs.lemmas.List.{append-nil}
-use Rattle.tod_stamp.specs.Fields.{◌>>=◌, Left, Bad, after, bytes_at, number_at, within}
+use Rattle.tod_stamp.specs.Fields.{◌>>=◌, Left, Bad, after, bytes_at, number_at, within, any}
 use Rattle.tod_stamp.specs.Fields.Bad.{Cut, Broken}
 use Rattle.tod_stamp.specs.Names.{is_field, is_name, is_serial, before_spaces, name_in}
 use Rattle.tod_stamp.proofs.FieldLaws.{bind_ok, guard_ok, allow_ok}
 use Rattle.write_trace.specs.declared.header.VolumeHead.{VolumeHead}
-use Rattle.write_trace.specs.Entries.{any}
 use Rattle.write_trace.specs.Headers.{tracks_of, version_at, is_new_serial, volume_at, volumes_at, are_volumes}
 use Rattle.write_trace.proofs.FieldSteps.{both_true, and_true}
 use Rattle.write_trace.specs.declared.stop.Stop.{Stop}
 use Rattle.write_trace.specs.declared.stop.Stop.TheVariants as stops
-use Rattle.write_trace.specs.Gives.{Gives, Fails}
-use Rattle.write_trace.specs.HeaderParts.{seen_after, head_at}
+use Rattle.write_trace.specs.Gives.{GivesField, Fails}
+use Rattle.write_trace.specs.HeaderParts.{seen_after, header_front_at}
 
 -- ---- serials that were seen
 
@@ -186,8 +185,8 @@ volumes_keep (suc count) seen left x e =
     first_is a b e = cc
 
 -- a reader whose limit is equal to another
-pub same_most : (r : Result (ℕ × Left) Stop) (left : Left) (a b : ℕ) → a ≡ b → Gives (λ x. (x.0, x.1)) r (number_at w32 (λ n. nat_le n a) left) → Gives (λ x. (x.0, x.1)) r (number_at w32 (λ n. nat_le n b) left)
-same_most r left a b e h = subst (λ k. Gives (λ x. (x.0, x.1)) r (number_at w32 (λ n. nat_le n k) left)) e h
+pub same_most : (r : Result (ℕ × Left) Stop) (left : Left) (a b : ℕ) → a ≡ b → GivesField (λ x. (x.0, x.1)) r (number_at w32 (λ n. nat_le n a) left) → GivesField (λ x. (x.0, x.1)) r (number_at w32 (λ n. nat_le n b) left)
+same_most r left a b e h = subst (λ k. GivesField (λ x. (x.0, x.1)) r (number_at w32 (λ n. nat_le n k) left)) e h
 
 -- ---- the head as a whole
 
@@ -195,16 +194,16 @@ abbrev many_at : List VolumeHead → Left → Result (ℕ × Left) Bad
 many_at volumes left = number_at w32 (λ n. nat_le n (sum_by tracks_of volumes)) left
 
 head_then : (left marked counted behind : Left) (count : ℕ) (volumes : List VolumeHead) → version_at 1 left ≡ Ok (1, marked) → number_at w16 (within 1 32) marked ≡ Ok (count, counted) → volumes_at 1 count [] counted ≡ Ok (volumes, behind)
-    → head_at left ≡ (many_at volumes behind >>= λ many. Ok ((volumes, many.0), many.1))
-unfolding head_at
+    → header_front_at left ≡ (many_at volumes behind >>= λ many. Ok ((volumes, many.0), many.1))
+unfolding header_front_at
 head_then left marked counted behind count volumes a b c = rw (a, b, c) refl
 
 pub head_read : (left marked counted behind next : Left) (count many : ℕ) (volumes : List VolumeHead) → version_at 1 left ≡ Ok (1, marked) → number_at w16 (within 1 32) marked ≡ Ok (count, counted) → volumes_at 1 count [] counted ≡ Ok (volumes, behind)
-    → number_at w32 (λ n. nat_le n (sum_by tracks_of volumes)) behind ≡ Ok (many, next) → head_at left ≡ Ok ((volumes, many), next)
+    → number_at w32 (λ n. nat_le n (sum_by tracks_of volumes)) behind ≡ Ok (many, next) → header_front_at left ≡ Ok ((volumes, many), next)
 head_read left marked counted behind next count many volumes a b c d = head_then left marked counted behind count volumes a b c ∙ ap (λ (r : Result (ℕ × Left) Bad). r >>= λ many. Ok ((volumes, many.0), many.1)) d
 
 pub head_fails : (stop : Stop) (left marked counted behind : Left) (count : ℕ) (volumes : List VolumeHead) → version_at 1 left ≡ Ok (1, marked) → number_at w16 (within 1 32) marked ≡ Ok (count, counted) → volumes_at 1 count [] counted ≡ Ok (volumes, behind)
-    → Fails stop (number_at w32 (λ n. nat_le n (sum_by tracks_of volumes)) behind) → Fails stop (head_at left)
+    → Fails stop (number_at w32 (λ n. nat_le n (sum_by tracks_of volumes)) behind) → Fails stop (header_front_at left)
 head_fails stops.Memory left marked counted behind count volumes a b c d = tt
 head_fails (stops.Cut place) left marked counted behind count volumes a b c d = head_then left marked counted behind count volumes a b c ∙ ap (λ (r : Result (ℕ × Left) Bad). r >>= λ many. Ok ((volumes, many.0), many.1)) d
 head_fails (stops.Broken place) left marked counted behind count volumes a b c d = head_then left marked counted behind count volumes a b c ∙ ap (λ (r : Result (ℕ × Left) Bad). r >>= λ many. Ok ((volumes, many.0), many.1)) d

@@ -13,7 +13,7 @@ use Rattle.write_trace.specs.declared.trace.HeaderError.{HeaderError}
 use Rattle.write_trace.specs.Headers.{header_spelling, are_volumes, are_bases, is_header_of, header_at}
 use Rattle.write_trace.specs.Entries.{entry_spelling}
 use Rattle.write_trace.specs.Good.{most_bytes, whole_trace, bad_start, entries_from, after_header, trace_of}
-use Rattle.write_trace.specs.Laws.{BeginsWith, EntriesAreLongest, TracesAreFound}
+use Rattle.write_trace.specs.Laws.{BeginsWithEntries, EntriesAreLongest, TracesAreFound}
 use Rattle.write_trace.proofs.FieldSteps.{both_true}
 use Rattle.write_trace.proofs.HeaderReads.{header_takes}
 use Rattle.write_trace.proofs.HeaderAgain.{headers_back}
@@ -55,7 +55,7 @@ same_trace a b e = cc
 -- ---- the entries that are read follow
 
 begins_behind : (failed : Bool) (given : List ℕ) (h : Header) (left : Left) → IsBytes given → header_at 1 (whole_trace given) ≡ Ok (h, left)
-    → BeginsWith given h (trace_behind failed given (h, left)).entries
+    → BeginsWithEntries given h (trace_behind failed given (h, left)).entries
 begins_behind failed given h left fits e =
     let header = header_takes (whole_trace given) h left (IsBytes-take most_bytes given fits) e in
     let first = (header_volumes h header.kept).0 in
@@ -74,9 +74,9 @@ begins_behind failed given h left fits e =
       kept = row.kept;
     }
 
-begins_with : (failed : Bool) (given : List ℕ) (t : Trace) (r : Result (Header × Left) Bad) → IsBytes given → header_at 1 (whole_trace given) ≡ r → trace_with failed given r ≡ Ok t → BeginsWith given t.header t.entries
+begins_with : (failed : Bool) (given : List ℕ) (t : Trace) (r : Result (Header × Left) Bad) → IsBytes given → header_at 1 (whole_trace given) ≡ r → trace_with failed given r ≡ Ok t → BeginsWithEntries given t.header t.entries
 begins_with failed given t (Ok h) fits read e =
-    subst (λ (t : Trace). BeginsWith given t.header t.entries) (same_trace (trace_behind failed given h) t e) (begins_behind failed given h.0 h.1 fits read)
+    subst (λ (t : Trace). BeginsWithEntries given t.header t.entries) (same_trace (trace_behind failed given h) t e) (begins_behind failed given h.0 h.1 fits read)
 begins_with failed given t (Err bad) fits read e = absurd cc
 
 -- ---- no others do
@@ -89,7 +89,7 @@ record Found (failed : Bool) (given : List ℕ) (h : Header) (some : List Entry)
   more : List Entry
   entries : trace.entries ≡ some ++ more
 
-found : (failed : Bool) (given : List ℕ) (h : Header) (some : List Entry) → BeginsWith given h some → Found failed given h some
+found : (failed : Bool) (given : List ℕ) (h : Header) (some : List Entry) → BeginsWithEntries given h some → Found failed given h some
 found failed given h some begins =
     let text = flat_map (entry_spelling 1) some in
     let front = header_spelling h ++ text in

@@ -49,12 +49,6 @@ waits_more before now old new at same le start remains reached bytes told =
           ∙ ap (λ (t : List ℕ). remains (seen old.place t)) (sym (append_assoc old.bytes p.piece more) ∙ ap (λ (t : List ℕ). t ++ more) (sym p.longer)) ∙ ap (λ n. remains (seen n (new.bytes ++ more))) (sym at);
     }
 
-pub waits_not : (before : Option (List ℕ)) (old : Left) → Waits before before old old
-waits_not before old start remains reached = reached
-
-pub waits_then : (a b c : Option (List ℕ)) (old mid new : Left) → Waits a b old mid → Waits b c mid new → Waits a c old new
-waits_then a b c old mid new one two start remains reached = two start remains (one start remains reached)
-
 -- ---- a part that is read
 
 pub part_read : {A : Type 0} (part : Left → Result (A × Left) Bad) → IsSteady part → (start now : Option (List ℕ)) (remains : A × Left → Result (Header × Left) Bad) (old new : Left) (x : A)

@@ -11,10 +11,10 @@ use Rattle.write_trace.specs.declared.trace.TraceEnd.{TraceEnd}
 use Rattle.write_trace.specs.declared.trace.TraceEnd.TheVariants.{Ended, BadTrace, ReadFault}
 use Rattle.write_trace.specs.Headers.{are_volumes}
 use Rattle.write_trace.specs.Entries.{entry_spelling, is_entry, are_entries, entry_at}
-use Rattle.write_trace.specs.Good.{most_bytes, last_stamp, end_of, bad_end}
+use Rattle.write_trace.specs.Good.{most_bytes, last_entry_stamp, end_of, bad_end}
 use Rattle.write_trace.specs.declared.next.Stopped.TheVariants.{AtEnd}
 use Rattle.write_trace.specs.Unread.{unread, seen}
-use Rattle.write_trace.specs.Answers.{ReaderState, ReadsEntry, Answer, answer_of}
+use Rattle.write_trace.specs.Answers.{ReaderState, ReadsEntry, AnswersNext, answer_of}
 use Rattle.write_trace.specs.Steps.{next_of}
 use Rattle.write_trace.specs.Rests.{rest_of, IsRest, ReadsRest}
 use Rattle.write_trace.proofs.Looks.{nothing_ahead}
@@ -24,7 +24,7 @@ use Rattle.write_trace.proofs.Rows.{row, row_on, last_stamp_on, kept_on, row_is_
 
 pub record ReadSoFar (before now : Option (List ℕ)) (faults risen : ℕ) (old : ReaderState) (entries : List Entry) (r : ReaderState) : Type 0 where
   pub volumes : r.volumes ≡ old.volumes
-  pub last : r.last ≡ last_stamp old.last entries
+  pub last : r.last ≡ last_entry_stamp old.last entries
   pub goes_on : r.stopped ≡ None
   pub kept : are_entries old.volumes old.last entries ≡ true
   pub place : r.left.place ≡ old.left.place + length (row entries)
@@ -32,28 +32,16 @@ pub record ReadSoFar (before now : Option (List ℕ)) (faults risen : ℕ) (old 
   pub no_fault : risen ≡ faults
   pub spelled : (bytes : List ℕ) → unread old.left.bytes before ≡ Some bytes → (rest : List ℕ) × (unread r.left.bytes now ≡ Some rest) × (bytes ≡ row entries ++ rest)
 
-pub nothing_so_far : (now : Option (List ℕ)) (faults : ℕ) (r : ReaderState) → r.stopped ≡ None → ReadSoFar now now faults faults r [] r
-nothing_so_far now faults r going = record {
-  volumes = refl;
-  last = refl;
-  goes_on = going;
-  kept = refl;
-  place = omega arith;
-  within = omega arith;
-  no_fault = refl;
-  spelled = λ bytes told. (bytes, told, refl);
-}
-
-reads_one : (before now : Option (List ℕ)) (faults risen : ℕ) (old new : ReaderState) (e : Entry) → Answer before now faults risen old new (next_of e) → ReadsEntry before now old new e × (risen ≡ faults)
+reads_one : (before now : Option (List ℕ)) (faults risen : ℕ) (old new : ReaderState) (e : Entry) → AnswersNext before now faults risen old new (next_of e) → ReadsEntry before now old new e × (risen ≡ faults)
 reads_one before now faults risen old new (Written write) answer = answer
 reads_one before now faults risen old new (Idle stamp) answer = answer
 
-pub one_more : (before mid now : Option (List ℕ)) (faults risen rises : ℕ) (old r new : ReaderState) (entries : List Entry) (e : Entry) → ReadSoFar before mid faults risen old entries r → Answer mid now risen rises r new (next_of e)
+pub one_more : (before mid now : Option (List ℕ)) (faults risen rises : ℕ) (old r new : ReaderState) (entries : List Entry) (e : Entry) → ReadSoFar before mid faults risen old entries r → AnswersNext mid now risen rises r new (next_of e)
     → ReadSoFar before now faults rises old (entries ++ e ∷ []) new × (r.left.place < new.left.place) × (new.left.place ≤ most_bytes)
 one_more before mid now faults risen rises old r new entries e so_far answer =
     let one = reads_one mid now risen rises r new e answer in
     let reads = one.0 in
-    let is : is_entry old.volumes (last_stamp old.last entries) e ≡ true = rw (so_far.volumes, so_far.last) at reads.kept in
+    let is : is_entry old.volumes (last_entry_stamp old.last entries) e ≡ true = rw (so_far.volumes, so_far.last) at reads.kept in
     let long : length (row (entries ++ e ∷ [])) ≡ length (row entries) + length (entry_spelling 1 e) = ap length (row_on entries e) ∙ length-append (row entries) (entry_spelling 1 e) in (
       record {
         volumes = reads.volumes ∙ so_far.volumes;
@@ -98,8 +86,8 @@ end_fault given volumes last left place within cut = rw (cut, le-leb (length giv
 
 -- where no entry follows those that were read
 is_rest : (failed : Bool) (old : ReaderState) (entries : List Entry) (rest bytes : List ℕ) (bad : Bad) (end : TraceEnd) → length old.volumes ≤ 32 → are_volumes 1 [] old.volumes ≡ true → are_entries old.volumes old.last entries ≡ true
-    → length (row entries) ≤ most_bytes - old.left.place → bytes ≡ row entries ++ rest → entry_at 1 old.volumes (last_stamp old.last entries) (seen (old.left.place + length (row entries)) rest) ≡ Err bad
-    → ((given : List ℕ) → length given ≡ old.left.place + length (row entries) + length rest → end_of failed given 1 old.volumes (last_stamp old.last entries) (seen (old.left.place + length (row entries)) rest) ≡ end)
+    → length (row entries) ≤ most_bytes - old.left.place → bytes ≡ row entries ++ rest → entry_at 1 old.volumes (last_entry_stamp old.last entries) (seen (old.left.place + length (row entries)) rest) ≡ Err bad
+    → ((given : List ℕ) → length given ≡ old.left.place + length (row entries) + length rest → end_of failed given 1 old.volumes (last_entry_stamp old.last entries) (seen (old.left.place + length (row entries)) rest) ≡ end)
     → IsRest failed old bytes entries end
 is_rest failed old entries rest bytes bad end few are kept within spelled none ends =
     let all : rest_of old bytes ≡ (entries, seen (old.left.place + length (row entries)) rest) =
@@ -107,7 +95,7 @@ is_rest failed old entries rest bytes bad end few are kept within spelled none e
     record {
       good = ap (λ (read : List Entry × Left). read.0) all;
       ends = λ given len.
-          ap (λ (read : List Entry × Left). end_of failed given 1 old.volumes (last_stamp old.last entries) read.1) all
+          ap (λ (read : List Entry × Left). end_of failed given 1 old.volumes (last_entry_stamp old.last entries) read.1) all
           ∙ ends given (omega (arith, len, ap length spelled, length-append (row entries) rest));
     }
 
@@ -115,14 +103,14 @@ told_once : (a b : List ℕ) (told : Option (List ℕ)) → told ≡ Some a → 
 told_once a b told one two = let same : Some a ≡ Some b = sym one ∙ two in cc
 
 pub rest_is_read : (before mid now : Option (List ℕ)) (faults risen rises : ℕ) (old r new : ReaderState) (entries : List Entry) (end : TraceEnd) → ReadSoFar before mid faults risen old entries r → length old.volumes ≤ 32 → are_volumes 1 [] old.volumes ≡ true
-    → Answer mid now risen rises r new (answer_of (AtEnd end)) → ReadsRest before now faults rises old entries end
+    → AnswersNext mid now risen rises r new (answer_of (AtEnd end)) → ReadsRest before now faults rises old entries end
 rest_is_read before mid now faults risen rises old r new entries Ended so_far few are answer = (
   λ bytes told.
       let ahead = so_far.spelled bytes told in
       let nothing : ahead.0 ≡ [] = answer.0 ahead.0 ahead.1 in
       let spelled : bytes ≡ row entries ++ [] = ahead.2 ∙ ap (λ (t : List ℕ). row entries ++ t) nothing in
-      is_rest false old entries [] bytes (Cut (old.left.place + length (row entries))) Ended few are so_far.kept so_far.within spelled (nothing_ahead old.volumes (last_stamp old.last entries) (old.left.place + length (row entries)))
-      (λ given len. end_ended given old.volumes (last_stamp old.last entries) (seen (old.left.place + length (row entries)) []) (omega (arith, len))),
+      is_rest false old entries [] bytes (Cut (old.left.place + length (row entries))) Ended few are so_far.kept so_far.within spelled (nothing_ahead old.volumes (last_entry_stamp old.last entries) (old.left.place + length (row entries)))
+      (λ given len. end_ended given old.volumes (last_entry_stamp old.last entries) (seen (old.left.place + length (row entries)) []) (omega (arith, len))),
   answer.2 ∙ so_far.no_fault,
 )
 rest_is_read before mid now faults risen rises old r new entries (BadTrace place) so_far few are answer = (
@@ -133,7 +121,7 @@ rest_is_read before mid now faults risen rises old r new entries (BadTrace place
       let at : place ≡ old.left.place + length (row entries) = answer.0 ∙ so_far.place in
       is_rest false old entries ahead.0 bytes bad.1 (BadTrace place) few are so_far.kept so_far.within ahead.2 none
       (λ given len.
-      end_bad given old.volumes (last_stamp old.last entries) (seen (old.left.place + length (row entries)) ahead.0) bad.1 (λ same. bad.0 (empty ahead.0 (omega (arith, len, same)))) none
+      end_bad given old.volumes (last_entry_stamp old.last entries) (seen (old.left.place + length (row entries)) ahead.0) bad.1 (λ same. bad.0 (empty ahead.0 (omega (arith, len, same)))) none
       ∙ ap BadTrace (sym at)),
   answer.3 ∙ so_far.no_fault,
 )
@@ -151,7 +139,7 @@ rest_is_read before mid now faults risen rises old r new entries ReadFault so_fa
         row entries ++ held,
         ahead.2 ∙ ap (λ (t : List ℕ). row entries ++ t) (sym rest) ∙ sym (append_assoc (row entries) held left),
         is_rest true old entries held (row entries ++ held) (Cut fails.cut.0) ReadFault few are so_far.kept so_far.within refl cut
-            (λ given len. end_fault given old.volumes (last_stamp old.last entries) (seen (old.left.place + length (row entries)) held) fails.cut.0 (omega (arith, len, fails.within, fails.place, so_far.place)) cut),
+            (λ given len. end_fault given old.volumes (last_entry_stamp old.last entries) (seen (old.left.place + length (row entries)) held) fails.cut.0 (omega (arith, len, fails.within, fails.place, so_far.place)) cut),
       ),
   subst (λ n. Rose n rises) so_far.no_fault answer.2,
 )

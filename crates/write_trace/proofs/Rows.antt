@@ -9,7 +9,7 @@ use Rattle.write_trace.specs.declared.header.VolumeHead.{VolumeHead}
 use Rattle.write_trace.specs.declared.entry.Entry.{Entry}
 use Rattle.write_trace.specs.Headers.{are_volumes}
 use Rattle.write_trace.specs.Entries.{entry_spelling, stamp_of, is_entry, are_entries, entry_at}
-use Rattle.write_trace.specs.Good.{most_bytes, entries_from, last_stamp}
+use Rattle.write_trace.specs.Good.{most_bytes, entries_from, last_entry_stamp}
 use Rattle.write_trace.proofs.FieldSteps.{both_true, and_true}
 use Rattle.write_trace.proofs.EntryAgain.{entries_back}
 use Rattle.write_trace.proofs.EntryRows.{row_length}
@@ -25,11 +25,11 @@ pub row_on : (entries : List Entry) (e : Entry) → row (entries ++ e ∷ []) �
 row_on [] e = append-nil (entry_spelling 1 e)
 row_on (first ∷ entries) e = ap (λ (t : List ℕ). entry_spelling 1 first ++ t) (row_on entries e) ∙ sym (append_assoc (entry_spelling 1 first) (row entries) (entry_spelling 1 e))
 
-pub last_stamp_on : (last : ℕ) (entries : List Entry) (e : Entry) → last_stamp last (entries ++ e ∷ []) ≡ stamp_of e
+pub last_stamp_on : (last : ℕ) (entries : List Entry) (e : Entry) → last_entry_stamp last (entries ++ e ∷ []) ≡ stamp_of e
 last_stamp_on last [] e = refl
 last_stamp_on last (first ∷ entries) e = last_stamp_on (stamp_of first) entries e
 
-pub kept_on : (volumes : List VolumeHead) (last : ℕ) (entries : List Entry) (e : Entry) → are_entries volumes last entries ≡ true → is_entry volumes (last_stamp last entries) e ≡ true → are_entries volumes last (entries ++ e ∷ []) ≡ true
+pub kept_on : (volumes : List VolumeHead) (last : ℕ) (entries : List Entry) (e : Entry) → are_entries volumes last entries ≡ true → is_entry volumes (last_entry_stamp last entries) e ≡ true → are_entries volumes last (entries ++ e ∷ []) ≡ true
 kept_on volumes last [] e kept is = and_true (is_entry volumes last e) true is refl
 kept_on volumes last (first ∷ entries) e kept is =
     let parts = both_true (is_entry volumes last first) (are_entries volumes (stamp_of first) entries) kept in
@@ -59,7 +59,7 @@ abbrev behind_row : List Entry → List Entry × Left → List Entry × Left
 behind_row entries read = (entries ++ read.0, read.1)
 
 row_read : (entries : List Entry) (turns place last : ℕ) (volumes : List VolumeHead) (rest : List ℕ) → length volumes ≤ 32 → are_volumes 1 [] volumes ≡ true → are_entries volumes last entries ≡ true
-    → entries_from (length entries + turns) 1 volumes last (at_place place (row entries ++ rest)) ≡ behind_row entries (entries_from turns 1 volumes (last_stamp last entries) (at_place (place + length (row entries)) rest))
+    → entries_from (length entries + turns) 1 volumes last (at_place place (row entries ++ rest)) ≡ behind_row entries (entries_from turns 1 volumes (last_entry_stamp last entries) (at_place (place + length (row entries)) rest))
 row_read [] turns place last volumes rest few are kept =
     let k : 0 + turns ≡ turns = omega arith in
     let p : place ≡ place + 0 = omega arith in
@@ -76,7 +76,7 @@ row_read (e ∷ entries) turns place last volumes rest few are kept =
     ∙ ap (λ n. entries_from n 1 volumes last (at_place place (entry_spelling 1 e ++ behind))) k
     ∙ one_entry (length entries + turns) volumes last (at_place place (entry_spelling 1 e ++ behind)) (at_place next behind) e first
     ∙ ap (λ (read : List Entry × Left). (e ∷ read.0, read.1)) others
-    ∙ ap (λ n. behind_row (e ∷ entries) (entries_from turns 1 volumes (last_stamp (stamp_of e) entries) (at_place n rest))) p
+    ∙ ap (λ n. behind_row (e ∷ entries) (entries_from turns 1 volumes (last_entry_stamp (stamp_of e) entries) (at_place n rest))) p
 
 -- the first bytes of some text, and those that stand within a limit behind it
 front_within : (n : ℕ) (text rest : List ℕ) → length text ≤ n → take n (text ++ rest) ≡ text ++ take (n - length text) rest
@@ -86,7 +86,7 @@ front_within n text rest le =
 
 -- Where entries are spelled and no other follows them, they are all that are read.
 pub row_is_all : (entries : List Entry) (place last : ℕ) (volumes : List VolumeHead) (rest : List ℕ) (bad : Bad) → length volumes ≤ 32 → are_volumes 1 [] volumes ≡ true → are_entries volumes last entries ≡ true
-    → length (row entries) ≤ most_bytes - place → entry_at 1 volumes (last_stamp last entries) (seen (place + length (row entries)) rest) ≡ Err bad
+    → length (row entries) ≤ most_bytes - place → entry_at 1 volumes (last_entry_stamp last entries) (seen (place + length (row entries)) rest) ≡ Err bad
     → entries_from (length (seen place (row entries ++ rest)).bytes) 1 volumes last (seen place (row entries ++ rest)) ≡ (entries, seen (place + length (row entries)) rest)
 row_is_all entries place last volumes rest bad few are kept within none =
     let behind = take (most_bytes - place - length (row entries)) rest in
@@ -98,6 +98,6 @@ row_is_all entries place last volumes rest bad few are kept within none =
     ap (λ (t : List ℕ). entries_from (length t) 1 volumes last (at_place place t)) bytes
     ∙ ap (λ n. entries_from n 1 volumes last (at_place place (row entries ++ behind))) turns
     ∙ row_read entries more place last volumes behind few are kept
-    ∙ ap (λ (l : Left). behind_row entries (entries_from more 1 volumes (last_stamp last entries) l)) same
-    ∙ ap (behind_row entries) (no_entry more volumes (last_stamp last entries) (seen (place + length (row entries)) rest) bad none)
+    ∙ ap (λ (l : Left). behind_row entries (entries_from more 1 volumes (last_entry_stamp last entries) l)) same
+    ∙ ap (behind_row entries) (no_entry more volumes (last_entry_stamp last entries) (seen (place + length (row entries)) rest) bad none)
     ∙ ap (λ (t : List Entry). (t, seen (place + length (row entries)) rest)) (append-nil entries)

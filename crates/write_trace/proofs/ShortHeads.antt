@@ -11,7 +11,7 @@ use Rattle.write_trace.specs.Headers.{tracks_of, is_mark, is_new_serial, version
 use Rattle.write_trace.specs.Good.{most_bytes}
 use Rattle.write_trace.proofs.FieldSteps.{both_true}
 use Rattle.write_trace.specs.Unread.{seen}
-use Rattle.write_trace.specs.HeaderParts.{head_at}
+use Rattle.write_trace.specs.HeaderParts.{header_front_at}
 use Rattle.write_trace.proofs.Short.{IsShort, short_more, short_then, short_done, short_number, short_bytes, short_base, cut_is_short}
 
 short_version : IsShort 4 (version_at 1)
@@ -48,8 +48,8 @@ short_counted count few =
     (λ volumes. short_number w32 (λ n. nat_le n (sum_by tracks_of volumes)) 0 (λ many. Ok ((volumes, many.0), many.1)) (λ many ranged. short_done {A = List VolumeHead × ℕ} (volumes, many))))
 
 -- The longest head has 32 volumes.
-pub short_head : IsShort 266 head_at
-unfolding head_at
+pub short_head : IsShort 266 header_front_at
+unfolding header_front_at
 short_head =
     short_then 4 262 (version_at 1) (λ version. number_at w16 (within 1 32) version.1 >>= λ count. volumes_at 1 count.0 [] count.1 >>= λ volumes. many_at volumes.0 volumes.1 >>= λ many. Ok ((volumes.0, many.0), many.1)) short_version
     (λ version. short_number w16 (within 1 32) 260 (λ count. volumes_at 1 count.0 [] count.1 >>= λ volumes. many_at volumes.0 volumes.1 >>= λ many. Ok ((volumes.0, many.0), many.1))
@@ -64,8 +64,8 @@ has_room most part held place short le cut unfilled =
     let few = cut_is_short most part (seen held.place held.bytes) place short cut in
     omega (arith, few, length-take (most_bytes - held.place) held.bytes)
 
-pub head_has_room : (held : Left) (place : ℕ) → head_at (seen held.place held.bytes) ≡ Err (Cut place) → held.place + length held.bytes ≤ most_bytes → length held.bytes < 65536
-head_has_room held place = has_room 266 head_at held place short_head (omega arith)
+pub head_has_room : (held : Left) (place : ℕ) → header_front_at (seen held.place held.bytes) ≡ Err (Cut place) → held.place + length held.bytes ≤ most_bytes → length held.bytes < 65536
+head_has_room held place = has_room 266 header_front_at held place short_head (omega arith)
 
 pub base_has_room : (volumes : List VolumeHead) (low : ℕ × ℕ) (held : Left) (place : ℕ) → base_at 1 volumes low (seen held.place held.bytes) ≡ Err (Cut place) → held.place + length held.bytes ≤ most_bytes → length held.bytes < 65536
 base_has_room volumes low held place = has_room 56672 (base_at 1 volumes low) held place (short_base 1 volumes low) (omega arith)

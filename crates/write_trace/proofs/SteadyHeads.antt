@@ -6,7 +6,7 @@ use Rattle.tod_stamp.specs.Fields.{◌>>=◌, Left, Bad, bytes_at, number_at, wi
 use Rattle.tod_stamp.specs.Names.{before_spaces}
 use Rattle.write_trace.specs.declared.header.VolumeHead.{VolumeHead}
 use Rattle.write_trace.specs.Headers.{tracks_of, is_mark, is_new_serial, cylinder_width, most_cylinders, version_at, volume_at, volumes_at}
-use Rattle.write_trace.specs.HeaderParts.{head_at}
+use Rattle.write_trace.specs.HeaderParts.{header_front_at}
 use Rattle.write_trace.proofs.Steady.{IsSteady, steady_number, steady_bytes, steady_done, steady_then}
 use Rattle.write_trace.proofs.Forward.{IsForward, forward_number, forward_bytes, forward_done, forward_then}
 
@@ -50,16 +50,16 @@ forward_volumes version (suc count) seen =
 abbrev many_at : List VolumeHead → Left → Result (ℕ × Left) Bad
 many_at volumes left = number_at w32 (λ n. nat_le n (sum_by tracks_of volumes)) left
 
-pub steady_head : IsSteady head_at
-unfolding head_at
+pub steady_head : IsSteady header_front_at
+unfolding header_front_at
 steady_head =
     steady_then (version_at 1) (λ version. number_at w16 (within 1 32) version.1 >>= λ count. volumes_at 1 count.0 [] count.1 >>= λ volumes. many_at volumes.0 volumes.1 >>= λ many. Ok ((volumes.0, many.0), many.1)) (steady_version 1)
     (λ version. steady_then (number_at w16 (within 1 32)) (λ count. volumes_at 1 count.0 [] count.1 >>= λ volumes. many_at volumes.0 volumes.1 >>= λ many. Ok ((volumes.0, many.0), many.1)) (steady_number w16 (within 1 32))
     (λ count. steady_then (volumes_at 1 count []) (λ volumes. many_at volumes.0 volumes.1 >>= λ many. Ok ((volumes.0, many.0), many.1)) (steady_volumes 1 count [])
     (λ volumes. steady_then (many_at volumes) (λ many. Ok ((volumes, many.0), many.1)) (steady_number w32 (λ n. nat_le n (sum_by tracks_of volumes))) (λ many. steady_done (volumes, many)))))
 
-pub forward_head : IsForward head_at
-unfolding head_at
+pub forward_head : IsForward header_front_at
+unfolding header_front_at
 forward_head =
     forward_then (version_at 1) (λ version. number_at w16 (within 1 32) version.1 >>= λ count. volumes_at 1 count.0 [] count.1 >>= λ volumes. many_at volumes.0 volumes.1 >>= λ many. Ok ((volumes.0, many.0), many.1)) (forward_version 1)
     (λ version. forward_then (number_at w16 (within 1 32)) (λ count. volumes_at 1 count.0 [] count.1 >>= λ volumes. many_at volumes.0 volumes.1 >>= λ many. Ok ((volumes.0, many.0), many.1)) (forward_number w16 (within 1 32))

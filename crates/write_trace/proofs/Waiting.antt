@@ -7,24 +7,14 @@ use Rattle.write_trace.specs.declared.trace.TraceEnd.{TraceEnd}
 use Rattle.write_trace.specs.declared.trace.TraceEnd.TheVariants.{Ended, BadTrace, ReadFault}
 use Rattle.write_trace.specs.Entries.{entry_spelling, entry_at}
 use Rattle.write_trace.specs.Unread.{unread, seen}
-use Rattle.write_trace.specs.Answers.{ReaderState, ReadsEntry, Stops, Answer, answer_of}
-use Rattle.write_trace.specs.Steps.{TakesEntry, IsBroken, next_of, Waits, EndsSo}
+use Rattle.write_trace.specs.Answers.{ReaderState, ReadsEntry, Stops, AnswersNext, answer_of}
+use Rattle.write_trace.specs.Steps.{TakesEntry, IsBroken, next_of, Waits, EndsTrace}
 use Rattle.write_trace.specs.declared.next.Next.{Next}
 use Rattle.write_trace.specs.declared.next.Next.TheVariants as answers
 use Rattle.write_trace.specs.declared.next.Stopped.{Stopped}
 use Rattle.write_trace.specs.declared.next.Stopped.TheVariants.{AtEnd}
 use Rattle.write_trace.proofs.Ahead.{ahead_is, entry_ahead}
 use Rattle.write_trace.proofs.Looks.{bad_where_broken}
-
-pub waits_on : (a b c : Option (List ℕ)) (f g h : ℕ) (old mid new : ReaderState) → Waits a b f g old mid → Waits b c g h mid new → Waits a c f h old new
-waits_on a b c f g h old mid new one two = record {
-  volumes = two.volumes ∙ one.volumes;
-  last = two.last ∙ one.last;
-  stopped = two.stopped ∙ one.stopped;
-  place = two.place ∙ one.place;
-  same = two.same ∙ one.same;
-  no_fault = two.no_fault ∙ one.no_fault;
-}
 
 -- ---- one look at what is held, for all that is ahead
 
@@ -48,23 +38,23 @@ reads_entry now old new e going takes = record {
       );
 }
 
-pub answer_entry : (now : Option (List ℕ)) (faults : ℕ) (old new : ReaderState) (e : Entry) → old.stopped ≡ None → TakesEntry old new e → Answer now now faults faults old new (next_of e)
+pub answer_entry : (now : Option (List ℕ)) (faults : ℕ) (old new : ReaderState) (e : Entry) → old.stopped ≡ None → TakesEntry old new e → AnswersNext now now faults faults old new (next_of e)
 answer_entry now faults old new (Written write) going takes = (reads_entry now old new (Written write) going takes, refl)
 answer_entry now faults old new (Idle stamp) going takes = (reads_entry now old new (Idle stamp) going takes, refl)
 
 -- the answer of a reader that is stopped where the trace ends so
-pub answer_end : (before now : Option (List ℕ)) (faults risen : ℕ) (old mid new : ReaderState) (end : TraceEnd) → EndsSo before now faults risen old mid end → mid.volumes ≡ old.volumes → mid.last ≡ old.last
-    → new ≡ record { volumes = mid.volumes; last = mid.last; left = mid.left; stopped = Some (AtEnd end) } → Answer before now faults risen old new (answer_of (AtEnd end))
+pub answer_end : (before now : Option (List ℕ)) (faults risen : ℕ) (old mid new : ReaderState) (end : TraceEnd) → EndsTrace before now faults risen old mid end → mid.volumes ≡ old.volumes → mid.last ≡ old.last
+    → new ≡ record { volumes = mid.volumes; last = mid.last; left = mid.left; stopped = Some (AtEnd end) } → AnswersNext before now faults risen old new (answer_of (AtEnd end))
 answer_end before now faults risen old mid new end so volumes last is = rw is (choose end so)
   where
-    choose : (end : TraceEnd) → EndsSo before now faults risen old mid end → Answer before now faults risen old (record { volumes = mid.volumes; last = mid.last; left = mid.left; stopped = Some (AtEnd end) }) (answer_of (AtEnd end))
+    choose : (end : TraceEnd) → EndsTrace before now faults risen old mid end → AnswersNext before now faults risen old (record { volumes = mid.volumes; last = mid.last; left = mid.left; stopped = Some (AtEnd end) }) (answer_of (AtEnd end))
     choose Ended so = (so.0, record { volumes = volumes; last = last; stopped = refl }, so.1)
     choose (BadTrace place) so = (so.0, so.1, record { volumes = volumes; last = last; stopped = refl }, so.2)
     choose ReadFault so = (record { place = so.0.place; given = so.0.given; within = so.0.within; cut = so.0.cut }, record { volumes = volumes; last = last; stopped = refl }, so.1)
 
 -- the answer of a reader that is stopped where a field breaks its rule
 pub answer_broken : (now : Option (List ℕ)) (faults place : ℕ) (old mid new : ReaderState) → mid ≡ old → IsBroken old → place ≡ mid.left.place
-    → new ≡ record { volumes = mid.volumes; last = mid.last; left = mid.left; stopped = Some (AtEnd (BadTrace place)) } → Answer now now faults faults old new (answers.BadTrace place)
+    → new ≡ record { volumes = mid.volumes; last = mid.last; left = mid.left; stopped = Some (AtEnd (BadTrace place)) } → AnswersNext now now faults faults old new (answers.BadTrace place)
 answer_broken now faults place old mid new same broken at is =
     answer_end now now faults faults old mid new (BadTrace place) (at ∙ ap (λ (r : ReaderState). r.left.place) same, bad_where_broken now old broken, refl) (ap (λ (r : ReaderState). r.volumes) same) (ap (λ (r : ReaderState). r.last) same) is
 
@@ -86,7 +76,7 @@ entry_after a b c f g old mid new e w reads = record {
 stops_after : (a b : Option (List ℕ)) (f g : ℕ) (old mid new : ReaderState) (why : Stopped) → Waits a b f g old mid → Stops mid new why → Stops old new why
 stops_after a b f g old mid new why w stops = record { volumes = stops.volumes ∙ w.volumes; last = stops.last ∙ w.last; stopped = stops.stopped }
 
-pub answer_after : (a b c : Option (List ℕ)) (f g h : ℕ) (old mid new : ReaderState) (r : Next) → Waits a b f g old mid → Answer b c g h mid new r → Answer a c f h old new r
+pub answer_after : (a b c : Option (List ℕ)) (f g h : ℕ) (old mid new : ReaderState) (r : Next) → Waits a b f g old mid → AnswersNext b c g h mid new r → AnswersNext a c f h old new r
 answer_after a b c f g h old mid new (answers.Write write) w answer = (entry_after a b c f g old mid new _ w answer.0, answer.1 ∙ w.no_fault)
 answer_after a b c f g h old mid new (answers.Idle stamp) w answer = (entry_after a b c f g old mid new _ w answer.0, answer.1 ∙ w.no_fault)
 answer_after a b c f g h old mid new answers.Ended w answer = (λ bytes told. answer.0 bytes (w.same ∙ told), stops_after a b f g old mid new _ w answer.1, answer.2 ∙ w.no_fault)

@@ -69,10 +69,10 @@ pub record Stops (old new : ReaderState) (why : Stopped) : Type 0 where
   pub stopped : new.stopped ≡ Some why
 
 -- What a reader that goes on answers. The count of its source's faults rose only where the answer is a read fault.
-abbrev pub Answer : (before now : Option (List ℕ)) → (faults risen : ℕ) → (old new : ReaderState) → Next → Type 0
-Answer before now faults risen old new (answers.Write write) = ReadsEntry before now old new (Written write) × (risen ≡ faults)
-Answer before now faults risen old new (answers.Idle stamp) = ReadsEntry before now old new (Idle stamp) × (risen ≡ faults)
-Answer before now faults risen old new answers.Ended = EndsThere before old × Stops old new (AtEnd Ended) × (risen ≡ faults)
-Answer before now faults risen old new (answers.BadTrace place) = (place ≡ old.left.place) × IsBadThere before old × Stops old new (AtEnd (BadTrace place)) × (risen ≡ faults)
-Answer before now faults risen old new answers.ReadFault = FailsThere before now old new × Stops old new (AtEnd ReadFault) × Rose faults risen
-Answer before now faults risen old new answers.NoMemory = Stops old new NoMemory × (risen ≡ faults)
+abbrev pub AnswersNext : (before now : Option (List ℕ)) → (faults risen : ℕ) → (old new : ReaderState) → Next → Type 0
+AnswersNext before now faults risen old new (answers.Write write) = ReadsEntry before now old new (Written write) × (risen ≡ faults)
+AnswersNext before now faults risen old new (answers.Idle stamp) = ReadsEntry before now old new (Idle stamp) × (risen ≡ faults)
+AnswersNext before now faults risen old new answers.Ended = EndsThere before old × Stops old new (AtEnd Ended) × (risen ≡ faults)
+AnswersNext before now faults risen old new (answers.BadTrace place) = (place ≡ old.left.place) × IsBadThere before old × Stops old new (AtEnd (BadTrace place)) × (risen ≡ faults)
+AnswersNext before now faults risen old new answers.ReadFault = FailsThere before now old new × Stops old new (AtEnd ReadFault) × Rose faults risen
+AnswersNext before now faults risen old new answers.NoMemory = Stops old new NoMemory × (risen ≡ faults)

@@ -10,6 +10,6 @@ Fails stops.Memory read = Unit {0}
 Fails (stops.Cut place) read = read ≡ Err (Cut place)
 Fails (stops.Broken place) read = read ≡ Err (Broken place)
 
-abbrev pub Gives : {X Y : Type 0} → (X → Y) → Result X Stop → Result Y Bad → Type 0
-Gives view (Ok x) read = read ≡ Ok (view x)
-Gives view (Err e) read = Fails e read
+abbrev pub GivesField : {X Y : Type 0} → (X → Y) → Result X Stop → Result Y Bad → Type 0
+GivesField view (Ok x) read = read ≡ Ok (view x)
+GivesField view (Err e) read = Fails e read

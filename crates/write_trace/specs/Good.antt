@@ -50,15 +50,15 @@ end_of failed given version volumes last left =
     else bad_end failed given left.place (entry_at version volumes last left)
 
 -- the stamp of the last entry, where `last` stands before the first
-abbrev pub last_stamp : (last : ℕ) → List Entry → ℕ
-last_stamp last [] = last
-last_stamp last (e ∷ entries) = last_stamp (stamp_of e) entries
+abbrev pub last_entry_stamp : (last : ℕ) → List Entry → ℕ
+last_entry_stamp last [] = last
+last_entry_stamp last (e ∷ entries) = last_entry_stamp (stamp_of e) entries
 
 abbrev pub after_header : (failed : Bool) → List ℕ → Header → List Entry × Left → Trace
 after_header failed given h read = record {
   header = h;
   entries = read.0;
-  end = end_of failed given h.version h.volumes (last_stamp 0 read.0) read.1;
+  end = end_of failed given h.version h.volumes (last_entry_stamp 0 read.0) read.1;
 }
 
 -- The trace that was given, up to the newest version: its header and, by the longest row of good entries, its end.

@@ -12,8 +12,8 @@ seen_after seen [] = seen
 seen_after seen (v ∷ volumes) = seen_after (v.serial ∷ seen) volumes
 
 -- the head of a header of version 1: the mark, the volumes, and the number of base tracks
-unfoldable pub head_at : Left → Result ((List VolumeHead × ℕ) × Left) Bad
-head_at left = do
+unfoldable pub header_front_at : Left → Result ((List VolumeHead × ℕ) × Left) Bad
+header_front_at left = do
   version ← version_at 1 left
   count ← number_at w16 (within 1 MOST_VOLUMES) version.1
   volumes ← volumes_at 1 count.0 [] count.1

@@ -44,8 +44,8 @@ cylinders_of (v ∷ volumes) zero = v.cylinders
 cylinders_of (v ∷ volumes) (suc k) = cylinders_of volumes k
 
 -- whether there is a volume of that number with a track of that number
-abbrev pub has_track : List VolumeHead → (volume track : ℕ) → Bool
-has_track volumes volume track = nat_lt volume (length volumes) && nat_lt track (TRACKS_OF_CYLINDER * cylinders_of volumes volume)
+abbrev pub is_track_of : List VolumeHead → (volume track : ℕ) → Bool
+is_track_of volumes volume track = nat_lt volume (length volumes) && nat_lt track (TRACKS_OF_CYLINDER * cylinders_of volumes volume)
 
 -- ---- the spelling
 
@@ -79,7 +79,7 @@ is_from low at = nat_lt low.0 at.0 || (low.0 == at.0 && nat_le low.1 at.1)
 -- Base tracks rise by volume and track from the place `low` on, and each is a track of a volume.
 abbrev pub are_bases : List VolumeHead → (low : ℕ × ℕ) → List Base → Bool
 are_bases volumes low [] = true
-are_bases volumes low (b ∷ base) = has_track volumes b.0 b.1 && is_from low (b.0, b.1) && is_track b.2 && are_bases volumes (b.0, b.1 + 1) base
+are_bases volumes low (b ∷ base) = is_track_of volumes b.0 b.1 && is_from low (b.0, b.1) && is_track b.2 && are_bases volumes (b.0, b.1 + 1) base
 
 -- A header of this version has 1 to the most volumes and base tracks of theirs.
 abbrev pub is_header_of : (version : ℕ) → Header → Bool

@@ -36,7 +36,7 @@ EntriesAreSpelled = (version place last : ℕ) (volumes : List VolumeHead) (byte
 
 -- The bytes begin with this header and these entries: they keep the rules, and are spelled at the front, within the most bytes
 -- of a trace.
-pub record BeginsWith (given : List ℕ) (h : Header) (entries : List Entry) : Type 0 where
+pub record BeginsWithEntries (given : List ℕ) (h : Header) (entries : List Entry) : Type 0 where
   pub rest : List ℕ
   pub spelled : given ≡ header_spelling h ++ flat_map (entry_spelling 1) entries ++ rest
   pub within : length (header_spelling h ++ flat_map (entry_spelling 1) entries) ≤ most_bytes
@@ -45,8 +45,8 @@ pub record BeginsWith (given : List ℕ) (h : Header) (entries : List Entry) : T
 
 -- The bytes begin with them, and with no other header, and all entries that they begin with are the first of these.
 abbrev pub AreLongest : List ℕ → Header → List Entry → Type 0
-AreLongest given h entries = BeginsWith given h entries
-    × ((other : Header) (some : List Entry) → BeginsWith given other some → (other ≡ h) × ((more : List Entry) × (entries ≡ some ++ more)))
+AreLongest given h entries = BeginsWithEntries given h entries
+    × ((other : Header) (some : List Entry) → BeginsWithEntries given other some → (other ≡ h) × ((more : List Entry) × (entries ≡ some ++ more)))
 
 -- The entries of a trace are the longest row that its bytes begin with.
 abbrev pub EntriesAreLongest : Type 0
@@ -54,4 +54,4 @@ EntriesAreLongest = (failed : Bool) (given : List ℕ) (t : Trace) → IsBytes g
 
 -- Bytes that begin with a header are a trace.
 abbrev pub TracesAreFound : Type 0
-TracesAreFound = (failed : Bool) (given : List ℕ) (h : Header) → BeginsWith given h [] → (t : Trace) × (trace_of 1 failed given ≡ Ok t)
+TracesAreFound = (failed : Bool) (given : List ℕ) (h : Header) → BeginsWithEntries given h [] → (t : Trace) × (trace_of 1 failed given ≡ Ok t)

@@ -4,7 +4,6 @@ pub mod Entries
 pub mod Good
 pub mod Writes
 pub mod Laws
-pub mod Vectors
 pub mod Unread
 pub mod Gives
 pub mod Answers

@@ -17,7 +17,7 @@ Reader = Left → Result (Header × Left) Bad
 
 -- Of the bytes of a source that has these left, some were given. Whatever follows those, the header is what the reader
 -- gives from the bytes held on.
-pub record Reach (now : Option (List ℕ)) (remains : Reader) (held : Left) (bytes : List ℕ) : Type 0 where
+pub record ReachesHeader (now : Option (List ℕ)) (remains : Reader) (held : Left) (bytes : List ℕ) : Type 0 where
   pub left : List ℕ
   pub told : now ≡ Some left
   pub given : List ℕ
@@ -27,7 +27,7 @@ pub record Reach (now : Option (List ℕ)) (remains : Reader) (held : Left) (byt
 
 -- the same where the source told its bytes at the start
 abbrev pub Reached : (start now : Option (List ℕ)) → Reader → Left → Type 0
-Reached start now remains held = (bytes : List ℕ) → start ≡ Some bytes → Reach now remains held bytes
+Reached start now remains held = (bytes : List ℕ) → start ≡ Some bytes → ReachesHeader now remains held bytes
 
 -- ---- one piece more
 

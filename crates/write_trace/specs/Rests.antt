@@ -5,7 +5,7 @@ use Rattle.tod_stamp.specs.Fields.{Left}
 use Rattle.write_trace.specs.declared.entry.Entry.{Entry}
 use Rattle.write_trace.specs.declared.trace.TraceEnd.{TraceEnd}
 use Rattle.write_trace.specs.declared.trace.TraceEnd.TheVariants.{Ended, BadTrace, ReadFault}
-use Rattle.write_trace.specs.Good.{entries_from, end_of, last_stamp}
+use Rattle.write_trace.specs.Good.{entries_from, end_of, last_entry_stamp}
 use Rattle.write_trace.specs.Unread.{unread, seen}
 use Rattle.write_trace.specs.Answers.{ReaderState}
 
@@ -17,7 +17,7 @@ rest_of r bytes = let left = seen r.left.place bytes in entries_from (length lef
 -- bytes that were given.
 pub record IsRest (failed : Bool) (r : ReaderState) (bytes : List ℕ) (entries : List Entry) (end : TraceEnd) : Type 0 where
   pub good : (rest_of r bytes).0 ≡ entries
-  pub ends : (given : List ℕ) → length given ≡ r.left.place + length bytes → end_of failed given 1 r.volumes (last_stamp r.last entries) (rest_of r bytes).1 ≡ end
+  pub ends : (given : List ℕ) → length given ≡ r.left.place + length bytes → end_of failed given 1 r.volumes (last_entry_stamp r.last entries) (rest_of r bytes).1 ≡ end
 
 -- The rest of all bytes that are ahead.
 abbrev pub IsRestOfAll : (before : Option (List ℕ)) → ReaderState → List Entry → TraceEnd → Type 0

@@ -75,12 +75,12 @@ pub record Waits (before now : Option (List ℕ)) (faults risen : ℕ) (old new 
   pub no_fault : risen ≡ faults
 
 -- The trace ends so.
-abbrev pub EndsSo : (before now : Option (List ℕ)) → (faults risen : ℕ) → (old new : ReaderState) → TraceEnd → Type 0
-EndsSo before now faults risen old new Ended = EndsThere before old × (risen ≡ faults)
-EndsSo before now faults risen old new (BadTrace place) = (place ≡ old.left.place) × IsBadThere before old × (risen ≡ faults)
-EndsSo before now faults risen old new ReadFault = FailsThere before now old new × Rose faults risen
+abbrev pub EndsTrace : (before now : Option (List ℕ)) → (faults risen : ℕ) → (old new : ReaderState) → TraceEnd → Type 0
+EndsTrace before now faults risen old new Ended = EndsThere before old × (risen ≡ faults)
+EndsTrace before now faults risen old new (BadTrace place) = (place ≡ old.left.place) × IsBadThere before old × (risen ≡ faults)
+EndsTrace before now faults risen old new ReadFault = FailsThere before now old new × Rose faults risen
 
 -- A piece came, which the window has room for; or the trace ends, and the reader has still to be stopped.
 abbrev pub Continues : (before now : Option (List ℕ)) → (faults risen : ℕ) → (old new : ReaderState) → Option TraceEnd → Type 0
 Continues before now faults risen old new None = Waits before now faults risen old new × (length old.left.bytes < length new.left.bytes) × (length new.left.bytes ≤ 65536)
-Continues before now faults risen old new (Some end) = (new.volumes ≡ old.volumes) × (new.last ≡ old.last) × EndsSo before now faults risen old new end
+Continues before now faults risen old new (Some end) = (new.volumes ≡ old.volumes) × (new.last ≡ old.last) × EndsTrace before now faults risen old new end

@@ -2,8 +2,7 @@
 
 ghost use Rattle.std.specs.Prelude.{◌≡◌, ◌+◌, ◌-◌, ◌^◌, ◌≤◌, length, nat_lt, nat_le, ◌&&◌, ◌<◌, IfOk};
 ghost use Rattle.std.specs.Int.{w8, w16, w32, w64};
-ghost use Rattle.tod_stamp.specs.Fields.{Left, bytes_at, number_at, within};
-ghost use Rattle.write_trace.specs.Entries.{any};
+ghost use Rattle.tod_stamp.specs.Fields.{Left, bytes_at, number_at, within, any};
 
 use crate::stop::Stop;
 use byteorder::{BigEndian, ByteOrder};
@@ -25,7 +24,7 @@ impl<'a> Model for Cursor<'a> {
 }
 
 impl<'a> Cursor<'a> {
-    ghost use Rattle.write_trace.specs.Gives.{Gives};
+    ghost use Rattle.write_trace.specs.Gives.{GivesField};
 
     #[inline]
     pub fn new(place: u64, bytes: &'a [u8]) -> Cursor<'a>
@@ -64,7 +63,7 @@ impl<'a> Cursor<'a> {
     #[inline]
     #[tactic(auto, unfolding(tod_stamp::specs::Fields::bytes_at))]
     pub fn front(self, count: usize) -> Result<(&'a [u8], Cursor<'a>), Stop>
-        ensures reads { Gives (λ x. (x.0.now, x.1)) result (bytes_at count any self.entry) }
+        ensures reads { GivesField (λ x. (x.0.now, x.1)) result (bytes_at count any self.entry) }
         ensures long { IfOk result (λ x. length x.0.now ≡ count) }
     {
         if self.bytes.len() < count {
@@ -79,7 +78,7 @@ impl<'a> Cursor<'a> {
     #[inline]
     #[tactic(auto, unfolding(tod_stamp::specs::Fields::number_at, tod_stamp::specs::Fields::bytes_at))]
     pub fn any_byte(self) -> Result<(u8, Cursor<'a>), Stop>
-        ensures { Gives (λ x. (x.0, x.1)) result (number_at w8 any self.entry) }
+        ensures { GivesField (λ x. (x.0, x.1)) result (number_at w8 any self.entry) }
     {
         let (field, rest) = self.front(1)?;
         Ok((field[0], rest))
@@ -89,7 +88,7 @@ impl<'a> Cursor<'a> {
     #[inline]
     #[tactic(auto, unfolding(tod_stamp::specs::Fields::number_at, tod_stamp::specs::Fields::bytes_at))]
     pub fn byte(self, low: u8, high: u8) -> Result<(u8, Cursor<'a>), Stop>
-        ensures { Gives (λ x. (x.0, x.1)) result (number_at w8 (within low high) self.entry) }
+        ensures { GivesField (λ x. (x.0, x.1)) result (number_at w8 (within low high) self.entry) }
     {
         let place = self.place;
         let (field, rest) = self.front(1)?;
@@ -104,7 +103,7 @@ impl<'a> Cursor<'a> {
     #[inline]
     #[tactic(auto, unfolding(tod_stamp::specs::Fields::number_at, tod_stamp::specs::Fields::bytes_at))]
     pub fn number_below(self, limit: usize) -> Result<(u16, Cursor<'a>), Stop>
-        ensures reads { Gives (λ x. (x.0, x.1)) result (number_at w16 (λ n. nat_lt n limit) self.entry) }
+        ensures reads { GivesField (λ x. (x.0, x.1)) result (number_at w16 (λ n. nat_lt n limit) self.entry) }
         ensures below { IfOk result (λ x. x.0 < limit) }
     {
         let place = self.place;
@@ -120,7 +119,7 @@ impl<'a> Cursor<'a> {
     #[inline]
     #[tactic(auto, unfolding(tod_stamp::specs::Fields::number_at, tod_stamp::specs::Fields::bytes_at))]
     pub fn number_up_to(self, most: u16) -> Result<(u16, Cursor<'a>), Stop>
-        ensures { Gives (λ x. (x.0, x.1)) result (number_at w16 (λ n. nat_le n most) self.entry) }
+        ensures { GivesField (λ x. (x.0, x.1)) result (number_at w16 (λ n. nat_le n most) self.entry) }
     {
         let place = self.place;
         let (field, rest) = self.front(2)?;
@@ -135,7 +134,7 @@ impl<'a> Cursor<'a> {
     #[inline]
     #[tactic(auto, unfolding(tod_stamp::specs::Fields::number_at, tod_stamp::specs::Fields::bytes_at))]
     pub fn number_within(self, low: u16, high: u16) -> Result<(u16, Cursor<'a>), Stop>
-        ensures reads { Gives (λ x. (x.0, x.1)) result (number_at w16 (within low high) self.entry) }
+        ensures reads { GivesField (λ x. (x.0, x.1)) result (number_at w16 (within low high) self.entry) }
         ensures inside { IfOk result (λ x. (low ≤ x.0) × (x.0 ≤ high)) }
     {
         let place = self.place;
@@ -151,7 +150,7 @@ impl<'a> Cursor<'a> {
     #[inline]
     #[tactic(auto, unfolding(tod_stamp::specs::Fields::number_at, tod_stamp::specs::Fields::bytes_at))]
     pub fn long_up_to(self, most: u32) -> Result<(u32, Cursor<'a>), Stop>
-        ensures { Gives (λ x. (x.0, x.1)) result (number_at w32 (λ n. nat_le n most) self.entry) }
+        ensures { GivesField (λ x. (x.0, x.1)) result (number_at w32 (λ n. nat_le n most) self.entry) }
     {
         let place = self.place;
         let (field, rest) = self.front(4)?;
@@ -166,7 +165,7 @@ impl<'a> Cursor<'a> {
     #[inline]
     #[tactic(auto, unfolding(tod_stamp::specs::Fields::number_at, tod_stamp::specs::Fields::bytes_at))]
     pub fn stamp(self, last: u64) -> Result<(u64, Cursor<'a>), Stop>
-        ensures { Gives (λ x. (x.0, x.1)) result (number_at w64 (λ n. nat_le 1 n && nat_le last n) self.entry) }
+        ensures { GivesField (λ x. (x.0, x.1)) result (number_at w64 (λ n. nat_le 1 n && nat_le last n) self.entry) }
     {
         let place = self.place;
         let (field, rest) = self.front(8)?;

@@ -6,9 +6,10 @@ ghost use Rattle.tod_stamp.specs.Fields.{Left, number_at};
 ghost use Rattle.ckd_track.specs.declared.rec.Rec as records;
 ghost use Rattle.ckd_track.specs.declared.fault.ImageError.{ImageError};
 ghost use Rattle.write_trace.specs.Headers.{place_at, cylinders_of, as_field, image_field};
-ghost use Rattle.write_trace.specs.Entries.{update_at, format_at, whole_at, kind_at, write_at, entry_at, records_field};
-ghost use Rattle.write_trace.specs.Gives.{Gives, Fails};
+ghost use Rattle.write_trace.specs.Entries.{format_at, whole_at, kind_at, write_at, entry_at, records_field};
+ghost use Rattle.write_trace.specs.Gives.{GivesField, Fails};
 ghost use Rattle.write_trace.specs.Steps.{ReadOf};
+ghost use Rattle.ckd_track.specs.Fields.{update_at};
 
 use crate::cursor::Cursor;
 use crate::entry::Entry;
@@ -36,9 +37,9 @@ fn copied(alloc: Global, bytes: &[u8]) -> Result<Bytes, NoMemory>
     Ok(copy)
 }
 
-#[tactic(auto, unfolding(crate::specs::Entries::update_at))]
+#[tactic(auto, unfolding(ckd_track::specs::Fields::update_at))]
 fn update_of(alloc: Global, cursor: Cursor<'_>) -> Result<(Kind, Cursor<'_>), Stop>
-    ensures { Gives (λ x. (x.0, x.1)) result (update_at cursor.entry) }
+    ensures { GivesField (λ x. (x.0, x.1)) result (update_at cursor.entry) }
 {
     let (number, cursor) = cursor.byte(1, 255)?;
     let (length, cursor) = cursor.number_up_to(LONGEST_UPDATE as u16)?;
@@ -61,7 +62,7 @@ fn cylinder_of<'a>(
     cursor: Cursor<'a>,
 ) -> Result<(u16, Cursor<'a>), Stop>
     requires { volume < length volumes.now }
-    ensures { Gives (λ x. (x.0, x.1)) result (number_at w16 (λ n. nat_lt n (cylinders_of volumes.now volume)) cursor.entry) }
+    ensures { GivesField (λ x. (x.0, x.1)) result (number_at w16 (λ n. nat_lt n (cylinders_of volumes.now volume)) cursor.entry) }
 {
     let cylinders = cylinders_at(volumes, volume);
     cursor.number_below(cylinders as usize)
@@ -73,7 +74,7 @@ pub fn place_of<'a>(
     volumes: &[VolumeHead],
     cursor: Cursor<'a>,
 ) -> Result<(u16, u32, Cursor<'a>), Stop>
-    ensures { Gives (λ x. ((x.0, x.1), x.2)) result (place_at 1 volumes.now cursor.entry) }
+    ensures { GivesField (λ x. ((x.0, x.1), x.2)) result (place_at 1 volumes.now cursor.entry) }
 {
     let (volume, cursor) = cursor.number_below(volumes.len())?;
     let (cylinder, cursor) = cylinder_of(volumes, volume, cursor)?;
@@ -98,7 +99,7 @@ fn stop_of(error: ImageError, place: u64) -> Stop
 
 /// An image as one field.
 pub fn image_field_of(alloc: Global, cursor: Cursor<'_>) -> Result<(Track, Cursor<'_>), Stop>
-    ensures { Gives (λ x. (x.0, x.1)) result (image_field cursor.entry) }
+    ensures { GivesField (λ x. (x.0, x.1)) result (image_field cursor.entry) }
 {
     let bytes = cursor.bytes();
     match Track::decode_image(alloc, bytes) {
@@ -114,7 +115,7 @@ fn records_field_of(
     low: u8,
     cursor: Cursor<'_>,
 ) -> Result<(RecList, Cursor<'_>), Stop>
-    ensures { Gives (λ x. (x.0, x.1)) result (records_field count low cursor.entry) }
+    ensures { GivesField (λ x. (x.0, x.1)) result (records_field count low cursor.entry) }
 {
     let bytes = cursor.bytes();
     match decode_records(alloc, bytes, count, low) {
@@ -125,7 +126,7 @@ fn records_field_of(
 
 #[tactic(auto, unfolding(crate::specs::Entries::format_at))]
 fn format_of(alloc: Global, cursor: Cursor<'_>) -> Result<(Kind, Cursor<'_>), Stop>
-    ensures { Gives (λ x. (x.0, x.1)) result (format_at cursor.entry) }
+    ensures { GivesField (λ x. (x.0, x.1)) result (format_at cursor.entry) }
 {
     let (after, cursor) = cursor.any_byte()?;
     let (count, cursor) = cursor.any_byte()?;
@@ -135,7 +136,7 @@ fn format_of(alloc: Global, cursor: Cursor<'_>) -> Result<(Kind, Cursor<'_>), St
 
 #[tactic(auto, unfolding(crate::specs::Entries::whole_at))]
 fn whole_of(alloc: Global, cursor: Cursor<'_>) -> Result<(Kind, Cursor<'_>), Stop>
-    ensures { Gives (λ x. (x.0, x.1)) result (whole_at cursor.entry) }
+    ensures { GivesField (λ x. (x.0, x.1)) result (whole_at cursor.entry) }
 {
     let (track, cursor) = image_field_of(alloc, cursor)?;
     Ok((Kind::Whole { track }, cursor))
@@ -143,7 +144,7 @@ fn whole_of(alloc: Global, cursor: Cursor<'_>) -> Result<(Kind, Cursor<'_>), Sto
 
 #[tactic(auto, unfolding(crate::specs::Entries::kind_at))]
 fn kind_of(alloc: Global, tag: u8, cursor: Cursor<'_>) -> Result<(Kind, Cursor<'_>), Stop>
-    ensures { Gives (λ x. (x.0, x.1)) result (kind_at tag cursor.entry) }
+    ensures { GivesField (λ x. (x.0, x.1)) result (kind_at tag cursor.entry) }
 {
     match tag {
         UPDATE => update_of(alloc, cursor),
@@ -160,7 +161,7 @@ fn write_of<'a>(
     stamp: u64,
     cursor: Cursor<'a>,
 ) -> Result<(Entry, Cursor<'a>), Stop>
-    ensures { Gives (λ x. (x.0, x.1)) result (write_at 1 volumes.now tag stamp cursor.entry) }
+    ensures { GivesField (λ x. (x.0, x.1)) result (write_at 1 volumes.now tag stamp cursor.entry) }
 {
     let (volume, track, cursor) = place_of(volumes, cursor)?;
     let (kind, cursor) = kind_of(alloc, tag, cursor)?;
@@ -181,7 +182,7 @@ fn entry_of<'a>(
     last: u64,
     cursor: Cursor<'a>,
 ) -> Result<(Entry, Cursor<'a>), Stop>
-    ensures { Gives (λ x. (x.0, x.1)) result (entry_at 1 volumes.now last cursor.entry) }
+    ensures { GivesField (λ x. (x.0, x.1)) result (entry_at 1 volumes.now last cursor.entry) }
 {
     let (tag, cursor) = cursor.byte(IDLE, WHOLE)?;
     let (stamp, cursor) = cursor.stamp(last)?;

@@ -4,7 +4,7 @@ ghost use Rattle.std.specs.Prelude.{◌≡◌, ◌≤◌, ◌↔◌, ◌&&◌, [
 ghost use Rattle.tod_stamp.specs.Names.{is_serial};
 ghost use Rattle.tod_stamp.specs.Fields.{within};
 ghost use Rattle.ckd_track.specs.Tracks.{is_track};
-ghost use Rattle.write_trace.specs.Headers.{are_volumes, are_bases, cylinders_of, has_track, is_from};
+ghost use Rattle.write_trace.specs.Headers.{are_volumes, are_bases, cylinders_of, is_track_of, is_from};
 ghost use Rattle.write_trace.specs.Seen.{serials_of, names};
 
 use ckd_track::Track;
@@ -93,7 +93,7 @@ fn cylinders_of(volumes: &[VolumeHead], volume: u16) -> u32
 
 /// Whether there is a volume of that number with a track of that number.
 fn has_track(volumes: &[VolumeHead], volume: u16, track: u32) -> bool
-    ensures { result ≡ has_track volumes.now volume track }
+    ensures { result ≡ is_track_of volumes.now volume track }
 {
     if volume as usize >= volumes.len() {
         return false;

@@ -5,9 +5,9 @@ ghost use Rattle.std.specs.Int.{w32};
 ghost use Rattle.std.specs.List.{list_any, All};
 ghost use Rattle.ckd_track.specs.Tracks.{IsTrack};
 ghost use Rattle.tod_stamp.specs.Fields.{after, number_at};
-ghost use Rattle.write_trace.specs.Headers.{most_cylinders, tracks_of, has_track, is_from, are_volumes, base_at, version_at, volume_at, volumes_at};
-ghost use Rattle.write_trace.specs.Gives.{Gives};
-ghost use Rattle.write_trace.specs.HeaderParts.{seen_after, head_at};
+ghost use Rattle.write_trace.specs.Headers.{most_cylinders, tracks_of, is_track_of, is_from, are_volumes, base_at, version_at, volume_at, volumes_at};
+ghost use Rattle.write_trace.specs.Gives.{GivesField};
+ghost use Rattle.write_trace.specs.HeaderParts.{seen_after, header_front_at};
 
 use crate::cursor::Cursor;
 use crate::fields::{image_field_of, place_of};
@@ -19,7 +19,7 @@ use tod_stamp::{MOST_CYLINDERS, MOST_VOLUMES, Serial, TRACKS_OF_CYLINDER};
 /// The mark of version 1.
 #[tactic(auto, unfolding(crate::specs::Headers::version_at, tod_stamp::specs::Fields::bytes_at))]
 fn mark_of(c: Cursor<'_>) -> Result<Cursor<'_>, Stop>
-    ensures { Gives (λ c. (1, c)) result (version_at 1 c.entry) }
+    ensures { GivesField (λ c. (1, c)) result (version_at 1 c.entry) }
 {
     let place = c.place();
     let (mark, c) = c.front(4)?;
@@ -45,7 +45,7 @@ fn is_taken(volumes: &[VolumeHead], serial: Serial) -> bool
 /// A volume, whose serial is none of those volumes'.
 #[tactic(auto, unfolding(crate::specs::Headers::volume_at, tod_stamp::specs::Fields::bytes_at))]
 fn volume_of<'a>(volumes: &[VolumeHead], c: Cursor<'a>) -> Result<(VolumeHead, Cursor<'a>), Stop>
-    ensures { Gives (λ x. (x.0, x.1)) result (volume_at 1 (seen_after [] volumes.now) c.entry) }
+    ensures { GivesField (λ x. (x.0, x.1)) result (volume_at 1 (seen_after [] volumes.now) c.entry) }
 {
     let place = c.place();
     let (field, c) = c.front(6)?;
@@ -65,7 +65,7 @@ fn volume_of<'a>(volumes: &[VolumeHead], c: Cursor<'a>) -> Result<(VolumeHead, C
 
 /// Volumes, one after another, with different serials.
 fn volumes_of(alloc: Global, count: u16, c: Cursor<'_>) -> Result<(VolumeList, Cursor<'_>), Stop>
-    ensures reads { Gives (λ x. (x.0, x.1)) result (volumes_at 1 count [] c.entry) }
+    ensures reads { GivesField (λ x. (x.0, x.1)) result (volumes_at 1 count [] c.entry) }
     ensures rules { IfOk result (λ x. IsTrue (are_volumes 1 [] x.0)) }
     ensures many { IfOk result (λ x. length x.0 ≡ count) }
 {
@@ -96,15 +96,15 @@ fn tracks_in(volumes: &[VolumeHead]) -> u32
 fn many_of<'a>(volumes: &[VolumeHead], c: Cursor<'a>) -> Result<(u32, Cursor<'a>), Stop>
     requires many { length volumes.now ≤ MOST_VOLUMES }
     requires rules { IsTrue (are_volumes 1 [] volumes.now) }
-    ensures { Gives (λ x. (x.0, x.1)) result (number_at w32 (λ n. nat_le n (sum_by tracks_of volumes.now)) c.entry) }
+    ensures { GivesField (λ x. (x.0, x.1)) result (number_at w32 (λ n. nat_le n (sum_by tracks_of volumes.now)) c.entry) }
 {
     c.long_up_to(tracks_in(volumes))
 }
 
 /// The head of a header: the mark, the volumes, and the number of base tracks.
-#[tactic(auto, unfolding(crate::specs::HeaderParts::head_at))]
+#[tactic(auto, unfolding(crate::specs::HeaderParts::header_front_at))]
 fn head_of(alloc: Global, c: Cursor<'_>) -> Result<((VolumeList, u32), Cursor<'_>), Stop>
-    ensures reads { Gives (λ x. ((x.0.0, x.0.1), x.1)) result (head_at c.entry) }
+    ensures reads { GivesField (λ x. ((x.0.0, x.0.1), x.1)) result (header_front_at c.entry) }
     ensures rules { IfOk result (λ x. IsTrue (are_volumes 1 [] x.0.0)) }
     ensures many { IfOk result (λ x. (1 ≤ length x.0.0) × (length x.0.0 ≤ MOST_VOLUMES)) }
 {
@@ -118,7 +118,7 @@ fn head_of(alloc: Global, c: Cursor<'_>) -> Result<((VolumeList, u32), Cursor<'_
 /// The head that the bytes begin with, and how many of them it takes.
 pub fn head_in(alloc: Global, place: u64, bytes: &[u8]) -> Result<((VolumeList, u32), usize), Stop>
     requires { place + length bytes.now ≤ 2 ^ 40 }
-    ensures reads { Gives (λ x. ((x.0.0, x.0.1), after x.1 (record { place = place; bytes = bytes.now }))) result (head_at (record { place = place; bytes = bytes.now })) }
+    ensures reads { GivesField (λ x. ((x.0.0, x.0.1), after x.1 (record { place = place; bytes = bytes.now }))) result (header_front_at (record { place = place; bytes = bytes.now })) }
     ensures used { IfOk result (λ x. x.1 ≤ length bytes.now) }
     ensures rules { IfOk result (λ x. IsTrue (are_volumes 1 [] x.0.0)) }
     ensures many { IfOk result (λ x. (1 ≤ length x.0.0) × (length x.0.0 ≤ MOST_VOLUMES)) }
@@ -136,7 +136,7 @@ fn base_of<'a>(
     low: (u16, u32),
     c: Cursor<'a>,
 ) -> Result<(BaseTrack, Cursor<'a>), Stop>
-    ensures { Gives (λ x. (x.0, x.1)) result (base_at 1 volumes.now low c.entry) }
+    ensures { GivesField (λ x. (x.0, x.1)) result (base_at 1 volumes.now low c.entry) }
 {
     let volume_place = c.place();
     let (volume, track, c) = place_of(volumes, c)?;
@@ -156,9 +156,9 @@ pub fn base_in(
     bytes: &[u8],
 ) -> Result<(BaseTrack, usize), Stop>
     requires { place + length bytes.now ≤ 2 ^ 40 }
-    ensures reads { Gives (λ x. (x.0, after x.1 (record { place = place; bytes = bytes.now }))) result (base_at 1 volumes.now low (record { place = place; bytes = bytes.now })) }
+    ensures reads { GivesField (λ x. (x.0, after x.1 (record { place = place; bytes = bytes.now }))) result (base_at 1 volumes.now low (record { place = place; bytes = bytes.now })) }
     ensures used { IfOk result (λ x. x.1 ≤ length bytes.now) }
-    ensures there { IfOk result (λ x. IsTrue (has_track volumes.now x.0.0 x.0.1)) }
+    ensures there { IfOk result (λ x. IsTrue (is_track_of volumes.now x.0.0 x.0.1)) }
     ensures from { IfOk result (λ x. IsTrue (is_from low (x.0.0, x.0.1))) }
     ensures track { IfOk result (λ x. IsTrack x.0.2) }
 {

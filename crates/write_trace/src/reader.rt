@@ -66,7 +66,7 @@ impl Stopped {
 }
 
 impl TraceReader {
-    ghost use Rattle.write_trace.specs.Answers.{Answer, answer_of};
+    ghost use Rattle.write_trace.specs.Answers.{AnswersNext, answer_of};
     ghost use Rattle.write_trace.specs.Steps.{answer_from, IsCut, Tries, Continues};
 
     /// A reader of the entries that follow a header of these volumes, which ends where the window begins.
@@ -85,7 +85,7 @@ impl TraceReader {
 
     /// The next entry, or why there is none.
     pub fn next<S: Source>(&mut self, alloc: Global, source: &mut S) -> Next
-        ensures answer { self.old.stopped ≡ None → Answer (S.left source.old) (S.left source.new) (S.faults source.old) (S.faults source.new) self.old self.new result }
+        ensures answer { self.old.stopped ≡ None → AnswersNext (S.left source.old) (S.left source.new) (S.faults source.old) (S.faults source.new) self.old self.new result }
         ensures again { (why : Stopped) → self.old.stopped ≡ Some why → (result ≡ answer_of why) × (self.new ≡ self.old) }
         ensures unasked { (why : Stopped) → self.old.stopped ≡ Some why → source.new ≡ source.old }
     {
@@ -101,7 +101,7 @@ impl TraceReader {
         alloc: Global,
         source: &mut S,
     ) -> Result<Entry, Stopped>
-        ensures answer { self.old.stopped ≡ None → Answer (S.left source.old) (S.left source.new) (S.faults source.old) (S.faults source.new) self.old self.new (answer_from result) }
+        ensures answer { self.old.stopped ≡ None → AnswersNext (S.left source.old) (S.left source.new) (S.faults source.old) (S.faults source.new) self.old self.new (answer_from result) }
         ensures again { (why : Stopped) → self.old.stopped ≡ Some why → (result ≡ Err why) × (self.new ≡ self.old) }
         ensures unasked { (why : Stopped) → self.old.stopped ≡ Some why → source.new ≡ source.old }
         ensures number { length self.old.volumes ≤ MOST_VOLUMES }
@@ -115,7 +115,7 @@ impl TraceReader {
 
     fn read_on<S: Source>(&mut self, alloc: Global, source: &mut S) -> Result<Entry, Stopped>
         requires { self.old.stopped ≡ None }
-        ensures { Answer (S.left source.old) (S.left source.new) (S.faults source.old) (S.faults source.new) self.old self.new (answer_from result) }
+        ensures { AnswersNext (S.left source.old) (S.left source.new) (S.faults source.old) (S.faults source.new) self.old self.new (answer_from result) }
     {
         loop {
             match self.attempt(alloc) {

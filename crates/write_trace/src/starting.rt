@@ -2,11 +2,11 @@
 
 ghost use Rattle.std.specs.Prelude.{◌≡◌, ◌≤◌, ◌<◌, ◌+◌, ◌^◌, [], length, IfOk, IfErr, IsTrue};
 ghost use Rattle.tod_stamp.specs.declared.limits.TheConstants.{MOST_VOLUMES};
-ghost use Rattle.write_trace.specs.Headers.{has_track, is_from, are_volumes, are_bases, base_at, bases_at};
+ghost use Rattle.write_trace.specs.Headers.{is_track_of, is_from, are_volumes, are_bases, base_at, bases_at};
 ghost use Rattle.ckd_track.specs.Tracks.{IsTrack};
 ghost use Rattle.write_trace.specs.Starts.{Starts};
 ghost use Rattle.write_trace.specs.Reached.{Gathers, ReadsPart};
-ghost use Rattle.write_trace.specs.HeaderParts.{head_at};
+ghost use Rattle.write_trace.specs.HeaderParts.{header_front_at};
 
 use crate::header::{BaseList, BaseTrack, Header, VolumeHead, VolumeList};
 use crate::header_fields::{base_in, head_in};
@@ -38,7 +38,7 @@ fn head<S: Source>(
     window: &mut Window,
     source: &mut S,
 ) -> Result<(VolumeList, u32), HeaderError>
-    ensures reads { ReadsPart head_at (S.left source.old) (S.left source.new) (S.faults source.old) (S.faults source.new) window.old window.new result }
+    ensures reads { ReadsPart header_front_at (S.left source.old) (S.left source.new) (S.faults source.old) (S.faults source.new) window.old window.new result }
     ensures rules { IfOk result (λ head. IsTrue (are_volumes 1 [] head.0)) }
     ensures many { IfOk result (λ head. (1 ≤ length head.0) × (length head.0 ≤ MOST_VOLUMES)) }
 {
@@ -64,7 +64,7 @@ fn base<S: Source>(
     source: &mut S,
 ) -> Result<BaseTrack, HeaderError>
     ensures reads { ReadsPart (base_at 1 volumes.now low) (S.left source.old) (S.left source.new) (S.faults source.old) (S.faults source.new) window.old window.new result }
-    ensures there { IfOk result (λ base. IsTrue (has_track volumes.now base.0 base.1)) }
+    ensures there { IfOk result (λ base. IsTrue (is_track_of volumes.now base.0 base.1)) }
     ensures from { IfOk result (λ base. IsTrue (is_from low (base.0, base.1))) }
     ensures track { IfOk result (λ base. IsTrack base.2) }
 {

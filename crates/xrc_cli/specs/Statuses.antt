@@ -70,7 +70,7 @@ pub record AnswersThen {P : Type 0} (tells : Type 0) (state : P → PlantState) 
 
 -- It ended by a stop whose status this is. The count of what failed rose: for a journal, that of the one which the line names. Where a
 -- device failed the line was heard whole that is expected there, and each moment bears.
-pub record EndsBy {P : Type 0} (tells : Type 0) (state : P → PlantState) (session : List ℕ) (old new : P) (status : ℕ) (before now : Option (List ℕ)) (faults risen : ℕ) : Type 0 where
+pub record EndsByStop {P : Type 0} (tells : Type 0) (state : P → PlantState) (session : List ℕ) (old new : P) (status : ℕ) (before now : Option (List ℕ)) (faults risen : ℕ) : Type 0 where
   pub stop : Stop
   pub is : status ≡ status_of stop
   pub cause : IsEarly stop ⊎ HasStopCause (state old) (state new) stop
@@ -114,7 +114,7 @@ pub record EndsRun {P : Type 0} (tells : Type 0) (state : P → PlantState) (ses
   pub quiet : status ≡ 0 → NoneRose (state old) (state new)
   -- Not done: what was said is a front of the replies where the console failed, and else the replies and the line of the status.
   pub in_part : tells → status ≡ 3 → (run : Run) (t : Trace) → IsSessionRun session before now faults risen (state old) t run → AnswersInPart run t (state old) (state new)
-  pub stopped : status ≢ 0 → EndsBy tells state session old new status before now faults risen
+  pub stopped : status ≢ 0 → EndsByStop tells state session old new status before now faults risen
   pub source_count : status ≢ 9 → status ≢ 18 → risen ≡ faults
   -- A line isn't the one that is expected there, the trace has broken before its time, or the record that is due doesn't fit the journal.
   pub unexpected : tells → status ≡ 17 → (run : Run) (t : Trace) → IsSessionRun session before now faults risen (state old) t run → StoodSo tells state NotBuilt (IsUnexpected run t (state old)) new

@@ -12,7 +12,7 @@ use Rattle.pair_table.specs.declared.command.Choice.TheVariants.{One, All}
 use Rattle.pair_table.specs.declared.level.Level.{Level}
 use Rattle.pair_table.specs.declared.level.Level.TheVariants.{Volume, Session}
 use Rattle.xrc_command.specs.Lines.{level_text, pair_text, choice_text, names_serials}
-use Rattle.xrc_command.specs.Reading.{text_at, split_at, serial_of, serials_of, level_of, pair_of, choice_of}
+use Rattle.xrc_command.specs.Reading.{text_at, split_at, serial_of, both_serials, level_of, pair_of, choice_of}
 use Rattle.xrc_command.proofs.PartReading.{bind_some, map_some, allow_some, first_or, text_takes, text_again, split_takes, split_again, serial_takes, serial_again}
 
 -- ---- levels
@@ -40,7 +40,7 @@ level_takes operand level e =
 abbrev pub choice_operand : Choice → List ℕ
 choice_operand choice = codes " VOLUME(" ++ choice_text choice ++ codes ")"
 
-serials_take : (primary secondary : List ℕ) (pair : List ℕ × List ℕ) → serials_of primary secondary ≡ Some pair
+serials_take : (primary secondary : List ℕ) (pair : List ℕ × List ℕ) → both_serials primary secondary ≡ Some pair
     → (primary ≡ pair.0) × (secondary ≡ pair.1) × ((is_serial pair.0 && is_serial pair.1) ≡ true)
 serials_take primary secondary pair e =
     let one = bind_some (serial_of primary) _ pair e in
@@ -67,7 +67,7 @@ pair_takes operand pair e =
     let one = bind_some (text_at (codes " VOLUME(") operand) _ pair e in
     let two = bind_some (split_at 44 one.0) _ pair one.2 in
     let three = bind_some (split_at 41 two.0.1) _ pair two.2 in
-    let four = allow_some (bytes_eq three.0.1 []) (serials_of two.0.0 three.0.0) pair three.2 in
+    let four = allow_some (bytes_eq three.0.1 []) (both_serials two.0.0 three.0.0) pair three.2 in
     let five = serials_take two.0.0 three.0.0 pair four.1 in (
       joined operand one.0 two.0.0 two.0.1 three.0.0 three.0.1 pair.0 pair.1
           (text_takes (codes " VOLUME(") operand one.0 one.1) (split_takes 44 one.0 two.0.0 two.0.1 two.1) (split_takes 41 two.0.1 three.0.0 three.0.1 three.1)

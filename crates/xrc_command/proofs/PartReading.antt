@@ -14,9 +14,10 @@ use Rattle.tod_stamp.specs.declared.stamp.StampError.{StampError}
 use Rattle.tod_stamp.specs.declared.stamp.StampError.TheVariants.{Length}
 use Rattle.tod_stamp.specs.Names.{is_name_char, is_name, is_serial, is_session, name_of}
 use Rattle.tod_stamp.specs.Fields.{first_place}
-use Rattle.tod_stamp.specs.Stamps.{stamp_of, first_other, is_hex}
+use Rattle.tod_stamp.specs.Stamps.{stamp_of_digits, first_other, is_hex}
 use Rattle.tod_stamp.proofs.NameLaws.{both_true, names_are_read, read_are_names}
-use Rattle.xrc_command.specs.Reading.{◌>>=◌, text_at, time_at, positive_before, cut, split_at, before_space, from_space, read_name, serial_of, session_of}
+use Rattle.xrc_command.specs.Reading.{text_at, time_at, positive_before, cut, split_at, before_space, from_space, read_name, serial_of, session_of}
+use Rattle.tod_stamp.specs.Options.{◌>>=◌}
 
 -- ---- steps
 
@@ -71,15 +72,15 @@ positive_some rest (Err error) y e = absurd cc
 pub record IsTimed (bytes : List ℕ) (time : Stamp) (rest : List ℕ) : Type 0 where
   pub digits : List ℕ
   pub parts : bytes ≡ digits ++ (codes " " ++ rest)
-  pub reads : stamp_of digits ≡ Ok time
+  pub reads : stamp_of_digits digits ≡ Ok time
   pub positive : 1 ≤ time.0
 
 pub time_takes : (bytes : List ℕ) (time : Stamp) (rest : List ℕ) → time_at bytes ≡ Some (time, rest) → IsTimed bytes time rest
 unfolding time_at
 time_takes bytes time rest e =
-    let long = deny_some (nat_lt (length bytes) 16) (text_at (codes " ") (drop 16 bytes) >>= λ text. positive_before text (stamp_of (take 16 bytes))) (time, rest) e in
-    let text = bind_some (text_at (codes " ") (drop 16 bytes)) (λ text. positive_before text (stamp_of (take 16 bytes))) (time, rest) long.1 in
-    let found = positive_some text.0 (stamp_of (take 16 bytes)) (time, rest) text.2 in
+    let long = deny_some (nat_lt (length bytes) 16) (text_at (codes " ") (drop 16 bytes) >>= λ text. positive_before text (stamp_of_digits (take 16 bytes))) (time, rest) e in
+    let text = bind_some (text_at (codes " ") (drop 16 bytes)) (λ text. positive_before text (stamp_of_digits (take 16 bytes))) (time, rest) long.1 in
+    let found = positive_some text.0 (stamp_of_digits (take 16 bytes)) (time, rest) text.2 in
     record {
       digits = take 16 bytes;
       parts = sym (take-append-drop 16 bytes) ∙ ap (λ (t : List ℕ). take 16 bytes ++ t) (text_takes (codes " ") (drop 16 bytes) text.0 text.1)
@@ -89,14 +90,14 @@ time_takes bytes time rest e =
     }
 
 -- a time has 16 digits
-pub digits_length : (digits : List ℕ) (time : Stamp) → stamp_of digits ≡ Ok time → length digits ≡ 16
+pub digits_length : (digits : List ℕ) (time : Stamp) → stamp_of_digits digits ≡ Ok time → length digits ≡ 16
 digits_length digits time e = choose (nat_eq (length digits) 16) refl e
   where
     choose : (b : Bool) → nat_eq (length digits) 16 ≡ b → cond b (first_other digits (first_place (λ c. not (is_hex c)) 0 digits)) (Err Length) ≡ Ok time → length digits ≡ 16
     choose true same f = eqb-true (length digits) 16 same
     choose false other f = absurd cc
 
-pub time_again : (digits rest : List ℕ) (time : Stamp) → stamp_of digits ≡ Ok time → 1 ≤ time.0 → time_at (digits ++ (codes " " ++ rest)) ≡ Some (time, rest)
+pub time_again : (digits rest : List ℕ) (time : Stamp) → stamp_of_digits digits ≡ Ok time → 1 ≤ time.0 → time_at (digits ++ (codes " " ++ rest)) ≡ Some (time, rest)
 unfolding time_at
 time_again digits rest time e some =
     let len = digits_length digits time e in

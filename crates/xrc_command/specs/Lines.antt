@@ -1,7 +1,7 @@
 -- The lines of a script, as they are spelled: a time, one space and a command to a session.
 use Rattle.std.specs.Prelude.{◌≡◌, ◌≤◌, ◌⊎◌, ◌&&◌, ℕ, List, ◌++◌, Bool, true, Ok, codes, IsTrue}
 use Rattle.tod_stamp.specs.Names.{is_serial, is_session}
-use Rattle.tod_stamp.specs.Stamps.{stamp_of}
+use Rattle.tod_stamp.specs.Stamps.{stamp_of_digits}
 use Rattle.pair_table.specs.declared.command.Choice.{Choice}
 use Rattle.pair_table.specs.declared.command.Choice.TheVariants.{One, All}
 use Rattle.pair_table.specs.declared.command.Command.{Command}
@@ -62,7 +62,7 @@ pub record IsLine (line : Line) (bytes : List ℕ) : Type 0 where
   pub digits : List ℕ
   pub command : List ℕ
   pub parts : bytes ≡ digits ++ codes " " ++ command
-  pub reads : stamp_of digits ≡ Ok line.time
+  pub reads : stamp_of_digits digits ≡ Ok line.time
   pub positive : 1 ≤ line.time.0
   pub spells : IsCommandText line.session line.command command
   pub session : IsTrue (is_session line.session)

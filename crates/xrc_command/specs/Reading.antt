@@ -6,20 +6,16 @@ use Rattle.tod_stamp.specs.declared.name_error.NameError.{NameError}
 use Rattle.tod_stamp.specs.declared.stamp.Stamp.{Stamp}
 use Rattle.tod_stamp.specs.declared.stamp.StampError.{StampError}
 use Rattle.tod_stamp.specs.Names.{name_of}
-use Rattle.tod_stamp.specs.Stamps.{stamp_of}
+use Rattle.tod_stamp.specs.Stamps.{stamp_of_digits}
 use Rattle.pair_table.specs.declared.command.Choice.{Choice}
 use Rattle.pair_table.specs.declared.command.Choice.TheVariants.{One, All}
 use Rattle.pair_table.specs.declared.command.Command.{Command}
 use Rattle.pair_table.specs.declared.command.Command.TheVariants.{Start, AddPair, DelPair, Suspend, Query, End}
 use Rattle.pair_table.specs.declared.level.Level.{Level}
 use Rattle.pair_table.specs.declared.level.Level.TheVariants.{Volume, Session}
+use Rattle.tod_stamp.specs.Options.{◌>>=◌}
 
 -- the next step, if this one read something
-infixl 10 ◌>>=◌
-abbrev pub ◌>>=◌ : {A B : Type 0} → Option A → (A → Option B) → Option B
-(Some x) >>= f = f x
-None >>= f = None
-
 -- ---- parts
 
 -- what follows a text that stands in front
@@ -64,7 +60,7 @@ positive_before rest (Err error) = None
 unfoldable pub time_at : (bytes : List ℕ) → Option (Stamp × List ℕ)
 time_at bytes = if nat_lt (length bytes) 16 then None else do
   text ← text_at (codes " ") (drop 16 bytes)
-  positive_before text (stamp_of (take 16 bytes))
+  positive_before text (stamp_of_digits (take 16 bytes))
 
 -- ---- operands, with the space before them
 
@@ -74,8 +70,8 @@ level_of operand =
     else if bytes_eq operand (codes " ERRORLEVEL(SESSION)") then Some Session
     else None
 
-abbrev pub serials_of : (primary secondary : List ℕ) → Option (List ℕ × List ℕ)
-serials_of primary secondary = do
+abbrev pub both_serials : (primary secondary : List ℕ) → Option (List ℕ × List ℕ)
+both_serials primary secondary = do
   first ← serial_of primary
   second ← serial_of secondary
   Some (first, second)
@@ -86,7 +82,7 @@ pair_of operand = do
   names ← text_at (codes " VOLUME(") operand
   first ← split_at 44 names
   second ← split_at 41 first.1
-  if bytes_eq second.1 [] then serials_of first.0 second.0 else None
+  if bytes_eq second.1 [] then both_serials first.0 second.0 else None
 
 abbrev pub choice_of : (operand : List ℕ) → Option Choice
 choice_of operand = if bytes_eq operand (codes " VOLUME(ALL)") then Some All else option_map (λ pair. One pair.0 pair.1) (pair_of operand)

@@ -7,6 +7,7 @@ mod list;
 mod memory_source;
 mod outcome;
 mod source;
+mod text;
 
 pub use block::BLOCK;
 pub use file_source::FileSource;
@@ -14,3 +15,4 @@ pub use list::{Bytes, List};
 pub use memory_source::MemorySource;
 pub use outcome::{Failed, NoMemory};
 pub use source::Source;
+pub use text::Text;

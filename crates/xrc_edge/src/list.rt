@@ -32,6 +32,13 @@ impl<T> List<T> {
         }
     }
 
+    /// The items of a vector. It takes no memory.
+    pub fn of(items: Vec<T>) -> Self
+        ensures { result ≡ items.items }
+    {
+        List { items }
+    }
+
     /// Puts an item at the end.
     pub fn push(&mut self, _alloc: Global, item: T) -> Result<(), NoMemory>
     where

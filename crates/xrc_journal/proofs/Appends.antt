@@ -11,8 +11,8 @@ use Rattle.crash_plant.proofs.Patches.{patched_torn, torn_more, torn_twice}
 use Rattle.crash_plant.proofs.Steps.{follows_then}
 use Rattle.crash_plant.proofs.Behind.{torn_here, torn_again, byte_before}
 use Rattle.xrc_journal.specs.Items.{Form, AreItems, body_spelling, form_of, is_within}
-use Rattle.xrc_journal.specs.Records.{header_spelling, group_spelling, most_body, spot_after}
-use Rattle.xrc_journal.specs.Walks.{Logged, EndsAt, Keeps, Adds, Appends}
+use Rattle.xrc_journal.specs.Records.{record_header_spelling, group_spelling, most_body, spot_after}
+use Rattle.xrc_journal.specs.Walks.{Logged, EndsAt, KeepsWalks, Adds, Appends}
 use Rattle.xrc_journal.proofs.Walking.{walk_shut, walks_end, walks_on}
 
 zero_is_not : (n : ℕ) → n ≡ 0 → n ≢ 1
@@ -35,13 +35,13 @@ pub record MayPut (form : Form) (size : ℕ) (at : Spot) (g : Logged) : Type 0 w
 module _ (form : Form) (sets : ℕ) (from at : Spot) (g : Logged) where
   -- what is written behind the gate
   abbrev pub header : List ℕ
-  header = header_spelling 1 at.number g.time (length (body_spelling g.items))
+  header = record_header_spelling 1 at.number g.time (length (body_spelling g.items))
 
   abbrev pub back : List ℕ
   back = body_spelling g.items ++ 0 ∷ []
 
   -- the same walk where the bytes before the gate are the same, and the gate isn't 1
-  shut_keeps : (b c : List ℕ) → take at.place c ≡ take at.place b → length c ≡ length b → slice_index c at.place ≢ 1 → Keeps form sets from at b c
+  shut_keeps : (b c : List ℕ) → take at.place c ≡ take at.place b → length c ≡ length b → slice_index c at.place ≢ 1 → KeepsWalks form sets from at b c
   shut_keeps b c same size shut last time groups w = walks_end form sets b c from at last time groups same size shut w
 
   module _ (m : ℕ) (m_is : m ≡ length header + length back) where

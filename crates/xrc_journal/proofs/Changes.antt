@@ -3,7 +3,7 @@ use Rattle.std.proofs.Common.{◌≡◌, ℕ, ◌+◌, ◌-◌, ◌^◌, ◌≤�
 use Rattle.std.specs.List.{flat_map}
 use Rattle.std.specs.Int.{w8, w16, to_be_bytes}
 use Rattle.std.proofs.lemmas.Bool.{leb-true, le-leb, eqb-true, eqb-false}
-use Rattle.tod_stamp.specs.Fields.{◌>>=◌, IsBytes, Left, bytes_at, number_at, within}
+use Rattle.tod_stamp.specs.Fields.{◌>>=◌, IsBytes, Left, bytes_at, number_at, within, any}
 use Rattle.tod_stamp.proofs.FieldLaws.{at_place, bind_ok, Takes, Takes-then, wide8, wide16, number_again, number_takes, bytes_again, bytes_takes}
 use Rattle.ckd_track.specs.declared.rec.Rec.{Rec}
 use Rattle.ckd_track.specs.declared.write.Kind.{Kind}
@@ -13,8 +13,9 @@ use Rattle.ckd_track.specs.Effects.{is_kind, longest_update}
 use Rattle.ckd_track.specs.Entries.{tag_of, kind_spelling, delta_spelling, changes_part}
 use Rattle.ckd_track.specs.Images.{record_spelling, records_at}
 use Rattle.ckd_track.proofs.ImageLaws.{records_again, records_take}
-use Rattle.xrc_journal.specs.Deltas.{any, as_field, update_at, format_at, change_at}
+use Rattle.xrc_journal.specs.Deltas.{as_body_field, body_format_at, change_at}
 use Rattle.xrc_journal.proofs.Fields.{both_true, and_true, given_is, one_byte, byte_again, field_ok, behind_takes}
+use Rattle.ckd_track.specs.Fields.{update_at}
 
 -- ---- read again
 
@@ -30,15 +31,15 @@ update_again place number bytes rest ok =
     rw (one, two, three) refl
 
 records_back : (place low : ℕ) (recs : List Rec) (rest : List ℕ) → rises_above low recs ≡ true → nat_le (track_size recs) capacity ≡ true
-    → as_field (at_place place (flat_map record_spelling recs ++ rest)) (records_at (length recs) place low capacity (flat_map record_spelling recs ++ rest)) ≡ Ok (recs, at_place (place + length (flat_map record_spelling recs)) rest)
+    → as_body_field (at_place place (flat_map record_spelling recs ++ rest)) (records_at (length recs) place low capacity (flat_map record_spelling recs ++ rest)) ≡ Ok (recs, at_place (place + length (flat_map record_spelling recs)) rest)
 records_back place low recs rest rises fits =
     let again = records_again place low capacity recs rest rises (leb-true (track_size recs) capacity fits) (omega arith) in
     let len : length (flat_map record_spelling recs ++ rest) - length rest ≡ length (flat_map record_spelling recs) = omega (arith, length-append (flat_map record_spelling recs) rest) in
     rw (again, len) refl
 
 format_again : (place low : ℕ) (recs : List Rec) (rest : List ℕ) → is_kind (Format low recs) ≡ true
-    → format_at (at_place place (low ∷ (length recs ∷ (flat_map record_spelling recs ++ rest)))) ≡ Ok (Format low recs, at_place (place + 1 + 1 + length (flat_map record_spelling recs)) rest)
-unfolding format_at
+    → body_format_at (at_place place (low ∷ (length recs ∷ (flat_map record_spelling recs ++ rest)))) ≡ Ok (Format low recs, at_place (place + 1 + 1 + length (flat_map record_spelling recs)) rest)
+unfolding body_format_at
 format_again place low recs rest ok =
     let parts = both_true (nat_le low 255) (rises_above low recs && nat_le (track_size recs) capacity) ok in
     let are = both_true (rises_above low recs) (nat_le (track_size recs) capacity) parts.1 in
@@ -52,7 +53,7 @@ update_tagged : (place : ℕ) (fields : List ℕ) → change_at (at_place place 
 unfolding change_at
 update_tagged place fields = rw (byte_again (within 2 3) place 2 fields refl) refl
 
-format_tagged : (place : ℕ) (fields : List ℕ) → change_at (at_place place (3 ∷ fields)) ≡ format_at (at_place (place + 1) fields)
+format_tagged : (place : ℕ) (fields : List ℕ) → change_at (at_place place (3 ∷ fields)) ≡ body_format_at (at_place (place + 1) fields)
 unfolding change_at
 format_tagged place fields = rw (byte_again (within 2 3) place 3 fields refl) refl
 
@@ -96,14 +97,14 @@ update_takes left kind next fits e =
       tagged = refl;
     })
 
-format_takes : (left : Left) (kind : Kind) (next : Left) → IsBytes left.bytes → format_at left ≡ Ok (kind, next) → KindTaken 3 left kind next
-unfolding format_at
+format_takes : (left : Left) (kind : Kind) (next : Left) → IsBytes left.bytes → body_format_at left ≡ Ok (kind, next) → KindTaken 3 left kind next
+unfolding body_format_at
 format_takes left kind next fits e =
-    let one = bind_ok (number_at w8 any left) (λ n. number_at w8 any n.1 >>= (λ k. as_field k.1 (records_at k.0 k.1.place n.0 capacity k.1.bytes) >>= (λ r. Ok (Format n.0 r.0, r.1)))) (kind, next) e in
+    let one = bind_ok (number_at w8 any left) (λ n. number_at w8 any n.1 >>= (λ k. as_body_field k.1 (records_at k.0 k.1.place n.0 capacity k.1.bytes) >>= (λ r. Ok (Format n.0 r.0, r.1)))) (kind, next) e in
     let low = number_takes w8 (2 ^ 8) wide8 any left one.0.0 one.0.1 fits one.1 in
-    let two = bind_ok (number_at w8 any one.0.1) (λ k. as_field k.1 (records_at k.0 k.1.place one.0.0 capacity k.1.bytes) >>= (λ r. Ok (Format one.0.0 r.0, r.1))) (kind, next) one.2 in
+    let two = bind_ok (number_at w8 any one.0.1) (λ k. as_body_field k.1 (records_at k.0 k.1.place one.0.0 capacity k.1.bytes) >>= (λ r. Ok (Format one.0.0 r.0, r.1))) (kind, next) one.2 in
     let count = number_takes w8 (2 ^ 8) wide8 any one.0.1 two.0.0 two.0.1 low.takes.rest_bytes two.1 in
-    let three = bind_ok (as_field two.0.1 (records_at two.0.0 two.0.1.place one.0.0 capacity two.0.1.bytes)) (λ r. Ok (Format one.0.0 r.0, r.1)) (kind, next) two.2 in
+    let three = bind_ok (as_body_field two.0.1 (records_at two.0.0 two.0.1.place one.0.0 capacity two.0.1.bytes)) (λ r. Ok (Format one.0.0 r.0, r.1)) (kind, next) two.2 in
     let recs = three.0.0 in
     let read = field_ok two.0.1 (records_at two.0.0 two.0.1.place one.0.0 capacity two.0.1.bytes) recs three.0.1 three.1 in
     let taken = records_take two.0.0 two.0.1.place one.0.0 capacity two.0.1.bytes recs read.0 count.takes.rest_bytes read.1 in
@@ -131,7 +132,7 @@ pub record ChangeTaken (left : Left) (kind : Kind) (next : Left) : Type 0 where
 pub change_takes : (left : Left) (kind : Kind) (next : Left) → IsBytes left.bytes → change_at left ≡ Ok (kind, next) → ChangeTaken left kind next
 unfolding change_at
 change_takes left kind next fits e =
-    let one = bind_ok (number_at w8 (within 2 3) left) (λ t. cond (nat_eq t.0 2) (update_at t.1) (format_at t.1)) (kind, next) e in
+    let one = bind_ok (number_at w8 (within 2 3) left) (λ t. cond (nat_eq t.0 2) (update_at t.1) (body_format_at t.1)) (kind, next) e in
     let tag = number_takes w8 (2 ^ 8) wide8 (within 2 3) left one.0.0 one.0.1 fits one.1 in
     let range = both_true (nat_le 2 one.0.0) (nat_le one.0.0 3) tag.kept in
     choose one.0.0 one.0.1 (nat_eq one.0.0 2) refl (leb-true 2 one.0.0 range.0) (leb-true one.0.0 3 range.1) (subst (λ (t : List ℕ). Takes left t one.0.1) (one_byte one.0.0 tag.fits) tag.takes) one.2
@@ -139,7 +140,7 @@ change_takes left kind next fits e =
     tagged : (tag : ℕ) (after : Left) → Takes left (tag ∷ []) after → KindTaken tag after kind next → ChangeTaken left kind next
     tagged tag after head k = record { takes = subst (λ n. Takes left (n ∷ kind_spelling kind) next) (sym k.tagged) (Takes-then left (tag ∷ []) after (kind_spelling kind) next head k.takes); kept = k.kept; part = k.part }
 
-    choose : (tag : ℕ) (after : Left) (two : Bool) → nat_eq tag 2 ≡ two → 2 ≤ tag → tag ≤ 3 → Takes left (tag ∷ []) after → cond two (update_at after) (format_at after) ≡ Ok (kind, next) → ChangeTaken left kind next
+    choose : (tag : ℕ) (after : Left) (two : Bool) → nat_eq tag 2 ≡ two → 2 ≤ tag → tag ≤ 3 → Takes left (tag ∷ []) after → cond two (update_at after) (body_format_at after) ≡ Ok (kind, next) → ChangeTaken left kind next
     choose tag after true is from to head e = tagged tag after head (subst (λ k. KindTaken k after kind next) (sym (eqb-true tag 2 is)) (update_takes after kind next head.rest_bytes e))
     choose tag after false other from to head e =
         let three : 3 ≡ tag = omega (arith, from, to, eqb-false tag 2 other) in

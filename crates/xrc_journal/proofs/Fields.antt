@@ -13,8 +13,8 @@ use Rattle.ckd_track.proofs.ImageLaws.{image_again, image_taken}
 use Rattle.pair_table.specs.declared.row.PairRow.{PairRow}
 use Rattle.pair_table.specs.Rows.{fields_of, row_at, row_spelling, is_row}
 use Rattle.pair_table.proofs.RowsAgain.{rows_back}
-use Rattle.xrc_journal.specs.Deltas.{as_field}
-use Rattle.xrc_journal.specs.Reading.{image_field, row_or}
+use Rattle.xrc_journal.specs.Deltas.{as_body_field}
+use Rattle.xrc_journal.specs.Reading.{body_image_field, row_or}
 
 pub both_true : (a b : Bool) → (a && b) ≡ true → (a ≡ true) × (b ≡ true)
 both_true true b e = (refl, e)
@@ -56,13 +56,13 @@ none_taken left fits = record { parts = refl; place = omega arith; rest_bytes = 
 abbrev pub behind_these : Left → List ℕ → Left
 behind_these left rest = record { place = left.place + (length left.bytes - length rest); bytes = rest }
 
-pub image_back : (place : ℕ) (track : List Rec) (rest : List ℕ) → is_track track ≡ true → image_field (at_place place (image track ++ rest)) ≡ Ok (track, at_place (place + length (image track)) rest)
+pub image_back : (place : ℕ) (track : List Rec) (rest : List ℕ) → is_track track ≡ true → body_image_field (at_place place (image track ++ rest)) ≡ Ok (track, at_place (place + length (image track)) rest)
 image_back place track rest ok =
     let again = image_again track rest ok in
     let len : length (image track ++ rest) - length rest ≡ length (image track) = omega (arith, length-append (image track) rest) in
     rw (again, len) refl
 
-pub field_ok : (left : Left) (read : Result (List Rec × List ℕ) ImageError) (recs : List Rec) (next : Left) → as_field left read ≡ Ok (recs, next)
+pub field_ok : (left : Left) (read : Result (List Rec × List ℕ) ImageError) (recs : List Rec) (next : Left) → as_body_field left read ≡ Ok (recs, next)
     → (rest : List ℕ) × (read ≡ Ok (recs, rest)) × (behind_these left rest ≡ next)
 field_ok left (Ok found) recs next e =
     let is = given_is (found.0, behind_these left found.1) (recs, next) e in
@@ -76,7 +76,7 @@ behind_takes left text rest fits e = record {
   rest_bytes = IsBytes-rest text rest (subst (λ (t : List ℕ). IsBytes t) e fits);
 }
 
-pub image_takes : (left : Left) (track : List Rec) (next : Left) → IsBytes left.bytes → image_field left ≡ Ok (track, next)
+pub image_takes : (left : Left) (track : List Rec) (next : Left) → IsBytes left.bytes → body_image_field left ≡ Ok (track, next)
     → Takes left (image track) next × (is_track track ≡ true)
 image_takes left track next fits e =
     let read = field_ok left (image_at left.bytes) track next e in

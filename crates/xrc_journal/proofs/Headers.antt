@@ -8,7 +8,7 @@ use Rattle.tod_stamp.specs.declared.stamp.Stamp.{Stamp}
 use Rattle.crash_plant.specs.declared.spot.Spot.{Spot}
 use Rattle.xrc_journal.specs.declared.header.Header.{Header}
 use Rattle.xrc_journal.specs.declared.header.Header.TheVariants.{Group as GroupHeader, Switch as SwitchHeader}
-use Rattle.xrc_journal.specs.Records.{Head, is_body_length, head_at, most_body}
+use Rattle.xrc_journal.specs.Records.{Head, is_body_length, record_head_at, most_body}
 use Rattle.xrc_journal.specs.Answers.{header_of, keeps_header, u64_in, u32_in}
 use Rattle.xrc_journal.proofs.Fields.{both_true}
 use Rattle.xrc_journal.proofs.RecordsRead.{group_fits}
@@ -30,8 +30,8 @@ last_field {A = A} r b x e then h is next = ap (λ (q : Result A Bad). header_of
     by_rule false = refl
 
 pub header_is : (size : ℕ) (at : Spot) (last p : ℕ) (bytes : List ℕ) → length bytes ≡ 21
-    → header_of (head_at size at last (at_place p bytes)) ≡ cond (keeps_header size at last bytes) (header_of (Ok (record { kind = slice_index bytes 0; time = u64_in bytes 9; len = u32_in bytes 17 }, at_place p bytes))) None
-unfolding head_at
+    → header_of (record_head_at size at last (at_place p bytes)) ≡ cond (keeps_header size at last bytes) (header_of (Ok (record { kind = slice_index bytes 0; time = u64_in bytes 9; len = u32_in bytes 17 }, at_place p bytes))) None
+unfolding record_head_at
 header_is size at last p bytes len =
     field _ _ _ _ _ _ _ (byte_step (within 1 2) p 0 bytes (omega (arith, len)))
     (field _ _ _ _ _ _ _ (number_step w64 (λ n. nat_eq n at.number && nat_lt n (2 ^ 64 - 1)) (p + 1) 1 bytes (omega (arith, len)))
@@ -39,14 +39,14 @@ header_is size at last p bytes len =
     (last_field _ _ _ _ _ _ (number_step w32 (is_body_length size at (slice_index bytes 0)) (p + 1 + 8 + 8) 17 bytes (omega (arith, len))) refl)))
 
 module _ (size : ℕ) (at : Spot) (last p : ℕ) (bytes : List ℕ) (len : length bytes ≡ 21) where
-  pub header_bad : keeps_header size at last bytes ≡ false → None ≡ header_of (head_at size at last (at_place p bytes))
+  pub header_bad : keeps_header size at last bytes ≡ false → None ≡ header_of (record_head_at size at last (at_place p bytes))
   header_bad bad = sym (header_is size at last p bytes len ∙ rw bad refl)
 
-  pub header_group : (time length : ℕ) → keeps_header size at last bytes ≡ true → slice_index bytes 0 ≡ 1 → time ≡ u64_in bytes 9 → length ≡ u32_in bytes 17 → Some (GroupHeader (record { 0 = time }) length) ≡ header_of (head_at size at last (at_place p bytes))
+  pub header_group : (time length : ℕ) → keeps_header size at last bytes ≡ true → slice_index bytes 0 ≡ 1 → time ≡ u64_in bytes 9 → length ≡ u32_in bytes 17 → Some (GroupHeader (record { 0 = time }) length) ≡ header_of (record_head_at size at last (at_place p bytes))
   header_group time length keeps kind time_is length_is =
       (λ i. Some (GroupHeader (record { 0 = time_is i }) (length_is i))) ∙ sym (header_is size at last p bytes len ∙ rw (keeps, eq-eqb (slice_index bytes 0) 1 kind) refl)
 
-  pub header_switch : (time : ℕ) → keeps_header size at last bytes ≡ true → slice_index bytes 0 ≢ 1 → time ≡ u64_in bytes 9 → Some (SwitchHeader (record { 0 = time })) ≡ header_of (head_at size at last (at_place p bytes))
+  pub header_switch : (time : ℕ) → keeps_header size at last bytes ≡ true → slice_index bytes 0 ≢ 1 → time ≡ u64_in bytes 9 → Some (SwitchHeader (record { 0 = time })) ≡ header_of (record_head_at size at last (at_place p bytes))
   header_switch time keeps kind time_is =
       (λ i. Some (SwitchHeader (record { 0 = time_is i }))) ∙ sym (header_is size at last p bytes len ∙ rw (keeps, ne_eqb (slice_index bytes 0) 1 kind) refl)
 

@@ -2,7 +2,7 @@
 use Rattle.std.proofs.Common.{◌≡◌, ◌≢◌, inl, inr, ℕ, ◌+◌, ◌-◌, ◌<◌, ◌≤◌, slice_index, Bool, true, false, not, cond, nat_eq, ◌&&◌, ◌||◌, List, [], ◌∷◌, length, take, drop, Option, Some, None, Result, Ok, Err, refl, sym, ap, ◌∙◌, arith, length-drop}
 use Rattle.std.specs.Int.{w16, w32, from_be_bytes}
 use Rattle.std.proofs.lemmas.Bool.{cases_lt, le-ltb, ne_eqb}
-use Rattle.tod_stamp.specs.Fields.{◌>>=◌, IsBytes, Left, Bad, bytes_at, number_at}
+use Rattle.tod_stamp.specs.Fields.{◌>>=◌, IsBytes, Left, Bad, bytes_at, number_at, any}
 use Rattle.tod_stamp.specs.Fields.Bad.{Cut, Broken}
 use Rattle.tod_stamp.proofs.FieldLaws.{at_place, IsBytes-take, IsBytes-drop}
 use Rattle.ckd_track.specs.declared.rec.Rec.{Rec}
@@ -15,7 +15,7 @@ use Rattle.pair_table.specs.declared.row.PairRow.{PairRow}
 use Rattle.pair_table.specs.Rows.{row_at}
 use Rattle.xrc_journal.specs.Items.{Form, Earlier, may_draw, item_spelling}
 use Rattle.xrc_journal.specs.Items.Item.{Image, Pair}
-use Rattle.xrc_journal.specs.Deltas.{any, as_field}
+use Rattle.xrc_journal.specs.Deltas.{as_body_field}
 use Rattle.xrc_journal.specs.Reading.{track_at, row_or, image_item_at, delta_item_at, pair_item_at, gone_item_at, is_tag, item_at}
 use Rattle.xrc_journal.specs.Answers.{length_of}
 use Rattle.xrc_journal.proofs.Steps.{number_step, number_cut, bytes_cut}
@@ -107,7 +107,7 @@ module _ (form : Form) (earlier : Earlier) (p : ℕ) (fields : List ℕ) where
   unfolding image_item_at
   image_read long may = rw (a_track long (may_draw form earlier), may) (by_image (image_at (drop 6 fields)))
     where
-      by_image : (r : Result (List Rec × List ℕ) ImageError) → length_of (as_field (at_place (p + 2 + 4) (drop 6 fields)) r >>= (λ recs. Ok (Image (device_in fields) (track_in fields) recs.0, recs.1))) ≡ image_length_of (device_in fields) (track_in fields) r
+      by_image : (r : Result (List Rec × List ℕ) ImageError) → length_of (as_body_field (at_place (p + 2 + 4) (drop 6 fields)) r >>= (λ recs. Ok (Image (device_in fields) (track_in fields) recs.0, recs.1))) ≡ image_length_of (device_in fields) (track_in fields) r
       by_image (Ok found) = refl
       by_image (Err bad) = refl
 

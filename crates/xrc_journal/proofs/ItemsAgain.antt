@@ -2,7 +2,7 @@
 use Rattle.std.proofs.Common.{◌≡◌, ℕ, zero, suc, ◌+◌, ◌^◌, ◌<◌, ◌≤◌, Bool, true, false, not, nat_lt, ◌&&◌, List, [], ◌∷◌, ◌++◌, length, Ok, None, refl, ap, ◌∙◌, append_assoc, arith, length-append}
 use Rattle.std.specs.Int.{w16, w32, to_be_bytes}
 use Rattle.std.proofs.lemmas.Bool.{ltb-true}
-use Rattle.tod_stamp.specs.Fields.{Left}
+use Rattle.tod_stamp.specs.Fields.{Left, any}
 use Rattle.tod_stamp.proofs.FieldLaws.{at_place, wide16, wide32, number_again, bytes_again}
 use Rattle.ckd_track.specs.declared.rec.Rec.{Rec}
 use Rattle.ckd_track.specs.declared.write.Kind.{Kind}
@@ -13,13 +13,12 @@ use Rattle.ckd_track.specs.Images.{image}
 use Rattle.pair_table.specs.declared.row.PairRow.{PairRow}
 use Rattle.pair_table.specs.Rows.{is_row, row_spelling}
 use Rattle.pair_table.proofs.RowsAgain.{rows_back}
-use Rattle.xrc_journal.specs.Items.{Item, Form, Earlier, none_earlier, behind, may_draw, is_item, are_items_behind, item_spelling, body_spelling}
+use Rattle.xrc_journal.specs.Items.{Item, Form, Earlier, none_earlier, behind, may_draw, is_item, are_items_behind, item_spelling, body_spelling, AreItems}
 use Rattle.xrc_journal.specs.Items.Item.{Image, Delta, Pair, Gone}
-use Rattle.xrc_journal.specs.Deltas.{any}
-use Rattle.xrc_journal.specs.Reading.{Items, track_at, image_item_at, delta_item_at, pair_item_at, gone_item_at, is_tag, item_at, items_from}
-use Rattle.xrc_journal.specs.Laws.{ItemsReadBack, BodiesReadBack}
+use Rattle.xrc_journal.specs.Reading.{Items, track_at, image_item_at, delta_item_at, pair_item_at, gone_item_at, is_tag, item_at, items_from, items_at}
 use Rattle.xrc_journal.proofs.Changes.{changes_again}
 use Rattle.xrc_journal.proofs.Fields.{both_true, byte_again, image_back, spelled_length}
+use Rattle.std.specs.Prelude.{IsTrue}
 
 -- what an image's item keeps
 pub record IsImageItem (form : Form) (earlier : Earlier) (device track : ℕ) (recs : List Rec) : Type 0 where
@@ -117,7 +116,9 @@ gone_tagged form earlier place fields = rw (byte_again (is_tag form.deltas earli
 three_parts : (a b c rest : List ℕ) → (a ++ b ++ c) ++ rest ≡ a ++ (b ++ (c ++ rest))
 three_parts a b c rest = simp append_assoc refl
 
-pub items_again : ItemsReadBack
+-- An item that keeps the rules is read back, whatever follows.
+pub items_again : (form : Form) (earlier : Earlier) (place : ℕ) (item : Item) (rest : List ℕ) → IsTrue (is_item form earlier item)
+    → item_at form earlier (record { place = place; bytes = item_spelling item ++ rest }) ≡ Ok (item, record { place = place + length (item_spelling item); bytes = rest })
 items_again form earlier place (Image device track recs) rest is =
     let rules = image_rules form earlier device track recs is in
     let front = to_be_bytes w16 device ++ to_be_bytes w32 track in
@@ -163,5 +164,6 @@ body_again (suc turns) form earlier place (i ∷ items) are le =
     first_is turns form earlier (at_place place (item_spelling i ++ body_spelling items)) i (at_place (place + length (item_spelling i)) (body_spelling items)) (omega (arith, len, some_bytes i)) (items_again form earlier place i (body_spelling items) parts.0)
     ∙ ap (λ (r : Items). record { good = i ∷ r.good; bad = r.bad }) rest
 
-pub bodies_again : BodiesReadBack
+-- The items of a body that keeps the rules are read back.
+pub bodies_again : (form : Form) (place : ℕ) (items : List Item) → AreItems form items → items_at form place (body_spelling items) ≡ record { good = items; bad = None }
 bodies_again form place items are = body_again (length (body_spelling items)) form none_earlier place items are (omega arith)

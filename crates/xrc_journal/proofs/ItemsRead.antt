@@ -2,7 +2,7 @@
 use Rattle.std.proofs.Common.{◌≡◌, ◌≢◌, ℕ, zero, suc, ◌+◌, ◌^◌, ◌<◌, ◌≤◌, Bool, true, false, not, cond, nat_eq, nat_lt, ◌&&◌, ◌||◌, List, [], ◌∷◌, ◌++◌, length, Some, None, Result, Ok, Err, refl, sym, ap, subst, ◌∙◌, append_assoc, arith, length-append}
 use Rattle.std.specs.Int.{w8, w16, w32, to_be_bytes}
 use Rattle.std.proofs.lemmas.Bool.{lt-ltb, eqb-true}
-use Rattle.tod_stamp.specs.Fields.{◌>>=◌, IsBytes, Left, Bad, bytes_at, number_at}
+use Rattle.tod_stamp.specs.Fields.{◌>>=◌, IsBytes, Left, Bad, bytes_at, number_at, any}
 use Rattle.tod_stamp.proofs.FieldLaws.{bind_ok, Takes, Takes-then, wide8, wide16, wide32, number_takes, bytes_takes}
 use Rattle.ckd_track.specs.Effects.{is_kind}
 use Rattle.ckd_track.specs.Entries.{delta_spelling, changes_part}
@@ -12,9 +12,9 @@ use Rattle.pair_table.specs.Rows.{row_at}
 use Rattle.pair_table.proofs.RowReads.{rows_keep, rows_spelled}
 use Rattle.xrc_journal.specs.Items.{Item, Form, Earlier, none_earlier, behind, behind_all, may_draw, is_item, are_items_behind, item_spelling, body_spelling}
 use Rattle.xrc_journal.specs.Items.Item.{Image, Delta, Pair, Gone}
-use Rattle.xrc_journal.specs.Deltas.{any, change_at}
-use Rattle.xrc_journal.specs.Reading.{Items, track_at, image_field, row_or, image_item_at, delta_item_at, pair_item_at, gone_item_at, is_tag, item_at, no_items, first_and_rest, items_from}
-use Rattle.xrc_journal.specs.Laws.{ItemsAreSpelled, BodiesAreSpelled}
+use Rattle.xrc_journal.specs.Deltas.{change_at}
+use Rattle.xrc_journal.specs.Reading.{Items, track_at, body_image_field, row_or, image_item_at, delta_item_at, pair_item_at, gone_item_at, is_tag, item_at, no_items, first_and_rest, items_from, items_at}
+use Rattle.xrc_journal.specs.Laws.{BeginWith}
 use Rattle.xrc_journal.proofs.Changes.{change_takes}
 use Rattle.xrc_journal.proofs.Fields.{and_true, given_is, some_is, one_byte, image_takes, row_given, IsBytes-front}
 use Rattle.xrc_journal.proofs.ItemsAgain.{items_again, some_bytes}
@@ -54,9 +54,9 @@ module _ (form : Form) (earlier : Earlier) (start left : Left) (item : Item) (ne
   image_taken : not earlier.late ≡ true → Takes start (1 ∷ []) left → image_item_at form earlier left ≡ Ok (item, next) → ItemTaken form earlier start item next
   unfolding image_item_at
   image_taken early tag e =
-      let one = bind_ok (track_at (may_draw form earlier) left) (λ at. image_field at.1 >>= (λ r. Ok (Image at.0.0 at.0.1 r.0, r.1))) (item, next) e in
+      let one = bind_ok (track_at (may_draw form earlier) left) (λ at. body_image_field at.1 >>= (λ r. Ok (Image at.0.0 at.0.1 r.0, r.1))) (item, next) e in
       let at = track_taken (may_draw form earlier) start left one.0.0 one.0.1 tag.rest_bytes one.1 in
-      let two = bind_ok (image_field one.0.1) (λ r. Ok (Image one.0.0.0 one.0.0.1 r.0, r.1)) (item, next) one.2 in
+      let two = bind_ok (body_image_field one.0.1) (λ r. Ok (Image one.0.0.0 one.0.0.1 r.0, r.1)) (item, next) one.2 in
       let recs = image_takes one.0.1 two.0.0 two.0.1 at.takes.rest_bytes two.1 in
       let head = Takes-then start (1 ∷ []) left (to_be_bytes w16 one.0.0.0 ++ to_be_bytes w32 one.0.0.1) one.0.1 tag at.takes in
       subst (λ (p : Item × Left). ItemTaken form earlier start p.0 p.1) (given_is (Image one.0.0.0 one.0.0.1 two.0.0, two.0.1) (item, next) two.2) (record {
@@ -151,11 +151,6 @@ item_takes form earlier left item next fits e =
     choose tag after false false false one two three kept head e =
         gone_taken form earlier left after item next (subst (λ k. Takes left (k ∷ []) after) (tag_gone form.deltas earlier.late tag kept one two three) head) e
 
-pub items_spelled : ItemsAreSpelled
-items_spelled form earlier left item next fits e =
-    let taken = item_takes form earlier left item next fits e in
-    (taken.kept, taken.takes.parts, taken.takes.place)
-
 -- ---- bodies
 
 -- what was read as the items of a body
@@ -208,7 +203,8 @@ body_takes (suc turns) form earlier left fits le =
     body_takes turns form (behind i.0 earlier) i.1 i_fits (omega (arith, le, some_bytes i.0, ap length taken.takes.parts, length-append (item_spelling i.0) i.1.bytes)))
     (nat_eq (length left.bytes) 0) refl
 
-pub bodies_spelled : BodiesAreSpelled
+-- What is read as the items of a body keeps the rules and was spelled so.
+pub bodies_spelled : (form : Form) (place : ℕ) (bytes : List ℕ) → IsBytes bytes → BeginWith form place bytes (items_at form place bytes)
 bodies_spelled form place bytes fits =
     let taken = body_takes (length bytes) form none_earlier (record { place = place; bytes = bytes }) fits (omega arith) in
     record { keep = taken.keep; rest = taken.rest; parts = taken.parts; all = taken.all; others = taken.others; refused = taken.refused }

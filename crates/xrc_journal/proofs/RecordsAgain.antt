@@ -8,8 +8,8 @@ use Rattle.tod_stamp.proofs.FieldLaws.{at_place, wide16, wide32, wide64, number_
 use Rattle.crash_plant.specs.declared.spot.Spot.{Spot}
 use Rattle.xrc_journal.specs.Items.{Form, body_spelling}
 use Rattle.xrc_journal.specs.Reading.{Items, items_at}
-use Rattle.xrc_journal.specs.Records.{Head, header_spelling, record_spelling, most_body, next_set, is_body_length, head_at, stretch, group_or, switch_or, record_or, walk_one}
-use Rattle.xrc_journal.specs.Laws.{StandsAt, GroupsAreWalked, SwitchesAreWalked}
+use Rattle.xrc_journal.specs.Records.{Head, record_header_spelling, gated_record_spelling, most_body, next_set, is_body_length, record_head_at, stretch, group_or, switch_or, record_or, walk_one}
+use Rattle.xrc_journal.specs.Laws.{HasRecordAt, GroupsAreWalked, SwitchesAreWalked}
 use Rattle.xrc_journal.proofs.Fields.{and_true, byte_again}
 use Rattle.xrc_journal.proofs.ItemsAgain.{bodies_again}
 
@@ -20,8 +20,8 @@ four_parts : (a b c rest : List ℕ) → (a ++ b ++ c) ++ rest ≡ a ++ (b ++ (c
 four_parts a b c rest = simp append_assoc refl
 
 head_again : (size : ℕ) (at : Spot) (last place kind time len : ℕ) → within 1 2 kind ≡ true → at.number < 2 ^ 64 - 1 → last ≤ time → time < 2 ^ 64 → len < 2 ^ 32 → is_body_length size at kind len ≡ true
-    → head_at size at last (at_place place (kind ∷ (to_be_bytes w64 at.number ++ (to_be_bytes w64 time ++ (to_be_bytes w32 len ++ []))))) ≡ Ok (head_of kind time len, at_place (place + 1 + 8 + 8 + 4) [])
-unfolding head_at
+    → record_head_at size at last (at_place place (kind ∷ (to_be_bytes w64 at.number ++ (to_be_bytes w64 time ++ (to_be_bytes w32 len ++ []))))) ≡ Ok (head_of kind time len, at_place (place + 1 + 8 + 8 + 4) [])
+unfolding record_head_at
 head_again size at last place kind time len is_kind number later stamp short fits =
     let expected : (nat_eq at.number at.number && nat_lt at.number (2 ^ 64 - 1)) ≡ true = and_true (nat_eq at.number at.number) (nat_lt at.number (2 ^ 64 - 1)) (eq-eqb at.number at.number refl) (lt-ltb at.number (2 ^ 64 - 1) number) in
     let one = byte_again (within 1 2) place kind (to_be_bytes w64 at.number ++ (to_be_bytes w64 time ++ (to_be_bytes w32 len ++ []))) is_kind in
@@ -31,33 +31,33 @@ head_again size at last place kind time len is_kind number later stamp short fit
     rw (one, two, three, four) refl
 
 -- what stands behind an open gate, part by part
-module _ (journal : List ℕ) (place kind number time : ℕ) (body : List ℕ) (stands : StandsAt place (record_spelling kind number time body) journal) where
-  from : drop place journal ≡ 1 ∷ (header_spelling kind number time (length body) ++ body) ++ stands.0
+module _ (journal : List ℕ) (place kind number time : ℕ) (body : List ℕ) (stands : HasRecordAt place (gated_record_spelling kind number time body) journal) where
+  from : drop place journal ≡ 1 ∷ (record_header_spelling kind number time (length body) ++ body) ++ stands.0
   from = stands.1
 
   pub gate_is : slice_index journal place ≡ 1
   gate_is = ap (λ (k : ℕ). slice_index journal k) (omega arith) ∙ sym (get_or-drop place journal 0 0) ∙ ap (λ (l : List ℕ). slice_index l 0) from
 
-  pub header_is : stretch (place + 1) 21 journal ≡ header_spelling kind number time (length body)
-  header_is = ap (λ (l : List ℕ). take 21 l) (sym (drop-drop 1 place journal) ∙ ap (λ (l : List ℕ). drop 1 l) from ∙ append_assoc (header_spelling kind number time (length body)) body stands.0)
-      ∙ take_at (header_spelling kind number time (length body)) (body ++ stands.0) 21 refl
+  pub header_is : stretch (place + 1) 21 journal ≡ record_header_spelling kind number time (length body)
+  header_is = ap (λ (l : List ℕ). take 21 l) (sym (drop-drop 1 place journal) ∙ ap (λ (l : List ℕ). drop 1 l) from ∙ append_assoc (record_header_spelling kind number time (length body)) body stands.0)
+      ∙ take_at (record_header_spelling kind number time (length body)) (body ++ stands.0) 21 refl
 
   pub body_is : stretch (place + 22) (length body) journal ≡ body
   body_is = ap (λ (l : List ℕ). take (length body) l) (sym (drop-drop 22 place journal) ∙ ap (λ (l : List ℕ). drop 22 l) from) ∙ take_at body stands.0 (length body) refl
 
 -- a record whose gate is open and whose header is read
 pub opened : (form : Form) (sets : ℕ) (journal : List ℕ) (at : Spot) (last : ℕ) (head : Head) (left : Left) → slice_index journal at.place ≡ 1
-    → head_at (length journal) at last (at_place (at.place + 1) (stretch (at.place + 1) 21 journal)) ≡ Ok (head, left) → walk_one form sets journal at last ≡ record_or form sets journal at (Ok (head, left))
+    → record_head_at (length journal) at last (at_place (at.place + 1) (stretch (at.place + 1) 21 journal)) ≡ Ok (head, left) → walk_one form sets journal at last ≡ record_or form sets journal at (Ok (head, left))
 unfolding walk_one
 opened form sets journal at last head left gate read = rw (eq-eqb (slice_index journal at.place) 1 gate, read) refl
 
 -- the header of a record that stands at a spot
-stood_head : (journal : List ℕ) (at : Spot) (last kind time : ℕ) (body : List ℕ) → StandsAt at.place (record_spelling kind at.number time body) journal → within 1 2 kind ≡ true → at.number < 2 ^ 64 - 1 → last ≤ time → time < 2 ^ 64 → length body < 2 ^ 32
+stood_head : (journal : List ℕ) (at : Spot) (last kind time : ℕ) (body : List ℕ) → HasRecordAt at.place (gated_record_spelling kind at.number time body) journal → within 1 2 kind ≡ true → at.number < 2 ^ 64 - 1 → last ≤ time → time < 2 ^ 64 → length body < 2 ^ 32
     → is_body_length (length journal) at kind (length body) ≡ true
-    → head_at (length journal) at last (at_place (at.place + 1) (stretch (at.place + 1) 21 journal)) ≡ Ok (head_of kind time (length body), at_place (at.place + 1 + 1 + 8 + 8 + 4) [])
+    → record_head_at (length journal) at last (at_place (at.place + 1) (stretch (at.place + 1) 21 journal)) ≡ Ok (head_of kind time (length body), at_place (at.place + 1 + 1 + 8 + 8 + 4) [])
 stood_head journal at last kind time body stands is_kind number later stamp short fits =
-    ap (λ (l : List ℕ). head_at (length journal) at last (at_place (at.place + 1) l))
-    (header_is journal at.place kind at.number time body stands ∙ sym (append-nil (header_spelling kind at.number time (length body)))
+    ap (λ (l : List ℕ). record_head_at (length journal) at last (at_place (at.place + 1) l))
+    (header_is journal at.place kind at.number time body stands ∙ sym (append-nil (record_header_spelling kind at.number time (length body)))
     ∙ ap (λ (l : List ℕ). kind ∷ l) (four_parts (to_be_bytes w64 at.number) (to_be_bytes w64 time) (to_be_bytes w32 (length body)) []))
     ∙ head_again (length journal) at last (at.place + 1) kind time (length body) is_kind number later stamp short fits
 

@@ -8,7 +8,7 @@ use Rattle.tod_stamp.proofs.FieldLaws.{at_place, IsBytes-take, IsBytes-drop, bin
 use Rattle.crash_plant.specs.declared.spot.Spot.{Spot}
 use Rattle.xrc_journal.specs.Items.{Item, Form, body_spelling}
 use Rattle.xrc_journal.specs.Reading.{Items, items_at}
-use Rattle.xrc_journal.specs.Records.{Head, header_spelling, most_body, is_body_length, head_at, next_set, spot_after, spot_in, stretch, group_or, switch_or, switch_of, record_or, walk_one}
+use Rattle.xrc_journal.specs.Records.{Head, record_header_spelling, most_body, is_body_length, record_head_at, next_set, spot_after, spot_in, stretch, group_or, switch_or, switch_of, record_or, walk_one}
 use Rattle.xrc_journal.specs.Records.Found.{End, Group, Switch}
 use Rattle.xrc_journal.specs.Laws.{EndsAreShut, GroupsAreSpelled, SwitchesAreSpelled, BeginWith}
 use Rattle.xrc_journal.proofs.Fields.{both_true, given_is, one_byte}
@@ -22,7 +22,7 @@ pub record GroupFound (form : Form) (journal : List ℕ) (at : Spot) (last time 
   pub gate : slice_index journal at.place ≡ 1
   pub head : Head
   pub left : Left
-  pub header : head_at (length journal) at last (at_place (at.place + 1) (stretch (at.place + 1) 21 journal)) ≡ Ok (head, left)
+  pub header : record_head_at (length journal) at last (at_place (at.place + 1) (stretch (at.place + 1) 21 journal)) ≡ Ok (head, left)
   pub kind : nat_eq head.kind 1 ≡ true
   pub read : items_at form (at.place + 22) (stretch (at.place + 22) head.len journal) ≡ record { good = items; bad = None }
   pub time_is : head.time ≡ time
@@ -40,7 +40,7 @@ switch_is_none at head (Ok set) time items after e = cc
 switch_is_none at head (Err bad) time items after e = cc
 
 module _ (form : Form) (sets : ℕ) (journal : List ℕ) (at : Spot) (last time : ℕ) (items : List Item) (after : Spot) where
-  by_kind : (head : Head) (left : Left) (group : Bool) → slice_index journal at.place ≡ 1 → head_at (length journal) at last (at_place (at.place + 1) (stretch (at.place + 1) 21 journal)) ≡ Ok (head, left) → nat_eq head.kind 1 ≡ group
+  by_kind : (head : Head) (left : Left) (group : Bool) → slice_index journal at.place ≡ 1 → record_head_at (length journal) at last (at_place (at.place + 1) (stretch (at.place + 1) 21 journal)) ≡ Ok (head, left) → nat_eq head.kind 1 ≡ group
       → cond group (group_or at head (items_at form (at.place + 22) (stretch (at.place + 22) head.len journal)) (items_at form (at.place + 22) (stretch (at.place + 22) head.len journal)).bad) (switch_of sets journal at head) ≡ Group time items after
       → GroupFound form journal at last time items after
   by_kind head left true gate header kind e =
@@ -48,14 +48,14 @@ module _ (form : Form) (sets : ℕ) (journal : List ℕ) (at : Spot) (last time 
       record { gate = gate; head = head; left = left; header = header; kind = kind; read = are.0; time_is = are.1; after_is = are.2 }
   by_kind head left false gate header kind e = absurd (switch_is_none at head _ time items after e)
 
-  by_head : (read : Result (Head × Left) Bad) → slice_index journal at.place ≡ 1 → head_at (length journal) at last (at_place (at.place + 1) (stretch (at.place + 1) 21 journal)) ≡ read → record_or form sets journal at read ≡ Group time items after
+  by_head : (read : Result (Head × Left) Bad) → slice_index journal at.place ≡ 1 → record_head_at (length journal) at last (at_place (at.place + 1) (stretch (at.place + 1) 21 journal)) ≡ read → record_or form sets journal at read ≡ Group time items after
       → GroupFound form journal at last time items after
   by_head (Ok head) gate header e = by_kind head.0 head.1 (nat_eq head.0.kind 1) gate header refl e
   by_head (Err bad) gate header e = absurd cc
 
   by_gate : (open-gate : Bool) → nat_eq (slice_index journal at.place) 1 ≡ open-gate
-      → cond open-gate (record_or form sets journal at (head_at (length journal) at last (at_place (at.place + 1) (stretch (at.place + 1) 21 journal)))) End ≡ Group time items after → GroupFound form journal at last time items after
-  by_gate true is e = by_head (head_at (length journal) at last (at_place (at.place + 1) (stretch (at.place + 1) 21 journal))) (eqb-true (slice_index journal at.place) 1 is) refl e
+      → cond open-gate (record_or form sets journal at (record_head_at (length journal) at last (at_place (at.place + 1) (stretch (at.place + 1) 21 journal)))) End ≡ Group time items after → GroupFound form journal at last time items after
+  by_gate true is e = by_head (record_head_at (length journal) at last (at_place (at.place + 1) (stretch (at.place + 1) 21 journal))) (eqb-true (slice_index journal at.place) 1 is) refl e
   by_gate false is e = absurd cc
 
   pub group_found : walk_one form sets journal at last ≡ Group time items after → GroupFound form journal at last time items after
@@ -91,8 +91,8 @@ found_or form sets journal at (Ok head) e = by_kind (nat_eq head.0.kind 1) _ _ e
 pub end_is_shut : (form : Form) (sets : ℕ) (journal : List ℕ) (at : Spot) (last : ℕ) → walk_one form sets journal at last ≡ End → slice_index journal at.place ≢ 1
 unfolding walk_one
 end_is_shut form sets journal at last e gate =
-    found_or form sets journal at (head_at (length journal) at last (at_place (at.place + 1) (stretch (at.place + 1) 21 journal)))
-    (ap (λ (b : Bool). cond b (record_or form sets journal at (head_at (length journal) at last (at_place (at.place + 1) (stretch (at.place + 1) 21 journal)))) End) (sym (eq-eqb (slice_index journal at.place) 1 gate)) ∙ e)
+    found_or form sets journal at (record_head_at (length journal) at last (at_place (at.place + 1) (stretch (at.place + 1) 21 journal)))
+    (ap (λ (b : Bool). cond b (record_or form sets journal at (record_head_at (length journal) at last (at_place (at.place + 1) (stretch (at.place + 1) 21 journal)))) End) (sym (eq-eqb (slice_index journal at.place) 1 gate)) ∙ e)
 
 pub shut_is_end : (form : Form) (sets : ℕ) (journal : List ℕ) (at : Spot) (last : ℕ) → slice_index journal at.place ≢ 1 → walk_one form sets journal at last ≡ End
 unfolding walk_one
@@ -102,15 +102,15 @@ shut_is_end form sets journal at last shut = rw (ne_eqb (slice_index journal at.
 
 -- what was read as a header
 pub record HeadTaken (size : ℕ) (at : Spot) (last : ℕ) (left : Left) (head : Head) (next : Left) : Type 0 where
-  pub takes : Takes left (header_spelling head.kind at.number head.time head.len) next
+  pub takes : Takes left (record_header_spelling head.kind at.number head.time head.len) next
   pub kind : within 1 2 head.kind ≡ true
   pub number : at.number < 2 ^ 64 - 1
   pub later : last ≤ head.time
   pub stamp : head.time < 2 ^ 64
   pub fits : is_body_length size at head.kind head.len ≡ true
 
-pub head_takes : (size : ℕ) (at : Spot) (last : ℕ) (left : Left) (head : Head) (next : Left) → IsBytes left.bytes → head_at size at last left ≡ Ok (head, next) → HeadTaken size at last left head next
-unfolding head_at
+pub head_takes : (size : ℕ) (at : Spot) (last : ℕ) (left : Left) (head : Head) (next : Left) → IsBytes left.bytes → record_head_at size at last left ≡ Ok (head, next) → HeadTaken size at last left head next
+unfolding record_head_at
 head_takes size at last left head next fits e =
     let expected : ℕ → Bool = λ n. nat_eq n at.number && nat_lt n (2 ^ 64 - 1) in
     let one = bind_ok (number_at w8 (within 1 2) left) (λ k. number_at w64 expected k.1 >>= (λ n. number_at w64 (nat_le last) n.1 >>= (λ t. number_at w32 (is_body_length size at k.0) t.1 >>= (λ l. Ok (record { kind = k.0; time = t.0; len = l.0 }, l.1))))) (head, next) e in
@@ -128,7 +128,7 @@ head_takes size at last left head next fits e =
     let front3 = Takes-then left (one.0.0 ∷ to_be_bytes w64 two.0.0) two.0.1 (to_be_bytes w64 three.0.0) three.0.1 front2 time.takes in
     let whole = Takes-then left (one.0.0 ∷ to_be_bytes w64 two.0.0 ++ to_be_bytes w64 three.0.0) three.0.1 (to_be_bytes w32 four.0.0) four.0.1 front3 len.takes in
     subst (λ (p : Head × Left). HeadTaken size at last left p.0 p.1) (given_is (record { kind = one.0.0; time = three.0.0; len = four.0.0 }, four.0.1) (head, next) four.2) (record {
-      takes = subst (λ (n : ℕ). Takes left (header_spelling one.0.0 n three.0.0 four.0.0) four.0.1) number_is whole;
+      takes = subst (λ (n : ℕ). Takes left (record_header_spelling one.0.0 n three.0.0 four.0.0) four.0.1) number_is whole;
       kind = kind.kept;
       number = omega (arith, number_is, ltb-true two.0.0 (2 ^ 64 - 1) is.1);
       later = leb-true last three.0.0 time.kept;
@@ -174,10 +174,10 @@ groups_spelled form sets journal at after last time items fits e =
     let header_len = length-stretch (at.place + 1) 21 journal (omega (arith, bounds.1)) in
     let body_len = length-stretch (at.place + 22) f.head.len journal (omega (arith, bounds.1)) in
     let kind_is = eqb-true f.head.kind 1 f.kind in
-    let none = no_bytes f.left.bytes (omega (arith, header_len, ap length head.takes.parts, length-append (header_spelling f.head.kind at.number f.head.time f.head.len) f.left.bytes)) in
-    let header : stretch (at.place + 1) 21 journal ≡ header_spelling 1 at.number time f.head.len =
-    head.takes.parts ∙ ap (λ (t : List ℕ). header_spelling f.head.kind at.number f.head.time f.head.len ++ t) none ∙ append-nil (header_spelling f.head.kind at.number f.head.time f.head.len)
-    ∙ (λ i. header_spelling (kind_is i) at.number (f.time_is i) f.head.len) in
+    let none = no_bytes f.left.bytes (omega (arith, header_len, ap length head.takes.parts, length-append (record_header_spelling f.head.kind at.number f.head.time f.head.len) f.left.bytes)) in
+    let header : stretch (at.place + 1) 21 journal ≡ record_header_spelling 1 at.number time f.head.len =
+    head.takes.parts ∙ ap (λ (t : List ℕ). record_header_spelling f.head.kind at.number f.head.time f.head.len ++ t) none ∙ append-nil (record_header_spelling f.head.kind at.number f.head.time f.head.len)
+    ∙ (λ i. record_header_spelling (kind_is i) at.number (f.time_is i) f.head.len) in
     let body_fits = IsBytes-take f.head.len (drop (at.place + 22) journal) (IsBytes-drop (at.place + 22) journal fits) in
     let read = subst (λ (r : Items). BeginWith form (at.place + 22) (stretch (at.place + 22) f.head.len journal) r) f.read (bodies_spelled form (at.place + 22) (stretch (at.place + 22) f.head.len journal) body_fits) in
     let body : stretch (at.place + 22) f.head.len journal ≡ body_spelling items = read.parts ∙ ap (λ (t : List ℕ). body_spelling items ++ t) (read.all refl) ∙ append-nil (body_spelling items) in
@@ -190,7 +190,7 @@ groups_spelled form sets journal at after last time items fits e =
         later = omega (arith, head.later, f.time_is);
         stamp = omega (arith, head.stamp, f.time_is);
       },
-      (drop (at.place + 22 + f.head.len) journal, stands_by at.place f.head.len (header_spelling 1 at.number time (length (body_spelling items))) (body_spelling items) journal (omega (arith, bounds.1)) f.gate (header ∙ ap (λ (n : ℕ). header_spelling 1 at.number time n) len) body),
+      (drop (at.place + 22 + f.head.len) journal, stands_by at.place f.head.len (record_header_spelling 1 at.number time (length (body_spelling items))) (body_spelling items) journal (omega (arith, bounds.1)) f.gate (header ∙ ap (λ (n : ℕ). record_header_spelling 1 at.number time n) len) body),
       sym f.after_is ∙ ap (λ (n : ℕ). spot_after at n) len,
     )
 
@@ -201,7 +201,7 @@ record SwitchFound (sets : ℕ) (journal : List ℕ) (at : Spot) (last time : �
   gate : slice_index journal at.place ≡ 1
   head : Head
   left : Left
-  header : head_at (length journal) at last (at_place (at.place + 1) (stretch (at.place + 1) 21 journal)) ≡ Ok (head, left)
+  header : record_head_at (length journal) at last (at_place (at.place + 1) (stretch (at.place + 1) 21 journal)) ≡ Ok (head, left)
   kind : nat_eq head.kind 1 ≡ false
   set : ℕ
   rest : Left
@@ -219,7 +219,7 @@ group_is_none at head read None time after e = cc
 group_is_none at head read (Some place) time after e = cc
 
 module _ (form : Form) (sets : ℕ) (journal : List ℕ) (at : Spot) (last time : ℕ) (after : Spot) where
-  by_kind_of : (head : Head) (left : Left) (group : Bool) → slice_index journal at.place ≡ 1 → head_at (length journal) at last (at_place (at.place + 1) (stretch (at.place + 1) 21 journal)) ≡ Ok (head, left) → nat_eq head.kind 1 ≡ group
+  by_kind_of : (head : Head) (left : Left) (group : Bool) → slice_index journal at.place ≡ 1 → record_head_at (length journal) at last (at_place (at.place + 1) (stretch (at.place + 1) 21 journal)) ≡ Ok (head, left) → nat_eq head.kind 1 ≡ group
       → cond group (group_or at head (items_at form (at.place + 22) (stretch (at.place + 22) head.len journal)) (items_at form (at.place + 22) (stretch (at.place + 22) head.len journal)).bad) (switch_of sets journal at head) ≡ Switch time after
       → SwitchFound sets journal at last time after
   by_kind_of head left true gate header kind e = absurd (group_is_none at head (items_at form (at.place + 22) (stretch (at.place + 22) head.len journal)) _ time after e)
@@ -227,14 +227,14 @@ module _ (form : Form) (sets : ℕ) (journal : List ℕ) (at : Spot) (last time 
       let is = switch_is at head (number_at w16 (λ n. nat_eq n (next_set sets at.set)) (at_place (at.place + 22) (stretch (at.place + 22) 2 journal))) time after e in
       record { gate = gate; head = head; left = left; header = header; kind = kind; set = is.0.0; rest = is.0.1; read = is.1; time_is = is.2; after_is = is.3 }
 
-  by_head_of : (read : Result (Head × Left) Bad) → slice_index journal at.place ≡ 1 → head_at (length journal) at last (at_place (at.place + 1) (stretch (at.place + 1) 21 journal)) ≡ read → record_or form sets journal at read ≡ Switch time after
+  by_head_of : (read : Result (Head × Left) Bad) → slice_index journal at.place ≡ 1 → record_head_at (length journal) at last (at_place (at.place + 1) (stretch (at.place + 1) 21 journal)) ≡ read → record_or form sets journal at read ≡ Switch time after
       → SwitchFound sets journal at last time after
   by_head_of (Ok head) gate header e = by_kind_of head.0 head.1 (nat_eq head.0.kind 1) gate header refl e
   by_head_of (Err bad) gate header e = absurd cc
 
   by_gate_of : (open-gate : Bool) → nat_eq (slice_index journal at.place) 1 ≡ open-gate
-      → cond open-gate (record_or form sets journal at (head_at (length journal) at last (at_place (at.place + 1) (stretch (at.place + 1) 21 journal)))) End ≡ Switch time after → SwitchFound sets journal at last time after
-  by_gate_of true is e = by_head_of (head_at (length journal) at last (at_place (at.place + 1) (stretch (at.place + 1) 21 journal))) (eqb-true (slice_index journal at.place) 1 is) refl e
+      → cond open-gate (record_or form sets journal at (record_head_at (length journal) at last (at_place (at.place + 1) (stretch (at.place + 1) 21 journal)))) End ≡ Switch time after → SwitchFound sets journal at last time after
+  by_gate_of true is e = by_head_of (record_head_at (length journal) at last (at_place (at.place + 1) (stretch (at.place + 1) 21 journal))) (eqb-true (slice_index journal at.place) 1 is) refl e
   by_gate_of false is e = absurd cc
 
   switch_found : walk_one form sets journal at last ≡ Switch time after → SwitchFound sets journal at last time after
@@ -265,12 +265,12 @@ switches_spelled form sets journal at after last time fits e =
     target.takes.parts ∙ (λ i. to_be_bytes w16 (set_is i) ++ no_more i) ∙ append-nil (to_be_bytes w16 next) in
     let room : at.place + 24 ≤ length journal = omega (arith, ap length body, length-take 2 (drop (at.place + 22) journal), length-drop (at.place + 22) journal) in
     let header_len = length-stretch (at.place + 1) 21 journal (omega (arith, room)) in
-    let none = no_bytes f.left.bytes (omega (arith, header_len, ap length head.takes.parts, length-append (header_spelling f.head.kind at.number f.head.time f.head.len) f.left.bytes)) in
-    let header : stretch (at.place + 1) 21 journal ≡ header_spelling 2 at.number time 2 =
-    head.takes.parts ∙ ap (λ (t : List ℕ). header_spelling f.head.kind at.number f.head.time f.head.len ++ t) none ∙ append-nil (header_spelling f.head.kind at.number f.head.time f.head.len)
-    ∙ (λ i. header_spelling (kind_is i) at.number (f.time_is i) (len_is i)) in (
+    let none = no_bytes f.left.bytes (omega (arith, header_len, ap length head.takes.parts, length-append (record_header_spelling f.head.kind at.number f.head.time f.head.len) f.left.bytes)) in
+    let header : stretch (at.place + 1) 21 journal ≡ record_header_spelling 2 at.number time 2 =
+    head.takes.parts ∙ ap (λ (t : List ℕ). record_header_spelling f.head.kind at.number f.head.time f.head.len ++ t) none ∙ append-nil (record_header_spelling f.head.kind at.number f.head.time f.head.len)
+    ∙ (λ i. record_header_spelling (kind_is i) at.number (f.time_is i) (len_is i)) in (
       record { number = head.number; later = omega (arith, head.later, f.time_is); stamp = omega (arith, head.stamp, f.time_is) },
-      (drop (at.place + 22 + 2) journal, stands_by at.place 2 (header_spelling 2 at.number time 2) (to_be_bytes w16 next) journal (omega (arith, room)) f.gate header body),
+      (drop (at.place + 22 + 2) journal, stands_by at.place 2 (record_header_spelling 2 at.number time 2) (to_be_bytes w16 next) journal (omega (arith, room)) f.gate header body),
       sym f.after_is ∙ ap (λ (n : ℕ). spot_in n at) set_is,
     )
 
@@ -297,7 +297,7 @@ found_again form m b c at last time items after same size le f =
       gate = byte ∙ f.gate;
       head = f.head;
       left = f.left;
-      header = (λ i. head_at (size i) at last (at_place (at.place + 1) (header i))) ∙ f.header;
+      header = (λ i. record_head_at (size i) at last (at_place (at.place + 1) (header i))) ∙ f.header;
       kind = f.kind;
       read = ap (λ (l : List ℕ). items_at form (at.place + 22) l) body ∙ f.read;
       time_is = f.time_is;

@@ -11,15 +11,14 @@ use Rattle.crash_plant.specs.declared.spot.Spot.{Spot}
 use Rattle.xrc_journal.specs.declared.header.Header.{Header}
 use Rattle.xrc_journal.specs.declared.header.Header.TheVariants.{Group as GroupHeader, Switch as SwitchHeader}
 use Rattle.xrc_journal.specs.Items.{Item, Form}
-use Rattle.xrc_journal.specs.Records.{Found, Head, is_body_length, head_at, stretch, next_set, spot_in, switch_or, switch_of, group_of, walk_one}
-use Rattle.xrc_journal.specs.Records.Found.{End, Switch, Damaged}
+use Rattle.xrc_journal.specs.Records.{Found, Head, is_body_length, record_head_at, stretch, next_set, spot_in, switch_or, switch_of, group_of, walk_one}
+use Rattle.xrc_journal.specs.Records.Found.{Switch, Damaged}
 use Rattle.xrc_edge.specs.Causes.{Rose}
 use Rattle.crash_plant.specs.declared.device.Device.{Device}
 use Rattle.crash_plant.specs.Moments.{PlantState, on, Same}
 use Rattle.crash_plant.proofs.Steps.{works_on_trans}
 use Rattle.crash_plant.proofs.Behind.{same_after}
 use Rattle.xrc_journal.specs.declared.spot.Walked.{Walked}
-use Rattle.xrc_journal.specs.declared.spot.Walked.TheVariants.{End as WalkedEnd}
 use Rattle.xrc_journal.specs.Bodies.{Held}
 use Rattle.xrc_journal.specs.declared.spot.WalkError.{WalkError}
 use Rattle.xrc_journal.specs.declared.spot.WalkError.TheVariants.{Damaged as WalkDamaged, Fault as WalkFault}
@@ -30,7 +29,7 @@ use Rattle.xrc_journal.proofs.RecordsAgain.{opened}
 
 -- the header at a spot
 abbrev pub header_at : (journal : List ℕ) → Spot → (last : ℕ) → Result (Head × Left) Bad
-header_at journal at last = head_at (length journal) at last (at_place (at.place + 1) (stretch (at.place + 1) 21 journal))
+header_at journal at last = record_head_at (length journal) at last (at_place (at.place + 1) (stretch (at.place + 1) 21 journal))
 
 group_time : (t s : Stamp) (n m : ℕ) → (let x : Option Header = Some (GroupHeader t n) in let y : Option Header = Some (GroupHeader s m) in x ≡ y) → t ≡ s
 group_time t s n m e = cc
@@ -98,8 +97,8 @@ number_long w rule left n next e =
     let long : byte_len w ≤ length left.bytes = ltb-false (length left.bytes) (byte_len w) one.0 in
     omega (arith, long, length-drop (byte_len w) left.bytes, ap (λ (p : ℕ × Left). length p.1.bytes) two.1)
 
-pub header_long : (size : ℕ) (at : Spot) (last : ℕ) (left : Left) (head : Head × Left) → head_at size at last left ≡ Ok head → 21 ≤ length left.bytes
-unfolding head_at
+pub header_long : (size : ℕ) (at : Spot) (last : ℕ) (left : Left) (head : Head × Left) → record_head_at size at last left ≡ Ok head → 21 ≤ length left.bytes
+unfolding record_head_at
 header_long size at last left head e =
     let expected : ℕ → Bool = λ n. nat_eq n at.number && nat_lt n (2 ^ 64 - 1) in
     let one = bind_ok (number_at w8 (within 1 2) left) (λ k. number_at w64 expected k.1 >>= (λ n. number_at w64 (nat_le last) n.1 >>= (λ t. number_at w32 (is_body_length size at k.0) t.1 >>= (λ l. Ok (record { kind = k.0; time = t.0; len = l.0 }, l.1))))) head e in
@@ -164,9 +163,6 @@ held_none held items empty none = let same = empty ∙ sym none in λ i. record 
 
 pub finds_damaged : (set place : ℕ) (found : Found) (held : Held) → found ≡ Damaged place [] → held.items ≡ [] → Finds set found (Err (WalkDamaged set place)) held held
 finds_damaged set place found held is empty = record { told = sym (ap (λ (f : Found). told_of set f) is); held = held_none held (items_found found) empty (ap items_found is) }
-
-pub finds_end : (set : ℕ) (found : Found) (held : Held) → found ≡ End → held.items ≡ [] → Finds set found (Ok WalkedEnd) held held
-finds_end set found held is empty = record { told = sym (ap (λ (f : Found). told_of set f) is); held = held_none held (items_found found) empty (ap items_found is) }
 
 pub finds_switch : (set sets : ℕ) (journal : List ℕ) (at : Spot) (time : ℕ) (result : Result Walked WalkError) (held : Held) → result ≡ told_of set (switch_at sets journal at time) → held.items ≡ [] → Finds set (switch_at sets journal at time) result held held
 finds_switch set sets journal at time result held told empty = record { told = told; held = held_none held (items_found (switch_at sets journal at time)) empty (by_set (number_at w16 (λ n. nat_eq n (next_set sets at.set)) (at_place (at.place + 22) (stretch (at.place + 22) 2 journal)))) }

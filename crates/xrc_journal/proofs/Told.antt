@@ -1,7 +1,6 @@
 -- The first item of bytes, as it is told.
-use Rattle.std.proofs.Common.{◌≡◌, ◌≢◌, ℕ, ◌+◌, ◌-◌, ◌^◌, ◌≤◌, true, List, [], ◌∷◌, ◌++◌, length, take, drop, slice_index, Some, Result, Ok, refl, sym, ap, subst, ◌∙◌, arith, length-append, length-drop, append_assoc}
+use Rattle.std.proofs.Common.{◌≡◌, ◌≢◌, ℕ, ◌+◌, ◌-◌, ◌≤◌, true, List, [], ◌∷◌, ◌++◌, length, take, drop, slice_index, Some, Result, Ok, refl, sym, ap, subst, ◌∙◌, arith, length-append, length-drop, append_assoc}
 use Rattle.std.specs.Int.{w16, w32, to_be_bytes, from_be_bytes}
-use Rattle.std.proofs.lemmas.Bool.{ltb-true}
 use Rattle.std.proofs.lemmas.List.{take_at, take_all}
 use Rattle.tod_stamp.proofs.FieldLaws.{wide16, wide32}
 use Rattle.ckd_track.specs.declared.rec.Rec.{Rec}
@@ -34,9 +33,6 @@ pub row_here : (bytes : List ℕ) (row : PairRow) → BeginsWith bytes (Pair row
 row_here bytes row b =
     ap (λ (l : List ℕ). row_at (take 30 (drop 1 l))) b.parts
     ∙ ap row_at (take_at (row_spelling row) b.rest 30 (spelled_length row b.keeps)) ∙ rows_back row b.keeps
-
-pub gone_here : (bytes : List ℕ) (device : ℕ) → BeginsWith bytes (Gone device) → from_be_bytes w16 (take 2 (drop 1 bytes)) ≡ device
-gone_here bytes device b = ap (λ (l : List ℕ). from_be_bytes w16 (take 2 (drop 1 l))) b.parts ∙ wide16.again device (ltb-true device (2 ^ 16) b.keeps)
 
 -- the image of an image's item is read
 pub image_here : (bytes : List ℕ) (device track : ℕ) (recs : List Rec) (b : BeginsWith bytes (Image device track recs)) → image_at (take (length bytes - 7) (drop 7 bytes)) ≡ Ok (recs, b.rest)

@@ -2,12 +2,13 @@
 use Rattle.std.proofs.Common.{◌≡◌, ◌≢◌, ℕ, ◌≤◌, List, [], ◌∷◌, length, take, slice_index, refl, sym, ap, subst, ◌∙◌, arith}
 use Rattle.crash_plant.specs.declared.spot.Spot.{Spot}
 use Rattle.xrc_journal.specs.Items.{Item, Form, body_spelling}
-use Rattle.xrc_journal.specs.Records.{spot_after, walk_one}
+use Rattle.xrc_journal.specs.Records.{spot_after, walk_one, group_spelling}
 use Rattle.xrc_journal.specs.Records.Found.{End, Group}
 use Rattle.xrc_journal.specs.Walks.{Logged, Walks}
-use Rattle.xrc_journal.specs.Laws.{WalksEndAtGates, WalksGoOn, WalksAreOne}
+use Rattle.xrc_journal.specs.Laws.{WalksAreOne, HasRecordAt, MayStand}
 use Rattle.xrc_journal.proofs.RecordsAgain.{groups_walked}
 use Rattle.xrc_journal.proofs.RecordsRead.{group_found, found_group, found_again, end_is_shut, shut_is_end}
+use Rattle.std.specs.Prelude.{◌+◌, ◌++◌}
 
 -- no walk goes back
 pub walk_forth : (form : Form) (sets : ℕ) (b : List ℕ) (from to : Spot) (last time : ℕ) (groups : List Logged) → Walks form sets b from last groups to time → from.place ≤ to.place
@@ -27,13 +28,18 @@ first_again : (form : Form) (sets m : ℕ) (b c : List ℕ) (from after : Spot) 
 first_again form sets m b c from after last g same size le is =
     found_group form sets c from last g.time g.items after (found_again form m b c from last g.time g.items after same size le (group_found form sets b from last g.time g.items after is))
 
-pub walks_end : WalksEndAtGates
+-- A walk depends on no byte behind the gate that ends it, nor on that byte where it isn't 1.
+pub walks_end : (form : Form) (sets : ℕ) (b c : List ℕ) (from to : Spot) (last time : ℕ) (groups : List Logged) → take to.place c ≡ take to.place b → length c ≡ length b → slice_index c to.place ≢ 1
+    → Walks form sets b from last groups to time → Walks form sets c from last groups to time
 walks_end form sets b c from to last time [] same size shut w = (shut_is_end form sets c from last (λ gate. shut (ap (λ (s : Spot). slice_index c s.place) w.1 ∙ gate)), w.1, w.2)
 walks_end form sets b c from to last time (g ∷ groups) same size shut w =
     let le = walk_forth form sets b w.0 to g.time time groups w.2 in
     (w.0, first_again form sets to.place b c from w.0 last g same size le w.1, walks_end form sets b c w.0 to g.time time groups same size shut w.2)
 
-pub walks_on : WalksGoOn
+-- A group that stands spelled at the end of a walk, with a gate behind it that isn't 1, is the walk's last.
+pub walks_on : (form : Form) (sets : ℕ) (b c : List ℕ) (from to : Spot) (last time : ℕ) (groups : List Logged) (g : Logged) → take to.place c ≡ take to.place b → length c ≡ length b → MayStand form (length c) to time g.time g.items
+    → HasRecordAt to.place (group_spelling to.number g.time g.items) c → slice_index c (to.place + 22 + length (body_spelling g.items)) ≢ 1
+    → Walks form sets b from last groups to time → Walks form sets c from last (groups ++ g ∷ []) (spot_after to (length (body_spelling g.items))) g.time
 walks_on form sets b c from to last time [] g same size may stands shut w =
     let after = spot_after to (length (body_spelling g.items)) in
     let found = groups_walked form sets c to time g.time g.items may stands in

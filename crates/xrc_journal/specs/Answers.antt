@@ -83,10 +83,10 @@ pub record WalkCause (set before now : ℕ) (result : Result Walked WalkError) :
 
 -- Behind a group the walk goes on in the same data set, which has room for a switch there, and behind a switch at the start of a data
 -- set of the plant. The number is one more.
-abbrev pub GoesOn : PlantState → (at : Spot) → Walked → Type 0
-GoesOn plant at WalkedEnd = Unit {0}
-GoesOn plant at (WalkedGroup time after) = (after.set ≡ at.set) × (after.place + SWITCH ≤ plant.lengths (Journal at.set)) × (after.number ≡ at.number + 1)
-GoesOn plant at (WalkedSwitch time after) = (after.set < plant.journals) × (after.place ≡ 0) × (after.number ≡ at.number + 1)
+abbrev pub WalkGoesOn : PlantState → (at : Spot) → Walked → Type 0
+WalkGoesOn plant at WalkedEnd = Unit {0}
+WalkGoesOn plant at (WalkedGroup time after) = (after.set ≡ at.set) × (after.place + SWITCH ≤ plant.lengths (Journal at.set)) × (after.number ≡ at.number + 1)
+WalkGoesOn plant at (WalkedSwitch time after) = (after.set < plant.journals) × (after.place ≡ 0) × (after.number ≡ at.number + 1)
 
 -- What a read of one device gives stays, and a crash leaves nothing there that it couldn't leave before. Nothing else changes.
 pub record ReadsOnly (tells : Type 0) (device : Device) (old new : PlantState) : Type 0 where

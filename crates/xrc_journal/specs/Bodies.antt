@@ -42,8 +42,8 @@ abbrev pub have_image : List Item → (device track : ℕ) → Bool
 have_image items device track = is_drawn (behind_all items none_earlier).drawn device track
 
 -- The item fits into the rest of the room.
-abbrev pub Fits : Held → Item → Type 0
-Fits held item = length (body_spelling held.items) + length (item_spelling item) ≤ held.room
+abbrev pub FitsInRoom : Held → Item → Type 0
+FitsInRoom held item = length (body_spelling held.items) + length (item_spelling item) ≤ held.room
 
 -- The bytes spell an item that may follow these.
 pub record IsNextItem (items : List Item) (bytes : List ℕ) : Type 0 where

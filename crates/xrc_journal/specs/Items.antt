@@ -1,6 +1,5 @@
 -- The items of a group: their one spelling, and the rules that each keeps behind the items before it.
-use Rattle.std.specs.Prelude.{ℕ, ◌+◌, ◌*◌, ◌^◌, ◌==◌, ◌&&◌, ◌||◌, not, List, [], ◌∷◌, ◌++◌, Bool, true, false, nat_lt, nat_le, IsTrue}
-use Rattle.ckd_track.specs.SlotPlaces.{slot_end}
+use Rattle.std.specs.Prelude.{ℕ, ◌+◌, ◌^◌, ◌==◌, ◌&&◌, ◌||◌, not, List, [], ◌∷◌, ◌++◌, Bool, true, false, nat_lt, nat_le, IsTrue}
 use Rattle.std.specs.List.{flat_map, list_any}
 use Rattle.std.specs.Int.{w16, w32, to_be_bytes}
 use Rattle.crash_plant.specs.declared.device.Device.TheVariants.{Volume}
@@ -10,6 +9,7 @@ use Rattle.ckd_track.specs.declared.write.Kind.{Kind}
 use Rattle.ckd_track.specs.Tracks.{is_track}
 use Rattle.ckd_track.specs.Effects.{is_kind}
 use Rattle.ckd_track.specs.Images.{image}
+use Rattle.ckd_track.specs.SlotPlaces.{slot_end}
 use Rattle.ckd_track.specs.Entries.{delta_spelling, changes_part}
 use Rattle.pair_table.specs.declared.row.PairRow.{PairRow}
 use Rattle.pair_table.specs.Rows.{is_row, row_spelling}
@@ -43,7 +43,7 @@ pub record Form : Type 0 where
 abbrev pub anywhere : Form
 anywhere = record { deltas = false; has_slot = λ device track. true }
 
--- Whether a device of this length has the whole slot of a track.
+-- whether a device of this length has the whole slot of a track
 abbrev pub is_within : (len track : ℕ) → Bool
 is_within len track = nat_le (slot_end track) len
 

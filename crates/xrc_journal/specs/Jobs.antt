@@ -1,5 +1,5 @@
 -- What is said of a job's volume before and after a call.
-use Rattle.std.specs.Prelude.{◌≡◌, ◌≤◌, ℕ, Bool, true, false, Option, Some, None}
+use Rattle.std.specs.Prelude.{◌≡◌, ◌≤◌, ◌+◌, ℕ, Bool, true, false, Option, Some, None}
 use Rattle.xrc_edge.specs.Causes.{Rose}
 use Rattle.crash_plant.specs.Moments.{Standing}
 
@@ -10,8 +10,9 @@ OnVolume state holds None None = Unit {0}
 OnVolume state holds (Some old) None = ⊥
 OnVolume state holds None (Some new) = ⊥
 
--- A job fails only where its volume's count rose, which rises in no other call.
+-- A job fails only where its volume's count rose, by one, and the count rises in no other call.
 pub record FailsByCount (failed : Bool) (before now : ℕ) : Type 0 where
   pub later : before ≤ now
+  pub by_one : now ≤ before + 1
   pub same : failed ≡ false → now ≡ before
   pub rose : failed ≡ true → Rose before now

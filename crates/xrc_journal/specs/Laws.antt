@@ -1,31 +1,17 @@
 -- The laws of items, records and walks. Each is the contract of a public function without parameters.
-use Rattle.std.specs.Prelude.{◌≡◌, ◌≢◌, ◌↔◌, ℕ, ◌+◌, ◌-◌, ◌^◌, ◌<◌, ◌≤◌, List, [], ◌∷◌, ◌++◌, length, take, drop, slice_index, Some, None, Ok, IsTrue}
+use Rattle.std.specs.Prelude.{◌≡◌, ◌≢◌, ◌↔◌, ℕ, ◌+◌, ◌-◌, ◌^◌, ◌<◌, ◌≤◌, List, [], ◌∷◌, ◌++◌, length, drop, slice_index, Some, None, IsTrue}
 use Rattle.crash_plant.specs.declared.layout.TheConstants.{FRONT, SWITCH}
-use Rattle.tod_stamp.specs.Fields.{IsBytes, Left}
+use Rattle.tod_stamp.specs.Fields.{IsBytes}
 use Rattle.crash_plant.specs.declared.spot.Spot.{Spot}
-use Rattle.xrc_journal.specs.Items.{Item, Form, Earlier, none_earlier, behind_all, AreItems, is_item, item_spelling, body_spelling}
-use Rattle.xrc_journal.specs.Reading.{Items, item_at, items_at}
+use Rattle.xrc_journal.specs.Items.{Item, Form, none_earlier, behind_all, AreItems, is_item, item_spelling, body_spelling}
+use Rattle.xrc_journal.specs.Reading.{Items}
 use Rattle.xrc_journal.specs.Records.{group_spelling, switch_spelling, most_body, next_set, spot_after, spot_in, walk_one}
 use Rattle.xrc_journal.specs.Records.Found.{End, Group, Switch}
 use Rattle.xrc_journal.specs.Walks.{Logged, Walks}
 
 -- ---- items
 
--- An item that keeps the rules is read back, whatever follows.
-abbrev pub ItemsReadBack : Type 0
-ItemsReadBack = (form : Form) (earlier : Earlier) (place : ℕ) (item : Item) (rest : List ℕ) → IsTrue (is_item form earlier item)
-    → item_at form earlier (record { place = place; bytes = item_spelling item ++ rest }) ≡ Ok (item, record { place = place + length (item_spelling item); bytes = rest })
-
--- What is read as an item keeps the rules and was spelled so.
-abbrev pub ItemsAreSpelled : Type 0
-ItemsAreSpelled = (form : Form) (earlier : Earlier) (left : Left) (item : Item) (next : Left) → IsBytes left.bytes → item_at form earlier left ≡ Ok (item, next)
-    → IsTrue (is_item form earlier item) × (left.bytes ≡ item_spelling item ++ next.bytes) × (next.place ≡ left.place + length (item_spelling item))
-
 -- ---- bodies
-
--- The items of a body that keeps the rules are read back.
-abbrev pub BodiesReadBack : Type 0
-BodiesReadBack = (form : Form) (place : ℕ) (items : List Item) → AreItems form items → items_at form place (body_spelling items) ≡ record { good = items; bad = None }
 
 -- These items stand spelled at the front, and they are all, or another that is bad begins behind them.
 pub record BeginWith (form : Form) (place : ℕ) (bytes : List ℕ) (items : Items) : Type 0 where
@@ -37,15 +23,11 @@ pub record BeginWith (form : Form) (place : ℕ) (bytes : List ℕ) (items : Ite
   -- No item that may follow these stands there.
   pub refused : (at : ℕ) → items.bad ≡ Some at → (item : Item) (more : List ℕ) → IsTrue (is_item form (behind_all items.good none_earlier) item) → rest ≢ item_spelling item ++ more
 
--- What is read as the items of a body keeps the rules and was spelled so.
-abbrev pub BodiesAreSpelled : Type 0
-BodiesAreSpelled = (form : Form) (place : ℕ) (bytes : List ℕ) → IsBytes bytes → BeginWith form place bytes (items_at form place bytes)
-
 -- ---- records
 
 -- A record stands at a place, behind an open gate.
-abbrev pub StandsAt : (place : ℕ) → (behind : List ℕ) → (journal : List ℕ) → Type 0
-StandsAt place behind journal = (rest : List ℕ) × (drop place journal ≡ 1 ∷ behind ++ rest)
+abbrev pub HasRecordAt : (place : ℕ) → (behind : List ℕ) → (journal : List ℕ) → Type 0
+HasRecordAt place behind journal = (rest : List ℕ) × (drop place journal ≡ 1 ∷ behind ++ rest)
 
 -- a group that may stand at a spot of a data set of so many bytes, behind a record of a time
 pub record MayStand (form : Form) (size : ℕ) (at : Spot) (last time : ℕ) (items : List Item) : Type 0 where
@@ -58,18 +40,18 @@ pub record MayStand (form : Form) (size : ℕ) (at : Spot) (last time : ℕ) (it
 
 -- A group that stands spelled behind an open gate is walked over, whatever follows.
 abbrev pub GroupsAreWalked : Type 0
-GroupsAreWalked = (form : Form) (sets : ℕ) (journal : List ℕ) (at : Spot) (last time : ℕ) (items : List Item) → MayStand form (length journal) at last time items → StandsAt at.place (group_spelling at.number time items) journal
+GroupsAreWalked = (form : Form) (sets : ℕ) (journal : List ℕ) (at : Spot) (last time : ℕ) (items : List Item) → MayStand form (length journal) at last time items → HasRecordAt at.place (group_spelling at.number time items) journal
     → walk_one form sets journal at last ≡ Group time items (spot_after at (length (body_spelling items)))
 
 -- What is walked over as a group stands spelled behind an open gate.
 abbrev pub GroupsAreSpelled : Type 0
 GroupsAreSpelled = (form : Form) (sets : ℕ) (journal : List ℕ) (at after : Spot) (last time : ℕ) (items : List Item) → IsBytes journal → walk_one form sets journal at last ≡ Group time items after
-    → MayStand form (length journal) at last time items × StandsAt at.place (group_spelling at.number time items) journal × (after ≡ spot_after at (length (body_spelling items)))
+    → MayStand form (length journal) at last time items × HasRecordAt at.place (group_spelling at.number time items) journal × (after ≡ spot_after at (length (body_spelling items)))
 
 -- So is a switch to the next data set.
 abbrev pub SwitchesAreWalked : Type 0
 SwitchesAreWalked = (form : Form) (sets : ℕ) (journal : List ℕ) (at : Spot) (last time : ℕ) → next_set sets at.set < 2 ^ 16 → at.number < 2 ^ 64 - 1 → last ≤ time → time < 2 ^ 64
-    → StandsAt at.place (switch_spelling at.number time (next_set sets at.set)) journal → walk_one form sets journal at last ≡ Switch time (spot_in (next_set sets at.set) at)
+    → HasRecordAt at.place (switch_spelling at.number time (next_set sets at.set)) journal → walk_one form sets journal at last ≡ Switch time (spot_in (next_set sets at.set) at)
 
 -- a switch that may stand at a spot, behind a record of a time
 pub record MaySwitch (at : Spot) (last time : ℕ) : Type 0 where
@@ -80,24 +62,13 @@ pub record MaySwitch (at : Spot) (last time : ℕ) : Type 0 where
 -- What is walked over as a switch stands spelled behind an open gate, and leads to the next data set.
 abbrev pub SwitchesAreSpelled : Type 0
 SwitchesAreSpelled = (form : Form) (sets : ℕ) (journal : List ℕ) (at after : Spot) (last time : ℕ) → IsBytes journal → walk_one form sets journal at last ≡ Switch time after
-    → MaySwitch at last time × StandsAt at.place (switch_spelling at.number time (next_set sets at.set)) journal × (after ≡ spot_in (next_set sets at.set) at)
+    → MaySwitch at last time × HasRecordAt at.place (switch_spelling at.number time (next_set sets at.set)) journal × (after ≡ spot_in (next_set sets at.set) at)
 
 -- No record stands at a spot exactly where its gate isn't 1.
 abbrev pub EndsAreShut : Type 0
 EndsAreShut = (form : Form) (sets : ℕ) (journal : List ℕ) (at : Spot) (last : ℕ) → (walk_one form sets journal at last ≡ End) ↔ (slice_index journal at.place ≢ 1)
 
 -- ---- walks
-
--- A walk depends on no byte behind the gate that ends it, nor on that byte where it isn't 1.
-abbrev pub WalksEndAtGates : Type 0
-WalksEndAtGates = (form : Form) (sets : ℕ) (b c : List ℕ) (from to : Spot) (last time : ℕ) (groups : List Logged) → take to.place c ≡ take to.place b → length c ≡ length b → slice_index c to.place ≢ 1
-    → Walks form sets b from last groups to time → Walks form sets c from last groups to time
-
--- A group that stands spelled at the end of a walk, with a gate behind it that isn't 1, is the walk's last.
-abbrev pub WalksGoOn : Type 0
-WalksGoOn = (form : Form) (sets : ℕ) (b c : List ℕ) (from to : Spot) (last time : ℕ) (groups : List Logged) (g : Logged) → take to.place c ≡ take to.place b → length c ≡ length b → MayStand form (length c) to time g.time g.items
-    → StandsAt to.place (group_spelling to.number g.time g.items) c → slice_index c (to.place + FRONT + length (body_spelling g.items)) ≢ 1
-    → Walks form sets b from last groups to time → Walks form sets c from last (groups ++ g ∷ []) (spot_after to (length (body_spelling g.items))) g.time
 
 -- There is one walk from a spot.
 abbrev pub WalksAreOne : Type 0

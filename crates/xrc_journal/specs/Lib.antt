@@ -7,7 +7,6 @@ pub mod Answers
 pub mod Walks
 pub mod Laws
 pub mod Lengths
-pub mod Vectors
 pub mod Views
 pub mod Contents
 pub mod Jobs

@@ -2,14 +2,14 @@
 use Rattle.std.specs.Prelude.{ℕ, zero, suc, ◌==◌, ◌&&◌, ◌||◌, not, List, [], ◌∷◌, length, Bool, Option, Some, None, Result, Ok, Err, if◌then◌else◌}
 use Rattle.pair_table.specs.declared.limits.TheConstants.{ROW_LENGTH}
 use Rattle.std.specs.Int.{w8, w16, w32}
-use Rattle.tod_stamp.specs.Fields.{◌>>=◌, Left, Bad, bytes_at, number_at}
+use Rattle.tod_stamp.specs.Fields.{◌>>=◌, Left, Bad, bytes_at, number_at, any}
 use Rattle.tod_stamp.specs.Fields.Bad.{Broken}
 use Rattle.ckd_track.specs.declared.rec.Rec.{Rec}
 use Rattle.ckd_track.specs.Images.{image_at}
 use Rattle.pair_table.specs.declared.row.PairRow.{PairRow}
 use Rattle.pair_table.specs.Rows.{row_at}
 use Rattle.xrc_journal.specs.Items.{Item, Form, Earlier, none_earlier, behind, may_draw}
-use Rattle.xrc_journal.specs.Deltas.{any, as_field, change_at}
+use Rattle.xrc_journal.specs.Deltas.{as_body_field, change_at}
 use Rattle.xrc_journal.specs.Items.Item.{Image, Delta, Pair, Gone}
 
 -- ---- one item
@@ -22,8 +22,8 @@ track_at rule left = do
   Ok ((device.0, track.0), track.1)
 
 -- an image as one field
-abbrev pub image_field : Left → Result (List Rec × Left) Bad
-image_field left = as_field left (image_at left.bytes)
+abbrev pub body_image_field : Left → Result (List Rec × Left) Bad
+body_image_field left = as_body_field left (image_at left.bytes)
 
 -- a row as one field
 abbrev pub row_or : Left → Option PairRow → Result PairRow Bad
@@ -33,7 +33,7 @@ row_or left None = Err (Broken left.place)
 unfoldable pub image_item_at : Form → Earlier → Left → Result (Item × Left) Bad
 image_item_at form earlier left = do
   at ← track_at (may_draw form earlier) left
-  recs ← image_field at.1
+  recs ← body_image_field at.1
   Ok (Image at.0.0 at.0.1 recs.0, recs.1)
 
 unfoldable pub delta_item_at : Form → Left → Result (Item × Left) Bad

@@ -11,19 +11,19 @@ use Rattle.xrc_journal.specs.Reading.{Items, items_at}
 -- ---- the spelling
 
 -- what stands between a gate and a body: kind, number, time and the body's length
-abbrev pub header_spelling : (kind number time len : ℕ) → List ℕ
-header_spelling kind number time len = kind ∷ to_be_bytes w64 number ++ to_be_bytes w64 time ++ to_be_bytes w32 len
+abbrev pub record_header_spelling : (kind number time len : ℕ) → List ℕ
+record_header_spelling kind number time len = kind ∷ to_be_bytes w64 number ++ to_be_bytes w64 time ++ to_be_bytes w32 len
 
 -- what stands behind a gate
-abbrev pub record_spelling : (kind number time : ℕ) → (body : List ℕ) → List ℕ
-record_spelling kind number time body = header_spelling kind number time (length body) ++ body
+abbrev pub gated_record_spelling : (kind number time : ℕ) → (body : List ℕ) → List ℕ
+gated_record_spelling kind number time body = record_header_spelling kind number time (length body) ++ body
 
 -- A group has the kind 1, and a switch to another data set the kind 2.
 abbrev pub group_spelling : (number time : ℕ) → List Item → List ℕ
-group_spelling number time items = record_spelling 1 number time (body_spelling items)
+group_spelling number time items = gated_record_spelling 1 number time (body_spelling items)
 
 abbrev pub switch_spelling : (number time set : ℕ) → List ℕ
-switch_spelling number time set = record_spelling 2 number time (to_be_bytes w16 set)
+switch_spelling number time set = gated_record_spelling 2 number time (to_be_bytes w16 set)
 
 -- ---- the header
 
@@ -47,8 +47,8 @@ pub record Head : Type 0 where
 
 -- The header of a record in a data set of so many bytes. The number is the expected one and isn't the last of all, and the
 -- time isn't below that of the record before.
-unfoldable pub head_at : (size : ℕ) → Spot → (last : ℕ) → Left → Result (Head × Left) Bad
-head_at size at last left = do
+unfoldable pub record_head_at : (size : ℕ) → Spot → (last : ℕ) → Left → Result (Head × Left) Bad
+record_head_at size at last left = do
   kind ← number_at w8 (within 1 2) left
   number ← number_at w64 (λ n. n == at.number && nat_lt n (2 ^ 64 - 1)) kind.1
   time ← number_at w64 (nat_le last) number.1
@@ -102,5 +102,5 @@ record_or form sets journal at (Err bad) = Damaged at.place []
 unfoldable pub walk_one : Form → (sets : ℕ) → (journal : List ℕ) → (at : Spot) → (last : ℕ) → Found
 walk_one form sets journal at last =
     if slice_index journal at.place == 1
-    then record_or form sets journal at (head_at (length journal) at last (record { place = at.place + 1; bytes = stretch (at.place + 1) HEADER journal }))
+    then record_or form sets journal at (record_head_at (length journal) at last (record { place = at.place + 1; bytes = stretch (at.place + 1) HEADER journal }))
     else End

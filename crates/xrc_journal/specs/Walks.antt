@@ -34,8 +34,8 @@ abbrev pub AllEnd : PlantState → (from to : Spot) → (cut : ℕ) → Type 0
 AllEnd plant from to cut = (image : List ℕ) → plant.images plant.clock (Journal to.set) image → EndsAt (form_of plant) plant.journals from to cut image
 
 -- Whatever the walk to a spot over the old image is, it is that over the new one.
-abbrev pub Keeps : Form → (sets : ℕ) → (from to : Spot) → (old new : List ℕ) → Type 0
-Keeps form sets from to old new = (last time : ℕ) (groups : List Logged) → Walks form sets old from last groups to time → Walks form sets new from last groups to time
+abbrev pub KeepsWalks : Form → (sets : ℕ) → (from to : Spot) → (old new : List ℕ) → Type 0
+KeepsWalks form sets from to old new = (last time : ℕ) (groups : List Logged) → Walks form sets old from last groups to time → Walks form sets new from last groups to time
 
 -- Whatever the walk to a spot over the old image is, up to the group's time, the new one has the group at its end.
 abbrev pub Adds : Form → (sets : ℕ) → (from to : Spot) → Logged → (old new : List ℕ) → Type 0
@@ -44,5 +44,5 @@ Adds form sets from to g old new = (last time : ℕ) (groups : List Logged) → 
 
 -- The walk is the old one, or has the group at its end. All but the range of the record and the next gate is as it was.
 pub record Appends (form : Form) (sets : ℕ) (from to : Spot) (g : Logged) (old new : List ℕ) : Type 0 where
-  pub walk : Keeps form sets from to old new ⊎ Adds form sets from to g old new
+  pub walk : KeepsWalks form sets from to old new ⊎ Adds form sets from to g old new
   pub elsewhere : Torn to.place (length (body_spelling g.items) + 23) old new

@@ -1,10 +1,10 @@
 //! The body of a group.
 
 ghost use Rattle.std.specs.Prelude.{◌≡◌, ◌≤◌, ◌+◌, ◌<◌, ◌^◌, ◌==◌, ◌∷◌, ◌++◌, [], length, false, Some, None, IfOk, OnErr, IsTrue, if◌then◌else◌, replicate};
-ghost use Rattle.pair_table.specs.Rows.{is_row, is_state, keeps_rules, row_spelling};
+ghost use Rattle.pair_table.specs.Rows.{keeps_row_rules};
 ghost use Rattle.xrc_journal.specs.Items.{AreItems, anywhere, body_spelling, form_of};
 ghost use Rattle.xrc_journal.specs.Items.Item.{Image, Pair, Gone};
-ghost use Rattle.xrc_journal.specs.Bodies.{Fits, IsNextItem, PutsItem, Takes, are_late, have_image, with_item, without_items};
+ghost use Rattle.xrc_journal.specs.Bodies.{FitsInRoom, IsNextItem, PutsItem, Takes, are_late, have_image, with_item, without_items};
 ghost use Rattle.xrc_edge.specs.Causes.{HasCause};
 ghost use Rattle.crash_plant.specs.Moments.{on, Follows, Same};
 ghost use Rattle.crash_plant.specs.Calls.{IsThere, NoneLent, WorksOn};
@@ -15,11 +15,10 @@ use crate::buffer::{device_bytes, image_front, put_parts};
 use crate::filling::fill;
 use ckd_track::Slot;
 use crash_plant::{Device, Plant};
-use pair_table::{PairRow, PairState, ROW_LENGTH, encode_row};
+use pair_table::{PairRow, encode_row};
 use std::alloc::Global;
 use std::boxed::BoxedSlice;
 use std::marker::Model;
-use tod_stamp::Stamp;
 use xrc_edge::{Failed, NoMemory};
 
 /// A buffer that is made once and cannot grow. Contracts see it as the items that it holds, in order, beside the most bytes
@@ -47,32 +46,6 @@ fn zeros(alloc: Global, size: usize) -> Result<BoxedSlice<u8>, NoMemory>
     ensures { IfOk result (λ buffer. buffer.items.items ≡ replicate size 0) }
 {
     Ok(vec![in alloc; 0u8; size]?.into_boxed_slice())
-}
-
-/// The time since a row is suspended, if it is.
-fn time_of(state: PairState) -> Option<Stamp>
-    ensures { IsTrue (is_state state) }
-{
-    match state {
-        PairState::Suspended { cause: _, since } => {
-            let _valid = since.0;
-            Some(since)
-        }
-        _ => None,
-    }
-}
-
-/// The bytes of a row.
-fn row_bytes(row: &PairRow) -> [u8; ROW_LENGTH]
-    requires { IsTrue (keeps_rules row.now) }
-    ensures row { IsTrue (is_row row.now) }
-    ensures spelled { result ≡ row_spelling row.now }
-{
-    let _valid = row.primary.as_bytes();
-    let _valid = row.secondary.as_bytes();
-    let _valid = row.device;
-    let _valid = time_of(row.state);
-    encode_row(row)
 }
 
 /// The place behind the good bytes, where these aren't all.
@@ -129,7 +102,8 @@ impl Body {
     fn put(&mut self, front: &[u8], back: &[u8])
         requires next { IsNextItem self.old.items (front.now ++ back.now) }
         requires fits { length (body_spelling self.old.items) + length front.now + length back.now ≤ self.old.room }
-        ensures { PutsItem (front.now ++ back.now) self.old self.new }
+        ensures put { PutsItem (front.now ++ back.now) self.old self.new }
+        ensures keep { AreItems anywhere self.new.items }
     {
         put_parts(self.buffer.as_mut_slice(), self.used, front, back);
         self.used += front.len() + back.len();
@@ -137,26 +111,27 @@ impl Body {
 
     /// Puts a track of a device. Images stand before rows, and a track has one at most.
     pub fn put_image(&mut self, device: u16, track: u32, slot: &Slot)
-        requires fits { Fits self.old (Image device track slot.now) }
+        requires fits { FitsInRoom self.old (Image device track slot.now) }
         requires early { are_late self.old.items ≡ false }
         requires first { have_image self.old.items device track ≡ false }
-        ensures { self.new ≡ with_item (Image device track slot.now) self.old }
+        ensures put { self.new ≡ with_item (Image device track slot.now) self.old }
+        ensures keep { AreItems anywhere self.new.items }
     {
         self.put(&image_front(device, track), slot.bytes());
     }
 
     /// Puts a pair's row.
     pub fn put_row(&mut self, row: &PairRow)
-        requires fits { Fits self.old (Pair row.now) }
-        requires rules { IsTrue (keeps_rules row.now) }
+        requires fits { FitsInRoom self.old (Pair row.now) }
+        requires rules { IsTrue (keeps_row_rules row.now) }
         ensures { self.new ≡ with_item (Pair row.now) self.old }
     {
-        self.put(&[3], &row_bytes(row));
+        self.put(&[3], &encode_row(row));
     }
 
     /// Puts that a device's row goes.
     pub fn put_gone(&mut self, device: u16)
-        requires fits { Fits self.old (Gone device) }
+        requires fits { FitsInRoom self.old (Gone device) }
         ensures { self.new ≡ with_item (Gone device) self.old }
     {
         self.put(&[4], &device_bytes(device));

@@ -2,7 +2,7 @@
 
 ghost use Rattle.std.specs.Prelude.{◌≡◌, ◌≤◌, ◌<◌, ◌+◌, ◌-◌, ◌^◌, ℕ, Some, IsSome};
 ghost use Rattle.crash_plant.specs.declared.layout.TheConstants.{FRONT, SWITCH};
-ghost use Rattle.xrc_journal.specs.Records.{head_at, is_body_length, most_body};
+ghost use Rattle.xrc_journal.specs.Records.{record_head_at, is_body_length, most_body};
 ghost use Rattle.tod_stamp.specs.declared.stamp.Stamp.{Stamp as StampValue};
 ghost use Rattle.xrc_journal.specs.declared.header.Header.TheVariants.{Group};
 ghost use Rattle.xrc_journal.specs.Answers.{header_of, keeps_header};
@@ -55,7 +55,7 @@ pub(crate) fn decode_header(
     size: u64,
 ) -> Option<Header>
     requires { at.place + FRONT ≤ size }
-    ensures header { result ≡ header_of (head_at size at last.0 (record { place = at.place + 1; bytes = bytes.now })) }
+    ensures header { result ≡ header_of (record_head_at size at last.0 (record { place = at.place + 1; bytes = bytes.now })) }
     ensures number { IsSome result → at.number < 2 ^ 64 - 1 }
     ensures fits { (time : StampValue) (length : ℕ) → result ≡ Some (Group time length) → at.place + FRONT + length + SWITCH ≤ size }
     ensures short { (time : StampValue) (length : ℕ) → result ≡ Some (Group time length) → length ≤ most_body }

@@ -11,7 +11,7 @@ ghost use Rattle.crash_plant.specs.Calls.{IsThere, WorksOn};
 ghost use Rattle.crash_plant.specs.declared.spot.Spot.{Spot as SpotValue};
 ghost use Rattle.xrc_journal.specs.declared.journal.AppendError.TheVariants.{NoRoom, Fault};
 ghost use Rattle.xrc_journal.specs.Items.{AreItems, body_spelling, form_of};
-ghost use Rattle.xrc_journal.specs.Records.{group_spelling, header_spelling, most_body, spot_after};
+ghost use Rattle.xrc_journal.specs.Records.{group_spelling, record_header_spelling, most_body, spot_after};
 ghost use Rattle.xrc_journal.specs.Walks.{Adds, AllEnd, Appends, Logged};
 
 use crate::Body;
@@ -39,7 +39,7 @@ pub enum AppendError {
 
 /// What stands between the gate and the body of a group.
 fn header(number: u64, time: Stamp, length: u32) -> [u8; HEADER]
-    ensures spelled { result ≡ header_spelling 1 number time.0 length }
+    ensures spelled { result ≡ record_header_spelling 1 number time.0 length }
     ensures stamp { time.0 < 2 ^ 64 }
 {
     let mut bytes = [1; HEADER];

@@ -13,17 +13,12 @@ mod layout;
 mod lengths;
 mod reading;
 mod spot;
-pub mod vectors;
 
 pub use body::Body;
 pub use crash_plant::Spot;
 pub use job::VolumeJob;
 pub use journal::{AppendError, Journal};
-pub use laws::{
-    bodies_are_spelled, bodies_read_back, ends_are_shut, groups_are_spelled, groups_are_walked,
-    items_are_spelled, items_read_back, switches_are_spelled, switches_are_walked, walks_are_one,
-    walks_end_at_gates, walks_go_on,
-};
+pub use laws::{groups_are_walked, walks_are_one};
 pub use layout::{AROUND, BESIDE_CONTROLS, MOST_BODY, OF_CONTROL, ROW_ITEM};
 pub use lengths::journal_length;
 pub use reading::{BodyItem, first_item};

@@ -6,8 +6,8 @@ ghost use Rattle.xrc_edge.specs.Causes.{HasCause};
 ghost use Rattle.crash_plant.specs.declared.device.Device.TheVariants.{Journal as JournalDevice};
 ghost use Rattle.crash_plant.specs.Moments.{on, Follows, Same};
 ghost use Rattle.crash_plant.specs.Calls.{IsThere, NoneLent, WorksOn};
-ghost use Rattle.xrc_journal.specs.Records.{head_at, most_body, next_set, stretch, walk_one};
-ghost use Rattle.xrc_journal.specs.Answers.{Finds, GoesOn, NoFault, ReadsOnly, WalkCause, group_at, header_of, switch_at, told_of};
+ghost use Rattle.xrc_journal.specs.Records.{record_head_at, most_body, next_set, stretch, walk_one};
+ghost use Rattle.xrc_journal.specs.Answers.{Finds, WalkGoesOn, NoFault, ReadsOnly, WalkCause, group_at, header_of, switch_at, told_of};
 ghost use Rattle.xrc_journal.specs.Items.{AreItems, form_of};
 ghost use Rattle.xrc_journal.specs.declared.spot.WalkError.TheVariants.{Fault as FaultError};
 ghost use Rattle.tod_stamp.specs.declared.stamp.Stamp.{Stamp as StampValue};
@@ -61,7 +61,7 @@ fn read_header<P: Plant>(plant: &mut P, at: Spot, last: Stamp) -> Result<Option<
     requires fits { at.place + FRONT < 2 ^ 64 }
     ensures number { IfOk result (λ header. IsSome header → at.number < 2 ^ 64 - 1) }
     ensures room { IfOk result (λ header. (time : StampValue) (length : ℕ) → header ≡ Some (GroupHeader time length) → (length ≤ most_body) × (at.place + FRONT + length + SWITCH ≤ (P.state plant.old).lengths (JournalDevice at.set))) }
-    ensures header { P.tells → IfOk result (λ header. header ≡ header_of (head_at ((P.state plant.old).lengths (JournalDevice at.set)) at last.0 (record { place = at.place + 1; bytes = stretch (at.place + 1) HEADER ((P.state plant.old).bytes (JournalDevice at.set)) }))) }
+    ensures header { P.tells → IfOk result (λ header. header ≡ header_of (record_head_at ((P.state plant.old).lengths (JournalDevice at.set)) at last.0 (record { place = at.place + 1; bytes = stretch (at.place + 1) HEADER ((P.state plant.old).bytes (JournalDevice at.set)) }))) }
     ensures same { P.tells → (P.state plant.new).bytes (JournalDevice at.set) ≡ (P.state plant.old).bytes (JournalDevice at.set) }
     ensures moments { P.tells → Follows Same (on (P.state plant.old) (JournalDevice at.set)) (on (P.state plant.new) (JournalDevice at.set)) }
     ensures only { WorksOn P.tells (λ d. d ≡ JournalDevice at.set) (P.state plant.old) (P.state plant.new) }
@@ -89,7 +89,7 @@ fn walk_group<P: Plant>(
     requires room { length ≤ into.old.room }
     ensures finds { P.tells → NoFault result → Finds at.set (group_at (form_of (P.state plant.old)) ((P.state plant.old).bytes (JournalDevice at.set)) at time.0 length) result into.old into.new }
     ensures room { into.new.room ≡ into.old.room }
-    ensures goes_on { IfOk result (GoesOn (P.state plant.old) at) }
+    ensures goes_on { IfOk result (WalkGoesOn (P.state plant.old) at) }
     ensures keep { AreItems (form_of (P.state plant.old)) into.new.items }
     ensures empty { (j : ℕ) → IsErrOf result (FaultError j) → into.new.items ≡ [] }
     ensures cause { WalkCause at.set ((P.state plant.old).faults (JournalDevice at.set)) ((P.state plant.new).faults (JournalDevice at.set)) result }
@@ -124,7 +124,7 @@ fn walk_switch<P: Plant>(plant: &mut P, at: Spot, time: Stamp) -> Result<Walked,
     requires range { at.place + FRONT ≤ (P.state plant.old).lengths (JournalDevice at.set) }
     requires fits { at.place + FRONT < 2 ^ 64 }
     requires number { at.number < 2 ^ 64 - 1 }
-    ensures goes_on { IfOk result (GoesOn (P.state plant.old) at) }
+    ensures goes_on { IfOk result (WalkGoesOn (P.state plant.old) at) }
     ensures told { P.tells → NoFault result → result ≡ told_of at.set (switch_at (P.state plant.old).journals ((P.state plant.old).bytes (JournalDevice at.set)) at time.0) }
     ensures cause { WalkCause at.set ((P.state plant.old).faults (JournalDevice at.set)) ((P.state plant.new).faults (JournalDevice at.set)) result }
     ensures only { ReadsOnly P.tells (JournalDevice at.set) (P.state plant.old) (P.state plant.new) }
@@ -167,7 +167,7 @@ fn walk_open<P: Plant>(
     requires gate { P.tells → slice_index ((P.state plant.old).bytes (JournalDevice at.set)) at.place ≡ 1 }
     ensures finds { P.tells → NoFault result → Finds at.set (walk_one (form_of (P.state plant.old)) (P.state plant.old).journals ((P.state plant.old).bytes (JournalDevice at.set)) at last.0) result into.old into.new }
     ensures room { into.new.room ≡ into.old.room }
-    ensures goes_on { IfOk result (GoesOn (P.state plant.old) at) }
+    ensures goes_on { IfOk result (WalkGoesOn (P.state plant.old) at) }
     ensures keep { AreItems (form_of (P.state plant.old)) into.new.items }
     ensures empty { (j : ℕ) → IsErrOf result (FaultError j) → into.new.items ≡ [] }
     ensures cause { WalkCause at.set ((P.state plant.old).faults (JournalDevice at.set)) ((P.state plant.new).faults (JournalDevice at.set)) result }
@@ -200,7 +200,7 @@ pub fn walk<P: Plant>(
     ensures finds { P.tells → NoFault result → Finds at.set (walk_one (form_of (P.state plant.old)) (P.state plant.old).journals ((P.state plant.old).bytes (JournalDevice at.set)) at last.0) result into.old into.new }
     ensures room { into.new.room ≡ into.old.room }
     // Whatever a read gave, the spot behind a record lies in a journal, and the items keep the rules of the plant.
-    ensures goes_on { IfOk result (GoesOn (P.state plant.old) at) }
+    ensures goes_on { IfOk result (WalkGoesOn (P.state plant.old) at) }
     ensures keep { AreItems (form_of (P.state plant.old)) into.new.items }
     // After a fault no items are held.
     ensures empty { (j : ℕ) → IsErrOf result (FaultError j) → into.new.items ≡ [] }

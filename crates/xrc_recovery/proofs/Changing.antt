@@ -4,7 +4,6 @@ use Rattle.std.specs.Prelude.{Contains, filter, slice_index_or}
 use Rattle.std.proofs.lemmas.Bool.{cases_lt}
 use Rattle.std.proofs.lemmas.List.{append-nil}
 use Rattle.std.proofs.lemmas.List.Elements.{All-head, All-same, All-weaker, filter_passes}
-use Rattle.xrc_edge.specs.Causes.{Rose}
 use Rattle.crash_plant.specs.declared.device.Device.{Device}
 use Rattle.crash_plant.specs.declared.device.Device.TheVariants.{Control, Volume}
 use Rattle.crash_plant.specs.Moments.{PlantState, on, IsDurable, Same, Stays}
@@ -14,6 +13,7 @@ use Rattle.crash_plant.proofs.Choices.{part_still, past_choice}
 use Rattle.crash_plant.proofs.Steps.{elapses_trans, follows_then, none_lent_console, site_trans}
 use Rattle.pair_table.specs.declared.row.PairRow.{PairRow}
 use Rattle.xrc_journal.specs.Items.{Item}
+use Rattle.xrc_journal.specs.Jobs.{FailsByCount}
 use Rattle.site_means.proofs.ReadAll.{reads_none}
 use Rattle.xrecover.specs.Pairs.{AreFaulty, duplex_devices, is_duplex}
 use Rattle.xrecover.specs.Redone.{Draws, IsRedone, Recovers, Redone}
@@ -169,11 +169,12 @@ pub faulty_then : (rows : List PairRow) (before now after : Device → ℕ) (fai
 faulty_then rows before now after failed same faulty = record {
   has_failed = faulty.has_failed;
   listed = faulty.listed;
-  rose = λ v has. let r = faulty.rose v has in (r.0, subst (λ (n : ℕ). Rose (before (Volume v)) n) (sym (same (Volume v))) r.1);
+  are_duplex = faulty.are_duplex;
+  counted = λ v. subst (λ (n : ℕ). FailsByCount (faulty.has_failed v) (before (Volume v)) n) (sym (same (Volume v))) (faulty.counted v);
 }
 
 pub has_failure : (rows : List PairRow) (before now : Device → ℕ) (failed : List ℕ) → failed ≢ [] → AreFaulty rows before now failed → HasFailure before now
 has_failure rows before now [] some faulty = absurd (some refl)
 has_failure rows before now (v ∷ rest) some faulty =
     let passes = All-same (λ w. faulty.has_failed w ≡ true) (v ∷ rest) (filter faulty.has_failed (duplex_devices rows)) faulty.listed (filter_passes faulty.has_failed (duplex_devices rows)) in
-    (v, (faulty.rose v (All-head (λ w. faulty.has_failed w ≡ true) v rest passes)).1)
+    (v, (faulty.counted v).rose (All-head (λ w. faulty.has_failed w ≡ true) v rest passes))

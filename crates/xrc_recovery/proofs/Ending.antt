@@ -1,9 +1,10 @@
 -- The ends of a recovery: at a site of other numbers, at an error, and with its report.
-use Rattle.std.proofs.Common.{◌≡◌, ◌≢◌, ◌≤◌, ◌↔◌, ◌++◌, inl, inr, ℕ, List, [], Some, Result, Ok, Err, OnOk, IfErr, refl, sym, ◌∙◌, ap, subst, arith}
+use Rattle.std.proofs.Common.{◌≡◌, ◌≢◌, ◌≤◌, ◌+◌, ◌++◌, inl, inr, ℕ, List, [], Some, Result, Ok, Err, OnOk, IfErr, refl, sym, ◌∙◌, ap, subst, arith}
 use Rattle.xrc_edge.specs.Causes.{Rose}
 use Rattle.crash_plant.specs.declared.device.Device.{Device}
 use Rattle.crash_plant.specs.declared.device.Device.TheVariants.{Control, Volume}
 use Rattle.crash_plant.specs.Moments.{PlantState, on}
+use Rattle.crash_plant.specs.Calls.{NoneRose}
 use Rattle.crash_plant.specs.Choices.{AllFollow}
 use Rattle.pair_table.specs.declared.row.PairRow.{PairRow}
 use Rattle.site_means.specs.declared.means.Means.{Means}
@@ -13,7 +14,7 @@ use Rattle.site_means.specs.Sight.{walked}
 use Rattle.xrecover.specs.declared.outcome.Outcome.{Outcome}
 use Rattle.xrecover.specs.declared.recover_error.RecoverError.{RecoverError}
 use Rattle.xrecover.specs.declared.recover_error.RecoverError.TheVariants.{Site}
-use Rattle.xrecover.specs.Answers.{IsRecoverable, Says}
+use Rattle.xrecover.specs.Answers.{IsRecoverable, IsGoodOrCalledFor}
 use Rattle.xrecover.specs.Answers as recovery
 use Rattle.xrecover.specs.Pairs.{AreFaulty}
 use Rattle.xrecover.specs.Redone.{Recovers, Redone, meant_rows}
@@ -26,37 +27,16 @@ use Rattle.xrecover.proofs.Seen.{sees_moments}
 use Rattle.xrc_status.specs.Saying.{SaysFront, SaysWhole}
 use Rattle.xrc_status.specs.declared.stop.Stop.{Stop}
 use Rattle.xrc_status.specs.declared.stop.Stop.TheVariants.{BadSite, ConsoleFault, NoMemory, TooSmall, VolumeFault}
-use Rattle.xrc_recovery.specs.Stops.{CallsFor, HasLines, HasRisen, IsEarly, IsReady, IsSite, NoneRose, stop_of}
+use Rattle.xrc_recovery.specs.Stops.{CallsFor, HasLines, HasRisen, StopsEarly, IsReady, IsSite, stop_of}
 use Rattle.xrc_recovery.specs.Reports.{Changes, RedoesPairs, Reports, ReportsAll}
+use Rattle.xrc_recovery.specs.Recoveries.{RecoversMeant, RecoversSession}
 use Rattle.xrc_recovery.specs.Texts.{recovered_text}
 use Rattle.xrc_recovery.proofs.Changing.{changes_of, changes_then, done_before, faulty_then, follow_then, has_failure, labels_then, named_console, nothing_here, redone_then, says_after, works_here}
 use Rattle.xrc_recovery.proofs.Stopping.{calls_for, has_risen, is_early, not_console, not_site, not_volume, only_memory, rows_meant}
 
--- the step of the volumes
-abbrev pub Step : PlantState → Device → List ℕ → List ℕ → Type 0
-Step a = Recovers (meant_rows a a.bytes) (walked a a.bytes)
-
--- what is so at an end
-pub record Ends (tells : Type 0) (session : List ℕ) (a c : PlantState) (r : Result (Unit {0}) Stop) : Type 0 where
-  pub site : (r ≡ Err BadSite) ↔ ¬ IsSite a
-  pub short : IsSite a → (d : Device) → first_short a ≡ Some d → r ≡ Err (TooSmall d (need d))
-  pub called_for : tells → IfErr r (λ stop. CallsFor a session stop)
-  pub causes : IfErr r (λ stop. HasRisen a c stop)
-  pub complete : tells → IsSite a → IsReady a session → NoneRose a c → IfErr r (λ stop. stop ≡ NoMemory)
-  pub done : tells → OnOk r (ReportsAll session [] a c)
-  pub failed : tells → r ≡ Err VolumeFault → (failed : List ℕ) × (failed ≢ []) × ReportsAll session failed a c
-  pub stopped : tells → r ≡ Err ConsoleFault → (failed : List ℕ) × Reports session failed a c
-  pub silent : IfErr r (λ stop. ¬ HasLines stop → Works tells (Step a) a c)
-  pub console_count : r ≢ Err ConsoleFault → c.console_faults ≡ a.console_faults
-  pub changes : Changes tells (Step a) a c
-  pub labels : tells → (v : ℕ) → LabelsLast v (walked a a.bytes) (on a (Volume v)) (on c (Volume v))
-  pub named : tells → AreNamed (meant_rows a a.bytes) a c
-  pub moments : tells → IsSettled a → AllFollow (SeesSame a) a c
-  pub unwritten : IfErr r (λ stop. IsEarly stop → Works tells Nothing a c)
-
 -- ---- a site of other numbers
 
-pub at_site : (tells : Type 0) (session : List ℕ) (a : PlantState) → ¬ IsSite a → Ends tells session a a (Err BadSite)
+pub at_site : (tells : Type 0) (session : List ℕ) (a : PlantState) → ¬ IsSite a → RecoversSession tells session a a (Err BadSite)
 at_site tells session a other = record {
   site = (λ is. other, λ no. refl);
   short = λ site. absurd (other site);
@@ -68,7 +48,8 @@ at_site tells session a other = record {
   stopped = λ told is. absurd cc;
   silent = λ quiet. works_here tells (meant_rows a a.bytes) (walked a a.bytes) a;
   console_count = λ no. refl;
-  changes = changes_of tells (Step a) a a (works_here tells (meant_rows a a.bytes) (walked a a.bytes) a);
+  once = λ v. omega arith;
+  changes = changes_of tells (RecoversMeant a) a a (works_here tells (meant_rows a a.bytes) (walked a a.bytes) a);
   labels = λ told v. labels_read tells told (walked a a.bytes) a a (reads_none tells a) v;
   named = λ told. named_same (meant_rows a a.bytes) a a (λ v. refl);
   moments = λ told settled. sees_moments tells told (meant_rows a a.bytes) a a (works_here tells (meant_rows a a.bytes) (walked a a.bytes) a) settled;
@@ -78,10 +59,10 @@ at_site tells session a other = record {
 -- ---- an error
 
 module _ (tells : Type 0) (session : List ℕ) (a b : PlantState) (e : RecoverError) (stop : Stop) (is : stop ≡ stop_of e) where
-  pub at_error : IsSite a → (tells → Says {X = Outcome} a session (λ o. IsRecoverable a session o.means) (Err e)) → ((d : Device) → first_short a ≡ Some d → e ≡ Site (TooSmallError d (need d)))
-      → ((d : Device) → e ≡ Site (Fault d) → Rose (a.faults d) (b.faults d)) → Works tells (Step a) a b → (tells → (v : ℕ) → LabelsLast v (walked a a.bytes) (on a (Volume v)) (on b (Volume v))) → (tells → AreNamed (meant_rows a a.bytes) a b) → (tells → IsSettled a → AllFollow (SeesSame a) a b)
-      → (recovery.IsEarly e → Works tells Nothing a b) → Ends tells session a b (Err stop)
-  at_error site says short fault works labels named moments unwritten = record {
+  pub at_error : IsSite a → (tells → IsGoodOrCalledFor {X = Outcome} a session (λ o. IsRecoverable a session o.means) (Err e)) → ((d : Device) → first_short a ≡ Some d → e ≡ Site (TooSmallError d (need d)))
+      → ((d : Device) → e ≡ Site (Fault d) → Rose (a.faults d) (b.faults d)) → Works tells (RecoversMeant a) a b → (tells → (v : ℕ) → LabelsLast v (walked a a.bytes) (on a (Volume v)) (on b (Volume v))) → (tells → AreNamed (meant_rows a a.bytes) a b) → (tells → IsSettled a → AllFollow (SeesSame a) a b)
+      → ((v : ℕ) → b.faults (Volume v) ≤ a.faults (Volume v) + 1) → (recovery.IsEarly e → Works tells Nothing a b) → RecoversSession tells session a b (Err stop)
+  at_error site says short fault works labels named moments once unwritten = record {
     site = (λ bad. absurd (not_site e (sym is ∙ let same = bad in cc)), λ no. absurd (no site));
     short = λ again d first. ap (λ (s : Stop). Err s) (is ∙ ap stop_of (short d first));
     called_for = λ told. subst (λ (s : Stop). CallsFor a session s) (sym is) (calls_for a session (λ (o : Outcome). IsRecoverable a session o.means) e short (says told));
@@ -93,11 +74,12 @@ module _ (tells : Type 0) (session : List ℕ) (a b : PlantState) (e : RecoverEr
     stopped = λ told console. absurd (not_console e (sym is ∙ let same = console in cc));
     silent = λ quiet. works;
     console_count = λ no. works.console_faults;
-    changes = changes_of tells (Step a) a b works;
+    once = once;
+    changes = changes_of tells (RecoversMeant a) a b works;
     labels = labels;
     named = named;
     moments = moments;
-    unwritten = λ early. unwritten (is_early e (subst (λ (s : Stop). IsEarly s) is early));
+    unwritten = λ early. unwritten (is_early e (subst (λ (s : Stop). StopsEarly s) is early));
   }
 
 -- ---- a report
@@ -109,7 +91,8 @@ pub record Told (tells : Type 0) (session : List ℕ) (a b c : PlantState) (mean
   pub is_meant : tells → IsRecoverable a session means
   pub faulty : AreFaulty means.table.rows a.faults b.faults failed
   pub redone : tells → Redone (meant_rows a a.bytes) (walked a a.bytes) failed a b
-  pub works : Works tells (Step a) a b
+  pub once : (v : ℕ) → b.faults (Volume v) ≤ a.faults (Volume v) + 1
+  pub works : Works tells (RecoversMeant a) a b
   pub labels : tells → (v : ℕ) → LabelsLast v (walked a a.bytes) (on a (Volume v)) (on b (Volume v))
   pub named : tells → AreNamed (meant_rows a a.bytes) a b
   pub moments : tells → IsSettled a → AllFollow (SeesSame a) a b
@@ -162,11 +145,11 @@ module _ (tells : Type 0) (session : List ℕ) (a b c : PlantState) (means : Mea
   lines_no_site stop (inl is) = λ bad. cc
   lines_no_site stop (inr is) = λ bad. cc
 
-  lines_late : (stop : Stop) → HasLines stop → ¬ IsEarly stop
-  lines_late stop (inl is) = λ early. subst (λ (s : Stop). IsEarly s) is early
-  lines_late stop (inr is) = λ early. subst (λ (s : Stop). IsEarly s) is early
+  lines_late : (stop : Stop) → HasLines stop → ¬ StopsEarly stop
+  lines_late stop (inl is) = λ early. subst (λ (s : Stop). StopsEarly s) is early
+  lines_late stop (inr is) = λ early. subst (λ (s : Stop). StopsEarly s) is early
 
-  pub at_report : (r : Result (Unit {0}) Stop) → Told tells session a b c means failed r → Ends tells session a c r
+  pub at_report : (r : Result (Unit {0}) Stop) → Told tells session a b c means failed r → RecoversSession tells session a c r
   at_report (Ok v) k = record {
     site = (λ bad. absurd cc, λ no. absurd (no k.site));
     short = λ again d first. absurd (k.long d first);
@@ -178,7 +161,8 @@ module _ (tells : Type 0) (session : List ℕ) (a b c : PlantState) (means : Mea
     stopped = λ told is. absurd cc;
     silent = tt;
     console_count = λ no. (k.whole no).count ∙ k.works.console_faults;
-    changes = changes_then tells (Step a) a b c k.works k.front.only k.later;
+    once = λ v. omega (arith, k.once v, k.front.only.faults (Volume v));
+    changes = changes_then tells (RecoversMeant a) a b c k.works k.front.only k.later;
     labels = λ told. labels_then tells (walked a a.bytes) a b c told ((k.works.elapses told).kept Control).later (k.labels told) k.front.only;
     named = λ told. named_console tells (meant_rows a a.bytes) a b c told (k.named told) k.front.only;
     moments = λ told settled. follow_then (SeesSame a) tells a b c told ((k.works.elapses told).kept Control).later (k.moments told settled) k.front.only;
@@ -195,7 +179,8 @@ module _ (tells : Type 0) (session : List ℕ) (a b c : PlantState) (means : Mea
     stopped = λ told is. (failed, reports (Err stop) k told);
     silent = λ quiet. absurd (quiet k.lines);
     console_count = λ no. (k.whole no).count ∙ k.works.console_faults;
-    changes = changes_then tells (Step a) a b c k.works k.front.only k.later;
+    once = λ v. omega (arith, k.once v, k.front.only.faults (Volume v));
+    changes = changes_then tells (RecoversMeant a) a b c k.works k.front.only k.later;
     labels = λ told. labels_then tells (walked a a.bytes) a b c told ((k.works.elapses told).kept Control).later (k.labels told) k.front.only;
     named = λ told. named_console tells (meant_rows a a.bytes) a b c told (k.named told) k.front.only;
     moments = λ told settled. follow_then (SeesSame a) tells a b c told ((k.works.elapses told).kept Control).later (k.moments told settled) k.front.only;

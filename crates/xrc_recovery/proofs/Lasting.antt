@@ -7,7 +7,7 @@ use Rattle.xrc_edge.specs.Causes.{Rose}
 use Rattle.crash_plant.specs.declared.device.Device.{Device}
 use Rattle.crash_plant.specs.declared.device.Device.TheVariants.{Control, State, Journal, Volume}
 use Rattle.crash_plant.specs.Moments.{PlantState}
-use Rattle.crash_plant.specs.Calls.{Elapses, Says, WorksOnConsole}
+use Rattle.crash_plant.specs.Calls.{Elapses, NoneRose, Says, WorksOnConsole}
 use Rattle.site_means.specs.Answers.{need}
 use Rattle.site_means.specs.Sight.{walked}
 use Rattle.xrecover.specs.Redone.{meant_rows}
@@ -18,11 +18,11 @@ use Rattle.xrc_status.specs.declared.stop.Stop.{Stop}
 use Rattle.xrc_status.specs.declared.stop.Stop.TheVariants.{NoMemory, BadWords, ConsoleFault, JournalFault, ControlFault, StateFault, BadHeader, HeaderFault, NoSession, OtherSession, Damaged, VolumeFault, TooSmall, JournalEnd, BadSite, NotBuilt, EarlyBreak, EarlyVolume, Spent}
 use Rattle.xrc_status.specs.Saying.{SaidWhole, SaysLast}
 use Rattle.xrc_status.specs.Stops.{last_line, status_of}
-use Rattle.xrc_recovery.specs.Stops.{HasRisen, IsEarly, NoneRose}
+use Rattle.xrc_recovery.specs.Stops.{HasRisen, StopsEarly}
 use Rattle.xrc_recovery.specs.Reports.{Reports, ReportsAll, report_of}
+use Rattle.xrc_recovery.specs.Recoveries.{RecoversMeant, RecoversSession}
 use Rattle.xrc_recovery.specs.Statuses.{EndsRecovery, EndsSo, ReportsThen, SaysThen, ends_recovery}
 use Rattle.xrc_recovery.proofs.Changing.{changes_more, changes_of, done_more, faulty_then, follow_then, labels_then, named_console, redone_then, says_after}
-use Rattle.xrc_recovery.proofs.Ending.{Ends, Step}
 
 -- ---- statuses of stops
 
@@ -133,7 +133,7 @@ is_site EarlyVolume is = absurd (omega (arith, is))
 is_site Spent is = absurd (omega (arith, is))
 
 -- Stops of other statuses than these come before anything is written.
-pub is_early_stop : (stop : Stop) → status_of stop ≢ 3 → status_of stop ≢ 5 → status_of stop ≢ 13 → IsEarly stop
+pub is_early_stop : (stop : Stop) → status_of stop ≢ 3 → status_of stop ≢ 5 → status_of stop ≢ 13 → StopsEarly stop
 is_early_stop NoMemory three five thirteen = tt
 is_early_stop BadWords three five thirteen = tt
 is_early_stop ConsoleFault three five thirteen = absurd (three refl)
@@ -290,7 +290,7 @@ module _ (tells : Type 0) (line : List ℕ) (a b c : PlantState) (last : SaysLas
 -- ---- the end
 
 -- Done, it says no last line.
-pub ends_done : (tells : Type 0) (session : List ℕ) (a b : PlantState) (v : Unit {0}) → Ends tells session a b (Ok v) → EndsRecovery tells session a b 0
+pub ends_done : (tells : Type 0) (session : List ℕ) (a b : PlantState) (v : Unit {0}) → RecoversSession tells session a b (Ok v) → EndsRecovery tells session a b 0
 ends_done tells session a b v e = record {
   known = refl;
   site = (λ is. absurd (omega (arith, is)), λ no. absurd (let bad = e.site.1 no in cc));
@@ -302,6 +302,7 @@ ends_done tells session a b v e = record {
   failed = λ told is. absurd (omega (arith, is));
   cut = λ told is. absurd (omega (arith, is));
   console_count = λ is. e.console_count (λ is. cc);
+  once = e.once;
   changes = e.changes;
   labels = e.labels;
   named = e.named;
@@ -310,9 +311,9 @@ ends_done tells session a b v e = record {
 }
 
 -- Each stop has its status, and its line behind what was said.
-module _ (tells : Type 0) (session : List ℕ) (a b c : PlantState) (stop : Stop) (e : Ends tells session a b (Err stop)) (last : SaysLast tells (last_line stop) b c) where
+module _ (tells : Type 0) (session : List ℕ) (a b c : PlantState) (stop : Stop) (e : RecoversSession tells session a b (Err stop)) (last : SaysLast tells (last_line stop) b c) where
   ends_so : EndsSo tells stop a c (status_of stop)
-  ends_so = record { is = refl; says = λ told quiet. says_last_alone tells (last_line stop) a b c last told (Step a) (e.silent quiet) }
+  ends_so = record { is = refl; says = λ told quiet. says_last_alone tells (last_line stop) a b c last told (RecoversMeant a) (e.silent quiet) }
 
   pub ends_stopped : (stop ≡ BadSite → b ≡ a) → (stop ≡ ConsoleFault → c ≡ b) → EndsRecovery tells session a c (status_of stop)
   ends_stopped here quiet =
@@ -338,15 +339,10 @@ module _ (tells : Type 0) (session : List ℕ) (a b c : PlantState) (stop : Stop
             let f = e.stopped told (ap (λ (s : Stop). Err s) same) in
             (f.0, subst (λ (s : PlantState). Reports session f.0 a s) (sym (quiet same)) f.1);
         console_count = λ is. absurd (not_done stop is);
-        changes = changes_more tells (Step a) a b c e.changes o last.later;
+        once = λ v. omega (arith, e.once v, o.faults (Volume v));
+        changes = changes_more tells (RecoversMeant a) a b c e.changes o last.later;
         labels = λ told. labels_then tells (walked a a.bytes) a b c told ((e.changes.elapses told).kept Control).later (e.labels told) o;
         named = λ told. named_console tells (meant_rows a a.bytes) a b c told (e.named told) o;
         moments = λ told settled. follow_then (SeesSame a) tells a b c told ((e.changes.elapses told).kept Control).later (e.moments told settled) o;
         unwritten = λ other three five thirteen. changes_more tells Nothing a b c (changes_of tells Nothing a b (e.unwritten (is_early_stop stop three five thirteen))) o last.later;
       }
-
--- The console's count rose where it ends by that.
-pub console_rose : (tells : Type 0) (session : List ℕ) (a c : PlantState) (status : ℕ) → EndsRecovery tells session a c status → status ≡ 3 → Rose a.console_faults c.console_faults
-console_rose tells session a c status e is =
-    let by = e.stopped (λ zero. absurd (omega (arith, is, zero))) in
-    subst (λ (s : Stop). HasRisen a c s) (is_console by.stop (sym by.ends.is ∙ is)) by.risen

@@ -1,14 +1,14 @@
 -- The lines of rows, one after another.
-use Rattle.std.proofs.Common.{◌≡◌, ◌≢◌, ◌≤◌, ◌<◌, ◌+◌, ◌==◌, ◌||◌, ◌++◌, ◌∷◌, [], ℕ, zero, suc, Bool, true, false, List, Option, Some, None, Bor, is_some, Ok, Err, length, take, drop, refl, sym, ◌∙◌, ap, subst, arith, append_assoc, append-nil, take-append-drop, eq-eqb, ne_eqb, IsTrue}
+use Rattle.std.proofs.Common.{◌≡◌, ◌≢◌, ◌<◌, ◌+◌, ◌==◌, ◌||◌, ◌++◌, ◌∷◌, [], ℕ, zero, suc, Bool, true, false, List, Option, Some, None, Bor, is_some, Ok, Err, length, take, drop, refl, sym, ◌∙◌, ap, subst, arith, append_assoc, append-nil, take-append-drop, eq-eqb, ne_eqb}
 use Rattle.std.specs.Prelude.{slice_get}
 use Rattle.std.specs.Option.{option_copied}
 use Rattle.crash_plant.specs.Moments.{PlantState}
 use Rattle.pair_table.specs.declared.row.PairRow.{PairRow}
-use Rattle.tod_stamp.specs.Names.{is_serial}
 use Rattle.xrecover.proofs.Going.{take_more}
 use Rattle.xrc_status.specs.Saying.{SaysText, SaysWhole}
 use Rattle.xrc_status.proofs.SayLaws.{text_so_far, text_then, whole_then}
-use Rattle.xrc_recovery.specs.Texts.{is_among, pair_line, pair_lines}
+use Rattle.xrc_recovery.specs.Texts.{pair_line, pair_lines}
+use Rattle.pair_table.specs.Devices.{is_among}
 
 pub lines_append : (failed : List ℕ) (rows more : List PairRow) → pair_lines failed (rows ++ more) ≡ pair_lines failed rows ++ pair_lines failed more
 lines_append failed [] more = refl
@@ -18,10 +18,6 @@ lines_append failed (row ∷ rows) more = ap (λ (l : List ℕ). pair_line faile
 pub lines_more : (failed : List ℕ) (rows : List PairRow) (row : PairRow) → pair_lines failed (rows ++ row ∷ []) ≡ pair_lines failed rows ++ pair_line failed row
 lines_more failed rows row = lines_append failed rows (row ∷ []) ∙ ap (λ (l : List ℕ). pair_lines failed rows ++ l) (append-nil (pair_line failed row))
 
--- A serial has at most 6 bytes.
-pub serial_short : (name : List ℕ) → IsTrue (is_serial name) → length name ≤ 6
-serial_short name valid = grind arith
-
 -- Four texts, put behind a text one after another.
 pub four_behind : (line a b c d : List ℕ) (w x y z : List ℕ) → w ≡ line ++ a → x ≡ w ++ b → y ≡ x ++ c → z ≡ y ++ d → z ≡ line ++ (a ++ b ++ c ++ d)
 four_behind line a b c d w x y z p q r s =
@@ -30,7 +26,7 @@ four_behind line a b c d w x y z p q r s =
 -- ---- devices that failed
 
 -- A device that stands at a place is among them.
-pub among_here : (failed : List ℕ) (i device : ℕ) → slice_get failed i ≡ Some device → is_among failed device ≡ true
+pub among_here : (failed : List ℕ) (i device : ℕ) → slice_get failed i ≡ Some device → is_among device failed ≡ true
 among_here [] i device is = absurd cc
 among_here (x ∷ failed) zero device is = let same : x ≡ device = cc in rw (eq-eqb x device same) refl
 among_here (x ∷ failed) (suc i) device is = rw (among_here failed i device is) (either_way (x == device))
@@ -40,17 +36,17 @@ among_here (x ∷ failed) (suc i) device is = rw (among_here failed i device is)
     either_way false = refl
 
 -- It isn't among the first of them, nor is it the next.
-among_next : (failed : List ℕ) (i device other : ℕ) → slice_get failed i ≡ Some other → other ≢ device → is_among (take i failed) device ≡ false → is_among (take (suc i) failed) device ≡ false
+among_next : (failed : List ℕ) (i device other : ℕ) → slice_get failed i ≡ Some other → other ≢ device → is_among device (take i failed) ≡ false → is_among device (take (suc i) failed) ≡ false
 among_next [] i device other is differs none = absurd cc
 among_next (x ∷ failed) zero device other is differs none = let same : x ≡ other = cc in rw (ne_eqb x device (λ e. differs (sym same ∙ e))) refl
-among_next (x ∷ failed) (suc i) device other is differs none = both (x == device) (is_among (take i failed) device) (is_among (take (suc i) failed) device) none (among_next failed i device other is differs)
+among_next (x ∷ failed) (suc i) device other is differs none = both (x == device) (is_among device (take i failed)) (is_among device (take (suc i) failed)) none (among_next failed i device other is differs)
   where
     both : (a b c : Bool) → (a || b) ≡ false → (b ≡ false → c ≡ false) → (a || c) ≡ false
     both true b c e then = absurd cc
     both false b c e then = then e
 
-pub among_more : (failed : List ℕ) (i device other : ℕ) → slice_get failed i ≡ Some other → other ≢ device → is_among (take i failed) device ≡ false → is_among (take (i + 1) failed) device ≡ false
-among_more failed i device other is differs none = let on : i + 1 ≡ suc i = omega arith in ap (λ (n : ℕ). is_among (take n failed) device) on ∙ among_next failed i device other is differs none
+pub among_more : (failed : List ℕ) (i device other : ℕ) → slice_get failed i ≡ Some other → other ≢ device → is_among device (take i failed) ≡ false → is_among device (take (i + 1) failed) ≡ false
+among_more failed i device other is differs none = let on : i + 1 ≡ suc i = omega arith in ap (λ (n : ℕ). is_among device (take n failed)) on ∙ among_next failed i device other is differs none
 
 -- There is an item at each place below the length.
 none_at : (xs : List ℕ) (i : ℕ) → i < length xs → (let none : Option ℕ = None in none ≡ slice_get xs i) → ⊥

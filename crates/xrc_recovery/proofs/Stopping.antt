@@ -4,6 +4,7 @@ use Rattle.xrc_edge.specs.Causes.{Rose}
 use Rattle.crash_plant.specs.declared.device.Device.{Device}
 use Rattle.crash_plant.specs.declared.device.Device.TheVariants.{Control, State, Journal, Volume}
 use Rattle.crash_plant.specs.Moments.{PlantState}
+use Rattle.crash_plant.specs.Calls.{NoneRose}
 use Rattle.control_set.specs.declared.value.Mark.{Mark}
 use Rattle.site_means.specs.declared.means.Means.{Means}
 use Rattle.site_means.specs.declared.site_error.SiteError.TheVariants.{NoSession as NoSessionError, Damaged as DamagedError, Fault, TooSmall as TooSmallError, NoMemory as NoMemoryError}
@@ -12,16 +13,16 @@ use Rattle.site_means.specs.Meaning.{Meaning}
 use Rattle.site_means.specs.Sight.{meant_by}
 use Rattle.xrecover.specs.declared.recover_error.RecoverError.{RecoverError}
 use Rattle.xrecover.specs.declared.recover_error.RecoverError.TheVariants.{Site, Other}
-use Rattle.xrecover.specs.Answers.{EndsLate, IsOther, IsRecoverable, IsTooSmall, Says}
+use Rattle.xrecover.specs.Answers.{EndsLate, IsOther, IsRecoverable, IsTooSmall, IsGoodOrCalledFor}
 use Rattle.xrecover.specs.Pairs.{first_small}
 use Rattle.xrecover.specs.Redone.{meant_rows, rows_of}
 use Rattle.xrc_status.specs.declared.stop.Stop.{Stop}
 use Rattle.xrc_status.specs.declared.stop.Stop.TheVariants.{NoMemory, BadWords, ConsoleFault, JournalFault, ControlFault, StateFault, BadHeader, HeaderFault, NoSession, OtherSession, Damaged, VolumeFault, TooSmall, JournalEnd, BadSite, NotBuilt, EarlyBreak, EarlyVolume, Spent}
-use Rattle.xrc_recovery.specs.Stops.{CallsFor, HasRisen, IsEarly, IsReady, NoneRose, stop_of}
+use Rattle.xrc_recovery.specs.Stops.{CallsFor, HasRisen, StopsEarly, IsReady, stop_of}
 
 -- An error's stop is called for where what reads give calls for the error.
 pub calls_for : {X : Type 0} (plant : PlantState) (session : List ℕ) (good : X → Type 0) (e : RecoverError)
-    → ((d : Device) → first_short plant ≡ Some d → e ≡ Site (TooSmallError d (need d))) → Says {X = X} plant session good (Err e) → CallsFor plant session (stop_of e)
+    → ((d : Device) → first_short plant ≡ Some d → e ≡ Site (TooSmallError d (need d))) → IsGoodOrCalledFor {X = X} plant session good (Err e) → CallsFor plant session (stop_of e)
 calls_for plant session good (Other name) short says = says
 calls_for plant session good (Site NoSessionError) short says = says
 calls_for plant session good (Site (DamagedError d place)) short says = says
@@ -46,7 +47,7 @@ has_risen a b (Site (TooSmallError d needed)) fault = tt
 has_risen a b (Site NoMemoryError) fault = tt
 
 -- An early stop is that of an early error.
-pub is_early : (e : RecoverError) → IsEarly (stop_of e) → ¬ EndsLate e
+pub is_early : (e : RecoverError) → StopsEarly (stop_of e) → ¬ EndsLate e
 is_early (Other name) early = λ late. late
 is_early (Site NoSessionError) early = λ late. late
 is_early (Site (DamagedError d place)) early = λ late. late
@@ -81,7 +82,7 @@ not_console (Site (TooSmallError d needed)) = λ is. cc
 not_console (Site NoMemoryError) = λ is. cc
 
 -- Only a volume's fault has its stop, and by what reads give there is none.
-pub not_volume : {X : Type 0} (plant : PlantState) (session : List ℕ) (good : X → Type 0) (e : RecoverError) → Says {X = X} plant session good (Err e) → stop_of e ≢ VolumeFault
+pub not_volume : {X : Type 0} (plant : PlantState) (session : List ℕ) (good : X → Type 0) (e : RecoverError) → IsGoodOrCalledFor {X = X} plant session good (Err e) → stop_of e ≢ VolumeFault
 not_volume plant session good (Other name) says = λ is. cc
 not_volume plant session good (Site NoSessionError) says = λ is. cc
 not_volume plant session good (Site (DamagedError d place)) says = λ is. cc

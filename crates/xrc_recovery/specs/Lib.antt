@@ -1,4 +1,5 @@
 pub mod Texts
 pub mod Stops
 pub mod Reports
+pub mod Recoveries
 pub mod Statuses

@@ -1,10 +1,10 @@
 -- The status that a recovery ends with: what it stands for, and what was done and said by then.
-use Rattle.std.specs.Prelude.{◌≡◌, ◌≢◌, ◌≤◌, ◌↔◌, ◌⊎◌, ◌++◌, ◌==◌, ◌||◌, ℕ, List, [], Bool, IsTrue, Some, length, take}
+use Rattle.std.specs.Prelude.{◌≡◌, ◌≢◌, ◌≤◌, ◌+◌, ◌↔◌, ◌⊎◌, ◌++◌, ◌==◌, ◌||◌, ℕ, List, [], Bool, IsTrue, Some, length, take}
 use Rattle.xrc_edge.specs.Causes.{Rose}
 use Rattle.crash_plant.specs.declared.device.Device.{Device}
 use Rattle.crash_plant.specs.declared.device.Device.TheVariants.{Volume}
 use Rattle.crash_plant.specs.Moments.{PlantState, on}
-use Rattle.crash_plant.specs.Calls.{Says, WorksOnConsole}
+use Rattle.crash_plant.specs.Calls.{NoneRose, Says, WorksOnConsole}
 use Rattle.crash_plant.specs.Choices.{AllFollow}
 use Rattle.site_means.specs.Answers.{first_short, need}
 use Rattle.site_means.specs.Sight.{walked}
@@ -16,7 +16,7 @@ use Rattle.xrc_status.specs.declared.stop.Stop.{Stop}
 use Rattle.xrc_status.specs.declared.stop.Stop.TheVariants.{TooSmall, VolumeFault}
 use Rattle.xrc_status.specs.Saying.{SaidWhole}
 use Rattle.xrc_status.specs.Stops.{last_line, status_of}
-use Rattle.xrc_recovery.specs.Stops.{CallsFor, HasLines, HasRisen, IsReady, IsSite, NoneRose}
+use Rattle.xrc_recovery.specs.Stops.{CallsFor, HasLines, HasRisen, IsReady, IsSite}
 use Rattle.xrc_recovery.specs.Reports.{Changes, RedoesPairs, Reports, ReportsAll, report_of}
 
 -- ---- what was said
@@ -71,6 +71,8 @@ pub record EndsRecovery (tells : Type 0) (session : List ℕ) (old new : PlantSt
   pub failed : tells → status ≡ 13 → (failed : List ℕ) × (failed ≢ []) × ReportsThen session failed (last_line VolumeFault) old new
   pub cut : tells → status ≡ 3 → (failed : List ℕ) × Reports session failed old new
   pub console_count : status ≡ 0 → new.console_faults ≡ old.console_faults
+  -- A volume is left at its first fault.
+  pub once : (v : ℕ) → new.faults (Volume v) ≤ old.faults (Volume v) + 1
   -- At every moment only labels of duplex pairs' volumes, and slots of tracks of which the walk has an item, differ; a crash leaves
   -- what means the same, with the same tracks. At most statuses nothing was written.
   pub changes : Changes tells (Recovers (meant_rows old old.bytes) (walked old old.bytes)) old new

@@ -104,11 +104,11 @@ HasLines stop = (stop ≡ ConsoleFault) ⊎ (stop ≡ VolumeFault)
 
 -- It ends so before anything is written: not by a fault of a journal, which can also come while its items are read once more, and not
 -- with lines.
-abbrev pub IsEarly : Stop → Type 0
-IsEarly (JournalFault j) = ⊥
-IsEarly VolumeFault = ⊥
-IsEarly ConsoleFault = ⊥
-IsEarly stop = Unit {0}
+abbrev pub StopsEarly : Stop → Type 0
+StopsEarly (JournalFault j) = ⊥
+StopsEarly VolumeFault = ⊥
+StopsEarly ConsoleFault = ⊥
+StopsEarly stop = Unit {0}
 
 -- ---- what calls for none
 
@@ -117,8 +117,3 @@ pub record IsReady (plant : PlantState) (session : List ℕ) : Type 0 where
   pub long : first_short plant ≡ None
   pub means : Means
   pub is_meant : IsRecoverable plant session means
-
--- No count rose.
-pub record NoneRose (old new : PlantState) : Type 0 where
-  pub devices : (d : Device) → ¬ Rose (old.faults d) (new.faults d)
-  pub console : ¬ Rose old.console_faults new.console_faults

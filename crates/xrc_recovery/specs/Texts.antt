@@ -1,12 +1,12 @@
 -- What is said of a recovery: a line of the session and the time, and one line of each pair in the order of the rows.
-use Rattle.std.specs.Prelude.{ℕ, ◌==◌, List, [], ◌∷◌, ◌++◌, Bool, true, false, codes}
-use Rattle.std.specs.List.{list_any}
+use Rattle.std.specs.Prelude.{ℕ, List, [], ◌∷◌, ◌++◌, Bool, true, false, codes}
 use Rattle.tod_stamp.specs.Stamps.{stamp_text}
 use Rattle.pair_table.specs.declared.row.SuspendCause.{SuspendCause}
 use Rattle.pair_table.specs.declared.row.SuspendCause.TheVariants.{Command, Device, Session, Control}
 use Rattle.pair_table.specs.declared.row.PairState.{PairState}
 use Rattle.pair_table.specs.declared.row.PairState.TheVariants.{Pending, Copy, Duplex, Suspended}
 use Rattle.pair_table.specs.declared.row.PairRow.{PairRow}
+use Rattle.pair_table.specs.Devices.{is_among}
 
 -- Each line ends with a line feed.
 abbrev pub recovered_line : (session : List ℕ) → (time : ℕ) → List ℕ
@@ -26,12 +26,8 @@ state_text false Duplex = codes "DUPLEX"
 state_text true Duplex = codes "FAULT"
 state_text has_failed (Suspended cause since) = codes "SUSPENDED " ++ cause_text cause ++ codes " SINCE " ++ stamp_text since.0
 
--- whether a device is among those that failed
-abbrev pub is_among : (failed : List ℕ) → (device : ℕ) → Bool
-is_among failed device = list_any (λ d. d == device) failed
-
 abbrev pub pair_line : (failed : List ℕ) → PairRow → List ℕ
-pair_line failed row = codes "PAIR " ++ row.primary ++ codes " " ++ row.secondary ++ codes " " ++ state_text (is_among failed row.device) row.state ++ 10 ∷ []
+pair_line failed row = codes "PAIR " ++ row.primary ++ codes " " ++ row.secondary ++ codes " " ++ state_text (is_among row.device failed) row.state ++ 10 ∷ []
 
 abbrev pub pair_lines : (failed : List ℕ) → List PairRow → List ℕ
 pair_lines failed [] = []

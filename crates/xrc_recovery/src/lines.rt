@@ -1,7 +1,8 @@
 //! The lines that are said of a recovery.
 
 ghost use Rattle.std.specs.Prelude.{◌≡◌, ◌≤◌, ◌+◌, ◌++◌, ◌∷◌, [], length};
-ghost use Rattle.xrc_recovery.specs.Texts.{cause_text, is_among, pair_line, recovered_line, state_text};
+ghost use Rattle.xrc_recovery.specs.Texts.{cause_text, pair_line, recovered_line, state_text};
+ghost use Rattle.pair_table.specs.Devices.{is_among};
 
 use pair_table::{PairRow, PairState, SuspendCause};
 use tod_stamp::{Serial, Session, Stamp};
@@ -56,7 +57,7 @@ fn add_state(line: &mut Line, has_failed: bool, state: PairState)
 /// Whether a device is among those that failed.
 #[tactic(auto, using(crate::proofs::LineLaws::among_here, crate::proofs::LineLaws::among_more, crate::proofs::LineLaws::some_at))]
 fn is_among(outcome: &Outcome, device: u16) -> bool
-    ensures { result ≡ is_among outcome.now.failed device }
+    ensures { result ≡ is_among device outcome.now.failed }
 {
     for place in 0..outcome.failed.len() {
         let failed = *outcome.failed.get(place).unwrap();

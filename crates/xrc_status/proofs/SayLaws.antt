@@ -1,5 +1,5 @@
 -- How texts that are said add up.
-use Rattle.std.proofs.Common.{◌≡◌, ◌≤◌, ◌+◌, ◌++◌, ℕ, List, [], Result, Ok, Err, length, take, refl, sym, ◌∙◌, ap, subst, arith, append_assoc, append-nil, length-append, inl, inr}
+use Rattle.std.proofs.Common.{◌≡◌, ◌≤◌, ◌+◌, ◌++◌, ℕ, List, Result, Ok, Err, length, take, sym, ◌∙◌, ap, subst, arith, append_assoc, length-append, inl, inr}
 use Rattle.std.proofs.lemmas.Bool.{cases_lt}
 use Rattle.std.proofs.lemmas.List.{take-append-le}
 use Rattle.std.proofs.Math.Seq.{take-append-add}
@@ -7,20 +7,8 @@ use Rattle.crash_plant.specs.declared.device.Device.TheVariants.{Control}
 use Rattle.crash_plant.specs.Moments.{PlantState}
 use Rattle.crash_plant.specs.Calls.{Elapses, Says}
 use Rattle.xrc_edge.specs.Causes.{Rose}
-use Rattle.crash_plant.proofs.Steps.{works_on_console_here, works_on_console_trans}
-use Rattle.xrc_status.specs.Saying.{SaidWhole, SaysFront, SaysLast, SaysText, SaysWhole}
-
--- No call says nothing.
-pub says_here : (tells : Type 0) (text : List ℕ) (a : PlantState) → SaysFront tells text a a
-says_here tells text a = record {
-  only = works_on_console_here tells a;
-  moments = λ told. record {
-    front = λ t from to. (0, omega arith, (let here : t ≡ a.clock = omega arith in ap a.said here) ∙ sym (append-nil (a.said a.clock)));
-    grows = λ s t from le to. (let same : s ≡ t = omega (arith, from, le, to) in let k = ap (λ (n : ℕ). length (a.said n)) same in omega (arith, k));
-    heard = λ t from to. let here : t ≡ a.clock = omega arith in ap a.heard here;
-    script = refl;
-  };
-}
+use Rattle.crash_plant.proofs.Steps.{works_on_console_trans}
+use Rattle.xrc_status.specs.Saying.{SaidWhole, SaysFront, SaysText, SaysWhole}
 
 -- A front of a text is one of a longer text.
 pub says_so_far : (tells : Type 0) (x y : List ℕ) (a b : PlantState) → SaysFront tells x a b → SaysFront tells (x ++ y) a b
@@ -123,11 +111,3 @@ text_so_far tells x y a b e f says = record {
   whole = λ told. tt;
   cause = record { later = says.cause.later; by_one = says.cause.by_one; ok = tt; failed = says.cause.failed };
 }
-
--- What was said last.
-pub said_last : {T E : Type 0} (tells : Type 0) (x : List ℕ) (a b : PlantState) (r : Result T E) → SaysText tells x a b r → SaysLast tells x a b
-said_last tells x a b (Ok v) says = record { front = says.front; whole = λ told. inl (says.whole told); later = says.cause.later }
-said_last tells x a b (Err e) says = record { front = says.front; whole = λ told. inr says.cause.failed; later = says.cause.later }
-
-pub none_last : (tells : Type 0) (a : PlantState) → SaysLast tells [] a a
-none_last tells a = record { front = says_here tells [] a; whole = λ told. inl (sym (append-nil (a.said a.clock))); later = omega arith }

@@ -1,24 +1,21 @@
-ghost use Rattle.std.specs.Prelude.{◌≡◌, ◌≤◌, ◌+◌, ◌++◌, [], ◌∷◌, ℕ, List, length, take, decimal};
+ghost use Rattle.std.specs.Prelude.{◌≡◌, ◌≤◌, ◌+◌, ◌++◌, [], ◌∷◌, ℕ, List, length, decimal};
 
 use itoa::Buffer;
 use std::marker::Model;
-
-/// The most bytes of a line.
-const MOST: usize = 160;
+use xrc_edge::Text;
 
 /// A line that is put together piece by piece. It takes no memory, and has at most 160 bytes. Contracts see the list of its bytes.
 #[derive(Drop)]
 pub struct Line {
-    bytes: [u8; MOST],
-    used: usize,
+    text: Text,
 }
 
 impl Model for Line {
     ghost Value = { List ℕ };
 
-    ghost view = { λ line. take line.used line.bytes };
+    ghost view = { λ line. line.text };
 
-    ghost invariant = { λ line. line.used ≤ 160 };
+    ghost invariant = { λ line. length line.text ≤ 160 };
 }
 
 impl Line {
@@ -26,10 +23,7 @@ impl Line {
     pub fn make() -> Line
         ensures { result ≡ [] }
     {
-        Line {
-            bytes: [0; MOST],
-            used: 0,
-        }
+        Line { text: Text::make() }
     }
 
     /// Puts a text behind what stands in the line.
@@ -38,9 +32,7 @@ impl Line {
         ensures text { self.new ≡ self.old ++ text.now }
         ensures size { length self.new ≡ length self.old + length text.now }
     {
-        let end = self.used + text.len();
-        self.bytes[self.used..end].copy_from_slice(text);
-        self.used = end;
+        self.text.add(text);
     }
 
     /// Puts a space and a number in decimal digits behind what stands in the line.
@@ -58,6 +50,6 @@ impl Line {
     pub fn as_bytes(&self) -> &[u8]
         ensures { result.now ≡ self.now }
     {
-        &self.bytes[..self.used]
+        self.text.as_bytes()
     }
 }

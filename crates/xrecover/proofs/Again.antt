@@ -6,8 +6,8 @@ use Rattle.xrc_journal.specs.Records.{Found}
 use Rattle.xrc_journal.specs.Records.Found.{End, Group, Switch, Damaged}
 use Rattle.xrc_journal.specs.Walks.{Logged}
 use Rattle.site_means.specs.Images.{Images, Shape}
-use Rattle.site_means.specs.Walk.{Standing, Step, Walk, ends_at, found_at, group_step, has_entered, rows_through, step, step_by, switch_step, turns_at, unfit_in, walk_items, with_before}
-use Rattle.site_means.specs.Walk.Step.{Ends, GoesOn, Breaks}
+use Rattle.site_means.specs.Walk.{WalkState, WalkStep, Walk, ends_at, found_at, group_step, has_entered, rows_through, step, step_by, switch_step, turns_at, unfit_in, walk_items, with_before}
+use Rattle.site_means.specs.Walk.WalkStep.{Ends, GoesOn, Breaks}
 use Rattle.site_means.proofs.Goes.{entered_here, entered_stays, rest_breaks, rest_ends, rest_goes, rest_of}
 use Rattle.site_means.proofs.Agreeing.{mark_here}
 use Rattle.site_means.specs.Answers.{Enters}
@@ -35,8 +35,8 @@ use Rattle.xrecover.specs.Again.{FoundAgain}
 use Rattle.xrecover.specs.Answers.{HasWalk}
 
 -- the walk behind a record
-pub record Next (shape : Shape) (images : Images) (s : Standing) (time : ℕ) (items : List Item) (after : Spot) : Type 0 where
-  pub n : Standing
+pub record Next (shape : Shape) (images : Images) (s : WalkState) (time : ℕ) (items : List Item) (after : Spot) : Type 0 where
+  pub n : WalkState
   pub at : n.at ≡ after
   pub last : n.last ≡ time
   pub items_are : walk_items (rest_of shape images s) ≡ items ++ walk_items (rest_of shape images n)
@@ -44,7 +44,7 @@ pub record Next (shape : Shape) (images : Images) (s : Standing) (time : ℕ) (i
   pub entered : (rest_of shape images n).entered ≡ (rest_of shape images s).entered
   pub here : has_entered s.at.set s.entered ≡ true → has_entered n.at.set n.entered ≡ true
 
-module _ (shape : Shape) (images : Images) (s : Standing) (lt : s.at.number < 2 ^ 64) (good : (rest_of shape images s).bad ≡ None) where
+module _ (shape : Shape) (images : Images) (s : WalkState) (lt : s.at.number < 2 ^ 64) (good : (rest_of shape images s).bad ≡ None) where
   no_break : (place : ℕ) → step shape images s ≡ Breaks place → ⊥
   no_break place e = clash (sym good ∙ ap (λ (w : Walk). w.bad) (rest_breaks shape images s place lt e))
     where
@@ -56,7 +56,7 @@ module _ (shape : Shape) (images : Images) (s : Standing) (lt : s.at.number < 2 
     where
       by_unfit : (bad : Option ℕ) → unfit_in shape s items ≡ bad → Next shape images s time items after
       by_unfit None fits =
-          let n : Standing = record { rows = rows_through items s.rows; entered = s.entered; at = after; last = time } in
+          let n : WalkState = record { rows = rows_through items s.rows; entered = s.entered; at = after; last = time } in
           let is : step shape images s ≡ GoesOn (record { time = time; items = items } ∷ []) n = ap (λ (f : Found). step_by shape s f) found ∙ ap (λ (o : Option ℕ). group_step s time items after o) fits in
           let goes = rest_goes shape images s n (record { time = time; items = items } ∷ []) lt is in
           record { n = n; at = refl; last = refl; items_are = ap (λ (w : Walk). walk_items w) goes; good = sym (ap (λ (w : Walk). w.bad) goes) ∙ good; entered = sym (ap (λ (w : Walk). w.entered) goes); here = entered_here shape images s n (record { time = time; items = items } ∷ []) is }
@@ -65,7 +65,7 @@ module _ (shape : Shape) (images : Images) (s : Standing) (lt : s.at.number < 2 
   pub again_switch : (time : ℕ) (after : Spot) → found_at shape images s ≡ Switch time after → Next shape images s time [] after
   again_switch time after found = by_entered (has_entered after.set s.entered) refl
     where
-      n : Standing
+      n : WalkState
       n = record { rows = s.rows; entered = s.entered ++ after.set ∷ []; at = after; last = time }
 
       by_entered : (entered : Bool) → has_entered after.set s.entered ≡ entered → Next shape images s time [] after
@@ -84,7 +84,7 @@ module _ (shape : Shape) (images : Images) (s : Standing) (lt : s.at.number < 2 
 -- ---- where a walk that is read once more stands, and what was applied to a device
 
 pub record Reads (shape : Shape) (images : Images) (items : List Item) (device : ℕ) (first now : List ℕ) (at : Spot) (last : ℕ) : Type 0 where
-  pub s : Standing
+  pub s : WalkState
   pub at_is : s.at ≡ at
   pub last_is : s.last ≡ last
   pub before : List Item
@@ -128,7 +128,7 @@ module _ (shape : Shape) (images : Images) (items its : List Item) (device : ℕ
       subst (λ (l : List Item). HasItem device x l) (sym (r.items_are ∙ ap (λ (l : List Item). r.before ++ l) n.items_are)) (has_behind device x r.before (its ++ rest) (has_before device x its rest has))
 
 -- What is found there is the same while only volumes are written.
-pub found_same : (old new : PlantState) (s : Standing) (at : Spot) (last : ℕ) → SameSite old new → new.bytes (Journal at.set) ≡ old.bytes (Journal at.set) → s.at ≡ at → s.last ≡ last → found_at (shape_of old) old.bytes s ≡ walk_one (form_of new) new.journals (new.bytes (Journal at.set)) at last
+pub found_same : (old new : PlantState) (s : WalkState) (at : Spot) (last : ℕ) → SameSite old new → new.bytes (Journal at.set) ≡ old.bytes (Journal at.set) → s.at ≡ at → s.last ≡ last → found_at (shape_of old) old.bytes s ≡ walk_one (form_of new) new.journals (new.bytes (Journal at.set)) at last
 found_same old new s at last site same at_is last_is =
     let form = sym (same_form old new site) in
     let sets = sym site.journals in

@@ -4,7 +4,7 @@ use Rattle.std.specs.List.{list_any, flat_map}
 use Rattle.std.specs.Int.{w8, w16}
 use Rattle.std.proofs.lemmas.Bool.{eqb-true}
 use Rattle.std.proofs.lemmas.List.Folds.{list_any-append}
-use Rattle.tod_stamp.specs.Fields.{◌>>=◌, Left, Bad, bytes_at, number_at}
+use Rattle.tod_stamp.specs.Fields.{◌>>=◌, Left, Bad, bytes_at, number_at, any}
 use Rattle.tod_stamp.proofs.FieldLaws.{bind_ok}
 use Rattle.ckd_track.specs.declared.rec.Rec.{Rec}
 use Rattle.crash_plant.specs.declared.device.Device.TheVariants.{Journal}
@@ -17,16 +17,15 @@ use Rattle.state_set.specs.Slots.{Stored}
 use Rattle.xrc_journal.specs.Items.{Item, Form, Earlier, behind, may_draw, none_earlier}
 use Rattle.xrc_journal.specs.Items.Item.{Image, Delta, Pair, Gone}
 use Rattle.xrc_journal.specs.Bodies.{draws}
-use Rattle.xrc_journal.specs.Deltas.{any}
-use Rattle.xrc_journal.specs.Reading.{Items, delta_item_at, first_and_rest, gone_item_at, image_field, image_item_at, is_tag, item_at, items_at, items_from, no_items, pair_item_at, row_or, track_at}
+use Rattle.xrc_journal.specs.Reading.{Items, delta_item_at, first_and_rest, gone_item_at, body_image_field, image_item_at, is_tag, item_at, items_at, items_from, no_items, pair_item_at, row_or, track_at}
 use Rattle.xrc_journal.specs.Records.{stretch}
 use Rattle.xrc_journal.specs.Walks.{Logged}
 use Rattle.xrc_journal.specs.Contents.{HasItem, is_of_track}
 use Rattle.xrc_journal.proofs.Fields.{given_is}
 use Rattle.xrc_journal.proofs.RecordsRead.{group_found}
 use Rattle.site_means.specs.Images.{Images, Shape, shape_of}
-use Rattle.site_means.specs.Walk.{Standing, Step, Walk, ends_at, start, step, turns_at, walk_from, walk_in, walk_items, walk_on, with_before}
-use Rattle.site_means.specs.Walk.Step.{Ends, GoesOn, Breaks}
+use Rattle.site_means.specs.Walk.{WalkState, WalkStep, Walk, ends_at, start, step, turns_at, walk_from, walk_in, walk_items, walk_on, with_before}
+use Rattle.site_means.specs.Walk.WalkStep.{Ends, GoesOn, Breaks}
 use Rattle.site_means.specs.Meaning.{chosen_in, meaning_by_mark, meaning_by_state, meaning_by_walk, meaning_in, stored_in}
 use Rattle.site_means.specs.Sight.{walked, walked_by}
 use Rattle.site_means.proofs.Goes.{ByGroup, BySwitch, goes_by}
@@ -43,8 +42,8 @@ module _ (form : Form) (earlier : Earlier) (left : Left) (item : Item) (next : L
   image_no_delta : image_item_at form earlier left ≡ Ok (item, next) → is_delta item ≡ false
   unfolding image_item_at
   image_no_delta e =
-      let one = bind_ok (track_at (may_draw form earlier) left) (λ at. image_field at.1 >>= (λ r. Ok (Image at.0.0 at.0.1 r.0, r.1))) (item, next) e in
-      let two = bind_ok (image_field one.0.1) (λ r. Ok (Image one.0.0.0 one.0.0.1 r.0, r.1)) (item, next) one.2 in
+      let one = bind_ok (track_at (may_draw form earlier) left) (λ at. body_image_field at.1 >>= (λ r. Ok (Image at.0.0 at.0.1 r.0, r.1))) (item, next) e in
+      let two = bind_ok (body_image_field one.0.1) (λ r. Ok (Image one.0.0.0 one.0.0.1 r.0, r.1)) (item, next) one.2 in
       sym (ap (λ (p : Item × Left). is_delta p.0) (given_is (Image one.0.0.0 one.0.0.1 two.0.0, two.0.1) (item, next) two.2))
 
   pair_no_delta : pair_item_at left ≡ Ok (item, next) → is_delta item ≡ false
@@ -106,14 +105,14 @@ body_no_delta (suc turns) form earlier left none = by_end (nat_eq (length left.b
 -- ---- a walk
 
 module _ (shape : Shape) (images : Images) (none : shape.form.deltas ≡ false) where
-  group_no_delta : (s n : Standing) (groups : List Logged) (g : ByGroup shape images s groups n) → list_any is_delta g.items ≡ false
+  group_no_delta : (s n : WalkState) (groups : List Logged) (g : ByGroup shape images s groups n) → list_any is_delta g.items ≡ false
   group_no_delta s n groups g =
       let journal = images (Journal s.at.set) in
       let f = group_found shape.form shape.sets journal s.at s.last g.time g.items g.after g.found in
       let bytes = stretch (s.at.place + 22) f.head.len journal in
       ap (λ (l : Items). list_any is_delta l.good) (sym f.read) ∙ body_no_delta (length bytes) shape.form none_earlier (record { place = s.at.place + 22; bytes = bytes }) none
 
-  step_no_delta : (s n : Standing) (groups : List Logged) (w : Walk) → step shape images s ≡ GoesOn groups n → list_any is_delta (walk_items w) ≡ false → list_any is_delta (walk_items (with_before groups w)) ≡ false
+  step_no_delta : (s n : WalkState) (groups : List Logged) (w : Walk) → step shape images s ≡ GoesOn groups n → list_any is_delta (walk_items w) ≡ false → list_any is_delta (walk_items (with_before groups w)) ≡ false
   step_no_delta s n groups w e more = elim (goes_by shape images s groups n e) [
     | inl g ↦
         ap (λ (l : List Logged). list_any is_delta (walk_items (with_before l w))) g.groups_are
@@ -121,12 +120,12 @@ module _ (shape : Shape) (images : Images) (none : shape.form.deltas ≡ false) 
     | inr k ↦ ap (λ (l : List Logged). list_any is_delta (walk_items (with_before l w))) k.groups_are ∙ more
   ]
 
-  walk_no_delta : (turns : ℕ) (s : Standing) → list_any is_delta (walk_items (walk_from turns shape images s)) ≡ false
+  walk_no_delta : (turns : ℕ) (s : WalkState) → list_any is_delta (walk_items (walk_from turns shape images s)) ≡ false
   unfolding walk_from
   walk_no_delta zero s = refl
   walk_no_delta (suc turns) s = by_step (step shape images s) refl (λ n. walk_no_delta turns n)
     where
-      by_step : (st : Step) → step shape images s ≡ st → ((n : Standing) → list_any is_delta (walk_items (walk_from turns shape images n)) ≡ false) → list_any is_delta (walk_items (walk_on s st (λ n. walk_from turns shape images n))) ≡ false
+      by_step : (st : WalkStep) → step shape images s ≡ st → ((n : WalkState) → list_any is_delta (walk_items (walk_from turns shape images n)) ≡ false) → list_any is_delta (walk_items (walk_on s st (λ n. walk_from turns shape images n))) ≡ false
       by_step Ends e more = refl
       by_step (Breaks place) e more = refl
       by_step (GoesOn groups n) e more = step_no_delta s n groups (walk_from turns shape images n) e (more n)

@@ -1,5 +1,5 @@
 -- A recovery by its steps: what was read first, and the pairs that were redone then.
-use Rattle.std.proofs.Common.{◌≡◌, ℕ, List, Result, Err, sym, ap, subst}
+use Rattle.std.proofs.Common.{◌≡◌, ◌≤◌, ◌+◌, arith, ℕ, List, Result, Err, sym, ap, subst}
 use Rattle.std.specs.Prelude.{slice_index_or}
 use Rattle.xrc_edge.specs.Causes.{Rose}
 use Rattle.crash_plant.specs.declared.device.Device.{Device}
@@ -8,15 +8,14 @@ use Rattle.crash_plant.specs.Moments.{PlantState}
 use Rattle.control_set.specs.declared.value.Mark.{Mark}
 use Rattle.pair_table.specs.declared.row.PairRow.{PairRow}
 use Rattle.site_means.specs.declared.means.Means.{Means}
-use Rattle.site_means.specs.declared.site_error.SiteError.TheVariants.{NoSession, Damaged, Fault, TooSmall, NoMemory}
 use Rattle.site_means.specs.Answers.{ReadsAll}
 use Rattle.site_means.specs.Meaning.{Meaning}
 use Rattle.site_means.specs.Sight.{meant_by, walked, walked_by}
 use Rattle.site_means.proofs.Meanings.{same_seen, seen_meaning, seen_reached}
 use Rattle.xrc_journal.specs.Items.{Item}
+use Rattle.xrc_journal.specs.Jobs.{FailsByCount}
 use Rattle.xrecover.specs.declared.recover_error.RecoverError.{RecoverError}
-use Rattle.xrecover.specs.declared.recover_error.RecoverError.TheVariants.{Site, Other}
-use Rattle.xrecover.specs.Answers.{EndsLate, HasWalk, IsLate, IsOf, IsRecoverable, Says}
+use Rattle.xrecover.specs.Answers.{EndsLate, HasWalk, IsLate, IsOf, IsRecoverable, IsGoodOrCalledFor}
 use Rattle.xrecover.specs.Pairs.{AreFaulty}
 use Rattle.xrecover.specs.Redone.{Draws, Recovers, Redone, meant_rows, rows_of}
 use Rattle.xrecover.specs.Works.{Nothing, Works}
@@ -27,15 +26,6 @@ use Rattle.xrecover.proofs.Relations.{recovers_same}
 use Rattle.xrecover.proofs.Works.{works_more, works_reads, works_trans}
 
 -- ---- errors
-
--- An error says the same whatever would have been good.
-pub says_as : {X Y : Type 0} (plant : PlantState) (session : List ℕ) (good : X → Type 0) (other : Y → Type 0) (e : RecoverError) → (let r : Result X RecoverError = Err e in Says plant session good r) → (let r : Result Y RecoverError = Err e in Says plant session other r)
-says_as plant session good other (Other name) s = s
-says_as plant session good other (Site NoSession) s = s
-says_as plant session good other (Site (Damaged d place)) s = s
-says_as plant session good other (Site (Fault d)) s = s
-says_as plant session good other (Site (TooSmall d needed)) s = s
-says_as plant session good other (Site NoMemory) s = s
 
 pub ends_late : (plant : PlantState) (e : RecoverError) → IsLate plant e → EndsLate e
 ends_late plant e fault = subst (λ (k : RecoverError). EndsLate k) (sym fault.1) tt
@@ -53,8 +43,8 @@ module _ (tells : Type 0) (old one : PlantState) (reads : ReadsAll tells old one
   walk_now m told walk = (walk_later old one m reads.only.site (reads.same told Control) (reads.same told State) (λ j. reads.same told (Journal j)) walk).has
 
   -- a late error, after the mark was the session's
-  pub late_says : {X : Type 0} (session : List ℕ) (good : X → Type 0) → tells → IsOf old session → (e : RecoverError) → IsLate one e → (let r : Result X RecoverError = Err e in Says old session good r)
-  late_says {X = X} session good told of e fault = subst (λ (k : RecoverError). let r : Result X RecoverError = Err k in Says old session good r) (sym fault.1) (of, seen_reached old one (same_seen tells old one reads told) (Journal fault.0) fault.2)
+  pub late_says : {X : Type 0} (session : List ℕ) (good : X → Type 0) → tells → IsOf old session → (e : RecoverError) → IsLate one e → (let r : Result X RecoverError = Err e in IsGoodOrCalledFor old session good r)
+  late_says {X = X} session good told of e fault = subst (λ (k : RecoverError). let r : Result X RecoverError = Err k in IsGoodOrCalledFor old session good r) (sym fault.1) (of, seen_reached old one (same_seen tells old one reads told) (Journal fault.0) fault.2)
 
   module _ (session : List ℕ) (means : Means) (recoverable : tells → IsRecoverable old session means) (new : PlantState) where
     rows_are : tells → meant_rows old old.bytes ≡ means.table.rows
@@ -94,4 +84,12 @@ module _ (old one new : Device → ℕ) (same : (d : Device) → one d ≡ old d
   rose_since d rose = subst (λ (n : ℕ). Rose n (new d)) (same d) rose
 
   pub faulty_since : (rows : List PairRow) (failed : List ℕ) → AreFaulty rows one new failed → AreFaulty rows old new failed
-  faulty_since rows failed f = record { has_failed = f.has_failed; listed = f.listed; rose = λ v is. ((f.rose v is).0, rose_since (Volume v) (f.rose v is).1) }
+  faulty_since rows failed f = record {
+    has_failed = f.has_failed;
+    listed = f.listed;
+    are_duplex = f.are_duplex;
+    counted = λ v. subst (λ (n : ℕ). FailsByCount (f.has_failed v) n (new (Volume v))) (same (Volume v)) (f.counted v);
+  }
+
+  pub once_since : ((v : ℕ) → new (Volume v) ≤ one (Volume v) + 1) → (v : ℕ) → new (Volume v) ≤ old (Volume v) + 1
+  once_since once v = omega (arith, once v, same (Volume v))

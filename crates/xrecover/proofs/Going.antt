@@ -1,5 +1,5 @@
 -- Duplex pairs redone one after another.
-use Rattle.std.proofs.Common.{◌≡◌, ◌≢◌, ◌<◌, ◌==◌, ◌&&◌, ◌||◌, ◌+◌, ◌++◌, ◌∷◌, ◌⊎◌, inl, inr, ℕ, zero, suc, Bool, true, false, not, cond, List, [], length, take, Some, refl, sym, ◌∙◌, ap, subst, arith}
+use Rattle.std.proofs.Common.{◌≡◌, ◌≢◌, ◌<◌, ◌≤◌, ◌==◌, ◌&&◌, ◌||◌, ◌+◌, ◌++◌, ◌∷◌, ◌⊎◌, inl, inr, ℕ, zero, suc, Bool, true, false, not, cond, List, [], length, take, Some, refl, sym, ◌∙◌, ap, subst, arith}
 use Rattle.std.specs.Prelude.{All, Contains, filter, map, slice_get, slice_index_or}
 use Rattle.std.specs.List.{list_any}
 use Rattle.std.proofs.lemmas.Bool.{and_parts, and_from, cases_eq, eq-eqb, eqb-false, eqb-true}
@@ -7,7 +7,6 @@ use Rattle.std.proofs.lemmas.List.{append-nil, map-append}
 use Rattle.std.proofs.lemmas.List.Elements.{All-nil, All-cons, All-head, All-tail, All-push, All-contains_itself, filter-append}
 use Rattle.std.proofs.lemmas.List.Folds.{list_any-append}
 use Rattle.std.proofs.lemmas.Option.{slice_get-get_or}
-use Rattle.xrc_edge.specs.Causes.{Rose}
 use Rattle.crash_plant.specs.declared.device.Device.{Device}
 use Rattle.crash_plant.specs.declared.device.Device.TheVariants.{Control, State, Journal, Volume}
 use Rattle.crash_plant.specs.Moments.{PlantState}
@@ -15,12 +14,13 @@ use Rattle.pair_table.specs.declared.row.PairRow.{PairRow}
 use Rattle.pair_table.specs.Tables.{clashes, is_of, none_clash}
 use Rattle.site_means.proofs.ReadAll.{reads_none}
 use Rattle.xrc_journal.specs.Items.{Item}
+use Rattle.xrc_journal.specs.Jobs.{FailsByCount}
 use Rattle.xrecover.specs.Pairs.{AreFaulty, HasDuplex, duplex_devices, is_duplex, is_duplex_of}
-use Rattle.xrecover.specs.Works.{Nothing, OnVolume, Works}
+use Rattle.xrecover.specs.Works.{Nothing, OfOneVolume, Works}
 use Rattle.xrecover.specs.Redone.{Draws, IsRedone, Recovers, Redoes, Redone}
 use Rattle.xrecover.proofs.Relations.{recovers_same, redoes_same}
 use Rattle.xrecover.proofs.Rows.{recovers_one}
-use Rattle.xrecover.proofs.Works.{rose_later, works_more, works_reads, works_trans}
+use Rattle.xrecover.proofs.Works.{works_more, works_reads, works_trans}
 
 -- ---- rows of one device
 
@@ -181,7 +181,8 @@ pub record Going (tells : Type 0) (items : List Item) (front : List PairRow) (fa
   pub works : Works tells (Recovers front items) old now
   pub has_failed : ℕ → Bool
   pub listed : failed ≡ filter has_failed (duplex_devices front)
-  pub rose : (v : ℕ) → has_failed v ≡ true → HasDuplex front v × Rose (old.faults (Volume v)) (now.faults (Volume v))
+  pub are_duplex : (v : ℕ) → has_failed v ≡ true → HasDuplex front v
+  pub counted : (v : ℕ) → FailsByCount (has_failed v) (old.faults (Volume v)) (now.faults (Volume v))
   pub redone : tells → All (λ row. is_duplex row.state ≡ true → has_failed row.device ≡ false → IsRedone row items old now) front
 
 pub going_first : (tells : Type 0) (items : List Item) (a : PlantState) → Going tells items [] [] a a
@@ -189,7 +190,8 @@ going_first tells items a = record {
   works = works_more tells Nothing (Recovers [] items) a a (λ told d x y e. recovers_same [] items d x y e) (works_reads tells a a (reads_none tells a));
   has_failed = λ v. false;
   listed = refl;
-  rose = λ v is. absurd cc;
+  are_duplex = λ v is. absurd cc;
+  counted = λ v. record { later = omega arith; by_one = omega arith; same = λ _. refl; rose = λ is. absurd cc };
   redone = λ told. All-nil _;
 }
 
@@ -199,7 +201,8 @@ going_other tells items front r failed a b other g = record {
   works = works_more tells (Recovers front items) (Recovers (front ++ r ∷ []) items) a b (λ told d x y p. recovers_more front (r ∷ []) items d x y p) g.works;
   has_failed = g.has_failed;
   listed = g.listed ∙ sym (ap (filter g.has_failed) (devices_append front r false other) ∙ nil_behind);
-  rose = λ v is. (duplex_before front (r ∷ []) v (g.rose v is).0, (g.rose v is).1);
+  are_duplex = λ v is. duplex_before front (r ∷ []) v (g.are_duplex v is);
+  counted = g.counted;
   redone = λ told. All-push (λ row. is_duplex row.state ≡ true → g.has_failed row.device ≡ false → IsRedone row items a b) front r (g.redone told) (λ duplex. absurd (cc (duplex, other)));
 }
   where
@@ -207,10 +210,21 @@ going_other tells items front r failed a b other g = record {
     nil_behind = filter-append g.has_failed (duplex_devices front) [] ∙ append-nil (filter g.has_failed (duplex_devices front))
 
 module _ (tells : Type 0) (items : List Item) (front : List PairRow) (r : PairRow) (failed : List ℕ) (flag : Bool) (a b c : PlantState) (going : Going tells items front failed a b) (duplex : is_duplex r.state ≡ true) (apart : Apart front r)
-    (works : Works tells (OnVolume r.device (Redoes r.device items)) b c) (counts : (v : ℕ) → v ≢ r.device → c.faults (Volume v) ≡ b.faults (Volume v)) (rose : flag ≡ true → Rose (b.faults (Volume r.device)) (c.faults (Volume r.device)))
+    (works : Works tells (OfOneVolume r.device (Redoes r.device items)) b c) (counts : (v : ℕ) → v ≢ r.device → c.faults (Volume v) ≡ b.faults (Volume v)) (cause : FailsByCount flag (b.faults (Volume r.device)) (c.faults (Volume r.device)))
     (redone : tells → flag ≡ false → IsRedone r items b c) where
   now_failed : ℕ → Bool
   now_failed = with_flag r.device flag going.has_failed
+
+  -- Its volume had not failed, and its count stood.
+  unfailed : going.has_failed r.device ≡ false
+  unfailed = by_flag (going.has_failed r.device) refl
+    where
+      by_flag : (h : Bool) → going.has_failed r.device ≡ h → going.has_failed r.device ≡ false
+      by_flag true is = let has = going.are_duplex r.device is in let none = none_duplex front r apart in absurd (cc (has, none))
+      by_flag false is = is
+
+  counted_here : FailsByCount flag (a.faults (Volume r.device)) (c.faults (Volume r.device))
+  counted_here = subst (λ (n : ℕ). FailsByCount flag n (c.faults (Volume r.device))) ((going.counted r.device).same unfailed) cause
 
   -- what was done stays
   redone_still : (told : tells) (row : PairRow) → row.device ≢ r.device → IsRedone row items a b → IsRedone row items a c
@@ -237,19 +251,22 @@ module _ (tells : Type 0) (items : List Item) (front : List PairRow) (r : PairRo
 
   pub going_duplex : Going tells items (front ++ r ∷ []) (failed ++ cond flag (r.device ∷ []) []) a c
   going_duplex = record {
-    works = works_trans tells (Recovers (front ++ r ∷ []) items) (OnVolume r.device (Redoes r.device items)) (Recovers (front ++ r ∷ []) items) a b c
+    works = works_trans tells (Recovers (front ++ r ∷ []) items) (OfOneVolume r.device (Redoes r.device items)) (Recovers (front ++ r ∷ []) items) a b c
         (λ d x y z p q. recovers_one (front ++ r ∷ []) items r.device (duplex_last front r duplex) d x y z p q) (λ d x y p. p)
         (works_more tells (Recovers front items) (Recovers (front ++ r ∷ []) items) a b (λ told d x y p. recovers_more front (r ∷ []) items d x y p) going.works) works;
     has_failed = with_flag r.device flag going.has_failed;
     listed =
         (λ i. going.listed i ++ cond flag (r.device ∷ []) []) ∙ (λ i. sym (listed_same front r flag going.has_failed apart) i ++ cond (sym (flag_here r.device flag going.has_failed) i) (r.device ∷ []) [])
         ∙ sym (filter-append (with_flag r.device flag going.has_failed) (duplex_devices front) (r.device ∷ [])) ∙ ap (filter (with_flag r.device flag going.has_failed)) (sym (devices_append front r true duplex));
-    rose = λ v is. elim (cases_eq v r.device) [
-      | inl here ↦ subst (λ (n : ℕ). HasDuplex (front ++ r ∷ []) n × Rose (a.faults (Volume n)) (c.faults (Volume n))) (sym here)
-          (duplex_last front r duplex, rose_later (a.faults (Volume r.device)) (b.faults (Volume r.device)) (c.faults (Volume r.device)) (going.works.faults (Volume r.device)) (rose (sym (flag_here r.device flag going.has_failed) ∙ ap (with_flag r.device flag going.has_failed) (sym here) ∙ is)))
-      | inr differ ↦
-          let before = going.rose v (sym (flag_other r.device v flag going.has_failed differ) ∙ is) in
-          (duplex_before front (r ∷ []) v before.0, subst (λ (n : ℕ). Rose (a.faults (Volume v)) n) (sym (counts v differ)) before.1)
+    are_duplex = λ v is. elim (cases_eq v r.device) [
+      | inl here ↦ subst (λ (n : ℕ). HasDuplex (front ++ r ∷ []) n) (sym here) (duplex_last front r duplex)
+      | inr differ ↦ duplex_before front (r ∷ []) v (going.are_duplex v (sym (flag_other r.device v flag going.has_failed differ) ∙ is))
+    ];
+    counted = λ v. elim (cases_eq v r.device) [
+      | inl here ↦ subst (λ (n : ℕ). FailsByCount (with_flag r.device flag going.has_failed n) (a.faults (Volume n)) (c.faults (Volume n))) (sym here)
+          (subst (λ (h : Bool). FailsByCount h (a.faults (Volume r.device)) (c.faults (Volume r.device))) (sym (flag_here r.device flag going.has_failed)) counted_here)
+      | inr differ ↦ subst (λ (h : Bool). FailsByCount h (a.faults (Volume v)) (c.faults (Volume v))) (sym (flag_other r.device v flag going.has_failed differ))
+          (subst (λ (n : ℕ). FailsByCount (going.has_failed v) (a.faults (Volume v)) n) (sym (counts v differ)) (going.counted v))
     ];
     redone = λ told. All-push (λ row. is_duplex row.state ≡ true → with_flag r.device flag going.has_failed row.device ≡ false → IsRedone row items a c) front r
         (λ k d lt is good.
@@ -262,7 +279,7 @@ module _ (tells : Type 0) (items : List Item) (front : List PairRow) (r : PairRo
 -- ---- all pairs
 
 pub going_faulty : (tells : Type 0) (items : List Item) (rows : List PairRow) (failed : List ℕ) (a b : PlantState) → Going tells items rows failed a b → AreFaulty rows a.faults b.faults failed
-going_faulty tells items rows failed a b g = record { has_failed = g.has_failed; listed = g.listed; rose = g.rose }
+going_faulty tells items rows failed a b g = record { has_failed = g.has_failed; listed = g.listed; are_duplex = g.are_duplex; counted = g.counted }
 
 pub going_redone : (tells : Type 0) (items : List Item) (rows : List PairRow) (failed : List ℕ) (a b : PlantState) → Going tells items rows failed a b → tells → Redone rows items failed a b
 going_redone tells items rows failed a b g told k d lt duplex good = g.redone told k d lt duplex (by_flag (g.has_failed (slice_index_or rows k d).device) refl)
@@ -273,3 +290,14 @@ going_redone tells items rows failed a b g told k d lt duplex good = g.redone to
     by_flag : (h : Bool) → g.has_failed (slice_index_or rows k d).device ≡ h → g.has_failed (slice_index_or rows k d).device ≡ false
     by_flag true is = absurd (good (among k d lt duplex is))
     by_flag false is = is
+
+-- A volume's count rose by one at most, also where the walk could not be read again for the next pair.
+pub stopped_once : (tells : Type 0) (items : List Item) (front : List PairRow) (failed : List ℕ) (a b c : PlantState) → Going tells items front failed a b → (device : ℕ) → ((v : ℕ) → v ≢ device → c.faults (Volume v) ≡ b.faults (Volume v))
+    → c.faults (Volume device) ≡ b.faults (Volume device) → (v : ℕ) → c.faults (Volume v) ≤ a.faults (Volume v) + 1
+stopped_once tells items front failed a b c g device others stood v = omega (arith, same, (g.counted v).by_one)
+  where
+    same : c.faults (Volume v) ≡ b.faults (Volume v)
+    same = elim (cases_eq v device) [
+      | inl here ↦ subst (λ (n : ℕ). c.faults (Volume n) ≡ b.faults (Volume n)) (sym here) stood
+      | inr differ ↦ others v differ
+    ]

@@ -21,7 +21,7 @@ use Rattle.volume_label.specs.Labels.{label_spelling}
 use Rattle.xrc_journal.specs.Items.{Item}
 use Rattle.xrc_journal.specs.Contents.{content_through}
 use Rattle.xrecover.specs.Redone.{Draws, Recovers}
-use Rattle.xrecover.specs.Works.{OnVolume, Works}
+use Rattle.xrecover.specs.Works.{OfOneVolume, Works}
 use Rattle.xrecover.specs.Labels.{AreNamed, IsNamed, KeepsLabel, LabelsLast, SameLabel}
 use Rattle.xrecover.proofs.Going.{Apart, none_duplex, same_row}
 use Rattle.xrecover.proofs.Works.{rose_later}
@@ -112,10 +112,10 @@ module _ (tells : Type 0) (told : tells) where
   }
 
   -- and its items applied
-  pub label_applied : (v : ℕ) (its : List Item) (a b c : PlantState) → a.clock ≤ b.clock → KeepsLabel (on a (Volume v)) (on b (Volume v)) → Works tells (OnVolume v (DiffersInSlots v its)) b c → KeepsLabel (on a (Volume v)) (on c (Volume v))
+  pub label_applied : (v : ℕ) (its : List Item) (a b c : PlantState) → a.clock ≤ b.clock → KeepsLabel (on a (Volume v)) (on b (Volume v)) → Works tells (OfOneVolume v (DiffersInSlots v its)) b c → KeepsLabel (on a (Volume v)) (on c (Volume v))
   label_applied v its a b c le k w = record {
     bytes = slots_label v its (b.bytes (Volume v)) (c.bytes (Volume v)) ((w.bytes told (Volume v)).0 refl) ∙ k.bytes;
-    moments = follows_then (on a (Volume v)) (on b (Volume v)) (on c (Volume v)) SameLabel (OnVolume v (DiffersInSlots v its) (Volume v)) SameLabel le k.moments ((w.elapses told).kept (Volume v)) (w.moments told (Volume v))
+    moments = follows_then (on a (Volume v)) (on b (Volume v)) (on c (Volume v)) SameLabel (OfOneVolume v (DiffersInSlots v its) (Volume v)) SameLabel le k.moments ((w.elapses told).kept (Volume v)) (w.moments told (Volume v))
         (λ p q here s. s) (λ p q s here there e d. slots_label v its q s (d.0 refl) ∙ e);
   }
 
@@ -129,7 +129,7 @@ module _ (tells : Type 0) (told : tells) where
       (subst (λ (l : List Item). LabelsLast v l (on b (Volume v)) (on c (Volume v))) (ap walked_by (seen_meaning a b (same_seen tells a b r told))) (last v))
 
   -- One pair more: its volume was as at first, and the others stay.
-  module _ (front : List PairRow) (r : PairRow) (items : List Item) (step : List ℕ → List ℕ → Type 0) (a b c : PlantState) (apart : Apart front r) (before : Works tells (Recovers front items) a b) (works : Works tells (OnVolume r.device step) b c) where
+  module _ (front : List PairRow) (r : PairRow) (items : List Item) (step : List ℕ → List ℕ → Type 0) (a b c : PlantState) (apart : Apart front r) (before : Works tells (Recovers front items) a b) (works : Works tells (OfOneVolume r.device step) b c) where
     untouched : (x y : List ℕ) → Recovers front items (Volume r.device) x y → y ≡ x
     untouched x y p = p.1 (λ has. let none = none_duplex front r apart in absurd (cc (has, none)))
 
@@ -179,7 +179,7 @@ named_behind rows a b c same le named k d lt duplex =
 
 -- One pair more, of whose device no other row is.
 pub named_pair : (tells : Type 0) (told : tells) (rows : List PairRow) (i : ℕ) (r : PairRow) (items : List Item) (step : List ℕ → List ℕ → Type 0) (a b c : PlantState) → none_clash rows ≡ true → slice_get rows i ≡ Some r → Apart (take i rows) r
-    → Works tells (Recovers (take i rows) items) a b → Works tells (OnVolume r.device step) b c → ((v : ℕ) → v ≢ r.device → c.faults (Volume v) ≡ b.faults (Volume v)) → AreNamed rows a b → IsNamed r b c → AreNamed rows a c
+    → Works tells (Recovers (take i rows) items) a b → Works tells (OfOneVolume r.device step) b c → ((v : ℕ) → v ≢ r.device → c.faults (Volume v) ≡ b.faults (Volume v)) → AreNamed rows a b → IsNamed r b c → AreNamed rows a c
 named_pair tells told rows i r items step a b c keeps is apart before works counts named here k d lt duplex =
     let row = slice_index_or rows k d in
     elim (cases_eq row.device r.device) [

@@ -13,13 +13,13 @@ use Rattle.site_means.specs.declared.site_error.SiteError.TheVariants.{NoSession
 use Rattle.site_means.specs.Images.{shape_of}
 use Rattle.site_means.specs.Walk.{walk_in, Walk}
 use Rattle.site_means.specs.Meaning.{meaning}
-use Rattle.site_means.specs.Answers.{IsChosen, IsInTurn, Mean, ReadsAll, Tells}
+use Rattle.site_means.specs.Answers.{IsChosen, IsInTurn, Mean, ReadsAll, TellsMeaning}
 use Rattle.site_means.proofs.Meanings.{SameSeen, same_seen, seen_chosen, seen_meaning, seen_reached}
 use Rattle.site_means.proofs.Reaching.{meant_by}
-use Rattle.volume_label.specs.Labels.{need}
+use Rattle.volume_label.specs.Labels.{volume_need}
 use Rattle.xrecover.specs.declared.recover_error.RecoverError.{RecoverError}
 use Rattle.xrecover.specs.declared.recover_error.RecoverError.TheVariants.{Site, Other}
-use Rattle.xrecover.specs.Answers.{Behind, HasWalk, IsOf, IsRecoverable, IsTooSmall, Says}
+use Rattle.xrecover.specs.Answers.{Behind, HasWalk, IsOf, IsRecoverable, IsTooSmall, IsGoodOrCalledFor}
 use Rattle.xrecover.specs.Pairs.{first_small, is_duplex, is_small}
 
 -- The chosen mark has a walk where the devices mean something.
@@ -31,7 +31,7 @@ has_walk plant m means chosen mean =
 
 -- The lengths of volumes stay.
 pub small_same : (old new : PlantState) (rows : List PairRow) → SameSite old new → first_small new rows ≡ first_small old rows
-small_same old new rows site = λ i. find (λ r. is_duplex r.state && nat_lt (site.lengths (Volume r.device) i) (need r.cylinders)) rows
+small_same old new rows site = λ i. find (λ r. is_duplex r.state && nat_lt (site.lengths (Volume r.device) i) (volume_need r.cylinders)) rows
 
 module _ (tells : Type 0) (told : tells) (old one : PlantState) (reads : ReadsAll tells old one) (m : Mark) (session : List ℕ) (chosen : IsChosen old m) (same : m.session ≡ session) where
   pub is_of : IsOf old session
@@ -50,8 +50,8 @@ module _ (tells : Type 0) (told : tells) (old one : PlantState) (reads : ReadsAl
   chosen_later = seen_chosen old one seen m chosen
 
   -- An error behind the mark says the same of the devices before.
-  pub means_says : {X : Type 0} (good : X → Type 0) (e : SiteError) → (let r : Result Means SiteError = Err e in Tells one r) → ((d : Device) → (let r : Result Means SiteError = Err e in IsErrOf r (Fault d)) → IsInTurn one d)
-      → ((d : Device) (needed : ℕ) → ¬ (let r : Result Means SiteError = Err e in IsErrOf r (TooSmall d needed))) → (let r : Result X RecoverError = Err (Site e) in Says old session good r)
+  pub means_says : {X : Type 0} (good : X → Type 0) (e : SiteError) → (let r : Result Means SiteError = Err e in TellsMeaning one r) → ((d : Device) → (let r : Result Means SiteError = Err e in IsErrOf r (Fault d)) → IsInTurn one d)
+      → ((d : Device) (needed : ℕ) → ¬ (let r : Result Means SiteError = Err e in IsErrOf r (TooSmall d needed))) → (let r : Result X RecoverError = Err (Site e) in IsGoodOrCalledFor old session good r)
   means_says good NoSession says turn small = sym (seen_meaning old one seen) ∙ says
   means_says good (Damaged d place) says turn small = (sym (seen_meaning old one seen) ∙ says, behind d)
   means_says good (Fault d) says turn small = (behind d, seen_reached old one seen d (turn d refl))
@@ -62,7 +62,7 @@ module _ (tells : Type 0) (told : tells) (old one : PlantState) (reads : ReadsAl
   pub mean_before : (means : Means) → Mean (meaning one one.bytes) means → Mean (meaning old old.bytes) means
   mean_before means mean = (mean.0, sym (seen_meaning old one seen) ∙ mean.1)
 
-  pub too_small : (two : PlantState) → SameSite old two → (means : Means) (row : PairRow) → Mean (meaning one one.bytes) means → first_small two means.table.rows ≡ Some row → IsTooSmall old session (Volume row.device) (need row.cylinders)
+  pub too_small : (two : PlantState) → SameSite old two → (means : Means) (row : PairRow) → Mean (meaning one one.bytes) means → first_small two means.table.rows ≡ Some row → IsTooSmall old session (Volume row.device) (volume_need row.cylinders)
   too_small two site means row mean first = record {
     of = is_of;
     means = means;

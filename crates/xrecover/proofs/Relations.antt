@@ -1,5 +1,5 @@
 -- What may differ, from step to step.
-use Rattle.std.proofs.Common.{◌≡◌, ◌≤◌, ◌==◌, ◌&&◌, ◌||◌, Bool, true, false, not, nat_lt, nat_le, inl, inr, ◌++◌, ◌∷◌, ℕ, List, [], length, refl, sym, ◌∙◌, ap, ◌+◌, ◌*◌, subst, arith}
+use Rattle.std.proofs.Common.{◌≡◌, ◌≤◌, ◌==◌, ◌&&◌, ◌||◌, Bool, true, false, not, nat_lt, inl, inr, ◌∷◌, ℕ, List, [], refl, sym, ◌∙◌, ap, ◌+◌, ◌*◌, subst, arith}
 use Rattle.std.proofs.lemmas.Bool.{and_parts, eqb-true, leb-true}
 use Rattle.ckd_track.specs.declared.rec.Rec.{Rec}
 use Rattle.ckd_track.specs.SlotPlaces.{slot_end}
@@ -15,8 +15,7 @@ use Rattle.applier.proofs.InSlots.{has_split}
 use Rattle.applier.specs.Slots.{DiffersInSlots}
 use Rattle.applier.proofs.Ranges.{torn_apart}
 use Rattle.pair_table.specs.declared.row.PairRow.{PairRow}
-use Rattle.xrecover.specs.Pairs.{HasDuplex}
-use Rattle.xrecover.specs.Works.{OnVolume}
+use Rattle.xrecover.specs.Works.{OfOneVolume}
 use Rattle.xrecover.specs.Redone.{Recovers, Redoes}
 
 module _ (v : ℕ) where
@@ -41,30 +40,23 @@ module _ (v : ℕ) where
   label_redoes b c torn = record { size = torn.size; others = λ from to front up apart. torn_apart 0 14 from to b c torn up (inr front) }
 
 -- on one volume
-pub one_then : (v : ℕ) (step : List ℕ → List ℕ → Type 0) (one two : List ℕ → List ℕ → Type 0) → ((x y z : List ℕ) → one x y → two y z → step x z) → (d : Device) (x y z : List ℕ) → OnVolume v one d x y → OnVolume v two d y z → OnVolume v step d x z
+pub one_then : (v : ℕ) (step : List ℕ → List ℕ → Type 0) (one two : List ℕ → List ℕ → Type 0) → ((x y z : List ℕ) → one x y → two y z → step x z) → (d : Device) (x y z : List ℕ) → OfOneVolume v one d x y → OfOneVolume v two d y z → OfOneVolume v step d x z
 one_then v step one two then Control x y z p q = q ∙ p
 one_then v step one two then State x y z p q = q ∙ p
 one_then v step one two then (Journal j) x y z p q = q ∙ p
 one_then v step one two then (Volume w) x y z p q = (λ e. then x y z (p.0 e) (q.0 e), λ differs. q.1 differs ∙ p.1 differs)
 
-pub one_more : (v : ℕ) (one step : List ℕ → List ℕ → Type 0) → ((x y : List ℕ) → one x y → step x y) → (d : Device) (x y : List ℕ) → OnVolume v one d x y → OnVolume v step d x y
+pub one_more : (v : ℕ) (one step : List ℕ → List ℕ → Type 0) → ((x y : List ℕ) → one x y → step x y) → (d : Device) (x y : List ℕ) → OfOneVolume v one d x y → OfOneVolume v step d x y
 one_more v one step wider Control x y p = p
 one_more v one step wider State x y p = p
 one_more v one step wider (Journal j) x y p = p
 one_more v one step wider (Volume w) x y p = (λ e. wider x y (p.0 e), p.1)
 
-pub one_same : (v : ℕ) (step : List ℕ → List ℕ → Type 0) → ((x y : List ℕ) → y ≡ x → step x y) → (d : Device) (x y : List ℕ) → y ≡ x → OnVolume v step d x y
+pub one_same : (v : ℕ) (step : List ℕ → List ℕ → Type 0) → ((x y : List ℕ) → y ≡ x → step x y) → (d : Device) (x y : List ℕ) → y ≡ x → OfOneVolume v step d x y
 one_same v step same Control x y e = e
 one_same v step same State x y e = e
 one_same v step same (Journal j) x y e = e
 one_same v step same (Volume w) x y e = (λ here. same x y e, λ differs. e)
-
--- on all
-pub recovers_then : (rows : List PairRow) (items : List Item) (d : Device) (x y z : List ℕ) → Recovers rows items d x y → Recovers rows items d y z → Recovers rows items d x z
-recovers_then rows items Control x y z p q = q ∙ p
-recovers_then rows items State x y z p q = q ∙ p
-recovers_then rows items (Journal j) x y z p q = q ∙ p
-recovers_then rows items (Volume w) x y z p q = (λ has. redoes_then w items x y z (p.0 has) (q.0 has), λ none. q.1 none ∙ p.1 none)
 
 pub recovers_same : (rows : List PairRow) (items : List Item) (d : Device) (x y : List ℕ) → y ≡ x → Recovers rows items d x y
 recovers_same rows items Control x y e = e

@@ -9,10 +9,10 @@ use Rattle.crash_plant.specs.declared.device.Device.TheVariants.{Control, State,
 use Rattle.crash_plant.specs.Moments.{PlantState}
 use Rattle.pair_table.specs.declared.row.PairRow.{PairRow}
 use Rattle.pair_table.specs.Tables.{are_below, is_of}
-use Rattle.volume_label.specs.Labels.{need}
+use Rattle.volume_label.specs.Labels.{volume_need}
 use Rattle.xrc_journal.specs.Items.{Item}
 use Rattle.xrecover.specs.Pairs.{HasDuplex, first_small, is_duplex, is_duplex_of, is_small}
-use Rattle.xrecover.specs.Works.{OnVolume}
+use Rattle.xrecover.specs.Works.{OfOneVolume}
 use Rattle.xrecover.specs.Redone.{Recovers, Redoes}
 use Rattle.xrecover.proofs.Relations.{redoes_then}
 
@@ -33,8 +33,8 @@ none_small plant (q ∷ rows) i r none is = by_first (is_small plant q) refl non
     by_first false e none zero is more = let same : q ≡ r = cc in ap (is_small plant) (sym same) ∙ e
     by_first false e none (suc i) is more = more i none is
 
-pub long_at : (plant : PlantState) (rows : List PairRow) (i : ℕ) (r : PairRow) → first_small plant rows ≡ None → slice_get rows i ≡ Some r → is_duplex r.state ≡ true → need r.cylinders ≤ plant.lengths (Volume r.device)
-long_at plant rows i r none is duplex = ltb-false (plant.lengths (Volume r.device)) (need r.cylinders) (sym (ap (λ (b : Bool). b && nat_lt (plant.lengths (Volume r.device)) (need r.cylinders)) duplex) ∙ none_small plant rows i r none is)
+pub long_at : (plant : PlantState) (rows : List PairRow) (i : ℕ) (r : PairRow) → first_small plant rows ≡ None → slice_get rows i ≡ Some r → is_duplex r.state ≡ true → volume_need r.cylinders ≤ plant.lengths (Volume r.device)
+long_at plant rows i r none is duplex = ltb-false (plant.lengths (Volume r.device)) (volume_need r.cylinders) (sym (ap (λ (b : Bool). b && nat_lt (plant.lengths (Volume r.device)) (volume_need r.cylinders)) duplex) ∙ none_small plant rows i r none is)
 
 pub duplex_at : (rows : List PairRow) (i : ℕ) (r : PairRow) → slice_get rows i ≡ Some r → is_duplex r.state ≡ true → HasDuplex rows r.device
 duplex_at [] i r is duplex = absurd cc
@@ -48,7 +48,7 @@ duplex_at (q ∷ rows) (suc i) r is duplex = either (is_duplex_of r.device q) (l
     either true b e = refl
     either false b e = e
 
-pub recovers_one : (rows : List PairRow) (items : List Item) (v : ℕ) → HasDuplex rows v → (d : Device) (x y z : List ℕ) → Recovers rows items d x y → OnVolume v (Redoes v items) d y z → Recovers rows items d x z
+pub recovers_one : (rows : List PairRow) (items : List Item) (v : ℕ) → HasDuplex rows v → (d : Device) (x y z : List ℕ) → Recovers rows items d x y → OfOneVolume v (Redoes v items) d y z → Recovers rows items d x z
 recovers_one rows items v has Control x y z p q = q ∙ p
 recovers_one rows items v has State x y z p q = q ∙ p
 recovers_one rows items v has (Journal j) x y z p q = q ∙ p

@@ -22,8 +22,8 @@ use Rattle.xrc_journal.specs.Records.{walk_one, next_set}
 use Rattle.xrc_journal.specs.Walks.{Logged}
 use Rattle.xrc_journal.specs.Contents.{HasItem, content_through}
 use Rattle.site_means.specs.Images.{Images, Shape, shape_of}
-use Rattle.site_means.specs.Walk.{Standing, Step, Walk, start, step, step_by, turns_at, walk_from, walk_on, with_before}
-use Rattle.site_means.specs.Walk.Step.{Ends, GoesOn, Breaks}
+use Rattle.site_means.specs.Walk.{WalkState, WalkStep, Walk, start, step, step_by, turns_at, walk_from, walk_on, with_before}
+use Rattle.site_means.specs.Walk.WalkStep.{Ends, GoesOn, Breaks}
 use Rattle.site_means.specs.Meaning.{Meaning, chosen_in, meaning, meaning_by_mark, meaning_by_state, meaning_by_walk, meaning_in, stored_in}
 use Rattle.site_means.specs.Sight.{meant_by, walked, walked_by}
 use Rattle.site_means.proofs.Found.{group_ends, next_within, switch_leads}
@@ -46,24 +46,24 @@ pub record SameLogs (sets : ℕ) (a b : Images) : Type 0 where
   pub journals : (j : ℕ) → j < sets → b (Journal j) ≡ a (Journal j)
 
 -- A walk stays among the journals.
-set_within : (shape : Shape) (images : Images) (s n : Standing) (groups : List Logged) → step shape images s ≡ GoesOn groups n → s.at.set < shape.sets → n.at.set < shape.sets
+set_within : (shape : Shape) (images : Images) (s n : WalkState) (groups : List Logged) → step shape images s ≡ GoesOn groups n → s.at.set < shape.sets → n.at.set < shape.sets
 set_within shape images s n groups e within = elim (goes_by shape images s groups n e) [
   | inl g ↦
       let ends = group_ends shape.form shape.sets (images (Journal s.at.set)) s.at s.last g.time g.items g.after g.found in
-      subst (λ (k : ℕ). k < shape.sets) (sym (ap (λ (m : Standing). m.at.set) g.next_is ∙ ends.set)) within
+      subst (λ (k : ℕ). k < shape.sets) (sym (ap (λ (m : WalkState). m.at.set) g.next_is ∙ ends.set)) within
   | inr w ↦
       let leads = switch_leads shape.form shape.sets (images (Journal s.at.set)) s.at s.last w.time w.after w.found in
-      subst (λ (k : ℕ). k < shape.sets) (sym (ap (λ (m : Standing). m.at.set) w.next_is ∙ ap (λ (k : Spot). k.set) leads)) (next_within shape.sets s.at.set within)
+      subst (λ (k : ℕ). k < shape.sets) (sym (ap (λ (m : WalkState). m.at.set) w.next_is ∙ ap (λ (k : Spot). k.set) leads)) (next_within shape.sets s.at.set within)
 ]
 
-walk_alike : (turns : ℕ) (shape : Shape) (a b : Images) (s : Standing) → s.at.set < shape.sets → SameLogs shape.sets a b → walk_from turns shape b s ≡ walk_from turns shape a s
+walk_alike : (turns : ℕ) (shape : Shape) (a b : Images) (s : WalkState) → s.at.set < shape.sets → SameLogs shape.sets a b → walk_from turns shape b s ≡ walk_from turns shape a s
 unfolding walk_from
 walk_alike zero shape a b s within same = refl
 walk_alike (suc turns) shape a b s within same =
     let st : step shape b s ≡ step shape a s = ap (λ (l : List ℕ). step_by shape s (walk_one shape.form shape.sets l s.at s.last)) (same.journals s.at.set within) in
-    ap (λ (k : Step). walk_on s k (λ n. walk_from turns shape b n)) st ∙ by_step (step shape a s) refl (λ n there. walk_alike turns shape a b n there same)
+    ap (λ (k : WalkStep). walk_on s k (λ n. walk_from turns shape b n)) st ∙ by_step (step shape a s) refl (λ n there. walk_alike turns shape a b n there same)
   where
-    by_step : (k : Step) → step shape a s ≡ k → ((n : Standing) → n.at.set < shape.sets → walk_from turns shape b n ≡ walk_from turns shape a n) → walk_on s k (λ n. walk_from turns shape b n) ≡ walk_on s k (λ n. walk_from turns shape a n)
+    by_step : (k : WalkStep) → step shape a s ≡ k → ((n : WalkState) → n.at.set < shape.sets → walk_from turns shape b n ≡ walk_from turns shape a n) → walk_on s k (λ n. walk_from turns shape b n) ≡ walk_on s k (λ n. walk_from turns shape a n)
     by_step Ends e more = refl
     by_step (Breaks place) e more = refl
     by_step (GoesOn groups n) e more = ap (λ (w : Walk). with_before groups w) (more n (set_within shape a s n groups e within))

@@ -2,7 +2,6 @@
 use Rattle.std.proofs.Common.{◌≡◌, ◌≢◌, ◌≤◌, ◌<◌, ◌+◌, ◌++◌, ◌∷◌, ℕ, Bool, true, false, cond, List, [], min, take, drop, None, Some, refl, sym, ◌∙◌, ap, subst, arith}
 use Rattle.std.specs.Prelude.{slice_get}
 use Rattle.std.proofs.lemmas.List.{take-append-drop}
-use Rattle.xrc_edge.specs.Causes.{Rose}
 use Rattle.crash_plant.specs.declared.device.Device.{Device}
 use Rattle.crash_plant.specs.declared.device.Device.TheVariants.{Control, State, Journal, Volume}
 use Rattle.crash_plant.specs.Moments.{PlantState}
@@ -12,17 +11,18 @@ use Rattle.pair_table.specs.Tables.{KeepsRows, are_below}
 use Rattle.site_means.specs.Answers.{IsInTurn}
 use Rattle.site_means.specs.Sight.{walked}
 use Rattle.xrc_journal.specs.Items.{Item}
+use Rattle.xrc_journal.specs.Jobs.{FailsByCount}
 use Rattle.xrecover.specs.Answers.{HasWalk, IsLate}
 use Rattle.xrecover.specs.Again.{IsWalkFault}
 use Rattle.site_means.specs.declared.site_error.SiteError.{SiteError}
 use Rattle.xrecover.specs.declared.recover_error.RecoverError.TheVariants.{Site}
 use Rattle.xrecover.specs.Pairs.{first_small, is_duplex}
-use Rattle.xrecover.specs.Works.{OnVolume, Works}
+use Rattle.xrecover.specs.Works.{OfOneVolume, Works}
 use Rattle.xrecover.specs.Redone.{IsRedone, Recovers, Redoes}
 use Rattle.xrecover.proofs.Going.{Going, apart_before, going_duplex, going_other, recovers_more, take_more}
 use Rattle.xrecover.proofs.Later.{SameWalk, enters_before, walk_later}
 use Rattle.xrecover.proofs.Rows.{below_at, duplex_at, long_at, recovers_one}
-use Rattle.xrecover.proofs.Works.{rose_later, works_more, works_trans}
+use Rattle.xrecover.proofs.Works.{works_more, works_trans}
 
 recovers_whole : (rows : List PairRow) (i : ℕ) (items : List Item) (d : Device) (x y : List ℕ) → Recovers (take i rows) items d x y → Recovers rows items d x y
 recovers_whole rows i items d x y p = subst (λ (l : List PairRow). Recovers l items d x y) (take-append-drop i rows) (recovers_more (take i rows) (drop i rows) items d x y p)
@@ -43,22 +43,22 @@ module _ (tells : Type 0) (rows : List PairRow) (i : ℕ) (failed : List ℕ) (o
 
     -- ---- what stands afterwards
 
-    module _ (r : PairRow) (is : slice_get rows i ≡ Some r) (duplex : is_duplex r.state ≡ true) (new : PlantState) (works : Works tells (OnVolume r.device (Redoes r.device (walked cur cur.bytes))) cur new) where
-      own_works : Works tells (OnVolume r.device (Redoes r.device (walked old old.bytes))) cur new
-      own_works = works_more tells (OnVolume r.device (Redoes r.device (walked cur cur.bytes))) (OnVolume r.device (Redoes r.device (walked old old.bytes))) cur new
-          (λ told d x y p. subst (λ (l : List Item). OnVolume r.device (Redoes r.device l) d x y) (same_walk told).items p) works
+    module _ (r : PairRow) (is : slice_get rows i ≡ Some r) (duplex : is_duplex r.state ≡ true) (new : PlantState) (works : Works tells (OfOneVolume r.device (Redoes r.device (walked cur cur.bytes))) cur new) where
+      own_works : Works tells (OfOneVolume r.device (Redoes r.device (walked old old.bytes))) cur new
+      own_works = works_more tells (OfOneVolume r.device (Redoes r.device (walked cur cur.bytes))) (OfOneVolume r.device (Redoes r.device (walked old old.bytes))) cur new
+          (λ told d x y p. subst (λ (l : List Item). OfOneVolume r.device (Redoes r.device l) d x y) (same_walk told).items p) works
 
       -- also where the walk could not be read again
       pub stopped_works : Works tells (Recovers rows (walked old old.bytes)) old new
-      stopped_works = works_trans tells (Recovers rows (walked old old.bytes)) (OnVolume r.device (Redoes r.device (walked old old.bytes))) (Recovers rows (walked old old.bytes)) old cur new
+      stopped_works = works_trans tells (Recovers rows (walked old old.bytes)) (OfOneVolume r.device (Redoes r.device (walked old old.bytes))) (Recovers rows (walked old old.bytes)) old cur new
           (λ d x y z p q. recovers_one rows (walked old old.bytes) r.device (duplex_at rows i r is duplex) d x y z p q) (λ d x y p. p)
           (works_more tells (Recovers (take i rows) (walked old old.bytes)) (Recovers rows (walked old old.bytes)) old cur (λ told d x y p. recovers_whole rows i (walked old old.bytes) d x y p) going.works) own_works
 
-      pub pair_going : (flag : Bool) → KeepsRows rows → ((v : ℕ) → v ≢ r.device → new.faults (Volume v) ≡ cur.faults (Volume v)) → (flag ≡ true → Rose (cur.faults (Volume r.device)) (new.faults (Volume r.device)))
+      pub pair_going : (flag : Bool) → KeepsRows rows → ((v : ℕ) → v ≢ r.device → new.faults (Volume v) ≡ cur.faults (Volume v)) → FailsByCount flag (cur.faults (Volume r.device)) (new.faults (Volume r.device))
           → (tells → flag ≡ false → IsRedone r (walked cur cur.bytes) cur new) → Going tells (walked old old.bytes) (take (i + 1) rows) (failed ++ cond flag (r.device ∷ []) []) old new
-      pair_going flag keeps counts rose redone =
+      pair_going flag keeps counts cause redone =
           subst (λ (l : List PairRow). Going tells (walked old old.bytes) l (failed ++ cond flag (r.device ∷ []) []) old new) (sym (take_more rows i r is))
-          (going_duplex tells (walked old old.bytes) (take i rows) r failed flag old cur new going duplex (apart_before rows i r keeps.apart is) own_works counts rose
+          (going_duplex tells (walked old old.bytes) (take i rows) r failed flag old cur new going duplex (apart_before rows i r keeps.apart is) own_works counts cause
           (λ told good. subst (λ (l : List Item). IsRedone r l cur new) (same_walk told).items (redone told good)))
 
     -- A fault is of a journal that the walk enters.

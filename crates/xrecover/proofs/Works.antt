@@ -14,7 +14,7 @@ use Rattle.xrc_edge.specs.Causes.{Rose}
 use Rattle.xrc_journal.specs.Items.{Item}
 use Rattle.xrc_journal.specs.Contents.{HasItem}
 use Rattle.applier.specs.Slots.{DiffersInSlots}
-use Rattle.xrecover.specs.Works.{Nothing, OnVolume, Works}
+use Rattle.xrecover.specs.Works.{Nothing, OfOneVolume, Works}
 use Rattle.xrecover.specs.Redone.{Redoes}
 use Rattle.xrecover.proofs.Relations.{differs_redoes, one_more, one_same, one_then, redoes_same, redoes_then}
 
@@ -58,13 +58,13 @@ works_reads tells a b r = record {
 }
 
 -- a device by what is so of the volume, and of the others
-pub on_volume : (v : ℕ) (step : List ℕ → List ℕ → Type 0) (d : Device) (b c : List ℕ) → (d ≡ Volume v → step b c) → (d ≢ Volume v → c ≡ b) → OnVolume v step d b c
+pub on_volume : (v : ℕ) (step : List ℕ → List ℕ → Type 0) (d : Device) (b c : List ℕ) → (d ≡ Volume v → step b c) → (d ≢ Volume v → c ≡ b) → OfOneVolume v step d b c
 on_volume v step Control b c here other = other (λ e. cc)
 on_volume v step State b c here other = other (λ e. cc)
 on_volume v step (Journal j) b c here other = other (λ e. cc)
 on_volume v step (Volume w) b c here other = (λ e. here (ap Volume e), λ differs. other (λ e. differs cc))
 
-follows_volume : (v : ℕ) (step : List ℕ → List ℕ → Type 0) (a b : PlantState) (d : Device) → (d ≡ Volume v → Follows step (on a d) (on b d)) → (d ≢ Volume v → Follows Same (on a d) (on b d)) → Follows (OnVolume v step d) (on a d) (on b d)
+follows_volume : (v : ℕ) (step : List ℕ → List ℕ → Type 0) (a b : PlantState) (d : Device) → (d ≡ Volume v → Follows step (on a d) (on b d)) → (d ≢ Volume v → Follows Same (on a d) (on b d)) → Follows (OfOneVolume v step d) (on a d) (on b d)
 follows_volume v step a b Control here other = λ t from to z left. other (λ e. cc) t from to z left
 follows_volume v step a b State here other = λ t from to z left. other (λ e. cc) t from to z left
 follows_volume v step a b (Journal j) here other = λ t from to z left. other (λ e. cc) t from to z left
@@ -74,7 +74,7 @@ follows_volume v step a b (Volume w) here other = elim (cases_eq w v) [
 ]
 
 -- calls on one volume
-pub works_one : (tells : Type 0) (v : ℕ) (step : List ℕ → List ℕ → Type 0) (a b : PlantState) → WorksOn tells (λ d. d ≡ Volume v) a b → (tells → step (a.bytes (Volume v)) (b.bytes (Volume v))) → (tells → Follows step (on a (Volume v)) (on b (Volume v))) → Works tells (OnVolume v step) a b
+pub works_one : (tells : Type 0) (v : ℕ) (step : List ℕ → List ℕ → Type 0) (a b : PlantState) → WorksOn tells (λ d. d ≡ Volume v) a b → (tells → step (a.bytes (Volume v)) (b.bytes (Volume v))) → (tells → Follows step (on a (Volume v)) (on b (Volume v))) → Works tells (OfOneVolume v step) a b
 works_one tells v step a b w bytes moments = record {
   site = w.site;
   home = none_lent_then tells _ a b w;
@@ -114,7 +114,7 @@ module _ (tells : Type 0) (v : ℕ) (step : List ℕ → List ℕ → Type 0) (s
     script = (back.rest.silent told).script ∙ (lends.rest.silent told).script;
   }
 
-  pub lent_works : (tells → Kept first last) → first.faults ≤ last.faults → (tells → step first.bytes last.bytes) → (tells → Follows step first last) → Works tells (OnVolume v step) a d
+  pub lent_works : (tells → Kept first last) → first.faults ≤ last.faults → (tells → step first.bytes last.bytes) → (tells → Follows step first last) → Works tells (OfOneVolume v step) a d
   lent_works past later bytes moments = record {
     site = site_trans a b d lends.rest.site back.rest.site;
     home = none_lent_again tells v a b b d first last lends (λ w. record { is_lent = refl; since = refl; lent = kept_here (b.lent w); clock = refl }) refl back;
@@ -134,20 +134,20 @@ module _ (tells : Type 0) (v : ℕ) (step : List ℕ → List ℕ → Type 0) (s
   }
 
 -- a record read once more, behind what was done so far
-pub then_read : (tells : Type 0) (v : ℕ) (items : List Item) (a b c : PlantState) → Works tells (OnVolume v (Redoes v items)) a b → ReadsAll tells b c → Works tells (OnVolume v (Redoes v items)) a c
-then_read tells v items a b c w r = works_trans tells (OnVolume v (Redoes v items)) Nothing (OnVolume v (Redoes v items)) a b c
-    (λ d x y z p e. subst (λ (l : List ℕ). OnVolume v (Redoes v items) d x l) (sym e) p) (λ d x y p. p) w (works_reads tells b c r)
+pub then_read : (tells : Type 0) (v : ℕ) (items : List Item) (a b c : PlantState) → Works tells (OfOneVolume v (Redoes v items)) a b → ReadsAll tells b c → Works tells (OfOneVolume v (Redoes v items)) a c
+then_read tells v items a b c w r = works_trans tells (OfOneVolume v (Redoes v items)) Nothing (OfOneVolume v (Redoes v items)) a b c
+    (λ d x y z p e. subst (λ (l : List ℕ). OfOneVolume v (Redoes v items) d x l) (sym e) p) (λ d x y p. p) w (works_reads tells b c r)
 
 -- and its items applied
-pub then_applied : (tells : Type 0) (v : ℕ) (items its : List Item) (a b c : PlantState) → Works tells (OnVolume v (Redoes v items)) a b → Works tells (OnVolume v (DiffersInSlots v its)) b c → (tells → (x : ℕ) → HasItem v x its → HasItem v x items) → Works tells (OnVolume v (Redoes v items)) a c
+pub then_applied : (tells : Type 0) (v : ℕ) (items its : List Item) (a b c : PlantState) → Works tells (OfOneVolume v (Redoes v items)) a b → Works tells (OfOneVolume v (DiffersInSlots v its)) b c → (tells → (x : ℕ) → HasItem v x its → HasItem v x items) → Works tells (OfOneVolume v (Redoes v items)) a c
 then_applied tells v items its a b c w applied wider =
-    works_trans tells (OnVolume v (Redoes v items)) (OnVolume v (Redoes v items)) (OnVolume v (Redoes v items)) a b c
+    works_trans tells (OfOneVolume v (Redoes v items)) (OfOneVolume v (Redoes v items)) (OfOneVolume v (Redoes v items)) a b c
     (λ d x y z p q. one_then v (Redoes v items) (Redoes v items) (Redoes v items) (λ x y z p q. redoes_then v items x y z p q) d x y z p q) (λ d x y p. p) w
-    (works_more tells (OnVolume v (DiffersInSlots v its)) (OnVolume v (Redoes v items)) b c (λ told d x y p. one_more v (DiffersInSlots v its) (Redoes v items) (λ x y q. differs_redoes v its items x y (wider told) q) d x y p) applied)
+    (works_more tells (OfOneVolume v (DiffersInSlots v its)) (OfOneVolume v (Redoes v items)) b c (λ told d x y p. one_more v (DiffersInSlots v its) (Redoes v items) (λ x y q. differs_redoes v its items x y (wider told) q) d x y p) applied)
 
 -- nothing done so far
-pub works_here : (tells : Type 0) (v : ℕ) (items : List Item) (a : PlantState) → Works tells (OnVolume v (Redoes v items)) a a
-works_here tells v items a = works_more tells Nothing (OnVolume v (Redoes v items)) a a (λ told d x y e. one_same v (Redoes v items) (λ x y e. redoes_same v items x y e) d x y e) (works_reads tells a a (reads_none tells a))
+pub works_here : (tells : Type 0) (v : ℕ) (items : List Item) (a : PlantState) → Works tells (OfOneVolume v (Redoes v items)) a a
+works_here tells v items a = works_more tells Nothing (OfOneVolume v (Redoes v items)) a a (λ told d x y e. one_same v (Redoes v items) (λ x y e. redoes_same v items x y e) d x y e) (works_reads tells a a (reads_none tells a))
 
 -- a count that rose behind others
 pub rose_later : (before mid now : ℕ) → before ≤ mid → Rose mid now → Rose before now

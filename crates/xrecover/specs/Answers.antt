@@ -15,7 +15,7 @@ use Rattle.site_means.specs.Walk.{walk_in}
 use Rattle.site_means.specs.Meaning.{meaning, stored_in}
 use Rattle.site_means.specs.Meaning.Meaning.{NoMark, DamagedAt}
 use Rattle.site_means.specs.Answers.{IsChosen, IsInTurn, Mean, first_short}
-use Rattle.volume_label.specs.Labels.{need}
+use Rattle.volume_label.specs.Labels.{volume_need}
 use Rattle.xrecover.specs.declared.recover_error.RecoverError.{RecoverError}
 use Rattle.xrecover.specs.declared.recover_error.RecoverError.TheVariants.{Site, Other}
 use Rattle.xrecover.specs.Pairs.{first_small}
@@ -47,7 +47,7 @@ pub record IsTooSmall (plant : PlantState) (session : List ℕ) (d : Device) (ne
   pub row : PairRow
   pub first : first_small plant means.table.rows ≡ Some row
   pub device : d ≡ Volume row.device
-  pub need_is : needed ≡ need row.cylinders
+  pub need_is : needed ≡ volume_need row.cylinders
 
 -- Where a device is damaged or fails, all before it in the order of the answers was good: the control is read first, and the session
 -- is compared before the state is read.
@@ -58,14 +58,14 @@ Behind plant session (Journal j) = IsOf plant session
 Behind plant session (Volume v) = IsOf plant session
 
 -- What was found is good, or the error is the one that what reads give calls for. A device that fails was read in its turn.
-abbrev pub Says : {X : Type 0} → PlantState → (session : List ℕ) → (good : X → Type 0) → Result X RecoverError → Type 0
-Says plant session good (Ok x) = good x
-Says plant session good (Err (Other name)) = IsOther plant session name
-Says plant session good (Err (Site NoSession)) = meaning plant plant.bytes ≡ NoMark
-Says plant session good (Err (Site (Damaged d place))) = (meaning plant plant.bytes ≡ DamagedAt d place) × Behind plant session d
-Says plant session good (Err (Site (Fault d))) = Behind plant session d × IsInTurn plant d
-Says plant session good (Err (Site (TooSmall d needed))) = (first_short plant ≡ Some d) ⊎ IsTooSmall plant session d needed
-Says plant session good (Err (Site NoMemory)) = IsOf plant session
+abbrev pub IsGoodOrCalledFor : {X : Type 0} → PlantState → (session : List ℕ) → (good : X → Type 0) → Result X RecoverError → Type 0
+IsGoodOrCalledFor plant session good (Ok x) = good x
+IsGoodOrCalledFor plant session good (Err (Other name)) = IsOther plant session name
+IsGoodOrCalledFor plant session good (Err (Site NoSession)) = meaning plant plant.bytes ≡ NoMark
+IsGoodOrCalledFor plant session good (Err (Site (Damaged d place))) = (meaning plant plant.bytes ≡ DamagedAt d place) × Behind plant session d
+IsGoodOrCalledFor plant session good (Err (Site (Fault d))) = Behind plant session d × IsInTurn plant d
+IsGoodOrCalledFor plant session good (Err (Site (TooSmall d needed))) = (first_short plant ≡ Some d) ⊎ IsTooSmall plant session d needed
+IsGoodOrCalledFor plant session good (Err (Site NoMemory)) = IsOf plant session
 
 -- A mark that was chosen, and by which the walk has no bad place.
 pub record HasWalk (plant : PlantState) (m : Mark) : Type 0 where

@@ -1,7 +1,6 @@
 -- The duplex pairs among rows, and whether their volumes are long enough.
 use Rattle.std.specs.Prelude.{◌≡◌, ℕ, Some, ◌&&◌, List, find, filter, map, Bool, true, false, Option, nat_lt, IsTrue}
 use Rattle.std.specs.List.{list_any}
-use Rattle.xrc_edge.specs.Causes.{Rose}
 use Rattle.crash_plant.specs.declared.device.Device.{Device}
 use Rattle.crash_plant.specs.declared.device.Device.TheVariants.{Volume}
 use Rattle.crash_plant.specs.Moments.{PlantState}
@@ -9,7 +8,8 @@ use Rattle.pair_table.specs.declared.row.PairState.{PairState}
 use Rattle.pair_table.specs.declared.row.PairState.TheVariants.{Pending, Copy, Duplex, Suspended}
 use Rattle.pair_table.specs.declared.row.PairRow.{PairRow}
 use Rattle.pair_table.specs.Tables.{is_of}
-use Rattle.volume_label.specs.Labels.{need}
+use Rattle.xrc_journal.specs.Jobs.{FailsByCount}
+use Rattle.volume_label.specs.Labels.{volume_need}
 
 abbrev pub is_duplex : PairState → Bool
 is_duplex Pending = false
@@ -27,7 +27,7 @@ HasDuplex rows device = IsTrue (list_any (is_duplex_of device) rows)
 
 -- Whether a duplex pair's volume has fewer bytes than the pair's cylinders need.
 abbrev pub is_small : PlantState → PairRow → Bool
-is_small plant r = is_duplex r.state && nat_lt (plant.lengths (Volume r.device)) (need r.cylinders)
+is_small plant r = is_duplex r.state && nat_lt (plant.lengths (Volume r.device)) (volume_need r.cylinders)
 
 -- the first such pair, in the order of the rows
 abbrev pub first_small : PlantState → List PairRow → Option PairRow
@@ -37,8 +37,10 @@ first_small plant rows = find (is_small plant) rows
 abbrev pub duplex_devices : List PairRow → List ℕ
 duplex_devices rows = map (λ r. r.device) (filter (λ r. is_duplex r.state) rows)
 
--- The devices that failed are among those of the duplex pairs, in the order of the rows, and the count of each rose.
+-- The devices that failed are those of the duplex pairs whose counts rose, by one each, in the order of the rows. No other volume's
+-- count rose.
 pub record AreFaulty (rows : List PairRow) (before now : Device → ℕ) (failed : List ℕ) : Type 0 where
   pub has_failed : ℕ → Bool
   pub listed : failed ≡ filter has_failed (duplex_devices rows)
-  pub rose : (v : ℕ) → IsTrue (has_failed v) → HasDuplex rows v × Rose (before (Volume v)) (now (Volume v))
+  pub are_duplex : (v : ℕ) → IsTrue (has_failed v) → HasDuplex rows v
+  pub counted : (v : ℕ) → FailsByCount (has_failed v) (before (Volume v)) (now (Volume v))

@@ -22,8 +22,8 @@ abbrev pub Nothing : Device → List ℕ → List ℕ → Type 0
 Nothing d b c = c ≡ b
 
 -- a step of one volume
-abbrev pub OnVolume : (device : ℕ) → (List ℕ → List ℕ → Type 0) → Device → List ℕ → List ℕ → Type 0
-OnVolume device step (Volume v) b c = (v ≡ device → step b c) × (v ≢ device → c ≡ b)
-OnVolume device step Control b c = c ≡ b
-OnVolume device step State b c = c ≡ b
-OnVolume device step (Journal j) b c = c ≡ b
+abbrev pub OfOneVolume : (device : ℕ) → (List ℕ → List ℕ → Type 0) → Device → List ℕ → List ℕ → Type 0
+OfOneVolume device step (Volume v) b c = (v ≡ device → step b c) × (v ≢ device → c ≡ b)
+OfOneVolume device step Control b c = c ≡ b
+OfOneVolume device step State b c = c ≡ b
+OfOneVolume device step (Journal j) b c = c ≡ b

@@ -1,7 +1,6 @@
 //! Recovery of one site: what the devices mean is put down on the volumes of the duplex pairs.
 #![tactic(auto)]
 
-mod device_list;
 mod meaning;
 mod outcome;
 mod recover_error;
@@ -9,7 +8,6 @@ mod recovering;
 mod redoing;
 mod volumes;
 
-pub use device_list::DeviceList;
 pub use outcome::Outcome;
 pub use recover_error::RecoverError;
 pub use recovering::recover;

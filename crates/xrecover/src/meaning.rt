@@ -7,12 +7,12 @@ ghost use Rattle.crash_plant.specs.Calls.{NoneLent};
 ghost use Rattle.pair_table.specs.Tables.{are_below};
 ghost use Rattle.site_means.specs.declared.site_error.SiteError.{SiteError as SiteErrorValue};
 ghost use Rattle.site_means.specs.declared.site_error.SiteError.TheVariants.{Fault, TooSmall};
-ghost use Rattle.site_means.specs.Answers.{Fails, HasSpot, IsChosen, IsInTurn, ReadsAll, Tells, first_short, need as site_need};
-ghost use Rattle.volume_label.specs.Labels.{need as volume_need};
+ghost use Rattle.site_means.specs.Answers.{FaultsAreCounted, HasSpot, IsChosen, IsInTurn, ReadsAll, TellsMeaning, first_short, need as site_need};
+ghost use Rattle.volume_label.specs.Labels.{volume_need as volume_need};
 ghost use Rattle.xrecover.specs.declared.recover_error.RecoverError.{RecoverError as RecoverErrorValue};
 ghost use Rattle.xrecover.specs.declared.recover_error.RecoverError.TheVariants.{Other, Site};
 ghost use Rattle.xrecover.specs.Pairs.{first_small, is_duplex, is_small};
-ghost use Rattle.xrecover.specs.Answers.{FailsSo, HasWalk, IsRecoverable, Says};
+ghost use Rattle.xrecover.specs.Answers.{FailsSo, HasWalk, IsRecoverable, IsGoodOrCalledFor};
 
 use crate::RecoverError;
 use control_set::{ChooseError, Mark, choose};
@@ -94,11 +94,11 @@ fn read_means<P: Plant>(alloc: Global, plant: &mut P, mark: &Mark) -> Result<Mea
     requires short { first_short (P.state plant.old) ≡ None }
     requires slot { mark.now.state_slot ≤ 1 }
     requires spot { HasSpot (P.state plant.old) mark.now.at }
-    ensures says { P.tells → IsChosen (P.state plant.old) mark.now → Tells (P.state plant.old) result }
+    ensures says { P.tells → IsChosen (P.state plant.old) mark.now → TellsMeaning (P.state plant.old) result }
     ensures below { IfOk result (λ means. IsTrue (are_below (P.state plant.old).volumes means.table.rows)) }
     ensures reached { P.tells → IsChosen (P.state plant.old) mark.now → (d : AnyDevice) → IsErrOf result (Fault d) → IsInTurn (P.state plant.old) d }
     ensures short { (d : AnyDevice) (needed : ℕ) → ¬ IsErrOf result (TooSmall d needed) }
-    ensures fails { Fails (P.state plant.old).faults (P.state plant.new).faults result }
+    ensures fails { FaultsAreCounted (P.state plant.old).faults (P.state plant.new).faults result }
     ensures reads { ReadsAll P.tells (P.state plant.old) (P.state plant.new) }
 {
     let (level, table) = read_state(alloc, plant, mark)?;
@@ -108,7 +108,7 @@ fn read_means<P: Plant>(alloc: Global, plant: &mut P, mark: &Mark) -> Result<Mea
 /// The mark that counts, where it is this session's.
 fn read_own_mark<P: Plant>(plant: &mut P, session: Session) -> Result<Mark, RecoverError>
     requires { first_short (P.state plant.old) ≡ None }
-    ensures says { P.tells → Says (P.state plant.old) session (λ mark. IsChosen (P.state plant.old) mark) result }
+    ensures says { P.tells → IsGoodOrCalledFor (P.state plant.old) session (λ mark. IsChosen (P.state plant.old) mark) result }
     ensures same { IfOk result (λ mark. mark.session ≡ session) }
     ensures slot { IfOk result (λ mark. mark.state_slot ≤ 1) }
     ensures spot { IfOk result (λ mark. HasSpot (P.state plant.old) mark.at) }
@@ -136,7 +136,7 @@ pub(crate) fn read_meant<P: Plant>(
     session: Session,
 ) -> Result<Meant, RecoverError>
     requires home { NoneLent (P.state plant.old) }
-    ensures says { P.tells → Says (P.state plant.old) session (λ meant. IsRecoverable (P.state plant.old) session meant.means × HasWalk (P.state plant.old) meant.mark) result }
+    ensures says { P.tells → IsGoodOrCalledFor (P.state plant.old) session (λ meant. IsRecoverable (P.state plant.old) session meant.means × HasWalk (P.state plant.old) meant.mark) result }
     ensures short { (d : AnyDevice) → first_short (P.state plant.old) ≡ Some d → result ≡ Err (Site (TooSmall d (site_need d))) }
     ensures lengths { OnOk result (first_short (P.state plant.old) ≡ None) }
     ensures spot { IfOk result (λ meant. HasSpot (P.state plant.old) meant.mark.at) }

@@ -1,4 +1,4 @@
-use crate::DeviceList;
+use pair_table::DeviceList;
 use site_means::Means;
 
 /// What was recovered.

@@ -1,6 +1,6 @@
 //! The recovery of a site.
 
-ghost use Rattle.std.specs.Prelude.{◌≡◌, ◌≤◌, ◌<◌, [], ℕ, length, vec_capacity, IfOk, IsErrOf, IsTrue, None, Some, Err};
+ghost use Rattle.std.specs.Prelude.{◌≡◌, ◌≤◌, ◌<◌, ◌+◌, [], ℕ, length, vec_capacity, IfOk, IsErrOf, IsTrue, None, Some, Err};
 ghost use Rattle.xrc_edge.specs.Causes.{Rose};
 ghost use Rattle.crash_plant.specs.declared.device.Device.{Device as AnyDevice};
 ghost use Rattle.crash_plant.specs.declared.device.Device.TheVariants.{Journal, Volume};
@@ -12,11 +12,11 @@ ghost use Rattle.site_means.specs.declared.site_error.SiteError.{SiteError as Si
 ghost use Rattle.site_means.specs.declared.site_error.SiteError.TheVariants.{Fault, TooSmall};
 ghost use Rattle.site_means.specs.Answers.{HasSpot, first_short, need};
 ghost use Rattle.site_means.specs.Sight.{walked};
-ghost use Rattle.site_means.specs.Steps.{HasRoom};
+ghost use Rattle.site_means.specs.Steps.{HoldsEveryBody};
 ghost use Rattle.xrecover.specs.declared.recover_error.RecoverError.{RecoverError as RecoverErrorValue};
 ghost use Rattle.xrecover.specs.declared.recover_error.RecoverError.TheVariants.{Site};
 ghost use Rattle.xrecover.specs.Pairs.{AreFaulty, first_small};
-ghost use Rattle.xrecover.specs.Answers.{HasWalk, IsEarly, IsLate, IsRecoverable, Says};
+ghost use Rattle.xrecover.specs.Answers.{HasWalk, IsEarly, IsLate, IsRecoverable, IsGoodOrCalledFor};
 ghost use Rattle.xrecover.specs.Works.{Nothing, Works};
 ghost use Rattle.xrecover.specs.Redone.{Recovers, Redone, meant_rows};
 ghost use Rattle.xrecover.specs.Labels.{AreNamed, LabelsLast};
@@ -25,8 +25,9 @@ ghost use Rattle.xrecover.specs.Sees.{IsSettled, SeesSame};
 use crate::meaning::{Meant, is_duplex, read_meant};
 use crate::redoing::redo_pair;
 use crate::volumes::Tools;
-use crate::{DeviceList, Outcome, RecoverError};
+use crate::{Outcome, RecoverError};
 use crash_plant::Plant;
+use pair_table::DeviceList;
 use site_means::longest_body;
 use std::alloc::Global;
 use std::thread::Threads;
@@ -53,7 +54,7 @@ fn redo_pairs<P: Plant>(
     requires big { first_small (P.state plant.old) meant.now.means.table.rows ≡ None }
     requires spot { HasSpot (P.state plant.old) meant.now.mark.at }
     requires long { (j : ℕ) → j < (P.state plant.old).journals → 1 ≤ (P.state plant.old).lengths (Journal j) }
-    requires room { HasRoom (P.state plant.old) tools.body.room }
+    requires room { HoldsEveryBody (P.state plant.old) tools.body.room }
     requires walk { P.tells → HasWalk (P.state plant.old) meant.now.mark }
     requires empty { failed.items ≡ [] }
     requires places { length meant.now.means.table.rows ≤ vec_capacity failed }
@@ -62,6 +63,7 @@ fn redo_pairs<P: Plant>(
     ensures redone { P.tells → IfOk result (λ failed. Redone meant.now.means.table.rows (walked (P.state plant.old) (P.state plant.old).bytes) failed (P.state plant.old) (P.state plant.new)) }
     ensures labels { P.tells → (v : ℕ) → LabelsLast v (walked (P.state plant.old) (P.state plant.old).bytes) (on (P.state plant.old) (Volume v)) (on (P.state plant.new) (Volume v)) }
     ensures named { P.tells → AreNamed meant.now.means.table.rows (P.state plant.old) (P.state plant.new) }
+    ensures once { (v : ℕ) → (P.state plant.new).faults (Volume v) ≤ (P.state plant.old).faults (Volume v) + 1 }
     ensures late { P.tells → (e : RecoverErrorValue) → IsErrOf result e → IsLate (P.state plant.old) e }
     ensures fault { (d : AnyDevice) → IsErrOf result (Site (Fault d)) → Rose ((P.state plant.old).faults d) ((P.state plant.new).faults d) }
 {
@@ -96,11 +98,13 @@ pub fn recover<R: Threads + Sync, P: Plant>(
     requires home { NoneLent (P.state plant.old) }
     // What the devices mean, or why they can't be recovered, in this order: lengths, the control, the session, the state, the journals
     // in the order of the walk, and the lengths of the duplex pairs' volumes.
-    ensures says { P.tells → Says (P.state plant.old) session (λ o. IsRecoverable (P.state plant.old) session o.means) result }
+    ensures says { P.tells → IsGoodOrCalledFor (P.state plant.old) session (λ o. IsRecoverable (P.state plant.old) session o.means) result }
     ensures short { (d : AnyDevice) → first_short (P.state plant.old) ≡ Some d → result ≡ Err (Site (TooSmall d (need d))) }
-    // Why it fails: a fault is of a device whose count rose, and the failed devices are those of duplex pairs whose counts rose.
+    // Why it fails: a fault is of a device whose count rose, and the failed devices are those of duplex pairs whose counts rose. A
+    // volume is left at its first fault, whatever is answered.
     ensures fault { (d : AnyDevice) → IsErrOf result (Site (Fault d)) → Rose ((P.state plant.old).faults d) ((P.state plant.new).faults d) }
     ensures failed { IfOk result (λ o. AreFaulty o.means.table.rows (P.state plant.old).faults (P.state plant.new).faults o.failed) }
+    ensures once { (v : ℕ) → (P.state plant.new).faults (Volume v) ≤ (P.state plant.old).faults (Volume v) + 1 }
     // Each duplex pair's volume that isn't among them holds what the devices meant, is labelled as its primary, and is durable.
     ensures redone { P.tells → IfOk result (λ o. Redone (meant_rows (P.state plant.old) (P.state plant.old).bytes) (walked (P.state plant.old) (P.state plant.old).bytes) o.failed (P.state plant.old) (P.state plant.new)) }
     // At every moment only labels of duplex pairs' volumes, and slots of tracks of which the walk has an item, differ.

@@ -1,21 +1,22 @@
 //! The items of the walk, redone on a volume.
 
-ghost use Rattle.std.specs.Prelude.{◌≡◌, ◌≢◌, ◌≤◌, ◌<◌, ◌+◌, ◌^◌, ℕ, min, true, false, IfOk, IfSome, IsErrOf};
+ghost use Rattle.std.specs.Prelude.{◌≡◌, ◌≢◌, ◌≤◌, ◌<◌, ◌+◌, ◌^◌, ℕ, min, false, IfOk, IfSome, OnErr, IsErrOf};
 ghost use Rattle.xrc_edge.specs.Causes.{Rose};
 ghost use Rattle.crash_plant.specs.declared.device.Device.{Device as AnyDevice};
 ghost use Rattle.crash_plant.specs.declared.device.Device.TheVariants.{Journal, Volume};
 ghost use Rattle.crash_plant.specs.Moments.{on};
 ghost use Rattle.crash_plant.specs.Calls.{NoneLent};
 ghost use Rattle.xrc_journal.specs.Items.{AreItems, form_of};
+ghost use Rattle.xrc_journal.specs.Jobs.{FailsByCount};
 ghost use Rattle.xrc_journal.specs.Records.{most_body, walk_one};
 ghost use Rattle.site_means.specs.declared.site_error.SiteError.{SiteError as SiteErrorValue};
 ghost use Rattle.site_means.specs.declared.site_error.SiteError.TheVariants.{Fault, NoMemory};
-ghost use Rattle.site_means.specs.Answers.{Fails, HasSpot, ReadsAll};
+ghost use Rattle.site_means.specs.Answers.{FaultsAreCounted, HasSpot, ReadsAll};
 ghost use Rattle.site_means.specs.Sight.{walked};
-ghost use Rattle.site_means.specs.Steps.{HasRoom};
+ghost use Rattle.site_means.specs.Steps.{HoldsEveryBody};
 ghost use Rattle.xrecover.specs.Answers.{HasWalk};
 ghost use Rattle.xrecover.specs.Again.{FoundAgain, IsBehind, IsWalkFault};
-ghost use Rattle.xrecover.specs.Works.{OnVolume, Works};
+ghost use Rattle.xrecover.specs.Works.{OfOneVolume, Works};
 ghost use Rattle.xrecover.specs.Redone.{Draws, IsRedone, Redoes};
 ghost use Rattle.xrecover.specs.Labels.{IsNamed, KeepsLabel, LabelsLast};
 
@@ -45,7 +46,7 @@ fn read_again<P: Plant>(
     ensures keep { AreItems (form_of (P.state plant.old)) body.new.items }
     ensures room { body.new.room ≡ body.old.room }
     ensures memory { ¬ IsErrOf result NoMemory }
-    ensures fails { Fails (P.state plant.old).faults (P.state plant.new).faults result }
+    ensures fails { FaultsAreCounted (P.state plant.old).faults (P.state plant.new).faults result }
     ensures reads { ReadsAll P.tells (P.state plant.old) (P.state plant.new) }
 {
     match walk(plant, at, last, body) {
@@ -68,11 +69,12 @@ pub(crate) fn redo_items<P: Plant>(
     requires there { device < (P.state plant.old).volumes }
     requires spot { HasSpot (P.state plant.old) mark.now.at }
     requires long { (j : ℕ) → j < (P.state plant.old).journals → 1 ≤ (P.state plant.old).lengths (Journal j) }
-    requires room { HasRoom (P.state plant.old) tools.body.room }
+    requires room { HoldsEveryBody (P.state plant.old) tools.body.room }
     requires walk { P.tells → HasWalk (P.state plant.old) mark.now }
     ensures room { IfOk result (λ r. r.0.body.room ≡ tools.body.room) }
-    ensures works { Works P.tells (OnVolume device (Redoes device (walked (P.state plant.old) (P.state plant.old).bytes))) (P.state plant.old) (P.state plant.new) }
-    ensures failed { IfOk result (λ r. r.1 ≡ true → Rose ((P.state plant.old).faults (Volume device)) ((P.state plant.new).faults (Volume device))) }
+    ensures works { Works P.tells (OfOneVolume device (Redoes device (walked (P.state plant.old) (P.state plant.old).bytes))) (P.state plant.old) (P.state plant.new) }
+    ensures failed { IfOk result (λ r. FailsByCount r.1 ((P.state plant.old).faults (Volume device)) ((P.state plant.new).faults (Volume device))) }
+    ensures stood { OnErr result ((P.state plant.new).faults (Volume device) ≡ (P.state plant.old).faults (Volume device)) }
     ensures counts { (v : ℕ) → v ≢ device → (P.state plant.new).faults (Volume v) ≡ (P.state plant.old).faults (Volume v) }
     ensures label { P.tells → KeepsLabel (on (P.state plant.old) (Volume device)) (on (P.state plant.new) (Volume device)) }
     ensures content { P.tells → IfOk result (λ r. r.1 ≡ false → Draws device (walked (P.state plant.old) (P.state plant.old).bytes) ((P.state plant.old).bytes (Volume device)) ((P.state plant.new).bytes (Volume device))) }
@@ -109,11 +111,12 @@ pub(crate) fn redo_pair<P: Plant>(
     requires label { 14 ≤ (P.state plant.old).lengths (Volume row.now.device) }
     requires spot { HasSpot (P.state plant.old) mark.now.at }
     requires long { (j : ℕ) → j < (P.state plant.old).journals → 1 ≤ (P.state plant.old).lengths (Journal j) }
-    requires room { HasRoom (P.state plant.old) tools.body.room }
+    requires room { HoldsEveryBody (P.state plant.old) tools.body.room }
     requires walk { P.tells → HasWalk (P.state plant.old) mark.now }
     ensures room { IfOk result (λ r. r.0.body.room ≡ tools.body.room) }
-    ensures works { Works P.tells (OnVolume row.now.device (Redoes row.now.device (walked (P.state plant.old) (P.state plant.old).bytes))) (P.state plant.old) (P.state plant.new) }
-    ensures failed { IfOk result (λ r. r.1 ≡ true → Rose ((P.state plant.old).faults (Volume row.now.device)) ((P.state plant.new).faults (Volume row.now.device))) }
+    ensures works { Works P.tells (OfOneVolume row.now.device (Redoes row.now.device (walked (P.state plant.old) (P.state plant.old).bytes))) (P.state plant.old) (P.state plant.new) }
+    ensures failed { IfOk result (λ r. FailsByCount r.1 ((P.state plant.old).faults (Volume row.now.device)) ((P.state plant.new).faults (Volume row.now.device))) }
+    ensures stood { OnErr result ((P.state plant.new).faults (Volume row.now.device) ≡ (P.state plant.old).faults (Volume row.now.device)) }
     ensures counts { (v : ℕ) → v ≢ row.now.device → (P.state plant.new).faults (Volume v) ≡ (P.state plant.old).faults (Volume v) }
     ensures lasts { P.tells → LabelsLast row.now.device (walked (P.state plant.old) (P.state plant.old).bytes) (on (P.state plant.old) (Volume row.now.device)) (on (P.state plant.new) (Volume row.now.device)) }
     ensures named { P.tells → IsNamed row.now (P.state plant.old) (P.state plant.new) }

@@ -1,7 +1,6 @@
 //! One volume of a duplex pair.
 
-ghost use Rattle.std.specs.Prelude.{◌≡◌, ◌≢◌, ◌≤◌, ◌<◌, ℕ, [], take, true, false, IfOk};
-ghost use Rattle.xrc_edge.specs.Causes.{Rose};
+ghost use Rattle.std.specs.Prelude.{◌≡◌, ◌≢◌, ◌≤◌, ◌<◌, ℕ, [], take, false, IfOk};
 ghost use Rattle.ckd_track.specs.SlotPlaces.{slot_end};
 ghost use Rattle.crash_plant.specs.declared.device.Device.TheVariants.{Volume};
 ghost use Rattle.crash_plant.specs.Moments.{Follows, IsDurable, Kept, on};
@@ -11,7 +10,7 @@ ghost use Rattle.xrc_journal.specs.Contents.{HasItem};
 ghost use Rattle.xrc_journal.specs.Jobs.{FailsByCount};
 ghost use Rattle.applier.specs.Slots.{DiffersInSlots, HoldsContent};
 ghost use Rattle.volume_label.specs.Labels.{label_spelling};
-ghost use Rattle.xrecover.specs.Works.{OnVolume, Works};
+ghost use Rattle.xrecover.specs.Works.{OfOneVolume, Works};
 ghost use Rattle.xrecover.specs.Redone.{Redoes};
 ghost use Rattle.xrecover.specs.Labels.{IsNamed, LabelsLast};
 
@@ -79,7 +78,7 @@ pub(crate) fn apply_body<P: Plant>(plant: &mut P, device: u16, tools: Tools) -> 
     requires there { device < (P.state plant.old).volumes }
     requires items { AreItems (form_of (P.state plant.old)) tools.body.items }
     ensures body { result.0.body ≡ tools.body }
-    ensures works { Works P.tells (OnVolume device (DiffersInSlots device tools.body.items)) (P.state plant.old) (P.state plant.new) }
+    ensures works { Works P.tells (OfOneVolume device (DiffersInSlots device tools.body.items)) (P.state plant.old) (P.state plant.new) }
     ensures fails { FailsByCount result.1 ((P.state plant.old).faults (Volume device)) ((P.state plant.new).faults (Volume device)) }
     ensures counts { (v : ℕ) → v ≢ device → (P.state plant.new).faults (Volume v) ≡ (P.state plant.old).faults (Volume v) }
     ensures content { P.tells → result.1 ≡ false → HoldsContent device tools.body.items ((P.state plant.old).bytes (Volume device)) ((P.state plant.new).bytes (Volume device)) }
@@ -95,8 +94,8 @@ pub(crate) fn finish_volume<P: Plant>(plant: &mut P, row: &PairRow) -> bool
     requires home { NoneLent (P.state plant.old) }
     requires there { row.now.device < (P.state plant.old).volumes }
     requires long { 14 ≤ (P.state plant.old).lengths (Volume row.now.device) }
-    ensures works { Works P.tells (OnVolume row.now.device (Redoes row.now.device [])) (P.state plant.old) (P.state plant.new) }
-    ensures fails { result ≡ true → Rose ((P.state plant.old).faults (Volume row.now.device)) ((P.state plant.new).faults (Volume row.now.device)) }
+    ensures works { Works P.tells (OfOneVolume row.now.device (Redoes row.now.device [])) (P.state plant.old) (P.state plant.new) }
+    ensures fails { FailsByCount result ((P.state plant.old).faults (Volume row.now.device)) ((P.state plant.new).faults (Volume row.now.device)) }
     ensures counts { (v : ℕ) → v ≢ row.now.device → (P.state plant.new).faults (Volume v) ≡ (P.state plant.old).faults (Volume v) }
     ensures label { P.tells → result ≡ false → take 14 ((P.state plant.new).bytes (Volume row.now.device)) ≡ label_spelling (record { serial = row.now.primary; cylinders = row.now.cylinders }) }
     ensures durable { P.tells → result ≡ false → IsDurable (on (P.state plant.new) (Volume row.now.device)) }

@@ -1,5 +1,10 @@
-use Rattle.block_region.proofs.ChainLaws.{takes_keep}
+use Rattle.block_region.proofs.ChainLaws.{none_out, taken_out, given_rest, add_up}
 use Rattle.block_region.proofs.laws.takes_keep_chains.Goals as goal
 
 pub returns : goal.returns
-returns c = takes_keep
+returns c = record {
+  none = none_out;
+  taken = taken_out;
+  given = given_rest;
+  blocks = add_up;
+}

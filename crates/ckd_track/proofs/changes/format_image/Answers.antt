@@ -3,14 +3,14 @@ use Rattle.std.specs.List.{flat_map}
 use Rattle.ckd_track.specs.declared.rec.Rec.{Rec}
 use Rattle.ckd_track.specs.Tracks.{IsTrack}
 use Rattle.ckd_track.specs.Images.{record_spelling}
-use Rattle.ckd_track.specs.Slots.{track_of, with_bytes}
+use Rattle.ckd_track.specs.Slots.{track_of_image, with_bytes}
 use Rattle.ckd_track.proofs.RowLaws.{above_is_track, above_rises}
 use Rattle.ckd_track.proofs.Formatting.{behind, format_holds, formatted_lost}
 use Rattle.ckd_track.proofs.changes.format_image.Goals as goal
 
 pub returns-then-front-after-clause-seen : goal.returns-then-front-after-clause-seen
 returns-then-front-after-clause-seen c =
-    formatted_lost c.args.after c.args.given.now (track_of (take c.args.used c.args.buffer.now)) c.kept-front.result c.requires.holds.begins.is_track c.kept-front.ensures c.if-front-after.true
+    formatted_lost c.args.after c.args.given.now (track_of_image (take c.args.used c.args.buffer.now)) c.kept-front.result c.requires.holds.begins.is_track c.kept-front.ensures c.if-front-after.true
 
 pub fitting_records-taken-requires : goal.fitting_records-taken-requires
 fitting_records-taken-requires c =

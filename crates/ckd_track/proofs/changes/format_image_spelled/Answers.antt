@@ -1,11 +1,11 @@
 use Rattle.std.proofs.Common.{◌∙◌, ◌+◌, ap, sym, arith, take, length, List, ℕ}
-use Rattle.ckd_track.specs.Slots.{track_of, with_bytes, spelled_records}
+use Rattle.ckd_track.specs.Slots.{track_of_image, with_bytes, spelled_records}
 use Rattle.ckd_track.proofs.Formatting.{behind, taken_is, format_holds, formatted_lost}
 use Rattle.ckd_track.proofs.changes.format_image_spelled.Goals as goal
 
 pub returns-then-front-after-clause-seen : goal.returns-then-front-after-clause-seen
 returns-then-front-after-clause-seen c =
-    formatted_lost c.args.after (spelled_records c.args.count c.args.given.now) (track_of (take c.args.used c.args.buffer.now)) c.kept-front.result c.requires.holds.begins.is_track c.kept-front.ensures c.if-front-after.true
+    formatted_lost c.args.after (spelled_records c.args.count c.args.given.now) (track_of_image (take c.args.used c.args.buffer.now)) c.kept-front.result c.requires.holds.begins.is_track c.kept-front.ensures c.if-front-after.true
 
 pub slice_bounds-put_bytes-end : goal.slice_bounds-put_bytes-end
 slice_bounds-put_bytes-end c =

@@ -1,38 +1,38 @@
 use Rattle.std.proofs.Common.{◌∙◌, ap, arith, length, drop}
 use Rattle.std.proofs.lemmas.List.{length-drop, drop_all}
-use Rattle.ckd_track.specs.Slots.{track_of}
+use Rattle.ckd_track.specs.Slots.{track_of_image}
 use Rattle.ckd_track.specs.declared.fronts.Front.{Front}
 use Rattle.ckd_track.specs.Places.{front_up_to}
 use Rattle.ckd_track.proofs.Walks.{walk_begins, some_left, walks_on, head_whole, up_to_stops, up_to_goes, sizes_left}
 use Rattle.ckd_track.proofs.fronts.kept.Goals as goal
 
 pub first-head-requires : goal.first-head-requires
-first-head-requires c = omega (arith, (some_left c.loop.counter (track_of c.args.image.now) c.loop.rest.now c.loop.invariant.walks (omega arith)).whole)
+first-head-requires c = omega (arith, (some_left c.loop.counter (track_of_image c.args.image.now) c.loop.rest.now c.loop.invariant.walks (omega arith)).whole)
 
 pub returns-then-after-head : goal.returns-then-after-head
 returns-then-after-head c =
-    let f = some_left c.loop.counter (track_of c.args.image.now) c.loop.rest.now c.loop.invariant.walks (omega arith) in
-    up_to_stops c.args.after c.loop.front c.loop.rest.now (drop c.loop.counter (track_of c.args.image.now)) c.first-head.result f c.first-head.ensures c.if-after-head.true ∙ c.loop.invariant.same
+    let f = some_left c.loop.counter (track_of_image c.args.image.now) c.loop.rest.now c.loop.invariant.walks (omega arith) in
+    up_to_stops c.args.after c.loop.front c.loop.rest.now (drop c.loop.counter (track_of_image c.args.image.now)) c.first-head.result f c.first-head.ensures c.if-after-head.true ∙ c.loop.invariant.same
 
 pub split_at-requires-in-loop : goal.split_at-requires-in-loop
 split_at-requires-in-loop c =
-    let f = some_left c.loop.counter (track_of c.args.image.now) c.loop.rest.now c.loop.invariant.walks (omega arith) in
-    omega (arith, head_whole c.loop.rest.now (drop c.loop.counter (track_of c.args.image.now)) c.first-head.result f c.first-head.ensures)
+    let f = some_left c.loop.counter (track_of_image c.args.image.now) c.loop.rest.now c.loop.invariant.walks (omega arith) in
+    omega (arith, head_whole c.loop.rest.now (drop c.loop.counter (track_of_image c.args.image.now)) c.first-head.result f c.first-head.ensures)
 
 pub with-front-requires-clause-room : goal.with-front-requires-clause-room
 with-front-requires-clause-room c =
-    let f = some_left c.loop.counter (track_of c.args.image.now) c.loop.rest.now c.loop.invariant.walks (omega arith) in
-    omega (arith, sizes_left c.loop.counter (track_of c.args.image.now) c.loop.rest.now c.first-head.result f c.first-head.ensures, c.loop.invariant.fits)
+    let f = some_left c.loop.counter (track_of_image c.args.image.now) c.loop.rest.now c.loop.invariant.walks (omega arith) in
+    omega (arith, sizes_left c.loop.counter (track_of_image c.args.image.now) c.loop.rest.now c.first-head.result f c.first-head.ensures, c.loop.invariant.fits)
 
 pub loop-init : goal.loop-init
 loop-init c =
     let b = walk_begins c.args.image.now (record { is_track = c.requires.is_track; spelled = c.requires.spelled }) in
-    record { walks = rw c.split_at.ensures.back b.walks; same = ap (λ (front : Front). front_up_to c.args.after front (track_of c.args.image.now)) c.none-front.ensures; sum = omega (arith, b.long, ap length c.split_at.ensures.back, length-drop 2 c.args.image.now, ap (λ (front : Front). front.end) c.none-front.ensures); counted = ap (λ (front : Front). front.count) c.none-front.ensures; fits = omega (arith, b.walks.fits, ap (λ (front : Front). front.room) c.none-front.ensures) }
+    record { walks = rw c.split_at.ensures.back b.walks; same = ap (λ (front : Front). front_up_to c.args.after front (track_of_image c.args.image.now)) c.none-front.ensures; sum = omega (arith, b.long, ap length c.split_at.ensures.back, length-drop 2 c.args.image.now, ap (λ (front : Front). front.end) c.none-front.ensures); counted = ap (λ (front : Front). front.count) c.none-front.ensures; fits = omega (arith, b.walks.fits, ap (λ (front : Front). front.room) c.none-front.ensures) }
 
 pub loop-preserved : goal.loop-preserved
 loop-preserved c =
-    let track = track_of c.args.image.now in
-    let f = some_left c.loop.counter (track_of c.args.image.now) c.loop.rest.now c.loop.invariant.walks (omega arith) in
+    let track = track_of_image c.args.image.now in
+    let f = some_left c.loop.counter (track_of_image c.args.image.now) c.loop.rest.now c.loop.invariant.walks (omega arith) in
     let is = c.first-head.ensures in
     let whole = head_whole c.loop.rest.now (drop c.loop.counter track) c.first-head.result f is in
     record {
@@ -44,4 +44,4 @@ loop-preserved c =
     }
 
 pub returns : goal.returns
-returns c = rw (drop_all c.loop.counter (track_of c.args.image.now) (omega arith)) at c.loop.invariant.same
+returns c = rw (drop_all c.loop.counter (track_of_image c.args.image.now) (omega arith)) at c.loop.invariant.same

@@ -1,6 +1,6 @@
 use Rattle.std.proofs.Common.{◌∙◌, ap, refl, arith, length, drop}
 use Rattle.std.proofs.lemmas.List.{length-drop, drop_all}
-use Rattle.ckd_track.specs.Slots.{track_of}
+use Rattle.ckd_track.specs.Slots.{track_of_image}
 use Rattle.ckd_track.proofs.Walks.{walk_begins, some_left, walks_on, head_whole, place_first, place_later}
 use Rattle.ckd_track.proofs.places.content_place.Goals as goal
 
@@ -8,17 +8,17 @@ pub split_at-requires : goal.split_at-requires
 split_at-requires c = (walk_begins c.args.image.now (record { is_track = c.requires.is_track; spelled = c.requires.spelled })).long
 
 pub first-head-requires : goal.first-head-requires
-first-head-requires c = omega (arith, (some_left c.loop.counter (track_of c.args.image.now) c.loop.rest.now c.loop.invariant.walks (omega arith)).whole)
+first-head-requires c = omega (arith, (some_left c.loop.counter (track_of_image c.args.image.now) c.loop.rest.now c.loop.invariant.walks (omega arith)).whole)
 
 pub returns-then-head-number : goal.returns-then-head-number
 returns-then-head-number c =
-    let f = some_left c.loop.counter (track_of c.args.image.now) c.loop.rest.now c.loop.invariant.walks (omega arith) in
-    place_first c.args.number c.loop.at c.loop.rest.now (drop c.loop.counter (track_of c.args.image.now)) c.first-head.result f c.first-head.ensures c.if-head-number.true ∙ c.loop.invariant.same
+    let f = some_left c.loop.counter (track_of_image c.args.image.now) c.loop.rest.now c.loop.invariant.walks (omega arith) in
+    place_first c.args.number c.loop.at c.loop.rest.now (drop c.loop.counter (track_of_image c.args.image.now)) c.first-head.result f c.first-head.ensures c.if-head-number.true ∙ c.loop.invariant.same
 
 pub split_at-requires-in-loop : goal.split_at-requires-in-loop
 split_at-requires-in-loop c =
-    let f = some_left c.loop.counter (track_of c.args.image.now) c.loop.rest.now c.loop.invariant.walks (omega arith) in
-    omega (arith, head_whole c.loop.rest.now (drop c.loop.counter (track_of c.args.image.now)) c.first-head.result f c.first-head.ensures)
+    let f = some_left c.loop.counter (track_of_image c.args.image.now) c.loop.rest.now c.loop.invariant.walks (omega arith) in
+    omega (arith, head_whole c.loop.rest.now (drop c.loop.counter (track_of_image c.args.image.now)) c.first-head.result f c.first-head.ensures)
 
 pub loop-init : goal.loop-init
 loop-init c =
@@ -27,8 +27,8 @@ loop-init c =
 
 pub loop-preserved : goal.loop-preserved
 loop-preserved c =
-    let track = track_of c.args.image.now in
-    let f = some_left c.loop.counter (track_of c.args.image.now) c.loop.rest.now c.loop.invariant.walks (omega arith) in
+    let track = track_of_image c.args.image.now in
+    let f = some_left c.loop.counter (track_of_image c.args.image.now) c.loop.rest.now c.loop.invariant.walks (omega arith) in
     let is = c.first-head.ensures in
     let whole = head_whole c.loop.rest.now (drop c.loop.counter track) c.first-head.result f is in
     record {
@@ -38,4 +38,4 @@ loop-preserved c =
     }
 
 pub returns : goal.returns
-returns c = rw (drop_all c.loop.counter (track_of c.args.image.now) (omega arith)) at c.loop.invariant.same
+returns c = rw (drop_all c.loop.counter (track_of_image c.args.image.now) (omega arith)) at c.loop.invariant.same

@@ -1,6 +1,6 @@
 use Rattle.std.proofs.Common.{◌≡◌, List, get_or, Some, ap, sym, subst, ◌∙◌, refl}
 use Rattle.std.specs.Prelude.{slice_set}
-use Rattle.pending_queue.specs.Entries.{WaitingEntry, tracks_of, without_volume}
+use Rattle.pending_queue.specs.Entries.{WaitingEntry, entry_tracks, without_volume}
 use Rattle.pending_queue.specs.Queues.{with_waiting}
 use Rattle.group_state.specs.declared.volume.Volume.{Volume}
 use Rattle.group_state.specs.Volumes.{volume_of, dropped_volume}
@@ -17,7 +17,7 @@ returns-in_default-clause-queue c =
 
 pub returns-in_default-clause-volumes : goal.returns-in_default-clause-volumes
 returns-in_default-clause-volumes c =
-    sym (none_changed c.args.number (dropped_volume c.args.all (tracks_of c.args.number c.args.queue.now.waiting)) c.args.volumes.now (c.in_default.ensures.none refl))
+    sym (none_changed c.args.number (dropped_volume c.args.all (entry_tracks c.args.number c.args.queue.now.waiting)) c.args.volumes.now (c.in_default.ensures.none refl))
 
 pub drop_from-requires : goal.drop_from-requires
 drop_from-requires c =
@@ -43,5 +43,5 @@ returns-clause-volumes c =
     let u = get_or volumes place d in
     let number = found_number c.args.number volumes u (c.in-Some.ensures.some.found d) in
     ap (λ (x : Volume). slice_set volumes place x) c.drop_from.ensures.volume
-    ∙ ap (λ n. slice_set volumes place (dropped_volume c.args.all (tracks_of n waiting) u)) number
-    ∙ c.in-Some.ensures.some.changes (dropped_volume c.args.all (tracks_of c.args.number waiting)) d
+    ∙ ap (λ n. slice_set volumes place (dropped_volume c.args.all (entry_tracks n waiting) u)) number
+    ∙ c.in-Some.ensures.some.changes (dropped_volume c.args.all (entry_tracks c.args.number waiting)) d

@@ -2,7 +2,7 @@ use Rattle.std.proofs.Common.{◌≡◌, List, [], ◌∷◌, subst}
 use Rattle.std.specs.Prelude.{ℕ}
 use Rattle.ckd_track.specs.declared.write.Kind.TheVariants.{Update}
 use Rattle.ckd_track.specs.declared.write.Write.{Write}
-use Rattle.group_state.specs.Vectors.{batch}
+use Rattle.group_tests.specs.StateVectors.{batch}
 use Rattle.group_tests.proofs.runs.long_update.Goals as goal
 
 -- the update of these bytes

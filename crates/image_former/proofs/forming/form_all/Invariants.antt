@@ -1,6 +1,6 @@
 use Rattle.std.proofs.Common.{◌≡◌, [], count_by}
 use Rattle.std.specs.List.{AllZip}
-use Rattle.image_former.specs.Steps.{GoesBy, is_live}
+use Rattle.image_former.specs.Steps.{GoesBy, is_job_live}
 use Rattle.image_former.proofs.forming.form_all.Given as goal
 
 -- the body is empty again
@@ -10,4 +10,4 @@ invariant-loop-body g l = AllZip (GoesBy g.D.Disk.state g.D.Disk.tells l.table.r
 
 -- Each round leaves one live job fewer.
 abbrev pub decreases-loop-body : goal.decreases-loop-body
-decreases-loop-body g l = count_by is_live l.jobs
+decreases-loop-body g l = count_by is_job_live l.jobs

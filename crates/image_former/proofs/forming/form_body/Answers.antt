@@ -20,7 +20,7 @@ pub returns-clause-early : goal.returns-clause-early
 returns-clause-early g c = late_images c.form_all.new.body.items none_earlier c.form_all.ensures.formed.images
 
 pub returns-clause-allowed : goal.returns-clause-allowed
-returns-clause-allowed g c = allowed_of c.form_all.new.body.items c.form_all.ensures.formed.images c.bytes-valid.ensures.keep
+returns-clause-allowed g c = allowed_of c.form_all.new.body.items c.form_all.ensures.formed.images c.form_all.ensures.keep
 
 pub returns-clause-short : goal.returns-clause-short
 returns-clause-short g c = c.form_all.ensures.formed.short

@@ -1,6 +1,6 @@
 use Rattle.std.proofs.Common.{List, [], refl, sym, ◌∙◌, subst, arith}
 use Rattle.xrc_edge.proofs.Outcomes.{on_err}
-use Rattle.xrc_journal.specs.Items.{Item}
+use Rattle.xrc_journal.specs.Items.{Item, AreItems, anywhere}
 use Rattle.image_former.specs.Steps.{GoesBy, AreFormed}
 use Rattle.image_former.proofs.Lists.{zip_refl, zip_trans}
 use Rattle.image_former.proofs.Going.{by_here, by_then, ready_after, live_falls}
@@ -14,6 +14,7 @@ loop-place-init g c =
       zip_refl (GoesBy g.D.Disk.state g.D.Disk.tells rows entries) (by_here g.D.Disk.state g.D.Disk.tells rows entries) c.args.jobs.now,
       subst (λ (l : List Item). AreFormed g.D.Disk.state g.D.Disk.tells rows entries [] c.args.jobs.now l) (sym c.requires.empty) (formed_none g.D.Disk.state g.D.Disk.tells rows entries c.args.jobs.now),
       refl,
+      subst (λ (l : List Item). AreItems anywhere l) (sym c.requires.empty) refl,
     )
 
 pub form_image-requires-clause-ready : goal.form_image-requires-clause-ready
@@ -36,4 +37,5 @@ loop-place-preserved g c = (
       c.args.jobs.now c.loop-place.jobs c.form_image.new.jobs c.loop-place.invariant.0 c.form_image.ensures.goes,
   c.in_ok-form_image.ensures.formed,
   c.form_image.ensures.room ∙ c.loop-place.invariant.2,
+  c.form_image.ensures.keep,
 )

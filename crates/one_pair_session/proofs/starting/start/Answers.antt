@@ -2,7 +2,7 @@ use Rattle.std.proofs.Common.{rules, ◌≡◌, inr, ℕ, List, [], Ok, Err, ref
 use Rattle.std.specs.Prelude.{IfSome, IsTrue}
 use Rattle.crash_plant.specs.declared.device.Device.TheVariants.{Control, Volume}
 use Rattle.crash_plant.proofs.Steps.{none_lent_console, site_trans}
-use Rattle.volume_label.specs.Labels.{has_room}
+use Rattle.volume_label.specs.Labels.{holds_cylinders}
 use Rattle.epoch.proofs.Frames.{keeps_console}
 use Rattle.pair_course.specs.Course.{start_reply}
 use Rattle.session_lines.specs.Asking.{AsksStart}
@@ -117,7 +117,7 @@ returns-clause-between g c =
     between_heard g.P.Plant.tells (g.P.Plant.state c.set_up.new.plant) (g.P.Plant.state c.say_started.new.plant) c.say_started.ensures.said.front.only c.set_up.new.lane c.in_ok-started.started.site c.in_ok-started.ensures.between
 
 pub returns-clause-room : goal.returns-clause-room
-returns-clause-room g c = subst (λ (n : ℕ). IfSome c.in_ok-started.started.label (λ l. IsTrue (has_room n l.cylinders))) (c.hear_start.ensures.only.site.lengths (Volume 0)) c.in_ok-started.ensures.room
+returns-clause-room g c = subst (λ (n : ℕ). IfSome c.in_ok-started.started.label (λ l. IsTrue (holds_cylinders n l.cylinders))) (c.hear_start.ensures.only.site.lengths (Volume 0)) c.in_ok-started.ensures.room
 
 pub returns-clause-site : goal.returns-clause-site
 returns-clause-site g c =

@@ -3,9 +3,8 @@ use Rattle.std.specs.Fmt.{digits}
 use Rattle.std.specs.Prelude.{codes}
 use Rattle.write_trace.specs.declared.trace.TraceEnd.TheVariants.{Ended}
 use Rattle.pair_table.specs.declared.row.PairState.TheVariants.{Pending}
-use Rattle.pair_table.specs.Vectors.{abc, first_row}
 use Rattle.pair_course.specs.Course.{end_reply, pair_reply, start_reply}
-use Rattle.pair_course.specs.Vectors.{end_text, pair_text, start_text, worked_run, worked_trace}
+use Rattle.pair_course.specs.Vectors.{abc, end_text, first_row, pair_text, start_text, worked_run, worked_trace}
 use Rattle.pair_course.proofs.Answering.{three_are_a_course}
 use Rattle.pair_course.proofs.Naming.{row_is_added}
 use Rattle.pair_course.proofs.Saying.{end_is_reply, pair_is_reply, start_is_reply}

@@ -1,5 +1,5 @@
 use Rattle.std.proofs.Common.{List, ◌++◌, length, sym, ap, ◌∙◌, arith}
-use Rattle.pending_queue.specs.Entries.{WaitingEntry, never_fall, due, left, stands_before}
+use Rattle.pending_queue.specs.Entries.{WaitingEntry, entries_never_fall, due, left, stands_before}
 use Rattle.xrc_edge.specs.Order.{in_order}
 use Rattle.pending_queue.proofs.EntryLaws.{moved, nothing_moves}
 use Rattle.pending_queue.proofs.moving.move_due.Goals as goal
@@ -10,7 +10,7 @@ loop-entry-preserved c =
     let entries = c.loop-entry.entries.items in
     let kept = c.loop-entry.invariant in
     let first = c.in-Some.ensures.first in
-    let step = moved cut c.in-Some.entry c.pop_due.new.waiting.items entries c.place_entry.new.entries.items (ap (never_fall 0) (sym first) ∙ kept.rising) c.in-Some.ensures.due c.place_entry.ensures.put in
+    let step = moved cut c.in-Some.entry c.pop_due.new.waiting.items entries c.place_entry.new.entries.items (ap (entries_never_fall 0) (sym first) ∙ kept.rising) c.in-Some.ensures.due c.place_entry.ensures.put in
     record {
       rising = step.rising;
       ordered = step.ordered;

@@ -1,10 +1,10 @@
 use Rattle.std.proofs.Common.{◌≡◌, take, length}
-use Rattle.pending_queue.specs.Entries.{tracks_of}
+use Rattle.pending_queue.specs.Entries.{entry_tracks}
 use Rattle.pending_queue.specs.Maps.{with_tracks}
 use Rattle.pending_queue.proofs.queue.map_tracks.Given as goal
 
 abbrev pub invariant-loop-k : goal.invariant-loop-k
 invariant-loop-k l = record {
-  mapped : l.map ≡ with_tracks l.initial.map (tracks_of l.volume (take l.k l.waiting.items));
+  mapped : l.map ≡ with_tracks l.initial.map (entry_tracks l.volume (take l.k l.waiting.items));
   same_length : length l.map ≡ length l.initial.map;
 }

@@ -6,7 +6,7 @@ use Rattle.site_means.specs.declared.means.Means.{Means}
 use Rattle.site_means.specs.declared.site_error.SiteError.{SiteError}
 use Rattle.site_means.specs.Images.{shape_of}
 use Rattle.site_means.specs.Meaning.{meaning_in, stored_in}
-use Rattle.site_means.specs.Answers.{Mean, Says}
+use Rattle.site_means.specs.Answers.{Mean, AnswersMeaning}
 use Rattle.site_means.proofs.ReadAll.{reads_then}
 use Rattle.site_means.proofs.Shorts.{are_long}
 use Rattle.site_means.proofs.Meanings.{spot_later, same_seen, seen_answer, seen_chosen, seen_error, seen_reached, seen_stored}
@@ -19,7 +19,7 @@ returns-in_err-level-clause-says g c = λ told.
     let seen = same_seen g.P.Plant.tells old one c.read_mark.ensures.reads told in
     let chosen = seen_chosen old one seen c.in_ok-mark.mark (c.in_ok-mark.ensures.says told) in
     let is : c.from_residual-in_err-level.result ≡ Err c.in_err-level.field-0.0 = search rules in
-    subst (λ (r : Result Means SiteError). Says (λ means. Mean (meaning_in (shape_of old) old.bytes) means) (meaning_in (shape_of old) old.bytes) r) (sym is)
+    subst (λ (r : Result Means SiteError). AnswersMeaning (λ means. Mean (meaning_in (shape_of old) old.bytes) means) (meaning_in (shape_of old) old.bytes) r) (sym is)
     (seen_error old one seen {X = Level × Table} {Y = Means} (λ found. stored_in (shape_of one) one.bytes c.in_ok-mark.mark ≡ Ok (record { level = found.0; rows = found.1.rows })) (λ means. Mean (meaning_in (shape_of old) old.bytes) means) c.in_err-level.field-0.0 (c.in_err-level.ensures.says told chosen))
 
 pub returns-in_err-level-clause-reads : goal.returns-in_err-level-clause-reads

@@ -7,7 +7,7 @@ use Rattle.site_means.specs.Images.{shape_of}
 use Rattle.site_means.specs.Meaning.{meaning_in}
 use Rattle.site_means.specs.Meaning.Meaning.{Meant}
 use Rattle.site_means.specs.Answers.{Mean}
-use Rattle.site_means.specs.Steps.{Reports, walk_of}
+use Rattle.site_means.specs.Steps.{AnswersWalk, walk_of}
 use Rattle.site_means.proofs.ReadAll.{error_is}
 use Rattle.site_means.proofs.Meanings.{finish_means, reports_reach, reports_say, stands_first}
 use Rattle.site_means.proofs.examining.read_journals.Goals as goal
@@ -36,7 +36,7 @@ returns-clause-reached g c = λ told chosen stored d is.
     let s : Stored = record { level = c.args.level; rows = c.args.table.rows } in
     let first = c.in_ok-walking.walking in
     reports_reach (shape_of old) old.bytes m s chosen stored c.args.table first refl c.in_ok-walking.ensures c.finish.new.self d
-    (subst (λ (e : SiteError). Reports (walk_of (shape_of old) old.bytes first) first c.finish.new.self (Err e)) (error_is {Y = Means} c.in-Err.error (Fault d) is) (c.in-Err.ensures.reports told))
+    (subst (λ (e : SiteError). AnswersWalk (walk_of (shape_of old) old.bytes first) first c.finish.new.self (Err e)) (error_is {Y = Means} c.in-Err.error (Fault d) is) (c.in-Err.ensures.reports told))
 
 pub finish-requires-clause-stands : goal.finish-requires-clause-stands
 finish-requires-clause-stands g c _ _ = stands_first (g.P.Plant.state c.args.plant.now) c.args.mark.now c.args.table c.in_ok-walking.walking c.requires.long c.requires.spot c.requires.below c.in_ok-walking.ensures

@@ -6,12 +6,12 @@ use Rattle.state_set.specs.Slots.{rows_in, started_table, with_table}
 use Rattle.state_set.proofs.Fields.{with_level, too_many, of_level, table_is, no_table}
 use Rattle.state_set.proofs.reading.decode.Goals as goal
 
-pub returns-then-count-gt-MOST_ROWS : goal.returns-then-count-gt-MOST_ROWS
-returns-then-count-gt-MOST_ROWS c =
+pub returns-then-count : goal.returns-then-count
+returns-then-count c =
     let bytes = c.args.bytes.now in
     let count : from_be_bytes w16 (slice_range bytes 13 15) ≡ c.read_u16-count.result = omega (arith, c.read_u16-count.ensures) in
     let state = of_level c.args.volumes c.args.session bytes (omega (arith, c.told-bytes)) (sym c.has_title.ensures ∙ c.if-not-has_title.false) c.in-Some.level (sym c.level_of.ensures ∙ c.in-Some.is) in
-    let none = too_many c.args.volumes (from_be_bytes w16 (slice_range bytes 13 15)) (drop 15 bytes) (omega (arith, count, c.if-count-gt-MOST_ROWS.true)) in
+    let none = too_many c.args.volumes (from_be_bytes w16 (slice_range bytes 13 15)) (drop 15 bytes) (omega (arith, count, c.if-count.true)) in
     sym (ap (option_map (with_table c.args.session)) (state ∙ ap (with_level c.in-Some.level) none))
 
 pub returns-in-Some-2 : goal.returns-in-Some-2

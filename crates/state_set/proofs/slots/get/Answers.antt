@@ -1,7 +1,7 @@
 use Rattle.std.proofs.Common.{◌≡◌, ℕ, Option, sym, ap, ◌∙◌}
 use Rattle.std.specs.Prelude.{ok_or, Err}
 use Rattle.crash_plant.specs.declared.device.Device.TheVariants.{State}
-use Rattle.state_set.specs.Slots.{Stored, slot_place, state_at, state_of}
+use Rattle.state_set.specs.Slots.{Stored, state_slot_place, state_at, state_of}
 use Rattle.pair_table.specs.Tables.{are_below}
 use Rattle.state_set.proofs.Below.{found_below}
 use Rattle.state_set.proofs.Windows.{read_is, some_state, no_state}
@@ -14,7 +14,7 @@ returns-in-Ok-Some-clause-holds g c told =
     let read = some_state c.args.session (state_at c.volumes.result c.args.session c.in-Ok.bytes) c.in-Ok-Some.found (sym c.in-Ok-Some.field-0-is ∙ c.in-Ok-Some.ensures) in
     ap (λ (v : ℕ). state_of v c.args.session c.args.slot (old.bytes State)) (sym volumes)
     ∙ read_is c.volumes.result c.args.slot c.args.session (old.bytes State) c.in-Ok.bytes (c.in-Ok.ensures.bytes told)
-    ∙ ap (λ (o : Option Stored). ok_or o (slot_place c.args.slot)) read
+    ∙ ap (λ (o : Option Stored). ok_or o (state_slot_place c.args.slot)) read
 
 pub returns-in-Ok-None-clause-damaged : goal.returns-in-Ok-None-clause-damaged
 returns-in-Ok-None-clause-damaged g c told place is =
@@ -24,7 +24,7 @@ returns-in-Ok-None-clause-damaged g c told place is =
     let none = no_state c.args.session (state_at c.volumes.result c.args.session c.in-Ok.bytes) (sym c.in-Ok-None.field-0-is ∙ c.in-Ok-None.ensures) in
     ap (λ (v : ℕ). state_of v c.args.session c.args.slot (old.bytes State)) (sym volumes)
     ∙ read_is c.volumes.result c.args.slot c.args.session (old.bytes State) c.in-Ok.bytes (c.in-Ok.ensures.bytes told)
-    ∙ ap (λ (o : Option Stored). ok_or o (slot_place c.args.slot)) none
+    ∙ ap (λ (o : Option Stored). ok_or o (state_slot_place c.args.slot)) none
     ∙ ap (λ (p : ℕ). Err p) (sym c.slot_place.ensures ∙ same)
 
 pub returns-in-Ok-Some-clause-below : goal.returns-in-Ok-Some-clause-below

@@ -1,7 +1,7 @@
 use Rattle.std.proofs.Common.{◌≡◌, ℕ, List, length, take, ap, ◌∙◌, arith, length-take}
 use Rattle.crash_plant.specs.declared.device.Device.TheVariants.{State}
 use Rattle.crash_plant.specs.Bytes.{patched}
-use Rattle.state_set.specs.Slots.{slot_place, state_length, state_of}
+use Rattle.state_set.specs.Slots.{state_slot_place, state_length, state_of}
 use Rattle.state_set.proofs.Windows.{one_slot, stands}
 use Rattle.state_set.proofs.slots.put.Goals as goal
 
@@ -22,7 +22,7 @@ returns-in-Ok-clause-holds g c told =
     let size = g.met.P.Plant.length_told c.args.plant.now State told tt in
     let written =
     c.in-Ok.ensures.written told ∙ ap (λ (p : ℕ). patched p (take c.encode-end.result out) (old.bytes State)) c.slot_place.ensures
-    ∙ ap (λ (t : List ℕ). patched (slot_place c.args.slot) t (old.bytes State)) (ap (λ (n : ℕ). take n out) c.encode-end.ensures.length ∙ c.encode-end.ensures.spelled) in
+    ∙ ap (λ (t : List ℕ). patched (state_slot_place c.args.slot) t (old.bytes State)) (ap (λ (n : ℕ). take n out) c.encode-end.ensures.length ∙ c.encode-end.ensures.spelled) in
     ap (λ (v : ℕ). state_of v table.session c.args.slot (new.bytes State)) c.put_down.ensures.only.site.volumes
     ∙ stands old.volumes c.args.slot table.session c.args.level table.rows (old.bytes State) (new.bytes State) c.encode-end.ensures.valid c.encode-end.ensures.rules c.requires.devices
     (omega (arith, size, c.requires.long, c.requires.slot)) written

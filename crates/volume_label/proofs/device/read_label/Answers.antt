@@ -1,6 +1,6 @@
 use Rattle.std.proofs.Common.{◌≡◌, ℕ, take, sym, subst, true, IfSome, arith, length-take}
 use Rattle.crash_plant.specs.declared.device.Device.TheVariants.{Volume}
-use Rattle.volume_label.specs.Labels.{has_room}
+use Rattle.volume_label.specs.Labels.{holds_cylinders}
 use Rattle.volume_label.proofs.Labels.{room_of, short_none}
 use Rattle.volume_label.proofs.device.read_label.Goals as goal
 
@@ -14,4 +14,4 @@ returns-then-length-clause-label g c = λ told.
 pub returns-clause-room : goal.returns-clause-room
 returns-clause-room g c =
     let old = g.P.Plant.state c.args.plant.now in
-    subst (λ (n : ℕ). IfSome c.decode_label.result (λ l. has_room n l.cylinders ≡ true)) c.length-length.ensures (room_of c.length-length.result c.read.new.into c.decode_label.result c.decode_label.ensures)
+    subst (λ (n : ℕ). IfSome c.decode_label.result (λ l. holds_cylinders n l.cylinders ≡ true)) c.length-length.ensures (room_of c.length-length.result c.read.new.into c.decode_label.result c.decode_label.ensures)

@@ -3,7 +3,7 @@ use Rattle.std.proofs.lemmas.Result.{err_from_is_err_and}
 use Rattle.write_trace.specs.declared.header.VolumeHead.{VolumeHead}
 use Rattle.write_trace.specs.Headers.{bases_at, are_bases}
 use Rattle.write_trace.specs.Reached.{ReadsPart}
-use Rattle.write_trace.specs.HeaderParts.{head_at}
+use Rattle.write_trace.specs.HeaderParts.{header_front_at}
 use Rattle.write_trace.proofs.BaseLoop.{at_start, started, keeps_header, part_fails, behind_head}
 use Rattle.write_trace.proofs.starting.start.Goals as goal
 
@@ -12,7 +12,7 @@ returns-in_err-volumes g c =
     let p = err_from_is_err_and c.from_residual.result c.from_residual.ensures.1 in
     let before = g.S.Source.left c.args.source.now in
     let faults = g.S.Source.faults c.args.source.now in
-    rw (p.1, p.2) (part_fails head_at before before (g.S.Source.left c.head.new.source) faults faults (g.S.Source.faults c.head.new.source) behind_head c.in-Ok.window c.head.new.window c.in_err-volumes.field-0.0 refl
+    rw (p.1, p.2) (part_fails header_front_at before before (g.S.Source.left c.head.new.source) faults faults (g.S.Source.faults c.head.new.source) behind_head c.in-Ok.window c.head.new.window c.in_err-volumes.field-0.0 refl
     (at_start before c.in-Ok.window c.in-Ok.ensures) c.in_err-volumes.ensures.reads)
 
 pub returns-in_err-base : goal.returns-in_err-base

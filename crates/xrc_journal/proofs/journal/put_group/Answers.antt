@@ -6,7 +6,7 @@ use Rattle.crash_plant.specs.Moments.{on}
 use Rattle.crash_plant.proofs.Steps.{works_on_trans}
 use Rattle.crash_plant.proofs.Behind.{torn_here, written as written_behind}
 use Rattle.xrc_journal.specs.Items.{body_spelling, form_of}
-use Rattle.xrc_journal.specs.Records.{header_spelling}
+use Rattle.xrc_journal.specs.Records.{record_header_spelling}
 use Rattle.xrc_journal.specs.Walks.{Logged}
 use Rattle.xrc_journal.proofs.Appends.{MayPut, header, back, to_staged, to_opened, added, written_torn, written_stands}
 use Rattle.xrc_journal.proofs.journal.put_group.Goals as goal
@@ -15,7 +15,7 @@ pub returns-in_err-put_both-clause-moments : goal.returns-in_err-put_both-clause
 returns-in_err-put_both-clause-moments g c told from =
     let old = g.P.Plant.state c.args.plant.now in
     let group : Logged = record { time = c.args.cut.0; items = c.args.body.now.items } in
-    let front : c.header-header.result ≡ header (form_of old) old.journals from c.args.at group = c.header-header.ensures.spelled ∙ ap (λ (l : List ℕ). header_spelling 1 c.args.at.number c.args.cut.0 (length l)) c.bytes.ensures.spelled in
+    let front : c.header-header.result ≡ header (form_of old) old.journals from c.args.at group = c.header-header.ensures.spelled ∙ ap (λ (l : List ℕ). record_header_spelling 1 c.args.at.number c.args.cut.0 (length l)) c.bytes.ensures.spelled in
     to_staged (form_of old) old.journals from c.args.at group (length c.header-header.result + length c.shut_bytes.result.now) (λ i. length (front i) + length (c.shut_bytes.ensures i))
     (on old (JournalDevice c.args.at.set)) (on (g.P.Plant.state c.put_both.new.plant) (JournalDevice c.args.at.set)) (c.put_both.ensures.moments told)
 
@@ -27,7 +27,7 @@ returns-clause-moments g c told from =
     let device = JournalDevice c.args.at.set in
     let group : Logged = record { time = c.args.cut.0; items = c.args.body.now.items } in
     let size = g.met.P.Plant.length_told c.args.plant.now device told c.requires.there in
-    let front : c.header-header.result ≡ header (form_of old) old.journals from c.args.at group = c.header-header.ensures.spelled ∙ ap (λ (l : List ℕ). header_spelling 1 c.args.at.number c.args.cut.0 (length l)) c.bytes.ensures.spelled in
+    let front : c.header-header.result ≡ header (form_of old) old.journals from c.args.at group = c.header-header.ensures.spelled ∙ ap (λ (l : List ℕ). record_header_spelling 1 c.args.at.number c.args.cut.0 (length l)) c.bytes.ensures.spelled in
     let may : MayPut (form_of old) (length (old.bytes device)) c.args.at group = record { keep = c.requires.keep; short = c.requires.short; room = omega (arith, size, c.requires.room); number = c.requires.number; stamp = c.header-header.ensures.stamp } in
     let written = c.in_ok-put_both.ensures.written told ∙ (λ i. patched (c.args.at.place + 1) (front i ++ c.shut_bytes.ensures i) (old.bytes device)) in
     to_opened (form_of old) old.journals from c.args.at group (length c.header-header.result + length c.shut_bytes.result.now) (λ i. length (front i) + length (c.shut_bytes.ensures i)) (old.bytes device) (mid.bytes device) may written
@@ -41,7 +41,7 @@ returns-clause-added g c told from =
     let device = JournalDevice c.args.at.set in
     let group : Logged = record { time = c.args.cut.0; items = c.args.body.now.items } in
     let size = g.met.P.Plant.length_told c.args.plant.now device told c.requires.there in
-    let front : c.header-header.result ≡ header (form_of old) old.journals from c.args.at group = c.header-header.ensures.spelled ∙ ap (λ (l : List ℕ). header_spelling 1 c.args.at.number c.args.cut.0 (length l)) c.bytes.ensures.spelled in
+    let front : c.header-header.result ≡ header (form_of old) old.journals from c.args.at group = c.header-header.ensures.spelled ∙ ap (λ (l : List ℕ). record_header_spelling 1 c.args.at.number c.args.cut.0 (length l)) c.bytes.ensures.spelled in
     let may : MayPut (form_of old) (length (old.bytes device)) c.args.at group = record { keep = c.requires.keep; short = c.requires.short; room = omega (arith, size, c.requires.room); number = c.requires.number; stamp = c.header-header.ensures.stamp } in
     let written = c.in_ok-put_both.ensures.written told ∙ (λ i. patched (c.args.at.place + 1) (front i ++ c.shut_bytes.ensures i) (old.bytes device)) in
     let m = length c.header-header.result + length c.shut_bytes.result.now in
@@ -59,9 +59,9 @@ returns-clause-written g c told =
     let device = JournalDevice c.args.at.set in
     let p = c.args.at.place in
     let items = c.args.body.now.items in
-    let head = header_spelling 1 c.args.at.number c.args.cut.0 (length (body_spelling items)) in
+    let head = record_header_spelling 1 c.args.at.number c.args.cut.0 (length (body_spelling items)) in
     let behind = (head ++ body_spelling items) ++ 0 ∷ [] in
     let size = g.met.P.Plant.length_told c.args.plant.now device told c.requires.there in
-    let front : c.header-header.result ≡ head = c.header-header.ensures.spelled ∙ ap (λ (l : List ℕ). header_spelling 1 c.args.at.number c.args.cut.0 (length l)) c.bytes.ensures.spelled in
+    let front : c.header-header.result ≡ head = c.header-header.ensures.spelled ∙ ap (λ (l : List ℕ). record_header_spelling 1 c.args.at.number c.args.cut.0 (length l)) c.bytes.ensures.spelled in
     let put = c.in_ok-put_both.ensures.written told ∙ (λ i. patched (p + 1) (front i ++ c.shut_bytes.ensures i) (old.bytes device)) ∙ ap (λ (l : List ℕ). patched (p + 1) l (old.bytes device)) (sym (append_assoc head (body_spelling items) (0 ∷ []))) in
     on_ok_weaker c.put_down.result (λ e. written_behind p behind (old.bytes device) (old.bytes device) (mid.bytes device) (omega (arith, size, c.requires.room, length-append (head ++ body_spelling items) (0 ∷ []), length-append head (body_spelling items))) (torn_here p 1 (old.bytes device)) put _ e) (c.put_down.ensures.written told)

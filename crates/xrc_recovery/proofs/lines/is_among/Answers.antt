@@ -1,9 +1,9 @@
 use Rattle.std.proofs.Common.{◌≡◌, ◌∙◌, ℕ, List, Some, take, sym, ap, arith, take_all}
 use Rattle.std.specs.Prelude.{slice_get}
 use Rattle.std.specs.Option.{option_copied}
-use Rattle.xrc_recovery.specs.Texts.{is_among}
 use Rattle.xrc_recovery.proofs.LineLaws.{among_more, some_at}
 use Rattle.xrc_recovery.proofs.lines.is_among.Goals as goal
+use Rattle.pair_table.specs.Devices.{is_among}
 
 pub unwrap-failed-requires : goal.unwrap-failed-requires
 unwrap-failed-requires c = some_at c.args.outcome.now.failed c.loop-place.place c.get.result (omega (arith, c.len-place-end.ensures, c.loop-place-test.true)) c.get.ensures
@@ -19,4 +19,4 @@ pub returns : goal.returns
 returns c =
     let failed = c.args.outcome.now.failed in
     let whole : take c.loop-place.place failed ≡ failed = take_all c.loop-place.place failed (omega (arith, c.len-place-end.ensures, c.loop-place-test.false)) in
-    sym c.loop-place.invariant ∙ ap (λ (l : List ℕ). is_among l c.args.device) whole
+    sym c.loop-place.invariant ∙ ap (λ (l : List ℕ). is_among c.args.device l) whole

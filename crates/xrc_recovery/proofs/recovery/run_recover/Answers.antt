@@ -7,24 +7,9 @@ pub returns-then-not-is_site : goal.returns-then-not-is_site
 returns-then-not-is_site g c =
     let a = g.P.Plant.state c.args.plant.now in
     let other : ¬ IsSite a = λ site. let is = c.is_site.ensures.1 site in let no = c.if-not-is_site.true in cc in
-    let k = at_site g.P.Plant.tells c.args.session a other in
     record {
-      site = k.site;
       untouched = λ is. refl;
-      short = k.short;
-      called_for = k.called_for;
-      causes = k.causes;
-      complete = k.complete;
-      done = k.done;
-      failed = k.failed;
-      stopped = k.stopped;
-      silent = k.silent;
-      console_count = k.console_count;
-      changes = k.changes;
-      labels = k.labels;
-      named = k.named;
-      moments = k.moments;
-      unwritten = k.unwritten;
+      recovers = at_site g.P.Plant.tells c.args.session a other;
     }
 
 pub returns-in-Err : goal.returns-in-Err
@@ -34,24 +19,10 @@ returns-in-Err g c =
     let site = c.is_site.ensures.0 c.if-not-is_site.false in
     let e = c.in-Err.error in
     let k = at_error g.P.Plant.tells c.args.session a b e c.stop_of.result c.stop_of.ensures site c.in-Err.ensures.says (λ d first. let same = c.in-Err.ensures.short d first in cc) (λ d is. c.in-Err.ensures.fault d (λ i. Err (is i)))
-    c.recover.ensures.works c.recover.ensures.labels c.recover.ensures.named c.recover.ensures.moments (λ early. c.in-Err.ensures.unwritten e refl early) in
+    c.recover.ensures.works c.recover.ensures.labels c.recover.ensures.named c.recover.ensures.moments c.recover.ensures.once (λ early. c.in-Err.ensures.unwritten e refl early) in
     record {
-      site = k.site;
       untouched = λ is. absurd (k.site.0 is site);
-      short = k.short;
-      called_for = k.called_for;
-      causes = k.causes;
-      complete = k.complete;
-      done = k.done;
-      failed = k.failed;
-      stopped = k.stopped;
-      silent = k.silent;
-      console_count = k.console_count;
-      changes = k.changes;
-      labels = k.labels;
-      named = k.named;
-      moments = k.moments;
-      unwritten = k.unwritten;
+      recovers = k;
     }
 
 pub returns-in-Ok : goal.returns-in-Ok
@@ -66,6 +37,7 @@ returns-in-Ok g c =
       is_meant = c.in-Ok.ensures.says;
       faulty = c.in-Ok.ensures.failed;
       redone = c.in-Ok.ensures.redone;
+      once = c.recover.ensures.once;
       works = c.recover.ensures.works;
       labels = c.recover.ensures.labels;
       named = c.recover.ensures.named;
@@ -79,20 +51,6 @@ returns-in-Ok g c =
       later = c.report.ensures.later;
     }) in
     record {
-      site = k.site;
       untouched = λ is. absurd (k.site.0 is site);
-      short = k.short;
-      called_for = k.called_for;
-      causes = k.causes;
-      complete = k.complete;
-      done = k.done;
-      failed = k.failed;
-      stopped = k.stopped;
-      silent = k.silent;
-      console_count = k.console_count;
-      changes = k.changes;
-      labels = k.labels;
-      named = k.named;
-      moments = k.moments;
-      unwritten = k.unwritten;
+      recovers = k;
     }

@@ -4,13 +4,13 @@ use Rattle.site_means.specs.declared.means.Means.{Means}
 use Rattle.site_means.specs.declared.site_error.SiteError.{SiteError}
 use Rattle.site_means.specs.declared.site_error.SiteError.TheVariants.{TooSmall}
 use Rattle.site_means.proofs.ReadAll.{reads_then}
-use Rattle.volume_label.specs.Labels.{need}
+use Rattle.volume_label.specs.Labels.{volume_need}
 use Rattle.crash_plant.specs.declared.device.Device.TheVariants.{Volume}
 use Rattle.xrecover.specs.declared.meaning.Meant.{Meant}
 use Rattle.xrecover.specs.declared.recover_error.RecoverError.{RecoverError}
 use Rattle.xrecover.specs.declared.recover_error.RecoverError.TheVariants.{Site}
-use Rattle.xrecover.specs.Answers.{FailsSo, HasWalk, IsRecoverable, Says}
-use Rattle.site_means.specs.Answers.{Fails}
+use Rattle.xrecover.specs.Answers.{FailsSo, HasWalk, IsRecoverable, IsGoodOrCalledFor}
+use Rattle.site_means.specs.Answers.{FaultsAreCounted}
 use Rattle.xrecover.proofs.Fails.{none_rose, so_good, so_none, so_then}
 use Rattle.xrecover.proofs.Meant.{chosen_later, means_says, recoverable, too_small}
 use Rattle.xrecover.proofs.meaning.read_meant.Goals as goal
@@ -33,7 +33,7 @@ returns-in_err-means-clause-says g c = λ told.
     let chosen = c.in_ok-mark.ensures.says told in
     let later = chosen_later g.P.Plant.tells told old one c.read_own_mark.ensures.reads m c.args.session chosen c.in_ok-mark.ensures.same in
     let is : c.from_residual-in_err-means.result ≡ Err (Site e) = search rules in
-    subst (λ (r : Result Meant RecoverError). Says old c.args.session (λ meant. IsRecoverable old c.args.session meant.means × HasWalk old meant.mark) r) (sym is)
+    subst (λ (r : Result Meant RecoverError). IsGoodOrCalledFor old c.args.session (λ meant. IsRecoverable old c.args.session meant.means × HasWalk old meant.mark) r) (sym is)
     (means_says g.P.Plant.tells told old one c.read_own_mark.ensures.reads m c.args.session chosen c.in_ok-mark.ensures.same {X = Meant} (λ meant. IsRecoverable old c.args.session meant.means × HasWalk old meant.mark) e
     (c.in_err-means.ensures.says told later) (c.in_err-means.ensures.reached told later) c.in_err-means.ensures.short)
 
@@ -49,7 +49,7 @@ returns-in_err-check_volumes-clause-says g c = λ told.
     let means = c.in_ok-means.means in
     let small = c.in_err-check_volumes.ensures.error c.in_err-check_volumes.field-0.0 (λ i. Err c.in_err-check_volumes.field-0.0) in
     let is : c.from_residual-in_err-check_volumes.result ≡ Err (Site c.in_err-check_volumes.field-0.0) = search rules in
-    subst (λ (r : Result Meant RecoverError). Says old c.args.session (λ meant. IsRecoverable old c.args.session meant.means × HasWalk old meant.mark) r) (sym (is ∙ ap (λ (e : SiteError). Err (Site e)) small.2))
+    subst (λ (r : Result Meant RecoverError). IsGoodOrCalledFor old c.args.session (λ meant. IsRecoverable old c.args.session meant.means × HasWalk old meant.mark) r) (sym (is ∙ ap (λ (e : SiteError). Err (Site e)) small.2))
     (inr (too_small g.P.Plant.tells told old one c.read_own_mark.ensures.reads m c.args.session chosen c.in_ok-mark.ensures.same two both.only.site means small.0 (c.in_ok-means.ensures.says told later) small.1))
 
 pub returns-in_err-check_volumes-clause-fails : goal.returns-in_err-check_volumes-clause-fails

@@ -7,10 +7,10 @@ use Rattle.xrecover.specs.declared.outcome.Outcome.{Outcome}
 use Rattle.site_means.specs.declared.site_error.SiteError.TheVariants.{Fault}
 use Rattle.xrecover.specs.declared.recover_error.RecoverError.{RecoverError}
 use Rattle.xrecover.specs.declared.recover_error.RecoverError.TheVariants.{Site}
-use Rattle.xrecover.specs.Answers.{EndsLate, IsRecoverable, Says}
+use Rattle.xrecover.specs.Answers.{EndsLate, IsRecoverable, IsGoodOrCalledFor}
 use Rattle.xrecover.specs.Redone.{Recovers, meant_rows}
 use Rattle.xrecover.proofs.Fails.{so_good}
-use Rattle.xrecover.proofs.Finish.{all_named, all_redone, all_works, ends_late, late_says, no_writes, read_works, rose_since, walk_now}
+use Rattle.xrecover.proofs.Finish.{all_named, all_redone, all_works, ends_late, late_says, no_writes, once_since, read_works, rose_since, walk_now}
 use Rattle.xrecover.proofs.Labels.{labels_behind, labels_read, named_same}
 use Rattle.xrecover.proofs.Seen.{sees_moments}
 use Rattle.xrecover.proofs.recovering.recover.Goals as goal
@@ -50,7 +50,7 @@ returns-in_err-failed-clause-says g c = λ told.
     let e = c.in_err-failed.field-0.0 in
     let p = err_from_is_err_and c.from_residual-in_err-failed.result c.from_residual-in_err-failed.ensures.1 in
     let is : c.from_residual-in_err-failed.result ≡ Err e = cc (p.1, p.2) in
-    subst (λ (r : Result Outcome RecoverError). Says old c.args.session (λ o. IsRecoverable old c.args.session o.means) r) (sym is)
+    subst (λ (r : Result Outcome RecoverError). IsGoodOrCalledFor old c.args.session (λ o. IsRecoverable old c.args.session o.means) r) (sym is)
     (late_says g.P.Plant.tells old one c.read_meant.ensures.reads {X = Outcome} c.args.session (λ o. IsRecoverable old c.args.session o.means) told (c.in_ok-meant.ensures.says told).0.of e (c.in_err-failed.ensures.late told e refl))
 
 pub returns-in_err-failed-clause-works : goal.returns-in_err-failed-clause-works
@@ -140,3 +140,24 @@ returns-in_err-failed-clause-fault g c = λ d is.
     let same : Site (Fault d) ≡ c.in_err-failed.field-0.0 = search rules in
     rose_since old.faults one.faults (g.P.Plant.state c.redo_pairs.new.plant).faults (so_good old.faults one.faults c.in_ok-meant.meant c.in_ok-meant.ensures.fails) d
     (c.in_err-failed.ensures.fault d (ap (λ (k : RecoverError). Err k) (sym same)))
+
+pub returns-in_err-meant-clause-once : goal.returns-in_err-meant-clause-once
+returns-in_err-meant-clause-once g c = λ v. let same = c.read_meant.ensures.reads.only.others_faults (Volume v) (λ is. is) in omega (arith, same)
+
+pub returns-in_err-tools-clause-once : goal.returns-in_err-tools-clause-once
+returns-in_err-tools-clause-once g c = λ v. let same = c.read_meant.ensures.reads.only.others_faults (Volume v) (λ is. is) in omega (arith, same)
+
+pub returns-in_err-room-clause-once : goal.returns-in_err-room-clause-once
+returns-in_err-room-clause-once g c = λ v. let same = c.read_meant.ensures.reads.only.others_faults (Volume v) (λ is. is) in omega (arith, same)
+
+pub returns-in_err-failed-clause-once : goal.returns-in_err-failed-clause-once
+returns-in_err-failed-clause-once g c =
+    let old = g.P.Plant.state c.args.plant.now in
+    let one = g.P.Plant.state c.read_meant.new.plant in
+    once_since old.faults one.faults (g.P.Plant.state c.redo_pairs.new.plant).faults (so_good old.faults one.faults c.in_ok-meant.meant c.in_ok-meant.ensures.fails) c.redo_pairs.ensures.once
+
+pub returns-clause-once : goal.returns-clause-once
+returns-clause-once g c =
+    let old = g.P.Plant.state c.args.plant.now in
+    let one = g.P.Plant.state c.read_meant.new.plant in
+    once_since old.faults one.faults (g.P.Plant.state c.redo_pairs.new.plant).faults (so_good old.faults one.faults c.in_ok-meant.meant c.in_ok-meant.ensures.fails) c.redo_pairs.ensures.once

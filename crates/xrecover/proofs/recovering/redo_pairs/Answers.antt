@@ -1,10 +1,11 @@
-use Rattle.std.proofs.Common.{◌≡◌, ◌++◌, ◌∷◌, ◌+◌, ◌<◌, ℕ, List, [], true, false, length, take, vec_capacity, vec_len, Some, refl, sym, ap, subst, ◌∙◌, arith, rules}
+use Rattle.std.proofs.Common.{◌≡◌, ◌++◌, ◌∷◌, ◌+◌, ◌<◌, ℕ, Bool, List, [], true, false, length, take, vec_capacity, vec_len, Some, refl, sym, ap, subst, ◌∙◌, arith, rules}
 use Rattle.std.specs.Prelude.{slice_get}
 use Rattle.std.specs.Option.{option_copied}
 use Rattle.xrecover.specs.declared.volumes.Tools.{Tools}
 use Rattle.xrecover.proofs.Rows.{some_there}
 use Rattle.std.proofs.lemmas.List.{append-nil, take_all}
 use Rattle.pair_table.specs.declared.row.PairRow.{PairRow}
+use Rattle.xrc_journal.specs.Jobs.{FailsByCount}
 use Rattle.site_means.specs.Sight.{walked}
 use Rattle.xrecover.specs.declared.recover_error.RecoverError.{RecoverError}
 use Rattle.xrecover.specs.declared.recover_error.RecoverError.TheVariants.{Site}
@@ -15,7 +16,7 @@ use Rattle.xrecover.specs.Works.{Works}
 use Rattle.xrecover.specs.Labels.{AreNamed, LabelsLast}
 use Rattle.crash_plant.specs.declared.device.Device.TheVariants.{Volume}
 use Rattle.crash_plant.specs.Moments.{PlantState, on}
-use Rattle.xrecover.proofs.Going.{Going, apart_before, going_faulty, going_first, going_redone}
+use Rattle.xrecover.proofs.Going.{Going, apart_before, going_faulty, going_first, going_redone, stopped_once}
 use Rattle.xrecover.proofs.Labels.{label_here, label_kept, labels_pair, named_pair, named_same}
 use Rattle.xrecover.proofs.Stepping.{late_before, other_going, pair_going, pair_long, pair_there, same_walk, stopped_works}
 use Rattle.xrecover.proofs.recovering.redo_pairs.Goals as goal
@@ -116,7 +117,7 @@ loop-place-preserved g c =
       | then-is_duplex+in_ok-again+then-has_failed w ↦
           let new = g.P.Plant.state w.redo_pair.new.plant in
           let done = pair_going g.P.Plant.tells rows i c.loop-place.failed.items old cur going c.args.meant.now.mark c.requires.walk r is (sym c.is_duplex.ensures ∙ w.if-is_duplex.true) new w.redo_pair.ensures.works
-          true c.len-place-end.ensures.rules w.redo_pair.ensures.counts (λ flag. w.in_ok-again.ensures.failed w.if-has_failed.true) (λ told flag. absurd cc) in
+          true c.len-place-end.ensures.rules w.redo_pair.ensures.counts (subst (λ (h : Bool). FailsByCount h (cur.faults (Volume r.device)) (new.faults (Volume r.device))) w.if-has_failed.true w.in_ok-again.ensures.failed) (λ told flag. absurd cc) in
           let failed_is : c.if-is_duplex.failed.items ≡ c.loop-place.failed.items ++ r.device ∷ [] = (λ i. (w.failed-is i).items) ∙ w.push_reserved.ensures.items in
           record {
             going = subst (λ (p : PlantState). Going g.P.Plant.tells (walked old old.bytes) (take (i + 1) rows) c.if-is_duplex.failed.items old p) (ap g.P.Plant.state (sym w.plant-is))
@@ -132,7 +133,7 @@ loop-place-preserved g c =
       | then-is_duplex+in_ok-again+else-has_failed w ↦
           let new = g.P.Plant.state w.redo_pair.new.plant in
           let done = pair_going g.P.Plant.tells rows i c.loop-place.failed.items old cur going c.args.meant.now.mark c.requires.walk r is (sym c.is_duplex.ensures ∙ w.if-is_duplex.true) new w.redo_pair.ensures.works
-          false c.len-place-end.ensures.rules w.redo_pair.ensures.counts (λ flag. absurd cc) (λ told flag. w.in_ok-again.ensures.redone told w.if-has_failed.false) in
+          false c.len-place-end.ensures.rules w.redo_pair.ensures.counts (subst (λ (h : Bool). FailsByCount h (cur.faults (Volume r.device)) (new.faults (Volume r.device))) w.if-has_failed.false w.in_ok-again.ensures.failed) (λ told flag. w.in_ok-again.ensures.redone told w.if-has_failed.false) in
           let failed_is : c.if-is_duplex.failed.items ≡ c.loop-place.failed.items ++ [] = (λ i. (w.failed-is i).items) ∙ sym (append-nil c.loop-place.failed.items) in
           record {
             going = subst (λ (p : PlantState). Going g.P.Plant.tells (walked old old.bytes) (take (i + 1) rows) c.if-is_duplex.failed.items old p) (ap g.P.Plant.state (sym w.plant-is))
@@ -173,6 +174,14 @@ returns-clause-failed g c =
     subst (λ (l : List ℕ). AreFaulty rows old.faults (g.P.Plant.state c.loop-place.plant).faults l) (sym c.of.ensures)
     (subst (λ (l : List PairRow). AreFaulty l old.faults (g.P.Plant.state c.loop-place.plant).faults c.loop-place.failed.items) whole
     (going_faulty g.P.Plant.tells (walked old old.bytes) (take c.loop-place.place rows) c.loop-place.failed.items old (g.P.Plant.state c.loop-place.plant) c.loop-place.invariant.going))
+
+pub returns-clause-once : goal.returns-clause-once
+returns-clause-once g c = λ v. (c.loop-place.invariant.going.counted v).by_one
+
+pub returns-in_err-again-clause-once : goal.returns-in_err-again-clause-once
+returns-in_err-again-clause-once g c =
+    stopped_once g.P.Plant.tells _ _ c.loop-place.failed.items (g.P.Plant.state c.args.plant.now) (g.P.Plant.state c.loop-place.plant) (g.P.Plant.state c.redo_pair.new.plant) c.loop-place.invariant.going c.unwrap.result.now.device c.redo_pair.ensures.counts
+    c.in_err-again.ensures.stood
 
 pub returns-clause-redone : goal.returns-clause-redone
 returns-clause-redone g c = λ told.

@@ -7,10 +7,10 @@ use Rattle.xrc_journal.specs.Items.{Item, form_of}
 use Rattle.xrc_journal.specs.Bodies.{Held}
 use Rattle.xrc_journal.specs.Records.{walk_one}
 use Rattle.xrc_journal.specs.Records.Found.{Group}
-use Rattle.xrc_journal.specs.Answers.{GoesOn, items_found}
+use Rattle.xrc_journal.specs.Answers.{WalkGoesOn, items_found}
 use Rattle.site_means.specs.declared.site_error.SiteError.{SiteError}
 use Rattle.site_means.specs.declared.site_error.SiteError.TheVariants.{Fault}
-use Rattle.site_means.specs.Answers.{Fails}
+use Rattle.site_means.specs.Answers.{FaultsAreCounted}
 use Rattle.site_means.proofs.ReadAll.{fails_one, reads_journal}
 use Rattle.site_means.proofs.Found.{told_damaged, told_end, told_group, told_switch}
 use Rattle.xrecover.proofs.redoing.read_again.Goals as goal
@@ -35,7 +35,7 @@ returns-in-Err-Fault-clause-fails g c =
     let old = g.P.Plant.state c.args.plant.now in
     let new = g.P.Plant.state c.walk.new.plant in
     let cause = c.in-Err-Fault.ensures.cause.fault c.in-Err-Fault.set (ap Err c.in-Err-Fault.field-0-is) in
-    subst (λ (j : ℕ). Fails old.faults new.faults (let r : Result (Option (Stamp × Spot)) SiteError = Err (Fault (Journal j)) in r)) (sym cause.0)
+    subst (λ (j : ℕ). FaultsAreCounted old.faults new.faults (let r : Result (Option (Stamp × Spot)) SiteError = Err (Fault (Journal j)) in r)) (sym cause.0)
     (fails_one {X = Option (Stamp × Spot)} g.P.Plant.tells (Journal c.args.at.set) old new cause.1 c.walk.ensures.only.only)
 
 pub returns-in-Ok-End-clause-finds : goal.returns-in-Ok-End-clause-finds
@@ -78,11 +78,11 @@ returns-in-Err-Fault-clause-finds g c = λ told.
 pub returns-in-Ok-Group-clause-behind : goal.returns-in-Ok-Group-clause-behind
 returns-in-Ok-Group-clause-behind g c =
     let old = g.P.Plant.state c.args.plant.now in
-    let on = subst (λ (w : Walked). GoesOn old c.args.at w) c.in-Ok-Group.field-0-is c.in-Ok-Group.ensures.goes_on in
+    let on = subst (λ (w : Walked). WalkGoesOn old c.args.at w) c.in-Ok-Group.field-0-is c.in-Ok-Group.ensures.goes_on in
     record { set = omega (arith, on.0, c.requires.there); place = omega (arith, on.1, ap (λ (k : ℕ). old.lengths (Journal k)) on.0); number = on.2 }
 
 pub returns-in-Ok-Switch-clause-behind : goal.returns-in-Ok-Switch-clause-behind
 returns-in-Ok-Switch-clause-behind g c =
     let old = g.P.Plant.state c.args.plant.now in
-    let on = subst (λ (w : Walked). GoesOn old c.args.at w) c.in-Ok-Switch.field-0-is c.in-Ok-Switch.ensures.goes_on in
+    let on = subst (λ (w : Walked). WalkGoesOn old c.args.at w) c.in-Ok-Switch.field-0-is c.in-Ok-Switch.ensures.goes_on in
     record { set = on.0; place = omega (arith, on.1, c.requires.long c.in-Ok-Switch.after.set on.0); number = on.2 }

@@ -1,8 +1,11 @@
-use Rattle.std.proofs.Common.{◌≡◌, ◌++◌, ℕ, List, Option, Some, None, IfSome, Result, Ok, Err, refl, sym, ap, subst, ◌∙◌, arith, rules}
+use Rattle.std.proofs.Common.{◌≡◌, ◌++◌, inl, inr, ℕ, Bool, true, List, Option, Some, None, IfSome, Result, Ok, Err, refl, sym, ap, subst, ◌∙◌, arith, rules}
+use Rattle.std.proofs.lemmas.Bool.{cases_eq}
+use Rattle.xrc_edge.proofs.Outcomes.{on_err}
 use Rattle.tod_stamp.specs.declared.stamp.Stamp.{Stamp}
 use Rattle.crash_plant.specs.declared.device.Device.TheVariants.{Journal, Volume}
 use Rattle.crash_plant.specs.declared.spot.Spot.{Spot}
 use Rattle.xrc_journal.specs.Items.{form_of, none_earlier}
+use Rattle.xrc_journal.specs.Jobs.{FailsByCount}
 use Rattle.xrc_journal.specs.Records.{Found, walk_one}
 use Rattle.xrc_journal.specs.Bodies.{Held}
 use Rattle.applier.specs.Slots.{DiffersInSlots, HoldsContent}
@@ -13,6 +16,7 @@ use Rattle.xrecover.specs.Again.{FoundAgain, IsBehind}
 use Rattle.xrecover.specs.Redone.{Draws}
 use Rattle.xrecover.proofs.Again.{Next, all_again, fault_again, found_same, of_walk, reads_again, reads_first, reads_next}
 use Rattle.xrecover.proofs.Contents.{Done, done_then}
+use Rattle.xrecover.proofs.Fails.{counted_same, counted_then}
 use Rattle.xrecover.proofs.Relations.{items_within}
 use Rattle.xrecover.proofs.Labels.{label_applied, label_here, label_read}
 use Rattle.xrecover.proofs.Works.{then_applied, then_read, works_here}
@@ -23,7 +27,7 @@ loop-tools-init g c =
     let old = g.P.Plant.state c.args.plant.now in
     record {
       works = works_here g.P.Plant.tells c.args.device (walked old old.bytes) old;
-      counts = λ v differ. refl;
+      counts = λ v. refl;
       label = λ told. label_here g.P.Plant.tells told old c.args.device;
       set = c.requires.spot.set;
       place = omega (arith, c.requires.spot.room);
@@ -35,7 +39,7 @@ pub returns-in_err-time-clause-works : goal.returns-in_err-time-clause-works
 returns-in_err-time-clause-works g c = then_read g.P.Plant.tells c.args.device _ _ _ _ c.loop-tools.invariant.works c.read_again.ensures.reads
 
 pub returns-in_err-time-clause-counts : goal.returns-in_err-time-clause-counts
-returns-in_err-time-clause-counts g c = λ v differ. c.read_again.ensures.reads.only.others_faults (Volume v) (λ is. is) ∙ c.loop-tools.invariant.counts v differ
+returns-in_err-time-clause-counts g c = λ v differ. c.read_again.ensures.reads.only.others_faults (Volume v) (λ is. is) ∙ c.loop-tools.invariant.counts v
 
 pub returns-in_err-time-clause-label : goal.returns-in_err-time-clause-label
 returns-in_err-time-clause-label g c = λ told.
@@ -60,7 +64,7 @@ pub returns-in_default-clause-works : goal.returns-in_default-clause-works
 returns-in_default-clause-works g c = then_read g.P.Plant.tells c.args.device _ _ _ _ c.loop-tools.invariant.works c.read_again.ensures.reads
 
 pub returns-in_default-clause-counts : goal.returns-in_default-clause-counts
-returns-in_default-clause-counts g c = λ v differ. c.read_again.ensures.reads.only.others_faults (Volume v) (λ is. is) ∙ c.loop-tools.invariant.counts v differ
+returns-in_default-clause-counts g c = λ v differ. c.read_again.ensures.reads.only.others_faults (Volume v) (λ is. is) ∙ c.loop-tools.invariant.counts v
 
 pub returns-in_default-clause-label : goal.returns-in_default-clause-label
 returns-in_default-clause-label g c = λ told.
@@ -105,7 +109,7 @@ returns-then-failed-clause-works g c =
     of_walk (shape_of old) old.bytes items its v (old.bytes (Volume v)) (cur.bytes (Volume v)) (cur.bytes (Volume v)) at c.in-Some.after last c.in-Some.time.0 r n)
 
 pub returns-then-failed-clause-counts : goal.returns-then-failed-clause-counts
-returns-then-failed-clause-counts g c = λ v differ. c.apply_body-again.ensures.counts v differ ∙ c.read_again.ensures.reads.only.others_faults (Volume v) (λ is. is) ∙ c.loop-tools.invariant.counts v differ
+returns-then-failed-clause-counts g c = λ v differ. c.apply_body-again.ensures.counts v differ ∙ c.read_again.ensures.reads.only.others_faults (Volume v) (λ is. is) ∙ c.loop-tools.invariant.counts v
 
 pub returns-then-failed-clause-label : goal.returns-then-failed-clause-label
 returns-then-failed-clause-label g c = λ told.
@@ -116,6 +120,21 @@ returns-then-failed-clause-label g c = λ told.
     let inv = c.loop-tools.invariant in
     label_applied g.P.Plant.tells told v c.read_again.new.body.items old mid (g.P.Plant.state c.apply_body-again.new.plant) (omega (arith, ((inv.works.elapses told).kept (Volume v)).later, ((c.read_again.ensures.reads.only.elapses told).kept (Volume v)).later))
     (label_read g.P.Plant.tells told v old cur mid ((inv.works.elapses told).kept (Volume v)).later (inv.label told) c.read_again.ensures.reads) c.apply_body-again.ensures.works
+
+pub returns-in_err-time-clause-stood : goal.returns-in_err-time-clause-stood
+returns-in_err-time-clause-stood g c = on_err _ (c.read_again.ensures.reads.only.others_faults (Volume c.args.device) (λ is. is) ∙ c.loop-tools.invariant.counts c.args.device)
+
+pub returns-in_default-clause-failed : goal.returns-in_default-clause-failed
+returns-in_default-clause-failed g c = counted_same _ _ (c.read_again.ensures.reads.only.others_faults (Volume c.args.device) (λ is. is) ∙ c.loop-tools.invariant.counts c.args.device)
+
+pub returns-then-failed-clause-failed : goal.returns-then-failed-clause-failed
+returns-then-failed-clause-failed g c =
+    let v = c.args.device in
+    let old = g.P.Plant.state c.args.plant.now in
+    let mid = g.P.Plant.state c.read_again.new.plant in
+    let new = g.P.Plant.state c.apply_body-again.new.plant in
+    counted_then true (old.faults (Volume v)) (mid.faults (Volume v)) (new.faults (Volume v)) (c.read_again.ensures.reads.only.others_faults (Volume v) (λ is. is) ∙ c.loop-tools.invariant.counts v)
+    (subst (λ (h : Bool). FailsByCount h (mid.faults (Volume v)) (new.faults (Volume v))) c.if-failed.true c.apply_body-again.ensures.fails)
 
 pub loop-tools-preserved : goal.loop-tools-preserved
 loop-tools-preserved g c =
@@ -150,10 +169,14 @@ loop-tools-preserved g c =
     let differs = subst (λ (l : List ℕ). DiffersInSlots v its l e) unread ((c.apply_body-again.ensures.works.bytes told (Volume v)).0 refl) in
     let holds = subst (λ (l : List ℕ). HoldsContent v its l e) unread (c.apply_body-again.ensures.content told c.if-failed.false) in
     done_then cur v r.before its a b e r.done c.read_again.ensures.keep (λ x has. omega (arith, items_within cur v x none_earlier its c.read_again.ensures.keep has, inv.works.site.lengths (Volume v), size)) differs holds in
+    let applied : (w : ℕ) → new.faults (Volume w) ≡ mid.faults (Volume w) = λ w. elim (cases_eq w v) [
+      | inl here ↦ subst (λ (n : ℕ). new.faults (Volume n) ≡ mid.faults (Volume n)) (sym here) (c.apply_body-again.ensures.fails.same c.if-failed.false)
+      | inr differ ↦ c.apply_body-again.ensures.counts w differ
+    ] in
     record {
       works = then_applied g.P.Plant.tells v items its _ _ _ (then_read g.P.Plant.tells v items _ _ _ inv.works c.read_again.ensures.reads) c.apply_body-again.ensures.works
           (λ told. of_walk (shape_of old) old.bytes items its v a b b at after last time.0 (inv.reads told) (next told));
-      counts = λ w differ. c.apply_body-again.ensures.counts w differ ∙ c.read_again.ensures.reads.only.others_faults (Volume w) (λ is. is) ∙ inv.counts w differ;
+      counts = λ w. applied w ∙ c.read_again.ensures.reads.only.others_faults (Volume w) (λ is. is) ∙ inv.counts w;
       label = λ told. label_applied g.P.Plant.tells told v its old mid new (omega (arith, ((inv.works.elapses told).kept (Volume v)).later, ((c.read_again.ensures.reads.only.elapses told).kept (Volume v)).later))
           (label_read g.P.Plant.tells told v old cur mid ((inv.works.elapses told).kept (Volume v)).later (inv.label told) c.read_again.ensures.reads) c.apply_body-again.ensures.works;
       set = omega (arith, behind.set, reading.journals, applying.journals);

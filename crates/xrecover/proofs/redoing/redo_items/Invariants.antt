@@ -1,9 +1,9 @@
-use Rattle.std.proofs.Common.{◌≡◌, ◌≢◌, ◌<◌, ◌-◌, ◌^◌, ℕ}
+use Rattle.std.proofs.Common.{◌≡◌, ◌<◌, ◌-◌, ◌^◌, ℕ}
 use Rattle.crash_plant.specs.declared.device.Device.TheVariants.{Journal, Volume}
 use Rattle.crash_plant.specs.Moments.{on}
 use Rattle.site_means.specs.Images.{shape_of}
 use Rattle.site_means.specs.Sight.{walked}
-use Rattle.xrecover.specs.Works.{OnVolume, Works}
+use Rattle.xrecover.specs.Works.{OfOneVolume, Works}
 use Rattle.xrecover.specs.Redone.{Redoes}
 use Rattle.xrecover.specs.Labels.{KeepsLabel}
 use Rattle.xrecover.proofs.Again.{Reads}
@@ -12,8 +12,8 @@ use Rattle.xrecover.proofs.redoing.redo_items.Given as goal
 -- what was done so far, and where the walk stands
 abbrev pub invariant-loop-tools : goal.invariant-loop-tools
 invariant-loop-tools g l = record {
-  works : Works g.P.Plant.tells (OnVolume l.device (Redoes l.device (walked (g.P.Plant.state l.fn.plant) (g.P.Plant.state l.fn.plant).bytes))) (g.P.Plant.state l.fn.plant) (g.P.Plant.state l.plant);
-  counts : (v : ℕ) → v ≢ l.device → (g.P.Plant.state l.plant).faults (Volume v) ≡ (g.P.Plant.state l.fn.plant).faults (Volume v);
+  works : Works g.P.Plant.tells (OfOneVolume l.device (Redoes l.device (walked (g.P.Plant.state l.fn.plant) (g.P.Plant.state l.fn.plant).bytes))) (g.P.Plant.state l.fn.plant) (g.P.Plant.state l.plant);
+  counts : (v : ℕ) → (g.P.Plant.state l.plant).faults (Volume v) ≡ (g.P.Plant.state l.fn.plant).faults (Volume v);
   label : g.P.Plant.tells → KeepsLabel (on (g.P.Plant.state l.fn.plant) (Volume l.device)) (on (g.P.Plant.state l.plant) (Volume l.device));
   set : l.at.set < (g.P.Plant.state l.plant).journals;
   place : l.at.place < (g.P.Plant.state l.plant).lengths (Journal l.at.set);

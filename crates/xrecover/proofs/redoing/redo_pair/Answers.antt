@@ -2,10 +2,11 @@ use Rattle.std.proofs.Common.{◌∙◌, inl, [], refl}
 use Rattle.crash_plant.specs.declared.device.Device.TheVariants.{Volume}
 use Rattle.crash_plant.specs.Moments.{on}
 use Rattle.site_means.specs.Sight.{walked}
-use Rattle.xrecover.specs.Works.{OnVolume}
+use Rattle.xrecover.specs.Works.{OfOneVolume}
 use Rattle.xrecover.specs.Redone.{Redoes}
 use Rattle.xrecover.proofs.Relations.{one_then, redoes_more, redoes_then}
 use Rattle.xrecover.proofs.Contents.{draws_behind}
+use Rattle.xrecover.proofs.Fails.{counted_then}
 use Rattle.xrecover.proofs.Labels.{label_kept, last_redone, named_then}
 use Rattle.xrecover.proofs.Works.{works_trans}
 use Rattle.xrecover.proofs.redoing.redo_pair.Goals as goal
@@ -19,12 +20,15 @@ returns-clause-works g c =
     let v = c.args.row.now.device in
     let items = walked old old.bytes in
     let step = Redoes v items in
-    works_trans g.P.Plant.tells (OnVolume v step) (OnVolume v (Redoes v [])) (OnVolume v step) _ _ _
+    works_trans g.P.Plant.tells (OfOneVolume v step) (OfOneVolume v (Redoes v [])) (OfOneVolume v step) _ _ _
     (λ d x y z p q. one_then v step step (Redoes v []) (λ x y z p q. redoes_then v items x y z p (redoes_more v [] items y z (λ x none. absurd cc) q)) d x y z p q) (λ d x y p. p)
     c.redo_items.ensures.works c.finish_volume-failed.ensures.works
 
 pub returns-clause-counts : goal.returns-clause-counts
 returns-clause-counts g c = λ v differ. c.finish_volume-failed.ensures.counts v differ ∙ c.redo_items.ensures.counts v differ
+
+pub returns-clause-failed : goal.returns-clause-failed
+returns-clause-failed g c = counted_then _ _ _ _ (c.in_ok-tools.ensures.failed.same c.if-failed.false) c.finish_volume-failed.ensures.fails
 
 pub returns-clause-redone : goal.returns-clause-redone
 returns-clause-redone g c = λ told good.

@@ -1,7 +1,7 @@
 use Rattle.std.proofs.Common.{◌≡◌, ◌+◌, length, take, ◌∙◌, ap, arith, refl}
 use Rattle.std.proofs.lemmas.List.{take_all}
 use Rattle.block_region.specs.Blocks.{blocks_of}
-use Rattle.block_region.specs.Regions.{RegionState, bytes_at, free_blocks}
+use Rattle.block_region.specs.Regions.{RegionState, chain_bytes_at, free_blocks}
 use Rattle.block_region.proofs.Views.{free_run, room_is}
 use Rattle.block_region.proofs.Takes.{took, takes_none}
 use Rattle.block_region.proofs.region.Region.take.Goals as goal
@@ -54,13 +54,13 @@ returns-clause-taken c =
 pub returns-clause-held : goal.returns-clause-held
 returns-clause-held c =
     let taken = took c.self.inside c.args.self.now c.args.bytes.now c.as_mut_slice.result.now c.as_slice.result.now c.fill-self-inside.new.blocks c.blocks_of-needed.result c.fill-self-inside.result c.self.invariant c.self.view_is c.as_mut_slice.ensures.value c.as_slice.ensures.value c.fill-self-inside.ensures.len c.fill-self-inside.ensures.filled c.fill-self-inside.ensures.others c.fill-self-inside.ensures.behind c.blocks_of-needed.ensures (omega arith) (omega arith) in
-    λ some. ap (λ (r : RegionState). length (bytes_at r c.self.inside.first_free)) taken.taken ∙ ap length taken.begins
+    λ some. ap (λ (r : RegionState). length (chain_bytes_at r c.self.inside.first_free)) taken.taken ∙ ap length taken.begins
 
 pub returns-clause-bytes : goal.returns-clause-bytes
 returns-clause-bytes c =
     let taken = took c.self.inside c.args.self.now c.args.bytes.now c.as_mut_slice.result.now c.as_slice.result.now c.fill-self-inside.new.blocks c.blocks_of-needed.result c.fill-self-inside.result c.self.invariant c.self.view_is c.as_mut_slice.ensures.value c.as_slice.ensures.value c.fill-self-inside.ensures.len c.fill-self-inside.ensures.filled c.fill-self-inside.ensures.others c.fill-self-inside.ensures.behind c.blocks_of-needed.ensures (omega arith) (omega arith) in
     let given = c.args.bytes.now in
-    ap (λ (r : RegionState). take (length given) (bytes_at r c.self.inside.first_free)) taken.taken ∙ ap (take (length given)) taken.begins ∙ take_all (length given) given (omega arith)
+    ap (λ (r : RegionState). take (length given) (chain_bytes_at r c.self.inside.first_free)) taken.taken ∙ ap (take (length given)) taken.begins ∙ take_all (length given) given (omega arith)
 
 pub returns-clause-room : goal.returns-clause-room
 returns-clause-room c =

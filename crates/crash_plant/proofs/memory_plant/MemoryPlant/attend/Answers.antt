@@ -1,6 +1,6 @@
 use Rattle.std.proofs.Common.{rules, ◌≡◌, ◌+◌, ℕ, IfOk, subst, arith}
 use Rattle.crash_plant.specs.Clock.{clock_of}
-use Rattle.crash_plant.specs.MemoryConsole.{IsNext}
+use Rattle.crash_plant.specs.MemoryConsole.{HearsNext}
 use Rattle.crash_plant.proofs.Consoles.{told_heard}
 use Rattle.crash_plant.proofs.memory_plant.MemoryPlant.attend.Goals as goal
 
@@ -8,7 +8,7 @@ pub invariant_of-self-2 : goal.invariant_of-self-2
 invariant_of-self-2 c =
     let m = c.args.self.now in
     let up : c.raise.new.ticks ≡ m.ticks + 1 = search rules in
-    let ok = subst (λ (k : ℕ). IfOk c.hear.result (λ heard. IsNext k m.console c.hear.new.self heard)) c.moment.ensures c.hear.ensures.ok in
+    let ok = subst (λ (k : ℕ). IfOk c.hear.result (λ heard. HearsNext k m.console c.hear.new.self heard)) c.moment.ensures c.hear.ensures.ok in
     record {
       few_journals = m.few_journals;
       few_volumes = m.few_volumes;

@@ -1,7 +1,7 @@
 use Rattle.std.proofs.Common.{◌≡◌, ◌∙◌, ◌+◌, inl, inr, refl, sym, ap, subst, arith, true}
 use Rattle.std.proofs.lemmas.Bool.{cases_lt}
 use Rattle.ckd_track.specs.Tracks.{IsTrack}
-use Rattle.write_trace.specs.Headers.{has_track}
+use Rattle.write_trace.specs.Headers.{is_track_of}
 use Rattle.pending_queue.specs.Queues.{QueueState}
 use Rattle.pending_queue.specs.Rooms.{blocks_taken}
 use Rattle.primary_ctl.specs.States.{PrimaryState, track_of}
@@ -25,7 +25,7 @@ pub read_track-requires : goal.read_track-requires
 read_track-requires c =
     let x = c.args.part.first + c.loop-place.place in
     let within = c.requires.part.within in
-    subst (λ (p : PrimaryState). has_track p.volumes c.args.volume x ≡ true) (sym c.loop-place.invariant.primary)
+    subst (λ (p : PrimaryState). is_track_of p.volumes c.args.volume x ≡ true) (sym c.loop-place.invariant.primary)
     (has_place c.args.self.now.primary.volumes c.args.volume x c.requires.volume (omega (arith, within)))
 
 pub push_copy-requires-clause-records : goal.push_copy-requires-clause-records

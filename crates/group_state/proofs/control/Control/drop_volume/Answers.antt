@@ -1,5 +1,5 @@
 use Rattle.std.proofs.Common.{List, length, drop, ap, sym, subst, ◌∙◌, arith}
-use Rattle.pending_queue.specs.Entries.{tracks_of}
+use Rattle.pending_queue.specs.Entries.{entry_tracks}
 use Rattle.group_state.specs.declared.volume.Volume.{Volume}
 use Rattle.group_state.specs.Volumes.{with_volume, dropped_volume}
 use Rattle.group_state.specs.Controls.{ControlState}
@@ -14,5 +14,5 @@ invariant_of-self c =
     let new = c.drop_volume.new.volumes in
     let queue = c.drop_volume.ensures.queue in
     let items = written_back s.volumes.len new (drop (length new) s.volumes.items) (omega arith) ∙ c.drop_volume.ensures.volumes
-    ∙ ap (λ (us : List Volume). with_volume c.args.number (dropped_volume c.args.all (tracks_of c.args.number s.queue.waiting)) us) c.as_mut_slice.ensures.value in
+    ∙ ap (λ (us : List Volume). with_volume c.args.number (dropped_volume c.args.all (entry_tracks c.args.number s.queue.waiting)) us) c.as_mut_slice.ensures.value in
     subst Sound (λ i. record { queue = sym queue i; floor = s.floor; phase = s.phase; volumes = sym items i }) (sound_dropped c.args.number c.args.all view c.self.invariant)

@@ -1,11 +1,12 @@
 use Rattle.std.proofs.Common.{◌≡◌, List, ◌++◌, length, ap, ◌∙◌, arith, refl}
 use Rattle.std.specs.Prelude.{filter}
 use Rattle.ckd_track.specs.declared.write.Write.{Write}
-use Rattle.pending_queue.specs.Entries.{entries_of, never_fall, last_stamp, writes_never_fall}
+use Rattle.pending_queue.specs.Entries.{entries_of, entries_never_fall, last_stamp}
 use Rattle.pending_queue.specs.Rooms.{blocks_taken, blocks_needed}
 use Rattle.pending_queue.specs.Queues.{QueueState}
 use Rattle.pending_queue.proofs.EntryLaws.{pushed_records, pushed_blocks, pushed_never_fall}
 use Rattle.pending_queue.proofs.queue.Queue.push_carried.Goals as goal
+use Rattle.ckd_track.specs.Writes.{writes_never_fall}
 
 pub invariant_of-self-2 : goal.invariant_of-self-2
 invariant_of-self-2 g c =
@@ -24,7 +25,7 @@ invariant_of-self-2 g c =
       record {
         within_records = omega (arith, ap length pushed, pushed_records control waiting carried, ap length given, c.in-Some.ensures.records refl, c.free-free.ensures.records, same_count, same_records);
         within_blocks = omega (arith, ap blocks_taken pushed, pushed_blocks control waiting carried, ap blocks_needed given, c.in-Some.ensures.some, c.in-Some.ensures.blocks, c.free-free.ensures.blocks, same_taken, same_blocks);
-        rising = ap (never_fall 0) pushed ∙ pushed_never_fall control 0 waiting carried c.self.invariant.0.rising stamps;
+        rising = ap (entries_never_fall 0) pushed ∙ pushed_never_fall control 0 waiting carried c.self.invariant.0.rising stamps;
       },
       omega (arith, ap blocks_taken pushed, pushed_blocks control waiting carried, ap blocks_needed given, c.in-Some.ensures.some, c.self.invariant.1),
     )

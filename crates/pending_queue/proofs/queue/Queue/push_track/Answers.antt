@@ -1,6 +1,6 @@
 use Rattle.std.proofs.Common.{[], ◌∷◌, length, ap, ◌∙◌, arith, refl, length-append}
 use Rattle.std.proofs.lemmas.List.Sums.{sum_by_push}
-use Rattle.pending_queue.specs.Entries.{WaitingEntry, copy_of, copy_head, never_fall, last_stamp}
+use Rattle.pending_queue.specs.Entries.{WaitingEntry, copy_of, copy_head, entries_never_fall, last_stamp}
 use Rattle.pending_queue.specs.Rooms.{blocks_of, blocks_taken}
 use Rattle.pending_queue.specs.Queues.{QueueState}
 use Rattle.pending_queue.proofs.VolumeLaws.{pushed_rises, copy_length}
@@ -22,7 +22,7 @@ invariant_of-self-2 c =
       record {
         within_records = omega (arith, ap length pushed, length-append waiting (entry ∷ []), c.in-Some.ensures.records refl, c.free-free.ensures.records, same_count, same_records);
         within_blocks = omega (arith, ap blocks_taken pushed, blocks, needed, c.in-Some.ensures.some, c.in-Some.ensures.blocks, c.free-free.ensures.blocks, same_taken, same_blocks);
-        rising = ap (never_fall 0) pushed ∙ pushed_rises 0 waiting entry c.self.invariant.0.rising (omega (arith, same_last, c.requires.last));
+        rising = ap (entries_never_fall 0) pushed ∙ pushed_rises 0 waiting entry c.self.invariant.0.rising (omega (arith, same_last, c.requires.last));
       },
       omega (arith, ap blocks_taken pushed, blocks, needed, c.in-Some.ensures.some, c.self.invariant.1),
     )

@@ -2,7 +2,7 @@ use Rattle.std.proofs.Common.{◌≡◌, ◌-◌, ◌^◌}
 use Rattle.crash_plant.specs.declared.device.Device.{Device}
 use Rattle.site_means.specs.Answers.{ReadsAll}
 use Rattle.site_means.specs.Images.{shape_of}
-use Rattle.site_means.specs.Steps.{Stands}
+use Rattle.site_means.specs.Steps.{WalkStands}
 use Rattle.site_means.proofs.Finishing.{Going}
 use Rattle.site_means.proofs.walking.Walking.finish.Given as goal
 
@@ -12,7 +12,7 @@ invariant-loop-error g l = record {
   reads : ReadsAll g.P.Plant.tells (g.P.Plant.state l.fn.plant) (g.P.Plant.state l.plant);
   faults : (d : Device) → (g.P.Plant.state l.plant).faults d ≡ (g.P.Plant.state l.fn.plant).faults d;
   room : l.buffers.body.room ≡ l.fn.buffers.body.room;
-  stands : Stands (g.P.Plant.state l.plant) l.self;
+  stands : WalkStands (g.P.Plant.state l.plant) l.self;
   going : g.P.Plant.tells → Going (shape_of (g.P.Plant.state l.fn.plant)) (g.P.Plant.state l.fn.plant).bytes l.fn.self l.self;
 }
 

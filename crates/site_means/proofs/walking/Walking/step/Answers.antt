@@ -1,4 +1,4 @@
-use Rattle.site_means.specs.Answers.{Fails}
+use Rattle.site_means.specs.Answers.{FaultsAreCounted}
 use Rattle.site_means.specs.declared.site_error.SiteError.{SiteError}
 use Rattle.site_means.specs.declared.site_error.SiteError.TheVariants.{Fault}
 use Rattle.std.proofs.Common.{◌≡◌, ◌<◌, ℕ, Bool, Result, List, Ok, Err, sym, ap, subst, ◌∙◌, arith}
@@ -9,12 +9,12 @@ use Rattle.xrc_journal.specs.Bodies.{Held}
 use Rattle.xrc_journal.specs.Records.{Found, walk_one}
 use Rattle.xrc_journal.specs.Records.Found.{Group, Damaged}
 use Rattle.xrc_journal.specs.declared.spot.Walked.{Walked}
-use Rattle.xrc_journal.specs.Answers.{GoesOn, items_found}
+use Rattle.xrc_journal.specs.Answers.{WalkGoesOn, items_found}
 use Rattle.std.specs.Prelude.{unwrap_or}
 use Rattle.site_means.specs.Images.{shape_of}
-use Rattle.site_means.specs.Walk.{Step, body_place, first_unfit, group_step, step_by}
-use Rattle.site_means.specs.Walk.Step.{Breaks}
-use Rattle.site_means.specs.Steps.{HavePlaces, Passes, standing_of}
+use Rattle.site_means.specs.Walk.{WalkStep, body_place, first_unfit, group_step, step_by}
+use Rattle.site_means.specs.Walk.WalkStep.{Breaks}
+use Rattle.site_means.specs.Steps.{HavePlaces, AnswersStep, standing_of}
 use Rattle.std.proofs.lemmas.Result.{on_ok_weaker}
 use Rattle.site_means.proofs.Finishing.{on_ok_two, stands_behind, stands_later}
 use Rattle.site_means.proofs.ReadAll.{reads_journal, fails_one}
@@ -41,7 +41,7 @@ returns-in-Err-Fault-clause-fails g c =
     let old = g.P.Plant.state c.args.plant.now in
     let new = g.P.Plant.state c.walk.new.plant in
     let cause = c.in-Err-Fault.ensures.cause.fault c.in-Err-Fault.set (ap Err c.in-Err-Fault.field-0-is) in
-    subst (λ (j : ℕ). Fails old.faults new.faults (let r : Result Bool SiteError = Err (Fault (Journal j)) in r)) (sym cause.0)
+    subst (λ (j : ℕ). FaultsAreCounted old.faults new.faults (let r : Result Bool SiteError = Err (Fault (Journal j)) in r)) (sym cause.0)
     (fails_one {X = Bool} g.P.Plant.tells (Journal c.args.self.now.at.set) old new cause.1 c.walk.ensures.only.only)
 
 pub returns-in-Ok-Group-clause-passes : goal.returns-in-Ok-Group-clause-passes
@@ -63,7 +63,7 @@ returns-in-Ok-Group-clause-passes g c = λ told.
     let volumes = c.volumes-volumes.ensures in
     let below = ap (λ (n : ℕ). are_below n self.table.rows) volumes ∙ stands.below in
     let passes = c.pass_group.ensures.passes places in
-    subst (λ (s : Step). Passes s self c.pass_group.new.self c.pass_group.result)
+    subst (λ (s : WalkStep). AnswersStep s self c.pass_group.new.self c.pass_group.result)
     (ap (λ (n : ℕ). group_step (standing_of self) time.0 items after (first_unfit n (body_place self.at) self.table.rows items)) volumes ∙ sym (ap (λ (f : Found). step_by (shape_of old) (standing_of self) f) is)) passes
 
 pub returns-in-Ok-Switch-clause-passes : goal.returns-in-Ok-Switch-clause-passes
@@ -78,7 +78,7 @@ returns-in-Ok-Switch-clause-passes g c = λ told.
     let finds = c.in-Ok-Switch.ensures.finds told (λ j e. absurd cc) in
     let is = told_switch self.at.set found time after (sym finds.told ∙ ap Ok c.in-Ok-Switch.field-0-is) in
     let passes = c.enter.ensures.passes in
-    subst (λ (s : Step). Passes s self c.enter.new.self c.enter.result) (sym (ap (λ (f : Found). step_by (shape_of old) (standing_of self) f) is)) passes
+    subst (λ (s : WalkStep). AnswersStep s self c.enter.new.self c.enter.result) (sym (ap (λ (f : Found). step_by (shape_of old) (standing_of self) f) is)) passes
 
 pub returns-in-Err-Damaged-clause-passes : goal.returns-in-Err-Damaged-clause-passes
 returns-in-Err-Damaged-clause-passes g c = λ told.
@@ -98,14 +98,14 @@ returns-in-Err-Damaged-clause-passes g c = λ told.
     let volumes = c.volumes-volumes.ensures in
     let below = ap (λ (n : ℕ). are_below n self.table.rows) volumes ∙ stands.below in
     let passes = c.break_at.ensures.passes below places in
-    subst (λ (s : Step). Passes s self c.break_at.new.self (Err c.break_at.result))
+    subst (λ (s : WalkStep). AnswersStep s self c.break_at.new.self (Err c.break_at.result))
     (ap (λ (n : ℕ). Breaks (unwrap_or (first_unfit n (body_place self.at) self.table.rows items) place)) volumes ∙ sym (ap (λ (f : Found). step_by (shape_of old) (standing_of self) f) is)) passes
 
 pub pass_group-requires-clause-below : goal.pass_group-requires-clause-below
 pass_group-requires-clause-below g c = ap (λ (n : ℕ). are_below n c.args.self.now.table.rows) c.volumes-volumes.ensures ∙ c.requires.stands.below
 
 pub pass_group-requires-clause-same_set : goal.pass_group-requires-clause-same_set
-pass_group-requires-clause-same_set g c = (subst (λ (w : Walked). GoesOn (g.P.Plant.state c.args.plant.now) c.args.self.now.at w) c.in-Ok-Group.field-0-is c.in-Ok-Group.ensures.goes_on).0
+pass_group-requires-clause-same_set g c = (subst (λ (w : Walked). WalkGoesOn (g.P.Plant.state c.args.plant.now) c.args.self.now.at w) c.in-Ok-Group.field-0-is c.in-Ok-Group.ensures.goes_on).0
 
 pub returns-in-Ok-Group-clause-stands : goal.returns-in-Ok-Group-clause-stands
 returns-in-Ok-Group-clause-stands g c =
@@ -113,7 +113,7 @@ returns-in-Ok-Group-clause-stands g c =
     let new = g.P.Plant.state c.walk.new.plant in
     let now = c.args.self.now in
     let next = c.pass_group.new.self in
-    let on = subst (λ (w : Walked). GoesOn old now.at w) c.in-Ok-Group.field-0-is c.in-Ok-Group.ensures.goes_on in
+    let on = subst (λ (w : Walked). WalkGoesOn old now.at w) c.in-Ok-Group.field-0-is c.in-Ok-Group.ensures.goes_on in
     let stands = c.requires.stands in
     let set : c.in-Ok-Group.after.set < old.journals = omega (arith, on.0, stands.set) in
     let place : c.in-Ok-Group.after.place < old.lengths (Journal c.in-Ok-Group.after.set) = omega (arith, on.1, ap (λ (k : ℕ). old.lengths (Journal k)) on.0) in
@@ -127,7 +127,7 @@ returns-in-Ok-Switch-clause-stands g c =
     let new = g.P.Plant.state c.walk.new.plant in
     let now = c.args.self.now in
     let next = c.enter.new.self in
-    let on = subst (λ (w : Walked). GoesOn old now.at w) c.in-Ok-Switch.field-0-is c.in-Ok-Switch.ensures.goes_on in
+    let on = subst (λ (w : Walked). WalkGoesOn old now.at w) c.in-Ok-Switch.field-0-is c.in-Ok-Switch.ensures.goes_on in
     let stands = c.requires.stands in
     let place : c.in-Ok-Switch.after.place < old.lengths (Journal c.in-Ok-Switch.after.set) = omega (arith, on.1, stands.long c.in-Ok-Switch.after.set on.0) in
     on_ok_weaker c.enter.result (λ behind. stands_later old new next c.walk.ensures.only.only.site (stands_behind old now next c.in-Ok-Switch.after now.table.rows stands behind on.0 place stands.below)) c.enter.ensures.behind

@@ -1,0 +1,3 @@
+pub mod CutVectors
+pub mod StateVectors
+pub mod HistoryVectors

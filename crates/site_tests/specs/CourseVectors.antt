@@ -1,0 +1,43 @@
+-- What worked courses and images name.
+use Rattle.std.specs.Prelude.{ℕ, List, [], ◌∷◌, ◌++◌, Option, codes, true, false}
+use Rattle.pair_table.specs.declared.command.Command.TheVariants.{Query}
+use Rattle.pair_table.specs.declared.level.Level.TheVariants.{Volume as VolumeLevel}
+use Rattle.pair_table.specs.Refusals.{Pairs}
+use Rattle.site_tests.specs.ChangeVectors.{no_rises}
+use Rattle.consistency.specs.Bears.{Run, Stage}
+use Rattle.consistency.specs.Steps.{TimedCommand}
+
+-- ---- the session ABC, begun at 50 without pairs
+
+abbrev pub begun_pairs : Pairs
+begun_pairs = record { table = record { session = codes "ABC"; is_started = true; rows = [] }; is_ended = false }
+
+abbrev pub run_of_none : Run
+run_of_none = record { session = codes "ABC"; traces = []; labels = []; level = VolumeLevel; rises = no_rises }
+
+abbrev pub begun_stage : Option TimedCommand → Stage
+begun_stage next = record { pairs = begun_pairs; replied = 0x50; past = []; next = next }
+
+abbrev pub query_at : (time : ℕ) → TimedCommand
+query_at time = record { time = time; session = codes "ABC"; command = Query }
+
+-- ---- texts
+
+abbrev pub line_feed : List ℕ
+line_feed = 10 ∷ []
+
+abbrev pub start_reply : List ℕ
+start_reply = codes "0000000000000050 XSTART OK T=0000000000000050" ++ line_feed
+
+abbrev pub query_report : List ℕ
+query_report = codes "SESSION ABC LEVEL VOLUME JOURNALED 0000000000000080 PAIRS 1" ++ line_feed ++ codes "CONTROL 0 OK" ++ line_feed ++ codes "PAIR PRIM01 SEC001 DUPLEX" ++ line_feed
+
+abbrev pub query_reply : List ℕ
+query_reply = query_report ++ codes "0000000000000080 XQUERY OK T=0000000000000080" ++ line_feed
+
+abbrev pub status_18 : List ℕ
+status_18 = codes "STATUS 18" ++ line_feed
+
+-- a reply with a report, of which the last line isn't whole
+abbrev pub worked_replies : List ℕ
+worked_replies = codes "0000000000000050 XSTART OK T=0000000000000050" ++ line_feed ++ codes "SESSION ABC LEVEL VOLUME JOURNALED 0000000000000080 PAIRS 1" ++ line_feed ++ codes "0000000000000080 XQUERY OK T=0000000000000080"

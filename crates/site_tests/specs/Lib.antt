@@ -1,0 +1,6 @@
+pub mod PairVectors
+pub mod ChangeVectors
+pub mod StateVectors
+pub mod JournalVectors
+pub mod SiteVectors
+pub mod CourseVectors

@@ -1,0 +1,44 @@
+-- A worked row and its bytes, and the names and tables of worked commands.
+use Rattle.std.specs.Prelude.{ℕ, List, [], ◌∷◌, true, false, codes}
+use Rattle.test_fixtures.specs.Hex.{hex}
+use Rattle.pair_table.specs.declared.row.PairState.{PairState}
+use Rattle.pair_table.specs.declared.row.PairRow.{PairRow}
+use Rattle.pair_table.specs.Naming.{NamedDevice, NamedVolume, Naming}
+use Rattle.pair_table.specs.Refusals.{Pairs}
+use Rattle.pair_table.specs.Tables.{new_table}
+
+-- PRIM01 and SEC001, the first volume of the first control and the first device, of one cylinder
+abbrev pub first_row : PairState → PairRow
+first_row state = record { primary = codes "PRIM01"; secondary = codes "SEC001"; control = 0; volume = 0; device = 0; cylinders = 1; state = state }
+
+-- the row's 30 bytes, where it is duplex
+abbrev pub first_bytes : List ℕ
+first_bytes = hex (codes "5052494D3031 534543303031 0000 0000 0000 0001 02 00 0000000000000000")
+
+-- ---- names and tables of commands
+
+abbrev pub abc : List ℕ
+abc = codes "ABC"
+
+abbrev pub named_volume : (serial : List ℕ) → (volume cylinders : ℕ) → NamedVolume
+named_volume serial volume cylinders = record { serial = serial; control = 0; volume = volume; cylinders = cylinders }
+
+abbrev pub named_device : (device : ℕ) → (serial : List ℕ) → NamedDevice
+named_device device serial = record { device = device; serial = serial; cylinders = 1 }
+
+-- a trace with PRIM01 of one cylinder and PRIM02 of two, and the labels SEC001 and SEC002 of one cylinder each
+abbrev pub worked_names : Naming
+worked_names = record {
+  primaries = named_volume (codes "PRIM01") 0 1 ∷ named_volume (codes "PRIM02") 1 2 ∷ [];
+  labels = named_device 0 (codes "SEC001") ∷ named_device 1 (codes "SEC002") ∷ [];
+  broken = [];
+}
+
+abbrev pub before_start : Pairs
+before_start = record { table = new_table abc; is_ended = false }
+
+abbrev pub started_with : List PairRow → Pairs
+started_with rows = record { table = record { session = abc; is_started = true; rows = rows }; is_ended = false }
+
+abbrev pub ended_pairs : Pairs
+ended_pairs = record { table = record { session = abc; is_started = true; rows = [] }; is_ended = true }
