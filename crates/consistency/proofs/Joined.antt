@@ -5,7 +5,7 @@ use Rattle.std.proofs.lemmas.Bool.{cases_lt}
 use Rattle.crash_plant.specs.Moments.{PlantState}
 use Rattle.consistency.specs.Bears.{Run}
 use Rattle.consistency.specs.Courses.{Answered}
-use Rattle.consistency.specs.Moments.{AllMeanPairs, FirstMeans, MomentBears}
+use Rattle.consistency.specs.Moments.{AllMeanTable, FirstMeans, MomentBears}
 use Rattle.consistency.specs.Steps.{TimedCommand}
 
 pub itself : (n : ℕ) → n ≤ n
@@ -34,16 +34,16 @@ module _ (run : Run) (grammar : List ℕ → Option TimedCommand) (lines : List 
       by_side (inl after) = then t from after to
       by_side (inr before) = first t from before
 
-  -- At the first moment of a reply the choices mean the pairs, where they do at an early one, and at a late one that has more lines
+  -- At the first moment of a reply the choices mean the table, where they do at an early one, and at a late one that has more lines
   -- answered than the middle.
   pub first_joined : ((t : ℕ) (from : old.clock ≤ t) (before : t ≤ middle) → ((r : ℕ) (since : old.clock ≤ r) (within : r ≤ middle) → r < t → (early r since within).at.answered < (early t from before).at.answered)
-      → AllMeanPairs run grammar lines old new t (early t from before))
-      → ((t : ℕ) (from : old.clock ≤ t) (after : middle < t) (to : t ≤ new.clock) → (early middle begins (itself middle)).at.answered < (late t from after to).at.answered → AllMeanPairs run grammar lines old new t (late t from after to))
+      → AllMeanTable run grammar lines old new t (early t from before))
+      → ((t : ℕ) (from : old.clock ≤ t) (after : middle < t) (to : t ≤ new.clock) → (early middle begins (itself middle)).at.answered < (late t from after to).at.answered → AllMeanTable run grammar lines old new t (late t from after to))
       → FirstMeans run grammar lines old new joined
   first_joined first then t from to leads = by_side (cases_lt middle t) leads
     where
       by_side : (side : (middle < t) ⊎ (t ≤ middle)) → ((r : ℕ) (since : old.clock ≤ r) (within : r ≤ new.clock) → r < t → (joined r since within).at.answered < (moment_in t from to side).at.answered)
-          → AllMeanPairs run grammar lines old new t (moment_in t from to side)
+          → AllMeanTable run grammar lines old new t (moment_in t from to side)
       by_side (inl after) leads = then t from after to (omega (arith, leads middle begins ends after, answered_early middle begins ends (itself middle) (cases_lt middle middle)))
       by_side (inr before) leads = first t from before (λ r since within less.
           let reaches : r ≤ new.clock = omega (arith, within, ends) in

@@ -14,18 +14,18 @@ use Rattle.crash_plant.proofs.Steps.{site_trans}
 use Rattle.site_means.specs.declared.means.Means.{Means}
 use Rattle.site_means.specs.Sight.{means_of}
 use Rattle.consistency.specs.Bears.{Run, Stage}
-use Rattle.consistency.specs.Courses.{Answered, AreAsked, IsAnswered, IsAsked, lines_begun, next_line, replies_of, stage_after, stage_at, stage_there, texts_of}
+use Rattle.consistency.specs.Courses.{Answered, AreAsked, IsAnswered, IsAsked, last_line_time, lines_begun, next_line, replies_of, stage_after, stage_at, stage_there, texts_of}
 use Rattle.consistency.specs.Keeping.{Keeps, stage_now}
-use Rattle.consistency.specs.Moments.{AllMeanPairs, AreUpTo, BearsThroughout, BearsTime, FirstMeans, MeansPairs, MomentBears}
+use Rattle.consistency.specs.Moments.{AllMeanTable, AreUpTo, BearsThroughout, BearsTime, FirstMeans, MeansTable, MomentBears}
 use Rattle.consistency.specs.Replies.{has_reply}
 use Rattle.consistency.specs.Steps.{TimedCommand}
 use Rattle.consistency.specs.Times.{times_said}
 use Rattle.consistency.proofs.Joined.{first_joined, itself, joined, each_joined, last_joined}
-use Rattle.consistency.proofs.Lines.{asked_more, course_more, last_at, next_not_before, no_feed_before, none_heard, not_end_is, replies_more, replies_whole, same_some, stage_more, texts_more}
+use Rattle.consistency.proofs.Lines.{asked_more, course_more, last_at, next_not_before, no_feed_before, none_heard, not_end_is, replied_by_last, replies_more, replies_whole, same_some, stage_more, texts_more}
 use Rattle.consistency.proofs.Pieces.{times_append, times_front}
 use Rattle.consistency.proofs.Replies.{reply_front, reply_some, take_none}
 use Rattle.consistency.proofs.Resting.{bears_time_heard}
-use Rattle.consistency.proofs.Standing.{MayBePart, bears_on, console_choice, front_all, front_more, means_on, moment_behind, moment_longer, moment_still, pairs_behind, pairs_longer, pairs_still}
+use Rattle.consistency.proofs.Standing.{MayBePart, bears_on, console_choice, front_all, front_more, means_on, moment_behind, moment_longer, moment_still, table_behind, table_longer, table_still}
 
 -- ---- the beginning and the end
 
@@ -82,14 +82,14 @@ module _ (run : Run) (grammar : List ℕ → Option TimedCommand) (lines : List 
 
   stage_is : stage_there run grammar old.script moment_now.at ≡ stage_now run grammar old.script lines text
   stage_is = λ i. record (stage_at run lines (answered_now i)) {
-    next = next_line grammar (answered_now i) (stage_at run lines (answered_now i)).replied (length (heard_now i) == length old.script) (text_now i);
+    next = next_line grammar (answered_now i) (last_line_time lines (answered_now i)) (length (heard_now i) == length old.script) (text_now i);
   }
 
   -- Each choice that a crash may leave now bears a time at the stage of the lines and the text.
-  pub keeps_now : IsTrue (stage_now run grammar old.script lines text).pairs.table.is_started → (c : Choice) → IsChoice new new.clock c → BearsTime run (stage_now run grammar old.script lines text) (replies_of lines) new c
+  pub keeps_now : IsTrue (stage_now run grammar old.script lines text).table.is_started → (c : Choice) → IsChoice new new.clock c → BearsTime run (stage_now run grammar old.script lines text) (replies_of lines) new c
   keeps_now started c is =
       subst (λ (l : List ℕ). BearsTime run (stage_now run grammar old.script lines text) l new c) said_now
-      (subst (λ (s : Stage). BearsTime run s moment_now.said new c) stage_is (moment_now.bears (subst (λ (s : Stage). IsTrue s.pairs.table.is_started) (sym stage_is) started) c is))
+      (subst (λ (s : Stage). BearsTime run s moment_now.said new c) stage_is (moment_now.bears (subst (λ (s : Stage). IsTrue s.table.is_started) (sym stage_is) started) c is))
 
 -- Nothing may always be said behind the replies to all lines.
 nothing_more : (lines : List Answered) → MayBePart lines lines []
@@ -123,7 +123,7 @@ module _ (run : Run) (grammar : List ℕ → Option TimedCommand) (lines : List 
   -- No reply comes where the late moments have the same lines answered.
   replies_on : (late : Late) → ((t : ℕ) (from : old.clock ≤ t) (after : mid.clock < t) (to : t ≤ new.clock) → (late t from after to).at.answered ≡ length lines) → FirstMeans run grammar lines old new (each_on late)
   replies_on late stands = first_joined run grammar lines old new mid.clock kept.later later early late
-      (λ t from before leads. pairs_still run grammar lines old mid new has_past site elapses t before (kept.each t from before) (kept.replies t from before leads))
+      (λ t from before leads. table_still run grammar lines old mid new has_past site elapses t before (kept.each t from before) (kept.replies t from before leads))
       (λ t from after to more. absurd (omega (arith, more, kept.now kept.later (itself mid.clock), stands t from after to)))
 
   keeps_on : (late : Late) (next : List ℕ) → ((t : ℕ) (from : old.clock ≤ t) (after : mid.clock < t) (to : t ≤ new.clock) → ((late t from after to).at.answered ≡ length lines) × ((late t from after to).at.part ≡ []))
@@ -152,12 +152,12 @@ module _ (run : Run) (grammar : List ℕ → Option TimedCommand) (lines : List 
   nothing_said t is = is ∙ kept.said ∙ ap (λ (l : List ℕ). old.said old.clock ++ l) (sym (append-nil (replies_of lines)))
 
   abbrev moment_on : (next : List ℕ) → lines_begun next ≤ 1 → (t : ℕ) → new.heard t ≡ old.heard old.clock ++ (texts_of lines ++ next) → new.said t ≡ mid.said mid.clock
-      → (IsTrue (stage_now run grammar old.script lines next).pairs.table.is_started → (c : Choice) → IsChoice new t c → BearsTime run (stage_now run grammar old.script lines next) (replies_of lines) new c) → MomentBears run grammar lines old new t
+      → (IsTrue (stage_now run grammar old.script lines next).table.is_started → (c : Choice) → IsChoice new t c → BearsTime run (stage_now run grammar old.script lines next) (replies_of lines) new c) → MomentBears run grammar lines old new t
   moment_on next one t heard said bears = moment_behind run grammar lines lines next [] (front_all lines) (nothing_more lines) one old new t heard (nothing_said t said)
       (λ started c is. subst (λ (l : List ℕ). BearsTime run (stage_now run grammar old.script lines next) l new c) (sym (append-nil (replies_of lines))) (bears started c is))
 
   module _ (silent : Silent mid new)
-      (bears : IsTrue (stage_now run grammar old.script lines text).pairs.table.is_started → (t : ℕ) → mid.clock ≤ t → t ≤ new.clock → (c : Choice) → IsChoice new t c → BearsTime run (stage_now run grammar old.script lines text) (replies_of lines) new c) where
+      (bears : IsTrue (stage_now run grammar old.script lines text).table.is_started → (t : ℕ) → mid.clock ≤ t → t ≤ new.clock → (c : Choice) → IsChoice new t c → BearsTime run (stage_now run grammar old.script lines text) (replies_of lines) new c) where
     abbrev work_late : Late
     work_late t from after to =
         let since : mid.clock ≤ t = lt_le mid.clock t after in
@@ -174,7 +174,7 @@ module _ (run : Run) (grammar : List ℕ → Option TimedCommand) (lines : List 
   past = works.elapses told
 
   -- On the same text each choice bears what it bore when the call began.
-  bears_same : (t : ℕ) → mid.clock ≤ t → t ≤ new.clock → IsTrue (stage_now run grammar old.script lines text).pairs.table.is_started → (c : Choice) → IsChoice new t c → BearsTime run (stage_now run grammar old.script lines text) (replies_of lines) new c
+  bears_same : (t : ℕ) → mid.clock ≤ t → t ≤ new.clock → IsTrue (stage_now run grammar old.script lines text).table.is_started → (c : Choice) → IsChoice new t c → BearsTime run (stage_now run grammar old.script lines text) (replies_of lines) new c
   bears_same t since to started c is =
       bears_on run (stage_now run grammar old.script lines text) (replies_of lines) mid new c works.site (keeps_now run grammar lines text old mid kept started c (console_choice tells told mid new t c works since to is))
 
@@ -198,7 +198,7 @@ module _ (run : Run) (grammar : List ℕ → Option TimedCommand) (lines : List 
 
     -- Before the byte no line was heard whole.
     none_before : (stage_now run grammar old.script lines text).next ≡ None
-    none_before = none_heard grammar (length lines) (stage_at run lines (length lines)).replied (length (texts_of lines ++ text) == length old.script) text
+    none_before = none_heard grammar (length lines) (last_line_time lines (length lines)) (length (texts_of lines ++ text) == length old.script) text
         (or_from (list_any (λ x. nat_eq x 10) text) ((length (texts_of lines ++ text) == length old.script) && nat_lt 0 (length text)) (no_feed_before text b one)
         (and_left (length (texts_of lines ++ text) == length old.script) (nat_lt 0 (length text)) (not_end_is (texts_of lines ++ text) b new.script old.script script_then)))
 
@@ -208,12 +208,14 @@ module _ (run : Run) (grammar : List ℕ → Option TimedCommand) (lines : List 
         ∙ ap (λ (l : List ℕ). old.heard old.clock ++ l) (append_assoc (texts_of lines) text (b ∷ []))
 
     -- With the byte each choice bears what it bore without it.
-    bears_then : (t : ℕ) → mid.clock ≤ t → t ≤ new.clock → IsTrue (stage_now run grammar old.script lines (text ++ b ∷ [])).pairs.table.is_started → (c : Choice) → IsChoice new t c
+    bears_then : (t : ℕ) → mid.clock ≤ t → t ≤ new.clock → IsTrue (stage_now run grammar old.script lines (text ++ b ∷ [])).table.is_started → (c : Choice) → IsChoice new t c
         → BearsTime run (stage_now run grammar old.script lines (text ++ b ∷ [])) (replies_of lines) new c
     bears_then t since to started c is =
         let next = stage_now run grammar old.script lines (text ++ b ∷ []) in
         bears_time_heard run (stage_now run grammar old.script lines text) next.next (replies_of lines) new c none_before
-        (λ line heard. next_not_before grammar (length lines) (stage_at run lines (length lines)).replied (length (texts_of lines ++ (text ++ b ∷ [])) == length old.script) (text ++ b ∷ []) line heard)
+        (λ line heard.
+        let later = next_not_before grammar (length lines) (last_line_time lines (length lines)) (length (texts_of lines ++ (text ++ b ∷ [])) == length old.script) (text ++ b ∷ []) line heard in
+        omega (arith, later, replied_by_last run grammar old.script lines (length lines) kept.asked (omega arith)))
         (bears_same t since to started c is)
 
     abbrev heard_late : (t : ℕ) → mid.clock < t → t ≤ new.clock → (new.heard t ≡ mid.heard mid.clock) ⊎ (new.heard t ≡ new.heard new.clock) → MomentBears run grammar lines old new t
@@ -246,7 +248,7 @@ stage_answered run grammar script lines a =
     let all = lines ++ a ∷ [] in
     let s = stage_at run all (length all) in
     let at_end = length (texts_of all ++ []) == length script in
-    ap (λ (n : Option TimedCommand). record s { next = n }) (none_heard grammar (length all) s.replied at_end [] (and_right at_end false refl)) ∙ ap (λ (r : Stage). record r { next = None }) (stage_more run lines a)
+    ap (λ (n : Option TimedCommand). record s { next = n }) (none_heard grammar (length all) (last_line_time all (length all)) at_end [] (and_right at_end false refl)) ∙ ap (λ (r : Stage). record r { next = None }) (stage_more run lines a)
 
 module _ (run : Run) (grammar : List ℕ → Option TimedCommand) (lines : List Answered) (text : List ℕ) (old mid new : PlantState) (up : 0 < old.clock) (kept : Keeps run grammar lines text old mid) (tells : Type 0) (told : tells) (works : WorksOnConsole tells mid new) where
   -- A front of a text is said behind the replies.
@@ -267,7 +269,7 @@ module _ (run : Run) (grammar : List ℕ → Option TimedCommand) (lines : List 
   -- ---- a line that is no reply
 
   module _ (bytes : List ℕ) (says : Says bytes mid new) (none : has_reply bytes ≡ false)
-      (during : IsTrue (stage_now run grammar old.script lines text).pairs.table.is_started → (c : Choice) → IsChoice mid mid.clock c → BearsTime run (stage_now run grammar old.script lines text) (replies_of lines ++ bytes) mid c) where
+      (during : IsTrue (stage_now run grammar old.script lines text).table.is_started → (c : Choice) → IsChoice mid mid.clock c → BearsTime run (stage_now run grammar old.script lines text) (replies_of lines ++ bytes) mid c) where
     may_say : (k : ℕ) → MayBePart lines lines (take k bytes)
     may_say k = record { not_whole = λ a at. absurd (omega (arith, slice_get_within lines (length lines) a at)); none_more = take_none k bytes none }
 
@@ -297,9 +299,9 @@ module _ (run : Run) (grammar : List ℕ → Option TimedCommand) (lines : List 
   -- ---- the reply to one more line
 
   module _ (a : Answered) (says : Says a.reply mid new) (is_text : a.text ≡ text) (answered : IsAnswered run (stage_at run lines (length lines)) a) (asks : (stage_now run grammar old.script lines text).next ≡ Some a.line)
-      (during : IsTrue (stage_now run grammar old.script lines text).pairs.table.is_started → (c : Choice) → IsChoice mid mid.clock c → BearsTime run (stage_now run grammar old.script lines text) (replies_of lines ++ a.reply) mid c)
-      (behind : IsTrue a.pairs.table.is_started → (c : Choice) → IsChoice mid mid.clock c → BearsTime run (stage_after (stage_at run lines (length lines)) a) (replies_of lines ++ a.reply) mid c)
-      (mean : IsTrue a.pairs.table.is_started → (c : Choice) → IsChoice mid mid.clock c → (means : Means) × (means_of mid c ≡ Some means) × MeansPairs (stage_after (stage_at run lines (length lines)) a) means) where
+      (during : IsTrue (stage_now run grammar old.script lines text).table.is_started → (c : Choice) → IsChoice mid mid.clock c → BearsTime run (stage_now run grammar old.script lines text) (replies_of lines ++ a.reply) mid c)
+      (behind : IsTrue a.table.is_started → (c : Choice) → IsChoice mid mid.clock c → BearsTime run (stage_after (stage_at run lines (length lines)) a) (replies_of lines ++ a.reply) mid c)
+      (mean : IsTrue a.table.is_started → (c : Choice) → IsChoice mid mid.clock c → (means : Means) × (means_of mid c ≡ Some means) × MeansTable (stage_after (stage_at run lines (length lines)) a) means) where
     abbrev all : List Answered
     all = lines ++ a ∷ []
 
@@ -327,18 +329,18 @@ module _ (run : Run) (grammar : List ℕ → Option TimedCommand) (lines : List 
         ∙ ap (λ (l : List ℕ). old.said old.clock ++ l) (ap (λ (l : List ℕ). replies_of lines ++ l) (take_all k a.reply whole) ∙ sym (replies_more lines a) ∙ sym (append-nil (replies_of all)))
 
     -- Once it is whole each choice bears at the stage behind the line.
-    bears_all : (t : ℕ) → mid.clock ≤ t → t ≤ new.clock → IsTrue (stage_now run grammar old.script all []).pairs.table.is_started → (c : Choice) → IsChoice new t c → BearsTime run (stage_now run grammar old.script all []) (replies_of all ++ []) new c
+    bears_all : (t : ℕ) → mid.clock ≤ t → t ≤ new.clock → IsTrue (stage_now run grammar old.script all []).table.is_started → (c : Choice) → IsChoice new t c → BearsTime run (stage_now run grammar old.script all []) (replies_of all ++ []) new c
     bears_all t since to started c is =
         let left = console_choice tells told mid new t c works since to is in
         bears_on run (stage_now run grammar old.script all []) (replies_of all ++ []) mid new c works.site
         (subst (λ (s : Stage). BearsTime run s (replies_of all ++ []) mid c) (sym next_is)
         (subst (λ (l : List ℕ). BearsTime run (stage_after (stage_at run lines (length lines)) a) l mid c) (sym (append-nil (replies_of all) ∙ replies_more lines a))
-        (behind (subst (λ (s : Stage). IsTrue s.pairs.table.is_started) next_is started) c left)))
+        (behind (subst (λ (s : Stage). IsTrue s.table.is_started) next_is started) c left)))
 
-    mean_all : (t : ℕ) → mid.clock ≤ t → t ≤ new.clock → IsTrue (stage_now run grammar old.script all []).pairs.table.is_started → (c : Choice) → IsChoice new t c → (means : Means) × (means_of new c ≡ Some means) × MeansPairs (stage_now run grammar old.script all []) means
+    mean_all : (t : ℕ) → mid.clock ≤ t → t ≤ new.clock → IsTrue (stage_now run grammar old.script all []).table.is_started → (c : Choice) → IsChoice new t c → (means : Means) × (means_of new c ≡ Some means) × MeansTable (stage_now run grammar old.script all []) means
     mean_all t since to started c is =
-        let meant = mean (subst (λ (s : Stage). IsTrue s.pairs.table.is_started) next_is started) c (console_choice tells told mid new t c works since to is) in
-        (meant.0, means_on mid new c meant.0 works.site meant.1, subst (λ (s : Stage). MeansPairs s meant.0) (sym next_is) meant.2)
+        let meant = mean (subst (λ (s : Stage). IsTrue s.table.is_started) next_is started) c (console_choice tells told mid new t c works since to is) in
+        (meant.0, means_on mid new c meant.0 works.site meant.1, subst (λ (s : Stage). MeansTable s meant.0) (sym next_is) meant.2)
 
     abbrev reply_at : (t : ℕ) → mid.clock < t → t ≤ new.clock → (k : ℕ) → new.said t ≡ mid.said mid.clock ++ take k a.reply → (k < length a.reply) ⊎ (length a.reply ≤ k) → MomentBears run grammar all old new t
     reply_at t after to k said (inl below) =
@@ -366,26 +368,26 @@ module _ (run : Run) (grammar : List ℕ → Option TimedCommand) (lines : List 
     abbrev each_replied : (t : ℕ) → old.clock ≤ t → t ≤ new.clock → MomentBears run grammar all old new t
     each_replied = joined run grammar all old new mid.clock kept.later reaches reply_early reply_late
 
-    -- At the late moments at which it was said whole the choices mean the pairs.
-    pairs_at : (t : ℕ) (after : mid.clock < t) (to : t ≤ new.clock) (k : ℕ) (said : new.said t ≡ mid.said mid.clock ++ take k a.reply) (side : (k < length a.reply) ⊎ (length a.reply ≤ k))
-        → length lines < (reply_at t after to k said side).at.answered → AllMeanPairs run grammar all old new t (reply_at t after to k said side)
-    pairs_at t after to k said (inl below) more = absurd (omega (arith, more))
-    pairs_at t after to k said (inr whole) more =
+    -- At the late moments at which it was said whole the choices mean the table.
+    table_at : (t : ℕ) (after : mid.clock < t) (to : t ≤ new.clock) (k : ℕ) (said : new.said t ≡ mid.said mid.clock ++ take k a.reply) (side : (k < length a.reply) ⊎ (length a.reply ≤ k))
+        → length lines < (reply_at t after to k said side).at.answered → AllMeanTable run grammar all old new t (reply_at t after to k said side)
+    table_at t after to k said (inl below) more = absurd (omega (arith, more))
+    table_at t after to k said (inr whole) more =
         let since : mid.clock ≤ t = lt_le mid.clock t after in
-        pairs_behind run grammar all all [] [] (front_all all) (nothing_more all) none_begun old new t (heard_all t (says.heard t since to)) (said_all t k whole said) (λ started c is. bears_all t since to started c is)
+        table_behind run grammar all all [] [] (front_all all) (nothing_more all) none_begun old new t (heard_all t (says.heard t since to)) (said_all t k whole said) (λ started c is. bears_all t since to started c is)
         (λ started c is. mean_all t since to started c is)
 
     replies_replied : FirstMeans run grammar all old new each_replied
     replies_replied = first_joined run grammar all old new mid.clock kept.later reaches reply_early reply_late
-        (λ t from before leads. pairs_longer run grammar lines a some old new t (moment_still run grammar lines old mid new mid_past works.site (works.elapses told) t before (kept.each t from before)) (kept.unsaid t from before)
-        (pairs_still run grammar lines old mid new mid_past works.site (works.elapses told) t before (kept.each t from before) (kept.replies t from before leads)))
+        (λ t from before leads. table_longer run grammar lines a some old new t (moment_still run grammar lines old mid new mid_past works.site (works.elapses told) t before (kept.each t from before)) (kept.unsaid t from before)
+        (table_still run grammar lines old mid new mid_past works.site (works.elapses told) t before (kept.each t from before) (kept.replies t from before leads)))
         (λ t from after to more.
         let front = says.front t (lt_le mid.clock t after) to in
-        pairs_at t after to front.0 front.2 (cases_lt front.0 (length a.reply)) (omega (arith, more, kept.now kept.later (itself mid.clock))))
+        table_at t after to front.0 front.2 (cases_lt front.0 (length a.reply)) (omega (arith, more, kept.now kept.later (itself mid.clock))))
 
-    asked_all : AreAsked run grammar old.script all
-    asked_all = asked_more run grammar old.script lines a kept.asked (subst (λ (l : List ℕ). IsAsked grammar (length lines) (stage_at run lines (length lines)).replied (length (texts_of lines ++ l) == length old.script) a) (sym is_text)
-        (record { asks = ap (next_line grammar (length lines) (stage_at run lines (length lines)).replied (length (texts_of lines ++ text) == length old.script)) is_text ∙ asks; one_line = subst (λ (l : List ℕ). lines_begun l ≤ 1) (sym is_text) kept.one_line }))
+    asked_all : AreAsked grammar old.script all
+    asked_all = asked_more grammar old.script lines a kept.asked (subst (λ (l : List ℕ). IsAsked grammar (length lines) (last_line_time lines (length lines)) (length (texts_of lines ++ l) == length old.script) a) (sym is_text)
+        (record { asks = ap (next_line grammar (length lines) (last_line_time lines (length lines)) (length (texts_of lines ++ text) == length old.script)) is_text ∙ asks; one_line = subst (λ (l : List ℕ). lines_begun l ≤ 1) (sym is_text) kept.one_line }))
 
     -- Whether it was said whole or not, the run bears throughout.
     pub keeps_says_throughout : BearsThroughout run grammar all old new

@@ -5,9 +5,9 @@ use Rattle.std.specs.List.{list_any}
 use Rattle.std.proofs.lemmas.Bool.{and_left, and_parts, and_right, cond-false, le-ltb, leb-true, lt-leb, lt-ltb, ne_eqb, or_parts, or_right}
 use Rattle.std.proofs.lemmas.List.{length_push, take-append-le, take_all}
 use Rattle.std.proofs.lemmas.List.Concat.{flat_map-append}
-use Rattle.std.proofs.lemmas.Option.{slice_get_within}
+use Rattle.std.proofs.lemmas.Option.{slice_get_cases, slice_get_within}
 use Rattle.consistency.specs.Bears.{Run, Stage}
-use Rattle.consistency.specs.Courses.{Answered, AreAsked, IsAnswered, IsAsked, IsCourse, lines_begun_from, first_line, first_stage, is_whole_line, later_line, lines_begun, most_lines, next_line, replies_of, stage_after, stage_at, texts_of}
+use Rattle.consistency.specs.Courses.{Answered, AreAsked, IsAnswered, IsAsked, IsCourse, last_line_time, lines_begun_from, first_line, first_stage, is_whole_line, later_line, lines_begun, most_lines, next_line, replied_after, replies_of, stage_after, stage_at, texts_of}
 use Rattle.consistency.specs.Steps.{TimedCommand}
 use Rattle.consistency.specs.Times.{AreWhole}
 use Rattle.consistency.proofs.Pieces.{whole_append}
@@ -45,6 +45,10 @@ stage_then run lines n a at = fold_more stage_after (first_stage run) lines n a 
 pub stage_front : (run : Run) (lines more : List Answered) (n : ℕ) → n ≤ length lines → stage_at run (lines ++ more) n ≡ stage_at run lines n
 stage_front run lines more n within = ap (λ (l : List Answered). fold stage_after (first_stage run) l) (take-append-le n lines more within)
 
+-- Nor do they change the time of the last of them.
+pub last_front : (lines more : List Answered) (n : ℕ) → n ≤ length lines → last_line_time (lines ++ more) n ≡ last_line_time lines n
+last_front lines more n within = ap (λ (l : List Answered). fold (λ (before : ℕ) (a : Answered). a.line.time) 0 l) (take-append-le n lines more within)
+
 -- The stage behind all lines and one more.
 pub stage_more : (run : Run) (lines : List Answered) (a : Answered) → stage_at run (lines ++ a ∷ []) (length (lines ++ a ∷ [])) ≡ stage_after (stage_at run lines (length lines)) a
 stage_more run lines a =
@@ -70,26 +74,26 @@ course_more run lines a course answered n b at = elim (at_or_last lines a n b at
       subst (λ (s : Stage). IsAnswered run s b) (sym (stage_front run lines (a ∷ []) n within ∙ ap (stage_at run lines) last.0)) (subst (λ (x : Answered). IsAnswered run (stage_at run lines (length lines)) x) last.1 answered)
 ]
 
--- a line that was asked at a stage, with the texts up to it
-abbrev AskedAt : (grammar : List ℕ → Option TimedCommand) → (script : List ℕ) → (n : ℕ) → Stage → (texts : List ℕ) → Answered → Type 0
-AskedAt grammar script n s texts a = IsAsked grammar n s.replied (length texts == length script) a
+-- a line that was asked behind a time, with the texts up to it
+abbrev AskedAt : (grammar : List ℕ → Option TimedCommand) → (script : List ℕ) → (n before : ℕ) → (texts : List ℕ) → Answered → Type 0
+AskedAt grammar script n before texts a = IsAsked grammar n before (length texts == length script) a
 
-pub asked_more : (run : Run) (grammar : List ℕ → Option TimedCommand) (script : List ℕ) (lines : List Answered) (a : Answered) → AreAsked run grammar script lines
-    → IsAsked grammar (length lines) (stage_at run lines (length lines)).replied (length (texts_of lines ++ a.text) == length script) a → AreAsked run grammar script (lines ++ a ∷ [])
-asked_more run grammar script lines a are asked n b at = elim (at_or_last lines a n b at) [
+pub asked_more : (grammar : List ℕ → Option TimedCommand) (script : List ℕ) (lines : List Answered) (a : Answered) → AreAsked grammar script lines
+    → IsAsked grammar (length lines) (last_line_time lines (length lines)) (length (texts_of lines ++ a.text) == length script) a → AreAsked grammar script (lines ++ a ∷ [])
+asked_more grammar script lines a are asked n b at = elim (at_or_last lines a n b at) [
   | inl here ↦
       let below : n < length lines = slice_get_within lines n b here in
       let within : n ≤ length lines = omega (arith, below) in
       let next : suc n ≤ length lines = omega (arith, below) in
-      subst (λ (s : Stage). AskedAt grammar script n s (texts_of (take (suc n) (lines ++ a ∷ []))) b) (sym (stage_front run lines (a ∷ []) n within))
-      (subst (λ (l : List Answered). AskedAt grammar script n (stage_at run lines n) (texts_of l) b) (sym (take-append-le (suc n) lines (a ∷ []) next)) (are n b here))
+      subst (λ (k : ℕ). AskedAt grammar script n k (texts_of (take (suc n) (lines ++ a ∷ []))) b) (sym (last_front lines (a ∷ []) n within))
+      (subst (λ (l : List Answered). AskedAt grammar script n (last_line_time lines n) (texts_of l) b) (sym (take-append-le (suc n) lines (a ∷ []) next)) (are n b here))
   | inr last ↦
       let within : n ≤ length lines = omega (arith, last.0) in
       let all : length (lines ++ a ∷ []) ≤ suc n = omega (arith, last.0, length_push lines a) in
-      subst (λ (s : Stage). AskedAt grammar script n s (texts_of (take (suc n) (lines ++ a ∷ []))) b) (sym (stage_front run lines (a ∷ []) n within ∙ ap (stage_at run lines) last.0))
-      (subst (λ (l : List ℕ). AskedAt grammar script n (stage_at run lines (length lines)) l b) (sym (ap texts_of (take_all (suc n) (lines ++ a ∷ []) all) ∙ texts_more lines a))
-      (subst (λ (m : ℕ). AskedAt grammar script m (stage_at run lines (length lines)) (texts_of lines ++ a.text) b) (sym last.0)
-      (subst (λ (x : Answered). AskedAt grammar script (length lines) (stage_at run lines (length lines)) (texts_of lines ++ a.text) x) last.1 asked)))
+      subst (λ (k : ℕ). AskedAt grammar script n k (texts_of (take (suc n) (lines ++ a ∷ []))) b) (sym (last_front lines (a ∷ []) n within ∙ ap (last_line_time lines) last.0))
+      (subst (λ (l : List ℕ). AskedAt grammar script n (last_line_time lines (length lines)) l b) (sym (ap texts_of (take_all (suc n) (lines ++ a ∷ []) all) ∙ texts_more lines a))
+      (subst (λ (m : ℕ). AskedAt grammar script m (last_line_time lines (length lines)) (texts_of lines ++ a.text) b) (sym last.0)
+      (subst (λ (x : Answered). AskedAt grammar script (length lines) (last_line_time lines (length lines)) (texts_of lines ++ a.text) x) last.1 asked)))
 ]
 
 -- The replies of a course are whole lines.
@@ -102,7 +106,7 @@ replies_whole run lines course = replies_are_whole lines (λ n a at. reply_whole
 
 -- ---- the line that was heard
 
--- It isn't before the last reply.
+-- It isn't before the last one.
 pub next_not_before : (grammar : List ℕ → Option TimedCommand) (answered before : ℕ) (at_end : Bool) (text : List ℕ) (line : TimedCommand) → next_line grammar answered before at_end text ≡ Some line → before ≤ line.time
 next_not_before grammar answered before at_end text line is = whole (is_whole_line at_end text) (grammar (first_line text)) is
   where
@@ -117,6 +121,27 @@ next_not_before grammar answered before at_end text line is = whole (is_whole_li
     whole : (b : Bool) (o : Option TimedCommand) → cond b (later_line answered before o) None ≡ Some line → before ≤ line.time
     whole true o is = later o is
     whole false o is = absurd cc
+
+-- The stamp of a reply isn't behind the line that it answers, also where it is that of the session's end.
+pub replied_by_last : (run : Run) (grammar : List ℕ → Option TimedCommand) (script : List ℕ) (lines : List Answered) (n : ℕ) → AreAsked grammar script lines → n ≤ length lines → (stage_at run lines n).replied ≤ last_line_time lines n
+replied_by_last run grammar script lines zero are within = omega arith
+replied_by_last run grammar script lines (suc n) are within = elim (slice_get_cases lines n).1 [
+  | inl there ↦
+      let a = there.0 in
+      let at = there.2 in
+      let s = stage_at run lines n in
+      let before = replied_by_last run grammar script lines n are (omega (arith, within)) in
+      let later = next_not_before grammar n (last_line_time lines n) (length (texts_of (take (suc n) lines)) == length script) a.text a.line (are n a at).asks in
+      let last : last_line_time lines (suc n) ≡ a.line.time = fold_more (λ (t : ℕ) (b : Answered). b.line.time) 0 lines n a at in
+      let replied : (stage_at run lines (suc n)).replied ≡ replied_after s a.line = ap (λ (x : Stage). x.replied) (stage_then run lines n a at) in
+      let by : replied_after s a.line ≤ a.line.time = by_end s.table.is_ended s.replied a.line.time (omega (arith, before, later)) in
+      omega (arith, last, replied, by)
+  | inr none ↦ absurd (omega (arith, within, none.0))
+]
+  where
+    by_end : (e : Bool) (old new : ℕ) → old ≤ new → cond e old new ≤ new
+    by_end true old new le = le
+    by_end false old new le = omega arith
 
 -- Nothing is heard of a line before its first byte, and no line before it is whole.
 pub none_heard : (grammar : List ℕ → Option TimedCommand) (answered before : ℕ) (at_end : Bool) (text : List ℕ) → is_whole_line at_end text ≡ false → next_line grammar answered before at_end text ≡ None

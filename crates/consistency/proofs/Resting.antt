@@ -32,21 +32,21 @@ bears_heard run s heard shape images time none later b = record {
   at = b.at;
   ended = inr (flagged s.next none b.ended);
   in_time = (b.in_time.0, timed heard later);
-  rows = rested s.pairs.is_ended b.rows;
+  rows = rested s.table.is_ended b.rows;
   tracks = b.tracks;
 }
   where
     exactly : time ≡ s.replied
     exactly = exact_time run s shape images time none b
 
-    flagged : (n : Option TimedCommand) → n ≡ None → IsFlag run (record s { next = n }) b.means.ended → b.means.ended ≡ s.pairs.is_ended
+    flagged : (n : Option TimedCommand) → n ≡ None → IsFlag run (record s { next = n }) b.means.ended → b.means.ended ≡ s.table.is_ended
     flagged None is (inl accepted) = absurd cc
     flagged None is (inr same) = same
     flagged (Some line) is flag = absurd cc
 
-    timed : (n : Option TimedCommand) → ((line : TimedCommand) → n ≡ Some line → s.replied ≤ line.time) → (let T : Type 0 = elim n [ None ↦ time ≡ s.replied | Some line ↦ elim s.pairs.is_ended [ true ↦ time ≡ s.replied | false ↦ time ≤ line.time ] ] in T)
+    timed : (n : Option TimedCommand) → ((line : TimedCommand) → n ≡ Some line → s.replied ≤ line.time) → (let T : Type 0 = elim n [ None ↦ time ≡ s.replied | Some line ↦ elim s.table.is_ended [ true ↦ time ≡ s.replied | false ↦ time ≤ line.time ] ] in T)
     timed None later = exactly
-    timed (Some line) later = by_end s.pairs.is_ended
+    timed (Some line) later = by_end s.table.is_ended
       where
         by_end : (e : Bool) → (let T : Type 0 = elim e [ true ↦ time ≡ s.replied | false ↦ time ≤ line.time ] in T)
         by_end true = exactly
@@ -55,14 +55,14 @@ bears_heard run s heard shape images time none later b = record {
     none_due : not (is_none s.next) ≡ false
     none_due = ap (λ (n : Option TimedCommand). not (is_none n)) none
 
-    rested : (e : Bool) → (let T : Type 0 = elim e [ true ↦ b.means.table.rows ≡ s.pairs.table.rows | false ↦ AreOnTheWay run s time b.means.table.rows ⊎ AreAfterLine run s time b.means.table.rows ] in T)
-        → (let T : Type 0 = elim e [ true ↦ b.means.table.rows ≡ s.pairs.table.rows | false ↦ AreOnTheWay run (record s { next = heard }) time b.means.table.rows ⊎ AreAfterLine run (record s { next = heard }) time b.means.table.rows ] in T)
+    rested : (e : Bool) → (let T : Type 0 = elim e [ true ↦ b.means.table.rows ≡ s.table.rows | false ↦ AreOnTheWay run s time b.means.table.rows ⊎ AreAfterLine run s time b.means.table.rows ] in T)
+        → (let T : Type 0 = elim e [ true ↦ b.means.table.rows ≡ s.table.rows | false ↦ AreOnTheWay run (record s { next = heard }) time b.means.table.rows ⊎ AreAfterLine run (record s { next = heard }) time b.means.table.rows ] in T)
     rested true same = same
     rested false (inl way) = inl (record {
       changes = way.changes;
       toward = record {
-        may_come = due_wider run.level (breaks_of run) (not (is_none heard)) NoneDue s.replied time s.pairs.table.rows way.changes
-            (subst (λ (d : Bool). may_all_come run.level (breaks_of run) d NoneDue s.replied time s.pairs.table.rows way.changes ≡ true) none_due way.toward.may_come);
+        may_come = due_wider run.level (breaks_of run) (not (is_none heard)) NoneDue s.replied time s.table.rows way.changes
+            (subst (λ (d : Bool). may_all_come run.level (breaks_of run) d NoneDue s.replied time s.table.rows way.changes ≡ true) none_due way.toward.may_come);
         broken = way.toward.broken;
       };
       counted = way.counted;

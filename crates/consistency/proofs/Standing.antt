@@ -13,10 +13,10 @@ use Rattle.site_means.proofs.Goes.{shape_same}
 use Rattle.consistency.specs.Bears.{Bears, Run, Stage}
 use Rattle.consistency.specs.Courses.{Answered, StandsAt, first_stage, lines_begun, next_line, replies_of, stage_after, stage_there, texts_of}
 use Rattle.consistency.specs.Keeping.{stage_now}
-use Rattle.consistency.specs.Moments.{AllMeanPairs, BearsTime, MeansPairs, MomentBears}
+use Rattle.consistency.specs.Moments.{AllMeanTable, BearsTime, MeansTable, MomentBears}
 use Rattle.consistency.specs.Replies.{has_reply}
 use Rattle.consistency.specs.Steps.{TimedCommand}
-use Rattle.consistency.proofs.Lines.{at_or_last, stage_front}
+use Rattle.consistency.proofs.Lines.{at_or_last, last_front, stage_front}
 
 -- ---- plants of one shape
 
@@ -48,8 +48,8 @@ module _ (run : Run) (grammar : List ℕ → Option TimedCommand) (lines : List 
   }
 
   -- What all its choices mean they mean still.
-  pub pairs_still : (t : ℕ) (le : t ≤ mid.clock) (m : MomentBears run grammar lines old mid t) → AllMeanPairs run grammar lines old mid t m → AllMeanPairs run grammar lines old new t (moment_still t le m)
-  pairs_still t le m mean started c is =
+  pub table_still : (t : ℕ) (le : t ≤ mid.clock) (m : MomentBears run grammar lines old mid t) → AllMeanTable run grammar lines old mid t m → AllMeanTable run grammar lines old new t (moment_still t le m)
+  table_still t le m mean started c is =
       let meant = mean started c (past_choice mid new t c site elapses up le is) in
       (meant.0, means_on mid new c meant.0 site meant.1, meant.2)
 
@@ -78,7 +78,7 @@ module _ (run : Run) (grammar : List ℕ → Option TimedCommand) (lines : List 
   -- It is the same stage.
   pub stage_longer : (heard said : List ℕ) (at : StandsAt lines heard said) (unsaid : at.answered ≡ length lines → at.part ≡ []) → stage_there run grammar old.script (stands_longer lines heard said a some at unsaid) ≡ stage_there run grammar old.script at
   stage_longer heard said at unsaid =
-      ap (λ (s : Stage). record s { next = next_line grammar at.answered s.replied (length heard == length old.script) at.text }) (stage_front run lines (a ∷ []) at.answered at.within)
+      λ i. record (stage_front run lines (a ∷ []) at.answered at.within i) { next = next_line grammar at.answered (last_front lines (a ∷ []) at.answered at.within i) (length heard == length old.script) at.text }
 
   abbrev pub moment_longer : (t : ℕ) (m : MomentBears run grammar lines old new t) → (m.at.answered ≡ length lines → m.at.part ≡ []) → MomentBears run grammar (lines ++ a ∷ []) old new t
   moment_longer t m unsaid =
@@ -89,14 +89,14 @@ module _ (run : Run) (grammar : List ℕ → Option TimedCommand) (lines : List 
         heard_is = m.heard_is;
         said_is = m.said_is;
         at = stands_longer lines m.heard m.said a some m.at unsaid;
-        bears = λ started c is. subst (λ (s : Stage). BearsTime run s m.said new c) (sym same) (m.bears (subst (λ (s : Stage). IsTrue s.pairs.table.is_started) same started) c is);
+        bears = λ started c is. subst (λ (s : Stage). BearsTime run s m.said new c) (sym same) (m.bears (subst (λ (s : Stage). IsTrue s.table.is_started) same started) c is);
       }
 
-  pub pairs_longer : (t : ℕ) (m : MomentBears run grammar lines old new t) (unsaid : m.at.answered ≡ length lines → m.at.part ≡ []) → AllMeanPairs run grammar lines old new t m → AllMeanPairs run grammar (lines ++ a ∷ []) old new t (moment_longer t m unsaid)
-  pairs_longer t m unsaid mean started c is =
+  pub table_longer : (t : ℕ) (m : MomentBears run grammar lines old new t) (unsaid : m.at.answered ≡ length lines → m.at.part ≡ []) → AllMeanTable run grammar lines old new t m → AllMeanTable run grammar (lines ++ a ∷ []) old new t (moment_longer t m unsaid)
+  table_longer t m unsaid mean started c is =
       let same = stage_longer m.heard m.said m.at unsaid in
-      let meant = mean (subst (λ (s : Stage). IsTrue s.pairs.table.is_started) same started) c is in
-      (meant.0, meant.1, subst (λ (s : Stage). MeansPairs s meant.0) (sym same) meant.2)
+      let meant = mean (subst (λ (s : Stage). IsTrue s.table.is_started) same started) c is in
+      (meant.0, meant.1, subst (λ (s : Stage). MeansTable s meant.0) (sym same) meant.2)
 
 -- ---- a moment behind answered lines
 
@@ -133,12 +133,12 @@ module _ (run : Run) (grammar : List ℕ → Option TimedCommand) (all lines : L
   -- The stage there is that of the lines and the text.
   pub stage_behind : stage_there run grammar old.script (stands_behind all lines text part front may one) ≡ stage_now run grammar old.script lines text
   stage_behind =
-      ap (λ (l : List Answered). let s = fold stage_after (first_stage run) l in record s { next = next_line grammar (length lines) s.replied (length (texts_of lines ++ text) == length old.script) text })
+      ap (λ (l : List Answered). record (fold stage_after (first_stage run) l) { next = next_line grammar (length lines) (fold (λ (before : ℕ) (a : Answered). a.line.time) 0 l) (length (texts_of lines ++ text) == length old.script) text })
       (front.front ∙ sym (take_all (length lines) lines (omega arith)))
 
   -- Such a moment bears where each of its choices bears a time at that stage.
   abbrev pub moment_behind : (t : ℕ) → new.heard t ≡ old.heard old.clock ++ (texts_of lines ++ text) → new.said t ≡ old.said old.clock ++ (replies_of lines ++ part)
-      → (IsTrue (stage_now run grammar old.script lines text).pairs.table.is_started → (c : Choice) → IsChoice new t c → BearsTime run (stage_now run grammar old.script lines text) (replies_of lines ++ part) new c) → MomentBears run grammar all old new t
+      → (IsTrue (stage_now run grammar old.script lines text).table.is_started → (c : Choice) → IsChoice new t c → BearsTime run (stage_now run grammar old.script lines text) (replies_of lines ++ part) new c) → MomentBears run grammar all old new t
   moment_behind t heard said bears = record {
     heard = texts_of lines ++ text;
     said = replies_of lines ++ part;
@@ -146,13 +146,13 @@ module _ (run : Run) (grammar : List ℕ → Option TimedCommand) (all lines : L
     said_is = said;
     at = stands_behind all lines text part front may one;
     bears = λ started c is.
-        subst (λ (s : Stage). BearsTime run s (replies_of lines ++ part) new c) (sym stage_behind) (bears (subst (λ (s : Stage). IsTrue s.pairs.table.is_started) stage_behind started) c is);
+        subst (λ (s : Stage). BearsTime run s (replies_of lines ++ part) new c) (sym stage_behind) (bears (subst (λ (s : Stage). IsTrue s.table.is_started) stage_behind started) c is);
   }
 
-  pub pairs_behind : (t : ℕ) (heard : new.heard t ≡ old.heard old.clock ++ (texts_of lines ++ text)) (said : new.said t ≡ old.said old.clock ++ (replies_of lines ++ part))
-      (bears : IsTrue (stage_now run grammar old.script lines text).pairs.table.is_started → (c : Choice) → IsChoice new t c → BearsTime run (stage_now run grammar old.script lines text) (replies_of lines ++ part) new c)
-      → (IsTrue (stage_now run grammar old.script lines text).pairs.table.is_started → (c : Choice) → IsChoice new t c → (means : Means) × (means_of new c ≡ Some means) × MeansPairs (stage_now run grammar old.script lines text) means)
-      → AllMeanPairs run grammar all old new t (moment_behind t heard said bears)
-  pairs_behind t heard said bears mean started c is =
-      let meant = mean (subst (λ (s : Stage). IsTrue s.pairs.table.is_started) stage_behind started) c is in
-      (meant.0, meant.1, subst (λ (s : Stage). MeansPairs s meant.0) (sym stage_behind) meant.2)
+  pub table_behind : (t : ℕ) (heard : new.heard t ≡ old.heard old.clock ++ (texts_of lines ++ text)) (said : new.said t ≡ old.said old.clock ++ (replies_of lines ++ part))
+      (bears : IsTrue (stage_now run grammar old.script lines text).table.is_started → (c : Choice) → IsChoice new t c → BearsTime run (stage_now run grammar old.script lines text) (replies_of lines ++ part) new c)
+      → (IsTrue (stage_now run grammar old.script lines text).table.is_started → (c : Choice) → IsChoice new t c → (means : Means) × (means_of new c ≡ Some means) × MeansTable (stage_now run grammar old.script lines text) means)
+      → AllMeanTable run grammar all old new t (moment_behind t heard said bears)
+  table_behind t heard said bears mean started c is =
+      let meant = mean (subst (λ (s : Stage). IsTrue s.table.is_started) stage_behind started) c is in
+      (meant.0, meant.1, subst (λ (s : Stage). MeansTable s meant.0) (sym stage_behind) meant.2)

@@ -6,17 +6,20 @@ use Rattle.write_trace.specs.declared.trace.Trace.{Trace}
 use Rattle.sidefile.specs.Breaks.{break_time}
 use Rattle.primary_ctl.specs.Primaries.{primary}
 use Rattle.pair_table.specs.declared.level.Level.{Level}
+use Rattle.pair_table.specs.declared.names.NamedDevice.{NamedDevice}
+use Rattle.pair_table.specs.declared.names.NamedVolume.{NamedVolume}
 use Rattle.pair_table.specs.declared.row.PairRow.{PairRow}
 use Rattle.pair_table.specs.declared.row.PairState.TheVariants.{Duplex}
 use Rattle.pair_table.specs.Commands.{is_end}
-use Rattle.pair_table.specs.Naming.{NamedDevice, NamedVolume, Naming}
-use Rattle.pair_table.specs.Refusals.{Pairs, refusal}
+use Rattle.pair_table.specs.Naming.{Naming}
+use Rattle.pair_table.specs.Refusals.{refusal}
+use Rattle.pair_table.specs.Tables.{Table}
 use Rattle.row_changes.specs.Changes.{Timed, after_changes}
 use Rattle.row_changes.specs.Toward.{AreCounted, Toward}
 use Rattle.site_means.specs.declared.means.Means.{Means}
 use Rattle.site_means.specs.Images.{Images, Shape}
 use Rattle.site_means.specs.Sight.{content_in, means_in}
-use Rattle.consistency.specs.Steps.{IsCommanded, TimedCommand, names_at, pairs_after_line}
+use Rattle.consistency.specs.Steps.{IsCommanded, TimedCommand, names_at, table_after_line}
 
 -- What stays over a run: the session's name, the traces, the labels as the session's start read them, the level of that start, and by
 -- how much the count of faults of each volume rises over the run.
@@ -47,27 +50,27 @@ names_of run = record { primaries = primaries_named 0 run.traces; labels = run.l
 
 -- ---- where a run stands
 
--- Where a run stands after some lines were answered: the pairs as the devices had them when the last reply had just been said whole,
+-- Where a run stands after some lines were answered: the table as the devices had it when the last reply had just been said whole,
 -- the stamp after `T=` in that reply, all changes of rows in the steps up to there, and the next line, where it was heard whole.
 pub record Stage : Type 0 where
-  pub pairs : Pairs
+  pub table : Table
   pub replied : ℕ
   pub past : List Timed
   pub next : Option TimedCommand
 
 -- ---- the ended flag
 
-abbrev pub accepts : Run → Pairs → TimedCommand → Bool
-accepts run pairs line = is_none (refusal (names_at line.time (breaks_of run) (names_of run)) pairs line.session line.command)
+abbrev pub accepts : Run → Table → TimedCommand → Bool
+accepts run table line = is_none (refusal (names_at line.time (breaks_of run) (names_of run)) table line.session line.command)
 
 -- whether the next line is an end that the command table accepts
-abbrev pub accepts_end : Run → Pairs → Option TimedCommand → Bool
-accepts_end run pairs None = false
-accepts_end run pairs (Some line) = elim (is_end line.command) [ true ↦ accepts run pairs line | false ↦ false ]
+abbrev pub accepts_end : Run → Table → Option TimedCommand → Bool
+accepts_end run table None = false
+accepts_end run table (Some line) = elim (is_end line.command) [ true ↦ accepts run table line | false ↦ false ]
 
 -- The ended flag is 1 after an accepted end was answered, free from when one was heard whole to its reply, and else 0.
 abbrev pub IsFlag : Run → Stage → Bool → Type 0
-IsFlag run s flag = IsTrue (accepts_end run s.pairs s.next) ⊎ (flag ≡ s.pairs.is_ended)
+IsFlag run s flag = IsTrue (accepts_end run s.table s.next) ⊎ (flag ≡ s.table.is_ended)
 
 -- ---- the time
 
@@ -76,7 +79,7 @@ IsFlag run s flag = IsTrue (accepts_end run s.pairs s.next) ⊎ (flag ≡ s.pair
 abbrev pub IsTime : Stage → ℕ → Type 0
 IsTime s time = (s.replied ≤ time) × elim s.next [
   | None ↦ time ≡ s.replied
-  | Some line ↦ elim s.pairs.is_ended [ true ↦ time ≡ s.replied | false ↦ time ≤ line.time ]
+  | Some line ↦ elim s.table.is_ended [ true ↦ time ≡ s.replied | false ↦ time ≤ line.time ]
 ]
 
 -- ---- the rows
@@ -84,9 +87,9 @@ IsTime s time = (s.replied ≤ time) × elim s.next [
 -- The rows are on their way: they come from those at the last reply by changes up to the time.
 pub record AreOnTheWay (run : Run) (s : Stage) (time : ℕ) (rows : List PairRow) : Type 0 where
   pub changes : List Timed
-  pub toward : Toward run.level (breaks_of run) (not (is_none s.next)) s.replied time s.pairs.table.rows changes
+  pub toward : Toward run.level (breaks_of run) (not (is_none s.next)) s.replied time s.table.rows changes
   pub counted : AreCounted run.rises (s.past ++ changes)
-  pub made : rows ≡ after_changes run.level changes s.pairs.table.rows
+  pub made : rows ≡ after_changes run.level changes s.table.rows
 
 -- At the time of the next line they are those after its command, or after hits that follow it.
 pub record AreAfterLine (run : Run) (s : Stage) (time : ℕ) (rows : List PairRow) : Type 0 where
@@ -95,14 +98,14 @@ pub record AreAfterLine (run : Run) (s : Stage) (time : ℕ) (rows : List PairRo
   pub at : time ≡ line.time
   pub changes : List Timed
   pub hits : List Timed
-  pub commanded : IsCommanded run.level (breaks_of run) (names_of run) s.replied s.pairs line changes hits
+  pub commanded : IsCommanded run.level (breaks_of run) (names_of run) s.replied s.table line changes hits
   pub counted : AreCounted run.rises (s.past ++ changes ++ hits)
-  pub made : rows ≡ (pairs_after_line run.level (breaks_of run) (names_of run) s.pairs line changes hits).table.rows
+  pub made : rows ≡ (table_after_line run.level (breaks_of run) (names_of run) s.table line changes hits).rows
 
 -- After the session has ended there are no changes.
 abbrev pub AreRows : Run → Stage → ℕ → List PairRow → Type 0
-AreRows run s time rows = elim s.pairs.is_ended [
-  | true ↦ rows ≡ s.pairs.table.rows
+AreRows run s time rows = elim s.table.is_ended [
+  | true ↦ rows ≡ s.table.rows
   | false ↦ AreOnTheWay run s time rows ⊎ AreAfterLine run s time rows
 ]
 

@@ -3,38 +3,34 @@ use Rattle.std.specs.Prelude.{◌≡◌, ℕ, suc, ◌+◌, ◌<◌, ◌≤◌, 
 use Rattle.std.specs.List.{flat_map, list_any}
 use Rattle.pair_table.specs.declared.command.Command.TheVariants.{Start}
 use Rattle.pair_table.specs.declared.level.Level.{Level}
-use Rattle.pair_table.specs.Refusals.{Pairs}
+use Rattle.pair_table.specs.Tables.{Table, new_table}
 use Rattle.row_changes.specs.Changes.{Timed}
 use Rattle.row_changes.specs.Toward.{AreCounted}
 use Rattle.consistency.specs.Bears.{Run, Stage, accepts, breaks_of, names_of}
 use Rattle.consistency.specs.Replies.{IsReply, has_reply}
-use Rattle.consistency.specs.Steps.{IsLineStep, TimedCommand, pairs_on_the_way}
+use Rattle.consistency.specs.Steps.{IsLineStep, TimedCommand, table_on_the_way}
 
 -- A line that was answered: its text as it was heard, what it asks, the reply as it was said, the changes of rows before its command
--- and the hits after it, and the pairs then.
+-- and the hits after it, and the table then.
 pub record Answered : Type 0 where
   pub text : List ℕ
   pub line : TimedCommand
   pub reply : List ℕ
   pub changes : List Timed
   pub hits : List Timed
-  pub pairs : Pairs
+  pub table : Table
 
 -- ---- stages
 
--- the pairs before a session starts
-abbrev pub unstarted : (session : List ℕ) → Pairs
-unstarted session = record { table = record { session = session; is_started = false; rows = [] }; is_ended = false }
-
 abbrev pub first_stage : Run → Stage
-first_stage run = record { pairs = unstarted run.session; replied = 0; past = []; next = None }
+first_stage run = record { table = new_table run.session; replied = 0; past = []; next = None }
 
 -- The stamp of a reply is its line's time, or that of the end of the session in later ones.
 abbrev pub replied_after : Stage → TimedCommand → ℕ
-replied_after s line = if s.pairs.is_ended then s.replied else line.time
+replied_after s line = if s.table.is_ended then s.replied else line.time
 
 abbrev pub stage_after : Stage → Answered → Stage
-stage_after s a = record { pairs = a.pairs; replied = replied_after s a.line; past = s.past ++ a.changes ++ a.hits; next = None }
+stage_after s a = record { table = a.table; replied = replied_after s a.line; past = s.past ++ a.changes ++ a.hits; next = None }
 
 -- the stage after so many lines
 abbrev pub stage_at : Run → List Answered → (answered : ℕ) → Stage
@@ -42,13 +38,13 @@ stage_at run lines n = fold stage_after (first_stage run) (take n lines)
 
 -- ---- courses
 
--- A line is answered at a stage: its pairs come by a step, a device is hit at most as often as it failed, the start that the command
+-- A line is answered at a stage: its table comes by a step, a device is hit at most as often as it failed, the start that the command
 -- table accepts gives the session its level, and what was said is one reply, by which the command is accepted where the table accepts it.
 pub record IsAnswered (run : Run) (s : Stage) (a : Answered) : Type 0 where
-  pub step : IsLineStep run.level (breaks_of run) (names_of run) s.replied s.pairs a.line a.changes a.hits a.pairs
+  pub step : IsLineStep run.level (breaks_of run) (names_of run) s.replied s.table a.line a.changes a.hits a.table
   pub counted : AreCounted run.rises (s.past ++ a.changes ++ a.hits)
-  pub level : (level : Level) → a.line.command ≡ Start level → IsTrue (accepts run s.pairs a.line) → level ≡ run.level
-  pub is_reply : IsReply (accepts run (pairs_on_the_way run.level a.changes s.pairs) a.line) a.line a.reply
+  pub level : (level : Level) → a.line.command ≡ Start level → IsTrue (accepts run s.table a.line) → level ≡ run.level
+  pub is_reply : IsReply (accepts run (table_on_the_way run.level a.changes s.table) a.line) a.line a.reply
 
 -- Each line is answered at the stage after those before it.
 abbrev pub IsCourse : Run → List Answered → Type 0
@@ -83,7 +79,11 @@ is_whole_line at_end text = list_any (λ b. b == 10) text || (at_end && nat_lt 0
 abbrev pub most_lines : ℕ
 most_lines = 100000
 
--- a line behind so many others counts where it isn't one too many and its time doesn't fall
+-- the time of the last of so many lines; 0 where there is none
+abbrev pub last_line_time : List Answered → (answered : ℕ) → ℕ
+last_line_time lines n = fold (λ before a. a.line.time) 0 (take n lines)
+
+-- A line behind so many others counts where it isn't one too many and its time doesn't fall below that of the line before.
 abbrev pub later_line : (lines before : ℕ) → Option TimedCommand → Option TimedCommand
 later_line lines before None = None
 later_line lines before (Some line) = if nat_lt lines most_lines && nat_le before line.time then Some line else None
@@ -98,9 +98,9 @@ pub record IsAsked (grammar : List ℕ → Option TimedCommand) (answered before
   pub one_line : lines_begun a.text ≤ 1
 
 -- Each line was, behind those before it. The script's end is heard with its last byte.
-abbrev pub AreAsked : Run → (grammar : List ℕ → Option TimedCommand) → (script : List ℕ) → List Answered → Type 0
-AreAsked run grammar script lines = (n : ℕ) (a : Answered) → slice_get lines n ≡ Some a
-    → IsAsked grammar n (stage_at run lines n).replied (length (texts_of (take (suc n) lines)) == length script) a
+abbrev pub AreAsked : (grammar : List ℕ → Option TimedCommand) → (script : List ℕ) → List Answered → Type 0
+AreAsked grammar script lines = (n : ℕ) (a : Answered) → slice_get lines n ≡ Some a
+    → IsAsked grammar n (last_line_time lines n) (length (texts_of (take (suc n) lines)) == length script) a
 
 -- Where a run stands once so much was heard of its script and so much was said: so many lines are answered, part of the next reply
 -- or of a last line was said, in which no whole reply stands, and no byte of a line behind the next was heard.
@@ -118,5 +118,5 @@ pub record StandsAt (lines : List Answered) (heard said : List ℕ) : Type 0 whe
 -- the stage there; the script's end is heard with its last byte
 abbrev pub stage_there : {lines : List Answered} {heard said : List ℕ} → Run → (grammar : List ℕ → Option TimedCommand) → (script : List ℕ) → StandsAt lines heard said → Stage
 stage_there {lines} {heard} {said} run grammar script at = record (stage_at run lines at.answered) {
-  next = next_line grammar at.answered (stage_at run lines at.answered).replied (length heard == length script) at.text;
+  next = next_line grammar at.answered (last_line_time lines at.answered) (length heard == length script) at.text;
 }

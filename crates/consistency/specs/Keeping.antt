@@ -3,21 +3,21 @@ use Rattle.std.specs.Prelude.{◌≡◌, ℕ, ◌≤◌, ◌==◌, List, [], ◌
 use Rattle.crash_plant.specs.Calls.{SameSite}
 use Rattle.crash_plant.specs.Moments.{PlantState}
 use Rattle.consistency.specs.Bears.{Run, Stage}
-use Rattle.consistency.specs.Courses.{Answered, AreAsked, IsCourse, lines_begun, next_line, replies_of, stage_at, texts_of}
+use Rattle.consistency.specs.Courses.{Answered, AreAsked, IsCourse, last_line_time, lines_begun, next_line, replies_of, stage_at, texts_of}
 use Rattle.consistency.specs.Moments.{FirstMeans, MomentBears}
 use Rattle.consistency.specs.Steps.{TimedCommand}
 
 -- the stage where these lines are answered and this was heard behind them
 abbrev pub stage_now : Run → (grammar : List ℕ → Option TimedCommand) → (script : List ℕ) → List Answered → (text : List ℕ) → Stage
 stage_now run grammar script lines text = record (stage_at run lines (length lines)) {
-  next = next_line grammar (length lines) (stage_at run lines (length lines)).replied (length (texts_of lines ++ text) == length script) text;
+  next = next_line grammar (length lines) (last_line_time lines (length lines)) (length (texts_of lines ++ text) == length script) text;
 }
 
 -- Between two calls of a run that keeps its past these lines were answered, this was heard of the next one, and each moment so far
 -- bears.
 pub record Keeps (run : Run) (grammar : List ℕ → Option TimedCommand) (lines : List Answered) (text : List ℕ) (old new : PlantState) : Type 0 where
   pub course : IsCourse run lines
-  pub asked : AreAsked run grammar old.script lines
+  pub asked : AreAsked grammar old.script lines
   pub later : old.clock ≤ new.clock
   pub site : SameSite old new
   pub heard : new.heard new.clock ≡ old.heard old.clock ++ (texts_of lines ++ text)

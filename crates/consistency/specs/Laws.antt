@@ -2,8 +2,7 @@
 use Rattle.std.specs.Prelude.{◌≡◌, ◌≤◌, ◌<◌, ◌^◌, ℕ, List, map, Option, Some, false, IsTrue, slice_get}
 use Rattle.pair_table.specs.declared.level.Level.{Level}
 use Rattle.pair_table.specs.Naming.{Naming}
-use Rattle.pair_table.specs.Refusals.{Pairs}
-use Rattle.pair_table.specs.Tables.{none_clash}
+use Rattle.pair_table.specs.Tables.{Table, none_clash}
 use Rattle.row_changes.specs.Changes.{Timed, after_changes}
 use Rattle.row_changes.specs.Toward.{has_no_hit, next_row}
 use Rattle.site_means.specs.Images.{Images, Shape}
@@ -22,15 +21,15 @@ TimesAreNotEarlier = (run : Run) (s : Stage) (shape : Shape) (images : Images) (
 
 -- It bears no time past a line that was heard, where the session hasn't ended.
 abbrev pub TimesAreNotLater : Type 0
-TimesAreNotLater = (run : Run) (s : Stage) (shape : Shape) (images : Images) (time : ℕ) (line : TimedCommand) → s.next ≡ Some line → s.pairs.is_ended ≡ false
+TimesAreNotLater = (run : Run) (s : Stage) (shape : Shape) (images : Images) (time : ℕ) (line : TimedCommand) → s.next ≡ Some line → s.table.is_ended ≡ false
     → Bears run s shape images time → time ≤ line.time
 
 -- Without a hit the rows before a line's command are determined: each row that wasn't suspended is duplex, or suspended since its
 -- control's break time where that lies between.
 abbrev pub StepsAreFunctions : Type 0
-StepsAreFunctions = (level : Level) (breaks : List (Option ℕ)) (names : Naming) (from : ℕ) (old : Pairs) (line : TimedCommand) (changes hits : List Timed) → IsTrue (none_clash old.table.rows)
+StepsAreFunctions = (level : Level) (breaks : List (Option ℕ)) (names : Naming) (from : ℕ) (old : Table) (line : TimedCommand) (changes hits : List Timed) → IsTrue (none_clash old.rows)
     → IsCommanded level breaks names from old line changes hits → IsTrue (has_no_hit changes)
-    → after_changes level changes old.table.rows ≡ map (next_row breaks from line.time) old.table.rows
+    → after_changes level changes old.rows ≡ map (next_row breaks from line.time) old.rows
 
 -- Where a run stands as many lines are answered as replies were said: the lines of its course are all that it replied to.
 abbrev pub RepliesAreAnswers : Type 0

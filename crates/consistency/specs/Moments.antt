@@ -20,11 +20,11 @@ pub record BearsTime (run : Run) (s : Stage) (said : List ℕ) (plant : PlantSta
   pub bears : Bears run s (shape_of plant) c time
   pub not_earlier : AreUpTo time (times_said said)
 
--- What the devices mean where the last reply had just been said whole: the pairs after its line, at its stamp.
-pub record MeansPairs (s : Stage) (means : Means) : Type 0 where
-  pub rows : means.table.rows ≡ s.pairs.table.rows
+-- What the devices mean where the last reply had just been said whole: the table after its line, at its stamp.
+pub record MeansTable (s : Stage) (means : Means) : Type 0 where
+  pub rows : means.table.rows ≡ s.table.rows
   pub time : means.time.0 ≡ s.replied
-  pub ended : means.ended ≡ s.pairs.is_ended
+  pub ended : means.ended ≡ s.table.is_ended
 
 -- At this moment of a call that answers these lines so much was heard and said since it began, and where the session has started each
 -- choice bears a time.
@@ -34,24 +34,24 @@ pub record MomentBears (run : Run) (grammar : List ℕ → Option TimedCommand) 
   pub heard_is : new.heard t ≡ old.heard old.clock ++ heard
   pub said_is : new.said t ≡ old.said old.clock ++ said
   pub at : StandsAt lines heard said
-  pub bears : IsTrue (stage_there run grammar old.script at).pairs.table.is_started → AtMoment (BearsTime run (stage_there run grammar old.script at) said new) new t
+  pub bears : IsTrue (stage_there run grammar old.script at).table.is_started → AtMoment (BearsTime run (stage_there run grammar old.script at) said new) new t
 
--- All choices of this moment mean the pairs after the last answered line, where the session has started.
-abbrev pub AllMeanPairs : (run : Run) → (grammar : List ℕ → Option TimedCommand) → (lines : List Answered) → (old new : PlantState) → (t : ℕ) → MomentBears run grammar lines old new t → Type 0
-AllMeanPairs run grammar lines old new t moment =
-    IsTrue (stage_there run grammar old.script moment.at).pairs.table.is_started
-    → AtMoment (λ c. (means : Means) × (means_of new c ≡ Some means) × MeansPairs (stage_there run grammar old.script moment.at) means) new t
+-- All choices of this moment mean the table after the last answered line, where the session has started.
+abbrev pub AllMeanTable : (run : Run) → (grammar : List ℕ → Option TimedCommand) → (lines : List Answered) → (old new : PlantState) → (t : ℕ) → MomentBears run grammar lines old new t → Type 0
+AllMeanTable run grammar lines old new t moment =
+    IsTrue (stage_there run grammar old.script moment.at).table.is_started
+    → AtMoment (λ c. (means : Means) × (means_of new c ≡ Some means) × MeansTable (stage_there run grammar old.script moment.at) means) new t
 
 -- They do at the first moment at which a reply was said whole.
 abbrev pub FirstMeans : (run : Run) → (grammar : List ℕ → Option TimedCommand) → (lines : List Answered) → (old new : PlantState)
     → ((t : ℕ) → old.clock ≤ t → t ≤ new.clock → MomentBears run grammar lines old new t) → Type 0
 FirstMeans run grammar lines old new each = (t : ℕ) (from : old.clock ≤ t) (to : t ≤ new.clock)
     → ((r : ℕ) (since : old.clock ≤ r) (within : r ≤ new.clock) → r < t → (each r since within).at.answered < (each t from to).at.answered)
-    → AllMeanPairs run grammar lines old new t (each t from to)
+    → AllMeanTable run grammar lines old new t (each t from to)
 
 -- The call answers these lines, and each of its moments bears.
 pub record BearsThroughout (run : Run) (grammar : List ℕ → Option TimedCommand) (lines : List Answered) (old new : PlantState) : Type 0 where
   pub course : IsCourse run lines
-  pub asked : AreAsked run grammar old.script lines
+  pub asked : AreAsked grammar old.script lines
   pub each : (t : ℕ) → old.clock ≤ t → t ≤ new.clock → MomentBears run grammar lines old new t
   pub replies : FirstMeans run grammar lines old new each

@@ -4,11 +4,9 @@ use Rattle.std.specs.List.{list_all}
 use Rattle.sidefile.specs.Breaks.{is_below}
 use Rattle.pair_table.specs.declared.command.Command.{Command}
 use Rattle.pair_table.specs.declared.level.Level.{Level}
-use Rattle.pair_table.specs.declared.row.PairRow.{PairRow}
-use Rattle.pair_table.specs.Commands.{pairs_after}
+use Rattle.pair_table.specs.Commands.{table_after}
 use Rattle.pair_table.specs.Naming.{Naming}
-use Rattle.pair_table.specs.Refusals.{Pairs}
-use Rattle.pair_table.specs.Tables.{with_rows}
+use Rattle.pair_table.specs.Tables.{Table, with_rows}
 use Rattle.row_changes.specs.Changes.{Timed, may_all_come, after_changes}
 use Rattle.row_changes.specs.Changes.Due.{NoneDue}
 use Rattle.row_changes.specs.Toward.{Toward, is_break, is_hit_at, is_settled}
@@ -28,37 +26,34 @@ broken_at time k (b ∷ breaks) = if is_below b time then k ∷ broken_at time (
 abbrev pub names_at : (time : ℕ) → (breaks : List (Option ℕ)) → Naming → Naming
 names_at time breaks names = record names { broken = broken_at time 0 breaks }
 
--- the pairs after a line's command alone
-abbrev pub commanded : (breaks : List (Option ℕ)) → Naming → Pairs → TimedCommand → Pairs
-commanded breaks names pairs line = pairs_after (names_at line.time breaks names) pairs line.session line.command line.time
-
-abbrev pub with_pair_rows : List PairRow → Pairs → Pairs
-with_pair_rows rows pairs = record pairs { table = with_rows pairs.table rows }
+-- the table after a line's command alone
+abbrev pub commanded : (breaks : List (Option ℕ)) → Naming → Table → TimedCommand → Table
+commanded breaks names table line = table_after (names_at line.time breaks names) table line.session line.command line.time
 
 -- Only a session that has started and not ended changes by itself.
-abbrev pub is_active : Pairs → Bool
-is_active pairs = pairs.table.is_started && not pairs.is_ended
+abbrev pub is_active : Table → Bool
+is_active table = table.is_started && not table.is_ended
 
--- the pairs on the way, after these changes
-abbrev pub pairs_on_the_way : Level → List Timed → Pairs → Pairs
-pairs_on_the_way level changes pairs = with_pair_rows (after_changes level changes pairs.table.rows) pairs
+-- the table on the way, after these changes
+abbrev pub table_on_the_way : Level → List Timed → Table → Table
+table_on_the_way level changes table = with_rows table (after_changes level changes table.rows)
 
--- The pairs after a line: after changes on the way to its time, its command, and hits that follow it.
-abbrev pub pairs_after_line : Level → (breaks : List (Option ℕ)) → Naming → Pairs → TimedCommand → (changes hits : List Timed) → Pairs
-pairs_after_line level breaks names old line changes hits = pairs_on_the_way level hits (commanded breaks names (pairs_on_the_way level changes old) line)
+-- The table after a line: after changes on the way to its time, its command, and hits that follow it.
+abbrev pub table_after_line : Level → (breaks : List (Option ℕ)) → Naming → Table → TimedCommand → (changes hits : List Timed) → Table
+table_after_line level breaks names old line changes hits = table_on_the_way level hits (commanded breaks names (table_on_the_way level changes old) line)
 
 -- The changes lead to the line's time, where no control with that break time has broken and no row is pending or copying. After
 -- the command volumes may be hit at that time.
-pub record IsCommanded (level : Level) (breaks : List (Option ℕ)) (names : Naming) (from : ℕ) (old : Pairs) (line : TimedCommand) (changes hits : List Timed) : Type 0 where
-  pub toward : Toward level breaks false from line.time old.table.rows changes
+pub record IsCommanded (level : Level) (breaks : List (Option ℕ)) (names : Naming) (from : ℕ) (old : Table) (line : TimedCommand) (changes hits : List Timed) : Type 0 where
+  pub toward : Toward level breaks false from line.time old.rows changes
   pub not_broken_yet : IsTrue (list_all (λ t. not (is_break t && t.time == line.time)) changes)
-  pub settled : IsTrue (list_all (λ r. is_settled r.state) (pairs_on_the_way level changes old).table.rows)
+  pub settled : IsTrue (list_all (λ r. is_settled r.state) (table_on_the_way level changes old).rows)
   pub are_hits : IsTrue (list_all (is_hit_at line.time) hits)
-  pub may_come : IsTrue (may_all_come level breaks false NoneDue line.time line.time (commanded breaks names (pairs_on_the_way level changes old) line).table.rows hits)
+  pub may_come : IsTrue (may_all_come level breaks false NoneDue line.time line.time (commanded breaks names (table_on_the_way level changes old) line).rows hits)
 
 -- A step from a line with the stamp `from` to the next, by these changes before its command and these hits after it. Before a
 -- session starts, and after it has ended, it is the command alone.
-pub record IsLineStep (level : Level) (breaks : List (Option ℕ)) (names : Naming) (from : ℕ) (old : Pairs) (line : TimedCommand) (changes hits : List Timed) (new : Pairs) : Type 0 where
+pub record IsLineStep (level : Level) (breaks : List (Option ℕ)) (names : Naming) (from : ℕ) (old : Table) (line : TimedCommand) (changes hits : List Timed) (new : Table) : Type 0 where
   pub active : IsTrue (is_active old) → IsCommanded level breaks names from old line changes hits
   pub still : is_active old ≡ false → (changes ≡ []) × (hits ≡ [])
-  pub made : new ≡ pairs_after_line level breaks names old line changes hits
+  pub made : new ≡ table_after_line level breaks names old line changes hits

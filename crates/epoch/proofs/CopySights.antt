@@ -134,11 +134,6 @@ rose_later a b c le rose = elim rose [ inl lt ↦ inl (omega (arith, le, lt)) | 
 pub each_here : (is : Choice → Type 0) (a : PlantState) → ((c : Choice) → IsChoice a a.clock c → is c) → EachIs is a a
 each_here is a here t from to c left = let same : t ≡ a.clock = omega (arith, from, to) in here c (subst (λ n. IsChoice a n c) same left)
 
--- no part yet
-pub part_here : (row : PairRow) (rows : List PairRow) (tracks : ℕ → List Rec) (time first : ℕ) (a : PlantState) → PartMoments row rows tracks time first a a
-part_here row rows tracks time first a means state before =
-    each_here (ShowsCopying (shape_of a) means row tracks) a (λ c left. shows_uncopied (shape_of a) means row tracks c state first before.uncopied (before.shows c left))
-
 -- The tracks before this one are copied, since a moment when none was.
 pub record HasCopied (tells : Type 0) (row : PairRow) (tracks : ℕ → List Rec) (time first : ℕ) (start site : SiteState) (old new : PlantState) : Type 0 where
   pub rows : IsUncopiedIn site.table.rows row

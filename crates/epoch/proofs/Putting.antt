@@ -1,5 +1,5 @@
 -- The writes of a run, put behind what waits or alone: what waits then, and how the pair follows on.
-use Rattle.std.proofs.Common.{◌≡◌, ◌≢◌, ℕ, ◌≤◌, Bool, true, false, Result, Ok, List, [], ◌∷◌, ◌++◌, refl, sym, ap, subst, ◌∙◌, arith}
+use Rattle.std.proofs.Common.{◌≡◌, ℕ, ◌≤◌, true, List, [], ◌∷◌, ◌++◌, refl, sym, ap, subst, ◌∙◌, arith}
 use Rattle.std.specs.Prelude.{All, filter, IsTrue}
 use Rattle.std.proofs.lemmas.Bool.{and_parts}
 use Rattle.std.proofs.lemmas.List.Elements.{All-nil}
@@ -45,10 +45,6 @@ run_rises volume tracks lane volumes limit batch waits run =
 -- nor from the start
 pub run_from_start : (control before limit : ℕ) (volumes : List VolumeHead) (batch : Batch) → IsRunOf volumes control before limit batch → writes_never_fall 0 batch.writes ≡ true
 run_from_start control before limit volumes batch run = one_stamp 0 run.stamp batch.writes (omega arith) run.stamps
-
--- what isn't put isn't put
-pub not_put : {E : Type 0} (result : Result Bool E) → result ≡ Ok false → result ≢ Ok true
-not_put result full put = cc
 
 -- ---- what waits with it
 

@@ -1,6 +1,6 @@
 -- The turns of following: how what was followed so far goes on.
-use Rattle.std.proofs.Common.{◌≡◌, ℕ, ◌≤◌, List, [], ◌∷◌, Result, Ok, Err, sym, ap, subst, ◌∙◌, arith}
-use Rattle.std.specs.Prelude.{All, OnErr, OnOk}
+use Rattle.std.proofs.Common.{◌≡◌, ℕ, ◌≤◌, List, [], ◌∷◌, sym, ap, subst, ◌∙◌, arith}
+use Rattle.std.specs.Prelude.{All}
 use Rattle.tod_stamp.specs.declared.stamp.Stamp.{Stamp}
 use Rattle.ckd_track.specs.declared.rec.Rec.{Rec}
 use Rattle.ckd_track.specs.declared.write.Batch.{Batch}
@@ -53,13 +53,11 @@ feed_same lane next time held formed control records blocks is = record {
   formed = ap (λ (f : FormedGroup). f.controls) formed ∙ is.formed;
 }
 
--- Entries put into an empty queue, or none, leave a feed.
-pub feed_put : {T E : Type 0} (result : Result T E) (lane next : Lane) (entries : List WaitingEntry) → (next.side ≡ lane.side) × (next.primary ≡ lane.primary) × (next.time ≡ lane.time) × (next.formed ≡ lane.formed)
-    → OnOk result (next.queue ≡ with_waiting lane.queue entries) → OnErr result (next.queue ≡ lane.queue) → IsFeed lane → IsFeed next
-feed_put (Ok x) lane next entries others put refused is =
+-- Entries put into an empty queue leave a feed.
+pub feed_put : (lane next : Lane) (entries : List WaitingEntry) → (next.side ≡ lane.side) × (next.primary ≡ lane.primary) × (next.time ≡ lane.time) × (next.formed ≡ lane.formed)
+    → next.queue ≡ with_waiting lane.queue entries → IsFeed lane → IsFeed next
+feed_put lane next entries others put is =
     feed_same lane next others.2 others.1 others.3 (ap (λ (q : QueueState). q.control) put) (ap (λ (q : QueueState). q.records) put) (ap (λ (q : QueueState). q.blocks) put) is
-feed_put (Err e) lane next entries others put refused is =
-    feed_same lane next others.2 others.1 others.3 (ap (λ (q : QueueState). q.control) refused) (ap (λ (q : QueueState). q.records) refused) (ap (λ (q : QueueState). q.blocks) refused) is
 
 -- the lane with another sidefile
 abbrev pub with_side : SidefileState → Lane → Lane

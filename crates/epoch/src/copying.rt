@@ -1,6 +1,6 @@
 //! The copy of a pair's tracks.
 
-ghost use Rattle.std.specs.Prelude.{◌≡◌, ◌≤◌, ◌<◌, ◌+◌, ◌*◌, ◌∷◌, ◌++◌, ℕ, [], length, false, OnOk, OnErr, IsErrOf, IsTrue};
+ghost use Rattle.std.specs.Prelude.{◌≡◌, ◌≤◌, ◌<◌, ◌+◌, ◌*◌, ◌∷◌, ◌++◌, ℕ, [], length, false, OnOk, IsErrOf, IsTrue};
 ghost use Rattle.xrc_edge.specs.Causes.{Rose};
 ghost use Rattle.ckd_track.specs.Tracks.{IsTrack};
 ghost use Rattle.crash_plant.specs.declared.device.Device.{Device as DeviceValue};
@@ -28,15 +28,14 @@ ghost use Rattle.epoch.specs.Works.{WorksSilently};
 
 use crate::Lane;
 use crate::keeping::keep_group;
+use crate::lane_queue::LaneQueue;
 use ckd_track::Slot;
 use crash_plant::Plant;
 use one_pair_site::{Site, StoreError};
 use pair_table::PairRow;
-use pending_queue::{PushError, Queue};
 use std::alloc::Global;
 use std::thread::Threads;
 use tod_stamp::Stamp;
-use xrc_edge::NoMemory;
 
 /// The most tracks that are copied in one group.
 const PART: u32 = 32;
@@ -63,35 +62,25 @@ fn tracks_of<V>(site: &Site<V>, row: &PairRow) -> u32
     HEADS * row.cylinders
 }
 
-/// Puts a copied track behind those that wait in a queue that has room for 32 of the longest.
-fn push_copy(
-    queue: &mut Queue,
-    alloc: Global,
-    volume: u16,
-    track: u32,
-    stamp: Stamp,
-    slot: &Slot,
-) -> Result<(), NoMemory>
+/// Puts a copied track behind those that wait in a queue that has room for it.
+fn push_copy(queue: &mut LaneQueue, volume: u16, track: u32, stamp: Stamp, slot: &Slot)
     requires records { length queue.old.waiting < queue.old.records }
     requires blocks { blocks_taken queue.old.waiting + 111 ≤ queue.old.blocks }
     requires last { last_stamp queue.old.waiting ≤ stamp.0 }
-    ensures pushed { OnOk result (queue.new ≡ with_waiting queue.old (queue.old.waiting ++ copy_of (copy_head queue.old.control volume track stamp) slot.now ∷ [])) }
-    ensures refused { OnErr result (queue.new ≡ queue.old) }
+    ensures pushed { queue.new ≡ with_waiting queue.old (queue.old.waiting ++ copy_of (copy_head queue.old.control volume track stamp) slot.now ∷ []) }
     ensures track { IsTrack slot.now }
-    ensures blocks { OnOk result (blocks_taken queue.new.waiting ≤ blocks_taken queue.old.waiting + 111) }
+    ensures blocks { blocks_taken queue.new.waiting ≤ blocks_taken queue.old.waiting + 111 }
 {
     // The track is one by its type.
     let _track = slot.bytes();
-    match queue.push_track(alloc, volume, track, stamp, slot) {
-        Ok(()) => Ok(()),
-        Err(PushError::NoMemory) => Err(NoMemory),
-        Err(PushError::Full(_)) => unreachable!(),
+    if queue.push_track(volume, track, stamp, slot).is_err() {
+        unreachable!();
     }
 }
 
 impl Lane {
     /// Puts the tracks of a part of a volume into the queue, as they are at the lane's time.
-    fn queue_part(&mut self, alloc: Global, volume: u16, part: Part) -> Result<(), NoMemory>
+    fn queue_part(&mut self, volume: u16, part: Part)
         requires feed { IsFeed self.old }
         requires empty { self.old.queue.waiting ≡ [] }
         requires volume { volume < length self.old.primary.volumes }
@@ -101,19 +90,18 @@ impl Lane {
         ensures side { self.new.side ≡ self.old.side }
         ensures primary { self.new.primary ≡ self.old.primary }
         ensures formed { self.new.formed ≡ self.old.formed }
-        ensures queued { OnOk result (self.new.queue.waiting ≡ copies_from volume self.old.time (track_of self.old.primary volume) part.first part.count) }
-        ensures tracks { OnOk result ((x : ℕ) → part.first ≤ x → x < part.first + part.count → IsTrack (track_of self.old.primary volume x)) }
+        ensures queued { self.new.queue.waiting ≡ copies_from volume self.old.time (track_of self.old.primary volume) part.first part.count }
+        ensures tracks { (x : ℕ) → part.first ≤ x → x < part.first + part.count → IsTrack (track_of self.old.primary volume x) }
     {
         for place in 0..part.count {
             let track = part.first + place;
             self.primary.read_track(volume, track, &mut self.slot);
-            push_copy(&mut self.queue, alloc, volume, track, self.time, &self.slot)?;
+            push_copy(&mut self.queue, volume, track, self.time, &self.slot);
         }
-        Ok(())
     }
 
     /// Forms the group of a part of a volume's tracks.
-    fn form_part(&mut self, alloc: Global, volume: u16, part: Part) -> Result<(), NoMemory>
+    fn form_part(&mut self, volume: u16, part: Part)
         requires feed { IsFeed self.old }
         requires empty { self.old.queue.waiting ≡ [] }
         requires volume { volume < length self.old.primary.volumes }
@@ -122,17 +110,16 @@ impl Lane {
         ensures time { self.new.time ≡ self.old.time }
         ensures side { self.new.side ≡ self.old.side }
         ensures primary { self.new.primary ≡ self.old.primary }
-        ensures empty { OnOk result (self.new.queue.waiting ≡ []) }
-        ensures formed { OnOk result (self.new.formed ≡ group_of volume self.old.time (track_of self.old.primary volume) part) }
-        ensures tracks { OnOk result ((x : ℕ) → part.first ≤ x → x < part.first + part.count → IsTrack (track_of self.old.primary volume x)) }
+        ensures empty { self.new.queue.waiting ≡ [] }
+        ensures formed { self.new.formed ≡ group_of volume self.old.time (track_of self.old.primary volume) part }
+        ensures tracks { (x : ℕ) → part.first ≤ x → x < part.first + part.count → IsTrack (track_of self.old.primary volume x) }
     {
-        self.queue_part(alloc, volume, part)?;
+        self.queue_part(volume, part);
         self.formed.begin(self.time);
-        self.queue.pop_upto(alloc, self.time, &mut self.formed)?;
-        if !part.is_last {
-            return Ok(());
+        self.queue.pop_upto(self.time, &mut self.formed);
+        if part.is_last {
+            self.formed.add_done(0, volume);
         }
-        self.formed.add_done(alloc, 0, volume)
     }
 
     /// Copies a part of a pair's tracks in one group.
@@ -183,7 +170,7 @@ impl Lane {
         ensures journal_end { P.tells → IsErrOf result JournalEnd → IsFullForCopy row.now (track_of self.old.primary row.now.volume) self.old.primary.time (P.state plant.new) }
         ensures good { OnOk result (NoneFailed site.new) }
     {
-        self.form_part(alloc, row.volume, part)?;
+        self.form_part(row.volume, part);
         keep_group(rt, alloc, plant, site, &self.formed)
     }
 

@@ -1,6 +1,6 @@
 //! Following the primary of a duplex pair.
 
-ghost use Rattle.std.specs.Prelude.{◌≡◌, ◌≢◌, ◌≤◌, ◌<◌, ◌⊎◌, ◌++◌, ℕ, [], ◌∷◌, length, filter, true, false, All, Ok, OnErr, OnOk, IsErrOf, IsTrue};
+ghost use Rattle.std.specs.Prelude.{◌≡◌, ◌≤◌, ◌<◌, ◌⊎◌, ◌++◌, ℕ, [], ◌∷◌, length, filter, true, false, All, OnOk, IsErrOf, IsTrue};
 ghost use Rattle.xrc_edge.specs.Causes.{Rose};
 ghost use Rattle.ckd_track.specs.Effects.{is_kind};
 ghost use Rattle.crash_plant.specs.declared.device.Device.{Device as DeviceValue};
@@ -15,8 +15,7 @@ ghost use Rattle.primary_ctl.specs.States.{after_writes, is_on, track_of};
 ghost use Rattle.sidefile.specs.States.{IsRunOf};
 ghost use Rattle.site_means.specs.declared.means.Means.{Means as MeansValue};
 ghost use Rattle.site_means.specs.Images.{shape_of};
-ghost use Rattle.one_pair_site.specs.declared.store_error.StoreError.{StoreError as StoreErrorValue};
-ghost use Rattle.one_pair_site.specs.declared.store_error.StoreError.TheVariants.{Fault, JournalEnd, NoMemory, Spent, Volume as VolumeError};
+ghost use Rattle.one_pair_site.specs.declared.store_error.StoreError.TheVariants.{Fault, JournalEnd, Spent, Volume as VolumeError};
 ghost use Rattle.one_pair_site.specs.Marking.{NoneFailed};
 ghost use Rattle.one_pair_site.specs.Standing.{Fits, Stands};
 ghost use Rattle.epoch.specs.declared.epoch_error.EpochError.TheVariants.{Broken, Store};
@@ -30,13 +29,12 @@ ghost use Rattle.epoch.specs.Taken.{FailsAsBefore, HasFailed, HasReached, HasTak
 ghost use Rattle.epoch.specs.Works.{WorksSilently};
 ghost use Rattle.ckd_track.specs.Writes.{writes_never_fall};
 
-use crate::carried::{OfVolume, are_of_kind};
+use crate::carried::are_of_kind;
 use crate::{EpochError, Lane};
 use ckd_track::Batch;
 use crash_plant::Plant;
 use one_pair_site::{Site, StoreError};
 use pair_table::PairRow;
-use pending_queue::PushError;
 use sidefile::Hand;
 use std::alloc::Global;
 use std::thread::Threads;
@@ -46,38 +44,29 @@ use xrc_edge::Source;
 impl Lane {
     /// Puts the writes of a batch that are on a volume behind those that wait. False where they don't fit, and then nothing has
     /// changed.
-    fn put_batch(&mut self, alloc: Global, volume: u16, batch: &Batch) -> Result<bool, StoreError>
+    fn put_batch(&mut self, volume: u16, batch: &Batch) -> bool
         requires rules { IsTrue (all_keep_rules batch.now.writes) }
         requires stamps { IsTrue (writes_never_fall (last_stamp self.old.queue.waiting) batch.now.writes) }
         ensures others { (self.new.side ≡ self.old.side) × (self.new.primary ≡ self.old.primary) × (self.new.time ≡ self.old.time) × (self.new.formed ≡ self.old.formed) }
-        ensures put { result ≡ Ok true → self.new.queue ≡ with_waiting self.old.queue (self.old.queue.waiting ++ entries_of self.old.queue.control (filter (is_of volume) batch.now.writes)) }
-        ensures full { result ≡ Ok false → has_room (free_room self.old.queue) (filter (is_of volume) batch.now.writes) ≡ false }
-        ensures same { result ≢ Ok true → self.new.queue ≡ self.old.queue }
-        ensures memory { (e : StoreErrorValue) → IsErrOf result e → e ≡ NoMemory }
+        ensures put { result ≡ true → self.new.queue ≡ with_waiting self.old.queue (self.old.queue.waiting ++ entries_of self.old.queue.control (filter (is_of volume) batch.now.writes)) }
+        ensures full { result ≡ false → has_room (free_room self.old.queue) (filter (is_of volume) batch.now.writes) ≡ false }
+        ensures same { result ≡ false → self.new.queue ≡ self.old.queue }
     {
-        match self.queue.push_carried(alloc, batch, &OfVolume(volume)) {
-            Ok(()) => Ok(true),
-            Err(PushError::Full(_)) => Ok(false),
-            Err(PushError::NoMemory) => Err(StoreError::NoMemory),
-        }
+        self.queue.push_carried(volume, batch)
     }
 
     /// The same where none waits: then there is room.
-    fn put_first(&mut self, alloc: Global, volume: u16, batch: &Batch) -> Result<(), StoreError>
+    fn put_first(&mut self, volume: u16, batch: &Batch)
         requires feed { IsFeed self.old }
         requires empty { self.old.queue.waiting ≡ [] }
         requires kinds { All (λ w. IsTrue (is_kind w.kind)) batch.now.writes }
         requires few { length batch.now.writes ≤ most_records }
         requires stamps { IsTrue (writes_never_fall 0 batch.now.writes) }
         ensures others { (self.new.side ≡ self.old.side) × (self.new.primary ≡ self.old.primary) × (self.new.time ≡ self.old.time) × (self.new.formed ≡ self.old.formed) }
-        ensures put { OnOk result (self.new.queue ≡ with_waiting self.old.queue (entries_of 0 (filter (is_of volume) batch.now.writes))) }
-        ensures refused { OnErr result (self.new.queue ≡ self.old.queue) }
-        ensures memory { (e : StoreErrorValue) → IsErrOf result e → e ≡ NoMemory }
+        ensures put { self.new.queue ≡ with_waiting self.old.queue (entries_of 0 (filter (is_of volume) batch.now.writes)) }
     {
-        if self.put_batch(alloc, volume, batch)? {
-            Ok(())
-        } else {
-            unreachable!()
+        if !self.put_batch(volume, batch) {
+            unreachable!();
         }
     }
 
@@ -130,11 +119,12 @@ impl Lane {
         ensures good { NoneFailed site.old → OnOk result (NoneFailed site.new) }
     {
         are_of_kind(batch.writes.as_slice());
-        if self.put_batch(alloc, row.volume, batch)? {
+        if self.put_batch(row.volume, batch) {
             return Ok(());
         }
         self.keep_waiting(rt, alloc, plant, site, row)?;
-        self.put_first(alloc, row.volume, batch)
+        self.put_first(row.volume, batch);
+        Ok(())
     }
 
     /// Takes over a batch of a duplex pair's control: its writes on the pair's volume wait, and the primary has them all. Where they

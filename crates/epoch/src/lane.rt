@@ -10,19 +10,15 @@ ghost use Rattle.epoch.specs.Lanes.{IsLane};
 ghost use Rattle.epoch.specs.Taken.{FailsAsBefore, HasFailed, HasReached, HasTaken, WillBreak};
 
 use crate::LaneError;
+use crate::lane_queue::LaneQueue;
 use ckd_track::{Batch, Slot};
-use pending_queue::{Formed, Queue};
+use pending_queue::Formed;
 use primary_ctl::Primary;
 use sidefile::{Hand, Sidefile};
 use std::alloc::Global;
 use tod_stamp::Stamp;
 use write_trace::{Header, TraceReader};
 use xrc_edge::{NoMemory, Source};
-
-/// The entries that may wait, and the blocks of 512 bytes that they may take: as many as 32 of the longest take.
-const RECORDS: u32 = 32;
-
-const BLOCKS: u32 = 3_552;
 
 /// What control 0 has read of its trace: its sidefile, its primary volumes at a time, the writes that wait for a group, a buffer for
 /// groups, and one for a track.
@@ -31,7 +27,7 @@ pub struct Lane {
     pub(crate) side: Sidefile,
     pub(crate) primary: Primary,
     pub(crate) time: Stamp,
-    pub(crate) queue: Queue,
+    pub(crate) queue: LaneQueue,
     pub(crate) formed: Formed,
     pub(crate) slot: Slot,
 }
@@ -52,7 +48,7 @@ impl Lane {
             side: Sidefile::make(alloc, 0, reader)?,
             primary: Primary::make(alloc, header)?,
             time: Stamp(0),
-            queue: Queue::make(alloc, 0, RECORDS, BLOCKS)?,
+            queue: LaneQueue::make(alloc)?,
             formed: Formed::make(alloc, 1)?,
             slot: Slot::make(alloc)?,
         })

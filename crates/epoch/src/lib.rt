@@ -8,6 +8,7 @@ mod following;
 mod keeping;
 mod lane;
 mod lane_error;
+mod lane_queue;
 mod waiting;
 
 pub use epoch_error::EpochError;

@@ -83,7 +83,7 @@ impl Lane {
         // A queue has few entries by its type.
         let _few = self.queue.len();
         self.formed.begin(self.time);
-        self.queue.pop_upto(alloc, self.time, &mut self.formed)?;
+        self.queue.pop_upto(self.time, &mut self.formed);
         keep_group(rt, alloc, plant, site, &self.formed)
     }
 

@@ -18,7 +18,6 @@ use Rattle.group_state.specs.Machine.Reply.{Made}
 use Rattle.group_state.specs.Runs.{Answer, May, Runs}
 use Rattle.group_state.specs.HistoryLaws.{answered, answered_break, BreaksWereTold}
 use Rattle.group_state.proofs.Stands.{at_each, stands_first}
-use Rattle.group_state.proofs.Steps.{either_step}
 use Rattle.group_state.proofs.RunLaws.{split, stands_after, form_shows}
 
 -- a control that has broken was told so
@@ -97,10 +96,8 @@ module _ (run : List Answer) (a : Answer) (s : Group) (told : WereTold run s) wh
 -- ---- runs
 
 step_told : (run : List Answer) (a : Answer) (s next : Group) → WereTold run s → May s a.call → steps s a.call a.reply next → WereTold (run ++ a ∷ []) next
-step_told run a s next told may made = elim (either_step s a.call a.reply next made) [
-  | inl lacks ↦ subst (WereTold (run ++ a ∷ [])) (sym lacks.1) (all_later run a s told)
-  | inr answers ↦ subst (WereTold (run ++ a ∷ [])) (sym answers.1) (by_call run a s told a.call may (λ is. ap (λ r. record { call = a.call; reply = r }) (answers.0 ∙ is)))
-]
+step_told run a s next told may made =
+    subst (WereTold (run ++ a ∷ [])) (sym made.1) (by_call run a s told a.call may (λ is. ap (λ r. record { call = a.call; reply = r }) (made.0 ∙ is)))
 
 told_after : (done run : List Answer) (s end : Group) → WereTold done s → Runs s run end → WereTold (done ++ run) end
 told_after done [] s end told runs = subst (λ answers. WereTold answers end) (sym (append-nil done)) (subst (WereTold done) (sym runs) told)

@@ -19,7 +19,7 @@ use Rattle.group_state.specs.Machine.Reply.{Joined}
 use Rattle.group_state.specs.Runs.{Answer, May, Runs, history}
 use Rattle.group_state.specs.HistoryLaws.{answered, answered_copy, WasCopied, CopiesWereTold}
 use Rattle.group_state.proofs.Stands.{Stands, at_each, stands_first}
-use Rattle.group_state.proofs.Steps.{either_step, step}
+use Rattle.group_state.proofs.Steps.{step}
 use Rattle.group_state.proofs.RunLaws.{split, form_shows}
 use Rattle.group_state.proofs.Tracks.{event_last}
 
@@ -129,10 +129,8 @@ module _ (n : ℕ) (run : List Answer) (a : Answer) (s : Group) (h : WereCopied 
 -- ---- runs
 
 step_copied : (n : ℕ) (run : List Answer) (a : Answer) (s next : Group) → WereCopied run s → May s a.call → ((k : ℕ) → k < length s.controls → (control_at s k).queue.control ≡ k) → steps s a.call a.reply next → WereCopied (run ++ a ∷ []) next
-step_copied n run a s next h may numbers made = elim (either_step s a.call a.reply next made) [
-  | inl lacks ↦ subst (WereCopied (run ++ a ∷ [])) (sym lacks.1) (all_still n run a s h)
-  | inr answers ↦ subst (WereCopied (run ++ a ∷ [])) (sym answers.1) (by_call n run a s h a.call may numbers (ap (λ r. record { call = a.call; reply = r }) answers.0))
-]
+step_copied n run a s next h may numbers made =
+    subst (WereCopied (run ++ a ∷ [])) (sym made.1) (by_call n run a s h a.call may numbers (ap (λ r. record { call = a.call; reply = r }) made.0))
 
 copied_after : (n : ℕ) (done run : List Answer) (s end : Group) → WereCopied done s → Stands n (history done) s → Runs s run end → WereCopied (done ++ run) end
 copied_after n done [] s end h stands runs = subst (λ answers. WereCopied answers end) (sym (append-nil done)) (subst (WereCopied done) (sym runs) h)

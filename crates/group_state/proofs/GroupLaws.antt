@@ -1,14 +1,12 @@
 -- Controls stand by their numbers after each change.
 use Rattle.std.proofs.lemmas.List.{take_more, append-nil, get_or-append_right, get_or-drop, length-take-le}
 use Rattle.std.proofs.lemmas.Grind.{flat_map-append}
-use Rattle.std.proofs.Common.{◌≡◌, ℕ, zero, suc, ◌-◌, take, drop, append_assoc, length-append, ◌+◌, ◌≤◌, ◌<◌, true, ◌&&◌, List, [], ◌∷◌, ◌++◌, length, get_or, set, map, Ok, Err, refl, sym, ap, subst, ◌∙◌, arith, length-set, add-one}
-use Rattle.std.specs.Prelude.{Result, OnOk, OnErr, ◌≢◌, nat_eq, nat_le}
+use Rattle.std.proofs.Common.{◌≡◌, ℕ, zero, suc, ◌-◌, take, drop, append_assoc, length-append, ◌+◌, ◌≤◌, ◌<◌, true, ◌&&◌, List, [], ◌∷◌, ◌++◌, length, get_or, set, map, refl, sym, ap, subst, ◌∙◌, arith, length-set, add-one}
+use Rattle.std.specs.Prelude.{nat_eq, nat_le}
 use Rattle.std.specs.List.{list_all, flat_map}
 use Rattle.std.proofs.lemmas.Bool.{and_parts, and_from, eq-eqb, leb-true, le-leb}
 use Rattle.tod_stamp.specs.declared.limits.TheConstants.{MOST_CONTROLS}
 use Rattle.tod_stamp.specs.declared.stamp.Stamp.{Stamp}
-use Rattle.group_state.specs.declared.joining.CopyJoin.{CopyJoin}
-use Rattle.group_state.specs.declared.joining.CopyJoin.TheVariants.{Joined, Held, Stale, NoMemory}
 use Rattle.xrc_edge.specs.Order.{in_order}
 use Rattle.xrc_edge.proofs.Merges.{order_grows, length_order}
 use Rattle.pending_queue.specs.Entries.{WaitingEntry, stands_before}
@@ -25,16 +23,6 @@ pub record SameQueue (new old : ControlState) : Type 0 where
 
 pub same_queue : (new old : ControlState) → new ≡ old → SameQueue new old
 same_queue new old e = record { control = ap (λ (c : ControlState). c.queue.control) e; records = ap (λ (c : ControlState). c.queue.records) e }
-
-pub same_result : {A E : Type 0} (r : Result A E) (new then old : ControlState) → OnOk r (new ≡ then) → OnErr r (new ≡ old) → SameQueue then old → SameQueue new old
-same_result (Ok a) new then old ok err s = subst (λ (c : ControlState). SameQueue c old) (sym ok) s
-same_result (Err e) new then old ok err s = same_queue new old err
-
-pub same_copy : (r : CopyJoin) (new then old : ControlState) → (r ≡ Joined → new ≡ then) → (r ≢ Joined → new ≡ old) → SameQueue then old → SameQueue new old
-same_copy Joined new then old ok err s = subst (λ (c : ControlState). SameQueue c old) (sym (ok refl)) s
-same_copy (Held room) new then old ok err s = same_queue new old (err (λ e. cc))
-same_copy Stale new then old ok err s = same_queue new old (err (λ e. cc))
-same_copy NoMemory new then old ok err s = same_queue new old (err (λ e. cc))
 
 -- ---- one control
 

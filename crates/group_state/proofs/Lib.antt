@@ -1,7 +1,9 @@
 pub mod VolumeLaws
 pub mod SoundLaws
 pub mod FormLaws
+pub mod Numbers
 pub mod GroupLaws
+pub mod NewsRoom
 pub mod WantedLaws
 pub mod Seen
 pub mod Shares
@@ -10,6 +12,7 @@ pub mod Told
 pub mod Elsewhere
 pub mod Controls
 pub mod Stands
+pub mod Kept
 pub mod Forms
 pub mod Steps
 pub mod RunLaws

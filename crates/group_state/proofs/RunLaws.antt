@@ -1,5 +1,5 @@
 -- Runs are histories, their forms give the groups, and no batch joins late.
-use Rattle.std.proofs.Common.{inl, inr, ◌≡◌, ℕ, Bool, true, false, cond, List, [], ◌∷◌, ◌++◌, Option, Some, None, refl, sym, ap, subst, ◌∙◌, append_assoc, append-nil}
+use Rattle.std.proofs.Common.{◌≡◌, ℕ, Bool, true, false, cond, List, [], ◌∷◌, ◌++◌, Option, Some, None, refl, sym, ap, subst, ◌∙◌, append_assoc, append-nil}
 use Rattle.std.specs.List.{list_all, cons_option}
 use Rattle.std.specs.Option.{option_map}
 use Rattle.std.proofs.lemmas.Bool.{and_parts}
@@ -19,7 +19,7 @@ use Rattle.group_state.specs.Runs.{Answer, event_of, history, shown_by, Runs}
 use Rattle.group_state.specs.HistoryLaws.{RunsAreHistories, answered, answered_join, HasForm, IsGroupOf, FormsGiveGroups, NoLateJoin}
 use Rattle.group_state.proofs.Stands.{Stands, stands_first}
 use Rattle.group_state.proofs.Forms.{shows_group}
-use Rattle.group_state.proofs.Steps.{with_event, either_step, step}
+use Rattle.group_state.proofs.Steps.{with_event, step}
 
 pub event_first : (past : List Event) (x : Option Event) (rest : List Event) → with_event past x ++ rest ≡ past ++ cons_option x rest
 event_first past None rest = refl
@@ -50,10 +50,7 @@ split s (a ∷ before) rest end runs =
     record { middle = later.middle; first = (runs.0, runs.1, runs.2, later.first); second = later.second }
 
 pub form_shows : (s : Group) (limit : Stamp) (reply : Reply) (shown : Shown) (next : Group) → shown_by reply ≡ Some shown → steps s (Form limit) reply next → shown_at (cut_of s limit) s ≡ shown
-form_shows s limit reply shown next is made = elim (either_step s (Form limit) reply next made) [
-  | inl lacks ↦ let none : None ≡ Some shown = sym (ap shown_by lacks.0) ∙ is in absurd cc
-  | inr answers ↦ by_reply (gives_nothing s limit) (sym (ap shown_by answers.0) ∙ is)
-]
+form_shows s limit reply shown next is made = by_reply (gives_nothing s limit) (sym (ap shown_by made.0) ∙ is)
   where
     by_reply : (t : Bool) → shown_by (cond t (Nothing (shown_at (cut_of s limit) s)) (Formed (shown_at (cut_of s limit) s))) ≡ Some shown → shown_at (cut_of s limit) s ≡ shown
     by_reply true e = cc

@@ -137,7 +137,7 @@ entry_aside v change keeps volumes x other is = rw (found_with v x.head.volume c
 
 -- ---- a joined batch
 
-written_keeps : (x : ℕ) → Keeps (noted_write x)
+pub written_keeps : (x : ℕ) → Keeps (noted_write x)
 written_keeps x u = choose u.carried
   where
     choose : (t : Bool) → (let v : Volume = cond t u (record u { map = with_track u.map x }) in v.number) ≡ u.number

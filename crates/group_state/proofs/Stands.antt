@@ -74,7 +74,7 @@ stands_next n past x j change s h lt legal cut elsewhere carried number sound co
 
 -- ---- the first state
 
-new_at : (n first records blocks k : ℕ) (d : ControlState) → k < n → get_or (new_controls n first records blocks) k d ≡ new_control (first + k) records blocks
+pub new_at : (n first records blocks k : ℕ) (d : ControlState) → k < n → get_or (new_controls n first records blocks) k d ≡ new_control (first + k) records blocks
 new_at zero first records blocks k d lt = absurd (omega arith)
 new_at (suc n) first records blocks zero d lt = ap (λ k. new_control k records blocks) (omega arith)
 new_at (suc n) first records blocks (suc k) d lt = new_at n (first + 1) records blocks k d (omega arith) ∙ ap (λ k. new_control k records blocks) (omega arith)
@@ -88,7 +88,7 @@ new_follows k records blocks = record {
   waiting = tt;
 }
 
-new_sound : (k records blocks : ℕ) → Sound (new_control k records blocks)
+pub new_sound : (k records blocks : ℕ) → Sound (new_control k records blocks)
 new_sound k records blocks = record { stamps = refl; sizes = refl; distinct = refl; entries = refl; counts = λ v. refl }
 
 pub stands_first : (n records blocks : ℕ) → Stands n [] (new_group n records blocks)

@@ -1,5 +1,5 @@
 -- Each call, made when it may be made and answered as the machine answers, keeps what is kept.
-use Rattle.std.proofs.Common.{inl, inr, ◌≡◌, ℕ, ◌<◌, Bool, true, false, not, cond, nat_lt, nat_le, ◌&&◌, ◌⊎◌, List, [], ◌∷◌, ◌++◌, Option, Some, None, refl, sym, ap, subst, ◌∙◌, arith}
+use Rattle.std.proofs.Common.{◌≡◌, ℕ, ◌<◌, Bool, true, false, not, cond, nat_lt, nat_le, ◌&&◌, List, [], ◌∷◌, ◌++◌, Option, Some, None, refl, sym, ap, subst, ◌∙◌, arith}
 use Rattle.std.specs.Prelude.{◌==◌, filter}
 use Rattle.std.proofs.lemmas.Bool.{and_from, eq-eqb, lt-ltb, le-leb}
 use Rattle.tod_stamp.specs.declared.stamp.Stamp.{Stamp}
@@ -19,7 +19,7 @@ use Rattle.group_state.specs.Groups.{Group, control_at, with_control, cut_of, gi
 use Rattle.group_state.specs.Sound.{MayTell}
 use Rattle.group_state.specs.Machine.{Call, Reply, reply_to, group_after, steps}
 use Rattle.group_state.specs.Machine.Call.{Join, NextWanted, Copied, Raise, Break, Form, Carry, Drop, Resume, Forget}
-use Rattle.group_state.specs.Machine.Reply.{Made, Joined, Held, Stale, Wanted, Formed, Nothing, Owed, NoMemory}
+use Rattle.group_state.specs.Machine.Reply.{Joined, Held, Stale, Formed, Nothing}
 use Rattle.group_state.proofs.SoundLaws.{sound_joined, sound_raised, sound_broke, sound_copied, sound_begun, sound_dropped, sound_resumed, sound_forgotten}
 use Rattle.group_state.specs.Runs.{tracks_in, event_by, May}
 use Rattle.group_state.specs.Follows.{IsControlOf}
@@ -145,36 +145,7 @@ answered_step n past s (Drop k v all) h may = stands_dropped n past s k v all h 
 answered_step n past s (Resume k v) h may = stands_resumed n past s k v h may
 answered_step n past s (Forget k v) h may = stands_forgotten n past s k v h may
 
--- ---- the reply of a step
-
--- a step is by want of memory, or the machine's
-pub either_step : (old : Group) (call : Call) (reply : Reply) (new : Group) → steps old call reply new → ((reply ≡ NoMemory) × (new ≡ old)) ⊎ ((reply ≡ reply_to old call) × (new ≡ group_after old call))
-either_step old call NoMemory new step = inl (refl, step.1)
-either_step old call Made new step = inr step
-either_step old call Joined new step = inr step
-either_step old call (Held room) new step = inr step
-either_step old call Stale new step = inr step
-either_step old call (Wanted track) new step = inr step
-either_step old call (Formed shown) new step = inr step
-either_step old call (Nothing shown) new step = inr step
-either_step old call (Owed tracks) new step = inr step
-
-no_event : (call : Call) → event_by call NoMemory ≡ None
-no_event (Join b) = refl
-no_event (NextWanted k) = refl
-no_event (Copied k v x at slot) = refl
-no_event (Raise k upto) = refl
-no_event (Break k upto cause) = refl
-no_event (Form limit) = refl
-no_event (Carry k v plan) = refl
-no_event (Drop k v all) = refl
-no_event (Resume k v) = refl
-no_event (Forget k v) = refl
-
 pub step : (n : ℕ) (past : List Event) (old : Group) (call : Call) (reply : Reply) (new : Group) → Stands n past old → May old call → steps old call reply new → Stands n (with_event past (event_by call reply)) new
-step n past old call reply new h may made = elim (either_step old call reply new made) [
-  | inl lacks ↦ subst (λ r. Stands n (with_event past (event_by call r)) new) (sym lacks.0)
-      (subst (λ x. Stands n (with_event past x) new) (sym (no_event call)) (subst (Stands n past) (sym lacks.1) h))
-  | inr answers ↦ subst (λ r. Stands n (with_event past (event_by call r)) new) (sym answers.0)
-      (subst (Stands n (with_event past (event_by call (reply_to old call)))) (sym answers.1) (answered_step n past old call h may))
-]
+step n past old call reply new h may made =
+    subst (λ r. Stands n (with_event past (event_by call r)) new) (sym made.0)
+    (subst (Stands n (with_event past (event_by call (reply_to old call)))) (sym made.1) (answered_step n past old call h may))

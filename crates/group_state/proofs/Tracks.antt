@@ -17,14 +17,14 @@ use Rattle.group_state.specs.Groups.{Group, new_controls, new_group, control_at,
 use Rattle.group_state.specs.Sound.{passes_or_none, are_distinct, Sound}
 use Rattle.group_state.specs.Machine.{Call, group_after, reply_to, steps}
 use Rattle.group_state.specs.Machine.Call.{Join, NextWanted, Copied, Raise, Break, Form, Carry, Drop, Resume, Forget}
-use Rattle.group_state.specs.Machine.Reply.{Made, NoMemory}
+use Rattle.group_state.specs.Machine.Reply.{Made}
 use Rattle.group_state.proofs.VolumeLaws.{same_or_none, found_behind, found_without}
 use Rattle.group_state.proofs.SoundLaws.{length_dropped}
 use Rattle.group_state.specs.Runs.{Answer, May, Runs, event_of, history}
 use Rattle.group_state.specs.HistoryLaws.{tracks_by, tracks_told}
 use Rattle.group_state.proofs.Shares.{written_number}
 use Rattle.group_state.proofs.Stands.{Stands, at_each}
-use Rattle.group_state.proofs.Steps.{with_event, either_step, step}
+use Rattle.group_state.proofs.Steps.{with_event, step}
 use Rattle.group_state.proofs.RunLaws.{event_first}
 
 abbrev pub has_tracks : (tracks : ℕ) → Volume → Bool
@@ -114,28 +114,12 @@ module _ (tracks : ℕ → ℕ → ℕ) (s : Group) (h : HaveAll tracks s) where
       (λ w. same_or_none (has_tracks (tracks k w)) v w resumed_volume (λ u. refl) (λ u. ap (λ m. nat_eq m (tracks k w)) (length-replicate (length u.map) false)) (control_at s k).volumes ∙ h k w)
   by_call (Forget k v) may sound = changed k (forgotten v) may.0 (have_forgotten (tracks k) v (control_at s k).volumes (sound k may.0).distinct (h k))
 
-no_tracks : (k v n : ℕ) (call : Call) → tracks_by k v n call NoMemory ≡ n
-no_tracks k v n (Join b) = refl
-no_tracks k v n (NextWanted j) = refl
-no_tracks k v n (Copied j u x at slot) = refl
-no_tracks k v n (Raise j upto) = refl
-no_tracks k v n (Break j upto cause) = refl
-no_tracks k v n (Form limit) = refl
-no_tracks k v n (Carry j u plan) = refl
-no_tracks k v n (Drop j u all) = refl
-no_tracks k v n (Resume j u) = refl
-no_tracks k v n (Forget j u) = refl
-
 step_tracks : (run : List Answer) (a : Answer) (s next : Group) → HaveTracks run s → May s a.call → ((k : ℕ) → k < length s.controls → Sound (control_at s k)) → steps s a.call a.reply next → HaveTracks (run ++ a ∷ []) next
 step_tracks run a s next h may sound made k v =
-    subst (λ n. passes_or_none (has_tracks n) (volume_of v (control_at next k).volumes) ≡ true) (sym (told_more run a k v)) (elim (either_step s a.call a.reply next made) [
-      | inl lacks ↦ subst (λ n. passes_or_none (has_tracks n) (volume_of v (control_at next k).volumes) ≡ true)
-          (sym (ap (tracks_by k v (tracks_told k v run) a.call) lacks.0 ∙ no_tracks k v (tracks_told k v run) a.call))
-          (subst (λ (t : Group). passes_or_none (has_tracks (tracks_told k v run)) (volume_of v (control_at t k).volumes) ≡ true) (sym lacks.1) (h k v))
-      | inr answers ↦ subst (λ n. passes_or_none (has_tracks n) (volume_of v (control_at next k).volumes) ≡ true) (sym (ap (tracks_by k v (tracks_told k v run) a.call) answers.0))
-          (subst (λ (t : Group). passes_or_none (has_tracks (tracks_by k v (tracks_told k v run) a.call (reply_to s a.call))) (volume_of v (control_at t k).volumes) ≡ true) (sym answers.1)
-          (by_call (λ k v. tracks_told k v run) s h a.call may sound k v))
-    ])
+    subst (λ n. passes_or_none (has_tracks n) (volume_of v (control_at next k).volumes) ≡ true)
+    (sym (told_more run a k v ∙ ap (tracks_by k v (tracks_told k v run) a.call) made.0))
+    (subst (λ (t : Group). passes_or_none (has_tracks (tracks_by k v (tracks_told k v run) a.call (reply_to s a.call))) (volume_of v (control_at t k).volumes) ≡ true) (sym made.1)
+    (by_call (λ k v. tracks_told k v run) s h a.call may sound k v))
 
 -- ---- runs
 

@@ -1,5 +1,5 @@
 -- What a group state is to its callers, and what a form gives.
-use Rattle.std.specs.Prelude.{ℕ, ◌+◌, ◌≤◌, ◌==◌, ◌&&◌, not, zero, suc, List, [], ◌∷◌, ◌++◌, length, map, fold, Bool, true, nat_le, slice_index_or, slice_set, IsTrue}
+use Rattle.std.specs.Prelude.{ℕ, ◌+◌, ◌*◌, ◌≤◌, ◌==◌, ◌&&◌, not, zero, suc, List, [], ◌∷◌, ◌++◌, length, map, fold, Bool, true, nat_le, slice_index_or, slice_set, IsTrue}
 use Rattle.ckd_track.specs.declared.layout.TheConstants.{WRITES_OF_RUN}
 use Rattle.tod_stamp.specs.declared.limits.TheConstants.{MOST_CONTROLS}
 use Rattle.std.specs.List.{flat_map, list_any}
@@ -7,7 +7,7 @@ use Rattle.tod_stamp.specs.declared.stamp.Stamp.{Stamp}
 use Rattle.xrc_edge.specs.Order.{in_order}
 use Rattle.ckd_track.specs.declared.write.Cause.{Cause}
 use Rattle.pending_queue.specs.Entries.{WaitingEntry, stands_before}
-use Rattle.pending_queue.specs.Groups.{FormedGroup}
+use Rattle.pending_queue.specs.Groups.{FormedGroup, most_done_of_control}
 use Rattle.group_state.specs.Controls.{ControlState, new_control, lesser, reported_break, due_of, has_news, formed, done_of}
 
 pub record Group : Type 0 where
@@ -69,6 +69,11 @@ shown_in group = record { cut = group.cut; entries = group.entries; breaks = gro
 abbrev pub with_news : (cut : Stamp) → List ControlState → FormedGroup → FormedGroup
 with_news cut controls group = record group { breaks = group.breaks ++ flat_map (reported_break cut) controls; done = group.done ++ flat_map done_of (map (formed cut) controls) }
 
+-- The group has room for the breaks and the done plans of so many controls more.
+pub record HasRoomForNews (group : FormedGroup) (more : ℕ) : Type 0 where
+  pub breaks_room : length group.breaks + more ≤ group.controls
+  pub done_room : length group.done + most_done_of_control * more ≤ most_done_of_control * group.controls
+
 -- ---- the rules over several controls
 
 -- the most entries of a control
@@ -83,7 +88,7 @@ abbrev pub are_numbered : (first : ℕ) → List ControlState → Bool
 are_numbered k [] = true
 are_numbered k (c ∷ controls) = c.queue.control == k && has_few c && are_numbered (k + 1) controls
 
--- What every group state keeps.
+-- What the controls of every group state keep.
 pub record KeepsControls (controls : List ControlState) : Type 0 where
   pub some : 1 ≤ length controls
   pub few : length controls ≤ MOST_CONTROLS

@@ -1,5 +1,5 @@
 -- The machine: what each call on a group state replies, and the state after it.
-use Rattle.std.specs.Prelude.{◌≡◌, ℕ, ◌&&◌, List, Bool, true, false, Option, if◌then◌else◌, IsTrue}
+use Rattle.std.specs.Prelude.{◌≡◌, ℕ, ◌&&◌, List, Bool, Option, if◌then◌else◌}
 use Rattle.tod_stamp.specs.declared.stamp.Stamp.{Stamp}
 use Rattle.ckd_track.specs.declared.rec.Rec.{Rec}
 use Rattle.ckd_track.specs.declared.write.Batch.{Batch}
@@ -33,7 +33,6 @@ pub data Reply : Type 0 where
   Formed : Shown → Reply
   Nothing : Shown → Reply
   Owed : (tracks : ℕ) → Reply
-  NoMemory : Reply
 
 -- the reply to a copied track
 abbrev pub copy_reply : (wanted fitting : Bool) → Room → Reply
@@ -63,21 +62,6 @@ group_after s (Drop k v all) = with_control k (dropped v all) s
 group_after s (Resume k v) = with_control k (resumed v) s
 group_after s (Forget k v) = with_control k (forgotten v) s
 
--- the calls that can lack memory
-abbrev pub takes_memory : Call → Bool
-takes_memory (Join b) = true
-takes_memory (Copied k v x at recs) = true
-takes_memory (Form limit) = true
-takes_memory (Carry k v plan) = true
-takes_memory (NextWanted k) = false
-takes_memory (Raise k upto) = false
-takes_memory (Break k upto cause) = false
-takes_memory (Drop k v all) = false
-takes_memory (Resume k v) = false
-takes_memory (Forget k v) = false
-
--- A step of the machine. Want of memory leaves the state as it was. Else the call replies as the machine does, and the state is
--- the machine's.
+-- A step of the machine: the call replies as the machine does, and the state is the machine's.
 abbrev pub steps : Group → Call → Reply → Group → Type 0
-steps old call NoMemory new = IsTrue (takes_memory call) × (new ≡ old)
 steps old call reply new = (reply ≡ reply_to old call) × (new ≡ group_after old call)

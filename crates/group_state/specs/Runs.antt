@@ -32,8 +32,8 @@ shown_by (Formed shown) = Some shown
 shown_by (Nothing shown) = Some shown
 shown_by other = None
 
--- The event of an answered call. What is held, stale or lacks memory leaves the state as it was and is no event; nor is it one
--- to ask for a wanted track.
+-- The event of an answered call. What is held or stale leaves the state as it was and is no event; nor is it one to ask for a
+-- wanted track.
 abbrev pub event_by : Call → Reply → Option Event
 event_by (Join b) Joined = Some (Joins b)
 event_by (Copied k v x at slot) Joined = Some (Copies k v x at.0)
@@ -78,7 +78,8 @@ May s (Drop k v all) = k < length s.controls
 May s (Resume k v) = (k < length s.controls) × IsTrue (is_dropped v (control_at s k).volumes)
 May s (Forget k v) = (k < length s.controls) × IsTrue (is_dropped v (control_at s k).volumes)
 
--- From one state to another by calls, each made when it may be made and answered as the machine answers, or by want of memory.
+-- From one state to another by calls, each made when it may be made and answered as the machine answers. A `carry` without memory
+-- changes nothing, and is no call of a run.
 abbrev pub Runs : Group → List Answer → Group → Type 0
 Runs s [] end = end ≡ s
 Runs s (answer ∷ run) end = (next : Group) × May s answer.call × steps s answer.call answer.reply next × Runs next run end

@@ -1,6 +1,6 @@
 -- What every control keeps, and when a call may be made.
 use Rattle.std.specs.Prelude.{◌≡◌, ℕ, ◌≤◌, ◌==◌, ◌&&◌, ◌||◌, not, List, [], ◌∷◌, length, Bool, true, false, Option, Some, None, nat_lt, nat_le, IsTrue, count_by}
-use Rattle.std.specs.List.{list_all}
+use Rattle.std.specs.List.{list_all, All}
 use Rattle.tod_stamp.specs.declared.stamp.Stamp.{Stamp}
 use Rattle.ckd_track.specs.declared.write.Batch.{Batch}
 use Rattle.ckd_track.specs.declared.write.Write.{Write}
@@ -9,9 +9,11 @@ use Rattle.cut_core.specs.Legal.{are_in}
 use Rattle.change_map.specs.Sets.{has_track}
 use Rattle.copy_plan.specs.Plans.{PlanState}
 use Rattle.pending_queue.specs.Entries.{WaitingEntry, entry_stamp, is_copy_of}
+use Rattle.pending_queue.specs.Groups.{most_done_of_control}
 use Rattle.group_state.specs.declared.volume.Volume.{Volume}
 use Rattle.group_state.specs.Volumes.{volume_of, has_volume, passes}
-use Rattle.group_state.specs.Controls.{ControlState, is_telling}
+use Rattle.group_state.specs.Controls.{ControlState, is_telling, counts}
+use Rattle.group_state.specs.Groups.{Group, KeepsControls}
 use Rattle.ckd_track.specs.Writes.{is_earlier}
 
 abbrev pub passes_or_none : (Volume → Bool) → Option Volume → Bool
@@ -59,6 +61,29 @@ pub record Sound (c : ControlState) : Type 0 where
   pub distinct : IsTrue (are_distinct c.volumes)
   pub entries : IsTrue (list_all (is_entry_of c.volumes) c.queue.waiting)
   pub counts : CopiesAreCounted c.queue.waiting c.volumes
+
+-- a volume's number is of 16 bits, so a control has at most so many volumes
+abbrev pub has_number : Volume → Bool
+has_number u = nat_lt u.number most_done_of_control
+
+-- What every control of a group state keeps.
+pub record KeepsVolumes (c : ControlState) : Type 0 where
+  pub sound : Sound c
+  pub numbers : IsTrue (list_all has_number c.volumes)
+
+-- a control that counts has told up to the cut
+abbrev pub has_told : (cut : Stamp) → ControlState → Bool
+has_told cut c = not (counts c.phase) || nat_le cut.0 c.floor.0
+
+-- The cut is at most the floor of each control that counts.
+abbrev pub HaveTold : (cut : Stamp) → List ControlState → Type 0
+HaveTold cut controls = IsTrue (list_all (has_told cut) controls)
+
+-- What every group state keeps.
+pub record KeepsGroup (s : Group) : Type 0 where
+  pub controls_kept : KeepsControls s.controls
+  pub sound : All Sound s.controls
+  pub told : HaveTold s.last s.controls
 
 -- ---- when a call may be made
 

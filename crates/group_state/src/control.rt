@@ -1,15 +1,13 @@
 //! A control of a group state.
 
-ghost use Rattle.std.specs.Prelude.{◌≡◌, ◌↔◌, ℕ, ◌≤◌, ◌++◌, ◌∷◌, [], length, true, false, Err, Ok, OnOk, OnErr, IfOk, IfSome, IsTrue};
+ghost use Rattle.std.specs.Prelude.{◌≡◌, ◌↔◌, ℕ, ◌≤◌, ◌+◌, ◌++◌, ◌∷◌, [], length, true, false, None, OnOk, OnErr, IfOk, IfErr, IsErr, IfSome, IsTrue};
 ghost use Rattle.ckd_track.specs.declared.layout.TheConstants.{WRITES_OF_RUN};
 ghost use Rattle.change_map.specs.Sets.{size};
 ghost use Rattle.pending_queue.specs.Entries.{all_keep_rules, due};
-ghost use Rattle.pending_queue.specs.Groups.{HasRoomFor, with_entries};
-ghost use Rattle.pending_queue.specs.declared.room.PushError.TheVariants as pushing;
-ghost use Rattle.pending_queue.specs.declared.room.Room.{Room};
+ghost use Rattle.pending_queue.specs.Groups.{HasRoomFor, HasRoomForBreaks, with_entries, most_done_of_control};
 ghost use Rattle.group_state.specs.Volumes.{volume_of, has_volume, is_wanted, next_wanted, owed};
 ghost use Rattle.group_state.specs.Controls.{new_control, fits, fits_track, room_of, joined, copied, raised, broke, begun_volume, dropped, resumed, forgotten, formed, lesser, has_news, due_of, reported};
-ghost use Rattle.group_state.specs.Groups.{with_news};
+ghost use Rattle.group_state.specs.Groups.{with_news, HasRoomForNews};
 ghost use Rattle.group_state.specs.Sound.{MayTell, MayJoin, MayCarry, is_track_within, is_dropped};
 
 use crate::phase::Phase;
@@ -21,7 +19,7 @@ use crate::volumes::{
 use change_map::ChangeMap;
 use ckd_track::{Batch, Cause, Slot};
 use copy_plan::CopyPlan;
-use pending_queue::{Formed, PushError, Queue};
+use pending_queue::{Formed, Queue, Room};
 use std::alloc::Global;
 use std::marker::Model;
 use tod_stamp::Stamp;
@@ -38,13 +36,13 @@ pub struct Control {
 
 impl Model for Control {
     ghost use Rattle.group_state.specs.Controls.{ControlState};
-    ghost use Rattle.group_state.specs.Sound.{Sound};
+    ghost use Rattle.group_state.specs.Sound.{KeepsVolumes};
 
     ghost Value = { ControlState };
 
-    ghost view = { λ c. record { queue = c.queue; floor = c.floor; phase = c.phase; volumes = c.volumes.items } };
+    ghost view = { λ c. record { queue = c.queue.state; floor = c.floor; phase = c.phase; volumes = c.volumes.items } };
 
-    ghost invariant = { λ c. Sound (record { queue = c.queue; floor = c.floor; phase = c.phase; volumes = c.volumes.items }) };
+    ghost invariant = { λ c. KeepsVolumes (record { queue = c.queue.state; floor = c.floor; phase = c.phase; volumes = c.volumes.items }) };
 }
 
 impl Control {
@@ -61,24 +59,21 @@ impl Control {
     }
 
     /// Joins a batch, or refuses it as a whole.
-    pub fn join(&mut self, alloc: Global, batch: &Batch) -> Result<(), PushError>
+    pub fn join(&mut self, batch: &Batch) -> Result<(), Room>
         requires rules { IsTrue (all_keep_rules batch.now.writes) }
         requires legal { MayJoin self.old batch.now }
         ensures joined { OnOk result (self.new ≡ joined batch.now self.old) }
         ensures refused { OnErr result (self.new ≡ self.old) }
-        ensures full { (result ≡ Err (pushing.Full (room_of self.old))) ↔ (fits self.old batch.now ≡ false) }
-        ensures room { (room : Room) → result ≡ Err (pushing.Full room) → room ≡ room_of self.old }
+        ensures full { IsErr result ↔ (fits self.old batch.now ≡ false) }
+        ensures room { IfErr result (λ room. room ≡ room_of self.old) }
     {
         let carried = Carried {
             volumes: self.volumes.as_slice(),
         };
-        let pushed = self.queue.push_carried(alloc, batch, &carried);
-        if pushed.is_err() {
-            return pushed;
-        }
+        self.queue.push_carried(batch, &carried)?;
         note_writes(self.volumes.as_mut_slice(), batch.writes.as_slice());
         self.floor = batch.upto;
-        pushed
+        Ok(())
     }
 
     /// The least wanted track of the first volume that wants one.
@@ -115,28 +110,18 @@ impl Control {
     }
 
     /// Joins a wanted track that was copied, or refuses it.
-    pub fn copied(
-        &mut self,
-        alloc: Global,
-        number: u16,
-        track: u32,
-        at: Stamp,
-        slot: &Slot,
-    ) -> Result<(), PushError>
+    pub fn copied(&mut self, number: u16, track: u32, at: Stamp, slot: &Slot) -> Result<(), Room>
         requires floor { at ≡ self.old.floor }
         requires wanted { is_wanted number track self.old.volumes ≡ true }
         requires track { IsTrue (is_track_within self.old.volumes number track) }
         ensures joined { OnOk result (self.new ≡ copied number track at slot.now self.old) }
         ensures refused { OnErr result (self.new ≡ self.old) }
-        ensures full { (result ≡ Err (pushing.Full (room_of self.old))) ↔ (fits_track self.old slot.now ≡ false) }
-        ensures room { (room : Room) → result ≡ Err (pushing.Full room) → room ≡ room_of self.old }
+        ensures full { IsErr result ↔ (fits_track self.old slot.now ≡ false) }
+        ensures room { IfErr result (λ room. room ≡ room_of self.old) }
     {
-        let pushed = self.queue.push_track(alloc, number, track, at, slot);
-        if pushed.is_err() {
-            return pushed;
-        }
+        self.queue.push_track(number, track, at, slot)?;
         join_copy(self.volumes.as_mut_slice(), number, track);
-        pushed
+        Ok(())
     }
 
     /// A volume begins to be carried.
@@ -186,16 +171,15 @@ impl Control {
     }
 
     /// A form with this cut takes what is due into the group, and reports a break at it.
-    pub fn form(&mut self, alloc: Global, cut: Stamp, out: &mut Formed)
+    pub fn form(&mut self, cut: Stamp, out: &mut Formed)
         requires few { self.old.queue.records ≤ WRITES_OF_RUN }
         requires room { HasRoomFor out.old WRITES_OF_RUN }
         ensures group { out.new ≡ with_entries out.old (due_of cut self.old) }
         ensures few { length (due_of cut self.old) ≤ WRITES_OF_RUN }
         ensures control { self.new ≡ formed cut self.old }
     {
-        let _waiting = self.queue.len();
         form_copies(&self.queue, cut, self.volumes.as_mut_slice());
-        let _taken = self.queue.pop_upto(alloc, cut, out);
+        self.queue.pop_upto(cut, out);
         self.phase = self.phase.after(cut, self.floor);
     }
 
@@ -217,31 +201,24 @@ impl Control {
     }
 
     /// Shows the break that a form with this cut reports, and the volumes whose plans are done after it.
-    pub fn announce(&self, alloc: Global, cut: Stamp, out: &mut Formed) -> Result<(), NoMemory>
-        ensures ok { OnOk result (out.new ≡ with_news cut (self.now ∷ []) out.old) }
-        ensures room { out.new.controls ≡ out.old.controls }
-        ensures entries { out.new.entries ≡ out.old.entries }
+    pub fn announce(&self, cut: Stamp, out: &mut Formed)
+        requires room { HasRoomForNews out.old 1 }
+        ensures news { out.new ≡ with_news cut (self.now ∷ []) out.old }
+        ensures breaks { length out.new.breaks ≤ length out.old.breaks + 1 }
+        ensures done { length out.new.done ≤ length out.old.done + most_done_of_control }
     {
         let cause = self.phase.cause_at(cut, self.floor);
-        show_break(self.queue.control(), self.floor, cause, alloc, out)?;
-        show_done(self.volumes.as_slice(), &self.queue, cut, alloc, out)
+        show_break(self.queue.control(), self.floor, cause, out);
+        show_done(self.volumes.as_slice(), &self.queue, cut, out);
     }
 }
 
 /// Shows a break, where there is one.
-fn show_break(
-    control: u16,
-    floor: Stamp,
-    cause: Option<Cause>,
-    alloc: Global,
-    out: &mut Formed,
-) -> Result<(), NoMemory>
-    ensures ok { OnOk result (out.new ≡ record out.old { breaks = out.old.breaks ++ reported control floor cause }) }
-    ensures room { out.new.controls ≡ out.old.controls }
-    ensures entries { out.new.entries ≡ out.old.entries }
+fn show_break(control: u16, floor: Stamp, cause: Option<Cause>, out: &mut Formed)
+    requires room { HasRoomForBreaks out.old 1 }
+    ensures { out.new ≡ record out.old { breaks = out.old.breaks ++ reported control floor cause } }
 {
-    match cause {
-        Some(cause) => out.add_break(alloc, control, floor, cause),
-        None => Ok(()),
+    if let Some(cause) = cause {
+        out.add_break(control, floor, cause);
     }
 }

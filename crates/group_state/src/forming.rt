@@ -1,16 +1,14 @@
 //! A form over all controls.
 
-ghost use Rattle.std.specs.Prelude.{◌≡◌, ◌≤◌, ◌==◌, ◌&&◌, not, [], length, map, fold, OnOk, IsTrue};
+ghost use Rattle.std.specs.Prelude.{◌≡◌, ◌≤◌, ◌==◌, ◌&&◌, not, [], length, map, fold, IsTrue};
 ghost use Rattle.std.specs.List.{flat_map, list_any, list_all};
 ghost use Rattle.pending_queue.specs.Groups.{with_entries};
 ghost use Rattle.group_state.specs.Controls.{lesser, has_news, due_of, formed};
-ghost use Rattle.group_state.specs.Groups.{has_few, with_news};
+ghost use Rattle.group_state.specs.Groups.{has_few, with_news, HasRoomForNews};
 
 use crate::control::Control;
 use pending_queue::Formed;
-use std::alloc::Global;
 use tod_stamp::Stamp;
-use xrc_edge::NoMemory;
 
 /// The least of a limit and the floors of all controls that count.
 pub fn least(controls: &[Control], limit: Stamp) -> Stamp
@@ -43,24 +41,17 @@ pub fn gives_nothing(controls: &[Control], last: Stamp, cut: Stamp) -> bool
 }
 
 /// Shows the breaks that a form with this cut reports and the volumes whose plans are done after it, before it is made.
-pub fn announce(
-    controls: &[Control],
-    alloc: Global,
-    cut: Stamp,
-    out: &mut Formed,
-) -> Result<(), NoMemory>
-    ensures ok { OnOk result (out.new ≡ with_news cut controls.now out.old) }
-    ensures room { out.new.controls ≡ out.old.controls }
-    ensures entries { out.new.entries ≡ out.old.entries }
+pub fn announce(controls: &[Control], cut: Stamp, out: &mut Formed)
+    requires room { HasRoomForNews out.old (length controls.now) }
+    ensures { out.new ≡ with_news cut controls.now out.old }
 {
     for k in 0..controls.len() {
-        controls[k].announce(alloc, cut, out)?;
+        controls[k].announce(cut, out);
     }
-    Ok(())
 }
 
 /// Takes what is due from all controls into the group.
-pub fn take_due(controls: &mut [Control], alloc: Global, cut: Stamp, out: &mut Formed)
+pub fn take_due(controls: &mut [Control], cut: Stamp, out: &mut Formed)
     requires few { IsTrue (list_all has_few controls.old) }
     requires empty { out.old.entries ≡ [] }
     requires room { length controls.old ≤ out.old.controls }
@@ -68,6 +59,6 @@ pub fn take_due(controls: &mut [Control], alloc: Global, cut: Stamp, out: &mut F
     ensures group { out.new ≡ with_entries out.old (flat_map (due_of cut) controls.old) }
 {
     for k in 0..controls.len() {
-        controls[k].form(alloc, cut, out);
+        controls[k].form(cut, out);
     }
 }

@@ -9,8 +9,14 @@ pub enum Joining {
     Joined,
     /// The carried writes don't fit the control's free room, which is named. The batch comes back.
     Held { batch: Batch, room: Room },
-    /// There was no memory for them. The batch comes back.
-    NoMemory { batch: Batch },
+}
+
+/// What became of a batch that was lent.
+#[derive(Clone, Copy, Debug, PartialEq, Eq)]
+pub enum RunJoin {
+    Joined,
+    /// The carried writes don't fit the control's free room, which is named.
+    Held(Room),
 }
 
 /// What became of a copied track.
@@ -21,8 +27,6 @@ pub enum CopyJoin {
     Held(Room),
     /// The track isn't wanted.
     Stale,
-    /// There was no memory for it. It stays wanted.
-    NoMemory,
 }
 
 /// What a form gave.
@@ -31,6 +35,4 @@ pub enum Forming {
     Formed,
     /// The cut is the last one, and there was nothing to form or to report.
     Nothing,
-    /// There was no memory to report breaks and done plans.
-    NoMemory,
 }

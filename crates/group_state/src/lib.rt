@@ -14,5 +14,5 @@ mod volumes;
 pub use history_laws::{
     forms_give_groups, resumes_owe_mapped, runs_are_histories, runs_keep_to_cuts, sizes_are_told,
 };
-pub use joining::{CopyJoin, Forming, Joining};
+pub use joining::{CopyJoin, Forming, Joining, RunJoin};
 pub use state::GroupState;

@@ -1,31 +1,33 @@
 //! The state that the readers and the mover share.
 
-ghost use Rattle.std.specs.Prelude.{◌≡◌, ◌≢◌, ◌↔◌, ℕ, ◌<◌, ◌≤◌, [], length, nat_lt, true, false, IfOk, IfSome, IsTrue};
+ghost use Rattle.std.specs.Prelude.{◌≡◌, ◌↔◌, ℕ, ◌<◌, ◌≤◌, length, nat_lt, true, false, IfOk, IfSome, OnOk, OnErr, IsTrue};
 ghost use Rattle.ckd_track.specs.declared.layout.TheConstants.{BLOCKS_OF_QUEUE, WRITES_OF_RUN};
 ghost use Rattle.tod_stamp.specs.declared.limits.TheConstants.{MOST_CONTROLS};
 ghost use Rattle.ckd_track.specs.declared.write.Batch.{Batch as BatchIs};
 ghost use Rattle.change_map.specs.Sets.{size};
 ghost use Rattle.pending_queue.specs.declared.room.Room.{Room};
 ghost use Rattle.pending_queue.specs.Entries.{all_keep_rules};
+ghost use Rattle.std.specs.List.{All};
 ghost use Rattle.group_state.specs.declared.joining.Joining.TheVariants as joining;
+ghost use Rattle.group_state.specs.declared.joining.RunJoin.TheVariants as running;
 ghost use Rattle.group_state.specs.declared.joining.CopyJoin.TheVariants as copying;
 ghost use Rattle.group_state.specs.declared.joining.Forming.TheVariants as formings;
 ghost use Rattle.group_state.specs.Volumes.{volume_of, is_wanted, next_wanted, owed};
 ghost use Rattle.group_state.specs.Controls.{is_telling, fits, fits_track, room_of};
 ghost use Rattle.group_state.specs.Groups.{new_group, control_at, cut_of, gives_nothing, shown_at, shown_in};
-ghost use Rattle.group_state.specs.Sound.{MayTell, MayJoin, MayCarry, is_track_within, is_dropped};
+ghost use Rattle.group_state.specs.Sound.{Sound, HaveTold, MayTell, MayJoin, MayCarry, is_track_within, is_dropped};
 ghost use Rattle.group_state.specs.Machine.{steps, Reply};
 ghost use Rattle.group_state.specs.Machine.Call.{Join, NextWanted, Copied, Raise, Break, Form, Carry, Drop, Resume, Forget};
 ghost use Rattle.group_state.specs.Machine.Reply.{Made, Wanted, Owed};
-ghost use Rattle.group_state.specs.Answers.{join_reply, copy_reply, form_reply, made_reply};
+ghost use Rattle.group_state.specs.Answers.{join_reply, run_reply, copy_reply, form_reply};
 
 use crate::control::Control;
 use crate::forming::{announce, gives_nothing, least, take_due};
-use crate::joining::{CopyJoin, Forming, Joining};
+use crate::joining::{CopyJoin, Forming, Joining, RunJoin};
 use change_map::ChangeMap;
 use ckd_track::{Batch, Cause, Slot};
 use copy_plan::CopyPlan;
-use pending_queue::{Formed, PushError};
+use pending_queue::Formed;
 use std::alloc::Global;
 use std::marker::Model;
 use tod_stamp::Stamp;
@@ -43,13 +45,14 @@ pub struct GroupState {
 }
 
 impl Model for GroupState {
-    ghost use Rattle.group_state.specs.Groups.{Group, KeepsControls};
+    ghost use Rattle.group_state.specs.Groups.{Group};
+    ghost use Rattle.group_state.specs.Sound.{KeepsGroup};
 
     ghost Value = { Group };
 
     ghost view = { λ s. record { controls = s.controls.items; last = s.last } };
 
-    ghost invariant = { λ s. KeepsControls s.controls.items };
+    ghost invariant = { λ s. KeepsGroup (record { controls = s.controls.items; last = s.last }) };
 }
 
 impl GroupState {
@@ -81,6 +84,9 @@ impl GroupState {
         ensures count { result ≡ length self.now.controls }
         ensures some { 1 ≤ result }
         ensures few { result ≤ MOST_CONTROLS }
+        // What every group state keeps.
+        ensures sound { All Sound self.now.controls }
+        ensures told { HaveTold self.now.last self.now.controls }
     {
         self.controls.len() as u16
     }
@@ -88,19 +94,31 @@ impl GroupState {
     /// Joins a batch. Its writes on volumes that are carried wait, but for those on tracks that a copy still wants; those on
     /// dropped volumes go into the map. Held exactly where the carried writes don't fit the control's free room. A batch that
     /// isn't joined comes back.
-    pub fn join(&mut self, alloc: Global, batch: Batch) -> Joining
+    pub fn join(&mut self, batch: Batch) -> Joining
         requires control { batch.control < length self.old.controls }
         requires rules { IsTrue (all_keep_rules batch.writes) }
         requires legal { MayJoin (control_at self.old batch.control) batch }
         ensures step { steps self.old (Join batch) (join_reply result) self.new }
         ensures held { result ≡ joining.Held batch (room_of (control_at self.old batch.control)) ↔ (fits (control_at self.old batch.control) batch ≡ false) }
         ensures back { (b : BatchIs) (room : Room) → result ≡ joining.Held b room → b ≡ batch }
-        ensures kept { (b : BatchIs) → result ≡ joining.NoMemory b → b ≡ batch }
     {
-        match self.controls[batch.control as usize].join(alloc, &batch) {
-            Ok(()) => Joining::Joined,
-            Err(PushError::Full(room)) => Joining::Held { batch, room },
-            Err(PushError::NoMemory) => Joining::NoMemory { batch },
+        match self.join_ref(&batch) {
+            RunJoin::Joined => Joining::Joined,
+            RunJoin::Held(room) => Joining::Held { batch, room },
+        }
+    }
+
+    /// Joins a batch that is lent, as `join` does.
+    pub fn join_ref(&mut self, batch: &Batch) -> RunJoin
+        requires control { batch.now.control < length self.old.controls }
+        requires rules { IsTrue (all_keep_rules batch.now.writes) }
+        requires legal { MayJoin (control_at self.old batch.now.control) batch.now }
+        ensures step { steps self.old (Join batch.now) (run_reply result) self.new }
+        ensures held { result ≡ running.Held (room_of (control_at self.old batch.now.control)) ↔ (fits (control_at self.old batch.now.control) batch.now ≡ false) }
+    {
+        match self.controls[batch.control as usize].join(batch) {
+            Ok(()) => RunJoin::Joined,
+            Err(room) => RunJoin::Held(room),
         }
     }
 
@@ -118,7 +136,6 @@ impl GroupState {
     /// fit the control's free room. A track that isn't joined stays as it was.
     pub fn copied(
         &mut self,
-        alloc: Global,
         control: u16,
         volume: u16,
         track: u32,
@@ -136,10 +153,9 @@ impl GroupState {
         if !self.controls[control as usize].wants(volume, track) {
             return CopyJoin::Stale;
         }
-        match self.controls[control as usize].copied(alloc, volume, track, at, slot) {
+        match self.controls[control as usize].copied(volume, track, at, slot) {
             Ok(()) => CopyJoin::Joined,
-            Err(PushError::Full(room)) => CopyJoin::Held(room),
-            Err(PushError::NoMemory) => CopyJoin::NoMemory,
+            Err(room) => CopyJoin::Held(room),
         }
     }
 
@@ -162,7 +178,7 @@ impl GroupState {
     }
 
     /// A volume that was never carried, or was forgotten since, begins to be carried with a plan of which nothing is joined.
-    /// Its map is cleared.
+    /// Its map is cleared. After want of memory the state is as before.
     pub fn carry(
         &mut self,
         _alloc: Global,
@@ -174,7 +190,8 @@ impl GroupState {
         requires control { control < length self.old.controls }
         requires may { MayCarry (control_at self.old control) volume plan }
         requires sizes { length map ≡ length plan.wanted }
-        ensures step { steps self.old (Carry control volume plan) (made_reply result) self.new }
+        ensures step { OnOk result (steps self.old (Carry control volume plan) Made self.new) }
+        ensures kept { OnErr result (self.new ≡ self.old) }
     {
         self.controls[control as usize].carry(volume, plan, map)
     }
@@ -207,23 +224,19 @@ impl GroupState {
     }
 
     /// Forms a group at the least of the limit and the floors of all controls whose break isn't reported. Nothing exactly
-    /// where this cut is the last one, no entry up to it waits, and no break at it is unreported. After want of memory the
-    /// group has no entry.
-    pub fn form(&mut self, alloc: Global, limit: Stamp, out: &mut Formed) -> Forming
+    /// where this cut is the last one, no entry up to it waits, and no break at it is unreported.
+    pub fn form(&mut self, limit: Stamp, out: &mut Formed) -> Forming
         requires limit { self.old.last.0 ≤ limit.0 }
         requires room { length self.old.controls ≤ out.old.controls }
         ensures step { steps self.old (Form limit) (form_reply result (shown_in out.new)) self.new }
-        ensures unformed { result ≡ formings.NoMemory → out.new.entries ≡ [] }
-        ensures nothing { result ≢ formings.NoMemory → (result ≡ formings.Nothing) ↔ (gives_nothing self.old limit ≡ true) }
+        ensures nothing { (result ≡ formings.Nothing) ↔ (gives_nothing self.old limit ≡ true) }
         ensures room { out.new.controls ≡ out.old.controls }
     {
         let cut = least(self.controls.as_slice(), limit);
         let nothing = gives_nothing(self.controls.as_slice(), self.last, cut);
         out.begin(cut);
-        if announce(self.controls.as_slice(), alloc, cut, out).is_err() {
-            return Forming::NoMemory;
-        }
-        take_due(self.controls.as_mut_slice(), alloc, cut, out);
+        announce(self.controls.as_slice(), cut, out);
+        take_due(self.controls.as_mut_slice(), cut, out);
         self.last = cut;
         if nothing {
             Forming::Nothing

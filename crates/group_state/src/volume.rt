@@ -59,9 +59,9 @@ impl Volume {
 
     /// The volume is dropped, and its entries are taken out of the queue.
     pub fn drop_from(&mut self, queue: &mut Queue, all: bool)
-        requires tracks { IsTrue (list_all (λ x. nat_lt x (length self.old.map)) (entry_tracks self.old.number queue.old.waiting)) }
-        ensures queue { queue.new ≡ with_waiting queue.old (without_volume self.old.number queue.old.waiting) }
-        ensures volume { self.new ≡ dropped_volume all (entry_tracks self.old.number queue.old.waiting) self.old }
+        requires tracks { IsTrue (list_all (λ x. nat_lt x (length self.old.map)) (entry_tracks self.old.number queue.old.state.waiting)) }
+        ensures queue { queue.new.state ≡ with_waiting queue.old.state (without_volume self.old.number queue.old.state.waiting) }
+        ensures volume { self.new ≡ dropped_volume all (entry_tracks self.old.number queue.old.state.waiting) self.old }
     {
         take_out(queue, self.number, &mut self.map, all);
         self.carried = false;
@@ -81,7 +81,7 @@ impl Volume {
 
     /// Whether all of the plan is formed once a form with this cut has taken what is due in the queue.
     pub fn is_done_after(&self, queue: &Queue, cut: Stamp) -> bool
-        ensures { result ≡ is_done_after cut queue.now.waiting self.now }
+        ensures { result ≡ is_done_after cut queue.now.state.waiting self.now }
     {
         self.carried && self.plan.wanted() == 0 && !queue.has_copies_left(self.number, cut)
     }
@@ -89,9 +89,9 @@ impl Volume {
 
 /// Takes a volume's entries out of a queue. The map then holds their tracks, or all.
 fn take_out(queue: &mut Queue, number: u16, map: &mut ChangeMap, all: bool)
-    requires tracks { IsTrue (list_all (λ x. nat_lt x (length map.old)) (entry_tracks number queue.old.waiting)) }
-    ensures queue { queue.new ≡ with_waiting queue.old (without_volume number queue.old.waiting) }
-    ensures map { map.new ≡ dropped_map all (entry_tracks number queue.old.waiting) map.old }
+    requires tracks { IsTrue (list_all (λ x. nat_lt x (length map.old)) (entry_tracks number queue.old.state.waiting)) }
+    ensures queue { queue.new.state ≡ with_waiting queue.old.state (without_volume number queue.old.state.waiting) }
+    ensures map { map.new ≡ dropped_map all (entry_tracks number queue.old.state.waiting) map.old }
 {
     queue.drop_volume(number, map);
     if all {

@@ -1,9 +1,10 @@
 //! The volumes of a control, and which writes are carried.
 
-ghost use Rattle.std.specs.Prelude.{◌≡◌, ◌<◌, length, slice_index_or, filter, ◌++◌, true, OnOk, IsTrue, IfSome, None};
+ghost use Rattle.std.specs.Prelude.{◌≡◌, ◌<◌, ◌≤◌, ◌+◌, ◌*◌, length, slice_index_or, filter, ◌++◌, true, IsTrue, IfSome, None};
 ghost use Rattle.ckd_track.specs.declared.write.Write.{Write as WriteIs};
 ghost use Rattle.std.specs.List.{list_all};
 ghost use Rattle.pending_queue.specs.Entries.{WaitingEntry, copies, due, without_volume, entry_tracks};
+ghost use Rattle.pending_queue.specs.Groups.{most_done_of_control};
 ghost use Rattle.pending_queue.specs.Queues.{with_waiting};
 ghost use Rattle.group_state.specs.Volumes.{is_carried, is_wanted, next_wanted, owed, copied_track, dropped_volume, resumed_volume, with_write, with_writes, with_volume, formed_track, with_formed_copies, is_due_copy, is_done_after, numbers_of, volume_of, passes, IsPlaceOf};
 ghost use Rattle.group_state.specs.Sound.{has_sizes, is_dropped, is_track_within, are_within, is_entry_of, CopiesAreCounted, may_form};
@@ -11,9 +12,7 @@ ghost use Rattle.group_state.specs.Sound.{has_sizes, is_dropped, is_track_within
 use crate::volume::Volume;
 use ckd_track::Write;
 use pending_queue::{Carrier, Formed, Queue};
-use std::alloc::Global;
 use tod_stamp::Stamp;
-use xrc_edge::NoMemory;
 
 /// Volumes of a control, of which those that are carried carry writes.
 #[derive(Clone, Copy)]
@@ -80,9 +79,10 @@ fn note_write(volumes: &mut [Volume], write: &Write)
 
 /// The copied tracks that a cut takes out of a queue are formed.
 pub fn form_copies(queue: &Queue, cut: Stamp, volumes: &mut [Volume])
-    requires entries { IsTrue (list_all (is_entry_of volumes.old) queue.now.waiting) }
-    requires counts { CopiesAreCounted queue.now.waiting volumes.old }
-    ensures { volumes.new ≡ with_formed_copies volumes.old (copies (due cut queue.now.waiting)) }
+    requires entries { IsTrue (list_all (is_entry_of volumes.old) queue.now.state.waiting) }
+    requires counts { CopiesAreCounted queue.now.state.waiting volumes.old }
+    ensures formed { volumes.new ≡ with_formed_copies volumes.old (copies (due cut queue.now.state.waiting)) }
+    ensures few { length queue.now.state.waiting ≤ queue.now.state.records }
 {
     for place in 0..queue.len() {
         if is_due_copy(queue, place, cut) {
@@ -94,8 +94,8 @@ pub fn form_copies(queue: &Queue, cut: Stamp, volumes: &mut [Volume])
 
 /// Whether the entry at a place is a copied track that a cut takes.
 fn is_due_copy(queue: &Queue, place: u32, cut: Stamp) -> bool
-    requires { place < length queue.now.waiting }
-    ensures { (other : WaitingEntry) → result ≡ is_due_copy cut (slice_index_or queue.now.waiting place other) }
+    requires { place < length queue.now.state.waiting }
+    ensures { (other : WaitingEntry) → result ≡ is_due_copy cut (slice_index_or queue.now.state.waiting place other) }
 {
     queue.head(place).stamp.0 <= cut.0 && queue.is_copy(place)
 }
@@ -134,9 +134,9 @@ pub fn join_copy(volumes: &mut [Volume], number: u16, track: u32)
 
 /// A volume is dropped, and its entries are taken out of the queue.
 pub fn drop_volume(volumes: &mut [Volume], queue: &mut Queue, number: u16, all: bool)
-    requires entries { IsTrue (list_all (is_entry_of volumes.old) queue.old.waiting) }
-    ensures queue { queue.new ≡ with_waiting queue.old (without_volume number queue.old.waiting) }
-    ensures volumes { volumes.new ≡ with_volume number (dropped_volume all (entry_tracks number queue.old.waiting)) volumes.old }
+    requires entries { IsTrue (list_all (is_entry_of volumes.old) queue.old.state.waiting) }
+    ensures queue { queue.new.state ≡ with_waiting queue.old.state (without_volume number queue.old.state.waiting) }
+    ensures volumes { volumes.new ≡ with_volume number (dropped_volume all (entry_tracks number queue.old.state.waiting)) volumes.old }
 {
     let Some(place) = place_of(volumes, number) else {
         return;
@@ -158,21 +158,13 @@ pub fn resume(volumes: &mut [Volume], number: u16) -> u32
 }
 
 /// Shows the volumes whose plans are done once a form with this cut has taken what is due in the queue.
-pub fn show_done(
-    volumes: &[Volume],
-    queue: &Queue,
-    cut: Stamp,
-    alloc: Global,
-    out: &mut Formed,
-) -> Result<(), NoMemory>
-    ensures ok { OnOk result (out.new ≡ record out.old { done = out.old.done ++ numbers_of queue.now.control (filter (is_done_after cut queue.now.waiting) volumes.now) }) }
-    ensures room { out.new.controls ≡ out.old.controls }
-    ensures entries { out.new.entries ≡ out.old.entries }
+pub fn show_done(volumes: &[Volume], queue: &Queue, cut: Stamp, out: &mut Formed)
+    requires room { length out.old.done + length volumes.now ≤ most_done_of_control * out.old.controls }
+    ensures { out.new ≡ record out.old { done = out.old.done ++ numbers_of queue.now.state.control (filter (is_done_after cut queue.now.state.waiting) volumes.now) } }
 {
     for place in 0..volumes.len() {
         if volumes[place].is_done_after(queue, cut) {
-            out.add_done(alloc, queue.control(), volumes[place].number)?;
+            out.add_done(queue.control(), volumes[place].number);
         }
     }
-    Ok(())
 }

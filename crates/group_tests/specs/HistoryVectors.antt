@@ -9,7 +9,7 @@ use Rattle.group_tests.specs.CutVectors.{whole_on}
 use Rattle.group_tests.specs.StateVectors.{batch, raise, none_wanted, copy}
 use Rattle.group_state.specs.Runs.{Answer}
 
--- the calls with the machine's replies to them, where none lacks memory
+-- the calls with the machine's replies to them
 abbrev pub answers_to : Group → List Call → List Answer
 answers_to s [] = []
 answers_to s (call ∷ calls) = record { call = call; reply = reply_to s call } ∷ answers_to (group_after s call) calls

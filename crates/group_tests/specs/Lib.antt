@@ -1,3 +1,5 @@
 pub mod CutVectors
 pub mod StateVectors
 pub mod HistoryVectors
+pub mod Ready
+pub mod Tried

@@ -10,7 +10,7 @@ use Rattle.group_state.specs.Groups.{Group, Shown, new_group}
 use Rattle.group_state.specs.Machine.{Call, group_after}
 use Rattle.group_state.specs.Machine.Call.{Join, Copied, Raise, Carry}
 
--- the state after these calls, where none lacks memory
+-- the state after these calls
 abbrev pub after_all : Group → List Call → Group
 after_all s calls = fold group_after s calls
 

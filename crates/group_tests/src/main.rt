@@ -9,6 +9,8 @@ mod fixtures;
 #[cfg(test)]
 mod floors;
 #[cfg(test)]
+mod held;
+#[cfg(test)]
 mod history_vectors;
 #[cfg(test)]
 mod parts;
@@ -18,6 +20,8 @@ mod queues;
 mod runs;
 #[cfg(test)]
 mod state_vectors;
+#[cfg(test)]
+mod trials;
 
 /// Its tests are all that this crate has. It is a program, so that no crate stands on it.
 fn main() {}

@@ -5,7 +5,7 @@ ghost use Rattle.pending_queue.specs.Entries.{last_stamp};
 
 use crate::fixtures::{assert_same, batch_of, filled, slot_of_one, track_of_one};
 use ckd_track::{Kind, Write};
-use pending_queue::{EntryHead, Formed, PushError, Queue, Room};
+use pending_queue::{EntryHead, Formed, Queue, Room};
 use std::alloc::Global;
 use std::process::Abort;
 use tod_stamp::Stamp;
@@ -39,14 +39,13 @@ fn longest(rt: &impl Abort, alloc: Global) -> Write {
 }
 
 /// Pushes a batch of one write at the time 9.
-fn push(rt: &impl Abort, alloc: Global, queue: &mut Queue, write: Write) -> Result<(), PushError>
-    requires { last_stamp queue.old.waiting ≤ 9 }
-    ensures { last_stamp queue.new.waiting ≤ 9 }
+fn push(rt: &impl Abort, alloc: Global, queue: &mut Queue, write: Write) -> Result<(), Room>
+    requires { last_stamp queue.old.state.waiting ≤ 9 }
+    ensures { last_stamp queue.new.state.waiting ≤ 9 }
 {
     assert!(rt; write.stamp.0 == 9 && write.kind.keeps_rules());
     let batch = batch_of(rt, alloc, 0, write, 9);
-    queue.push_all(alloc, &batch)?;
-    Ok(())
+    queue.push_all(&batch)
 }
 
 /// A write is answered so, and leaves this room.
@@ -55,11 +54,11 @@ fn assert_pushed(
     alloc: Global,
     queue: &mut Queue,
     write: Write,
-    expected: Result<(), PushError>,
+    expected: Result<(), Room>,
     free: Room,
 )
-    requires { last_stamp queue.old.waiting ≤ 9 }
-    ensures { last_stamp queue.new.waiting ≤ 9 }
+    requires { last_stamp queue.old.state.waiting ≤ 9 }
+    ensures { last_stamp queue.new.state.waiting ≤ 9 }
 {
     let pushed = push(rt, alloc, queue, write);
     assert_same(rt, &(pushed, queue.free()), &(expected, free), &"pushed");
@@ -69,8 +68,11 @@ fn assert_pushed(
 fn assert_needs(rt: &impl Abort, alloc: Global, write: Write, blocks: u32, fits: bool) {
     let mut queue = Queue::make(alloc, 0, 1, blocks).expect(rt, "memory");
     let room = Room { records: 1, blocks };
-    let full = Err(PushError::Full(room));
-    let (expected, free) = if fits { (Ok(()), NONE) } else { (full, room) };
+    let (expected, free) = if fits {
+        (Ok(()), NONE)
+    } else {
+        (Err(room), room)
+    };
     assert_pushed(rt, alloc, &mut queue, write, expected, free);
 }
 
@@ -86,12 +88,12 @@ fn an_entry_needs_its_length_in_blocks(rt: HostRuntime) {
 }
 
 /// Pops a queue of at most 32 entries into an empty group of two controls.
-fn pop(rt: &impl Abort, alloc: Global, queue: &mut Queue, out: &mut Formed)
+fn pop(rt: &impl Abort, queue: &mut Queue, out: &mut Formed)
     requires { out.old.controls ≡ 2 }
 {
     assert!(rt; queue.len() <= 32);
     assert!(rt; out.count() == 0);
-    queue.pop_upto(alloc, Stamp(9), out).expect(rt, "memory");
+    queue.pop_upto(Stamp(9), out);
 }
 
 /// The entry at a place has this head and this length.
@@ -124,11 +126,10 @@ fn thirty_two_of_the_longest_updates_fill_a_queue(rt: HostRuntime) {
         let write = update(&rt, alloc, track, 56_656);
         assert_pushed(&rt, alloc, &mut queue, write, Ok(()), free);
     }
-    let full = Err(PushError::Full(NONE));
     let write = update(&rt, alloc, 32, 0);
-    assert_pushed(&rt, alloc, &mut queue, write, full, NONE);
+    assert_pushed(&rt, alloc, &mut queue, write, Err(NONE), NONE);
     let mut out = Formed::make(alloc, 2).expect(&rt, "memory");
-    pop(&rt, alloc, &mut queue, &mut out);
+    pop(&rt, &mut queue, &mut out);
     let all = Room {
         records: 32,
         blocks: 3_552,
@@ -144,18 +145,14 @@ fn a_copied_track_waits_as_a_whole_write(rt: HostRuntime) {
     // 15 bytes before the image, 2 of its count, and 4 before the record's content
     let slot = slot_of_one(&rt, alloc, 492);
     let room = queue.free();
-    let long = queue.push_track(alloc, 5, 7, Stamp(9), &slot);
+    let long = queue.push_track(5, 7, Stamp(9), &slot);
     let slot = slot_of_one(&rt, alloc, 491);
-    let pushed = queue.push_track(alloc, 5, 7, Stamp(9), &slot);
-    let second = queue.push_track(alloc, 5, 8, Stamp(9), &slot);
-    let full = [
-        Err(PushError::Full(room)),
-        Ok(()),
-        Err(PushError::Full(NONE)),
-    ];
-    assert_same(&rt, &[long, pushed, second], &full, &"pushed");
+    let pushed = queue.push_track(5, 7, Stamp(9), &slot);
+    let second = queue.push_track(5, 8, Stamp(9), &slot);
+    let expected = [Err(room), Ok(()), Err(NONE)];
+    assert_same(&rt, &[long, pushed, second], &expected, &"pushed");
     let mut out = Formed::make(alloc, 2).expect(&rt, "memory");
-    pop(&rt, alloc, &mut queue, &mut out);
+    pop(&rt, &mut queue, &mut out);
     assert_entry(&rt, &out, 0, head_of(3, 7, true), 512);
     assert!(rt; 0 < out.count() && out.entry(0).len() == 512);
     let before = [4, 0, 0, 0, 0, 0, 0, 0, 9, 0, 5, 0, 0, 0, 7];

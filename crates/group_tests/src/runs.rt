@@ -21,13 +21,13 @@ use std::process::Abort;
 use tod_stamp::Stamp;
 
 /// Joins a batch that fits.
-fn join(rt: &impl Abort, alloc: Global, state: &mut GroupState, batch: Batch)
+fn join(rt: &impl Abort, state: &mut GroupState, batch: Batch)
     requires control { batch.control < length state.old.controls }
     requires rules { IsTrue (all_keep_rules batch.writes) }
     requires legal { MayJoin (control_at state.old batch.control) batch }
     ensures { state.new ≡ group_after state.old (Join batch) }
 {
-    let joined = state.join(alloc, batch);
+    let joined = state.join(batch);
     assert!(rt; matches!(&joined, Joining::Joined));
 }
 
@@ -44,13 +44,13 @@ fn carry(rt: &impl Abort, alloc: Global, state: &mut GroupState, control: u16)
 }
 
 /// Forms a group, which has a cut.
-fn form(rt: &impl Abort, alloc: Global, state: &mut GroupState, limit: u64, out: &mut Formed)
+fn form(rt: &impl Abort, state: &mut GroupState, limit: u64, out: &mut Formed)
     requires limit { state.old.last.0 ≤ limit }
     requires room { length state.old.controls ≤ out.old.controls }
     ensures state { state.new ≡ group_after state.old (Form (record { 0 = limit })) }
     ensures room { out.new.controls ≡ out.old.controls }
 {
-    let formed = state.form(alloc, Stamp(limit), out);
+    let formed = state.form(Stamp(limit), out);
     assert_eq!(rt; formed, Forming::Formed);
 }
 
@@ -95,20 +95,12 @@ fn carry_wanted(rt: &impl Abort, alloc: Global, state: &mut GroupState, volume: 
 }
 
 /// A wanted track of control 0 that fits is copied at the floor.
-fn copy(
-    rt: &impl Abort,
-    alloc: Global,
-    state: &mut GroupState,
-    volume: u16,
-    track: u32,
-    at: u64,
-    slot: &Slot,
-)
+fn copy(rt: &impl Abort, state: &mut GroupState, volume: u16, track: u32, at: u64, slot: &Slot)
     requires control { 0 < length state.old.controls }
     requires may { MayCopy (control_at state.old 0) volume track (record { 0 = at }) }
     ensures { state.new ≡ group_after state.old (Copied 0 volume track (record { 0 = at }) slot.now) }
 {
-    let copied = state.copied(alloc, 0, volume, track, Stamp(at), slot);
+    let copied = state.copied(0, volume, track, Stamp(at), slot);
     assert_eq!(rt; copied, CopyJoin::Joined);
 }
 
@@ -140,25 +132,15 @@ fn the_cut_follows_the_slower_control(rt: HostRuntime) {
     let mut state = GroupState::make(alloc, 2, 32, 3_552).expect(&rt, "memory");
     let mut out = Formed::make(alloc, 2).expect(&rt, "memory");
     carry(&rt, alloc, &mut state, 0);
-    join(
-        &rt,
-        alloc,
-        &mut state,
-        one_write(&rt, alloc, 0, 0, 0x10, 0x1F),
-    );
-    join(
-        &rt,
-        alloc,
-        &mut state,
-        one_write(&rt, alloc, 0, 1, 0x20, 0x40),
-    );
+    join(&rt, &mut state, one_write(&rt, alloc, 0, 0, 0x10, 0x1F));
+    join(&rt, &mut state, one_write(&rt, alloc, 0, 1, 0x20, 0x40));
     state.raise(1, Stamp(0x15));
-    form(&rt, alloc, &mut state, 0x40, &mut out);
+    form(&rt, &mut state, 0x40, &mut out);
     assert_shown(&rt, &out, 0x15, &[(0, 0)]);
     state.raise(1, Stamp(0x40));
-    form(&rt, alloc, &mut state, 0x40, &mut out);
+    form(&rt, &mut state, 0x40, &mut out);
     assert_shown(&rt, &out, 0x40, &[(0, 1)]);
-    let formed = state.form(alloc, Stamp(0x40), &mut out);
+    let formed = state.form(Stamp(0x40), &mut out);
     assert_same(&rt, &formed, &Forming::Nothing, &"formed again");
 }
 
@@ -168,10 +150,9 @@ fn assert_joined(rt: &impl Abort, alloc: Global, blocks: u32, held: Option<Room>
 {
     let mut state = GroupState::make(alloc, 1, 2, blocks).expect(rt, "memory");
     carry(rt, alloc, &mut state, 0);
-    let found = match state.join(alloc, long_update(rt, alloc)) {
+    let found = match state.join(long_update(rt, alloc)) {
         Joining::Joined => None,
         Joining::Held { batch: _, room } => Some(room),
-        Joining::NoMemory { .. } => panic!(rt; "memory"),
     };
     assert_same(rt, &found, &held, &blocks);
 }
@@ -195,10 +176,10 @@ fn a_copied_track_is_stale_or_held(rt: HostRuntime) {
     let slot = Slot::make(alloc).expect(&rt, "memory");
     carry_wanted(&rt, alloc, &mut state, 0);
     let first = state.next_wanted(0);
-    copy(&rt, alloc, &mut state, 0, 0, 0, &slot);
+    copy(&rt, &mut state, 0, 0, 0, &slot);
     let second = state.next_wanted(0);
-    let stale = state.copied(alloc, 0, 0, 0, Stamp(0), &slot);
-    let held = state.copied(alloc, 0, 0, 1, Stamp(0), &slot);
+    let stale = state.copied(0, 0, 0, Stamp(0), &slot);
+    let held = state.copied(0, 0, 1, Stamp(0), &slot);
     let none = Room {
         records: 0,
         blocks: 0,
@@ -217,24 +198,14 @@ fn a_resumed_volume_copies_what_was_written(rt: HostRuntime) {
     let mut out = Formed::make(alloc, 1).expect(&rt, "memory");
     let slot = Slot::make(alloc).expect(&rt, "memory");
     carry(&rt, alloc, &mut state, 0);
-    join(
-        &rt,
-        alloc,
-        &mut state,
-        one_write(&rt, alloc, 0, 0, 0x10, 0x10),
-    );
+    join(&rt, &mut state, one_write(&rt, alloc, 0, 0, 0x10, 0x10));
     state.drop_volume(0, 0, false);
-    join(
-        &rt,
-        alloc,
-        &mut state,
-        one_write(&rt, alloc, 0, 1, 0x20, 0x20),
-    );
+    join(&rt, &mut state, one_write(&rt, alloc, 0, 1, 0x20, 0x20));
     let owed = state.resume(0, 0);
-    copy(&rt, alloc, &mut state, 0, 0, 0x20, &slot);
+    copy(&rt, &mut state, 0, 0, 0x20, &slot);
     let second = state.next_wanted(0);
-    copy(&rt, alloc, &mut state, 0, 1, 0x20, &slot);
-    form(&rt, alloc, &mut state, 0x20, &mut out);
+    copy(&rt, &mut state, 0, 1, 0x20, &slot);
+    form(&rt, &mut state, 0x20, &mut out);
     assert_shown(&rt, &out, 0x20, &[(0, 0), (0, 1)]);
     let found = (owed, second, out.done_at(0));
     let expected = (2, Some((0, 1)), Some((0, 0)));
@@ -257,13 +228,13 @@ fn two_volumes_and_two_breaks(rt: HostRuntime) {
     let slot = slot_of_one(&rt, alloc, 3);
     carry(&rt, alloc, &mut state, 0);
     carry_wanted(&rt, alloc, &mut state, 1);
-    join(&rt, alloc, &mut state, three_writes(&rt, alloc));
+    join(&rt, &mut state, three_writes(&rt, alloc));
     let first = state.next_wanted(0);
     state.broken(1, Stamp(0x12), Cause::ReadFault);
     state.broken(2, Stamp(0x12), Cause::ReadFault);
-    copy(&rt, alloc, &mut state, 1, 0, 0x12, &slot);
+    copy(&rt, &mut state, 1, 0, 0x12, &slot);
     let second = state.next_wanted(0);
-    form(&rt, alloc, &mut state, 0x40, &mut out);
+    form(&rt, &mut state, 0x40, &mut out);
     let wanted = [Some((1, 0)), Some((1, 1))];
     assert_same(&rt, &[first, second], &wanted, &"wanted");
     assert_shown(&rt, &out, 0x12, &[(0, 0), (0, 1), (0, 0), (0, 0)]);

@@ -8,7 +8,7 @@ use Rattle.ckd_track.specs.Entries.{IsQueueForm}
 use Rattle.pair_table.specs.declared.row.PairRow.{PairRow}
 use Rattle.pair_table.specs.Tables.{clashes, none_clash}
 use Rattle.pending_queue.specs.declared.head.EntryHead.{EntryHead}
-use Rattle.pending_queue.specs.Entries.{WaitingEntry, IsOfWrite}
+use Rattle.pending_queue.specs.Entries.{WaitingEntry, IsOfWrite, write_of}
 use Rattle.image_former.specs.Entries.{is_row_of, entry_row, row_device, is_device, is_entry_on}
 use Rattle.image_former.specs.Steps.{is_beside}
 
@@ -37,7 +37,7 @@ form_there (x ∷ entries) (suc i) e form is shown = form_there entries i e form
 pub is_form : (found : Option WaitingEntry) (e : WaitingEntry) (form : List ℕ) → found ≡ Some e → IfSome found IsOfWrite → e.form ≡ form → IsQueueForm form
 is_form found e form is of_write shown =
     let w : IsOfWrite e = subst (λ (o : Option WaitingEntry). IfSome o IsOfWrite) is of_write in
-    record { write = w.write; keeps = w.keeps; spelled = sym shown ∙ ap (λ (y : WaitingEntry). y.form) w.is }
+    record { write = write_of e.head e.kind; keeps = w.keeps; spelled = sym shown ∙ w.spelled }
 
 -- ---- entries of one track
 

@@ -6,8 +6,10 @@ use Rattle.std.proofs.lemmas.Slice.Eq.{bytes_eq-Decides}
 use Rattle.write_trace.specs.declared.header.Header.{Header}
 use Rattle.write_trace.specs.declared.header.VolumeHead.{VolumeHead}
 use Rattle.write_trace.specs.declared.trace.Trace.{Trace}
+use Rattle.pair_table.specs.declared.names.NamedDevice.{NamedDevice}
+use Rattle.pair_table.specs.declared.names.NamedVolume.{NamedVolume}
 use Rattle.pair_table.specs.declared.row.PairRow.{PairRow}
-use Rattle.pair_table.specs.Naming.{NamedDevice, NamedVolume, label_in, lower}
+use Rattle.pair_table.specs.Naming.{label_in, lower}
 use Rattle.volume_label.specs.declared.label.Label.{Label}
 use Rattle.consistency.specs.Bears.{Run, primaries_named, volumes_named}
 use Rattle.consistency.proofs.Lines.{same_some}

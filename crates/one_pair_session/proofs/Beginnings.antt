@@ -20,7 +20,7 @@ use Rattle.pair_course.specs.Course.{start_reply}
 use Rattle.session_lines.specs.Asking.{AsksStart}
 use Rattle.session_lines.specs.Meanings.{NowMeans}
 use Rattle.xrc_status.specs.declared.stop.Stop.{Stop}
-use Rattle.xrc_status.specs.declared.stop.Stop.TheVariants.{NoMemory, BadWords, ConsoleFault, JournalFault, ControlFault, StateFault, BadHeader, HeaderFault, NoSession, OtherSession, Damaged, VolumeFault, TooSmall, JournalEnd, BadSite, NotBuilt, EarlyBreak, EarlyVolume, Spent}
+use Rattle.xrc_status.specs.declared.stop.Stop.TheVariants.{NoMemory, BadWords, ConsoleFault, BadLine, JournalFault, ControlFault, StateFault, BadHeader, HeaderFault, NoSession, OtherSession, Damaged, VolumeFault, TooSmall, JournalEnd, BadSite, NotBuilt, EarlyBreak, EarlyVolume, Spent}
 use Rattle.xrc_status.specs.Stops.{last_line}
 use Rattle.one_pair_session.specs.Beginning.{Begins, HasBegun, HearsStart, IsAnswered, IsUnsaid, MeansStart, ShutsOrStarts, StartsSafely}
 use Rattle.one_pair_session.specs.Beginning.Begins.{Starting, Unstarted}
@@ -222,6 +222,7 @@ line_front : (stop : Stop) → (last_line stop ≡ []) ⊎ ((rest : List ℕ) ×
 line_front ConsoleFault = inl refl
 line_front NoMemory = inr (_, refl)
 line_front BadWords = inr (_, refl)
+line_front (BadLine n) = inr (_, refl)
 line_front (JournalFault j) = inr (_, refl)
 line_front ControlFault = inr (_, refl)
 line_front StateFault = inr (_, refl)

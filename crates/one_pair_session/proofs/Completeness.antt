@@ -20,7 +20,7 @@ use Rattle.pair_table.specs.declared.row.PairRow.{PairRow}
 use Rattle.pair_table.specs.Commands.{new_row}
 use Rattle.pair_table.specs.Naming.{labelled_device, primary_of}
 use Rattle.consistency.specs.Bears.{Run, names_of}
-use Rattle.consistency.specs.Courses.{Answered, AreAsked, lines_begun_from, first_line, is_whole_line, later_line, lines_begun, most_lines, next_line, stage_at, texts_of}
+use Rattle.consistency.specs.Courses.{Answered, AreAsked, lines_begun_from, first_line, is_whole_line, last_line_time, later_line, lines_begun, most_lines, next_line, texts_of}
 use Rattle.consistency.specs.Keeping.{Keeps, stage_now}
 use Rattle.consistency.specs.Steps.{TimedCommand}
 use Rattle.consistency.proofs.Lines.{next_not_before, same_some, whole_at_end}
@@ -34,7 +34,7 @@ use Rattle.script_lines.proofs.GrammarLaws.{is_grammar, long_is_none}
 use Rattle.session_lines.specs.Asking.{AsksStart, HasEnded}
 use Rattle.session_lines.specs.Runs.{Paired, end_of, ended_lines, pair_of, paired_lines, start_of, started_at, started_lines}
 use Rattle.xrc_status.specs.declared.stop.Stop.{Stop}
-use Rattle.xrc_status.specs.declared.stop.Stop.TheVariants.{ConsoleFault, JournalFault, ControlFault, StateFault, EarlyVolume, EarlyBreak, NotBuilt, JournalEnd, Spent, NoMemory, BadWords, BadHeader, HeaderFault, NoSession, OtherSession, Damaged, VolumeFault, TooSmall, BadSite}
+use Rattle.xrc_status.specs.declared.stop.Stop.TheVariants.{ConsoleFault, BadLine, JournalFault, ControlFault, StateFault, EarlyVolume, EarlyBreak, NotBuilt, JournalEnd, Spent, NoMemory, BadWords, BadHeader, HeaderFault, NoSession, OtherSession, Damaged, VolumeFault, TooSmall, BadSite}
 use Rattle.one_pair_session.specs.Expected.{DueLine, IsUnexpected, KeepsExpected, line_of, lines_before, time_of}
 use Rattle.one_pair_session.specs.Expected.DueLine.{DueEnd, DuePair, DueStart}
 use Rattle.one_pair_session.specs.Expected.IsUnexpected.{More, NoEnd, NoPair, NoStart}
@@ -156,9 +156,9 @@ told_at (x ∷ lines) left zero a are at = subst (λ (y : Answered). IsTold y.te
 told_at (x ∷ lines) left (suc n) a are at = told_at lines left n a are.1 at
 
 -- Lines that were asked are told.
-are_told : (run : Run) (script : List ℕ) (lines : List Answered) (left : List ℕ) → AreAsked run line_grammar script lines → script ≡ texts_of lines ++ left → AreTold lines left
-are_told run script lines left are is = told_each lines left (λ n a at.
-    next_told n (stage_at run lines n).replied (texts_of (take (suc n) lines)) (texts_of (drop (suc n) lines) ++ left) script a.text a.line (is ∙ split_texts (suc n) lines left) (are n a at).one_line (are n a at).asks)
+are_told : (script : List ℕ) (lines : List Answered) (left : List ℕ) → AreAsked line_grammar script lines → script ≡ texts_of lines ++ left → AreTold lines left
+are_told script lines left are is = told_each lines left (λ n a at.
+    next_told n (last_line_time lines n) (texts_of (take (suc n) lines)) (texts_of (drop (suc n) lines) ++ left) script a.text a.line (is ∙ split_texts (suc n) lines left) (are n a at).one_line (are n a at).asks)
 
 -- ---- one script tells one next line
 
@@ -203,7 +203,7 @@ kept_whole : (run : Run) (first now : PlantState) (lines : List Answered) (text 
 kept_whole run first now lines text keeps = keeps.script ∙ append_assoc (texts_of lines) text now.script
 
 lines_told : (run : Run) (first now : PlantState) (lines : List Answered) (text : List ℕ) → Keeps run line_grammar lines text first now → AreTold lines (text ++ now.script)
-lines_told run first now lines text keeps = are_told run first.script lines (text ++ now.script) keeps.asked (kept_whole run first now lines text keeps)
+lines_told run first now lines text keeps = are_told first.script lines (text ++ now.script) keeps.asked (kept_whole run first now lines text keeps)
 
 -- Two pairs that a run has answered behind its start are at the same time.
 pub paired_once : (run : Run) (first : PlantState) (p q : Paired) (text other : List ℕ) (a b : PlantState) → Keeps run line_grammar (paired_lines run p) text first a → Keeps run line_grammar (paired_lines run q) other first b → p.time ≡ q.time
@@ -216,7 +216,7 @@ paired_once run first p q text other a b one two =
 
 -- Its lines are told.
 asked_told : (run : Run) (script : List ℕ) (asks : AsksSession run script) → AreTold (ended_lines run asks.end) []
-asked_told run script asks = are_told run script (ended_lines run asks.end) [] asks.asked (sym asks.whole ∙ sym (append-nil (texts_of (ended_lines run asks.end))))
+asked_told run script asks = are_told script (ended_lines run asks.end) [] asks.asked (sym asks.whole ∙ sym (append-nil (texts_of (ended_lines run asks.end))))
 
 -- It tells a run over it the same lines.
 module _ (run : Run) (t : Trace) (first now : PlantState) (asks : AsksSession run first.script) where
@@ -258,7 +258,7 @@ module _ (run : Run) (t : Trace) (first now : PlantState) (asks : AsksSession ru
   next_is lines text line a keeps at next =
       let all = ended_lines run asks.end in
       let few : length lines < 3 = slice_get_within all (length lines) a at in
-      let heard = next_told (length lines) (stage_at run lines (length lines)).replied (texts_of lines ++ text) now.script first.script text line keeps.script keeps.one_line next in
+      let heard = next_told (length lines) (last_line_time lines (length lines)) (texts_of lines ++ text) now.script first.script text line keeps.script keeps.one_line next in
       (told_once text a.text now.script (texts_of (drop (suc (length lines)) all) ++ []) line a.line heard (told_at all [] (length lines) a (asked_told run first.script asks) at) (kept_left lines text keeps (omega (arith, few)) ∙ texts_from all (length lines) a [] at)).1
 
   -- Nothing that it tells is unexpected.
@@ -340,6 +340,7 @@ module _ (run : Run) (t : Trace) (risen : ℕ) (full : DueLine → Type 0) (old 
   stops_for_want Spent stands cause = absurd cause
   stops_for_want NoMemory stands cause = inl refl
   stops_for_want BadWords stands cause = absurd cause
+  stops_for_want (BadLine n) stands cause = absurd cause
   stops_for_want (BadHeader trace place) stands cause = absurd cause
   stops_for_want (HeaderFault trace) stands cause = absurd cause
   stops_for_want NoSession stands cause = absurd cause

@@ -6,10 +6,10 @@ use Rattle.crash_plant.proofs.Steps.{stays_here}
 use Rattle.write_trace.specs.declared.trace.Trace.{Trace}
 use Rattle.consistency.specs.Bears.{Run}
 use Rattle.xrc_status.specs.declared.stop.Stop.{Stop}
-use Rattle.xrc_status.specs.declared.stop.Stop.TheVariants.{ConsoleFault, JournalFault, ControlFault, StateFault, EarlyVolume, EarlyBreak, NotBuilt, JournalEnd, Spent, NoMemory, BadWords, BadHeader, HeaderFault, NoSession, OtherSession, Damaged, VolumeFault, TooSmall, BadSite}
+use Rattle.xrc_status.specs.declared.stop.Stop.TheVariants.{ConsoleFault, BadLine, JournalFault, ControlFault, StateFault, EarlyVolume, EarlyBreak, NotBuilt, JournalEnd, Spent, NoMemory, BadWords, BadHeader, HeaderFault, NoSession, OtherSession, Damaged, VolumeFault, TooSmall, BadSite}
 use Rattle.one_pair_session.specs.Expected.{DueLine}
-use Rattle.one_pair_session.specs.Runs.{StopsEarlyOr}
-use Rattle.one_pair_session.specs.Stopping.{StopsSo}
+use Rattle.one_pair_session.specs.Runs.{IsEarly, IsOfHeader, StopsEarlyOr}
+use Rattle.one_pair_session.specs.Stopping.{HasStopCause, StopsSo}
 use Rattle.one_pair_session.proofs.WholeRuns.{keeps_first}
 
 -- ---- a break
@@ -26,6 +26,7 @@ is_break JournalEnd = inr (λ is. cc is)
 is_break Spent = inr (λ is. cc is)
 is_break NoMemory = inr (λ is. cc is)
 is_break BadWords = inr (λ is. cc is)
+is_break (BadLine n) = inr (λ is. cc is)
 is_break (BadHeader trace place) = inr (λ is. cc is)
 is_break (HeaderFault trace) = inr (λ is. cc is)
 is_break NoSession = inr (λ is. cc is)
@@ -49,6 +50,24 @@ was_break result before now count differ = elim (break_or result) [ inl is ↦ i
 pub late_stops : {T : Type 0} (result : Result T Stop) (untouched : Type 0) (run : Run) (t : Trace) (breaks full : DueLine → Type 0) (old new : PlantState) → IfErr result (StopsSo run t breaks full old new) → IfErr result (StopsEarlyOr untouched run t breaks full old new)
 late_stops (Ok x) untouched run t breaks full old new stops = tt
 late_stops (Err e) untouched run t breaks full old new stops = inr stops
+
+-- What has a cause in a script isn't early.
+not_early : (old new : PlantState) (stop : Stop) → HasStopCause old new stop → ¬ IsEarly stop
+not_early old new stop cause early = elim early [
+  | inl site ↦ subst (HasStopCause old new) site cause
+  | inr rest ↦ elim rest [
+    | inl small ↦ subst (HasStopCause old new) small.2 cause
+    | inr header ↦ elim header [ inl bad ↦ subst (HasStopCause old new) bad.1 cause | inr fault ↦ subst (HasStopCause old new) fault cause ]
+  ]
+]
+
+pub late_untouched : {T : Type 0} (result : Result T Stop) (untouched : Type 0) (old new : PlantState) → IfErr result (HasStopCause old new) → IfErr result (λ stop. IsEarly stop → untouched)
+late_untouched (Ok x) untouched old new cause = tt
+late_untouched (Err e) untouched old new cause = λ early. absurd (not_early old new e cause early)
+
+pub late_causes : {T : Type 0} (result : Result T Stop) (old new : PlantState) → IfErr result (HasStopCause old new) → IfErr result (λ stop. IsOfHeader stop ⊎ HasStopCause old new stop)
+late_causes (Ok x) old new cause = tt
+late_causes (Err e) old new cause = inr cause
 
 -- ---- stops by the header
 

@@ -18,7 +18,7 @@ use Rattle.session_lines.specs.Asking.{AsksEnd, AsksPair, AsksStart, HasEnded}
 use Rattle.session_lines.specs.Meanings.{NowMeans}
 use Rattle.session_lines.specs.Runs.{IsPair, IsStart, Paired, Started, line_heard, paired_lines, started_lines}
 use Rattle.xrc_status.specs.declared.stop.Stop.{Stop}
-use Rattle.xrc_status.specs.declared.stop.Stop.TheVariants.{ConsoleFault, JournalFault, ControlFault, StateFault, EarlyVolume, EarlyBreak, NotBuilt, JournalEnd, Spent, NoMemory, BadWords, BadHeader, HeaderFault, NoSession, OtherSession, Damaged, VolumeFault, TooSmall, BadSite}
+use Rattle.xrc_status.specs.declared.stop.Stop.TheVariants.{ConsoleFault, BadLine, JournalFault, ControlFault, StateFault, EarlyVolume, EarlyBreak, NotBuilt, JournalEnd, Spent, NoMemory, BadWords, BadHeader, HeaderFault, NoSession, OtherSession, Damaged, VolumeFault, TooSmall, BadSite}
 use Rattle.one_pair_session.specs.Expected.{AnswersInPart, DueLine, IsUnexpected, KeepsExpected, LeavesAll}
 use Rattle.one_pair_session.specs.Expected.DueLine.{DueEnd, DuePair, DueStart}
 use Rattle.one_pair_session.specs.Expected.IsUnexpected.{NoEnd, NoPair, NoStart}
@@ -54,6 +54,7 @@ module _ (run : Run) (t : Trace) (breaks full : DueLine → Type 0) (first old n
   expected_stops Spent cause part built broken end = absurd cause
   expected_stops NoMemory cause part built broken end = inl line
   expected_stops BadWords cause part built broken end = absurd cause
+  expected_stops (BadLine n) cause part built broken end = absurd cause
   expected_stops (BadHeader trace place) cause part built broken end = absurd cause
   expected_stops (HeaderFault trace) cause part built broken end = absurd cause
   expected_stops NoSession cause part built broken end = absurd cause

@@ -23,7 +23,7 @@ use Rattle.session_lines.specs.Meanings.{NowMeans}
 use Rattle.session_lines.specs.Runs.{Ended, HasFinished, Paired, ended_lines, paired_lines}
 use Rattle.session_lines.proofs.Going.{hears_on}
 use Rattle.xrc_status.specs.declared.stop.Stop.{Stop}
-use Rattle.xrc_status.specs.declared.stop.Stop.TheVariants.{ConsoleFault, JournalFault, ControlFault, StateFault, EarlyVolume, EarlyBreak, NotBuilt, JournalEnd, Spent, NoMemory, BadWords, BadHeader, HeaderFault, NoSession, OtherSession, Damaged, VolumeFault, TooSmall, BadSite}
+use Rattle.xrc_status.specs.declared.stop.Stop.TheVariants.{ConsoleFault, BadLine, JournalFault, ControlFault, StateFault, EarlyVolume, EarlyBreak, NotBuilt, JournalEnd, Spent, NoMemory, BadWords, BadHeader, HeaderFault, NoSession, OtherSession, Damaged, VolumeFault, TooSmall, BadSite}
 use Rattle.one_pair_session.specs.Expected.{DueLine, KeepsExpected, StopsAt, lines_before}
 use Rattle.one_pair_session.specs.Expected.AreAnswered.{AnEnd}
 use Rattle.one_pair_session.specs.Expected.DueLine.{DueEnd, DuePair, DueStart}
@@ -59,6 +59,7 @@ module _ (run : Run) (t : Trace) (breaks full less rest : DueLine → Type 0) (f
   stop_so Spent broken ended so = so
   stop_so NoMemory broken ended so = so
   stop_so BadWords broken ended so = so
+  stop_so (BadLine n) broken ended so = so
   stop_so (BadHeader trace place) broken ended so = so
   stop_so (HeaderFault trace) broken ended so = so
   stop_so NoSession broken ended so = so

@@ -32,7 +32,7 @@ use Rattle.session_lines.specs.Meanings.{NowMeans}
 use Rattle.session_lines.specs.Runs.{GoesOn, HasFinished, Paired, ended_at, ended_lines}
 use Rattle.session_lines.proofs.Going.{hears_on}
 use Rattle.xrc_status.specs.declared.stop.Stop.{Stop}
-use Rattle.xrc_status.specs.declared.stop.Stop.TheVariants.{ConsoleFault, JournalFault, ControlFault, StateFault, EarlyVolume, EarlyBreak, NotBuilt, JournalEnd, Spent, NoMemory, BadWords, BadHeader, HeaderFault, NoSession, OtherSession, Damaged, VolumeFault, TooSmall, BadSite}
+use Rattle.xrc_status.specs.declared.stop.Stop.TheVariants.{ConsoleFault, BadLine, JournalFault, ControlFault, StateFault, EarlyVolume, EarlyBreak, NotBuilt, JournalEnd, Spent, NoMemory, BadWords, BadHeader, HeaderFault, NoSession, OtherSession, Damaged, VolumeFault, TooSmall, BadSite}
 use Rattle.one_pair_session.specs.Between.{IsRunOf}
 use Rattle.one_pair_session.specs.Numbers.{HasNumbers}
 use Rattle.one_pair_session.specs.Runs.{EndsSession, IsSessionRun, WasCopied}
@@ -115,6 +115,7 @@ cause_since old mid new JournalEnd fell cause = tt
 cause_since old mid new Spent fell cause = absurd cause
 cause_since old mid new NoMemory fell cause = tt
 cause_since old mid new BadWords fell cause = absurd cause
+cause_since old mid new (BadLine n) fell cause = absurd cause
 cause_since old mid new (BadHeader trace place) fell cause = absurd cause
 cause_since old mid new (HeaderFault trace) fell cause = absurd cause
 cause_since old mid new NoSession fell cause = absurd cause

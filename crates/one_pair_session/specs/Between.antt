@@ -2,8 +2,8 @@
 use Rattle.std.specs.Prelude.{◌≡◌, ◌≤◌, ℕ, [], ◌∷◌, List, false, Option, Some, None}
 use Rattle.crash_plant.specs.Moments.{PlantState}
 use Rattle.pair_table.specs.declared.level.Level.TheVariants.{Volume}
+use Rattle.pair_table.specs.declared.names.NamedDevice.{NamedDevice}
 use Rattle.pair_table.specs.declared.row.PairRow.{PairRow}
-use Rattle.pair_table.specs.Naming.{NamedDevice}
 use Rattle.volume_label.specs.declared.label.Label.{Label}
 use Rattle.one_pair_site.specs.Marking.{NoneFailed}
 use Rattle.one_pair_site.specs.Sites.{SiteState}

@@ -14,4 +14,4 @@ use Rattle.epoch.specs.Lanes.{tracks_of}
 pub data LeavesOthers (run : Run) (first now : PlantState) : Type 0 where
   Unpaired : KeepsOthers 0 0 0 first now → LeavesOthers run first now
   WithPair : (pair : Paired) (moment : ℕ) → first.clock ≤ moment → moment ≤ now.clock → now.heard moment ≡ first.heard first.clock ++ texts_of (paired_lines run pair)
-      → AreAsked run line_grammar first.script (paired_lines run pair) → IsAdded run pair.row → KeepsOthers 0 0 (tracks_of pair.row) first now → LeavesOthers run first now
+      → AreAsked line_grammar first.script (paired_lines run pair) → IsAdded run pair.row → KeepsOthers 0 0 (tracks_of pair.row) first now → LeavesOthers run first now

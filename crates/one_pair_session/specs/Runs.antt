@@ -117,7 +117,7 @@ pub record EndsInHeader (all left given : List ℕ) : Type 0 where
 pub record AsksSession (run : Run) (script : List ℕ) : Type 0 where
   pub end : Ended
   pub whole : texts_of (ended_lines run end) ≡ script
-  pub asked : AreAsked run line_grammar script (ended_lines run end)
+  pub asked : AreAsked line_grammar script (ended_lines run end)
   pub added : IsAdded run end.pair.row
   pub start : AsksStart run.session end.pair.start.text end.pair.start.time
 

@@ -11,7 +11,7 @@ use Rattle.epoch.specs.declared.lane.Lane.{Lane}
 use Rattle.epoch.specs.Taken.{HasFailed, WillBreak}
 use Rattle.one_pair_session.specs.Expected.{AnswersInPart, DueLine, IsUnbegun, IsUnexpected, KeepsExpected, StopsAt, time_of}
 use Rattle.xrc_status.specs.declared.stop.Stop.{Stop}
-use Rattle.xrc_status.specs.declared.stop.Stop.TheVariants.{ConsoleFault, JournalFault, ControlFault, StateFault, EarlyVolume, EarlyBreak, NotBuilt, JournalEnd, Spent, NoMemory, BadWords, BadHeader, HeaderFault, NoSession, OtherSession, Damaged, VolumeFault, TooSmall, BadSite}
+use Rattle.xrc_status.specs.declared.stop.Stop.TheVariants.{ConsoleFault, BadLine, JournalFault, ControlFault, StateFault, EarlyVolume, EarlyBreak, NotBuilt, JournalEnd, Spent, NoMemory, BadWords, BadHeader, HeaderFault, NoSession, OtherSession, Damaged, VolumeFault, TooSmall, BadSite}
 
 -- How a run stands with each stop. The parameters say what is so of what is due, where the trace has broken and where the journal has no
 -- room. A console that failed may have said a front of a reply; with any other stop nothing was said behind the replies. Memory is wanting
@@ -28,6 +28,7 @@ StopsSo run t breaks full first now EarlyVolume = KeepsExpected run t first now
 StopsSo run t breaks full first now Spent = ⊥
 StopsSo run t breaks full first now NoMemory = KeepsExpected run t first now ⊎ IsUnbegun run first now
 StopsSo run t breaks full first now BadWords = ⊥
+StopsSo run t breaks full first now (BadLine n) = ⊥
 StopsSo run t breaks full first now (BadHeader trace place) = ⊥
 StopsSo run t breaks full first now (HeaderFault trace) = ⊥
 StopsSo run t breaks full first now NoSession = ⊥
@@ -50,6 +51,7 @@ HasStopCause old new JournalEnd = Unit {0}
 HasStopCause old new Spent = ⊥
 HasStopCause old new NoMemory = Unit {0}
 HasStopCause old new BadWords = ⊥
+HasStopCause old new (BadLine n) = ⊥
 HasStopCause old new (BadHeader trace place) = ⊥
 HasStopCause old new (HeaderFault trace) = ⊥
 HasStopCause old new NoSession = ⊥

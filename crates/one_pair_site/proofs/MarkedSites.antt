@@ -116,7 +116,7 @@ module _ (old new : PlantState) (site : SiteState) (ended : Bool) (stands : Stan
         let b = others new.clock later (omega arith) c is in
         ap (λ (s : Shape). meaning_in s c) (shape_same old new same)
         ∙ new_mark old site ended stands low lt b.0 c b.1 (b.2 (Journal stands.walk.at.set) (λ no. no)) (chosen_there c is) (held_there c is)
-        ∙ (λ i. Meant (let m : Means = record { session = site.table.session; level = site.level; time = record { 0 = site.time }; table = record { session = site.table.session; is_started = true; rows = site.table.rows }; from = stands.at i; ended = ended } in m) (new_walk old site ended stands low lt));
+        ∙ (λ i. Meant (let m : Means = record { session = site.table.session; level = site.level; time = record { 0 = site.time }; table = record { session = site.table.session; is_started = true; is_ended = false; rows = site.table.rows }; from = stands.at i; ended = ended } in m) (new_walk old site ended stands low lt));
     chosen = λ c is. ap (λ (l : List ℕ). chosen_mark l (c Control)) (same_lengths old new same) ∙ chosen_there c is;
     at = stands.at;
     entered = (λ i. (stands.at i).set ∷ []);

@@ -190,7 +190,7 @@ impl<V: Drop> Site<V> {
     {
         let site = made(alloc, plant.volumes(), session, level, controls, at)?;
         shut_all(plant)?;
-        put_mark(alloc, plant, level, &site.table, &site.mark)?;
+        put_mark(plant, level, &site.table, &site.mark)?;
         Ok(site)
     }
 }

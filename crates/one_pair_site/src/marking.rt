@@ -172,7 +172,7 @@ impl<V> Site<V> {
     pub fn mark<R: Threads + Sync, P: Plant<Volume = V>>(
         &mut self,
         _rt: &R,
-        alloc: Global,
+        _alloc: Global,
         plant: &mut P,
         ended: bool,
     ) -> Result<(), StoreError>
@@ -199,7 +199,7 @@ impl<V> Site<V> {
         ensures last_number { self.old.mark.number ≡ 2 ^ 64 - 2 → IsErrOf result Spent ⊎ ((v : ℕ) × IsErrOf result (Volume v)) }
     {
         let mark = self.ready_mark(plant, ended)?;
-        put_mark(alloc, plant, self.level, &self.table, &mark)?;
+        put_mark(plant, self.level, &self.table, &mark)?;
         self.take_mark(mark);
         Ok(())
     }

@@ -19,11 +19,9 @@ use crate::StoreError;
 use control_set::Mark;
 use crash_plant::{Device, Plant};
 use pair_table::{Level, PairTable};
-use std::alloc::Global;
 
 /// Writes the level and the rows into a mark's slot of the state, and the mark behind them.
 pub(crate) fn put_mark<P: Plant>(
-    alloc: Global,
     plant: &mut P,
     level: Level,
     table: &PairTable,
@@ -48,7 +46,7 @@ pub(crate) fn put_mark<P: Plant>(
     ensures error { (e : AnyError) → IsErrOf result e → (d : AnyDevice) × (e ≡ Fault d) × IsMarked d × Rose ((P.state plant.old).faults d) ((P.state plant.new).faults d) }
     ensures others { (d : AnyDevice) → ¬ IsErrOf result (error_of d) → (P.state plant.new).faults d ≡ (P.state plant.old).faults d }
 {
-    let Ok(()) = state_set::put(alloc, plant, value.state_slot, level, table) else {
+    let Ok(()) = state_set::put(plant, value.state_slot, level, table) else {
         return Err(StoreError::Fault(Device::State));
     };
     let Ok(()) = control_set::mark(plant, value) else {

@@ -13,15 +13,14 @@ use Rattle.pair_table.specs.declared.level.Level.TheVariants.{Volume}
 use Rattle.pair_table.specs.declared.row.PairRow.{PairRow}
 use Rattle.pair_table.specs.declared.row.PairState.TheVariants.{Pending, Duplex}
 use Rattle.pair_table.specs.Naming.{Naming, is_broken}
-use Rattle.pair_table.specs.Refusals.{Pairs}
-use Rattle.pair_table.specs.Tables.{in_state}
+use Rattle.pair_table.specs.Tables.{Table, in_state, new_table}
 use Rattle.consistency.specs.Bears.{Run, accepts, breaks_of, names_of}
-use Rattle.consistency.specs.Courses.{Answered, IsAnswered, IsCourse, first_stage, unstarted}
+use Rattle.consistency.specs.Courses.{Answered, IsAnswered, IsCourse, first_stage}
 use Rattle.consistency.specs.Replies.{IsReply}
-use Rattle.consistency.specs.Steps.{IsCommanded, commanded, names_at, pairs_after_line, pairs_on_the_way}
+use Rattle.consistency.specs.Steps.{IsCommanded, commanded, names_at, table_after_line, table_on_the_way}
 use Rattle.consistency.specs.Toward.{is_settled}
 use Rattle.consistency.proofs.Lines.{same_some}
-use Rattle.pair_course.specs.Course.{IsAdded, IsPairRun, end_answered, end_line, has_matured, pair_answered, pair_line, paired_stage, pairs_with, start_answered, start_line, started_stage}
+use Rattle.pair_course.specs.Course.{IsAdded, IsPairRun, end_answered, end_line, has_matured, pair_answered, pair_line, paired_stage, table_with, start_answered, start_line, started_stage}
 use Rattle.pair_course.proofs.Breaking.{broke_by, none_broken, whole_before}
 use Rattle.pair_course.proofs.Commanding.{end_allowed, end_made, pair_allowed, pair_made, start_allowed, start_made}
 use Rattle.pair_course.proofs.Maturing.{may_come_once, rows_matured}
@@ -34,9 +33,9 @@ level_started level is = cc
 pub start_is_answered : (run : Run) (t : Trace) (time : ℕ) (text reply : List ℕ) → IsPairRun run t → IsReply true (start_line run.session time) reply → IsAnswered run (first_stage run) (start_answered run.session time text reply)
 start_is_answered run t time text reply pair is_reply =
     let names = names_at time (breaks_of run) (names_of run) in
-    let accepted : accepts run (unstarted run.session) (start_line run.session time) ≡ true = ap (λ (o : Option Refusal). is_none o) (start_allowed names run.session) in
+    let accepted : accepts run (new_table run.session) (start_line run.session time) ≡ true = ap (λ (o : Option Refusal). is_none o) (start_allowed names run.session) in
     record {
-      step = record { active = λ active. absurd cc; still = λ still. (refl, refl); made = sym (ap (pairs_on_the_way run.level []) (start_made names run.session time)) };
+      step = record { active = λ active. absurd cc; still = λ still. (refl, refl); made = sym (ap (table_on_the_way run.level []) (start_made names run.session time)) };
       counted = λ device. omega arith;
       level = λ level is allowed. level_started level is ∙ sym pair.level;
       is_reply = subst (λ (b : Bool). IsReply b (start_line run.session time) reply) (sym accepted) is_reply;
@@ -54,16 +53,16 @@ module _ (run : Run) (t : Trace) (row : PairRow) (from time : ℕ) (pair : IsPai
   has_room : nat_lt added.label.cylinders added.volume.cylinders ≡ false
   has_room = le-ltb added.label.cylinders added.volume.cylinders added.enough
 
-  pub pair_accepted : accepts run (pairs_with run.session [] false) (pair_line run.session time row) ≡ true
+  pub pair_accepted : accepts run (table_with run.session [] false) (pair_line run.session time row) ≡ true
   pair_accepted = ap (λ (o : Option Refusal). is_none o) (pair_allowed names_then run.session row.primary row.secondary added.volume added.label added.named added.labelled control_whole has_room)
 
-  pub pair_commanded : pairs_with run.session (row ∷ []) false ≡ commanded (breaks_of run) (names_of run) (pairs_with run.session [] false) (pair_line run.session time row)
+  pub pair_commanded : table_with run.session (row ∷ []) false ≡ commanded (breaks_of run) (names_of run) (table_with run.session [] false) (pair_line run.session time row)
   pair_commanded =
-      ap (λ (r : PairRow). pairs_with run.session (r ∷ []) false) added.made
+      ap (λ (r : PairRow). table_with run.session (r ∷ []) false) added.made
       ∙ sym (pair_made names_then run.session row.primary row.secondary added.volume added.label added.named added.labelled control_whole has_room time)
 
   -- Nothing changes before the pair's command or after it.
-  pub pair_steps : IsCommanded run.level (breaks_of run) (names_of run) from (pairs_with run.session [] false) (pair_line run.session time row) [] []
+  pub pair_steps : IsCommanded run.level (breaks_of run) (names_of run) from (table_with run.session [] false) (pair_line run.session time row) [] []
   pair_steps = record {
     toward = record { may_come = refl; broken = broke_by run t pair time whole from [] };
     not_broken_yet = refl;
@@ -74,7 +73,7 @@ module _ (run : Run) (t : Trace) (row : PairRow) (from time : ℕ) (pair : IsPai
 
   pub pair_is_answered : (text reply : List ℕ) → IsReply true (pair_line run.session time row) reply → IsAnswered run (started_stage run.session from) (pair_answered run.session time text reply row)
   pair_is_answered text reply is_reply = record {
-    step = record { active = λ active. pair_steps; still = λ still. absurd (true≢false still); made = ap (pairs_on_the_way run.level []) pair_commanded };
+    step = record { active = λ active. pair_steps; still = λ still. absurd (true≢false still); made = ap (table_on_the_way run.level []) pair_commanded };
     counted = λ device. omega arith;
     level = λ level is allowed. absurd cc;
     is_reply = subst (λ (b : Bool). IsReply b (pair_line run.session time row) reply) (sym pair_accepted) is_reply;
@@ -83,14 +82,14 @@ module _ (run : Run) (t : Trace) (row : PairRow) (from time : ℕ) (pair : IsPai
 -- ---- an end
 
 module _ (run : Run) (t : Trace) (row : PairRow) (paired time : ℕ) (pair : IsPairRun run t) (pending : row.state ≡ Pending) (le : paired ≤ time) (whole : has_broken t time ≡ false) where
-  -- the pairs on the way to the end, when the one pair is duplex
-  on_the_way : pairs_on_the_way run.level (has_matured paired row) (pairs_with run.session (row ∷ []) false) ≡ pairs_with run.session (in_state Duplex row ∷ []) false
-  on_the_way = ap (λ (rows : List PairRow). pairs_with run.session rows false) (rows_matured run.level paired Duplex row)
+  -- the table on the way to the end, when the one pair is duplex
+  on_the_way : table_on_the_way run.level (has_matured paired row) (table_with run.session (row ∷ []) false) ≡ table_with run.session (in_state Duplex row ∷ []) false
+  on_the_way = ap (λ (rows : List PairRow). table_with run.session rows false) (rows_matured run.level paired Duplex row)
 
-  end_accepted : (rows : List PairRow) → accepts run (pairs_with run.session rows false) (end_line run.session time) ≡ true
+  end_accepted : (rows : List PairRow) → accepts run (table_with run.session rows false) (end_line run.session time) ≡ true
   end_accepted rows = ap (λ (o : Option Refusal). is_none o) (end_allowed (names_at time (breaks_of run) (names_of run)) run.session rows)
 
-  end_steps : IsCommanded run.level (breaks_of run) (names_of run) paired (pairs_with run.session (row ∷ []) false) (end_line run.session time) (has_matured paired row) []
+  end_steps : IsCommanded run.level (breaks_of run) (names_of run) paired (table_with run.session (row ∷ []) false) (end_line run.session time) (has_matured paired row) []
   end_steps = record {
     toward = record {
       may_come = may_come_once run.level (breaks_of run) false paired time Duplex row pending refl le;
@@ -102,9 +101,9 @@ module _ (run : Run) (t : Trace) (row : PairRow) (paired time : ℕ) (pair : IsP
     may_come = refl;
   }
 
-  end_commanded : pairs_with run.session (in_state Duplex row ∷ []) true ≡ pairs_after_line run.level (breaks_of run) (names_of run) (pairs_with run.session (row ∷ []) false) (end_line run.session time) (has_matured paired row) []
+  end_commanded : table_with run.session (in_state Duplex row ∷ []) true ≡ table_after_line run.level (breaks_of run) (names_of run) (table_with run.session (row ∷ []) false) (end_line run.session time) (has_matured paired row) []
   end_commanded =
-      sym (ap (pairs_on_the_way run.level []) (ap (λ (p : Pairs). commanded (breaks_of run) (names_of run) p (end_line run.session time)) on_the_way
+      sym (ap (table_on_the_way run.level []) (ap (λ (p : Table). commanded (breaks_of run) (names_of run) p (end_line run.session time)) on_the_way
       ∙ end_made (names_at time (breaks_of run) (names_of run)) run.session (in_state Duplex row ∷ []) time))
 
   pub end_is_answered : (text reply : List ℕ) → IsReply true (end_line run.session time) reply → IsAnswered run (paired_stage run.session paired row) (end_answered run.session paired time text reply row)
@@ -113,7 +112,7 @@ module _ (run : Run) (t : Trace) (row : PairRow) (paired time : ℕ) (pair : IsP
     counted = λ device. omega arith;
     level = λ level is allowed. absurd cc;
     is_reply = subst (λ (b : Bool). IsReply b (end_line run.session time) reply)
-        (sym (ap (λ (p : Pairs). accepts run p (end_line run.session time)) on_the_way ∙ end_accepted (in_state Duplex row ∷ []))) is_reply;
+        (sym (ap (λ (p : Table). accepts run p (end_line run.session time)) on_the_way ∙ end_accepted (in_state Duplex row ∷ []))) is_reply;
   }
 
 -- ---- all three

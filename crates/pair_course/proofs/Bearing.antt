@@ -12,9 +12,9 @@ use Rattle.site_means.specs.Images.{Images, Shape}
 use Rattle.site_means.specs.Sight.{content_in, means_in}
 use Rattle.consistency.specs.Bears.{AreRows, Bears, HoldsPrimaries, IsFlag, IsTime, Run, Stage, tracks_of_row}
 use Rattle.consistency.specs.Changes.{Timed}
-use Rattle.consistency.specs.Moments.{MeansPairs}
+use Rattle.consistency.specs.Moments.{MeansTable}
 use Rattle.consistency.specs.Steps.{TimedCommand}
-use Rattle.pair_course.specs.Course.{HoldsTracks, IsPairRun, LiesBefore, MeansRows, pairs_with}
+use Rattle.pair_course.specs.Course.{HoldsTracks, IsPairRun, LiesBefore, MeansRows, table_with}
 
 -- What is meant at a time is borne where flag, time, rows and tracks may be so.
 pub bears_so : (run : Run) (s : Stage) (shape : Shape) (images : Images) (rows : List PairRow) (time : ℕ) (is_ended : Bool) → MeansRows run shape images rows time is_ended → IsFlag run s is_ended → IsTime s time → AreRows run s time rows
@@ -31,12 +31,12 @@ bears_so run s shape images rows time is_ended meant flag in_time are holds = re
   tracks = subst (λ (l : List PairRow). HoldsPrimaries run shape images l time) (sym meant.rows_are) holds;
 }
 
--- Right behind a reply they mean the stage's pairs.
-pub pairs_meant : (run : Run) (s : Stage) (shape : Shape) (images : Images) → MeansRows run shape images s.pairs.table.rows s.replied s.pairs.is_ended → (means : Means) × (means_in shape images ≡ Some means) × MeansPairs s means
-pairs_meant run s shape images meant = (meant.means, meant.defined, record { rows = meant.rows_are; time = meant.at; ended = meant.ended })
+-- Right behind a reply they mean the stage's table.
+pub table_meant : (run : Run) (s : Stage) (shape : Shape) (images : Images) → MeansRows run shape images s.table.rows s.replied s.table.is_ended → (means : Means) × (means_in shape images ≡ Some means) × MeansTable s means
+table_meant run s shape images meant = (meant.means, meant.defined, record { rows = meant.rows_are; time = meant.at; ended = meant.ended })
 
 -- A time before the next line is one at which a session may stand that hasn't ended.
-pub timed_before : (session : List ℕ) (rows : List PairRow) (past : List Timed) (next : Option TimedCommand) (from time : ℕ) → LiesBefore next from time → IsTime (record { pairs = pairs_with session rows false; replied = from; past = past; next = next }) time
+pub timed_before : (session : List ℕ) (rows : List PairRow) (past : List Timed) (next : Option TimedCommand) (from time : ℕ) → LiesBefore next from time → IsTime (record { table = table_with session rows false; replied = from; past = past; next = next }) time
 timed_before session rows past None from time is = (omega (arith, is), is)
 timed_before session rows past (Some line) from time lies = lies
 

@@ -10,10 +10,12 @@ use Rattle.write_trace.specs.declared.header.Header.{Header}
 use Rattle.write_trace.specs.declared.header.VolumeHead.{VolumeHead}
 use Rattle.write_trace.specs.declared.trace.Trace.{Trace}
 use Rattle.write_trace.specs.Headers.{are_bases, are_volumes, is_header_of, most_cylinders}
+use Rattle.pair_table.specs.declared.names.NamedDevice.{NamedDevice}
+use Rattle.pair_table.specs.declared.names.NamedVolume.{NamedVolume}
 use Rattle.pair_table.specs.declared.row.PairRow.{PairRow}
 use Rattle.pair_table.specs.declared.row.PairState.{PairState}
 use Rattle.pair_table.specs.declared.row.PairState.TheVariants.{Pending}
-use Rattle.pair_table.specs.Naming.{NamedDevice, NamedVolume, label_in, lower, primary_of}
+use Rattle.pair_table.specs.Naming.{label_in, lower, primary_of}
 use Rattle.consistency.specs.Bears.{Run, names_of, primaries_named, volumes_named}
 use Rattle.pair_course.specs.Course.{IsAdded, IsPairRun}
 use Rattle.pair_course.proofs.Commanding.{same_name}

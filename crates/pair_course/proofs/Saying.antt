@@ -9,7 +9,7 @@ use Rattle.pair_table.specs.declared.command.Command.TheVariants.{AddPair, End, 
 use Rattle.pair_table.specs.declared.level.Level.TheVariants.{Volume as VolumeLevel}
 use Rattle.pair_table.specs.declared.row.PairRow.{PairRow}
 use Rattle.xrc_status.specs.declared.stop.Stop.{Stop}
-use Rattle.xrc_status.specs.declared.stop.Stop.TheVariants.{NoMemory, BadWords, ConsoleFault, JournalFault, ControlFault, StateFault, BadHeader, HeaderFault, NoSession, OtherSession, Damaged, VolumeFault, TooSmall, JournalEnd, BadSite, NotBuilt, EarlyBreak, EarlyVolume, Spent}
+use Rattle.xrc_status.specs.declared.stop.Stop.TheVariants.{NoMemory, BadWords, ConsoleFault, BadLine, JournalFault, ControlFault, StateFault, BadHeader, HeaderFault, NoSession, OtherSession, Damaged, VolumeFault, TooSmall, JournalEnd, BadSite, NotBuilt, EarlyBreak, EarlyVolume, Spent}
 use Rattle.xrc_status.specs.Stops.{details, device_text, last_line, status_line, status_of}
 use Rattle.consistency.specs.Courses.{replies_of}
 use Rattle.consistency.specs.Replies.{IsReply, answer_word, are_reply, has_reply, is_reply_line}
@@ -130,6 +130,7 @@ device_words (Volume v) = codes "VOLUME" ∷ decimal v ∷ []
 
 -- the words behind a status
 abbrev words_behind : Stop → List (List ℕ)
+words_behind (BadLine n) = decimal n ∷ []
 words_behind (JournalFault j) = decimal j ∷ []
 words_behind (BadHeader trace place) = decimal trace ∷ decimal place ∷ []
 words_behind (HeaderFault trace) = decimal trace ∷ []
@@ -162,6 +163,7 @@ device_spaced (Volume v) behind = simp append-nil
 
 -- What stands behind a status is these words.
 details_spaced : (stop : Stop) → spaced (words_behind stop) ≡ details stop
+details_spaced (BadLine n) = append-nil (32 ∷ decimal n)
 details_spaced (JournalFault j) = append-nil (32 ∷ decimal j)
 details_spaced (BadHeader trace place) = ap (λ (l : List ℕ). 32 ∷ (decimal trace ++ l)) (append-nil (32 ∷ decimal place))
 details_spaced (HeaderFault trace) = append-nil (32 ∷ decimal trace)
@@ -193,6 +195,7 @@ device_quiet (Journal j) n = quiet_then (refl, refl) (refl, refl) (number_quiet 
 device_quiet (Volume v) n = quiet_then (refl, refl) (refl, refl) (number_quiet v (number_quiet n no_more))
 
 words_quiet : (stop : Stop) → tells_a_session stop ≡ true → AreQuiet (words_behind stop)
+words_quiet (BadLine n) told = number_quiet n no_more
 words_quiet (JournalFault j) told = number_quiet j no_more
 words_quiet (BadHeader trace place) told = number_quiet trace (number_quiet place no_more)
 words_quiet (HeaderFault trace) told = number_quiet trace no_more
@@ -251,6 +254,7 @@ by_words stop told =
 
 pub stop_says_none : (stop : Stop) → tells_a_session stop ≡ true → (has_reply (last_line stop) ≡ false) × (times_said (last_line stop) ≡ [])
 stop_says_none ConsoleFault told = (refl, refl)
+stop_says_none (BadLine n) told = by_words (BadLine n) told
 stop_says_none (JournalFault j) told = by_words (JournalFault j) told
 stop_says_none (BadHeader trace place) told = by_words (BadHeader trace place) told
 stop_says_none (HeaderFault trace) told = by_words (HeaderFault trace) told

@@ -7,12 +7,11 @@ use Rattle.pair_table.specs.declared.command.Refusal.{Refusal}
 use Rattle.pair_table.specs.declared.row.PairRow.{PairRow}
 use Rattle.pair_table.specs.declared.row.PairState.{PairState}
 use Rattle.pair_table.specs.declared.row.PairState.TheVariants.{Pending, Duplex}
-use Rattle.pair_table.specs.Refusals.{Pairs}
-use Rattle.pair_table.specs.Tables.{in_state}
+use Rattle.pair_table.specs.Tables.{Table, in_state}
 use Rattle.site_means.specs.Images.{Images, Shape}
 use Rattle.consistency.specs.Bears.{Bears, HoldsPrimaries, IsFlag, IsTime, Run, accepts_end, breaks_of, names_of}
-use Rattle.consistency.specs.Steps.{TimedCommand, names_at, pairs_on_the_way}
-use Rattle.pair_course.specs.Course.{HoldsTracks, IsAdded, IsLive, IsPairRun, LiesBefore, MeansRows, end_line, ended_stage, heard, pair_line, paired_stage, pairs_with, started_stage}
+use Rattle.consistency.specs.Steps.{TimedCommand, names_at, table_on_the_way}
+use Rattle.pair_course.specs.Course.{HoldsTracks, IsAdded, IsLive, IsPairRun, LiesBefore, MeansRows, end_line, ended_stage, heard, pair_line, paired_stage, table_with, started_stage}
 use Rattle.pair_course.proofs.Answering.{pair_commanded, pair_steps}
 use Rattle.pair_course.proofs.Bearing.{bears_so, none_hold, not_before, one_holds, timed_before}
 use Rattle.pair_course.proofs.Breaking.{broke_by}
@@ -53,15 +52,15 @@ added_bears run t row from time shape images pair added le whole meant =
       hits = [];
       commanded = pair_steps run t row from time pair added whole;
       counted = λ device. omega arith;
-      made = ap (λ (p : Pairs). (pairs_on_the_way run.level [] p).table.rows) (pair_commanded run t row from time pair added whole);
+      made = ap (λ (p : Table). (table_on_the_way run.level [] p).rows) (pair_commanded run t row from time pair added whole);
     })) (added_holds run t row shape images time pair added)
 
 -- ---- the pair
 
 -- An end that was heard is accepted.
-end_flags : (run : Run) (rows : List PairRow) (next : Option TimedCommand) (end : ℕ) → next ≡ Some (end_line run.session end) → IsTrue (accepts_end run (pairs_with run.session rows false) next)
+end_flags : (run : Run) (rows : List PairRow) (next : Option TimedCommand) (end : ℕ) → next ≡ Some (end_line run.session end) → IsTrue (accepts_end run (table_with run.session rows false) next)
 end_flags run rows next end is =
-    subst (λ (n : Option TimedCommand). IsTrue (accepts_end run (pairs_with run.session rows false) n)) (sym is)
+    subst (λ (n : Option TimedCommand). IsTrue (accepts_end run (table_with run.session rows false) n)) (sym is)
     (ap (λ (o : Option Refusal). is_none o) (end_allowed (names_at end (breaks_of run) (names_of run)) run.session rows))
 
 module _ (run : Run) (t : Trace) (row : PairRow) (state : PairState) (next : Option TimedCommand) (paired time : ℕ) (shape : Shape) (images : Images) (pair : IsPairRun run t) (pending : row.state ≡ Pending) (control : row.control ≡ 0) (live : IsLive state)

@@ -6,13 +6,14 @@ use Rattle.write_trace.specs.declared.trace.Trace.{Trace}
 use Rattle.primary_ctl.specs.Primaries.{primary}
 use Rattle.pair_table.specs.declared.command.Command.TheVariants.{Start, AddPair, End}
 use Rattle.pair_table.specs.declared.level.Level.TheVariants.{Volume}
+use Rattle.pair_table.specs.declared.names.NamedDevice.{NamedDevice}
+use Rattle.pair_table.specs.declared.names.NamedVolume.{NamedVolume}
 use Rattle.pair_table.specs.declared.row.PairRow.{PairRow}
 use Rattle.pair_table.specs.declared.row.PairState.{PairState}
 use Rattle.pair_table.specs.declared.row.PairState.TheVariants.{Pending, Copy, Duplex}
 use Rattle.pair_table.specs.Commands.{new_row}
-use Rattle.pair_table.specs.Naming.{NamedDevice, NamedVolume, labelled_device, primary_of}
-use Rattle.pair_table.specs.Refusals.{Pairs}
-use Rattle.pair_table.specs.Tables.{in_state}
+use Rattle.pair_table.specs.Naming.{labelled_device, primary_of}
+use Rattle.pair_table.specs.Tables.{Table, in_state}
 use Rattle.site_means.specs.declared.means.Means.{Means}
 use Rattle.site_means.specs.Images.{Images, Shape}
 use Rattle.site_means.specs.Sight.{content_in, means_in}
@@ -22,7 +23,7 @@ use Rattle.consistency.specs.Changes.RowChange.{Mature}
 use Rattle.consistency.specs.Courses.{Answered}
 use Rattle.consistency.specs.Steps.{TimedCommand}
 use Rattle.xrc_status.specs.declared.stop.Stop.{Stop}
-use Rattle.xrc_status.specs.declared.stop.Stop.TheVariants.{NoMemory, BadWords, ConsoleFault, JournalFault, ControlFault, StateFault, BadHeader, HeaderFault, NoSession, OtherSession, Damaged, VolumeFault, TooSmall, JournalEnd, BadSite, NotBuilt, EarlyBreak, EarlyVolume, Spent}
+use Rattle.xrc_status.specs.declared.stop.Stop.TheVariants.{NoMemory, BadWords, ConsoleFault, BadLine, JournalFault, ControlFault, StateFault, BadHeader, HeaderFault, NoSession, OtherSession, Damaged, VolumeFault, TooSmall, JournalEnd, BadSite, NotBuilt, EarlyBreak, EarlyVolume, Spent}
 
 -- ---- runs
 
@@ -31,10 +32,10 @@ pub record IsPairRun (run : Run) (t : Trace) : Type 0 where
   pub one : run.traces ≡ t ∷ []
   pub level : run.level ≡ Volume
 
--- ---- the pairs of a started session
+-- ---- the table of a started session
 
-abbrev pub pairs_with : (session : List ℕ) → List PairRow → (is_ended : Bool) → Pairs
-pairs_with session rows is_ended = record { table = record { session = session; is_started = true; rows = rows }; is_ended = is_ended }
+abbrev pub table_with : (session : List ℕ) → List PairRow → (is_ended : Bool) → Table
+table_with session rows is_ended = record { session = session; is_started = true; is_ended = is_ended; rows = rows }
 
 -- A pending row that a pair adds: it is made of a volume of control 0 that has its primary's name, and of a label that is its
 -- secondary's name, of a volume with no fewer cylinders.
@@ -61,28 +62,28 @@ end_line session time = record { time = time; session = session; command = End }
 -- ---- the lines as they are answered, with their texts and replies
 
 abbrev pub start_answered : (session : List ℕ) → (time : ℕ) → (text reply : List ℕ) → Answered
-start_answered session time text reply = record { text = text; line = start_line session time; reply = reply; changes = []; hits = []; pairs = pairs_with session [] false }
+start_answered session time text reply = record { text = text; line = start_line session time; reply = reply; changes = []; hits = []; table = table_with session [] false }
 
 abbrev pub pair_answered : (session : List ℕ) → (time : ℕ) → (text reply : List ℕ) → PairRow → Answered
-pair_answered session time text reply row = record { text = text; line = pair_line session time row; reply = reply; changes = []; hits = []; pairs = pairs_with session (row ∷ []) false }
+pair_answered session time text reply row = record { text = text; line = pair_line session time row; reply = reply; changes = []; hits = []; table = table_with session (row ∷ []) false }
 
 -- The pair has become duplex at the time at which it was added, the copy's time.
 abbrev pub has_matured : (paired : ℕ) → PairRow → List Timed
 has_matured paired row = record { time = paired; change = Mature row.device Duplex } ∷ []
 
 abbrev pub end_answered : (session : List ℕ) → (paired time : ℕ) → (text reply : List ℕ) → PairRow → Answered
-end_answered session paired time text reply row = record { text = text; line = end_line session time; reply = reply; changes = has_matured paired row; hits = []; pairs = pairs_with session (in_state Duplex row ∷ []) true }
+end_answered session paired time text reply row = record { text = text; line = end_line session time; reply = reply; changes = has_matured paired row; hits = []; table = table_with session (in_state Duplex row ∷ []) true }
 
 -- ---- the stages behind them
 
 abbrev pub started_stage : (session : List ℕ) → (time : ℕ) → Stage
-started_stage session time = record { pairs = pairs_with session [] false; replied = time; past = []; next = None }
+started_stage session time = record { table = table_with session [] false; replied = time; past = []; next = None }
 
 abbrev pub paired_stage : (session : List ℕ) → (paired : ℕ) → PairRow → Stage
-paired_stage session paired row = record { pairs = pairs_with session (row ∷ []) false; replied = paired; past = []; next = None }
+paired_stage session paired row = record { table = table_with session (row ∷ []) false; replied = paired; past = []; next = None }
 
 abbrev pub ended_stage : (session : List ℕ) → (paired time : ℕ) → PairRow → Stage
-ended_stage session paired time row = record { pairs = pairs_with session (in_state Duplex row ∷ []) true; replied = time; past = has_matured paired row; next = None }
+ended_stage session paired time row = record { table = table_with session (in_state Duplex row ∷ []) true; replied = time; past = has_matured paired row; next = None }
 
 -- a stage at which this was heard of the next line
 abbrev pub heard : Option TimedCommand → Stage → Stage
@@ -132,6 +133,7 @@ tells_a_session (OtherSession name) = is_session name
 tells_a_session NoMemory = true
 tells_a_session BadWords = true
 tells_a_session ConsoleFault = true
+tells_a_session (BadLine n) = true
 tells_a_session (JournalFault j) = true
 tells_a_session ControlFault = true
 tells_a_session StateFault = true

@@ -4,10 +4,10 @@ use Rattle.write_trace.specs.declared.header.VolumeHead.{VolumeHead}
 use Rattle.write_trace.specs.declared.trace.Trace.{Trace}
 use Rattle.write_trace.specs.Headers.{is_header_of}
 use Rattle.sidefile.specs.Breaks.{has_broken}
+use Rattle.pair_table.specs.declared.names.NamedDevice.{NamedDevice}
 use Rattle.pair_table.specs.declared.row.PairRow.{PairRow}
 use Rattle.pair_table.specs.declared.row.PairState.{PairState}
 use Rattle.pair_table.specs.declared.row.PairState.TheVariants.{Pending, Duplex}
-use Rattle.pair_table.specs.Naming.{NamedDevice}
 use Rattle.pair_table.specs.Tables.{in_state}
 use Rattle.site_means.specs.declared.means.Means.{Means}
 use Rattle.site_means.specs.Images.{Images, Shape}
@@ -16,7 +16,7 @@ use Rattle.xrc_status.specs.declared.stop.Stop.{Stop}
 use Rattle.xrc_status.specs.Stops.{last_line}
 use Rattle.consistency.specs.Bears.{Bears, HoldsPrimaries, Run, Stage}
 use Rattle.consistency.specs.Courses.{IsAnswered, IsCourse, first_stage, replies_of, stage_at}
-use Rattle.consistency.specs.Moments.{MeansPairs}
+use Rattle.consistency.specs.Moments.{MeansTable}
 use Rattle.consistency.specs.Replies.{IsReply, has_reply}
 use Rattle.consistency.specs.Steps.{TimedCommand}
 use Rattle.consistency.specs.Times.{times_said}
@@ -85,9 +85,9 @@ abbrev pub PairsHold : Type 0
 PairsHold = (run : Run) (t : Trace) (row : PairRow) (state : PairState) (shape : Shape) (images : Images) (time : ℕ) → IsPairRun run t → row.control ≡ 0
     → (state ≡ Duplex → HoldsTracks t shape images row time) → HoldsPrimaries run shape images (in_state state row ∷ []) time
 
--- Images that mean a stage's own rows at the time that was replied mean its pairs.
-abbrev pub PairsAreMeant : Type 0
-PairsAreMeant = (run : Run) (s : Stage) (shape : Shape) (images : Images) → MeansRows run shape images s.pairs.table.rows s.replied s.pairs.is_ended → (means : Means) × (means_in shape images ≡ Some means) × MeansPairs s means
+-- Images that mean a stage's own rows at the time that was replied mean its table.
+abbrev pub TablesAreMeant : Type 0
+TablesAreMeant = (run : Run) (s : Stage) (shape : Shape) (images : Images) → MeansRows run shape images s.table.rows s.replied s.table.is_ended → (means : Means) × (means_in shape images ≡ Some means) × MeansTable s means
 
 -- ---- rows
 

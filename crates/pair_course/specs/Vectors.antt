@@ -3,10 +3,10 @@ use Rattle.std.specs.Prelude.{ℕ, List, [], ◌∷◌, ◌++◌, codes}
 use Rattle.write_trace.specs.declared.trace.Trace.{Trace}
 use Rattle.write_trace.specs.declared.trace.TraceEnd.{TraceEnd}
 use Rattle.pair_table.specs.declared.level.Level.TheVariants.{Volume}
+use Rattle.pair_table.specs.declared.names.NamedDevice.{NamedDevice}
 use Rattle.pair_table.specs.declared.row.PairState.TheVariants.{Pending}
 use Rattle.pair_table.specs.declared.row.PairRow.{PairRow}
 use Rattle.pair_table.specs.declared.row.PairState.{PairState}
-use Rattle.pair_table.specs.Naming.{NamedDevice}
 use Rattle.consistency.specs.Bears.{Run}
 use Rattle.consistency.specs.Courses.{Answered}
 use Rattle.pair_course.specs.Course.{end_answered, end_reply, pair_answered, pair_reply, start_answered, start_reply}

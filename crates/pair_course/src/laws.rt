@@ -1,6 +1,6 @@
 //! The laws of the course of a session with one pair.
 
-ghost use Rattle.pair_course.specs.Laws.{CoursesSayTheirTimes, EndedPairsBear, EndsAreAnswered, PairsAreAnswered, PairsAreMeant, PairsBear, PairsHold, RepliesAreSpelled, RepliesSayTheirTimes, RowsAreAdded, StagesFollow, StartsAreAnswered, StopsSayNoTime, ThreeLinesAreACourse, WaitsBear, WaitsForPairsBear};
+ghost use Rattle.pair_course.specs.Laws.{CoursesSayTheirTimes, EndedPairsBear, EndsAreAnswered, PairsAreAnswered, TablesAreMeant, PairsBear, PairsHold, RepliesAreSpelled, RepliesSayTheirTimes, RowsAreAdded, StagesFollow, StartsAreAnswered, StopsSayNoTime, ThreeLinesAreACourse, WaitsBear, WaitsForPairsBear};
 
 /// A start is answered before the session has started.
 pub fn starts_are_answered()
@@ -53,9 +53,9 @@ pub fn pairs_hold()
     ensures { PairsHold }
 {}
 
-/// Images that mean a stage's rows at the time that was replied mean its pairs.
-pub fn pairs_are_meant()
-    ensures { PairsAreMeant }
+/// Images that mean a stage's rows at the time that was replied mean its table.
+pub fn tables_are_meant()
+    ensures { TablesAreMeant }
 {}
 
 /// The row that a volume of the trace's header and a label make is the one that a pair adds.

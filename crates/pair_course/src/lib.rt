@@ -6,8 +6,8 @@ mod laws;
 pub mod vectors;
 
 pub use laws::{
-    courses_say_their_times, ended_pairs_bear, ends_are_answered, pairs_are_answered,
-    pairs_are_meant, pairs_bear, pairs_hold, replies_are_spelled, replies_say_their_times,
-    rows_are_added, stages_follow, starts_are_answered, stops_say_no_time,
-    three_lines_are_a_course, waits_bear, waits_for_pairs_bear,
+    courses_say_their_times, ended_pairs_bear, ends_are_answered, pairs_are_answered, pairs_bear,
+    pairs_hold, replies_are_spelled, replies_say_their_times, rows_are_added, stages_follow,
+    starts_are_answered, stops_say_no_time, tables_are_meant, three_lines_are_a_course, waits_bear,
+    waits_for_pairs_bear,
 };

@@ -5,3 +5,9 @@ pub mod FieldPlaces
 pub mod PutLaws
 pub mod RowsAgain
 pub mod RowReads
+pub mod FlagLaws
+pub mod NamingLaws
+pub mod FindLaws
+pub mod StateLaws
+pub mod AddLaws
+pub mod MayLaws

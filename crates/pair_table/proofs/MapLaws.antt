@@ -1,5 +1,5 @@
 -- The map of a table's rows: a change of an entry is that change of the rows.
-use Rattle.std.proofs.Common.{◌≡◌, ℕ, zero, suc, Bool, true, false, not, cond, nat_eq, List, [], ◌∷◌, Option, Some, None, refl, sym, ap, subst, ◌∙◌, slice_get, Bor}
+use Rattle.std.proofs.Common.{◌≡◌, ℕ, zero, suc, Bool, true, false, not, cond, nat_eq, List, [], ◌∷◌, filter, Option, Some, None, refl, sym, ap, subst, ◌∙◌, slice_get, Bor}
 use Rattle.std.specs.Map.{values_of, lookup, remove_entry, set_value}
 use Rattle.std.specs.Prelude.{IfSome, IsTrue}
 use Rattle.std.specs.Option.{option_copied}
@@ -54,6 +54,14 @@ remove-by_device device (r ∷ rows) apart =
         ap by_device (sym (without-absent device rows (ap (λ n. list_any (is_of n) rows) is ∙ absent)))
     choose false same absent next = ap (λ (t : List (ℕ × PairRow)). (r.device, r) ∷ t) next
 
+pub filter-by_device : (keep : PairRow → Bool) (rows : List PairRow) → filter (λ e. keep e.1) (by_device rows) ≡ by_device (filter keep rows)
+filter-by_device keep [] = refl
+filter-by_device keep (r ∷ rows) = choose (keep r) (filter-by_device keep rows)
+  where
+    choose : (b : Bool) → filter (λ e. keep e.1) (by_device rows) ≡ by_device (filter keep rows) → cond b ((r.device, r) ∷ filter (λ e. keep e.1) (by_device rows)) (filter (λ e. keep e.1) (by_device rows)) ≡ by_device (cond b (r ∷ filter keep rows) (filter keep rows))
+    choose true next = ap (λ (t : List (ℕ × PairRow)). (r.device, r) ∷ t) next
+    choose false next = next
+
 pub set-by_device : (device : ℕ) (state : PairState) (rows : List PairRow) (found : PairRow) → none_clash rows ≡ true → row_of device rows ≡ Some found
     → set_value (nat_eq device) (by_device rows) (in_state state found) ≡ by_device (with_state device state rows)
 set-by_device device state [] found apart is = absurd cc
@@ -92,6 +100,9 @@ put_is old new row keeps is = is ∙ ap (λ (t : List (ℕ × PairRow)). insert_
 
 pub removed_is : (old new : List (ℕ × PairRow)) (device : ℕ) → KeepsMap old → new ≡ remove_entry (nat_eq device) old → new ≡ by_device (without_row device (values_of old))
 removed_is old new device keeps is = is ∙ ap (remove_entry (nat_eq device)) keeps.keyed ∙ remove-by_device device (values_of old) keeps.rows.apart
+
+pub kept_is : (old new : List (ℕ × PairRow)) (keep : PairRow → Bool) → KeepsMap old → new ≡ filter (λ e. keep e.1) old → new ≡ by_device (filter keep (values_of old))
+kept_is old new keep keeps is = is ∙ ap (filter (λ e. keep e.1)) keeps.keyed ∙ filter-by_device keep (values_of old)
 
 pub found_is : (entries : List (ℕ × PairRow)) (device : ℕ) → KeepsMap entries → lookup (nat_eq device) entries ≡ row_of device (values_of entries)
 found_is entries device keeps = ap (lookup (nat_eq device)) keeps.keyed ∙ lookup-by_device device (values_of entries)

@@ -20,10 +20,10 @@ same_bool true b f g = sym (f refl)
 same_bool false true f g = g refl
 same_bool false false f g = refl
 
-number_sym : (m n : ℕ) → nat_eq m n ≡ nat_eq n m
+pub number_sym : (m n : ℕ) → nat_eq m n ≡ nat_eq n m
 number_sym m n = same_bool (nat_eq m n) (nat_eq n m) (λ e. eq-eqb n m (sym (eqb-true m n e))) (λ e. eq-eqb m n (sym (eqb-true n m e)))
 
-name_sym : (xs ys : List ℕ) → bytes_eq xs ys ≡ bytes_eq ys xs
+pub name_sym : (xs ys : List ℕ) → bytes_eq xs ys ≡ bytes_eq ys xs
 name_sym xs ys = same_bool (bytes_eq xs ys) (bytes_eq ys xs) (λ e. (bytes_eq-Decides ys xs).1 (sym ((bytes_eq-Decides xs ys).0 e))) (λ e. (bytes_eq-Decides xs ys).1 (sym ((bytes_eq-Decides ys xs).0 e)))
 
 clashes_sym : (r s : PairRow) → clashes r s ≡ clashes s r
@@ -52,7 +52,7 @@ one_more row r (s ∷ rows) none =
     choose false here others next = rw (here, next) refl
 
 -- where no row is of the device, each row is of another
-all_apart : (row : PairRow) (rows : List PairRow) → list_any (is_of row.device) rows ≡ false → list_any (clashes_apart row) rows ≡ list_any (clashes row) rows
+pub all_apart : (row : PairRow) (rows : List PairRow) → list_any (is_of row.device) rows ≡ false → list_any (clashes_apart row) rows ≡ list_any (clashes row) rows
 all_apart row [] none = refl
 all_apart row (r ∷ rows) none =
     let parts = either_false (nat_eq row.device r.device) (list_any (is_of row.device) rows) none in

@@ -99,7 +99,7 @@ none-filter test keep (r ∷ rows) e =
     choose true e f = rw (e, f) refl
     choose false e f = f
 
-apart-filter : (keep : PairRow → Bool) (rows : List PairRow) → none_clash rows ≡ true → none_clash (filter keep rows) ≡ true
+pub apart-filter : (keep : PairRow → Bool) (rows : List PairRow) → none_clash rows ≡ true → none_clash (filter keep rows) ≡ true
 apart-filter keep [] e = refl
 apart-filter keep (r ∷ rows) e =
     let first = first_apart r rows e in
@@ -127,10 +127,12 @@ few-filter keep (r ∷ rows) = choose (keep r) (few-filter keep rows)
     choose true e = omega (arith, e)
     choose false e = omega (arith, e)
 
-pub keeps_without : (device : ℕ) (rows : List PairRow) → KeepsRows rows → KeepsRows (without_row device rows)
-keeps_without device rows keeps =
-    let keep : PairRow → Bool = λ r. not (is_of device r) in
+pub keeps_filter : (keep : PairRow → Bool) (rows : List PairRow) → KeepsRows rows → KeepsRows (filter keep rows)
+keeps_filter keep rows keeps =
     record { each = each-filter keep rows keeps.each; apart = apart-filter keep rows keeps.apart; few = omega (arith, few-filter keep rows, keeps.few) }
+
+pub keeps_without : (device : ℕ) (rows : List PairRow) → KeepsRows rows → KeepsRows (without_row device rows)
+keeps_without device rows keeps = keeps_filter (λ r. not (is_of device r)) rows keeps
 
 -- in another state
 in_state_is : (state : PairState) (r : PairRow) → is_state state ≡ true → is_row r ≡ true → is_row (in_state state r) ≡ true

@@ -1,5 +1,6 @@
 -- What an accepted command does to the rows, and the answer to a command.
-use Rattle.std.specs.Prelude.{ℕ, ◌&&◌, not, List, [], ◌∷◌, ◌++◌, map, filter, Bool, true, false, Option, Some, None, Result, Ok, Err, is_none, if◌then◌else◌}
+use Rattle.std.specs.Prelude.{ℕ, ◌==◌, ◌&&◌, not, List, [], ◌∷◌, ◌++◌, map, filter, Bool, true, false, Option, Some, None, Result, Ok, Err, is_none, if◌then◌else◌, IsTrue, bytes_eq}
+use Rattle.std.specs.List.{list_any, list_all}
 use Rattle.pair_table.specs.declared.command.Change.{Change}
 use Rattle.pair_table.specs.declared.command.Change.TheVariants.{Nothing, Started, Added, Resumed, Gone, Suspended as SuspendedRows, Ended as EndedSession}
 use Rattle.pair_table.specs.declared.command.Choice.{Choice}
@@ -7,13 +8,15 @@ use Rattle.pair_table.specs.declared.command.Choice.TheVariants.{One, All}
 use Rattle.pair_table.specs.declared.command.Command.{Command}
 use Rattle.pair_table.specs.declared.command.Command.TheVariants.{Start, AddPair, DelPair, Suspend, Query, End}
 use Rattle.pair_table.specs.declared.command.Refusal.{Refusal}
+use Rattle.pair_table.specs.declared.names.NamedDevice.{NamedDevice}
+use Rattle.pair_table.specs.declared.names.NamedVolume.{NamedVolume}
 use Rattle.pair_table.specs.declared.row.PairRow.{PairRow}
 use Rattle.pair_table.specs.declared.row.PairState.TheVariants.{Pending, Suspended}
 use Rattle.pair_table.specs.declared.row.SuspendCause.TheVariants.{Command as ByCommand}
-use Rattle.pair_table.specs.Naming.{NamedDevice, NamedVolume, Naming, labelled_device, primary_of}
-use Rattle.pair_table.specs.Refusals.{Pairs, is_of_primary, is_pair, refusal, row_of_primary}
+use Rattle.pair_table.specs.Naming.{Naming, labelled_device, primary_of}
+use Rattle.pair_table.specs.Refusals.{is_of_primary, is_pair, refusal, row_of_primary}
 use Rattle.pair_table.specs.Rows.{is_suspended}
-use Rattle.pair_table.specs.Tables.{in_state}
+use Rattle.pair_table.specs.Tables.{Table, are_below, in_state, most_rows}
 
 -- ---- the rows
 
@@ -74,8 +77,8 @@ abbrev pub answer_by : Option Refusal → Change → Result Change Refusal
 answer_by (Some why) change = Err why
 answer_by None change = Ok change
 
-abbrev pub answer : Naming → Pairs → (session : List ℕ) → Command → Result Change Refusal
-answer names pairs session command = answer_by (refusal names pairs session command) (change_of names command pairs.table.rows)
+abbrev pub answer : Naming → Table → (session : List ℕ) → Command → Result Change Refusal
+answer names table session command = answer_by (refusal names table session command) (change_of names command table.rows)
 
 abbrev pub is_end : Command → Bool
 is_end End = true
@@ -85,12 +88,37 @@ is_end (DelPair choice) = false
 is_end (Suspend choice) = false
 is_end Query = false
 
-abbrev pub accepted : Naming → (time : ℕ) → Command → Pairs → Pairs
-accepted names time command pairs = record {
-  table = record { session = pairs.table.session; is_started = true; rows = rows_after names time command pairs.table.rows };
-  is_ended = is_end command;
-}
+abbrev pub accepted : Naming → (time : ℕ) → Command → Table → Table
+accepted names time command table = record table { is_started = true; is_ended = is_end command; rows = rows_after names time command table.rows }
 
 -- The table after a command at a time. A refusal changes nothing.
-abbrev pub pairs_after : Naming → Pairs → (session : List ℕ) → Command → (time : ℕ) → Pairs
-pairs_after names pairs session command time = if is_none (refusal names pairs session command) then accepted names time command pairs else pairs
+abbrev pub table_after : Naming → Table → (session : List ℕ) → Command → (time : ℕ) → Table
+table_after names table session command time = if is_none (refusal names table session command) then accepted names time command table else table
+
+-- Adding a pair takes memory for its row, and taking out or suspending pairs for the list of their devices.
+abbrev pub wants_memory : Command → Bool
+wants_memory (AddPair primary secondary) = true
+wants_memory (DelPair choice) = true
+wants_memory (Suspend choice) = true
+wants_memory (Start level) = false
+wants_memory Query = false
+wants_memory End = false
+
+-- ---- what a command asks of the rows
+
+-- the volume has the row's primary, control, volume and cylinders
+abbrev pub is_volume_of : PairRow → NamedVolume → Bool
+is_volume_of r v = bytes_eq v.serial r.primary && v.control == r.control && v.volume == r.volume && v.cylinders == r.cylinders
+
+-- whether the row's volume is named
+abbrev pub has_named_primary : Naming → PairRow → Bool
+has_named_primary names r = list_any (is_volume_of r) names.primaries
+
+-- Each row's primary is named with the row's control, volume and cylinders.
+abbrev pub PrimariesAreNamed : Naming → List PairRow → Type 0
+PrimariesAreNamed names rows = IsTrue (list_all (has_named_primary names) rows)
+
+-- A command may come to rows whose primaries are named and whose devices are below the most rows of a table.
+pub record MayCommand (names : Naming) (rows : List PairRow) : Type 0 where
+  pub named : PrimariesAreNamed names rows
+  pub below : IsTrue (are_below most_rows rows)

@@ -8,15 +8,12 @@ use Rattle.pair_table.specs.declared.command.Command.{Command}
 use Rattle.pair_table.specs.declared.command.Command.TheVariants.{Start, AddPair, DelPair, Suspend, Query, End}
 use Rattle.pair_table.specs.declared.command.Refusal.{Refusal}
 use Rattle.pair_table.specs.declared.command.Refusal.TheVariants.{NoSession, SessionExists, NoPrimary, NoSecondary, SecondaryInUse, AlreadyPaired, TooSmall, OtherSecondary, NotPaired, Ended, ControlBroken}
+use Rattle.pair_table.specs.declared.names.NamedDevice.{NamedDevice}
+use Rattle.pair_table.specs.declared.names.NamedVolume.{NamedVolume}
 use Rattle.pair_table.specs.declared.row.PairRow.{PairRow}
-use Rattle.pair_table.specs.Naming.{NamedDevice, NamedVolume, Naming, is_broken, labelled_device, primary_of}
+use Rattle.pair_table.specs.Naming.{Naming, is_broken, labelled_device, primary_of}
 use Rattle.pair_table.specs.Rows.{is_suspended}
 use Rattle.pair_table.specs.Tables.{Table, is_of}
-
--- a session's table, and whether the session has ended
-pub record Pairs : Type 0 where
-  pub table : Table
-  pub is_ended : Bool
 
 -- ---- rows by their names
 
@@ -83,9 +80,9 @@ is_start End = false
 
 -- The session has ended; the name isn't the session's, or the session isn't started and the command doesn't start it; a start of a
 -- started session; then the command's own.
-abbrev pub refusal : Naming → Pairs → (session : List ℕ) → Command → Option Refusal
-refusal names pairs session command =
-    if pairs.is_ended then Some Ended
-    else if not (bytes_eq session pairs.table.session) || (not pairs.table.is_started && not (is_start command)) then Some NoSession
-    else if is_start command && pairs.table.is_started then Some SessionExists
-    else refuses_command names pairs.table.rows command
+abbrev pub refusal : Naming → Table → (session : List ℕ) → Command → Option Refusal
+refusal names table session command =
+    if table.is_ended then Some Ended
+    else if not (bytes_eq session table.session) || (not table.is_started && not (is_start command)) then Some NoSession
+    else if is_start command && table.is_started then Some SessionExists
+    else refuses_command names table.rows command

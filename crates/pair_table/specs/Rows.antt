@@ -14,9 +14,13 @@ use Rattle.tod_stamp.specs.Options.{◌>>=◌}
 
 -- ---- ranges
 
--- the rules of a row that its types leave open: control and volume are below their numbers, and there are 1 to the most cylinders
+-- Control and volume are below their numbers, and there are 1 to the most cylinders.
+abbrev pub are_in_ranges : (control volume cylinders : ℕ) → Bool
+are_in_ranges control volume cylinders = nat_le control (MOST_CONTROLS - 1) && nat_le volume (MOST_VOLUMES - 1) && within 1 MOST_CYLINDERS cylinders
+
+-- the rules of a row that its types leave open
 abbrev pub keeps_row_rules : PairRow → Bool
-keeps_row_rules r = nat_le r.control (MOST_CONTROLS - 1) && nat_le r.volume (MOST_VOLUMES - 1) && within 1 MOST_CYLINDERS r.cylinders
+keeps_row_rules r = are_in_ranges r.control r.volume r.cylinders
 
 abbrev pub is_suspended : PairState → Bool
 is_suspended (Suspended cause since) = true

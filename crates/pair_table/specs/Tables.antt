@@ -4,18 +4,21 @@ use Rattle.std.specs.List.{list_any, list_all}
 use Rattle.pair_table.specs.declared.limits.TheConstants.{MOST_ROWS}
 use Rattle.pair_table.specs.declared.row.PairState.{PairState}
 use Rattle.pair_table.specs.declared.row.PairRow.{PairRow}
+use Rattle.pair_table.specs.Devices.{is_among}
 use Rattle.pair_table.specs.Rows.{keeps_row_rules, is_row}
 
 pub record Table : Type 0 where
   -- the session's name
   pub session : List ℕ
   pub is_started : Bool
+  -- whether the session has ended
+  pub is_ended : Bool
   -- the rows in order of adding
   pub rows : List PairRow
 
 -- the table of a session before its start
 abbrev pub new_table : (session : List ℕ) → Table
-new_table session = record { session = session; is_started = false; rows = [] }
+new_table session = record { session = session; is_started = false; is_ended = false; rows = [] }
 
 -- the table with other rows
 abbrev pub with_rows : Table → List PairRow → Table
@@ -57,6 +60,10 @@ changed_row device state r = if is_of device r then in_state state r else r
 -- the rows with the device's in another state
 abbrev pub with_state : (device : ℕ) → PairState → List PairRow → List PairRow
 with_state device state rows = map (changed_row device state) rows
+
+-- the rows with those of several devices in another state
+abbrev pub with_states : (devices : List ℕ) → PairState → List PairRow → List PairRow
+with_states devices state rows = map (λ r. if is_among r.device devices then in_state state r else r) rows
 
 -- ---- the rules over several rows
 

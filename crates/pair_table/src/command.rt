@@ -1,8 +1,12 @@
 //! The commands of a session on its pairs, and their answers.
 
+ghost use Rattle.std.specs.Prelude.{◌≡◌};
+ghost use Rattle.pair_table.specs.Commands.{is_chosen, is_to_suspend};
+
 use crate::Level;
+use crate::row::PairRow;
 use tod_stamp::Serial;
-use xrc_edge::List;
+use xrc_edge::{List, NoMemory};
 
 /// Numbers of devices, in any order.
 pub type DeviceList = List<u16>;
@@ -14,6 +18,27 @@ pub enum Choice {
     One { primary: Serial, secondary: Serial },
     /// All pairs of the session.
     All,
+}
+
+impl Choice {
+    /// Whether the row is chosen.
+    pub(crate) fn names(&self, row: &PairRow) -> bool
+        ensures { result ≡ is_chosen self.now row.now }
+    {
+        match self {
+            Choice::One { primary, secondary } => {
+                row.primary == *primary && row.secondary == *secondary
+            }
+            Choice::All => true,
+        }
+    }
+
+    /// Whether the row is chosen and isn't suspended.
+    pub(crate) fn suspends(&self, row: &PairRow) -> bool
+        ensures { result ≡ is_to_suspend self.now row.now }
+    {
+        self.names(row) && !row.state.is_suspended()
+    }
 }
 
 /// What a line of a script asks for, under the names of the manual of XRC.
@@ -77,4 +102,15 @@ pub enum Change {
 pub enum CommandError {
     Refused(Refusal),
     NoMemory,
+}
+
+impl From<NoMemory> for CommandError {
+    ghost use Rattle.std.specs.Prelude.{◌≡◌};
+    ghost use Rattle.pair_table.specs.declared.command.CommandError.TheVariants as errors;
+
+    ghost from_gives = { λ _ e. e ≡ errors.NoMemory };
+
+    fn from(_error: NoMemory) -> CommandError {
+        CommandError::NoMemory
+    }
 }

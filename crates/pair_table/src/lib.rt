@@ -4,10 +4,12 @@
 #![tactic(auto)]
 
 mod command;
+mod commanding;
 mod format;
 mod laws;
 mod level;
 mod limits;
+mod names;
 mod row;
 mod table;
 
@@ -16,5 +18,6 @@ pub use format::{decode_row, encode_row};
 pub use laws::rows_read_back;
 pub use level::Level;
 pub use limits::{MOST_ROWS, ROW_LENGTH};
+pub use names::{NamedDevice, NamedVolume, Names};
 pub use row::{PairRow, PairState, SuspendCause};
 pub use table::PairTable;

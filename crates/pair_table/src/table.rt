@@ -1,24 +1,28 @@
 //! The table of a session's pairs.
 
-ghost use Rattle.std.specs.Prelude.{◌≡◌, ◌≤◌, ◌↔◌, length, nat_le, slice_get, true, IfOk, IsSome, IfSome, OnOk, OnErr, IsTrue};
+ghost use Rattle.std.specs.Prelude.{◌≡◌, ◌≤◌, ◌↔◌, [], length, filter, not, nat_le, slice_get, true, IfOk, IsSome, IfSome, OnOk, OnErr, IsTrue};
 ghost use Rattle.std.specs.List.{list_any};
 ghost use Rattle.std.specs.Option.{option_copied};
+ghost use Rattle.pair_table.specs.Commands.{devices_of, is_chosen, is_to_suspend};
+ghost use Rattle.pair_table.specs.Refusals.{is_pair, row_of_primary};
 ghost use Rattle.pair_table.specs.Rows.{keeps_row_rules};
 ghost use Rattle.pair_table.specs.Tables.{most_rows, new_table, with_rows, row_of, HasRow, with_row, without_row, with_state, clashes_apart, KeepsRows, MayPut, are_below};
 
+use crate::command::{Choice, DeviceList};
 use crate::limits::MOST_ROWS;
 use crate::row::{PairRow, PairState};
 use indexmap::IndexMap;
 use std::alloc::Global;
 use std::marker::Model;
-use tod_stamp::Session;
+use tod_stamp::{Serial, Session};
 use xrc_edge::NoMemory;
 
-/// The pairs of a session. Contracts see the session, whether it is started, and the rows in order of adding.
+/// The pairs of a session. Contracts see the session, whether it is started, whether it has ended, and the rows in order of adding.
 #[derive(Drop)]
 pub struct PairTable {
     session: Session,
     started: bool,
+    ended: bool,
     rows: IndexMap<u16, PairRow>,
 }
 
@@ -29,7 +33,7 @@ impl Model for PairTable {
 
     ghost Value = { Table };
 
-    ghost view = { λ table. record { session = table.session; is_started = table.started; rows = values table.rows } };
+    ghost view = { λ table. record { session = table.session; is_started = table.started; is_ended = table.ended; rows = values table.rows } };
 
     ghost invariant = { λ table. KeepsMap table.rows.entries };
 }
@@ -42,6 +46,7 @@ impl PairTable {
         Ok(PairTable {
             session,
             started: false,
+            ended: false,
             rows: IndexMap::with_capacity(alloc, MOST_ROWS)?,
         })
     }
@@ -79,6 +84,58 @@ impl PairTable {
         self.rows.get(&device)
     }
 
+    /// The primary's row. None exactly where it has none.
+    pub(crate) fn row_of_primary(&self, primary: Serial) -> Option<&PairRow>
+        ensures row { option_copied result ≡ row_of_primary primary self.now.rows }
+        ensures rules { KeepsRows self.now.rows }
+    {
+        self.rows.values().find(|row| row.primary == primary)
+    }
+
+    /// Whether a row is of this primary and this secondary.
+    pub(crate) fn has_pair(&self, primary: Serial, secondary: Serial) -> bool
+        ensures { result ≡ list_any (is_pair primary secondary) self.now.rows }
+    {
+        self.rows
+            .values()
+            .any(|row| row.primary == primary && row.secondary == secondary)
+    }
+
+    /// The devices of the chosen rows.
+    pub(crate) fn chosen_devices(
+        &self,
+        alloc: Global,
+        choice: &Choice,
+    ) -> Result<DeviceList, NoMemory>
+        ensures { IfOk result (λ devices. devices ≡ devices_of (filter (is_chosen choice.now) self.now.rows)) }
+    {
+        let devices: Vec<u16> = self
+            .rows
+            .values()
+            .filter(|row| choice.names(row))
+            .map(|row| row.device)
+            .collect(alloc)?;
+        Ok(DeviceList::of(devices))
+    }
+
+    /// The devices of the chosen rows that aren't suspended.
+    pub(crate) fn devices_to_suspend(
+        &self,
+        alloc: Global,
+        choice: &Choice,
+    ) -> Result<DeviceList, NoMemory>
+        ensures devices { IfOk result (λ devices. devices ≡ devices_of (filter (is_to_suspend choice.now) self.now.rows)) }
+        ensures rules { KeepsRows self.now.rows }
+    {
+        let devices: Vec<u16> = self
+            .rows
+            .values()
+            .filter(|row| choice.suspends(row))
+            .map(|row| row.device)
+            .collect(alloc)?;
+        Ok(DeviceList::of(devices))
+    }
+
     /// Whether each row's device is below this number of devices, as those of a plant with so many volumes are.
     pub fn are_devices_below(&self, count: u16) -> bool
         ensures { result ≡ are_below count self.now.rows }
@@ -86,11 +143,40 @@ impl PairTable {
         self.rows.values().all(|row| row.device < count)
     }
 
+    /// Whether the session is started.
+    pub(crate) fn is_started(&self) -> bool
+        ensures { result ≡ self.now.is_started }
+    {
+        self.started
+    }
+
+    /// Whether the session has ended.
+    pub(crate) fn has_ended(&self) -> bool
+        ensures { result ≡ self.now.is_ended }
+    {
+        self.ended
+    }
+
     /// Starts the session.
     pub fn start(&mut self)
         ensures { self.new ≡ record self.old { is_started = true } }
     {
         self.started = true;
+    }
+
+    /// Starts the session, without rows.
+    pub(crate) fn start_empty(&mut self)
+        ensures { self.new ≡ record self.old { is_started = true; rows = [] } }
+    {
+        self.started = true;
+        self.rows.clear();
+    }
+
+    /// Ends the session.
+    pub(crate) fn end(&mut self)
+        ensures { self.new ≡ record self.old { is_ended = true } }
+    {
+        self.ended = true;
     }
 
     /// Gives the device's row another state.
@@ -146,5 +232,12 @@ impl PairTable {
         ensures { self.new ≡ with_rows self.old (without_row device self.old.rows) }
     {
         self.rows.shift_remove(&device);
+    }
+
+    /// Takes out the chosen rows. The others close up in their order.
+    pub(crate) fn remove_chosen(&mut self, choice: &Choice)
+        ensures { self.new ≡ with_rows self.old (filter (λ r. not (is_chosen choice.now r)) self.old.rows) }
+    {
+        self.rows.retain(|_, row| !choice.names(row));
     }
 }

@@ -1,19 +1,15 @@
 -- Entries: the order of a group, what a cut takes, and the room that entries take.
-use Rattle.std.proofs.Common.{◌≡◌, ℕ, suc, ◌≤◌, ◌<◌, ◌+◌, Bool, true, false, ◌&&◌, List, [], ◌∷◌, ◌++◌, length, get_or, inl, inr, refl, sym, ap, ◌∙◌, arith, append_assoc, length-append}
-use Rattle.std.specs.Prelude.{◌⊎◌, nat_eq, nat_lt, nat_le, map, filter}
-use Rattle.std.specs.List.{sum_by}
+use Rattle.std.proofs.Common.{◌≡◌, ℕ, suc, ◌≤◌, ◌<◌, Bool, true, false, ◌&&◌, List, [], ◌∷◌, ◌++◌, length, get_or, take, drop, subst, inl, inr, refl, sym, ap, ◌∙◌, arith, append_assoc, length-append}
+use Rattle.std.specs.Prelude.{◌⊎◌, nat_eq, nat_lt, nat_le, filter}
 use Rattle.std.proofs.lemmas.Bool.{cases_Bool, and_parts, and_from, and_cases, and_left, and_right, or_cases, or_parts, or_from, eqb-true, eqb-false, ltb-true, ltb-false, leb-true, leb-false, lt-ltb, le-ltb, le-leb, lt-leb}
-use Rattle.std.proofs.lemmas.List.{length-map, append-nil}
-use Rattle.std.proofs.lemmas.List.Sums.{sum_by-cons, sum_by-append, length-filter, count_by-le-length}
+use Rattle.std.proofs.lemmas.List.{append-nil}
+use Rattle.std.proofs.lemmas.List.Sums.{length-filter, count_by-le-length}
 use Rattle.tod_stamp.specs.declared.stamp.Stamp.{Stamp}
-use Rattle.ckd_track.specs.declared.write.Kind.{Kind}
 use Rattle.ckd_track.specs.declared.write.Write.{Write}
-use Rattle.pending_queue.specs.declared.head.EntryHead.{EntryHead}
-use Rattle.pending_queue.specs.Entries.{IsOfWrite, IsSpelled, WaitingEntry, write_of, entry_of, entries_of, entry_stamp, last_stamp_from, entries_never_fall, is_due, is_later, due, left, stands_before}
-use Rattle.pending_queue.specs.Rooms.{blocks_of, blocks_needed, blocks_taken}
+use Rattle.pending_queue.specs.Entries.{WaitingEntry, entries_of, entry_stamp, last_stamp_from, entries_never_fall, is_due, is_later, due, left, stands_before}
 use Rattle.xrc_edge.specs.Order.{in_order, is_in_order}
 use Rattle.xrc_edge.proofs.OrderLaws.{IsOrder, order_orders, order_stays}
-use Rattle.xrc_edge.proofs.Merges.{order_grows}
+use Rattle.xrc_edge.proofs.Merges.{order_grows, length_order}
 use Rattle.ckd_track.specs.Writes.{writes_never_fall}
 
 -- ---- the order of a group, in numbers
@@ -120,28 +116,6 @@ each_once cut last (x ∷ entries) e =
           simp (is, later, rest.0, rest.1)
     ]
 
--- ---- room
-
-sum_map : {A B : Type 0} (f : B → ℕ) (g : A → B) (items : List A) → sum_by f (map g items) ≡ sum_by (λ a. f (g a)) items
-sum_map f g [] = refl
-sum_map f g (x ∷ items) = sum_by-cons f (g x) (map g items) ∙ ap (λ n. f (g x) + n) (sum_map f g items) ∙ sym (sum_by-cons (λ a. f (g a)) x items)
-
-pub pushed_blocks : (control : ℕ) (waiting : List WaitingEntry) (writes : List Write) → blocks_taken (waiting ++ entries_of control writes) ≡ blocks_taken waiting + blocks_needed writes
-pushed_blocks k waiting writes =
-    sum_by-append (λ (entry : WaitingEntry). blocks_of (length entry.form)) waiting (entries_of k writes)
-    ∙ ap (λ n. blocks_taken waiting + n) (sum_map (λ (entry : WaitingEntry). blocks_of (length entry.form)) (entry_of k) writes)
-
-pub pushed_records : (control : ℕ) (waiting : List WaitingEntry) (writes : List Write) → length (waiting ++ entries_of control writes) ≡ length waiting + length writes
-pushed_records k waiting writes = simp (length-append, length-map)
-
-pub left_blocks : (cut : Stamp) (last : ℕ) (entries : List WaitingEntry) → entries_never_fall last entries ≡ true → blocks_taken (left cut entries) ≤ blocks_taken entries
-left_blocks cut last entries e =
-    omega (arith, sum_by-append (λ (entry : WaitingEntry). blocks_of (length entry.form)) (due cut entries) (left cut entries), ap blocks_taken (each_once cut last entries e))
-
-pub left_records : (cut : Stamp) (last : ℕ) (entries : List WaitingEntry) → entries_never_fall last entries ≡ true → length (left cut entries) ≤ length entries
-left_records cut last entries e =
-    omega (arith, length-append (due cut entries) (left cut entries), ap length (each_once cut last entries e))
-
 -- ---- moving what is due
 
 -- An entry that is due moves from the front of a queue to its place in a group.
@@ -176,6 +150,30 @@ none_due cut entry rest e not_due =
     all_later cut (entry_stamp entry) (entry ∷ rest) (leb-false (entry_stamp entry) cut.0 not_due)
     (and_from (nat_le (entry_stamp entry) (entry_stamp entry)) (entries_never_fall (entry_stamp entry) rest) (le-leb (entry_stamp entry) (entry_stamp entry) (omega arith)) parts.1)
 
+-- the same of the first entry that waits
+pub record FirstIsMoved (cut : Stamp) (waiting rest entries now : List WaitingEntry) : Type 0 where
+  pub rising : entries_never_fall 0 rest ≡ true
+  pub ordered : is_in_order stands_before now ≡ true
+  pub stays : left cut rest ≡ left cut waiting
+  pub moves : in_order stands_before (now ++ due cut rest) ≡ in_order stands_before (entries ++ due cut waiting)
+  pub fewer : length (due cut waiting) ≡ suc (length (due cut rest))
+  pub shorter : length waiting ≡ suc (length rest)
+  pub one_more : length now ≡ suc (length entries)
+
+first_moves : (cut : Stamp) (waiting entries : List WaitingEntry) → entries_never_fall 0 waiting ≡ true → (due cut waiting ≡ [] → ⊥) → FirstIsMoved cut waiting (drop 1 waiting) entries (in_order stands_before (entries ++ take 1 waiting))
+first_moves cut [] entries rising some = absurd (some refl)
+first_moves cut (e ∷ rest) entries rising some =
+    let now = in_order stands_before (entries ++ e ∷ []) in
+    let is : is_due cut e ≡ true = elim (cases_Bool (is_due cut e)) [ inl on ↦ on | inr off ↦ absurd (some (none_due cut e rest rising off).0) ] in
+    let step = moved cut e rest entries now rising is refl in
+    record { rising = step.rising; ordered = step.ordered; stays = step.stays; moves = step.moves; fewer = step.fewer; shorter = refl; one_more = omega (arith, length_order stands_before (entries ++ e ∷ []), length-append entries (e ∷ [])) }
+
+pub first_moved : (cut : Stamp) (waiting rest entries now : List WaitingEntry) → entries_never_fall 0 waiting ≡ true → (due cut waiting ≡ [] → ⊥) → rest ≡ drop 1 waiting → now ≡ in_order stands_before (entries ++ take 1 waiting)
+    → FirstIsMoved cut waiting rest entries now
+first_moved cut waiting rest entries now rising some rest_is now_is =
+    let step = first_moves cut waiting entries rising some in
+    subst (λ (r : List WaitingEntry). FirstIsMoved cut waiting r entries now) (sym rest_is) (subst (FirstIsMoved cut waiting (drop 1 waiting) entries) (sym now_is) step)
+
 -- A group that takes nothing stays as it is.
 pub nothing_moves : (entries : List WaitingEntry) → is_in_order stands_before entries ≡ true → in_order stands_before (entries ++ []) ≡ entries
 nothing_moves entries ordered = ap (in_order stands_before) (append-nil entries) ∙ order_stays stands_before entries ordered
@@ -195,12 +193,3 @@ last_stamp_pushed last (x ∷ entries) entry = last_stamp_pushed (entry_stamp x)
 
 pub due_within : (cut : Stamp) (entries : List WaitingEntry) → length (due cut entries) ≤ length entries
 due_within cut entries = omega (arith, length-filter (is_due cut) entries, count_by-le-length (is_due cut) entries)
-
--- ---- the write of an entry
-
-pub entry_has_write : (head : EntryHead) (kind : Kind) (form : List ℕ) (copied : Bool) → IsSpelled head kind form → IsOfWrite (record { head = head; form = form; is_copy = copied })
-entry_has_write head kind form copied s = record {
-  write = write_of head kind;
-  keeps = s.keeps;
-  is = λ i. record { head = record { control = head.control; volume = head.volume; track = head.track; stamp = head.stamp; whole = s.whole i }; form = s.spelled i; is_copy = copied };
-}

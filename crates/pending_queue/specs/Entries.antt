@@ -13,9 +13,10 @@ use Rattle.pending_queue.specs.declared.entry.Effect.{Effect}
 use Rattle.pending_queue.specs.declared.entry.Effect.TheVariants.{Write as WriteEffect, Copy as CopyEffect}
 use Rattle.pending_queue.specs.declared.head.EntryHead.{EntryHead}
 
--- A waiting entry: what its write names, the write's queue form, and whether it is a copied track.
+-- A waiting entry: what its write names, what it does to its track, its queue form, and whether it is a copied track.
 pub record WaitingEntry : Type 0 where
   pub head : EntryHead
+  pub kind : Kind
   pub form : List ℕ
   pub is_copy : Bool
 
@@ -28,7 +29,7 @@ abbrev pub entry_head : (control : ℕ) → Write → EntryHead
 entry_head k write = record { control = k; volume = write.volume; track = write.track; stamp = write.stamp; whole = is_whole write.kind }
 
 abbrev pub entry_of : (control : ℕ) → Write → WaitingEntry
-entry_of k write = record { head = entry_head k write; form = queue_form write; is_copy = false }
+entry_of k write = record { head = entry_head k write; kind = write.kind; form = queue_form write; is_copy = false }
 
 -- the write of a head that does this to its track
 abbrev pub write_of : EntryHead → Kind → Write
@@ -43,17 +44,19 @@ abbrev pub is_copied : Effect → Bool
 is_copied (WriteEffect kind) = false
 is_copied (CopyEffect slot) = true
 
+-- the entry of a head with this effect and this queue form
+abbrev pub entry_by : EntryHead → Effect → (form : List ℕ) → WaitingEntry
+entry_by head effect form = record { head = head; kind = effect_kind effect; form = form; is_copy = is_copied effect }
+
 -- A form is spelled by the write of a head that does this to its track, and keeps the rules.
 pub record IsSpelled (head : EntryHead) (kind : Kind) (form : List ℕ) : Type 0 where
   pub keeps : IsTrue (is_kind kind)
   pub whole : head.whole ≡ is_whole kind
   pub spelled : form ≡ queue_form (write_of head kind)
 
--- The entry is of a write that keeps the rules: it has the write's queue form, and its head names what the write names.
-pub record IsOfWrite (entry : WaitingEntry) : Type 0 where
-  pub write : Write
-  pub keeps : IsTrue (is_kind write.kind)
-  pub is : entry ≡ record { head = entry_head entry.head.control write; form = queue_form write; is_copy = entry.is_copy }
+-- The entry is of a write that keeps the rules: its head names what the write names, and its form is the write's queue form.
+abbrev pub IsOfWrite : WaitingEntry → Type 0
+IsOfWrite entry = IsSpelled entry.head entry.kind entry.form
 
 abbrev pub entries_of : (control : ℕ) → List Write → List WaitingEntry
 entries_of k writes = map (entry_of k) writes
@@ -63,7 +66,7 @@ abbrev pub copy_head : (control volume track : ℕ) → (stamp : Stamp) → Entr
 copy_head k volume track stamp = record { control = k; volume = volume; track = track; stamp = stamp; whole = true }
 
 abbrev pub copy_of : EntryHead → List Rec → WaitingEntry
-copy_of head recs = record { head = head; form = queue_form (record { volume = head.volume; track = head.track; stamp = head.stamp; kind = Whole recs }); is_copy = true }
+copy_of head recs = record { head = head; kind = Whole recs; form = queue_form (write_of head (Whole recs)); is_copy = true }
 
 -- the rules that each write keeps by itself
 abbrev pub all_keep_rules : List Write → Bool

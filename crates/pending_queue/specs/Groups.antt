@@ -1,5 +1,5 @@
 -- What a formed group is to its callers.
-use Rattle.std.specs.Prelude.{ℕ, ◌≤◌, ◌<◌, ◌^◌, ◌+◌, ◌*◌, List, [], ◌∷◌, ◌++◌, length, map, IsTrue}
+use Rattle.std.specs.Prelude.{ℕ, ◌≤◌, ◌+◌, ◌*◌, ◌^◌, List, [], ◌∷◌, ◌++◌, length, map, IsTrue}
 use Rattle.tod_stamp.specs.declared.stamp.Stamp.{Stamp}
 use Rattle.ckd_track.specs.declared.layout.TheConstants.{WRITES_OF_RUN}
 use Rattle.ckd_track.specs.declared.write.Cause.{Cause}
@@ -36,19 +36,36 @@ with_break group k upto cause = record group { breaks = group.breaks ++ (k, upto
 abbrev pub with_done : FormedGroup → (control volume : ℕ) → FormedGroup
 with_done group k volume = record group { done = group.done ++ (k, volume) ∷ [] }
 
--- whether the group has room for so many more entries
+-- whether the group has room for so many more entries, which are at most so many of each control
 abbrev pub HasRoomFor : FormedGroup → (count : ℕ) → Type 0
 HasRoomFor group count = length group.entries + count ≤ most_of_control * group.controls
 
+-- whether it has room for so many more breaks, which are at most one of each control
+abbrev pub HasRoomForBreaks : FormedGroup → (count : ℕ) → Type 0
+HasRoomForBreaks group count = length group.breaks + count ≤ group.controls
+
+-- the most done plans of a control in a group: one of each number that a volume may have
+abbrev pub most_done_of_control : ℕ
+most_done_of_control = 2 ^ 16
+
+-- whether it has room for so many more done plans
+abbrev pub HasRoomForDone : FormedGroup → (count : ℕ) → Type 0
+HasRoomForDone group count = length group.done + count ≤ most_done_of_control * group.controls
+
+abbrev pub heads_in : List WaitingEntry → List EntryHead
+heads_in entries = map (λ entry. entry.head) entries
+
+abbrev pub forms_in : List WaitingEntry → List (List ℕ)
+forms_in entries = map (λ entry. entry.form) entries
+
 abbrev pub heads : FormedGroup → List EntryHead
-heads group = map (λ entry. entry.head) group.entries
+heads group = heads_in group.entries
 
 abbrev pub forms_of : FormedGroup → List (List ℕ)
-forms_of group = map (λ entry. entry.form) group.entries
+forms_of group = forms_in group.entries
 
--- What every group keeps: it stands in order, and has no more entries than there is room for.
-pub record KeepsOrder (controls capacity : ℕ) (entries : List WaitingEntry) : Type 0 where
-  pub few : controls < 2 ^ 16
-  pub within : length entries ≤ most_of_control * controls
-  pub room : most_of_control * controls ≤ capacity
+-- What every group keeps: it stands in order, and has its memory for all breaks and done plans.
+pub record KeepsOrder (controls breaks done : ℕ) (entries : List WaitingEntry) : Type 0 where
   pub ordered : IsTrue (is_in_order stands_before entries)
+  pub break_room : controls ≤ breaks
+  pub done_room : most_done_of_control * controls ≤ done

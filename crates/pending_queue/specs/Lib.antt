@@ -2,5 +2,7 @@ pub mod Entries
 pub mod Rooms
 pub mod Maps
 pub mod Queues
+pub mod Waitings
 pub mod Groups
+pub mod Placed
 pub mod Laws

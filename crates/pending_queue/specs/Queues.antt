@@ -1,8 +1,10 @@
 -- What a queue is to its callers.
-use Rattle.std.specs.Prelude.{ℕ, ◌≤◌, ◌-◌, List, [], length, IsTrue}
+use Rattle.std.specs.Prelude.{ℕ, ◌-◌, List, [], length}
+use Rattle.block_region.specs.Regions.{RegionState, ChainState, block_count}
 use Rattle.pending_queue.specs.declared.room.Room.{Room}
-use Rattle.pending_queue.specs.Entries.{WaitingEntry, entries_never_fall}
+use Rattle.pending_queue.specs.Entries.{WaitingEntry}
 use Rattle.pending_queue.specs.Rooms.{blocks_taken}
+use Rattle.pending_queue.specs.Waitings.{WaitingState}
 
 pub record QueueState : Type 0 where
   -- the control whose writes wait in it
@@ -24,8 +26,12 @@ with_waiting queue entries = record queue { waiting = entries }
 abbrev pub free_room : QueueState → Room
 free_room queue = record { records = queue.records - length queue.waiting; blocks = queue.blocks - blocks_taken queue.waiting }
 
--- What every queue keeps: no more records and blocks are taken than it has, and stamps don't fall.
-pub record KeepsRoom (records blocks : ℕ) (waiting : List WaitingEntry) : Type 0 where
-  pub within_records : length waiting ≤ records
-  pub within_blocks : blocks_taken waiting ≤ blocks
-  pub rising : IsTrue (entries_never_fall 0 waiting)
+-- A queue, and the memory that keeps it: the region, and for each entry that waits the chain there that has its form.
+pub record QueueInRegion : Type 0 where
+  pub state : QueueState
+  pub region : RegionState
+  pub chains : List ChainState
+
+-- the state of a control's queue in which these entries wait
+abbrev pub queue_state : (control : ℕ) → WaitingState → QueueState
+queue_state k waiting = record { control = k; records = waiting.most; blocks = block_count waiting.region; waiting = waiting.entries }

@@ -1,19 +1,16 @@
-//! Entries: a write's head and queue form.
+//! Entries: what a write or a copied track gives to its entry.
 
-ghost use Rattle.std.specs.Prelude.{◌≡◌, ◌≤◌, ◌+◌, length, IfOk, IsTrue};
-ghost use Rattle.ckd_track.specs.Effects.{keeps_rules};
+ghost use Rattle.std.specs.Prelude.{◌≡◌, ◌≤◌, ◌+◌, ◌∷◌, [], ◌++◌, length, drop, IsTrue};
+ghost use Rattle.std.specs.Int.{w16, w32, w64, to_be_bytes};
 ghost use Rattle.ckd_track.specs.Entries.{longest_entry};
 ghost use Rattle.ckd_track.specs.Images.{image};
-ghost use Rattle.pending_queue.specs.Entries.{IsOfWrite, entry_of, copy_of, is_copied, is_whole, entry_head};
-ghost use Rattle.pending_queue.specs.Rooms.{blocks_of};
+ghost use Rattle.ckd_track.specs.Slots.{with_bytes};
+ghost use Rattle.pending_queue.specs.Entries.{IsOfWrite, copy_of, is_copied, is_whole, entry_head};
 
 use crate::head::EntryHead;
-use ckd_track::{BEFORE_IMAGE, Kind, Slot, Write, entry_len, put_entry};
-use std::alloc::Global;
-use std::fmt;
-use std::marker::Model;
+use byteorder::{BigEndian, ByteOrder};
+use ckd_track::{BEFORE_IMAGE, Kind, Slot, Write};
 use std::snapshot::Snapshot;
-use xrc_edge::{BLOCK, NoMemory};
 
 /// The tag of a whole track.
 const WHOLE: u8 = 4;
@@ -27,105 +24,15 @@ pub enum Effect {
 
 impl Effect {
     /// Whether a copied track replaces it.
-    fn is_copy(&self) -> bool
+    pub fn is_copy(&self) -> bool
         ensures { result ≡ is_copied self.now }
     {
         matches!(self, Effect::Copy(_))
     }
 }
 
-/// An entry. Contracts see its head, the bytes of its queue form, and whether it is a copied track.
-#[derive(Drop)]
-pub struct Entry {
-    head: EntryHead,
-    form: Vec<u8>,
-    effect: Effect,
-}
-
-impl Model for Entry {
-    ghost use Rattle.std.specs.Prelude.{◌≤◌, vec_len};
-    ghost use Rattle.ckd_track.specs.Entries.{longest_entry};
-    ghost use Rattle.pending_queue.specs.Entries.{WaitingEntry, IsSpelled, effect_kind, is_copied};
-
-    ghost Value = { WaitingEntry };
-
-    ghost view = { λ entry. record { head = entry.head; form = entry.form.items; is_copy = is_copied entry.effect } };
-
-    ghost invariant = { λ entry. (vec_len entry.form ≤ longest_entry) × IsSpelled entry.head (effect_kind entry.effect) entry.form.items };
-}
-
-impl fmt::Debug for Entry {
-    fn fmt<W: fmt::Write>(&self, f: &mut fmt::Formatter<W>) -> fmt::Result {
-        f.debug_struct("Entry")
-            .field("head", &self.head)
-            .field("form", &self.form)
-            .finish()
-    }
-}
-
-impl Entry {
-    /// The entry of a control's write.
-    pub fn of_write(alloc: Global, control: u16, write: &Write) -> Result<Entry, NoMemory>
-        requires rules { IsTrue (keeps_rules write.now.kind) }
-        ensures { IfOk result (λ entry. entry ≡ entry_of control write.now) }
-    {
-        let mut form = vec![in alloc; 0u8; entry_len(write) as usize]?;
-        put_entry(write, form.as_mut_slice());
-        Ok(Entry {
-            head: head_of(control, write),
-            form,
-            effect: Effect::Write(Snapshot::of(&write.kind)),
-        })
-    }
-
-    /// The entry of a copied track: a write of the whole track.
-    pub fn of_track(alloc: Global, head: EntryHead, slot: &Slot) -> Result<Entry, NoMemory>
-        requires whole { IsTrue head.whole }
-        ensures { IfOk result (λ entry. entry ≡ copy_of head slot.now) }
-    {
-        let mut form = Vec::with_capacity(alloc, copy_len(slot) as usize)?;
-        form.push(WHOLE)?;
-        form.extend_from_slice(&head.stamp.0.to_be_bytes())?;
-        form.extend_from_slice(&head.volume.to_be_bytes())?;
-        form.extend_from_slice(&head.track.to_be_bytes())?;
-        form.extend_from_slice(slot.bytes())?;
-        Ok(Entry {
-            head,
-            form,
-            effect: Effect::Copy(Snapshot::of(slot)),
-        })
-    }
-
-    pub fn head(&self) -> EntryHead
-        ensures { result ≡ self.now.head }
-    {
-        self.head
-    }
-
-    /// The queue form.
-    pub fn form(&self) -> &[u8]
-        ensures form { result.now ≡ self.now.form }
-        ensures write { IsOfWrite self.now }
-    {
-        self.form.as_slice()
-    }
-
-    /// Whether it is a copied track.
-    pub fn is_copy(&self) -> bool
-        ensures { result ≡ self.now.is_copy }
-    {
-        self.effect.is_copy()
-    }
-
-    /// The blocks that the form takes.
-    pub fn blocks(&self) -> u32
-        ensures { result ≡ blocks_of (length self.now.form) }
-    {
-        blocks_of(self.form.len() as u32)
-    }
-}
-
-fn head_of(control: u16, write: &Write) -> EntryHead
+/// The head of a write of a control.
+pub fn head_of(control: u16, write: &Write) -> EntryHead
     ensures { result ≡ entry_head control write.now }
 {
     EntryHead {
@@ -143,19 +50,44 @@ fn is_whole(kind: &Kind) -> bool
     matches!(kind, Kind::Whole { .. })
 }
 
-/// The blocks that so many bytes take.
-pub fn blocks_of(len: u32) -> u32
-    requires { len ≤ longest_entry }
-    ensures { result ≡ blocks_of len }
-{
-    len.div_ceil(BLOCK as u32)
-}
-
 /// The length of the queue form of a copied track.
-pub fn copy_len(slot: &Slot) -> u32
+pub fn copy_len(slot: &Slot) -> usize
     ensures image { result ≡ BEFORE_IMAGE + length (image slot.now) }
     ensures length { (head : EntryHead) → result ≡ length (copy_of head slot.now).form }
     ensures short { result ≤ longest_entry }
 {
-    BEFORE_IMAGE as u32 + slot.bytes().len() as u32
+    BEFORE_IMAGE + slot.bytes().len()
+}
+
+/// Puts bytes at a place, over those there.
+fn put_bytes(out: &mut [u8], place: usize, bytes: &[u8])
+    requires { place + length bytes.now ≤ length out.old }
+    ensures { out.new ≡ with_bytes place bytes.now out.old }
+{
+    out[place..place + bytes.len()].copy_from_slice(bytes);
+}
+
+/// The part of the queue form of a copied track before the image.
+fn copy_front(head: EntryHead) -> [u8; BEFORE_IMAGE]
+    ensures { result ≡ 4 ∷ [] ++ to_be_bytes w64 head.stamp.0 ++ to_be_bytes w16 head.volume ++ to_be_bytes w32 head.track }
+{
+    let mut front = [0; BEFORE_IMAGE];
+    front[0] = WHOLE;
+    BigEndian::write_u64(&mut front[1..], head.stamp.0);
+    BigEndian::write_u16(&mut front[9..], head.volume);
+    BigEndian::write_u32(&mut front[11..], head.track);
+    front
+}
+
+/// Puts the queue form of a copied track at the front of `out`, leaves the rest, and gives the form's length.
+pub fn put_copy(head: EntryHead, slot: &Slot, out: &mut [u8]) -> usize
+    requires room { longest_entry ≤ length out.old }
+    ensures form { out.new ≡ (copy_of head slot.now).form ++ drop (length (copy_of head slot.now).form) out.old }
+    ensures length { result ≡ length (copy_of head slot.now).form }
+    ensures short { result ≤ longest_entry }
+    ensures write { IsTrue head.whole → IsOfWrite (copy_of head slot.now) }
+{
+    put_bytes(out, 0, &copy_front(head));
+    put_bytes(out, BEFORE_IMAGE, slot.bytes());
+    copy_len(slot)
 }

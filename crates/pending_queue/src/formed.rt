@@ -1,26 +1,29 @@
 //! Formed groups.
 
-ghost use Rattle.std.specs.Prelude.{◌≡◌, ◌<◌, ◌≤◌, ◌*◌, length, slice_get, Some, IfOk, IfSome, OnOk, OnErr, IsTrue};
+ghost use Rattle.std.specs.Prelude.{◌≡◌, ◌<◌, ◌≤◌, ◌*◌, length, slice_get, Some, IfOk, IfSome, IsTrue};
 ghost use Rattle.pending_queue.specs.Entries.{IsOfWrite, entries_never_fall, due, left};
-ghost use Rattle.pending_queue.specs.Groups.{empty_group, with_entries, with_break, with_done, HasRoomFor, heads, forms_of, most_of_control};
+ghost use Rattle.pending_queue.specs.Waitings.{SameMemory};
+ghost use Rattle.pending_queue.specs.Groups.{empty_group, with_entries, with_break, with_done, HasRoomFor, HasRoomForBreaks, HasRoomForDone, heads, forms_of, most_of_control};
 
-use crate::entry::Entry;
 use crate::head::EntryHead;
 use crate::moving::move_due;
-use ckd_track::{Cause, WRITES_OF_RUN};
+use crate::placed::PlacedList;
+use crate::waiting::WaitingList;
+use ckd_track::Cause;
 use std::alloc::Global;
-use std::collections::VecDeque;
 use std::marker::Model;
 use tod_stamp::Stamp;
 use xrc_edge::NoMemory;
 
+/// The numbers that a volume of a control may have.
+const VOLUME_NUMBERS: usize = 1 << 16;
+
 /// A group that is formed at a cut: entries by stamp, control and position, the breaks that are reported with it, and the
-/// volumes whose plans are done after it.
+/// volumes whose plans are done after it. All its memory is taken when it is made.
 #[derive(Debug, Drop)]
 pub struct Formed {
-    controls: u16,
     cut: Stamp,
-    entries: Vec<Entry>,
+    entries: PlacedList,
     breaks: Vec<(u16, Stamp, Cause)>,
     done: Vec<(u16, u16)>,
 }
@@ -31,22 +34,22 @@ impl Model for Formed {
 
     ghost Value = { FormedGroup };
 
-    ghost view = { λ group. record { controls = group.controls; cut = group.cut; entries = group.entries.items; breaks = group.breaks.items; done = group.done.items } };
+    ghost view = { λ group. record { controls = group.entries.controls; cut = group.cut; entries = group.entries.entries; breaks = group.breaks.items; done = group.done.items } };
 
-    ghost invariant = { λ group. KeepsOrder group.controls (vec_capacity group.entries) group.entries.items };
+    ghost invariant = { λ group. KeepsOrder group.entries.controls (vec_capacity group.breaks) (vec_capacity group.done) group.entries.entries };
 }
 
 impl Formed {
-    /// A buffer for the largest group of so many controls: `WRITES_OF_RUN` entries of each. It is empty, at cut 0.
+    /// A buffer for the largest group of so many controls: `WRITES_OF_RUN` entries and a break of each, and a done plan of each
+    /// number that a volume may have. It is empty, at cut 0. No other call of a group takes memory.
     pub fn make(alloc: Global, controls: u16) -> Result<Formed, NoMemory>
         ensures { IfOk result (λ group. group ≡ empty_group controls (record { 0 = 0 })) }
     {
         Ok(Formed {
-            controls,
             cut: Stamp(0),
-            entries: Vec::with_capacity(alloc, WRITES_OF_RUN * controls as usize)?,
-            breaks: Vec::new(alloc),
-            done: Vec::new(alloc),
+            entries: PlacedList::make(alloc, controls)?,
+            breaks: Vec::with_capacity(alloc, controls as usize)?,
+            done: Vec::with_capacity(alloc, VOLUME_NUMBERS * controls as usize)?,
         })
     }
 
@@ -61,35 +64,28 @@ impl Formed {
     }
 
     /// Reports the break of a control, whose writes are known up to a time.
-    pub fn add_break(
-        &mut self,
-        _alloc: Global,
-        control: u16,
-        upto: Stamp,
-        cause: Cause,
-    ) -> Result<(), NoMemory>
-        ensures ok { OnOk result (self.new ≡ with_break self.old control upto cause) }
-        ensures err { OnErr result (self.new ≡ self.old) }
+    pub fn add_break(&mut self, control: u16, upto: Stamp, cause: Cause)
+        requires room { HasRoomForBreaks self.old 1 }
+        ensures { self.new ≡ with_break self.old control upto cause }
     {
-        self.breaks.push((control, upto, cause))?;
-        Ok(())
+        self.breaks.push_reserved((control, upto, cause));
     }
 
     /// Says that the plan of a control's volume is done.
-    pub fn add_done(&mut self, _alloc: Global, control: u16, volume: u16) -> Result<(), NoMemory>
-        ensures ok { OnOk result (self.new ≡ with_done self.old control volume) }
-        ensures err { OnErr result (self.new ≡ self.old) }
+    pub fn add_done(&mut self, control: u16, volume: u16)
+        requires room { HasRoomForDone self.old 1 }
+        ensures { self.new ≡ with_done self.old control volume }
     {
-        self.done.push((control, volume))?;
-        Ok(())
+        self.done.push_reserved((control, volume));
     }
 
     /// Moves the entries with a stamp at most the cut from the front of a queue to their places.
-    pub(crate) fn take_due(&mut self, cut: Stamp, waiting: &mut VecDeque<Entry>)
-        requires rising { IsTrue (entries_never_fall 0 waiting.old.items) }
-        requires room { HasRoomFor self.old (length (due cut waiting.old.items)) }
-        ensures moved { self.new ≡ with_entries self.old (due cut waiting.old.items) }
-        ensures left { waiting.new.items ≡ left cut waiting.old.items }
+    pub(crate) fn take_due(&mut self, cut: Stamp, waiting: &mut WaitingList)
+        requires rising { IsTrue (entries_never_fall 0 waiting.old.entries) }
+        requires room { HasRoomFor self.old (length (due cut waiting.old.entries)) }
+        ensures moved { self.new ≡ with_entries self.old (due cut waiting.old.entries) }
+        ensures left { waiting.new.entries ≡ left cut waiting.old.entries }
+        ensures same { SameMemory waiting.old waiting.new }
     {
         move_due(waiting, cut, &mut self.entries);
     }
@@ -99,7 +95,7 @@ impl Formed {
         ensures controls { result ≡ self.now.controls }
         ensures few { length self.now.entries ≤ most_of_control * self.now.controls }
     {
-        self.controls
+        self.entries.controls()
     }
 
     pub fn cut(&self) -> Stamp
@@ -112,7 +108,7 @@ impl Formed {
     pub fn count(&self) -> u32
         ensures { result ≡ length self.now.entries }
     {
-        self.entries.len() as u32
+        self.entries.count()
     }
 
     /// The head of the entry at a place, counted from 0.
@@ -120,7 +116,7 @@ impl Formed {
         requires { place < length self.now.entries }
         ensures { slice_get (heads self.now) place ≡ Some result }
     {
-        self.entries[place as usize].head()
+        self.entries.head(place)
     }
 
     /// The queue form of the entry at a place, counted from 0.
@@ -130,7 +126,7 @@ impl Formed {
         // It is that of a write, which the head speaks of.
         ensures write { IfSome (slice_get self.now.entries place) IsOfWrite }
     {
-        self.entries[place as usize].form()
+        self.entries.form(place)
     }
 
     /// Control, time and cause of each break, in order of adding.

@@ -48,7 +48,7 @@ state_by t device control state = elim t.change [
   | Break k ↦ cond (nat_eq control k) (cond (is_suspended state) state (since ByControl t.time)) state
   | Hit devices ↦ state
   | MarkedHit devices ↦ state
-  | Reached ↦ state
+  | Reached devices ↦ state
 ]
 
 abbrev pub state_after : List Timed → (device control : ℕ) → PairState → PairState
@@ -69,7 +69,7 @@ changed_is level time (Break k) r plain = choose (nat_eq r.control k) (is_suspen
     choose false c = refl
 changed_is level time (Hit devices) r plain = absurd cc
 changed_is level time (MarkedHit devices) r plain = absurd cc
-changed_is level time Reached r plain = absurd cc
+changed_is level time (Reached devices) r plain = absurd cc
 
 pub row_is : (level : Level) (changes : List Timed) (r : PairRow) → has_no_hit changes ≡ true → row_after level changes r ≡ in_state (state_after changes r.device r.control r.state) r
 row_is level [] r plain = refl
@@ -183,7 +183,7 @@ module _ (level : Level) (breaks : List (Option ℕ)) (to device control : ℕ) 
           }
   one_settles from time (Hit devices) changes rows state new after before differs plain found may later = absurd cc
   one_settles from time (MarkedHit devices) changes rows state new after before differs plain found may later = absurd cc
-  one_settles from time Reached changes rows state new after before differs plain found may later = absurd cc
+  one_settles from time (Reached devices) changes rows state new after before differs plain found may later = absurd cc
 
   found_next : (rows : List PairRow) (state : PairState) (t : Timed) → is_plain t ≡ true → Found device control rows state → Found device control (after_change level t rows) (state_by t device control state)
   found_next rows state t plain found =
@@ -199,7 +199,7 @@ module _ (level : Level) (breaks : List (Option ℕ)) (to device control : ℕ) 
   none_due time (Break k) plain = refl
   none_due time (Hit devices) plain = absurd cc
   none_due time (MarkedHit devices) plain = absurd cc
-  none_due time Reached plain = absurd cc
+  none_due time (Reached devices) plain = absurd cc
 
   pub settles : (from : ℕ) (changes : List Timed) (rows : List PairRow) (state : PairState) → Found device control rows state → may_all_come level breaks false NoneDue from to rows changes ≡ true
       → has_no_hit changes ≡ true → list_all (λ t. not (is_break t && nat_eq t.time to)) changes ≡ true → Settles breaks from to control changes state (state_after changes device control state)

@@ -1,5 +1,5 @@
 -- How the rows of a session change between two commands.
-use Rattle.std.specs.Prelude.{ℕ, zero, suc, ◌==◌, ◌&&◌, List, [], ◌∷◌, length, map, Bool, true, false, Option, Some, None, nat_le, if◌then◌else◌}
+use Rattle.std.specs.Prelude.{ℕ, zero, suc, ◌==◌, ◌&&◌, List, [], ◌∷◌, ◌++◌, length, map, Bool, true, false, Option, Some, None, nat_le, bytes_eq, if◌then◌else◌}
 use Rattle.std.specs.List.{list_any, list_all}
 use Rattle.pair_table.specs.declared.level.Level.{Level}
 use Rattle.pair_table.specs.declared.level.Level.TheVariants.{Volume as VolumeLevel, Session as SessionLevel}
@@ -18,13 +18,14 @@ use Rattle.pair_table.specs.Devices.{is_among}
 --   Hit: volumes failed at one time. Their rows, suspended or not, are suspended by the device; under level SESSION every other row
 --     that isn't suspended is suspended by the session.
 --   MarkedHit: the same of a hit that stands in a mark which logging makes before its record, where the other rows still wait.
---   Reached: after such a hit, with the record: every row that isn't suspended is suspended by the session.
+--   Reached: after hits of these devices in such a mark, with the record: under level SESSION every other row that isn't suspended is
+--     suspended by the session.
 pub data RowChange : Type 0 where
   Mature : (device : ℕ) → (state : PairState) → RowChange
   Break : (control : ℕ) → RowChange
   Hit : (devices : List ℕ) → RowChange
   MarkedHit : (devices : List ℕ) → RowChange
-  Reached : RowChange
+  Reached : (devices : List ℕ) → RowChange
 
 -- a change at a time
 pub record Timed : Type 0 where
@@ -47,18 +48,18 @@ broken_row control time r = if r.control == control then suspended_by ByControl 
 abbrev pub hit_row : (devices : List ℕ) → (time : ℕ) → PairRow → PairRow
 hit_row devices time r = if is_among r.device devices then in_state (since ByDevice time) r else r
 
--- The others that a hit reaches: none under level VOLUME, all under level SESSION.
-abbrev pub reached_row : Level → (time : ℕ) → PairRow → PairRow
-reached_row VolumeLevel time r = r
-reached_row SessionLevel time r = suspended_by BySession time r
+-- The others that a hit of these devices reaches: none under level VOLUME, all under level SESSION.
+abbrev pub reached_row : Level → (devices : List ℕ) → (time : ℕ) → PairRow → PairRow
+reached_row VolumeLevel devices time r = r
+reached_row SessionLevel devices time r = if is_among r.device devices then r else suspended_by BySession time r
 
 abbrev pub row_after_change : Level → Timed → PairRow → PairRow
 row_after_change level t r = elim t.change [
   | Mature device state ↦ row_in_state device state r
   | Break control ↦ broken_row control t.time r
-  | Hit devices ↦ reached_row level t.time (hit_row devices t.time r)
+  | Hit devices ↦ reached_row level devices t.time (hit_row devices t.time r)
   | MarkedHit devices ↦ hit_row devices t.time r
-  | Reached ↦ reached_row level t.time r
+  | Reached devices ↦ reached_row level devices t.time r
 ]
 
 abbrev pub after_change : Level → Timed → List PairRow → List PairRow
@@ -106,40 +107,48 @@ is_session_level SessionLevel = true
 
 -- ---- what a hit in a mark leaves due
 
--- After a hit that stands in a mark the others are due: they come with the record for which the mark was made.
+-- After hits that stand in a mark the others are due: they come with the record for which the mark was made.
 --   NoneDue: none is due.
---   DueSince: the others are, since a mark at this time.
+--   DueSince: the others are, since a mark at this time in which these devices were hit.
 --   DueIn: the others are, with the record of this cut, of which other changes have come already.
 pub data Due : Type 0 where
   NoneDue : Due
-  DueSince : (mark : ℕ) → Due
-  DueIn : (cut : ℕ) → Due
+  DueSince : (mark : ℕ) → (devices : List ℕ) → Due
+  DueIn : (cut : ℕ) → (devices : List ℕ) → Due
 
 -- Changes of one record come at its cut.
 abbrev pub is_of_record : Due → (time : ℕ) → Bool
 is_of_record NoneDue time = true
-is_of_record (DueSince mark) time = true
-is_of_record (DueIn cut) time = time == cut
+is_of_record (DueSince mark devices) time = true
+is_of_record (DueIn cut devices) time = time == cut
 
 -- The hits of one mark come at its time, and none of a mark comes while a record's changes do.
 abbrev pub is_of_mark : Due → (time : ℕ) → Bool
 is_of_mark NoneDue time = true
-is_of_mark (DueSince mark) time = time == mark
-is_of_mark (DueIn cut) time = false
+is_of_mark (DueSince mark devices) time = time == mark
+is_of_mark (DueIn cut devices) time = false
 
-abbrev pub is_some_due : Due → Bool
-is_some_due NoneDue = false
-is_some_due (DueSince mark) = true
-is_some_due (DueIn cut) = true
+-- the devices of whose hits others are due, in order of the hits
+abbrev pub devices_hit : Due → List ℕ
+devices_hit NoneDue = []
+devices_hit (DueSince mark devices) = devices
+devices_hit (DueIn cut devices) = devices
+
+-- Others are due, of hits of exactly these devices.
+abbrev pub are_due : (devices : List ℕ) → Due → Bool
+are_due devices NoneDue = false
+are_due devices (DueSince mark due) = bytes_eq devices due
+are_due devices (DueIn cut due) = bytes_eq devices due
 
 -- what is due once a record's changes come at a time
 abbrev pub due_in_record : Due → (time : ℕ) → Due
 due_in_record NoneDue time = NoneDue
-due_in_record (DueSince mark) time = DueIn time
-due_in_record (DueIn cut) time = DueIn cut
+due_in_record (DueSince mark devices) time = DueIn time devices
+due_in_record (DueIn cut devices) time = DueIn cut devices
 
-abbrev pub due_after_mark : Level → (time : ℕ) → Due
-due_after_mark level time = if is_session_level level then DueSince time else NoneDue
+-- what is due after a hit of these devices in a mark at a time
+abbrev pub due_after_mark : Level → Due → (time : ℕ) → (devices : List ℕ) → Due
+due_after_mark level due time devices = if is_session_level level then DueSince time (devices_hit due ++ devices) else NoneDue
 
 -- what is due after a change
 abbrev pub due_after : Level → Due → Timed → Due
@@ -147,8 +156,8 @@ due_after level due t = elim t.change [
   | Mature device state ↦ due_in_record due t.time
   | Break control ↦ due_in_record due t.time
   | Hit devices ↦ NoneDue
-  | MarkedHit devices ↦ due_after_mark level t.time
-  | Reached ↦ NoneDue
+  | MarkedHit devices ↦ due_after_mark level due t.time devices
+  | Reached devices ↦ NoneDue
 ]
 
 -- A control breaks at its break time. Others are reached on their own only where they are due.
@@ -158,14 +167,14 @@ may_come breaks due rows t = elim t.change [
   | Break control ↦ is_of_record due t.time && is_at t.time (break_time_of control breaks)
   | Hit devices ↦ is_of_record due t.time && are_hit devices rows
   | MarkedHit devices ↦ is_of_mark due t.time && are_hit devices rows
-  | Reached ↦ is_some_due due && is_of_record due t.time
+  | Reached devices ↦ are_due devices due && is_of_record due t.time
 ]
 
 -- At the end none is due, or others are since a mark at the very end, where that may be: its record hasn't come.
 abbrev pub may_end : (may_be_due : Bool) → (end : ℕ) → Due → Bool
 may_end may_be_due end NoneDue = true
-may_end may_be_due end (DueSince mark) = may_be_due && mark == end
-may_end may_be_due end (DueIn cut) = false
+may_end may_be_due end (DueSince mark devices) = may_be_due && mark == end
+may_end may_be_due end (DueIn cut devices) = false
 
 -- Each change may come where it comes, and times don't fall and lie from `from` to `to`.
 abbrev pub may_all_come : Level → (breaks : List (Option ℕ)) → (may_be_due : Bool) → Due → (from to : ℕ) → List PairRow → List Timed → Bool

@@ -60,7 +60,7 @@ has_its_feed : (line : List ℕ) → has_feed (line ++ 10 ∷ []) ≡ true
 has_its_feed [] = refl
 has_its_feed (b ∷ line) = or_right (nat_eq b 10) (has_feed (line ++ 10 ∷ [])) (has_its_feed line)
 
-fed_has : (text : List ℕ) → IsFed text → has_feed text ≡ true
+pub fed_has : (text : List ℕ) → IsFed text → has_feed text ≡ true
 fed_has text fed = ap has_feed fed.text_is ∙ has_its_feed fed.line
 
 whole_long : (text left : List ℕ) → Ends Whole text left → (rest : List ℕ) → Ends TooLong text rest → ⊥

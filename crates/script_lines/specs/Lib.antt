@@ -1,3 +1,4 @@
 pub mod Texts
 pub mod Hearing
 pub mod Grammars
+pub mod NextLines

@@ -1,8 +1,6 @@
 -- What a text asks that was heard, and what this is to a run.
-use Rattle.std.proofs.Common.{◌≡◌, inl, inr, Bool, true, cond, nat_eq, eq-eqb, Equal, Greater, Less, ℕ, ◌≤◌, List, [], Option, Some, None, refl, sym, ap, subst, ◌∙◌, append-nil, arith}
+use Rattle.std.proofs.Common.{◌≡◌, ℕ, ◌≤◌, List, [], Option, Some, None, refl, sym, ap, subst, ◌∙◌, append-nil, arith}
 use Rattle.std.specs.Option.{option_map}
-use Rattle.std.specs.Ordering.{is_le, nat_cmp}
-use Rattle.std.proofs.lemmas.Bool.{cases_lt, le-ltb, lt-ltb}
 use Rattle.std.proofs.lemmas.List.{append_cancel_left}
 use Rattle.crash_plant.specs.declared.device.Heard.{Heard}
 use Rattle.crash_plant.specs.declared.device.Heard.TheVariants.{Byte, End}
@@ -19,15 +17,6 @@ use Rattle.script_lines.specs.Texts.{IsNothing, IsTooLong, bytes_of}
 use Rattle.script_lines.proofs.GrammarLaws.{is_grammar, long_is_none}
 use Rattle.script_lines.proofs.HearLaws.{keeps_more, keeps_still}
 use Rattle.session_lines.specs.Asking.{Asks}
-
--- ---- times
-
--- A time that isn't later compares so.
-pub is_le_from_le : (a b : ℕ) → a ≤ b → is_le (nat_cmp a b) ≡ true
-is_le_from_le a b le = elim (cases_lt a b) [
-  | inl below ↦ ap (λ (t : Bool). is_le (cond t Less (cond (nat_eq a b) Equal Greater))) (lt-ltb a b below)
-  | inr above ↦ ap (λ (t : Bool). is_le (cond t Less (cond (nat_eq a b) Equal Greater))) (le-ltb a b above) ∙ ap (λ (t : Bool). is_le (cond t Equal Greater)) (eq-eqb a b (omega (arith, le, above)))
-]
 
 -- ---- what a text asks
 

@@ -25,7 +25,7 @@ hears_on run t lines before heard first old new goes keeps = record { up = goes.
 
 -- It goes on through calls that neither hear nor say where each choice bears at each of their moments.
 works_on : (run : Run) (t : Trace) (lines : List Answered) (heard : List ℕ) (first old new : PlantState) → GoesOn run t lines heard first old → WorkSilently old new
-    → (IsTrue (stage_now run line_grammar first.script lines heard).pairs.table.is_started → EachMeans old new (λ c. BearsTime run (stage_now run line_grammar first.script lines heard) (replies_of lines) new c)) → GoesOn run t lines heard first new
+    → (IsTrue (stage_now run line_grammar first.script lines heard).table.is_started → EachMeans old new (λ c. BearsTime run (stage_now run line_grammar first.script lines heard) (replies_of lines) new c)) → GoesOn run t lines heard first new
 works_on run t lines heard first old new goes work bears = record {
   up = goes.up;
   pair_run = goes.pair_run;

@@ -22,7 +22,7 @@ use Rattle.consistency.proofs.Lines.{next_not_before, replies_more}
 use Rattle.xrc_status.specs.Saying.{SaidWhole, SaysFront, SaysText}
 use Rattle.pair_course.specs.Course.{HoldsTracks, LiesBefore, MeansRows, end_line, end_reply, ended_stage, pair_reply, paired_stage, start_reply, started_stage}
 use Rattle.pair_course.proofs.Answering.{end_is_answered, pair_is_answered, start_is_answered}
-use Rattle.pair_course.proofs.Bearing.{pairs_meant}
+use Rattle.pair_course.proofs.Bearing.{table_meant}
 use Rattle.pair_course.proofs.Saying.{end_is_reply, ended_says, pair_is_reply, paired_says, start_is_reply, start_says}
 use Rattle.pair_course.proofs.Waiting.{ended_bears, pair_bears, wait_bears}
 use Rattle.script_lines.specs.Grammars.{line_grammar}
@@ -64,7 +64,7 @@ module _ (run : Run) (t : Trace) (s : Started) (first mid new : PlantState) (may
 
   pub start_throughout : BearsThroughout run line_grammar (started_lines run s) first new
   start_throughout = keeps_says_throughout run line_grammar [] s.text first mid new may.begun.up may.begun.keeps tells told front.only (start_of run s) (front.moments told) refl start_answers may.heard (λ started. absurd cc)
-      (λ started c is. start_behind c (may.means c is)) (λ started c is. pairs_meant run (started_stage run.session s.time) (shape_of mid) c (may.means c is))
+      (λ started c is. start_behind c (may.means c is)) (λ started c is. table_meant run (started_stage run.session s.time) (shape_of mid) c (may.means c is))
 
   pub start_goes_on : SaidWhole (start_reply s.time) mid new → HasStarted run t s [] first new
   start_goes_on whole = record {
@@ -72,7 +72,7 @@ module _ (run : Run) (t : Trace) (s : Started) (first mid new : PlantState) (may
       up = may.begun.up;
       pair_run = may.begun.pair_run;
       keeps = keeps_says run line_grammar [] s.text first mid new may.begun.up may.begun.keeps tells told front.only (start_of run s) (front.moments told) refl start_answers may.heard (λ started. absurd cc)
-          (λ started c is. start_behind c (may.means c is)) (λ started c is. pairs_meant run (started_stage run.session s.time) (shape_of mid) c (may.means c is)) whole;
+          (λ started c is. start_behind c (may.means c is)) (λ started c is. table_meant run (started_stage run.session s.time) (shape_of mid) c (may.means c is)) whole;
     };
     is = record { asks = may.asks; whole = may.whole };
     short = short;
@@ -114,7 +114,7 @@ module _ (run : Run) (t : Trace) (p : Paired) (first mid new : PlantState) (may 
 
   pub pair_throughout : BearsThroughout run line_grammar (paired_lines run p) first new
   pair_throughout = keeps_says_throughout run line_grammar (started_lines run p.start) p.text first mid new started.goes_on.up started.goes_on.keeps tells told front.only (pair_of run p) (front.moments told) refl pair_answers may.heard
-      (λ on c is. pair_during c (may.means c is)) (λ on c is. pair_behind c (may.means c is)) (λ on c is. pairs_meant run (paired_stage run.session p.time p.row) (shape_of mid) c (may.means c is))
+      (λ on c is. pair_during c (may.means c is)) (λ on c is. pair_behind c (may.means c is)) (λ on c is. table_meant run (paired_stage run.session p.time p.row) (shape_of mid) c (may.means c is))
 
   pub pair_goes_on : SaidWhole (pair_reply p.time p.tracks) mid new → HasPaired run t p [] first new
   pair_goes_on whole = record {
@@ -122,7 +122,7 @@ module _ (run : Run) (t : Trace) (p : Paired) (first mid new : PlantState) (may 
       up = started.goes_on.up;
       pair_run = started.goes_on.pair_run;
       keeps = keeps_says run line_grammar (started_lines run p.start) p.text first mid new started.goes_on.up started.goes_on.keeps tells told front.only (pair_of run p) (front.moments told) refl pair_answers may.heard
-          (λ on c is. pair_during c (may.means c is)) (λ on c is. pair_behind c (may.means c is)) (λ on c is. pairs_meant run (paired_stage run.session p.time p.row) (shape_of mid) c (may.means c is)) whole;
+          (λ on c is. pair_during c (may.means c is)) (λ on c is. pair_behind c (may.means c is)) (λ on c is. table_meant run (paired_stage run.session p.time p.row) (shape_of mid) c (may.means c is)) whole;
     };
     is = record { start = started.is; added = may.added; counted = may.counted; whole = may.whole };
     short_start = started.short;
@@ -172,7 +172,7 @@ module _ (run : Run) (t : Trace) (e : Ended) (first mid new : PlantState) (may :
   pub end_throughout : BearsThroughout run line_grammar (ended_lines run e) first new
   end_throughout = keeps_says_throughout run line_grammar (paired_lines run e.pair) e.text first mid new paired.goes_on.up paired.goes_on.keeps tells told front.only (end_of run e) (front.moments told) refl end_answers may.heard
       (λ on c is. end_during c (may.means c is).0 (may.means c is).1) (λ on c is. end_behind c (may.means c is).0 (may.means c is).1)
-      (λ on c is. pairs_meant run (ended_stage run.session e.pair.time e.time row) (shape_of mid) c (may.means c is).0)
+      (λ on c is. table_meant run (ended_stage run.session e.pair.time e.time row) (shape_of mid) c (may.means c is).0)
 
   pub end_goes_on : SaidWhole (end_reply e.time) mid new → HasFinished run t e [] first new
   end_goes_on whole = record {
@@ -181,7 +181,7 @@ module _ (run : Run) (t : Trace) (e : Ended) (first mid new : PlantState) (may :
       pair_run = paired.goes_on.pair_run;
       keeps = keeps_says run line_grammar (paired_lines run e.pair) e.text first mid new paired.goes_on.up paired.goes_on.keeps tells told front.only (end_of run e) (front.moments told) refl end_answers may.heard
           (λ on c is. end_during c (may.means c is).0 (may.means c is).1) (λ on c is. end_behind c (may.means c is).0 (may.means c is).1)
-          (λ on c is. pairs_meant run (ended_stage run.session e.pair.time e.time row) (shape_of mid) c (may.means c is).0) whole;
+          (λ on c is. table_meant run (ended_stage run.session e.pair.time e.time row) (shape_of mid) c (may.means c is).0) whole;
     };
     is = record { pair = paired.is; whole = may.whole };
   }

@@ -3,7 +3,7 @@ use Rattle.std.specs.Prelude.{◌≡◌, ◌⊎◌, ℕ, ◌+◌, ◌<◌, ◌�
 use Rattle.crash_plant.specs.Moments.{PlantState}
 use Rattle.pair_table.specs.declared.command.Command.TheVariants.{AddPair}
 use Rattle.consistency.specs.Bears.{Run}
-use Rattle.consistency.specs.Courses.{Answered, first_line, most_lines, stage_at}
+use Rattle.consistency.specs.Courses.{Answered, first_line, last_line_time, most_lines}
 use Rattle.consistency.specs.Keeping.{Keeps, stage_now}
 use Rattle.consistency.specs.Steps.{TimedCommand}
 use Rattle.pair_course.specs.Course.{end_line, start_line}
@@ -42,4 +42,4 @@ AsksEnd session text before time = Asks text before (end_line session time)
 -- Each run that has answered fewer lines than a script may have, up to a time, has this for its next line once it has heard the text.
 abbrev pub IsNext : (before : ℕ) → (text : List ℕ) → TimedCommand → (first old : PlantState) → Type 0
 IsNext before text line first old = (run : Run) (lines : List Answered) → 0 < first.clock → Keeps run line_grammar lines [] first old → length lines < most_lines
-    → (stage_at run lines (length lines)).replied ≤ before → (stage_now run line_grammar first.script lines text).next ≡ Some line
+    → last_line_time lines (length lines) ≤ before → (stage_now run line_grammar first.script lines text).next ≡ Some line

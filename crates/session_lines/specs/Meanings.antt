@@ -1,5 +1,5 @@
 -- What a crash may leave between two calls of a run with one pair.
-use Rattle.std.specs.Prelude.{◌≡◌, ℕ, ◌≤◌, [], ◌∷◌, Bool, false, Option}
+use Rattle.std.specs.Prelude.{◌≡◌, ℕ, [], ◌∷◌, Bool, false, Option}
 use Rattle.crash_plant.specs.Calls.{Elapses, SameSite, Silent}
 use Rattle.crash_plant.specs.Choices.{AtEveryMoment, AtNow, Choice}
 use Rattle.crash_plant.specs.Moments.{PlantState}

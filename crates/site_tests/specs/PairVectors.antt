@@ -1,11 +1,12 @@
 -- A worked row and its bytes, and the names and tables of worked commands.
 use Rattle.std.specs.Prelude.{ℕ, List, [], ◌∷◌, true, false, codes}
 use Rattle.test_fixtures.specs.Hex.{hex}
+use Rattle.pair_table.specs.declared.names.NamedDevice.{NamedDevice}
+use Rattle.pair_table.specs.declared.names.NamedVolume.{NamedVolume}
 use Rattle.pair_table.specs.declared.row.PairState.{PairState}
 use Rattle.pair_table.specs.declared.row.PairRow.{PairRow}
-use Rattle.pair_table.specs.Naming.{NamedDevice, NamedVolume, Naming}
-use Rattle.pair_table.specs.Refusals.{Pairs}
-use Rattle.pair_table.specs.Tables.{new_table}
+use Rattle.pair_table.specs.Naming.{Naming}
+use Rattle.pair_table.specs.Tables.{Table, new_table}
 
 -- PRIM01 and SEC001, the first volume of the first control and the first device, of one cylinder
 abbrev pub first_row : PairState → PairRow
@@ -34,11 +35,11 @@ worked_names = record {
   broken = [];
 }
 
-abbrev pub before_start : Pairs
-before_start = record { table = new_table abc; is_ended = false }
+abbrev pub before_start : Table
+before_start = new_table abc
 
-abbrev pub started_with : List PairRow → Pairs
-started_with rows = record { table = record { session = abc; is_started = true; rows = rows }; is_ended = false }
+abbrev pub started_with : List PairRow → Table
+started_with rows = record { session = abc; is_started = true; is_ended = false; rows = rows }
 
-abbrev pub ended_pairs : Pairs
-ended_pairs = record { table = record { session = abc; is_started = true; rows = [] }; is_ended = true }
+abbrev pub ended_table : Table
+ended_table = record { session = abc; is_started = true; is_ended = true; rows = [] }

@@ -17,19 +17,21 @@ pub fn hits()
     ensures without_row { may_all_come Volume no_breaks false NoneDue 0x70 0x80 (two_rows Duplex Duplex) (at_time 0x70 (Hit (2 ∷ [])) ∷ []) ≡ false }
     ensures without_fault { AreCounted no_rises (at_time 0x70 (Hit (1 ∷ [])) ∷ []) → ⊥ }
     ensures twice { AreCounted (λ device. 1) (at_time 0x70 (MarkedHit (1 ∷ [])) ∷ at_time 0x80 (Hit (1 ∷ [])) ∷ []) → ⊥ }
-    ensures once { AreCounted (λ device. 1) (at_time 0x70 (MarkedHit (1 ∷ [])) ∷ at_time 0x80 Reached ∷ []) }
+    ensures once { AreCounted (λ device. 1) (at_time 0x70 (MarkedHit (1 ∷ [])) ∷ at_time 0x80 (Reached (1 ∷ [])) ∷ []) }
 {}
 
 /// After a hit in a mark the others are due until the record comes for which the mark was made; then they come with it.
 pub fn marked_hits()
-    ensures in_mark { after_changes Session (at_time 0x70 (MarkedHit (1 ∷ [])) ∷ at_time 0x80 Reached ∷ []) (two_rows Duplex Duplex) ≡ two_rows (since BySession 0x80) (since ByDevice 0x70) }
+    ensures in_mark { after_changes Session (at_time 0x70 (MarkedHit (1 ∷ [])) ∷ at_time 0x80 (Reached (1 ∷ [])) ∷ []) (two_rows Duplex Duplex) ≡ two_rows (since BySession 0x80) (since ByDevice 0x70) }
     ensures stays_due { may_all_come Session no_breaks false NoneDue 0x70 0x80 (two_rows Duplex Duplex) (at_time 0x70 (MarkedHit (1 ∷ [])) ∷ []) ≡ false }
     ensures at_the_mark { may_all_come Session no_breaks true NoneDue 0x60 0x70 (two_rows Duplex Duplex) (at_time 0x70 (MarkedHit (1 ∷ [])) ∷ []) ≡ true }
     ensures past_the_record { may_all_come Session no_breaks true NoneDue 0x60 0x80 (two_rows Duplex Duplex) (at_time 0x70 (MarkedHit (1 ∷ [])) ∷ []) ≡ false }
     ensures left_out { may_all_come Session no_breaks true NoneDue 0x60 0x6D (two_rows Pending Duplex) (at_time 0x60 (MarkedHit (1 ∷ [])) ∷ at_time 0x6D (Mature 0 Duplex) ∷ []) ≡ false }
-    ensures with_the_record { may_all_come Session no_breaks true NoneDue 0x60 0x6D (two_rows Pending Duplex) (at_time 0x60 (MarkedHit (1 ∷ [])) ∷ at_time 0x6D (Mature 0 Duplex) ∷ at_time 0x6D Reached ∷ []) ≡ true }
-    ensures behind_the_record { may_all_come Session no_breaks true NoneDue 0x60 0x70 (two_rows Pending Duplex) (at_time 0x60 (MarkedHit (1 ∷ [])) ∷ at_time 0x6D (Mature 0 Duplex) ∷ at_time 0x70 Reached ∷ []) ≡ false }
-    ensures not_due { may_all_come Session no_breaks false NoneDue 0x70 0x80 (two_rows Duplex Duplex) (at_time 0x70 Reached ∷ []) ≡ false }
+    ensures with_the_record { may_all_come Session no_breaks true NoneDue 0x60 0x6D (two_rows Pending Duplex) (at_time 0x60 (MarkedHit (1 ∷ [])) ∷ at_time 0x6D (Mature 0 Duplex) ∷ at_time 0x6D (Reached (1 ∷ [])) ∷ []) ≡ true }
+    ensures behind_the_record { may_all_come Session no_breaks true NoneDue 0x60 0x70 (two_rows Pending Duplex) (at_time 0x60 (MarkedHit (1 ∷ [])) ∷ at_time 0x6D (Mature 0 Duplex) ∷ at_time 0x70 (Reached (1 ∷ [])) ∷ []) ≡ false }
+    ensures of_another_hit { may_all_come Session no_breaks false NoneDue 0x60 0x6D (two_rows Duplex Duplex) (at_time 0x60 (MarkedHit (1 ∷ [])) ∷ at_time 0x6D (Reached (0 ∷ [])) ∷ []) ≡ false }
+    ensures others_alone { after_changes Session (at_time 0x80 (Reached (1 ∷ [])) ∷ []) (two_rows Duplex Duplex) ≡ two_rows (since BySession 0x80) Duplex }
+    ensures not_due { may_all_come Session no_breaks false NoneDue 0x70 0x80 (two_rows Duplex Duplex) (at_time 0x70 (Reached (1 ∷ [])) ∷ []) ≡ false }
     ensures after_a_command { is_hit_at 0x80 (at_time 0x80 (MarkedHit (1 ∷ []))) ≡ false }
 {}
 

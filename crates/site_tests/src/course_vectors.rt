@@ -2,11 +2,11 @@
 
 ghost use Rattle.std.specs.Prelude.{◌≡◌, ◌∷◌, ◌++◌, [], ℕ, codes, slice_set, Bool, List, true, false, Option, Some, None};
 ghost use Rattle.consistency.specs.Bears.{Bears};
-ghost use Rattle.consistency.specs.Courses.{Answered, IsAsked, StandsAt, first_line, is_whole_line, later_line, lines_begun};
+ghost use Rattle.consistency.specs.Courses.{Answered, IsAsked, StandsAt, first_line, is_whole_line, last_line_time, later_line, lines_begun, stage_at};
 ghost use Rattle.consistency.specs.Replies.{IsReply, has_reply};
 ghost use Rattle.consistency.specs.Steps.{TimedCommand};
 ghost use Rattle.consistency.specs.Times.{times_said};
-ghost use Rattle.site_tests.specs.CourseVectors.{begun_stage, line_feed, query_at, query_reply, query_report, run_of_none, start_reply, status_18, worked_replies};
+ghost use Rattle.site_tests.specs.CourseVectors.{begun_stage, line_feed, lines_past_end, query_at, query_reply, query_report, run_of_none, start_reply, status_18, worked_replies};
 ghost use Rattle.site_tests.specs.SiteVectors.{site, small};
 ghost use Rattle.site_tests.specs.JournalVectors.{group_bytes};
 
@@ -28,6 +28,12 @@ pub fn lines()
     ensures nothing { is_whole_line true [] ≡ false }
     ensures falls { later_line 1 0x50 (Some (query_at 0x4F)) ≡ None }
     ensures many { later_line 100000 0x50 (Some (query_at 0x60)) ≡ None }
+{}
+
+/// Behind the session's end replies have its time, and the time of the last line goes on.
+pub fn behind_the_end()
+    ensures replied { (stage_at run_of_none lines_past_end 2).replied ≡ 0x90 }
+    ensures last { last_line_time lines_past_end 2 ≡ 0x99 }
 {}
 
 /// A whole line with a reply's words is a reply. The lines of a report and of a status are none.

@@ -74,9 +74,9 @@ pub(crate) fn add(
         upto: stamp,
     };
     let mut queue = Queue::make(alloc, 0, 1, 200).expect(rt, "memory");
-    queue.push_all(alloc, &batch).expect(rt, "room");
+    queue.push_all(&batch).expect(rt, "room");
     assert!(rt; formed.count() < 32 && queue.free().records <= 1);
-    queue.pop_upto(alloc, stamp, formed).expect(rt, "memory");
+    queue.pop_upto(stamp, formed);
 }
 
 /// Whether a row is that of an entry.

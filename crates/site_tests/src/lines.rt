@@ -126,6 +126,7 @@ fn assert_stop(rt: &impl Abort, alloc: Global, stop: Stop, status: u8, line: &[u
 fn stops_say_their_last_line(rt: HostRuntime) {
     let alloc = rt.alloc();
     assert_stop(&rt, alloc, Stop::NoMemory, 1, b"STATUS 1\n");
+    assert_stop(&rt, alloc, Stop::BadLine(100_001), 4, b"STATUS 4 100001\n");
     assert_stop(&rt, alloc, Stop::Spent, 24, b"STATUS 24\n");
     let control = Stop::Damaged(Device::Control, 1023);
     assert_stop(&rt, alloc, control, 12, b"STATUS 12 CONTROL 1023\n");

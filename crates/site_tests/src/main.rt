@@ -21,6 +21,8 @@ mod journal_vectors;
 #[cfg(test)]
 mod lines;
 #[cfg(test)]
+mod next_lines;
+#[cfg(test)]
 mod pair_vectors;
 #[cfg(test)]
 mod site_vectors;

@@ -10,7 +10,7 @@ ghost use Rattle.pair_table.specs.declared.row.PairState.TheVariants.{Pending, D
 ghost use Rattle.pair_table.specs.declared.row.SuspendCause.TheVariants.{Command as ByCommand, Device};
 ghost use Rattle.pair_table.specs.Commands.{answer, rows_after};
 ghost use Rattle.pair_table.specs.Rows.{row_spelling, row_at};
-ghost use Rattle.site_tests.specs.PairVectors.{abc, before_start, ended_pairs, first_row, first_bytes, started_with, worked_names};
+ghost use Rattle.site_tests.specs.PairVectors.{abc, before_start, ended_table, first_row, first_bytes, started_with, worked_names};
 
 /// The row's spelling.
 pub fn spelled_row()
@@ -42,7 +42,7 @@ pub fn refusals()
     ensures not_paired { answer worked_names (started_with (first_row Duplex ∷ [])) abc (Suspend (One (codes "PRIM02") (codes "SEC002"))) ≡ Err NotPaired }
     ensures name { answer worked_names (started_with []) (codes "XYZ") Query ≡ Err NoSession }
     ensures end { answer worked_names (started_with []) abc End ≡ Ok EndedSession }
-    ensures after_end { answer worked_names ended_pairs abc Query ≡ Err Ended }
+    ensures after_end { answer worked_names ended_table abc Query ≡ Err Ended }
     ensures broken { answer (record worked_names { broken = 0 ∷ [] }) (started_with []) abc (AddPair (codes "PRIM01") (codes "NOSEC")) ≡ Err (ControlBroken 0) }
 {}
 

@@ -56,7 +56,7 @@ fn put_site<P: Plant>(rt: &impl Abort, alloc: Global, plant: &mut P, table: &Pai
 {
     assert!(rt; plant.length(Device::State) >= 16_384);
     assert!(rt; table.are_devices_below(plant.volumes()));
-    let stated = state_set::put(alloc, plant, 1, Level::Session, table);
+    let stated = state_set::put(plant, 1, Level::Session, table);
     assert_same(rt, &stated, &Ok(()), &"the state");
     assert!(rt; put(plant, Device::Control, 512, &MARK));
 }

@@ -1,5 +1,5 @@
 -- The state device: two slots, each one half of it. Each begins with the level and the rows of a session.
-use Rattle.std.specs.Prelude.{◌≡◌, ◌≢◌, ℕ, zero, suc, ◌+◌, ◌*◌, ◌≤◌, ◌==◌, ◌&&◌, List, [], ◌∷◌, ◌++◌, length, take, drop, Bool, true, Option, Some, None, Result, ok_or, nat_le, if◌then◌else◌, slice_index, slice_range, bytes_eq, codes}
+use Rattle.std.specs.Prelude.{◌≡◌, ◌≢◌, ℕ, zero, suc, ◌+◌, ◌*◌, ◌≤◌, ◌==◌, ◌&&◌, List, [], ◌∷◌, ◌++◌, length, take, drop, Bool, true, false, Option, Some, None, Result, ok_or, nat_le, if◌then◌else◌, slice_index, slice_range, bytes_eq, codes}
 use Rattle.state_set.specs.declared.lengths.TheConstants.{HEAD, SLOT}
 use Rattle.pair_table.specs.declared.limits.TheConstants.{ROW_LENGTH}
 use Rattle.std.specs.List.{flat_map}
@@ -105,7 +105,7 @@ pub record OneSlot (slot n : ℕ) (old new : List ℕ) : Type 0 where
 
 -- the table of a session that is started
 abbrev pub started_table : (session : List ℕ) → List PairRow → Table
-started_table session rows = record { session = session; is_started = true; rows = rows }
+started_table session rows = record { session = session; is_started = true; is_ended = false; rows = rows }
 
 -- the level and the table of what a slot holds
 abbrev pub with_table : (session : List ℕ) → Stored → Level × Table

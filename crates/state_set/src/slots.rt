@@ -31,7 +31,6 @@ fn slot_place(slot: u8) -> u64
 
 /// Writes a session's level and rows into a slot, and syncs them. It takes no memory, and answers no error but Fault.
 pub fn put<P: Plant>(
-    _alloc: Global,
     plant: &mut P,
     slot: u8,
     level: Level,

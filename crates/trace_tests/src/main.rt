@@ -1,4 +1,5 @@
-//! Tests of what no scenario of the program shows: texts, sources, images and their faults, rows, headers, writers, and what is handed over.
+//! Tests of what no scenario of the program shows: texts, sources, images and their faults, rows, headers, writers,
+//! what is handed over, reports and replies.
 #![tactic(auto)]
 
 #[cfg(test)]
@@ -7,6 +8,8 @@ mod fixtures;
 mod handovers;
 #[cfg(test)]
 mod pairs;
+#[cfg(test)]
+mod reports;
 #[cfg(test)]
 mod sources;
 #[cfg(test)]

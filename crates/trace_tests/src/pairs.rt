@@ -6,13 +6,13 @@ use std::alloc::Global;
 use std::process::Abort;
 use tod_stamp::{Session, Stamp};
 
-fn table(rt: &impl Abort, alloc: Global) -> PairTable {
+pub(crate) fn table(rt: &impl Abort, alloc: Global) -> PairTable {
     let session = Session::read(b"ABC").expect(rt, "a name");
     PairTable::make(alloc, session).expect(rt, "memory")
 }
 
 /// A pending pair of the device, whose names, control and volume come from the device's number.
-fn row_on(rt: &impl Abort, device: u16) -> PairRow {
+pub(crate) fn row_on(rt: &impl Abort, device: u16) -> PairRow {
     assert!(rt; device < 100);
     let (tens, ones) = ((device / 10) as u8, (device % 10) as u8);
     PairRow {
@@ -27,7 +27,7 @@ fn row_on(rt: &impl Abort, device: u16) -> PairRow {
 }
 
 /// Puts a row that may be put.
-fn put(rt: &impl Abort, alloc: Global, table: &mut PairTable, row: PairRow) {
+pub(crate) fn put(rt: &impl Abort, alloc: Global, table: &mut PairTable, row: PairRow) {
     assert!(rt; table.may_put(&row));
     table.put_row(alloc, row).expect(rt, "memory");
 }

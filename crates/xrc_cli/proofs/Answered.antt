@@ -8,7 +8,7 @@ use Rattle.consistency.specs.Keeping.{Keeps}
 use Rattle.consistency.proofs.Keeping.{keeps_begins}
 use Rattle.script_lines.specs.Grammars.{line_grammar}
 use Rattle.xrc_status.specs.declared.stop.Stop.{Stop}
-use Rattle.xrc_status.specs.declared.stop.Stop.TheVariants.{NoMemory, BadWords, ConsoleFault, JournalFault, ControlFault, StateFault, BadHeader, HeaderFault, NoSession, OtherSession, Damaged, VolumeFault, TooSmall, JournalEnd, BadSite, NotBuilt, EarlyBreak, EarlyVolume, Spent}
+use Rattle.xrc_status.specs.declared.stop.Stop.TheVariants.{NoMemory, BadWords, ConsoleFault, BadLine, JournalFault, ControlFault, StateFault, BadHeader, HeaderFault, NoSession, OtherSession, Damaged, VolumeFault, TooSmall, JournalEnd, BadSite, NotBuilt, EarlyBreak, EarlyVolume, Spent}
 use Rattle.one_pair_session.specs.Expected.{AnswersInPart, AreAnswered, DueLine, IsAsked, IsUnexpected, KeepsExpected, lines_before}
 use Rattle.one_pair_session.specs.Expected.AreAnswered.{Nothing, AStart, APair, AnEnd}
 use Rattle.one_pair_session.specs.Expected.DueLine.{DueStart, DuePair, DueEnd}
@@ -58,6 +58,7 @@ module _ (run : Run) (t : Trace) (first now : PlantState) where
   stop_answered breaks full NoMemory (inl so) = inr (expected_answered so)
   stop_answered breaks full NoMemory (inr so) = inr (record { lines = []; text = []; are = Nothing refl; keeps = so.keeps })
   stop_answered breaks full BadWords so = absurd so
+  stop_answered breaks full (BadLine n) so = absurd so
   stop_answered breaks full (BadHeader trace place) so = absurd so
   stop_answered breaks full (HeaderFault trace) so = absurd so
   stop_answered breaks full NoSession so = absurd so
@@ -80,6 +81,7 @@ module _ (run : Run) (t : Trace) (first now : PlantState) where
   work_expected breaks full Spent in_work so = absurd so
   work_expected breaks full NoMemory in_work so = absurd cc
   work_expected breaks full BadWords in_work so = absurd so
+  work_expected breaks full (BadLine n) in_work so = absurd so
   work_expected breaks full (BadHeader trace place) in_work so = absurd so
   work_expected breaks full (HeaderFault trace) in_work so = absurd so
   work_expected breaks full NoSession in_work so = absurd so

@@ -15,7 +15,7 @@ use Rattle.consistency.proofs.Keeping.{keeps_says_status}
 use Rattle.script_lines.specs.Grammars.{line_grammar}
 use Rattle.epoch.specs.Frames.{DiffersInTracks, HoldsAsBefore, KeepsOthers}
 use Rattle.xrc_status.specs.declared.stop.Stop.{Stop}
-use Rattle.xrc_status.specs.declared.stop.Stop.TheVariants.{NoMemory, BadWords, ConsoleFault, JournalFault, ControlFault, StateFault, BadHeader, HeaderFault, NoSession, OtherSession, Damaged, VolumeFault, TooSmall, JournalEnd, BadSite, NotBuilt, EarlyBreak, EarlyVolume, Spent}
+use Rattle.xrc_status.specs.declared.stop.Stop.TheVariants.{NoMemory, BadWords, ConsoleFault, BadLine, JournalFault, ControlFault, StateFault, BadHeader, HeaderFault, NoSession, OtherSession, Damaged, VolumeFault, TooSmall, JournalEnd, BadSite, NotBuilt, EarlyBreak, EarlyVolume, Spent}
 use Rattle.xrc_status.specs.Saying.{SaysLast}
 use Rattle.xrc_status.specs.Stops.{last_line}
 use Rattle.one_pair_session.specs.Leaving.{LeavesOthers}
@@ -52,6 +52,7 @@ module _ (first mid new : PlantState) (faults : (d : Device) â†’ new.faults d â‰
   cause_still Spent same cause = absurd cause
   cause_still NoMemory same cause = tt
   cause_still BadWords same cause = absurd cause
+  cause_still (BadLine n) same cause = absurd cause
   cause_still (BadHeader trace place) same cause = absurd cause
   cause_still (HeaderFault trace) same cause = absurd cause
   cause_still NoSession same cause = absurd cause

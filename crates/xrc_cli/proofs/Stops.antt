@@ -4,7 +4,7 @@ use Rattle.crash_plant.specs.declared.device.Device.{Device}
 use Rattle.crash_plant.specs.Moments.{PlantState}
 use Rattle.pair_course.specs.Course.{tells_a_session}
 use Rattle.xrc_status.specs.declared.stop.Stop.{Stop}
-use Rattle.xrc_status.specs.declared.stop.Stop.TheVariants.{NoMemory, BadWords, ConsoleFault, JournalFault, ControlFault, StateFault, BadHeader, HeaderFault, NoSession, OtherSession, Damaged, VolumeFault, TooSmall, JournalEnd, BadSite, NotBuilt, EarlyBreak, EarlyVolume, Spent}
+use Rattle.xrc_status.specs.declared.stop.Stop.TheVariants.{NoMemory, BadWords, ConsoleFault, BadLine, JournalFault, ControlFault, StateFault, BadHeader, HeaderFault, NoSession, OtherSession, Damaged, VolumeFault, TooSmall, JournalEnd, BadSite, NotBuilt, EarlyBreak, EarlyVolume, Spent}
 use Rattle.xrc_status.specs.Stops.{status_of}
 use Rattle.one_pair_session.specs.Runs.{IsEarly, IsOfSite}
 use Rattle.one_pair_session.specs.Stopping.{HasStopCause}
@@ -37,6 +37,7 @@ only_is : (stop other : Stop) → only (status_of stop) ≡ Some other → stop 
 only_is NoMemory other is = cc
 only_is BadWords other is = absurd cc
 only_is ConsoleFault other is = cc
+only_is (BadLine n) other is = absurd cc
 only_is (JournalFault j) other is = absurd cc
 only_is ControlFault other is = absurd cc
 only_is StateFault other is = absurd cc
@@ -113,6 +114,7 @@ module _ (old now : PlantState) where
   late_known NoMemory cause = refl
   late_known BadWords cause = absurd cause
   late_known ConsoleFault cause = refl
+  late_known (BadLine n) cause = absurd cause
   late_known (JournalFault j) cause = refl
   late_known ControlFault cause = refl
   late_known StateFault cause = refl
@@ -134,6 +136,7 @@ module _ (old now : PlantState) where
   late_not_early NoMemory cause = λ is. cc
   late_not_early BadWords cause = absurd cause
   late_not_early ConsoleFault cause = λ is. cc
+  late_not_early (BadLine n) cause = absurd cause
   late_not_early (JournalFault j) cause = λ is. cc
   late_not_early ControlFault cause = λ is. cc
   late_not_early StateFault cause = λ is. cc
@@ -155,6 +158,7 @@ module _ (old now : PlantState) where
   late_tells NoMemory cause = refl
   late_tells BadWords cause = refl
   late_tells ConsoleFault cause = refl
+  late_tells (BadLine n) cause = refl
   late_tells (JournalFault j) cause = refl
   late_tells ControlFault cause = refl
   late_tells StateFault cause = refl

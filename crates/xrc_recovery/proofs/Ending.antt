@@ -4,7 +4,6 @@ use Rattle.xrc_edge.specs.Causes.{Rose}
 use Rattle.crash_plant.specs.declared.device.Device.{Device}
 use Rattle.crash_plant.specs.declared.device.Device.TheVariants.{Control, Volume}
 use Rattle.crash_plant.specs.Moments.{PlantState, on}
-use Rattle.crash_plant.specs.Calls.{NoneRose}
 use Rattle.crash_plant.specs.Choices.{AllFollow}
 use Rattle.pair_table.specs.declared.row.PairRow.{PairRow}
 use Rattle.site_means.specs.declared.means.Means.{Means}
@@ -17,7 +16,7 @@ use Rattle.xrecover.specs.declared.recover_error.RecoverError.TheVariants.{Site}
 use Rattle.xrecover.specs.Answers.{IsRecoverable, IsGoodOrCalledFor}
 use Rattle.xrecover.specs.Answers as recovery
 use Rattle.xrecover.specs.Pairs.{AreFaulty}
-use Rattle.xrecover.specs.Redone.{Recovers, Redone, meant_rows}
+use Rattle.xrecover.specs.Redone.{Redone, meant_rows}
 use Rattle.xrecover.specs.Sees.{IsSettled, SeesSame}
 use Rattle.xrecover.specs.Works.{Nothing, Works}
 use Rattle.xrecover.specs.Labels.{AreNamed, LabelsLast}
@@ -26,9 +25,9 @@ use Rattle.xrecover.proofs.Labels.{labels_read, named_same}
 use Rattle.xrecover.proofs.Seen.{sees_moments}
 use Rattle.xrc_status.specs.Saying.{SaysFront, SaysWhole}
 use Rattle.xrc_status.specs.declared.stop.Stop.{Stop}
-use Rattle.xrc_status.specs.declared.stop.Stop.TheVariants.{BadSite, ConsoleFault, NoMemory, TooSmall, VolumeFault}
-use Rattle.xrc_recovery.specs.Stops.{CallsFor, HasLines, HasRisen, StopsEarly, IsReady, IsSite, stop_of}
-use Rattle.xrc_recovery.specs.Reports.{Changes, RedoesPairs, Reports, ReportsAll}
+use Rattle.xrc_status.specs.declared.stop.Stop.TheVariants.{BadSite, ConsoleFault, VolumeFault}
+use Rattle.xrc_recovery.specs.Stops.{CallsFor, HasLines, HasRisen, StopsEarly, IsSite, stop_of}
+use Rattle.xrc_recovery.specs.Reports.{RedoesPairs, Reports, ReportsAll}
 use Rattle.xrc_recovery.specs.Recoveries.{RecoversMeant, RecoversSession}
 use Rattle.xrc_recovery.specs.Texts.{recovered_text}
 use Rattle.xrc_recovery.proofs.Changing.{changes_of, changes_then, done_before, faulty_then, follow_then, has_failure, labels_then, named_console, nothing_here, redone_then, says_after, works_here}

@@ -15,7 +15,7 @@ use Rattle.xrecover.specs.Sees.{SeesSame}
 use Rattle.xrecover.specs.Works.{Nothing, Works}
 use Rattle.xrecover.proofs.Works.{rose_later}
 use Rattle.xrc_status.specs.declared.stop.Stop.{Stop}
-use Rattle.xrc_status.specs.declared.stop.Stop.TheVariants.{NoMemory, BadWords, ConsoleFault, JournalFault, ControlFault, StateFault, BadHeader, HeaderFault, NoSession, OtherSession, Damaged, VolumeFault, TooSmall, JournalEnd, BadSite, NotBuilt, EarlyBreak, EarlyVolume, Spent}
+use Rattle.xrc_status.specs.declared.stop.Stop.TheVariants.{NoMemory, BadWords, ConsoleFault, BadLine, JournalFault, ControlFault, StateFault, BadHeader, HeaderFault, NoSession, OtherSession, Damaged, VolumeFault, TooSmall, JournalEnd, BadSite, NotBuilt, EarlyBreak, EarlyVolume, Spent}
 use Rattle.xrc_status.specs.Saying.{SaidWhole, SaysLast}
 use Rattle.xrc_status.specs.Stops.{last_line, status_of}
 use Rattle.xrc_recovery.specs.Stops.{HasRisen, StopsEarly}
@@ -31,6 +31,7 @@ pub is_known : (a b : PlantState) (stop : Stop) → HasRisen a b stop → IsTrue
 is_known a b NoMemory risen = refl
 is_known a b BadWords risen = absurd risen
 is_known a b ConsoleFault risen = refl
+is_known a b (BadLine n) risen = absurd risen
 is_known a b (JournalFault j) risen = refl
 is_known a b ControlFault risen = refl
 is_known a b StateFault risen = refl
@@ -52,6 +53,7 @@ pub not_done : (stop : Stop) → status_of stop ≢ 0
 not_done NoMemory = λ is. omega (arith, is)
 not_done BadWords = λ is. omega (arith, is)
 not_done ConsoleFault = λ is. omega (arith, is)
+not_done (BadLine n) = λ is. omega (arith, is)
 not_done (JournalFault j) = λ is. omega (arith, is)
 not_done ControlFault = λ is. omega (arith, is)
 not_done StateFault = λ is. omega (arith, is)
@@ -73,6 +75,7 @@ pub is_console : (stop : Stop) → status_of stop ≡ 3 → stop ≡ ConsoleFaul
 is_console NoMemory is = absurd (omega (arith, is))
 is_console BadWords is = absurd (omega (arith, is))
 is_console ConsoleFault is = refl
+is_console (BadLine n) is = absurd (omega (arith, is))
 is_console (JournalFault j) is = absurd (omega (arith, is))
 is_console ControlFault is = absurd (omega (arith, is))
 is_console StateFault is = absurd (omega (arith, is))
@@ -94,6 +97,7 @@ pub is_volume : (stop : Stop) → status_of stop ≡ 13 → stop ≡ VolumeFault
 is_volume NoMemory is = absurd (omega (arith, is))
 is_volume BadWords is = absurd (omega (arith, is))
 is_volume ConsoleFault is = absurd (omega (arith, is))
+is_volume (BadLine n) is = absurd (omega (arith, is))
 is_volume (JournalFault j) is = absurd (omega (arith, is))
 is_volume ControlFault is = absurd (omega (arith, is))
 is_volume StateFault is = absurd (omega (arith, is))
@@ -115,6 +119,7 @@ pub is_site : (stop : Stop) → status_of stop ≡ 16 → stop ≡ BadSite
 is_site NoMemory is = absurd (omega (arith, is))
 is_site BadWords is = absurd (omega (arith, is))
 is_site ConsoleFault is = absurd (omega (arith, is))
+is_site (BadLine n) is = absurd (omega (arith, is))
 is_site (JournalFault j) is = absurd (omega (arith, is))
 is_site ControlFault is = absurd (omega (arith, is))
 is_site StateFault is = absurd (omega (arith, is))
@@ -137,6 +142,7 @@ pub is_early_stop : (stop : Stop) → status_of stop ≢ 3 → status_of stop �
 is_early_stop NoMemory three five thirteen = tt
 is_early_stop BadWords three five thirteen = tt
 is_early_stop ConsoleFault three five thirteen = absurd (three refl)
+is_early_stop (BadLine n) three five thirteen = tt
 is_early_stop (JournalFault j) three five thirteen = absurd (five refl)
 is_early_stop ControlFault three five thirteen = tt
 is_early_stop StateFault three five thirteen = tt
@@ -172,6 +178,7 @@ module _ (a b c : PlantState) (faults : (d : Device) → c.faults d ≡ b.faults
   risen_still NoMemory risen = tt
   risen_still BadWords risen = absurd risen
   risen_still ConsoleFault risen = rose_still a.console_faults b.console_faults c.console_faults first later risen
+  risen_still (BadLine n) risen = absurd risen
   risen_still (JournalFault j) risen = device_still (Journal j) risen
   risen_still ControlFault risen = device_still Control risen
   risen_still StateFault risen = device_still State risen

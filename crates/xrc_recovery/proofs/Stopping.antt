@@ -17,7 +17,7 @@ use Rattle.xrecover.specs.Answers.{EndsLate, IsOther, IsRecoverable, IsTooSmall,
 use Rattle.xrecover.specs.Pairs.{first_small}
 use Rattle.xrecover.specs.Redone.{meant_rows, rows_of}
 use Rattle.xrc_status.specs.declared.stop.Stop.{Stop}
-use Rattle.xrc_status.specs.declared.stop.Stop.TheVariants.{NoMemory, BadWords, ConsoleFault, JournalFault, ControlFault, StateFault, BadHeader, HeaderFault, NoSession, OtherSession, Damaged, VolumeFault, TooSmall, JournalEnd, BadSite, NotBuilt, EarlyBreak, EarlyVolume, Spent}
+use Rattle.xrc_status.specs.declared.stop.Stop.TheVariants.{NoMemory, BadWords, ConsoleFault, BadLine, JournalFault, ControlFault, StateFault, BadHeader, HeaderFault, NoSession, OtherSession, Damaged, VolumeFault, TooSmall, JournalEnd, BadSite, NotBuilt, EarlyBreak, EarlyVolume, Spent}
 use Rattle.xrc_recovery.specs.Stops.{CallsFor, HasRisen, StopsEarly, IsReady, stop_of}
 
 -- An error's stop is called for where what reads give calls for the error.
@@ -116,6 +116,7 @@ module _ (old new : PlantState) (session : List ℕ) (ready : IsReady old sessio
   only_memory NoMemory site calls risen = refl
   only_memory BadWords site calls risen = absurd calls
   only_memory ConsoleFault site calls risen = absurd (none.console risen)
+  only_memory (BadLine n) site calls risen = absurd calls
   only_memory (JournalFault j) site calls risen = absurd (none.devices (Journal j) risen)
   only_memory ControlFault site calls risen = absurd (none.devices Control risen)
   only_memory StateFault site calls risen = absurd (none.devices State risen)

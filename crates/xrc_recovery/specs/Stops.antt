@@ -14,7 +14,7 @@ use Rattle.xrecover.specs.declared.recover_error.RecoverError.{RecoverError}
 use Rattle.xrecover.specs.declared.recover_error.RecoverError.TheVariants.{Site, Other}
 use Rattle.xrecover.specs.Answers.{Behind, IsOf, IsOther, IsRecoverable, IsTooSmall}
 use Rattle.xrc_status.specs.declared.stop.Stop.{Stop}
-use Rattle.xrc_status.specs.declared.stop.Stop.TheVariants.{NoMemory, BadWords, ConsoleFault, JournalFault, ControlFault, StateFault, BadHeader, HeaderFault, NoSession, OtherSession, Damaged, VolumeFault, TooSmall, JournalEnd, BadSite, NotBuilt, EarlyBreak, EarlyVolume, Spent}
+use Rattle.xrc_status.specs.declared.stop.Stop.TheVariants.{NoMemory, BadWords, ConsoleFault, BadLine, JournalFault, ControlFault, StateFault, BadHeader, HeaderFault, NoSession, OtherSession, Damaged, VolumeFault, TooSmall, JournalEnd, BadSite, NotBuilt, EarlyBreak, EarlyVolume, Spent}
 
 -- A site has 2 to 16 journals, and at most 64 volumes.
 pub record IsSite (plant : PlantState) : Type 0 where
@@ -64,6 +64,7 @@ CallsFor plant session NoMemory = IsOf plant session
 CallsFor plant session VolumeFault = IsOf plant session
 CallsFor plant session ConsoleFault = IsOf plant session
 CallsFor plant session BadWords = ⊥
+CallsFor plant session (BadLine n) = ⊥
 CallsFor plant session (BadHeader trace place) = ⊥
 CallsFor plant session (HeaderFault trace) = ⊥
 CallsFor plant session JournalEnd = ⊥
@@ -90,6 +91,7 @@ HasRisen old new (Damaged d place) = Unit {0}
 HasRisen old new (TooSmall d needed) = Unit {0}
 HasRisen old new BadSite = Unit {0}
 HasRisen old new BadWords = ⊥
+HasRisen old new (BadLine n) = ⊥
 HasRisen old new (BadHeader trace place) = ⊥
 HasRisen old new (HeaderFault trace) = ⊥
 HasRisen old new JournalEnd = ⊥

@@ -3,12 +3,13 @@ use Rattle.std.specs.Prelude.{ℕ, List, [], ◌∷◌, ◌++◌, codes, decimal
 use Rattle.crash_plant.specs.declared.device.Device.{Device}
 use Rattle.crash_plant.specs.declared.device.Device.TheVariants.{Control, State, Journal, Volume}
 use Rattle.xrc_status.specs.declared.stop.Stop.{Stop}
-use Rattle.xrc_status.specs.declared.stop.Stop.TheVariants.{NoMemory, BadWords, ConsoleFault, JournalFault, ControlFault, StateFault, BadHeader, HeaderFault, NoSession, OtherSession, Damaged, VolumeFault, TooSmall, JournalEnd, BadSite, NotBuilt, EarlyBreak, EarlyVolume, Spent}
+use Rattle.xrc_status.specs.declared.stop.Stop.TheVariants.{NoMemory, BadWords, ConsoleFault, BadLine, JournalFault, ControlFault, StateFault, BadHeader, HeaderFault, NoSession, OtherSession, Damaged, VolumeFault, TooSmall, JournalEnd, BadSite, NotBuilt, EarlyBreak, EarlyVolume, Spent}
 
 abbrev pub status_of : Stop → ℕ
 status_of NoMemory = 1
 status_of BadWords = 2
 status_of ConsoleFault = 3
+status_of (BadLine n) = 4
 status_of (JournalFault j) = 5
 status_of ControlFault = 6
 status_of StateFault = 7
@@ -37,9 +38,10 @@ device_text State = codes " STATE"
 device_text (Journal j) = codes " JOURNAL" ++ number_text j
 device_text (Volume v) = codes " VOLUME" ++ number_text v
 
--- What the line says behind the status: a journal; a trace, and a place of it; a trace; a session; a device and a place of it; a
--- device and how many bytes it needs.
+-- What the line says behind the status: a line of the script; a journal; a trace, and a place of it; a trace; a session; a device and
+-- a place of it; a device and how many bytes it needs.
 abbrev pub details : Stop → List ℕ
+details (BadLine n) = number_text n
 details (JournalFault j) = number_text j
 details (BadHeader trace place) = number_text trace ++ number_text place
 details (HeaderFault trace) = number_text trace

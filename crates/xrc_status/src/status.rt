@@ -25,6 +25,7 @@ fn status_of(stop: &Stop) -> u8
         Stop::NoMemory => 1,
         Stop::BadWords => 2,
         Stop::ConsoleFault => 3,
+        Stop::BadLine(_) => 4,
         Stop::JournalFault(_) => 5,
         Stop::ControlFault => 6,
         Stop::StateFault => 7,
@@ -91,6 +92,7 @@ fn add_details(line: &mut Line, stop: &Stop)
     ensures short { length line.new ≤ length line.old + 90 }
 {
     match stop {
+        Stop::BadLine(number) => line.add_number(u64::from(*number)),
         Stop::JournalFault(number) => line.add_number(u64::from(*number)),
         Stop::HeaderFault(trace) => line.add_number(u64::from(*trace)),
         Stop::BadHeader(trace, place) => {

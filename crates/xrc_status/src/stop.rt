@@ -15,6 +15,8 @@ pub enum Stop {
     BadWords,
     /// A call on the console failed.
     ConsoleFault,
+    /// The line of this number, counted from 1, is no line of a script.
+    BadLine(u32),
     /// A call on this journal failed.
     JournalFault(u16),
     /// A call on the control failed.

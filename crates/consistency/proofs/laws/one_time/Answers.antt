@@ -6,7 +6,7 @@ use Rattle.consistency.specs.Steps.{TimedCommand}
 use Rattle.consistency.proofs.laws.one_time.Goals as goal
 
 -- The time is at most that of a line that was heard, where the session goes on.
-not_later : (s : Stage) (time : ℕ) (line : TimedCommand) (next : Option TimedCommand) (is_ended : Bool) → next ≡ Some line → is_ended ≡ false → IsTime (record s { next = next; pairs = record s.pairs { is_ended = is_ended } }) time → time ≤ line.time
+not_later : (s : Stage) (time : ℕ) (line : TimedCommand) (next : Option TimedCommand) (is_ended : Bool) → next ≡ Some line → is_ended ≡ false → IsTime (record s { next = next; table = record s.table { is_ended = is_ended } }) time → time ≤ line.time
 not_later s time line None is_ended heard still t = absurd cc
 not_later s time line (Some next) true heard still t = absurd cc
 not_later s time line (Some next) false heard still t = let same : next ≡ line = cc in subst (λ (l : TimedCommand). time ≤ l.time) same t.1
@@ -15,5 +15,5 @@ pub returns : goal.returns
 returns c = record {
   one = λ run s shape images a b x y. sym x.at ∙ ap (λ (o : Option Means). (unwrap_or o x.means).time.0) (sym x.defined ∙ y.defined) ∙ y.at;
   not_before = λ run s shape images time x. x.in_time.0;
-  not_past = λ run s shape images time line heard still x. not_later s time line s.next s.pairs.is_ended heard still x.in_time;
+  not_past = λ run s shape images time line heard still x. not_later s time line s.next s.table.is_ended heard still x.in_time;
 }

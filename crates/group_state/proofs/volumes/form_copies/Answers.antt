@@ -1,6 +1,7 @@
 use Rattle.std.proofs.Common.{◌≡◌, ◌<◌, List, [], length, get_or, take, Bool, true, cond, ap, sym, ◌∙◌, arith}
 use Rattle.std.proofs.lemmas.Bool.{and_parts}
 use Rattle.std.proofs.lemmas.List.{get_or_default}
+use Rattle.ckd_track.specs.declared.write.Kind.TheVariants.{Whole}
 use Rattle.pending_queue.specs.declared.head.EntryHead.{EntryHead}
 use Rattle.pending_queue.specs.Entries.{WaitingEntry, copies, due, is_due}
 use Rattle.group_state.specs.declared.volume.Volume.{Volume}
@@ -12,11 +13,11 @@ use Rattle.group_state.proofs.volumes.form_copies.Goals.{then-is_due_copy, else-
 
 -- what a look-up past the end would give
 none : WaitingEntry
-none = record { head = record { control = 0; volume = 0; track = 0; stamp = record { 0 = 0 }; whole = true }; form = []; is_copy = true }
+none = record { head = record { control = 0; volume = 0; track = 0; stamp = record { 0 = 0 }; whole = true }; kind = Whole []; form = []; is_copy = true }
 
 pub form_copy-requires : goal.form_copy-requires
 form_copy-requires c =
-    let waiting = c.args.queue.now.waiting in
+    let waiting = c.args.queue.now.state.waiting in
     let k = c.loop-place.place in
     let e = get_or waiting k none in
     let lt : k < length waiting = omega arith in
@@ -28,7 +29,7 @@ form_copy-requires c =
 
 pub loop-place-preserved : goal.loop-place-preserved
 loop-place-preserved c =
-    let waiting = c.args.queue.now.waiting in
+    let waiting = c.args.queue.now.state.waiting in
     let k = c.loop-place.place in
     let e = get_or waiting k none in
     let lt : k < length waiting = omega arith in

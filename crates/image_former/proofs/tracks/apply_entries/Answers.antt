@@ -5,6 +5,13 @@ use Rattle.image_former.proofs.Changing.{Applying, apply_first, apply_more, appl
 use Rattle.image_former.proofs.tracks.apply_entries.Goals as goal
 use Rattle.image_former.proofs.tracks.apply_entries.Goals.{then-is_same_track, else-is_same_track}
 
+pub apply_entry-requires : goal.apply_entry-requires
+apply_entry-requires c =
+    let entries = c.args.formed.now.entries in
+    let t = entry_there entries c.args.place c.args.head c.requires.head in
+    let form = c.entry.result.now in
+    record { form = is_form _ t.entry form t.there c.entry.ensures.write (form_there entries c.args.place t.entry form t.there c.entry.ensures.form) }
+
 pub loop-later-init : goal.loop-later-init
 loop-later-init c =
     let entries = c.args.formed.now.entries in

@@ -12,7 +12,7 @@ use Rattle.one_pair_session.specs.Leaving.LeavesOthers.{Unpaired}
 use Rattle.one_pair_session.specs.Runs.{HasBrokenBy, StopsEarlyOr}
 use Rattle.one_pair_session.specs.Stopping.{BreaksAt}
 use Rattle.one_pair_session.proofs.Begun.{err_of}
-use Rattle.one_pair_session.proofs.EarlyStops.{IsOfOpening, err_of_three, late_stops, no_break, opening_stops, was_break}
+use Rattle.one_pair_session.proofs.EarlyStops.{IsOfOpening, err_of_three, late_causes, late_stops, late_untouched, no_break, opening_stops, was_break}
 use Rattle.one_pair_session.proofs.RunStops.{broken_by, run_foresees, stops_so, whole_is}
 use Rattle.one_pair_session.proofs.StopLaws.{if_err}
 use Rattle.one_pair_session.proofs.WholeRuns.{bytes_held, goes_first, same_stop}
@@ -140,6 +140,17 @@ returns-clause-stops g c = λ told run t is.
     let whole = whole_is before now (faults source) (faults last) t opens.0 given.0 is.trace (c.run_lines.ensures.count (λ stopped. cc (ended, stopped)) ∙ counted) given.1 opens.1 in
     so t (subst (λ (x : Trace). HasTaken mid x lane.side lane.primary) (sym whole) opens.4))
     (c.run_lines.ensures.stops told run t goes is.its foresees))
+
+pub returns-clause-causes : goal.returns-clause-causes
+returns-clause-causes g c = late_causes c.run_lines.result (g.P.Plant.state c.args.plant.now) (g.P.Plant.state c.run_lines.new.plant) c.run_lines.ensures.cause
+
+pub returns-clause-untouched : goal.returns-clause-untouched
+returns-clause-untouched g c = late_untouched c.run_lines.result (c.run_lines.new.plant ≡ c.args.plant.now) (g.P.Plant.state c.args.plant.now) (g.P.Plant.state c.run_lines.new.plant) c.run_lines.ensures.cause
+
+pub returns-clause-source_count : goal.returns-clause-source_count
+returns-clause-source_count g c = λ other unbroken.
+    let ok : c.open_trace.result ≡ Ok c.in_ok-opened.opened = search rules in
+    c.run_lines.ensures.count unbroken ∙ c.open_trace.ensures.count (λ fault. cc (ok, fault))
 
 pub returns-clause-header : goal.returns-clause-header
 returns-clause-header g c = λ given place told refused. absurd ((c.in_ok-opened.ensures.header given place told refused).1 refl)

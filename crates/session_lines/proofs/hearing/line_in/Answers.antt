@@ -4,7 +4,8 @@ use Rattle.std.proofs.lemmas.Map.Keys.{le_from_is_le}
 use Rattle.std.proofs.lemmas.Slice.Eq.{bytes_eq-Decides}
 use Rattle.script_lines.specs.Grammars.{line_grammar}
 use Rattle.script_lines.proofs.GrammarLaws.{is_grammar}
-use Rattle.session_lines.proofs.Asked.{is_le_from_le, other_asks, read_asks, unread_asks}
+use Rattle.script_lines.proofs.NextLaws.{is_le_from_le}
+use Rattle.session_lines.proofs.Asked.{other_asks, read_asks, unread_asks}
 use Rattle.session_lines.proofs.hearing.line_in.Goals as goal
 use Rattle.session_lines.proofs.hearing.line_in.Goals.{else-eq-via-then-eq+else-le, else-eq-via-else-eq}
 

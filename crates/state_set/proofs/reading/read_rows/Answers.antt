@@ -7,7 +7,7 @@ use Rattle.state_set.proofs.reading.read_rows.Goals as goal
 
 pub loop-place-init : goal.loop-place-init
 loop-place-init c =
-    let is : c.start.new.self ≡ started_table c.args.session [] = c.start.ensures ∙ ap (λ (t : Table). started_table t.session t.rows) c.in_ok-table.ensures in
+    let is : c.start.new.self ≡ started_table c.args.session [] = c.start.ensures ∙ ap (λ (t : Table). record t { is_started = true }) c.in_ok-table.ensures in
     record {
       table = is ∙ ap (λ (t : Table). started_table c.args.session t.rows) (sym is);
       rules = ap (λ (t : Table). are_rows c.args.volumes t.rows) is;

@@ -7,7 +7,6 @@ use Rattle.primary_ctl.specs.States.{track_of}
 use Rattle.epoch.specs.Following.{at_time}
 use Rattle.epoch.specs.Lanes.{tracks_of}
 use Rattle.epoch.proofs.CopySights.{device_there, on_always, on_both, on_ok}
-use Rattle.epoch.proofs.Frames.{keeps_here}
 use Rattle.epoch.proofs.KeptWaiting.{waiting_fit, waiting_follows, waiting_full, waiting_group, waiting_left, waiting_live, waiting_makes, waiting_moments, waiting_table}
 use Rattle.epoch.proofs.lane.Lane.keep_waiting.Goals as goal
 
@@ -108,9 +107,6 @@ returns-clause-follows g c = λ told t means following.
 
 pub returns-clause-others : goal.returns-clause-others
 returns-clause-others g c = λ told. c.keep_group.ensures.others told c.args.row.now c.requires.rows
-
-pub returns-in_err-pop_upto-clause-others : goal.returns-in_err-pop_upto-clause-others
-returns-in_err-pop_upto-clause-others g c = λ told. let row = c.args.row.now in keeps_here c.args.site.now.at.set row.device (tracks_of row) (g.P.Plant.state c.args.plant.now)
 
 pub returns-clause-journal_end : goal.returns-clause-journal_end
 returns-clause-journal_end g c = λ told end.

@@ -1,13 +1,12 @@
-use Rattle.std.proofs.Common.{rules, ◌≡◌, ◌∙◌, Bool, Ok, filter, ap, subst, sym}
+use Rattle.std.proofs.Common.{rules, ◌≡◌, ◌∙◌, filter, ap, subst, sym}
 use Rattle.pending_queue.specs.Entries.{all_keep_rules, entries_of}
 use Rattle.primary_ctl.specs.States.{PrimaryState}
 use Rattle.site_means.specs.Images.{shape_of}
 use Rattle.epoch.specs.Following.{ShowsPrimary}
 use Rattle.epoch.specs.Lanes.{is_of, tracks_of}
 use Rattle.epoch.specs.Sights.{EachIs}
-use Rattle.epoch.proofs.CopySights.{on_always}
 use Rattle.epoch.proofs.KeptWaiting.{full_same}
-use Rattle.epoch.proofs.Putting.{not_put, run_from_start, run_rises}
+use Rattle.epoch.proofs.Putting.{run_from_start, run_rises}
 use Rattle.epoch.proofs.Rooms.{kinds_keep}
 use Rattle.epoch.proofs.Turns.{feed_put, follows_same}
 use Rattle.epoch.proofs.lane.Lane.put_run.Goals as goal
@@ -31,7 +30,7 @@ put_first-requires-clause-stamps g c =
 pub returns-clause-feed : goal.returns-clause-feed
 returns-clause-feed g c =
     let writes = filter (is_of c.args.row.now.volume) c.args.batch.now.writes in
-    feed_put c.put_first.result c.keep_waiting.new.self c.put_first.new.self (entries_of 0 writes) c.put_first.ensures.others c.put_first.ensures.put c.put_first.ensures.refused c.keep_waiting.ensures.feed
+    feed_put c.keep_waiting.new.self c.put_first.new.self (entries_of 0 writes) c.put_first.ensures.others c.put_first.ensures.put c.keep_waiting.ensures.feed
 
 pub returns-in_err-keep_waiting-clause-moments : goal.returns-in_err-keep_waiting-clause-moments
 returns-in_err-keep_waiting-clause-moments g c = λ told t means follows.
@@ -41,8 +40,7 @@ returns-in_err-keep_waiting-clause-moments g c = λ told t means follows.
     let time = c.args.site.now.time in
     let old = g.P.Plant.state c.args.plant.now in
     let new = g.P.Plant.state c.keep_waiting.new.plant in
-    let full = c.in_ok-put_batch.was ∙ ap (λ (b : Bool). Ok b) c.if-branch.false in
-    let queue = c.put_batch.ensures.same (not_put c.put_batch.result full) in
+    let queue = c.put_batch.ensures.same c.if-put_batch.false in
     let held = c.put_batch.ensures.others.1 in
     let each = c.keep_waiting.ensures.moments told t means (follows_same t means row lane next time old queue held follows) in
     subst (λ (p : PrimaryState). EachIs (ShowsPrimary (shape_of old) t means row time p.time) old new) held each
@@ -55,8 +53,7 @@ returns-clause-moments g c = λ told t means follows.
     let time = c.args.site.now.time in
     let old = g.P.Plant.state c.args.plant.now in
     let new = g.P.Plant.state c.keep_waiting.new.plant in
-    let full = c.in_ok-put_batch.was ∙ ap (λ (b : Bool). Ok b) c.if-branch.false in
-    let queue = c.put_batch.ensures.same (not_put c.put_batch.result full) in
+    let queue = c.put_batch.ensures.same c.if-put_batch.false in
     let held = c.put_batch.ensures.others.1 in
     let each = c.keep_waiting.ensures.moments told t means (follows_same t means row lane next time old queue held follows) in
     subst (λ (p : PrimaryState). EachIs (ShowsPrimary (shape_of old) t means row time p.time) old new) held each
@@ -68,15 +65,13 @@ returns-clause-shows g c = λ told t means follows.
     let next = c.put_batch.new.self in
     let time = c.args.site.now.time in
     let old = g.P.Plant.state c.args.plant.now in
-    let full = c.in_ok-put_batch.was ∙ ap (λ (b : Bool). Ok b) c.if-branch.false in
-    let queue = c.put_batch.ensures.same (not_put c.put_batch.result full) in
+    let queue = c.put_batch.ensures.same c.if-put_batch.false in
     let held = c.put_batch.ensures.others.1 in
     let now = c.in_ok-keep_waiting.ensures.follows told t means (follows_same t means row lane next time old queue held follows) in
-    on_always c.put_first.result _ now.holds
+    now.holds
 
 pub returns-in_err-keep_waiting-clause-journal_end : goal.returns-in_err-keep_waiting-clause-journal_end
 returns-in_err-keep_waiting-clause-journal_end g c = λ told end.
-    let full = c.in_ok-put_batch.was ∙ ap (λ (b : Bool). Ok b) c.if-branch.false in
-    let queue = c.put_batch.ensures.same (not_put c.put_batch.result full) in
-    let same : c.keep_waiting.result ≡ c.from_residual-in_err-keep_waiting.result = search rules in
+    let queue = c.put_batch.ensures.same c.if-put_batch.false in
+    let same : c.keep_waiting.result ≡ c.from_residual.result = search rules in
     full_same c.args.self.now c.put_batch.new.self c.args.site.now.time c.args.site.now.table.rows (g.P.Plant.state c.keep_waiting.new.plant) queue c.put_batch.ensures.others.1 (c.keep_waiting.ensures.journal_end told (same ∙ end))

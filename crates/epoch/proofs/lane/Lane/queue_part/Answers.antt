@@ -49,25 +49,13 @@ push_copy-requires-clause-last c =
     let inv = c.loop-place.invariant in
     queued_last c.args.volume c.args.self.now.time (track_of c.args.self.now.primary c.args.volume) c.args.part.first c.loop-place.place c.loop-place.self.queue.waiting inv.queued c.loop-place.self.time inv.time
 
-pub returns-in_err-push_copy-clause-feed : goal.returns-in_err-push_copy-clause-feed
-returns-in_err-push_copy-clause-feed c =
-    let feed = c.loop-place.invariant.feed in
-    let refused = c.in_err-push_copy.ensures.refused in
-    record {
-      time = feed.time;
-      queue = ap (λ (q : QueueState). q.control) refused ∙ feed.queue;
-      records = ap (λ (q : QueueState). q.records) refused ∙ feed.records;
-      blocks = ap (λ (q : QueueState). q.blocks) refused ∙ feed.blocks;
-      formed = feed.formed;
-    }
-
 pub loop-place-preserved : goal.loop-place-preserved
 loop-place-preserved c =
     let inv = c.loop-place.invariant in
     let first = c.args.self.now in
     let x = c.args.part.first + c.loop-place.place in
-    let pushed = c.in_ok-push_copy.ensures.pushed in
-    let more = c.in_ok-push_copy.ensures.blocks in
+    let pushed = c.push_copy.ensures.pushed in
+    let more = c.push_copy.ensures.blocks in
     let taken = inv.blocks in
     let here = c.read_track.ensures.track ∙ ap (λ (p : PrimaryState). track_of p c.args.volume x) inv.primary in
     record {

@@ -10,11 +10,11 @@ returns-clause-wanted c =
     let r = c.next_wanted.result in
     let items = c.self.inside.volumes.items in
     subst (λ (v : ControlState). IfSome r (λ p. is_wanted p.0 p.1 v.volumes ≡ true)) c.self.view_is
-    (answer_wanted items c.self.invariant.distinct r (c.next_wanted.ensures ∙ ap next_wanted c.as_slice.ensures.value))
+    (answer_wanted items c.self.invariant.sound.distinct r (c.next_wanted.ensures ∙ ap next_wanted c.as_slice.ensures.value))
 
 pub returns-clause-none : goal.returns-clause-none
 returns-clause-none c =
     let r = c.next_wanted.result in
     let items = c.self.inside.volumes.items in
     subst (λ (v : ControlState). (r ≡ None) ↔ ((w x : ℕ) → is_wanted w x v.volumes ≡ false)) c.self.view_is
-    (answer_none items c.self.invariant.distinct r (c.next_wanted.ensures ∙ ap next_wanted c.as_slice.ensures.value))
+    (answer_none items c.self.invariant.sound.distinct r (c.next_wanted.ensures ∙ ap next_wanted c.as_slice.ensures.value))

@@ -1,12 +1,13 @@
-use Rattle.std.proofs.Common.{length, ap, arith}
-use Rattle.group_state.specs.Controls.{ControlState}
-use Rattle.group_state.specs.Groups.{Group}
-use Rattle.group_state.proofs.GroupLaws.{SameQueue, kept_change}
+use Rattle.std.proofs.Common.{◌≡◌, sym, subst}
+use Rattle.group_state.specs.Controls.{ControlState, broke}
+use Rattle.group_state.specs.Groups.{control_at}
+use Rattle.group_state.specs.Sound.{MayTell}
+use Rattle.group_state.proofs.Kept.{keeps_then, keeps_broke, kept_call}
 use Rattle.group_state.proofs.state.GroupState.broken.Goals as goal
 
 pub invariant_of-self : goal.invariant_of-self
 invariant_of-self c =
+    let s = c.self.inside in
     let old = c.index_mut.result.now in
-    let new = c.broken.new.self in
-    let same : SameQueue new old = record { control = ap (λ (v : ControlState). v.queue.control) c.broken.ensures; records = ap (λ (v : ControlState). v.queue.records) c.broken.ensures } in
-    kept_change c.self.inside.controls.items c.args.control new old c.self.invariant (omega (arith, ap (λ (g : Group). length g.controls) c.self.view_is, c.requires.control)) c.index_mut.ensures.value same
+    kept_call (record { controls = s.controls.items; last = s.last }) c.args.self.now c.args.control c.broken.new.self old c.self.invariant c.self.view_is c.requires.control c.index_mut.ensures.value
+    (λ (is : old ≡ control_at c.args.self.now c.args.control). keeps_then s.last c.broken.new.self (broke c.args.upto c.args.cause old) old c.broken.ensures (keeps_broke s.last c.args.upto c.args.cause old (subst (λ (x : ControlState). MayTell x c.args.upto) (sym is) c.requires.legal)))

@@ -1,12 +1,13 @@
-use Rattle.std.proofs.Common.{length, ap, arith}
-use Rattle.group_state.specs.Controls.{ControlState}
-use Rattle.group_state.specs.Groups.{Group}
-use Rattle.group_state.proofs.GroupLaws.{SameQueue, kept_change}
+use Rattle.std.proofs.Common.{◌≡◌, sym, subst}
+use Rattle.group_state.specs.Controls.{ControlState, raised}
+use Rattle.group_state.specs.Groups.{control_at}
+use Rattle.group_state.specs.Sound.{MayTell}
+use Rattle.group_state.proofs.Kept.{keeps_then, keeps_raised, kept_call}
 use Rattle.group_state.proofs.state.GroupState.raise.Goals as goal
 
 pub invariant_of-self : goal.invariant_of-self
 invariant_of-self c =
+    let s = c.self.inside in
     let old = c.index_mut.result.now in
-    let new = c.raise.new.self in
-    let same : SameQueue new old = record { control = ap (λ (v : ControlState). v.queue.control) c.raise.ensures; records = ap (λ (v : ControlState). v.queue.records) c.raise.ensures } in
-    kept_change c.self.inside.controls.items c.args.control new old c.self.invariant (omega (arith, ap (λ (g : Group). length g.controls) c.self.view_is, c.requires.control)) c.index_mut.ensures.value same
+    kept_call (record { controls = s.controls.items; last = s.last }) c.args.self.now c.args.control c.raise.new.self old c.self.invariant c.self.view_is c.requires.control c.index_mut.ensures.value
+    (λ (is : old ≡ control_at c.args.self.now c.args.control). keeps_then s.last c.raise.new.self (raised c.args.upto old) old c.raise.ensures (keeps_raised s.last c.args.upto old (subst (λ (x : ControlState). MayTell x c.args.upto) (sym is) c.requires.legal)))

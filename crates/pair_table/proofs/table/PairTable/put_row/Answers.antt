@@ -22,4 +22,4 @@ returns-clause-ok c =
     let old = c.self.inside.rows.entries in
     let is = put_is old c.insert.new.self.entries c.args.row c.self.invariant c.in_ok-insert.ensures.entries in
     rw (← c.self.view_is)
-    (ap (λ (t : List PairRow). record { session = c.self.inside.session; is_started = c.self.inside.started; rows = t }) (values_are c.insert.new.self.entries (with_row c.args.row (values_of old)) is))
+    (ap (λ (t : List PairRow). record { session = c.self.inside.session; is_started = c.self.inside.started; is_ended = c.self.inside.ended; rows = t }) (values_are c.insert.new.self.entries (with_row c.args.row (values_of old)) is))

@@ -30,15 +30,20 @@ invariant_of-self c =
     let rows = values_of c.self.inside.rows.entries in
     keeps_map c.match-get_mut.self-inside.rows.entries (with_state c.args.device c.args.state rows) (changed c) (keeps_with_state c.args.device c.args.state rows c.is_suspended-valid.ensures.valid c.self.invariant.rows)
 
--- session and start stay
-kept : (c : Joined-get_mut) → (c.match-get_mut.self-inside.session ≡ c.self.inside.session) × (c.match-get_mut.self-inside.started ≡ c.self.inside.started)
+-- session, start and end stay
+record Kept (old new : Inside) : Type 0 where
+  session : new.session ≡ old.session
+  started : new.started ≡ old.started
+  ended : new.ended ≡ old.ended
+
+kept : (c : Joined-get_mut) → Kept c.self.inside c.match-get_mut.self-inside
 kept c = elim c.match-get_mut.branch [
-  | in-Some w ↦ (ap (λ (t : Inside). t.session) w.self-inside-is, ap (λ (t : Inside). t.started) w.self-inside-is)
-  | in_default w ↦ (ap (λ (t : Inside). t.session) w.self-inside-is, ap (λ (t : Inside). t.started) w.self-inside-is)
+  | in-Some w ↦ record { session = ap (λ (t : Inside). t.session) w.self-inside-is; started = ap (λ (t : Inside). t.started) w.self-inside-is; ended = ap (λ (t : Inside). t.ended) w.self-inside-is }
+  | in_default w ↦ record { session = ap (λ (t : Inside). t.session) w.self-inside-is; started = ap (λ (t : Inside). t.started) w.self-inside-is; ended = ap (λ (t : Inside). t.ended) w.self-inside-is }
 ]
 
 pub returns : goal.returns
 returns c =
     let rows = values_of c.self.inside.rows.entries in
     let values = values_are c.match-get_mut.self-inside.rows.entries (with_state c.args.device c.args.state rows) (changed c) in
-    rw (← c.self.view_is, (kept c).0, (kept c).1, values) refl
+    rw (← c.self.view_is, (kept c).session, (kept c).started, (kept c).ended, values) refl

@@ -1,0 +1,34 @@
+-- Entries that stand in a group, each with a part of one buffer that has its form.
+use Rattle.std.specs.Prelude.{◌≡◌, ℕ, ◌≤◌, ◌<◌, ◌^◌, ◌+◌, ◌*◌, Bool, List, length, map, take, drop}
+use Rattle.std.specs.List.{All}
+use Rattle.ckd_track.specs.Entries.{longest_entry}
+use Rattle.pending_queue.specs.declared.placed.Placed.{Placed}
+use Rattle.pending_queue.specs.Entries.{WaitingEntry, IsOfWrite, head_before, entry_by}
+use Rattle.pending_queue.specs.Groups.{most_of_control}
+
+pub record PlacedState : Type 0 where
+  -- the number of controls that there is room for
+  pub controls : ℕ
+  pub entries : List WaitingEntry
+
+-- the entry whose form a part of the buffer has
+abbrev pub placed_entry : (bytes : List ℕ) → Placed → WaitingEntry
+placed_entry bytes placed = entry_by placed.head placed.effect (take placed.len (drop placed.begin bytes))
+
+abbrev pub placed_entries : (bytes : List ℕ) → List Placed → List WaitingEntry
+placed_entries bytes placed = map (placed_entry bytes) placed
+
+-- An entry stands before another by their heads.
+abbrev pub placed_before : Placed → Placed → Bool
+placed_before a b = head_before a.head b.head
+
+-- What placed entries keep: there is room for the most entries of each control and for their forms, and each has the form of its
+-- write in the part of the buffer that is used.
+pub record KeepsForms (controls capacity : ℕ) (bytes : List ℕ) (used : ℕ) (placed : List Placed) : Type 0 where
+  pub few : controls < 2 ^ 16
+  pub room : most_of_control * controls ≤ capacity
+  pub sized : length bytes ≡ longest_entry * (most_of_control * controls)
+  pub within : length placed ≤ most_of_control * controls
+  pub filled : used ≤ longest_entry * length placed
+  pub inside : All (λ p. p.begin + p.len ≤ used) placed
+  pub written : All IsOfWrite (placed_entries bytes placed)
