@@ -1,6 +1,6 @@
 //! Each benchmark once at a small size, so that its numbers can be compared.
 
-use crate::{apply, plant, read, region, sets, trace};
+use crate::{apply, plant, queue, read, region, sets, trace};
 use anyhow::Result;
 use std::alloc::Global;
 use std::fs::File;
@@ -27,6 +27,7 @@ const BLOCKS: u32 = 20;
 /// What needs no file.
 fn in_memory<R: Print + Eprint + Clock>(rt: &R, alloc: Global) -> Result<()> {
     apply::run(rt, alloc, UPDATES)?;
+    queue::run(rt, alloc, ROUNDS)?;
     region::run(rt, alloc, ROUNDS)?;
     sets::run(rt, alloc, TRACKS, TIMES)
 }

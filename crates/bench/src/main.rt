@@ -6,6 +6,7 @@ mod apply;
 mod check;
 mod measure;
 mod plant;
+mod queue;
 mod read;
 mod region;
 mod sets;
@@ -33,6 +34,7 @@ where
         Asked::Apply => apply::run(rt, alloc, apply::UPDATES),
         Asked::Check { file } => check::run(rt, alloc, file, input, output),
         Asked::Plant { file, blocks } => plant::run(rt, alloc, file, blocks, input, output),
+        Asked::Queue => queue::run(rt, alloc, queue::GROUPS),
         Asked::Read { file } => read::run(rt, alloc, file),
         Asked::Region => region::run(rt, alloc, region::ROUNDS),
         Asked::Sets { tracks, times } => sets::run(rt, alloc, tracks, times),

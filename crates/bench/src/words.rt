@@ -1,7 +1,7 @@
 //! What the words of a command line ask for.
 
 pub const USAGE: &str =
-    "say: apply, region, sets TRACKS TIMES, plant FILE BLOCKS, read FILE, write FILE UPDATES TRACKS, spread FILE UPDATES, or check FILE";
+    "say: apply, queue, region, sets TRACKS TIMES, plant FILE BLOCKS, read FILE, write FILE UPDATES TRACKS, spread FILE UPDATES, or check FILE";
 
 /// What is to be done. A file is named as the words name it.
 #[derive(Clone, Copy)]
@@ -14,6 +14,7 @@ pub enum Asked<'words> {
         file: &'words str,
         blocks: u32,
     },
+    Queue,
     Read {
         file: &'words str,
     },
@@ -36,6 +37,7 @@ pub enum Asked<'words> {
 fn with_nothing(word: &str) -> Option<Asked<'static>> {
     match word {
         "apply" => Some(Asked::Apply),
+        "queue" => Some(Asked::Queue),
         "region" => Some(Asked::Region),
         _ => None,
     }

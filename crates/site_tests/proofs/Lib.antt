@@ -1,2 +1,3 @@
 mod LowEntries
 mod PutRow
+mod WorkedPoints

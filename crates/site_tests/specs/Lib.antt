@@ -4,3 +4,4 @@ pub mod StateVectors
 pub mod JournalVectors
 pub mod SiteVectors
 pub mod CourseVectors
+pub mod PointVectors

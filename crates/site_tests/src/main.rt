@@ -25,6 +25,8 @@ mod next_lines;
 #[cfg(test)]
 mod pair_vectors;
 #[cfg(test)]
+mod point_vectors;
+#[cfg(test)]
 mod site_vectors;
 #[cfg(test)]
 mod state_vectors;

@@ -1,0 +1,168 @@
+-- A run between its calls.
+use Rattle.std.proofs.Common.{◌≡◌, ◌⊎◌, inl, inr, ℕ, ◌^◌, ◌<◌, ◌≤◌, Bool, true, false, not, List, [], ◌∷◌, ◌++◌, length, Option, Some, None, refl, sym, ap, subst, ◌∙◌, append-nil, arith}
+use Rattle.std.specs.Prelude.{◌==◌, IfSome, is_none, if◌then◌else◌}
+use Rattle.std.specs.List.{All}
+use Rattle.std.proofs.lemmas.List.Elements.{All-append, All-nil, All-weaker}
+use Rattle.crash_plant.specs.Calls.{Elapses, SameSite, Says, Silent, WorksOnConsole}
+use Rattle.crash_plant.specs.Choices.{AtEveryMoment, Choice, IsChoice}
+use Rattle.crash_plant.specs.Moments.{PlantState}
+use Rattle.pair_table.specs.Commands.{accepted}
+use Rattle.pair_table.specs.Refusals.{refusal}
+use Rattle.pair_table.specs.Tables.{Table}
+use Rattle.row_changes.specs.Changes.{Timed}
+use Rattle.row_changes.specs.Toward.{AreCounted}
+use Rattle.site_means.specs.declared.means.Means.{Means}
+use Rattle.site_means.specs.Images.{shape_of}
+use Rattle.site_means.specs.Sight.{means_of}
+use Rattle.consistency.specs.Bears.{AreAfterLine, AreOnTheWay, Run, Stage, breaks_of, names_of}
+use Rattle.consistency.specs.Courses.{Answered, IsAnswered, last_line_time, replies_of, stage_after, stage_at, texts_of}
+use Rattle.consistency.specs.Keeping.{stage_now}
+use Rattle.consistency.specs.Moments.{AreUpTo, BearsThroughout, BearsTime, MeansTable}
+use Rattle.consistency.specs.Steps.{TimedCommand, names_at, table_on_the_way}
+use Rattle.consistency.specs.Times.{times_said}
+use Rattle.consistency.proofs.Keeping.{keeps_begins, keeps_says, keeps_says_throughout, keeps_works}
+use Rattle.consistency.proofs.Lines.{next_not_before, replied_by_last, replies_more, replies_whole, stage_more}
+use Rattle.consistency.proofs.Pieces.{times_append}
+use Rattle.session_points.specs.Bearing.{GoesThroughPoints, MayBeMeant, ShowsPoint}
+use Rattle.session_points.specs.Between.{MayReply, RunGoesOn, ShowsMeant}
+use Rattle.session_points.specs.Leads.{Point}
+use Rattle.session_points.specs.Ways.{Arrival, PassedPoint, stage_point}
+use Rattle.session_points.proofs.Bearing.{points_bear}
+use Rattle.session_points.proofs.InARow.{all_shown}
+use Rattle.session_points.proofs.Leading.{leads_toward, whole_itself}
+use Rattle.session_points.proofs.Replying.{exact_says_up_to}
+
+-- A run that has made no call yet goes on.
+pub runs_begin : (plant : PlantState) (run : Run) (grammar : List ℕ → Option TimedCommand) → 0 < plant.clock → RunGoesOn run grammar [] [] plant plant
+runs_begin plant run grammar up = record { up = up; keeps = keeps_begins run grammar plant; said = All-nil (λ z. z ≤ 0); short = omega arith }
+
+-- What isn't behind a time isn't behind a later one.
+up_to_later : (early late : ℕ) (times : List ℕ) → early ≤ late → AreUpTo early times → AreUpTo late times
+up_to_later early late times le all = All-weaker (λ z. z ≤ early) (λ z. z ≤ late) (λ z at. omega (arith, le, at)) times all
+
+-- ---- works
+
+pub works_go_on : (first old new : PlantState) (run : Run) (grammar : List ℕ → Option TimedCommand) (lines : List Answered) (text : List ℕ) → RunGoesOn run grammar lines text first old → SameSite old new → Elapses old new → Silent old new
+    → ((stage_now run grammar first.script lines text).table.is_started ≡ true → AtEveryMoment (ShowsMeant run (stage_now run grammar first.script lines text) new) old new) → RunGoesOn run grammar lines text first new
+works_go_on first old new run grammar lines text goes site elapses silent means = record {
+  up = goes.up;
+  keeps = keeps_works run grammar lines text first old new goes.up goes.keeps site elapses silent (λ started t since to c is. bears c (means started t since to c is));
+  said = goes.said;
+  short = goes.short;
+}
+  where
+    bears : (c : Choice) → ShowsMeant run (stage_now run grammar first.script lines text) new c → BearsTime run (stage_now run grammar first.script lines text) (replies_of lines) new c
+    bears c shown = record {
+      time = shown.0.time;
+      bears = points_bear run (stage_now run grammar first.script lines text) (shape_of new) shown.0 c shown.2 shown.1;
+      not_earlier = up_to_later (stage_at run lines (length lines)).replied shown.0.time (times_said (replies_of lines)) shown.1.in_time.0 goes.said;
+    }
+
+pub passages_go_on : (first old new : PlantState) (run : Run) (grammar : List ℕ → Option TimedCommand) (lines : List Answered) (text : List ℕ) (p : Point) (points : List PassedPoint) (next : Option Point) → RunGoesOn run grammar lines text first old
+    → SameSite old new → Elapses old new → Silent old new
+    → (let s = stage_now run grammar first.script lines text in s.table.is_started ≡ true → GoesThroughPoints run new old.clock p points new.clock next × MayBeMeant run s p × All (λ n. MayBeMeant run s n.point) points × IfSome next (MayBeMeant run s))
+    → RunGoesOn run grammar lines text first new
+passages_go_on first old new run grammar lines text p points next goes site elapses silent passed =
+    works_go_on first old new run grammar lines text goes site elapses silent (λ started t since to c is.
+    let way = passed started in
+    all_shown Point Arrival Choice (IsChoice new) (ShowsPoint run (shape_of new)) (MayBeMeant run (stage_now run grammar first.script lines text)) old.clock new.clock p points next way.1 way.2 way.3 way.0 t since to c is)
+
+-- ---- a stage's own point
+
+-- The point of a stage may be meant at it, where no line was heard.
+pub stages_are_points : (run : Run) (s : Stage) → s.next ≡ None → AreCounted run.rises s.past → MayBeMeant run s (stage_point s)
+stages_are_points run s none counted = record { ended = inr refl; in_time = (omega arith, timed s.next none); rows = rested s.table.is_ended }
+  where
+    timed : (n : Option TimedCommand) → n ≡ None → (let T : Type 0 = elim n [ None ↦ s.replied ≡ s.replied | Some line ↦ elim s.table.is_ended [ true ↦ s.replied ≡ s.replied | false ↦ s.replied ≤ line.time ] ] in T)
+    timed None is = refl
+    timed (Some line) is = absurd cc
+
+    on_the_way : AreOnTheWay run s s.replied s.table.rows
+    on_the_way = record {
+      changes = [];
+      toward = leads_toward run.level (breaks_of run) (not (is_none s.next)) (stage_point s) (stage_point s) [] refl refl (whole_itself run.level (breaks_of run) (stage_point s));
+      counted = subst (λ (l : List Timed). AreCounted run.rises l) (sym (append-nil s.past)) counted;
+      made = refl;
+    }
+
+    rested : (e : Bool) → (let T : Type 0 = elim e [ true ↦ s.table.rows ≡ s.table.rows | false ↦ AreOnTheWay run s s.replied s.table.rows ⊎ AreAfterLine run s s.replied s.table.rows ] in T)
+    rested true = refl
+    rested false = inl on_the_way
+
+-- ---- replies
+
+module _ (run : Run) (grammar : List ℕ → Option TimedCommand) (lines : List Answered) (from : Point) (points : List PassedPoint) (a : Answered) (first old new : PlantState) (goes : RunGoesOn run grammar lines a.text first old)
+    (reply : MayReply run (stage_now run grammar first.script lines a.text) from points a old) (tells : Type 0) (told : tells) (works : WorksOnConsole tells old new) (says : Says a.reply old new) where
+  abbrev s : Stage
+  s = stage_now run grammar first.script lines a.text
+
+  abbrev before : Stage
+  before = stage_at run lines (length lines)
+
+  abbrev behind : Stage
+  behind = stage_after before a
+
+  answered : IsAnswered run before a
+  answered = record { step = reply.answered.step; counted = reply.answered.counted; level = reply.answered.level; is_reply = reply.answered.is_reply }
+
+  -- The time of the session doesn't fall.
+  rises : before.replied ≤ behind.replied
+  rises =
+      let later = next_not_before grammar (length lines) (last_line_time lines (length lines)) (length (texts_of lines ++ a.text) == length first.script) a.text a.line reply.asks in
+      let last = replied_by_last run grammar first.script lines (length lines) goes.keeps.asked (omega arith) in
+      by_end before.table.is_ended (omega (arith, later, last))
+    where
+      by_end : (e : Bool) → before.replied ≤ a.line.time → before.replied ≤ (if e then before.replied else a.line.time)
+      by_end true le = omega arith
+      by_end false le = le
+
+  short_behind : behind.replied < 2 ^ 64
+  short_behind = by_end before.table.is_ended
+    where
+      by_end : (e : Bool) → (if e then before.replied else a.line.time) < 2 ^ 64
+      by_end true = goes.short
+      by_end false = reply.short
+
+  -- No time that was said is behind it.
+  said_up_to : AreUpTo behind.replied (times_said (replies_of lines ++ a.reply))
+  said_up_to =
+      subst (λ (l : List ℕ). AreUpTo behind.replied l) (sym (times_append (replies_of lines) a.reply (replies_whole run lines goes.keeps.course)))
+      (All-append (λ z. z ≤ behind.replied) (times_said (replies_of lines)) (times_said a.reply) (up_to_later before.replied behind.replied (times_said (replies_of lines)) rises goes.said)
+      (exact_says_up_to run s from points a reply.names goes.short reply.short reply.exact))
+
+  -- A started session stays started.
+  stays_started : before.table.is_started ≡ true → a.table.is_started ≡ true
+  stays_started started =
+      let table = table_on_the_way run.level a.changes before.table in
+      let names = names_at a.line.time (breaks_of run) (names_of run) in
+      ap (λ (t : Table). t.is_started) answered.step.made ∙ by_refusal (is_none (refusal names table a.line.session a.line.command)) (accepted names a.line.time a.line.command table) table refl started
+    where
+      by_refusal : (b : Bool) (x y : Table) → x.is_started ≡ true → y.is_started ≡ true → (if b then x else y).is_started ≡ true
+      by_refusal true x y one two = one
+      by_refusal false x y one two = two
+
+  -- The point behind the line bears the time of the reply, before and behind it.
+  bears_at : (stage : Stage) → MayBeMeant run stage (stage_point behind) → (c : Choice) → ShowsPoint run (shape_of old) (stage_point behind) c → BearsTime run stage (replies_of lines ++ a.reply) old c
+  bears_at stage may c shown = record { time = behind.replied; bears = points_bear run stage (shape_of old) (stage_point behind) c shown may; not_earlier = said_up_to }
+
+  during : s.table.is_started ≡ true → (c : Choice) → IsChoice old old.clock c → BearsTime run s (replies_of lines ++ a.reply) old c
+  during started c is = bears_at s (reply.may started) c (reply.shows (stays_started started) c is)
+
+  after : a.table.is_started ≡ true → (c : Choice) → IsChoice old old.clock c → BearsTime run behind (replies_of lines ++ a.reply) old c
+  after started c is = bears_at behind (stages_are_points run behind refl answered.counted) c (reply.shows started c is)
+
+  mean : a.table.is_started ≡ true → (c : Choice) → IsChoice old old.clock c → (means : Means) × (means_of old c ≡ Some means) × MeansTable behind means
+  mean started c is = let shown = reply.shows started c is in (shown.means, shown.defined, record { rows = shown.rows; time = shown.at; ended = shown.ended })
+
+  -- Whether the reply is said whole or in part, each moment bears.
+  pub replies_fail : BearsThroughout run grammar (lines ++ a ∷ []) first new
+  replies_fail = keeps_says_throughout run grammar lines a.text first old new goes.up goes.keeps tells told works a says refl answered reply.asks during after mean
+
+  -- Once it was said whole, the run goes on with one line more.
+  pub replies_go_on : new.said new.clock ≡ old.said old.clock ++ a.reply → RunGoesOn run grammar (lines ++ a ∷ []) [] first new
+  replies_go_on whole = record {
+    up = goes.up;
+    keeps = keeps_says run grammar lines a.text first old new goes.up goes.keeps tells told works a says refl answered reply.asks during after mean whole;
+    said = subst (λ (x : Stage). AreUpTo x.replied (times_said (replies_of (lines ++ a ∷ [])))) (sym (stage_more run lines a)) (subst (λ (l : List ℕ). AreUpTo behind.replied (times_said l)) (sym (replies_more lines a)) said_up_to);
+    short = subst (λ (x : Stage). x.replied < 2 ^ 64) (sym (stage_more run lines a)) short_behind;
+  }

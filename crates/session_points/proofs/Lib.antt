@@ -1,0 +1,17 @@
+pub mod InARow
+pub mod Leading
+pub mod Hits
+pub mod Since
+pub mod Bearing
+pub mod Legs
+pub mod OnTheWay
+pub mod Flags
+pub mod Answering
+pub mod Unhit
+pub mod Naming
+pub mod Words
+pub mod Telling
+pub mod Replying
+pub mod Moments
+pub mod Between
+pub mod Owed

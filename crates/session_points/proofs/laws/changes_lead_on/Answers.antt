@@ -1,0 +1,10 @@
+use Rattle.session_points.proofs.Leading.{hits_whole, leads_on, leads_toward, whole_itself}
+use Rattle.session_points.proofs.laws.changes_lead_on.Goals as goal
+
+pub returns : goal.returns
+returns c = record {
+  itself = whole_itself;
+  on = leads_on;
+  hits = hits_whole;
+  toward = leads_toward;
+}

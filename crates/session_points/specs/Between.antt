@@ -1,0 +1,37 @@
+-- What holds of a run between two of its calls, where its replies are exact, and what its calls must leave.
+use Rattle.std.specs.Prelude.{◌≡◌, ℕ, ◌^◌, ◌<◌, List, length, Option, Some, IsTrue}
+use Rattle.crash_plant.specs.Choices.{AtNow, Choice}
+use Rattle.crash_plant.specs.Moments.{PlantState}
+use Rattle.site_means.specs.Images.{shape_of}
+use Rattle.consistency.specs.Bears.{Run, Stage}
+use Rattle.consistency.specs.Courses.{Answered, IsAnswered, replies_of, stage_after, stage_at}
+use Rattle.consistency.specs.Keeping.{Keeps}
+use Rattle.consistency.specs.Moments.{AreUpTo}
+use Rattle.consistency.specs.Steps.{TimedCommand}
+use Rattle.consistency.specs.Times.{times_said}
+use Rattle.session_points.specs.Bearing.{MayBeMeant, ShowsPoint}
+use Rattle.session_points.specs.Leads.{Point}
+use Rattle.session_points.specs.Replying.{HasNames, IsExact}
+use Rattle.session_points.specs.Ways.{PassedPoint, stage_point}
+
+-- A run goes on from a plant's state to another: its moments so far bear, and no time that it said is behind that of its last reply.
+pub record RunGoesOn (run : Run) (grammar : List ℕ → Option TimedCommand) (lines : List Answered) (text : List ℕ) (old new : PlantState) : Type 0 where
+  pub up : 0 < old.clock
+  pub keeps : Keeps run grammar lines text old new
+  pub said : AreUpTo (stage_at run lines (length lines)).replied (times_said (replies_of lines))
+  pub short : (stage_at run lines (length lines)).replied < 2 ^ 64
+
+-- A choice shows a point of a run that may be meant at a stage.
+abbrev pub ShowsMeant : Run → Stage → PlantState → Choice → Type 0
+ShowsMeant run s plant c = (p : Point) × MayBeMeant run s p × ShowsPoint run (shape_of plant) p c
+
+-- A line that was heard whole may be replied to. It is answered at its stage, these points were passed before its command, its reply is
+-- exact, and once the session has started whatever a crash may leave now shows the point behind the line, which may be meant before the reply.
+pub record MayReply (run : Run) (s : Stage) (first : Point) (points : List PassedPoint) (a : Answered) (now : PlantState) : Type 0 where
+  pub asks : s.next ≡ Some a.line
+  pub answered : IsAnswered run s a
+  pub exact : IsExact run s first points a
+  pub names : HasNames s.table
+  pub short : a.line.time < 2 ^ 64
+  pub may : IsTrue s.table.is_started → MayBeMeant run s (stage_point (stage_after s a))
+  pub shows : IsTrue a.table.is_started → AtNow (ShowsPoint run (shape_of now) (stage_point (stage_after s a))) now

@@ -1,0 +1,12 @@
+pub mod Points
+pub mod Leads
+pub mod Ways
+pub mod Bearing
+pub mod Owing
+pub mod Answering
+pub mod Replying
+pub mod Between
+pub mod Unhit
+pub mod Laws
+pub mod FlagLaws
+pub mod ReplyLaws

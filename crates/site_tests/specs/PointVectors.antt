@@ -1,0 +1,128 @@
+-- Worked points: a pair that is suspended and added again, pairs whose volumes failed, and a control whose trace is cut.
+use Rattle.std.specs.Prelude.{◌≡◌, ℕ, List, [], ◌∷◌, false, ◌==◌, Option, Some, None, codes, if◌then◌else◌}
+use Rattle.ckd_track.specs.declared.write.Kind.TheVariants.{Update, Whole}
+use Rattle.pair_table.specs.declared.command.Choice.TheVariants.{One}
+use Rattle.pair_table.specs.declared.command.Command.{Command}
+use Rattle.pair_table.specs.declared.command.Command.TheVariants.{AddPair, Query, Suspend}
+use Rattle.pair_table.specs.declared.level.Level.{Level}
+use Rattle.pair_table.specs.declared.level.Level.TheVariants.{Session as SessionLevel, Volume as VolumeLevel}
+use Rattle.pair_table.specs.declared.row.PairRow.{PairRow}
+use Rattle.pair_table.specs.declared.row.PairState.{PairState}
+use Rattle.pair_table.specs.declared.row.PairState.TheVariants.{Copy, Duplex, Pending}
+use Rattle.pair_table.specs.declared.row.SuspendCause.TheVariants.{Command as ByCommand, Control as ByControl, Device as ByDevice, Session as BySession}
+use Rattle.row_changes.specs.Changes.{RowChange, Timed, since}
+use Rattle.row_changes.specs.Changes.Due.{NoneDue}
+use Rattle.row_changes.specs.Changes.RowChange.{Break, Hit, Mature}
+use Rattle.write_trace.specs.declared.entry.Entry.{Entry}
+use Rattle.write_trace.specs.declared.entry.Entry.TheVariants.{Written}
+use Rattle.write_trace.specs.declared.trace.Trace.{Trace}
+use Rattle.write_trace.specs.declared.trace.TraceEnd.{TraceEnd}
+use Rattle.write_trace.specs.declared.trace.TraceEnd.TheVariants.{BadTrace, Ended}
+use Rattle.consistency.specs.Bears.{Run}
+use Rattle.consistency.specs.Steps.{TimedCommand}
+use Rattle.session_points.specs.Leads.{Point}
+use Rattle.session_points.specs.Owing.{tracks_asked, tracks_owed}
+use Rattle.session_points.specs.Points.{AreLinked}
+use Rattle.session_points.specs.Ways.{ComesNext, Leg, PassedPoint, Way, leg_after}
+use Rattle.session_points.specs.Ways.Way.{Commanded, OnTheWay}
+
+-- ---- two controls, each with one volume of one cylinder, and two devices
+
+abbrev pub worked_row : PairState → PairRow
+worked_row state = record { primary = codes "PRIM01"; secondary = codes "SEC001"; control = 0; volume = 0; device = 0; cylinders = 1; state = state }
+
+abbrev pub other_worked_row : PairState → PairRow
+other_worked_row state = record { primary = codes "PRIM02"; secondary = codes "SEC002"; control = 1; volume = 0; device = 1; cylinders = 1; state = state }
+
+abbrev pub one_volume_trace : (serial : List ℕ) → List Entry → TraceEnd → Trace
+one_volume_trace serial entries end = record { header = record { version = 1; volumes = record { serial = serial; cylinders = 1 } ∷ []; base = [] }; entries = entries; end = end }
+
+abbrev pub worked_session : Level → List Trace → Run
+worked_session level traces = record {
+  session = codes "ABC";
+  traces = traces;
+  labels = record { device = 0; serial = codes "SEC001"; cylinders = 1 } ∷ record { device = 1; serial = codes "SEC002"; cylinders = 1 } ∷ [];
+  level = level;
+  rises = λ device. 1;
+}
+
+abbrev pub point_of_rows : (time : ℕ) → List PairRow → Point
+point_of_rows time rows = record { time = time; rows = rows; due = NoneDue; is_ended = false }
+
+abbrev pub passed : (moment time : ℕ) → List PairRow → Way → PassedPoint
+passed moment time rows way = record { moment = moment; point = point_of_rows time rows; way = record { way = way; mark = 1 } }
+
+abbrev pub timed_change : (time : ℕ) → RowChange → Timed
+timed_change time change = record { time = time; change = change }
+
+abbrev pub line_asking : (time : ℕ) → Command → TimedCommand
+line_asking time command = record { time = time; session = codes "ABC"; command = command }
+
+abbrev pub worked_leg : Point → Leg
+worked_leg p = record { point = p; mark = 1; replied = p.time; changes = [] }
+
+-- ---- a pair that is suspended and added again
+
+-- writes on track 3 before the pair's suspension and behind it
+abbrev pub resumed_run : Run
+resumed_run = worked_session VolumeLevel (one_volume_trace (codes "PRIM01")
+    (Written (record { volume = 0; track = 3; stamp = record { 0 = 0x64 }; kind = Whole [] }) ∷ Written (record { volume = 0; track = 3; stamp = record { 0 = 0x110 }; kind = Update 1 [] })
+    ∷ Written (record { volume = 0; track = 3; stamp = record { 0 = 0x120 }; kind = Update 1 [] }) ∷ []) Ended ∷ [])
+
+abbrev pub resumed_asked : (line : ℕ) → Option TimedCommand
+resumed_asked line =
+    if line == 1 then Some (line_asking 0x60 (AddPair (codes "PRIM01") (codes "SEC001")))
+    else if line == 2 then Some (line_asking 0x100 (Suspend (One (codes "PRIM01") (codes "SEC001"))))
+    else None
+
+abbrev pub resumed_first : Point
+resumed_first = point_of_rows 0x50 []
+
+abbrev pub resumed_points : List PassedPoint
+resumed_points =
+    passed 2 0x60 [] (OnTheWay [])
+    ∷ passed 3 0x60 (worked_row Pending ∷ []) (Commanded 1 [])
+    ∷ passed 4 0x60 (worked_row Duplex ∷ []) (OnTheWay (timed_change 0x60 (Mature 0 Duplex) ∷ []))
+    ∷ passed 5 0x100 (worked_row Duplex ∷ []) (OnTheWay [])
+    ∷ passed 6 0x100 (worked_row (since ByCommand 0x100) ∷ []) (Commanded 2 [])
+    ∷ passed 7 0x200 (worked_row (since ByCommand 0x100) ∷ []) (OnTheWay []) ∷ []
+
+-- They come one from another, and the pair that is added again asks for the one track that was written behind its suspension.
+pub record ResumedRowIsWorked : Type 0 where
+  pub linked : AreLinked (ComesNext resumed_run resumed_asked) leg_after (worked_leg resumed_first) resumed_points
+  pub asked : tracks_asked resumed_run resumed_first resumed_points (worked_row (since ByCommand 0x100) ∷ []) (codes "PRIM01") 0x200 ≡ 1
+  pub first_asked : tracks_asked resumed_run resumed_first [] [] (codes "PRIM01") 0x60 ≡ 15
+
+-- ---- a volume that fails
+
+abbrev pub failing_run : Run
+failing_run = worked_session SessionLevel (one_volume_trace (codes "PRIM01") (Written (record { volume = 0; track = 0; stamp = record { 0 = 0x74 }; kind = Whole [] }) ∷ []) Ended ∷ one_volume_trace (codes "PRIM02") [] Ended ∷ [])
+
+abbrev pub failing_points : PairState → List PassedPoint
+failing_points state =
+    passed 2 0x80 (worked_row (since BySession 0x80) ∷ other_worked_row (since ByDevice 0x80) ∷ []) (OnTheWay (timed_change 0x80 (Hit (1 ∷ [])) ∷ [])) ∷ []
+
+abbrev pub failing_first : PairState → Point
+failing_first state = point_of_rows 0x70 (worked_row state ∷ other_worked_row Duplex ∷ [])
+
+-- The pair whose device failed owes all its tracks. The other, which the session suspended, owes those written since where it was
+-- duplex, and all where it was still copied.
+pub record FailingRowIsWorked : Type 0 where
+  pub linked : AreLinked (ComesNext failing_run (λ line. None)) leg_after (worked_leg (failing_first Duplex)) (failing_points Duplex)
+  pub by_device : tracks_owed failing_run (failing_first Duplex) (failing_points Duplex) (other_worked_row (since ByDevice 0x80)) 0x90 ≡ 15
+  pub by_session : tracks_owed failing_run (failing_first Duplex) (failing_points Duplex) (worked_row (since BySession 0x80)) 0x90 ≡ 0
+  pub copied : tracks_owed failing_run (failing_first Copy) (failing_points Copy) (worked_row (since BySession 0x80)) 0x90 ≡ 15
+
+-- ---- a cut trace
+
+-- the second control's trace is cut behind a write at [60], so that it breaks at [5F]
+abbrev pub cut_run : Run
+cut_run = worked_session VolumeLevel (one_volume_trace (codes "PRIM01") [] Ended ∷ one_volume_trace (codes "PRIM02") (Written (record { volume = 0; track = 0; stamp = record { 0 = 0x60 }; kind = Whole [] }) ∷ []) (BadTrace 41) ∷ [])
+
+abbrev pub cut_rows : List PairRow
+cut_rows = worked_row Duplex ∷ other_worked_row (since ByControl 0x5F) ∷ []
+
+-- A control that broke at a point breaks no more behind it.
+pub record CutRowIsWorked : Type 0 where
+  pub linked : AreLinked (ComesNext cut_run (λ line. Some (line_asking 0x70 Query))) leg_after (worked_leg (point_of_rows 0x58 (worked_row Duplex ∷ other_worked_row Duplex ∷ [])))
+      (passed 2 0x5F cut_rows (OnTheWay (timed_change 0x5F (Break 1) ∷ [])) ∷ passed 3 0x70 cut_rows (OnTheWay []) ∷ passed 4 0x70 cut_rows (Commanded 3 []) ∷ [])
