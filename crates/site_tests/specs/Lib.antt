@@ -5,3 +5,4 @@ pub mod JournalVectors
 pub mod SiteVectors
 pub mod CourseVectors
 pub mod PointVectors
+pub mod RecordVectors

@@ -27,6 +27,8 @@ mod pair_vectors;
 #[cfg(test)]
 mod point_vectors;
 #[cfg(test)]
+mod record_vectors;
+#[cfg(test)]
 mod site_vectors;
 #[cfg(test)]
 mod state_vectors;

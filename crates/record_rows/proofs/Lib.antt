@@ -1,0 +1,9 @@
+pub mod Composing
+pub mod Devices
+pub mod HitRows
+pub mod Telling
+pub mod Grouped
+pub mod GroupSteps
+pub mod Changed
+pub mod Coming
+pub mod Counting

@@ -1,0 +1,6 @@
+pub mod Hits
+pub mod GroupRows
+pub mod Records
+pub mod ChangedRows
+pub mod Told
+pub mod Laws
