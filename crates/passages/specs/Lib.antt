@@ -1,0 +1,4 @@
+pub mod Points
+pub mod Since
+pub mod Telling
+pub mod Laws

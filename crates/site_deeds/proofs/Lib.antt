@@ -1,0 +1,12 @@
+pub mod Turning
+pub mod Contents
+pub mod Excepting
+pub mod Seeing
+pub mod Points
+pub mod Composing
+pub mod Single
+pub mod Moments
+pub mod Timing
+pub mod Changing
+pub mod Now
+pub mod Widening

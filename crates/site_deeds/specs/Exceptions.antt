@@ -1,0 +1,43 @@
+-- Tracks whose content isn't told: those of a device that failed, or that has no row, until a group has a whole image of them.
+use Rattle.std.specs.Prelude.{ℕ, ◌&&◌, ◌||◌, not, List, [], ◌∷◌, Bool, true, false}
+use Rattle.std.specs.List.{list_any}
+use Rattle.pair_table.specs.declared.row.PairRow.{PairRow}
+use Rattle.pair_table.specs.declared.row.PairState.{PairState}
+use Rattle.pair_table.specs.declared.row.PairState.TheVariants.{Pending, Copy, Duplex, Suspended}
+use Rattle.pair_table.specs.declared.row.SuspendCause.TheVariants.{Command, Device, Session, Control}
+use Rattle.pair_table.specs.Tables.{is_of}
+use Rattle.pending_queue.specs.Entries.{WaitingEntry, is_whole}
+use Rattle.image_former.specs.Entries.{is_entry_on}
+use Rattle.site_deeds.specs.Deeds.{Deed, entries_by_deed, rows_by_deed}
+
+-- A track is excepted where an item of it was logged before its device's job last failed, and wasn't applied. Once a mark counts behind
+-- that item, the slot may hold anything.
+abbrev pub Exceptions : Type 0
+Exceptions = (device track : ℕ) → Bool
+
+-- whether the failure of its device has suspended a row
+abbrev pub has_failed_device : PairState → Bool
+has_failed_device (Suspended Device since) = true
+has_failed_device (Suspended Command since) = false
+has_failed_device (Suspended Session since) = false
+has_failed_device (Suspended Control since) = false
+has_failed_device Pending = false
+has_failed_device Copy = false
+has_failed_device Duplex = false
+
+-- A device is kept by rows of which one is its row, and isn't suspended by the device's failure. Of a device without a row no
+-- failure is told.
+abbrev pub is_kept : (device : ℕ) → List PairRow → Bool
+is_kept device rows = list_any (λ r. is_of device r && not (has_failed_device r.state)) rows
+
+-- whether an entry is a whole image of a device's track
+abbrev pub is_whole_on : List PairRow → (device track : ℕ) → WaitingEntry → Bool
+is_whole_on rows device track entry = is_entry_on rows device track entry && is_whole entry.kind
+
+-- The exceptions behind a deed: each track of a device that its rows don't keep, and those before it of which it logs no whole image.
+abbrev pub excepted_by_deed : List PairRow → Deed → Exceptions → Exceptions
+excepted_by_deed rows deed excepted = λ d x. not (is_kept d (rows_by_deed deed)) || (excepted d x && not (list_any (is_whole_on rows d x) (entries_by_deed deed)))
+
+abbrev pub excepted_behind : List PairRow → List Deed → Exceptions → Exceptions
+excepted_behind rows [] excepted = excepted
+excepted_behind rows (deed ∷ deeds) excepted = excepted_behind (rows_by_deed deed) deeds (excepted_by_deed rows deed excepted)
