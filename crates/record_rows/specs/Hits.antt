@@ -13,18 +13,18 @@ use Rattle.row_changes.specs.Changes.RowChange.{Hit, MarkedHit, Reached}
 
 -- ---- who is hit
 
-abbrev pub is_device_cause : SuspendCause → Bool
-is_device_cause Device = true
-is_device_cause Command = false
-is_device_cause Session = false
-is_device_cause Control = false
+abbrev pub is_by_device : SuspendCause → Bool
+is_by_device Device = true
+is_by_device Command = false
+is_by_device Session = false
+is_by_device Control = false
 
 -- whether a row in this state is suspended by its own device
 abbrev pub is_device_suspended : PairState → Bool
 is_device_suspended Pending = false
 is_device_suspended Copy = false
 is_device_suspended Duplex = false
-is_device_suspended (Suspended cause since) = is_device_cause cause
+is_device_suspended (Suspended cause since) = is_by_device cause
 
 -- whether the job of a device has failed, by the flags of the devices in order
 abbrev pub is_down : (failed : List Bool) → (device : ℕ) → Bool

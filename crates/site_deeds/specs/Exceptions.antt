@@ -1,13 +1,11 @@
 -- Tracks whose content isn't told: those of a device that failed, or that has no row, until a group has a whole image of them.
-use Rattle.std.specs.Prelude.{ℕ, ◌&&◌, ◌||◌, not, List, [], ◌∷◌, Bool, true, false}
+use Rattle.std.specs.Prelude.{ℕ, ◌&&◌, ◌||◌, not, List, [], ◌∷◌, Bool}
 use Rattle.std.specs.List.{list_any}
 use Rattle.pair_table.specs.declared.row.PairRow.{PairRow}
-use Rattle.pair_table.specs.declared.row.PairState.{PairState}
-use Rattle.pair_table.specs.declared.row.PairState.TheVariants.{Pending, Copy, Duplex, Suspended}
-use Rattle.pair_table.specs.declared.row.SuspendCause.TheVariants.{Command, Device, Session, Control}
 use Rattle.pair_table.specs.Tables.{is_of}
 use Rattle.pending_queue.specs.Entries.{WaitingEntry, is_whole}
 use Rattle.image_former.specs.Entries.{is_entry_on}
+use Rattle.record_rows.specs.Hits.{is_device_suspended}
 use Rattle.site_deeds.specs.Deeds.{Deed, entries_by_deed, rows_by_deed}
 
 -- A track is excepted where an item of it was logged before its device's job last failed, and wasn't applied. Once a mark counts behind
@@ -15,20 +13,10 @@ use Rattle.site_deeds.specs.Deeds.{Deed, entries_by_deed, rows_by_deed}
 abbrev pub Exceptions : Type 0
 Exceptions = (device track : ℕ) → Bool
 
--- whether the failure of its device has suspended a row
-abbrev pub has_failed_device : PairState → Bool
-has_failed_device (Suspended Device since) = true
-has_failed_device (Suspended Command since) = false
-has_failed_device (Suspended Session since) = false
-has_failed_device (Suspended Control since) = false
-has_failed_device Pending = false
-has_failed_device Copy = false
-has_failed_device Duplex = false
-
 -- A device is kept by rows of which one is its row, and isn't suspended by the device's failure. Of a device without a row no
 -- failure is told.
 abbrev pub is_kept : (device : ℕ) → List PairRow → Bool
-is_kept device rows = list_any (λ r. is_of device r && not (has_failed_device r.state)) rows
+is_kept device rows = list_any (λ r. is_of device r && not (is_device_suspended r.state)) rows
 
 -- whether an entry is a whole image of a device's track
 abbrev pub is_whole_on : List PairRow → (device track : ℕ) → WaitingEntry → Bool
