@@ -10,3 +10,5 @@ pub mod Lending
 pub mod Giving
 pub mod Moving
 pub mod Works
+pub mod Parts
+pub mod Worked

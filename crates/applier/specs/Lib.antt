@@ -1,5 +1,6 @@
 pub mod Slots
 pub mod Jobs
+pub mod Sides
 pub mod Writes
 pub mod Disks
 pub mod Out

@@ -3,7 +3,9 @@
 
 mod applying;
 mod loans;
+mod sides;
 
 pub use applying::apply_volume;
 pub use loans::{give_back_all, lend_all};
+pub use sides::{apply_all, sync_all};
 pub use xrc_journal::VolumeJob;

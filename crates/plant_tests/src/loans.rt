@@ -38,7 +38,7 @@ fn job<D>(rt: &impl Abort, alloc: Global, device: u16, failed: bool) -> VolumeJo
 }
 
 /// A job on each volume.
-fn three_jobs<D>(rt: &impl Abort, alloc: Global, failed: [bool; 3]) -> [VolumeJob<D>; 3]
+pub(crate) fn three_jobs<D>(rt: &impl Abort, alloc: Global, failed: [bool; 3]) -> [VolumeJob<D>; 3]
     ensures there { All (λ job. job.device < 3) result }
     ensures apart { AreApart result }
     ensures idle { All (λ job. job.disk ≡ None) result }
@@ -51,7 +51,7 @@ fn three_jobs<D>(rt: &impl Abort, alloc: Global, failed: [bool; 3]) -> [VolumeJo
 }
 
 /// Ends a job, which has no disk, and says whether it failed.
-fn end<D>(rt: &impl Abort, job: VolumeJob<D>) -> bool {
+pub(crate) fn end<D>(rt: &impl Abort, job: VolumeJob<D>) -> bool {
     let VolumeJob {
         device: _,
         disk,

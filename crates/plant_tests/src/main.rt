@@ -1,6 +1,8 @@
-//! Tests of plants: what a crash leaves of them, calls that fail, volumes that are lent, and files.
+//! Tests of plants: what a crash leaves of them, calls that fail, volumes that are lent and worked on side by side, and files.
 #![tactic(auto)]
 
+#[cfg(test)]
+mod appliers;
 #[cfg(test)]
 mod calls;
 #[cfg(test)]
