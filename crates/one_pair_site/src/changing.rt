@@ -107,7 +107,7 @@ impl<V> Site<V> {
         if self.journal.at.number == u64::MAX {
             return Err(StoreError::Spent);
         }
-        match self.journal.append(plant, cut, &self.body) {
+        match self.journal.append_within_set(plant, cut, &self.body) {
             Ok(()) => {
                 self.time = cut;
                 Ok(())

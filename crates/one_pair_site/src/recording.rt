@@ -44,7 +44,7 @@ pub(crate) fn put_record<P: Plant>(
     if journal.at.number == u64::MAX {
         return Err(StoreError::Spent);
     }
-    match journal.append(plant, cut, body) {
+    match journal.append_within_set(plant, cut, body) {
         Ok(()) => Ok(()),
         Err(AppendError::NoRoom { .. }) => Err(StoreError::JournalEnd),
         Err(AppendError::Fault(set)) => Err(StoreError::Fault(Device::Journal(set))),

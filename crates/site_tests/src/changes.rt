@@ -236,7 +236,7 @@ fn refuses<P: Plant>(rt: &impl Abort, alloc: Global, plant: &mut P)
         needed: 49,
         free: 48,
     };
-    let found = journal.append(plant, Stamp(0x80), &body);
+    let found = journal.append_within_set(plant, Stamp(0x80), &body);
     assert_same(rt, &found, &Err(no_room), &"no room");
     assert_same(rt, &journal, &Journal { at, marked: at }, &"the journal");
 }

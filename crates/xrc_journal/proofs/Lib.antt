@@ -6,6 +6,12 @@ pub mod RecordsAgain
 pub mod RecordsRead
 pub mod Bodies
 pub mod Walking
+pub mod RingWalking
+pub mod RingOnes
+pub mod RingAppends
+pub mod RingSwitches
+pub mod Puts
+pub mod Causes
 pub mod Appends
 pub mod Steps
 pub mod Headers

@@ -14,6 +14,7 @@ use Rattle.xrc_journal.specs.Laws.{EndsAreShut, GroupsAreSpelled, SwitchesAreSpe
 use Rattle.xrc_journal.proofs.Fields.{both_true, given_is, one_byte}
 use Rattle.xrc_journal.proofs.ItemsRead.{bodies_spelled}
 use Rattle.xrc_journal.proofs.RecordsAgain.{opened}
+use Rattle.xrc_journal.proofs.Steps.{number_kept}
 
 -- ---- what was found
 
@@ -273,6 +274,13 @@ switches_spelled form sets journal at after last time fits e =
       (drop (at.place + 22 + 2) journal, stands_by at.place 2 (record_header_spelling 2 at.number time 2) (to_be_bytes w16 next) journal (omega (arith, room)) f.gate header body),
       sym f.after_is ∙ ap (λ (n : ℕ). spot_in n at) set_is,
     )
+
+-- A switch leads to the next data set, whatever else stands there.
+pub switch_leads : (form : Form) (sets : ℕ) (journal : List ℕ) (at after : Spot) (last time : ℕ) → walk_one form sets journal at last ≡ Switch time after → after ≡ spot_in (next_set sets at.set) at
+switch_leads form sets journal at after last time e =
+    let f = switch_found form sets journal at last time after e in
+    let kept = number_kept w16 (λ n. nat_eq n (next_set sets at.set)) (at_place (at.place + 22) (stretch (at.place + 22) 2 journal)) f.set f.rest f.read in
+    sym f.after_is ∙ ap (λ (n : ℕ). spot_in n at) (eqb-true f.set (next_set sets at.set) kept)
 
 pub ends_shut : EndsAreShut
 ends_shut form sets journal at last = (end_is_shut form sets journal at last, shut_is_end form sets journal at last)

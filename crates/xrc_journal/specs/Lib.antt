@@ -6,6 +6,9 @@ pub mod Bodies
 pub mod Answers
 pub mod Walks
 pub mod Laws
+pub mod RingWalks
+pub mod RingLaws
+pub mod Appending
 pub mod Lengths
 pub mod Views
 pub mod Contents

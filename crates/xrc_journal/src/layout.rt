@@ -1,7 +1,7 @@
 //! The numbers of items, of bodies, and of a journal. Each is said here alone.
 
 use ckd_track::BLOCKS_OF_QUEUE;
-use crash_plant::{FRONT, SWITCH};
+use crash_plant::{FRONT, HEADER, SWITCH};
 use pair_table::ROW_LENGTH;
 use tod_stamp::MOST_CONTROLS;
 use xrc_edge::BLOCK;
@@ -17,6 +17,9 @@ pub const ROW_ITEM: usize = 1 + ROW_LENGTH;
 
 /// The bytes of a gate and a header, and the room that is kept behind a group for a switch.
 pub const AROUND: u64 = FRONT + SWITCH;
+
+/// The bytes of a switch behind its gate.
+pub(crate) const BEHIND_GATE: usize = HEADER + 2;
 
 /// The bytes of a journal beside those for the controls.
 pub const BESIDE_CONTROLS: u64 = 8_192;

@@ -18,7 +18,9 @@ pub use body::Body;
 pub use crash_plant::Spot;
 pub use job::VolumeJob;
 pub use journal::{AppendError, Journal};
-pub use laws::{groups_are_walked, walks_are_one};
+pub use laws::{
+    groups_are_walked, walks_are_one, walks_enter_sets_in_turn, walks_grow_at_their_end,
+};
 pub use layout::{AROUND, BESIDE_CONTROLS, MOST_BODY, OF_CONTROL, ROW_ITEM};
 pub use lengths::journal_length;
 pub use reading::{BodyItem, first_item};

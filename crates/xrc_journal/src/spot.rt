@@ -111,7 +111,7 @@ fn walk_group<P: Plant>(
 }
 
 /// The data set after one of so many: one more, or 0 after the last.
-fn next_set(sets: u16, set: u16) -> u16
+pub(crate) fn next_set(sets: u16, set: u16) -> u16
     requires { set < sets }
     ensures { result ≡ next_set sets set }
 {

@@ -49,13 +49,13 @@ returns-then-self-clause-moments g c told = sees_here (g.P.Plant.state c.args.pl
 
 -- ---- the record
 
-pub append-requires-clause-keep : goal.append-requires-clause-keep
-append-requires-clause-keep g c κs within =
+pub append_within_set-requires-clause-keep : goal.append_within_set-requires-clause-keep
+append_within_set-requires-clause-keep g c κs within =
     let held : c.take_change.new.body.items ≡ changed_items c.args.change.now c.self.inside.table.rows = ap (λ (h : Held). h.items) c.take_change.ensures in
     keep_anywhere (form_of (g.P.Plant.state c.args.plant.now)) c.take_change.new.body.items (subst (λ (l : List Item). AreRowItems l) (sym held) (changes_rows c.args.change.now c.self.inside.table.rows)) c.bytes.ensures.keep
 
-pub append-requires-clause-ends : goal.append-requires-clause-ends
-append-requires-clause-ends g c κs within told =
+pub append_within_set-requires-clause-ends : goal.append_within_set-requires-clause-ends
+append_within_set-requires-clause-ends g c κs within told =
     let site = c.args.self.now in
     let old = g.P.Plant.state c.args.plant.now in
     let at : c.self.inside.journal.at ≡ site.at = ap (λ (s : SiteState). s.at) c.self.view_is in
@@ -71,20 +71,20 @@ pub returns-in-Ok-clause-fits : goal.returns-in-Ok-clause-fits
 returns-in-Ok-clause-fits g c =
     let site = c.args.self.now in
     let old = g.P.Plant.state c.args.plant.now in
-    let new = g.P.Plant.state c.append.new.plant in
+    let new = g.P.Plant.state c.append_within_set.new.plant in
     let items = changed_items c.args.change.now site.table.rows in
     let at : c.self.inside.journal.at ≡ site.at = ap (λ (s : SiteState). s.at) c.self.view_is in
     let marked : c.self.inside.journal.marked ≡ site.mark.at = c.self.invariant.marked_is ∙ ap (λ (s : SiteState). s.mark.at) c.self.view_is in
     let held : c.take_change.new.body.items ≡ items = ap (λ (h : Held). h.items) c.take_change.ensures ∙ ap (λ (s : SiteState). changed_items c.args.change.now s.table.rows) c.self.view_is in
     let room : site.at.place + 22 + length (body_spelling items) + 24 ≤ old.lengths (Journal site.at.set) = subst (λ (x : Type 0). x) (λ i. (at i).place + 22 + length (body_spelling (held i)) + 24 ≤ old.lengths (Journal (at i).set)) (elim (cases_lt (old.lengths (Journal c.self.inside.journal.at.set)) (c.self.inside.journal.at.place + 22 + length (body_spelling c.take_change.new.body.items) + 24)) [ inl less ↦ absurd (cc (c.in-Ok.ensures.refuses (omega (arith, less)))) | inr le ↦ le ]) in
-    let is = seen site _ c.args.cut.0 c.append.new.self.at items (sym c.self.view_is) c.requires.applied (c.in-Ok.ensures.at ∙ (λ i. spot_after (at i) (length (body_spelling (held i))))) in
-    subst (λ (s : SiteState). Fits s new) is (fits g.P.Plant.tells old new site c.args.cut.0 c.self.inside.journal.marked c.self.inside.journal.at c.take_change.new.body.items items marked at held c.requires.cut c.requires.applied c.append.ensures.only room c.requires.fits)
+    let is = seen site _ c.args.cut.0 c.append_within_set.new.self.at items (sym c.self.view_is) c.requires.applied (c.in-Ok.ensures.at ∙ (λ i. spot_after (at i) (length (body_spelling (held i))))) in
+    subst (λ (s : SiteState). Fits s new) is (fits g.P.Plant.tells old new site c.args.cut.0 c.self.inside.journal.marked c.self.inside.journal.at c.take_change.new.body.items items marked at held c.requires.cut c.requires.applied c.append_within_set.ensures.only room c.requires.fits)
 
 pub returns-in-Ok-clause-stands : goal.returns-in-Ok-clause-stands
 returns-in-Ok-clause-stands g c told =
     let site = c.args.self.now in
     let old = g.P.Plant.state c.args.plant.now in
-    let new = g.P.Plant.state c.append.new.plant in
+    let new = g.P.Plant.state c.append_within_set.new.plant in
     let items = changed_items c.args.change.now site.table.rows in
     let at : c.self.inside.journal.at ≡ site.at = ap (λ (s : SiteState). s.at) c.self.view_is in
     let marked : c.self.inside.journal.marked ≡ site.mark.at = c.self.invariant.marked_is ∙ ap (λ (s : SiteState). s.mark.at) c.self.view_is in
@@ -93,14 +93,14 @@ returns-in-Ok-clause-stands g c told =
     let ahead = c.requires.stands told in
     let low : site.at.number < 2 ^ 64 = omega (arith, ap (λ (s : Spot). s.number) at) in
     let one = alone ahead.rows site old ahead.stands read low in
-    let is = seen site _ c.args.cut.0 c.append.new.self.at items (sym c.self.view_is) c.requires.applied (c.in-Ok.ensures.at ∙ (λ i. spot_after (at i) (length (body_spelling (held i))))) in
-    subst (λ (s : SiteState). Stands s.table.rows s new) is (stands g.P.Plant.tells old new site c.args.cut.0 c.self.inside.journal.marked c.self.inside.journal.at c.take_change.new.body.items items marked at held told ahead (changes_rows c.args.change.now site.table.rows) one c.requires.cut c.requires.fits.set c.append.ensures.only (c.append.ensures.moments told) c.requires.applied (c.in-Ok.ensures.durable told) (c.in-Ok.ensures.added told))
+    let is = seen site _ c.args.cut.0 c.append_within_set.new.self.at items (sym c.self.view_is) c.requires.applied (c.in-Ok.ensures.at ∙ (λ i. spot_after (at i) (length (body_spelling (held i))))) in
+    subst (λ (s : SiteState). Stands s.table.rows s new) is (stands g.P.Plant.tells old new site c.args.cut.0 c.self.inside.journal.marked c.self.inside.journal.at c.take_change.new.body.items items marked at held told ahead (changes_rows c.args.change.now site.table.rows) one c.requires.cut c.requires.fits.set c.append_within_set.ensures.only (c.append_within_set.ensures.moments told) c.requires.applied (c.in-Ok.ensures.durable told) (c.in-Ok.ensures.added told))
 
 pub returns-in-Ok-clause-moments : goal.returns-in-Ok-clause-moments
 returns-in-Ok-clause-moments g c told =
     let site = c.args.self.now in
     let old = g.P.Plant.state c.args.plant.now in
-    let new = g.P.Plant.state c.append.new.plant in
+    let new = g.P.Plant.state c.append_within_set.new.plant in
     let items = changed_items c.args.change.now site.table.rows in
     let at : c.self.inside.journal.at ≡ site.at = ap (λ (s : SiteState). s.at) c.self.view_is in
     let marked : c.self.inside.journal.marked ≡ site.mark.at = c.self.invariant.marked_is ∙ ap (λ (s : SiteState). s.mark.at) c.self.view_is in
@@ -109,24 +109,24 @@ returns-in-Ok-clause-moments g c told =
     let ahead = c.requires.stands told in
     let low : site.at.number < 2 ^ 64 = omega (arith, ap (λ (s : Spot). s.number) at) in
     let one = alone ahead.rows site old ahead.stands read low in
-    sees g.P.Plant.tells old new site c.args.cut.0 c.self.inside.journal.marked c.self.inside.journal.at c.take_change.new.body.items items marked at held told ahead (changes_rows c.args.change.now site.table.rows) one c.requires.cut c.requires.fits.set c.append.ensures.only (c.append.ensures.moments told)
+    sees g.P.Plant.tells old new site c.args.cut.0 c.self.inside.journal.marked c.self.inside.journal.at c.take_change.new.body.items items marked at held told ahead (changes_rows c.args.change.now site.table.rows) one c.requires.cut c.requires.fits.set c.append_within_set.ensures.only (c.append_within_set.ensures.moments told)
 
 pub returns-in-Ok-clause-only : goal.returns-in-Ok-clause-only
 returns-in-Ok-clause-only g c =
     let site = c.args.self.now in
     let old = g.P.Plant.state c.args.plant.now in
-    let new = g.P.Plant.state c.append.new.plant in
+    let new = g.P.Plant.state c.append_within_set.new.plant in
     let items = changed_items c.args.change.now site.table.rows in
     let at : c.self.inside.journal.at ≡ site.at = ap (λ (s : SiteState). s.at) c.self.view_is in
     let marked : c.self.inside.journal.marked ≡ site.mark.at = c.self.invariant.marked_is ∙ ap (λ (s : SiteState). s.mark.at) c.self.view_is in
     let held : c.take_change.new.body.items ≡ items = ap (λ (h : Held). h.items) c.take_change.ensures ∙ ap (λ (s : SiteState). changed_items c.args.change.now s.table.rows) c.self.view_is in
-    only_there g.P.Plant.tells old new site c.args.cut.0 c.self.inside.journal.marked c.self.inside.journal.at c.take_change.new.body.items items marked at held c.append.ensures.only
+    only_there g.P.Plant.tells old new site c.args.cut.0 c.self.inside.journal.marked c.self.inside.journal.at c.take_change.new.body.items items marked at held c.append_within_set.ensures.only
 
 pub returns-in-Err-NoRoom-clause-moments : goal.returns-in-Err-NoRoom-clause-moments
 returns-in-Err-NoRoom-clause-moments g c told =
     let site = c.args.self.now in
     let old = g.P.Plant.state c.args.plant.now in
-    let new = g.P.Plant.state c.append.new.plant in
+    let new = g.P.Plant.state c.append_within_set.new.plant in
     let items = changed_items c.args.change.now site.table.rows in
     let at : c.self.inside.journal.at ≡ site.at = ap (λ (s : SiteState). s.at) c.self.view_is in
     let marked : c.self.inside.journal.marked ≡ site.mark.at = c.self.invariant.marked_is ∙ ap (λ (s : SiteState). s.mark.at) c.self.view_is in
@@ -135,24 +135,24 @@ returns-in-Err-NoRoom-clause-moments g c told =
     let ahead = c.requires.stands told in
     let low : site.at.number < 2 ^ 64 = omega (arith, ap (λ (s : Spot). s.number) at) in
     let one = alone ahead.rows site old ahead.stands read low in
-    sees g.P.Plant.tells old new site c.args.cut.0 c.self.inside.journal.marked c.self.inside.journal.at c.take_change.new.body.items items marked at held told ahead (changes_rows c.args.change.now site.table.rows) one c.requires.cut c.requires.fits.set c.append.ensures.only (c.append.ensures.moments told)
+    sees g.P.Plant.tells old new site c.args.cut.0 c.self.inside.journal.marked c.self.inside.journal.at c.take_change.new.body.items items marked at held told ahead (changes_rows c.args.change.now site.table.rows) one c.requires.cut c.requires.fits.set c.append_within_set.ensures.only (c.append_within_set.ensures.moments told)
 
 pub returns-in-Err-NoRoom-clause-only : goal.returns-in-Err-NoRoom-clause-only
 returns-in-Err-NoRoom-clause-only g c =
     let site = c.args.self.now in
     let old = g.P.Plant.state c.args.plant.now in
-    let new = g.P.Plant.state c.append.new.plant in
+    let new = g.P.Plant.state c.append_within_set.new.plant in
     let items = changed_items c.args.change.now site.table.rows in
     let at : c.self.inside.journal.at ≡ site.at = ap (λ (s : SiteState). s.at) c.self.view_is in
     let marked : c.self.inside.journal.marked ≡ site.mark.at = c.self.invariant.marked_is ∙ ap (λ (s : SiteState). s.mark.at) c.self.view_is in
     let held : c.take_change.new.body.items ≡ items = ap (λ (h : Held). h.items) c.take_change.ensures ∙ ap (λ (s : SiteState). changed_items c.args.change.now s.table.rows) c.self.view_is in
-    only_there g.P.Plant.tells old new site c.args.cut.0 c.self.inside.journal.marked c.self.inside.journal.at c.take_change.new.body.items items marked at held c.append.ensures.only
+    only_there g.P.Plant.tells old new site c.args.cut.0 c.self.inside.journal.marked c.self.inside.journal.at c.take_change.new.body.items items marked at held c.append_within_set.ensures.only
 
 pub returns-in-Err-Fault-clause-moments : goal.returns-in-Err-Fault-clause-moments
 returns-in-Err-Fault-clause-moments g c told =
     let site = c.args.self.now in
     let old = g.P.Plant.state c.args.plant.now in
-    let new = g.P.Plant.state c.append.new.plant in
+    let new = g.P.Plant.state c.append_within_set.new.plant in
     let items = changed_items c.args.change.now site.table.rows in
     let at : c.self.inside.journal.at ≡ site.at = ap (λ (s : SiteState). s.at) c.self.view_is in
     let marked : c.self.inside.journal.marked ≡ site.mark.at = c.self.invariant.marked_is ∙ ap (λ (s : SiteState). s.mark.at) c.self.view_is in
@@ -161,24 +161,24 @@ returns-in-Err-Fault-clause-moments g c told =
     let ahead = c.requires.stands told in
     let low : site.at.number < 2 ^ 64 = omega (arith, ap (λ (s : Spot). s.number) at) in
     let one = alone ahead.rows site old ahead.stands read low in
-    sees g.P.Plant.tells old new site c.args.cut.0 c.self.inside.journal.marked c.self.inside.journal.at c.take_change.new.body.items items marked at held told ahead (changes_rows c.args.change.now site.table.rows) one c.requires.cut c.requires.fits.set c.append.ensures.only (c.append.ensures.moments told)
+    sees g.P.Plant.tells old new site c.args.cut.0 c.self.inside.journal.marked c.self.inside.journal.at c.take_change.new.body.items items marked at held told ahead (changes_rows c.args.change.now site.table.rows) one c.requires.cut c.requires.fits.set c.append_within_set.ensures.only (c.append_within_set.ensures.moments told)
 
 pub returns-in-Err-Fault-clause-only : goal.returns-in-Err-Fault-clause-only
 returns-in-Err-Fault-clause-only g c =
     let site = c.args.self.now in
     let old = g.P.Plant.state c.args.plant.now in
-    let new = g.P.Plant.state c.append.new.plant in
+    let new = g.P.Plant.state c.append_within_set.new.plant in
     let items = changed_items c.args.change.now site.table.rows in
     let at : c.self.inside.journal.at ≡ site.at = ap (λ (s : SiteState). s.at) c.self.view_is in
     let marked : c.self.inside.journal.marked ≡ site.mark.at = c.self.invariant.marked_is ∙ ap (λ (s : SiteState). s.mark.at) c.self.view_is in
     let held : c.take_change.new.body.items ≡ items = ap (λ (h : Held). h.items) c.take_change.ensures ∙ ap (λ (s : SiteState). changed_items c.args.change.now s.table.rows) c.self.view_is in
-    only_there g.P.Plant.tells old new site c.args.cut.0 c.self.inside.journal.marked c.self.inside.journal.at c.take_change.new.body.items items marked at held c.append.ensures.only
+    only_there g.P.Plant.tells old new site c.args.cut.0 c.self.inside.journal.marked c.self.inside.journal.at c.take_change.new.body.items items marked at held c.append_within_set.ensures.only
 
 pub returns-in-Ok-clause-refuses : goal.returns-in-Ok-clause-refuses
 returns-in-Ok-clause-refuses g c some =
     let site = c.args.self.now in
     let old = g.P.Plant.state c.args.plant.now in
-    let new = g.P.Plant.state c.append.new.plant in
+    let new = g.P.Plant.state c.append_within_set.new.plant in
     let items = changed_items c.args.change.now site.table.rows in
     let at : c.self.inside.journal.at ≡ site.at = ap (λ (s : SiteState). s.at) c.self.view_is in
     let marked : c.self.inside.journal.marked ≡ site.mark.at = c.self.invariant.marked_is ∙ ap (λ (s : SiteState). s.mark.at) c.self.view_is in
@@ -190,7 +190,7 @@ pub returns-in-Err-NoRoom-clause-refuses : goal.returns-in-Err-NoRoom-clause-ref
 returns-in-Err-NoRoom-clause-refuses g c some =
     let site = c.args.self.now in
     let old = g.P.Plant.state c.args.plant.now in
-    let new = g.P.Plant.state c.append.new.plant in
+    let new = g.P.Plant.state c.append_within_set.new.plant in
     let items = changed_items c.args.change.now site.table.rows in
     let at : c.self.inside.journal.at ≡ site.at = ap (λ (s : SiteState). s.at) c.self.view_is in
     let marked : c.self.inside.journal.marked ≡ site.mark.at = c.self.invariant.marked_is ∙ ap (λ (s : SiteState). s.mark.at) c.self.view_is in
@@ -202,18 +202,18 @@ pub returns-in-Err-NoRoom-clause-untouched : goal.returns-in-Err-NoRoom-clause-u
 returns-in-Err-NoRoom-clause-untouched g c told why =
     let site = c.args.self.now in
     let old = g.P.Plant.state c.args.plant.now in
-    let new = g.P.Plant.state c.append.new.plant in
+    let new = g.P.Plant.state c.append_within_set.new.plant in
     let items = changed_items c.args.change.now site.table.rows in
     let at : c.self.inside.journal.at ≡ site.at = ap (λ (s : SiteState). s.at) c.self.view_is in
     let marked : c.self.inside.journal.marked ≡ site.mark.at = c.self.invariant.marked_is ∙ ap (λ (s : SiteState). s.mark.at) c.self.view_is in
     let held : c.take_change.new.body.items ≡ items = ap (λ (h : Held). h.items) c.take_change.ensures ∙ ap (λ (s : SiteState). changed_items c.args.change.now s.table.rows) c.self.view_is in
-    all_stay g.P.Plant.tells old new site c.args.cut.0 c.self.inside.journal.marked c.self.inside.journal.at c.take_change.new.body.items items marked at held c.append.ensures.only told (c.in-Err-NoRoom.ensures.untouched told c.in-Err-NoRoom.field-0-0 c.in-Err-NoRoom.field-0-1 (ap (λ (e : AppendError). Err e) c.in-Err-NoRoom.field-0-is))
+    all_stay g.P.Plant.tells old new site c.args.cut.0 c.self.inside.journal.marked c.self.inside.journal.at c.take_change.new.body.items items marked at held c.append_within_set.ensures.only told (c.in-Err-NoRoom.ensures.untouched told c.in-Err-NoRoom.field-0-0 c.in-Err-NoRoom.field-0-1 (ap (λ (e : AppendError). Err e) c.in-Err-NoRoom.field-0-is))
 
 pub returns-in-Err-Fault-clause-refuses : goal.returns-in-Err-Fault-clause-refuses
 returns-in-Err-Fault-clause-refuses g c some =
     let site = c.args.self.now in
     let old = g.P.Plant.state c.args.plant.now in
-    let new = g.P.Plant.state c.append.new.plant in
+    let new = g.P.Plant.state c.append_within_set.new.plant in
     let items = changed_items c.args.change.now site.table.rows in
     let at : c.self.inside.journal.at ≡ site.at = ap (λ (s : SiteState). s.at) c.self.view_is in
     let marked : c.self.inside.journal.marked ≡ site.mark.at = c.self.invariant.marked_is ∙ ap (λ (s : SiteState). s.mark.at) c.self.view_is in
@@ -226,7 +226,7 @@ pub returns-in-Err-Fault-clause-cause : goal.returns-in-Err-Fault-clause-cause
 returns-in-Err-Fault-clause-cause g c =
     let site = c.args.self.now in
     let old = g.P.Plant.state c.args.plant.now in
-    let new = g.P.Plant.state c.append.new.plant in
+    let new = g.P.Plant.state c.append_within_set.new.plant in
     let items = changed_items c.args.change.now site.table.rows in
     let at : c.self.inside.journal.at ≡ site.at = ap (λ (s : SiteState). s.at) c.self.view_is in
     let marked : c.self.inside.journal.marked ≡ site.mark.at = c.self.invariant.marked_is ∙ ap (λ (s : SiteState). s.mark.at) c.self.view_is in
@@ -245,23 +245,23 @@ returns-then-self-clause-elsewhere g c told = nothing_torn (g.P.Plant.state c.ar
 pub returns-in-Ok-clause-elsewhere : goal.returns-in-Ok-clause-elsewhere
 returns-in-Ok-clause-elsewhere g c told =
     let old = g.P.Plant.state c.args.plant.now in
-    let new = g.P.Plant.state c.append.new.plant in
+    let new = g.P.Plant.state c.append_within_set.new.plant in
     let held = ap (λ (h : Held). h.items) c.take_change.ensures ∙ ap (λ (s : SiteState). changed_items c.args.change.now s.table.rows) c.self.view_is in
     elsewhere (form_of old) old.journals c.args.cut.0 c.self.inside.journal.marked c.self.inside.journal.at c.args.self.now.at c.take_change.new.body.items (changed_items c.args.change.now c.args.self.now.table.rows) old new
-    (ap (λ (s : SiteState). s.at) c.self.view_is) held (c.append.ensures.moments told)
+    (ap (λ (s : SiteState). s.at) c.self.view_is) held (c.append_within_set.ensures.moments told)
 
 pub returns-in-Err-NoRoom-clause-elsewhere : goal.returns-in-Err-NoRoom-clause-elsewhere
 returns-in-Err-NoRoom-clause-elsewhere g c told =
     let old = g.P.Plant.state c.args.plant.now in
-    let new = g.P.Plant.state c.append.new.plant in
+    let new = g.P.Plant.state c.append_within_set.new.plant in
     let held = ap (λ (h : Held). h.items) c.take_change.ensures ∙ ap (λ (s : SiteState). changed_items c.args.change.now s.table.rows) c.self.view_is in
     elsewhere (form_of old) old.journals c.args.cut.0 c.self.inside.journal.marked c.self.inside.journal.at c.args.self.now.at c.take_change.new.body.items (changed_items c.args.change.now c.args.self.now.table.rows) old new
-    (ap (λ (s : SiteState). s.at) c.self.view_is) held (c.append.ensures.moments told)
+    (ap (λ (s : SiteState). s.at) c.self.view_is) held (c.append_within_set.ensures.moments told)
 
 pub returns-in-Err-Fault-clause-elsewhere : goal.returns-in-Err-Fault-clause-elsewhere
 returns-in-Err-Fault-clause-elsewhere g c told =
     let old = g.P.Plant.state c.args.plant.now in
-    let new = g.P.Plant.state c.append.new.plant in
+    let new = g.P.Plant.state c.append_within_set.new.plant in
     let held = ap (λ (h : Held). h.items) c.take_change.ensures ∙ ap (λ (s : SiteState). changed_items c.args.change.now s.table.rows) c.self.view_is in
     elsewhere (form_of old) old.journals c.args.cut.0 c.self.inside.journal.marked c.self.inside.journal.at c.args.self.now.at c.take_change.new.body.items (changed_items c.args.change.now c.args.self.now.table.rows) old new
-    (ap (λ (s : SiteState). s.at) c.self.view_is) held (c.append.ensures.moments told)
+    (ap (λ (s : SiteState). s.at) c.self.view_is) held (c.append_within_set.ensures.moments told)

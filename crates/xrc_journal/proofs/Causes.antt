@@ -1,0 +1,53 @@
+-- Why no record is put at the journal's end.
+use Rattle.std.proofs.Common.{◌≡◌, ◌≤◌, inl, inr, arith, ℕ, Result, Ok, Err, refl, sym, subst, ◌∙◌}
+use Rattle.std.specs.Prelude.{OnOk}
+use Rattle.xrc_edge.specs.Causes.{Rose}
+use Rattle.crash_plant.specs.declared.device.Device.{Device}
+use Rattle.crash_plant.specs.declared.device.Device.TheVariants.{Journal}
+use Rattle.crash_plant.specs.Moments.{PlantState}
+use Rattle.xrc_journal.specs.declared.journal.AppendError.{AppendError}
+use Rattle.xrc_journal.specs.declared.journal.AppendError.TheVariants.{NoRoom, Fault}
+use Rattle.xrc_journal.specs.Appending.{GrowCause, RefusesRoom}
+
+fault_is : (set j : ℕ) → (let a : Result (Unit {0}) AppendError = Err (Fault set) in let b : Result (Unit {0}) AppendError = Err (Fault j) in a ≡ b) → j ≡ set
+fault_is set j e = cc
+
+pub fault_not_full : (set n f : ℕ) → (let a : Result (Unit {0}) AppendError = Err (Fault set) in let b : Result (Unit {0}) AppendError = Err (NoRoom n f) in a ≡ b) → ⊥
+fault_not_full set n f e = cc
+
+-- A journal whose count rose is named.
+pub fault_grows : (among : Device → Type 0) (old new : PlantState) (set : ℕ) → among (Journal set) → Rose (old.faults (Journal set)) (new.faults (Journal set)) → GrowCause among old new (Err (Fault set))
+fault_grows among old new set is rose = record {
+  fault = λ j named. let same = sym (fault_is set j named) in (subst (λ (n : ℕ). among (Journal n)) same is, subst (λ (n : ℕ). Rose (old.faults (Journal n)) (new.faults (Journal n))) same rose);
+  others = λ none. absurd (none set refl);
+}
+
+-- A count that rose in a later call rose.
+pub rose_since : (a b c : ℕ) → a ≤ b → Rose b c → Rose a c
+rose_since a b c le (inl lower) = inl (omega (arith, le, lower))
+rose_since a b c le (inr most) = inr most
+
+-- A fault refuses for no want of room.
+pub fault_has_room : (why : Type 0) (needed free set : ℕ) → ¬ why → RefusesRoom why needed free (Err (Fault set))
+fault_has_room why needed free set not = record { refused = λ full. absurd (not full); only = λ n f named. absurd (fault_not_full set n f named) }
+
+-- what two clauses of one answer show together
+pub on_ok_both : {T E P Q R : Type 0} (result : Result T E) → (P → Q → R) → OnOk result P → OnOk result Q → OnOk result R
+on_ok_both (Ok value) both one two = both one two
+on_ok_both (Err error) both one two = tt
+
+pub on_ok_all : {T E P Q R S U : Type 0} (result : Result T E) → (P → Q → R → S → U) → OnOk result P → OnOk result Q → OnOk result R → OnOk result S → OnOk result U
+on_ok_all (Ok value) all one two three four = all one two three four
+on_ok_all (Err error) all one two three four = tt
+
+-- ---- what it says of each answer
+
+ok_is_no_fault : (value : Unit {0}) (j : ℕ) → (let a : Result (Unit {0}) AppendError = Ok value in let b : Result (Unit {0}) AppendError = Err (Fault j) in a ≡ b) → ⊥
+ok_is_no_fault value j e = cc
+
+pub grows_ok : (among : Device → Type 0) (old new : PlantState) (result : Result (Unit {0}) AppendError) (d : Device) → GrowCause among old new result → OnOk result (new.faults d ≡ old.faults d)
+grows_ok among old new (Ok value) d cause = cause.others (λ j. ok_is_no_fault value j) d
+grows_ok among old new (Err error) d cause = tt
+
+pub refusal_grows : (among : Device → Type 0) (old new : PlantState) (result : Result (Unit {0}) AppendError) (n f : ℕ) (d : Device) → (let refusal : Result (Unit {0}) AppendError = Err (NoRoom n f) in result ≡ refusal) → GrowCause among old new result → new.faults d ≡ old.faults d
+refusal_grows among old new result n f d is cause = cause.others (λ j fault. fault_not_full j n f (sym fault ∙ is)) d
