@@ -26,7 +26,7 @@ use Rattle.consistency.proofs.Pieces.{times_append}
 use Rattle.session_points.specs.Bearing.{GoesThroughPoints, MayBeMeant, ShowsPoint}
 use Rattle.session_points.specs.Between.{MayReply, RunGoesOn, ShowsMeant}
 use Rattle.session_points.specs.Leads.{Point}
-use Rattle.session_points.specs.Ways.{Arrival, PassedPoint, stage_point}
+use Rattle.session_points.specs.Ways.{Leg, PassedPoint, Way, stage_point}
 use Rattle.session_points.proofs.Bearing.{points_bear}
 use Rattle.session_points.proofs.InARow.{all_shown}
 use Rattle.session_points.proofs.Leading.{leads_toward, whole_itself}
@@ -65,7 +65,7 @@ pub passages_go_on : (first old new : PlantState) (run : Run) (grammar : List �
 passages_go_on first old new run grammar lines text p points next goes site elapses silent passed =
     works_go_on first old new run grammar lines text goes site elapses silent (λ started t since to c is.
     let way = passed started in
-    all_shown Point Arrival Choice (IsChoice new) (ShowsPoint run (shape_of new)) (MayBeMeant run (stage_now run grammar first.script lines text)) old.clock new.clock p points next way.1 way.2 way.3 way.0 t since to c is)
+    all_shown Point Way Choice (IsChoice new) (ShowsPoint run (shape_of new)) (MayBeMeant run (stage_now run grammar first.script lines text)) old.clock new.clock p points next way.1 way.2 way.3 way.0 t since to c is)
 
 -- ---- a stage's own point
 
@@ -91,8 +91,8 @@ stages_are_points run s none counted = record { ended = inr refl; in_time = (ome
 
 -- ---- replies
 
-module _ (run : Run) (grammar : List ℕ → Option TimedCommand) (lines : List Answered) (from : Point) (points : List PassedPoint) (a : Answered) (first old new : PlantState) (goes : RunGoesOn run grammar lines a.text first old)
-    (reply : MayReply run (stage_now run grammar first.script lines a.text) from points a old) (tells : Type 0) (told : tells) (works : WorksOnConsole tells old new) (says : Says a.reply old new) where
+module _ (run : Run) (grammar : List ℕ → Option TimedCommand) (lines : List Answered) (from : Leg) (points : List PassedPoint) (a : Answered) (first old new : PlantState) (goes : RunGoesOn run grammar lines a.text first old)
+    (reply : MayReply run (stage_now run grammar first.script lines a.text) lines from points a old) (tells : Type 0) (told : tells) (works : WorksOnConsole tells old new) (says : Says a.reply old new) where
   abbrev s : Stage
   s = stage_now run grammar first.script lines a.text
 
@@ -128,7 +128,7 @@ module _ (run : Run) (grammar : List ℕ → Option TimedCommand) (lines : List 
   said_up_to =
       subst (λ (l : List ℕ). AreUpTo behind.replied l) (sym (times_append (replies_of lines) a.reply (replies_whole run lines goes.keeps.course)))
       (All-append (λ z. z ≤ behind.replied) (times_said (replies_of lines)) (times_said a.reply) (up_to_later before.replied behind.replied (times_said (replies_of lines)) rises goes.said)
-      (exact_says_up_to run s from points a reply.names goes.short reply.short reply.exact))
+      (exact_says_up_to run s from.point points (length lines) a reply.names goes.short reply.short reply.exact))
 
   -- A started session stays started.
   stays_started : before.table.is_started ≡ true → a.table.is_started ≡ true

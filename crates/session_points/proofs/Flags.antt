@@ -11,7 +11,7 @@ use Rattle.consistency.specs.Steps.{TimedCommand}
 use Rattle.session_points.specs.Bearing.{IsFlagInTime, MayBeMeant, MayBeMeantInTime}
 use Rattle.session_points.specs.Leads.{Point}
 use Rattle.session_points.specs.Points.{AreLinked}
-use Rattle.session_points.specs.Ways.{ComesNext, IsCommanding, IsEnding, IsLegOf, Leg, PassedPoint, is_on_the_way, leg_after, stage_point}
+use Rattle.session_points.specs.Ways.{ComesNext, IsCommanding, IsEnding, IsLegOf, IsMarking, Leg, PassedPoint, is_on_the_way, leg_after, stage_point}
 use Rattle.session_points.proofs.Legs.{ends_alike, leg_goes}
 use Rattle.session_points.proofs.OnTheWay.{leg_after_way, point_after}
 
@@ -44,10 +44,13 @@ module _ (run : Run) (s : Stage) (goes : s.table.is_ended ≡ false) where
       let on = leg_goes run s goes l leg in
       going_flag q ((commanding.active on).leads.leads.goes_on ∙ on) may
 
+  pub mark_in_time : (l : Leg) (q : Point) (hits : List Timed) → IsLegOf run s l → IsMarking run s.next l q hits → MayBeMeant run s q → MayBeMeantInTime run s q
+  mark_in_time l q hits leg marking may = going_flag q (marking.leads.leads.goes_on ∙ leg_goes run s goes l leg) may
+
   pub ending_in_time : (l : Leg) (q r : Point) (hits more : List Timed) → IsLegOf run s l → IsCommanding run s.next l q hits → IsEnding run s.next q r more → MayBeMeant run s r → MayBeMeantInTime run s r
   ending_in_time l q r hits more leg commanding ending may =
       let not_ended : q.is_ended ≡ (stage_point s).is_ended = (commanding.active (leg_goes run s goes l leg)).leads.leads.goes_on ∙ leg.whole.leads.goes_on in
-      let accepted = subst (λ (x : Table). accepts_end run x s.next ≡ true) (sym leg.table) (ends_alike run s goes q (stage_point s) s.next not_ended ending.accepted) in
+      let accepted = subst (λ (x : Table). accepts_end run x s.next ≡ true) (sym leg.table) (ends_alike run q (stage_point s) s.next not_ended ending.accepted) in
       record { may = may; flag = inr (accepted, ending.ended, at_line s.next ending.at) }
     where
       at_line : (o : Option TimedCommand) → IfSome o (λ line. q.time ≡ line.time) → IfSome o (λ line. r.time ≡ line.time)

@@ -9,7 +9,7 @@ use Rattle.pair_table.specs.declared.row.PairRow.{PairRow}
 use Rattle.row_changes.specs.Changes.{Due, Timed, after_change, after_changes, due_after, may_all_come, may_come, may_end}
 use Rattle.row_changes.specs.Changes.Due.{NoneDue}
 use Rattle.row_changes.specs.Toward.{Toward, all_broke, breaks_control, lies_in}
-use Rattle.session_points.specs.Leads.{Comes, HitsLead, Leads, LeadsWhole, Point}
+use Rattle.session_points.specs.Leads.{Comes, Leads, LeadsWhole, Point}
 
 module _ (level : Level) (breaks : List (Option ℕ)) where
   -- What comes from a time on comes from an earlier one on.
@@ -96,9 +96,9 @@ broke_still from to k (b ∷ breaks) xs ys broke =
     one true e = refl
     one false e = any_left k xs ys e
 
--- Hits at a point's time leave whole what led to it.
-pub hits_whole : (level : Level) (breaks : List (Option ℕ)) (p q r : Point) (xs hits : List Timed) → LeadsWhole level breaks p q xs → HitsLead level breaks q r hits → LeadsWhole level breaks p r (xs ++ hits)
-hits_whole level breaks p q r xs hits whole hit = record {
-  leads = leads_on level breaks p q r xs hits whole.leads hit.leads;
-  broken = broke_still p.time r.time 0 breaks xs hits (subst (λ (n : ℕ). all_broke p.time n 0 breaks xs ≡ true) (sym hit.at) whole.broken);
+-- Changes at a point's own time leave whole what led to it.
+pub hits_whole : (level : Level) (breaks : List (Option ℕ)) (p q r : Point) (xs hits : List Timed) → LeadsWhole level breaks p q xs → r.time ≡ q.time → Leads level breaks q r hits → LeadsWhole level breaks p r (xs ++ hits)
+hits_whole level breaks p q r xs hits whole at leads = record {
+  leads = leads_on level breaks p q r xs hits whole.leads leads;
+  broken = broke_still p.time r.time 0 breaks xs hits (subst (λ (n : ℕ). all_broke p.time n 0 breaks xs ≡ true) (sym at) whole.broken);
 }

@@ -1,6 +1,8 @@
 pub mod InARow
 pub mod Leading
 pub mod Hits
+pub mod Counting
+pub mod Marked
 pub mod Since
 pub mod Bearing
 pub mod Legs
@@ -12,6 +14,8 @@ pub mod Naming
 pub mod Words
 pub mod Telling
 pub mod Replying
+pub mod Reading
 pub mod Moments
 pub mod Between
 pub mod Owed
+pub mod Told

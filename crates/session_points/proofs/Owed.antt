@@ -22,7 +22,7 @@ use Rattle.session_points.specs.Bearing.{ShowsPoint}
 use Rattle.session_points.specs.Laws.{IsWalked}
 use Rattle.session_points.specs.Leads.{Point}
 use Rattle.session_points.specs.Owing.{HasBeenDuplex, has_pair_in, is_by_device, is_changed, is_meant_in, owes_in, owes_track, tracks_asked, tracks_owed, was_duplex}
-use Rattle.session_points.specs.Ways.{Arrival, PassedPoint}
+use Rattle.session_points.specs.Ways.{PassedPoint, Way}
 use Rattle.session_points.proofs.Since.{WasSince, moments_tell, points_tell}
 
 -- What a choice that shows a point means of a pair is what the point has.
@@ -37,11 +37,11 @@ module _ (run : Run) (plant : PlantState) (row : PairRow) (from to : ℕ) (first
   is_now p = has_pair_in row row.state p.rows
 
   abbrev Since : ℕ → Type 0
-  Since t = WasSince Point Arrival Choice (IsChoice plant) (ShowsPoint run (shape_of plant)) was is_now (is_meant_in row Duplex plant) (is_meant_in row row.state plant) (meant_is run plant row Duplex) (meant_is run plant row row.state) from t
+  Since t = WasSince Point Way Choice (IsChoice plant) (ShowsPoint run (shape_of plant)) was is_now (is_meant_in row Duplex plant) (is_meant_in row row.state plant) (meant_is run plant row Duplex) (meant_is run plant row row.state) from t
 
   pub duplex_by_points : was_duplex row first points ≡ true → HasBeenDuplex row plant from to
   duplex_by_points is =
-      let since : Since to = points_tell Point Arrival Choice (IsChoice plant) (ShowsPoint run (shape_of plant)) was is_now (is_meant_in row Duplex plant) (is_meant_in row row.state plant) (meant_is run plant row Duplex) (meant_is run plant row row.state)
+      let since : Since to = points_tell Point Way Choice (IsChoice plant) (ShowsPoint run (shape_of plant)) was is_now (is_meant_in row Duplex plant) (is_meant_in row row.state plant) (meant_is run plant row Duplex) (meant_is run plant row row.state)
       from from to first points (was first) walked.goes begins (omega arith) is in
       record { moment = since.moment; since = since.since; within = since.within; duplex = λ c has. since.so_there since.moment (omega arith) (omega arith) c has; later = λ t from-on up c has. since.later t from-on up c has }
     where
@@ -59,7 +59,7 @@ module _ (run : Run) (plant : PlantState) (row : PairRow) (from to : ℕ) (first
 
   pub duplex_by_moments : HasBeenDuplex row plant from to → was_duplex row first points ≡ true
   duplex_by_moments been =
-      moments_tell Point Arrival Choice (IsChoice plant) (ShowsPoint run (shape_of plant)) was is_now (is_meant_in row Duplex plant) (is_meant_in row row.state plant) (meant_is run plant row Duplex) (meant_is run plant row row.state)
+      moments_tell Point Way Choice (IsChoice plant) (ShowsPoint run (shape_of plant)) was is_now (is_meant_in row Duplex plant) (is_meant_in row row.state plant) (meant_is run plant row Duplex) (meant_is run plant row row.state)
       from to first points (was first) walked.goes walked.some (λ is. is)
       (record {
         moment = been.moment;

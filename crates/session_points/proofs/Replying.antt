@@ -50,7 +50,7 @@ command_spaced (Suspend choice) = refl
 command_spaced Query = refl
 command_spaced End = refl
 
-abbrev value_words : Refusal → List (List ℕ)
+abbrev pub value_words : Refusal → List (List ℕ)
 value_words (TooSmall tracks) = decimal tracks ∷ []
 value_words (ControlBroken control) = decimal control ∷ []
 value_words NoSession = []
@@ -77,7 +77,7 @@ value_spaced NotPaired = refl
 value_spaced Ended = refl
 
 -- the words behind a refusal's word
-abbrev refusal_words : Refusal → List (List ℕ)
+abbrev pub refusal_words : Refusal → List (List ℕ)
 refusal_words refusal = decimal (refusal_number refusal) ∷ refusal_name refusal ∷ value_words refusal
 
 name_quiet : (refusal : Refusal) → AreQuiet (refusal_name refusal ∷ value_words refusal)
@@ -101,7 +101,7 @@ refusal_spaced refusal =
     ap (λ (l : List ℕ). codes " REFUSED" ++ ((32 ∷ decimal (refusal_number refusal)) ++ ((32 ∷ refusal_name refusal) ++ l))) (value_spaced refusal)
     ∙ refusal_is (decimal (refusal_number refusal)) (refusal_name refusal) (value_part refusal)
 
-abbrev tracks_words : Command → (tracks : ℕ) → List (List ℕ)
+abbrev pub tracks_words : Command → (tracks : ℕ) → List (List ℕ)
 tracks_words (AddPair primary secondary) tracks = codes "TRACKS" ∷ decimal tracks ∷ []
 tracks_words (Start level) tracks = []
 tracks_words (DelPair choice) tracks = []
@@ -126,7 +126,7 @@ tracks_quiet Query tracks = no_more
 tracks_quiet End tracks = no_more
 
 -- the words behind the answer's own
-abbrev answer_words : Command → Result Change Refusal → (tracks : ℕ) → List (List ℕ)
+abbrev pub answer_words : Command → Result Change Refusal → (tracks : ℕ) → List (List ℕ)
 answer_words command (Ok change) tracks = tracks_words command tracks
 answer_words command (Err refusal) tracks = refusal_words refusal
 
@@ -138,7 +138,7 @@ answer_quiet : (command : Command) (answer : Result Change Refusal) (tracks : �
 answer_quiet command (Ok change) tracks = tracks_quiet command tracks
 answer_quiet command (Err refusal) tracks = quiet_number (refusal_number refusal) (name_quiet refusal)
 
-abbrev told_words : Option Stamp → List (List ℕ)
+abbrev pub told_words : Option Stamp → List (List ℕ)
 told_words None = []
 told_words (Some time) = time_word time.0 ∷ []
 
@@ -156,10 +156,10 @@ reply_is : (time command answer behind told : List ℕ) → (time ++ (command ++
 reply_is time command answer behind told = simp append_assoc
 
 module _ (time : ℕ) (command : Command) (answer : Result Change Refusal) (tracks : ℕ) (told : Option Stamp) where
-  abbrev others : List (List ℕ)
+  abbrev pub others : List (List ℕ)
   others = answer_words command answer tracks ++ told_words told
 
-  line_is : spelled (stamp_text time) (command_word command ∷ answer_word (is_ok answer) ∷ others) ++ 10 ∷ [] ≡ reply_line time command answer tracks told
+  pub line_is : spelled (stamp_text time) (command_word command ∷ answer_word (is_ok answer) ∷ others) ++ 10 ∷ [] ≡ reply_line time command answer tracks told
   line_is =
       ap (λ (l : List ℕ). (stamp_text time ++ ((32 ∷ command_word command) ++ ((32 ∷ answer_word (is_ok answer)) ++ l))) ++ 10 ∷ []) (flat_map-append (λ w. 32 ∷ w) (answer_words command answer tracks) (told_words told))
       ∙ reply_is (stamp_text time) (32 ∷ command_word command) (32 ∷ answer_word (is_ok answer)) (spaced (answer_words command answer tracks)) (spaced (told_words told))
@@ -172,10 +172,10 @@ module _ (time : ℕ) (command : Command) (answer : Result Change Refusal) (trac
   words_then [] (Some t) no_more = one_more (time_is_word t.0) no_word
   words_then (word ∷ first) o (quiet_then is tells rest) = one_more is (words_then first o rest)
 
-  others_are : AreWords others
+  pub others_are : AreWords others
   others_are = words_then (answer_words command answer tracks) told (answer_quiet command answer tracks)
 
-  command_is : IsWord (command_word command)
+  pub command_is : IsWord (command_word command)
   command_is = of_command command
     where
       of_command : (c : Command) → IsWord (command_word c)
@@ -186,7 +186,7 @@ module _ (time : ℕ) (command : Command) (answer : Result Change Refusal) (trac
       of_command Query = (refl, refl)
       of_command End = (refl, refl)
 
-  answer_is : (b : Bool) → IsWord (answer_word b)
+  pub answer_is : (b : Bool) → IsWord (answer_word b)
   answer_is true = (refl, refl)
   answer_is false = (refl, refl)
 
@@ -207,7 +207,7 @@ module _ (time : ℕ) (command : Command) (answer : Result Change Refusal) (trac
 
 -- ---- exact replies
 
-module _ (run : Run) (s : Stage) (first : Point) (points : List PassedPoint) (a : Answered) (names : HasNames s.table) where
+module _ (run : Run) (s : Stage) (first : Point) (points : List PassedPoint) (number : ℕ) (a : Answered) (names : HasNames s.table) where
   abbrev table : Table
   table = table_on_the_way run.level a.changes s.table
 
@@ -218,18 +218,18 @@ module _ (run : Run) (s : Stage) (first : Point) (points : List PassedPoint) (a 
   report_is true = report_tells table run.level a.line.time (map (cause_at a.line.time) run.traces) (names_on_the_way run.level a.changes s.table names)
   report_is false = nothing_tells a.line.time
 
-  report_there : Tells a.line.time (if is_reported run table a.line then a.line.time ∷ [] else []) (report_before run table a.line)
+  pub report_there : Tells a.line.time (if is_reported run table a.line then a.line.time ∷ [] else []) (report_before run table a.line)
   report_there = report_is (is_reported run table a.line)
 
   abbrev told : Option Stamp
-  told = option_map stamp (reply_content run s first points a).time
+  told = option_map stamp (reply_content run s first points number a).time
 
-  accepted_as : is_ok (reply_content run s first points a).answer ≡ accepts run table a.line
-  accepted_as = content_as_accepted run s first points a.text a.reply a.line a.changes a.hits
+  accepted_as : is_ok (reply_content run s first points number a).answer ≡ accepts run table a.line
+  accepted_as = content_as_accepted run s first points number a.text a.reply a.line a.changes a.hits
 
-  pub exact_is_reply : IsExact run s first points a → IsReply (accepts run table a.line) a.line a.reply
+  pub exact_is_reply : IsExact run s first points number a → IsReply (accepts run table a.line) a.line a.reply
   exact_is_reply exact =
-      let content = reply_content run s first points a in
+      let content = reply_content run s first points number a in
       let report = report_before run table a.line in
       let behind = others a.line.time a.line.command content.answer content.tracks told in
       let own = spelled (stamp_text a.line.time) (command_word a.line.command ∷ answer_word (is_ok content.answer) ∷ behind) in
@@ -256,9 +256,9 @@ module _ (run : Run) (s : Stage) (first : Point) (points : List PassedPoint) (a 
   told_are true = refl
   told_are false = refl
 
-  pub exact_says : s.replied < 2 ^ 64 → a.line.time < 2 ^ 64 → IsExact run s first points a → times_said a.reply ≡ times_replied run s a
+  pub exact_says : s.replied < 2 ^ 64 → a.line.time < 2 ^ 64 → IsExact run s first points number a → times_said a.reply ≡ times_replied run s a
   exact_says old new exact =
-      let content = reply_content run s first points a in
+      let content = reply_content run s first points number a in
       let report = report_before run table a.line in
       let own = reply_line a.line.time a.line.command content.answer content.tracks told in
       ap times_said exact ∙ times_append report own report_there.whole ∙ ap (λ (l : List ℕ). l ++ times_said own) (report_there.said new)
@@ -280,31 +280,31 @@ module _ (run : Run) (s : Stage) (first : Point) (points : List PassedPoint) (a 
   told_time true = All-cons (λ z. z ≤ latest) latest [] (omega arith) (All-nil (λ z. z ≤ latest))
   told_time false = All-nil (λ z. z ≤ latest)
 
-  pub exact_says_up_to : s.replied < 2 ^ 64 → a.line.time < 2 ^ 64 → IsExact run s first points a → AreUpTo latest (times_said a.reply)
+  pub exact_says_up_to : s.replied < 2 ^ 64 → a.line.time < 2 ^ 64 → IsExact run s first points number a → AreUpTo latest (times_said a.reply)
   exact_says_up_to old new exact =
       subst (AreUpTo latest) (sym (exact_says old new exact))
       (All-append (λ z. z ≤ latest) (if is_reported run table a.line then a.line.time ∷ [] else []) (if a.table.is_started then latest ∷ [] else []) (report_time (is_reported run table a.line) refl) (told_time a.table.is_started))
 
 -- The reply to an accepted query begins with its report.
-pub report_first : (run : Run) (s : Stage) (first : Point) (points : List PassedPoint) (a : Answered) → (let table = table_on_the_way run.level a.changes s.table in
-    a.line.command ≡ Query → accepts run table a.line ≡ true → IsExact run s first points a → (own : List ℕ) × (a.reply ≡ report_text table run.level a.line.time (map (cause_at a.line.time) run.traces) ++ own))
-report_first run s first points a query accepted exact =
-    let content = reply_content run s first points a in
+pub report_first : (run : Run) (s : Stage) (first : Point) (points : List PassedPoint) (number : ℕ) (a : Answered) → (let table = table_on_the_way run.level a.changes s.table in
+    a.line.command ≡ Query → accepts run table a.line ≡ true → IsExact run s first points number a → (own : List ℕ) × (a.reply ≡ report_text table run.level a.line.time (map (cause_at a.line.time) run.traces) ++ own))
+report_first run s first points number a query accepted exact =
+    let content = reply_content run s first points number a in
     let table = table_on_the_way run.level a.changes s.table in
     let own = reply_line a.line.time a.line.command content.answer content.tracks (option_map stamp content.time) in
     (own, exact ∙ ap (λ (b : Bool). (if b then report_text table run.level a.line.time (map (cause_at a.line.time) run.traces) else []) ++ own) (ap (λ (b : Bool). is_query a.line.command && b) accepted ∙ ap (λ (c : Command). is_query c && true) query))
 
 -- ---- lines that are answered
 
-module _ (run : Run) (s : Stage) (goes : s.table.is_ended ≡ false) (l : Leg) (leg : IsLegOf run s l) (q : Point) (hits : List Timed) (c : IsCommanding run s.next l q hits) (text reply : List ℕ) (first : Point) (points : List PassedPoint) (names : HasNames s.table) where
-  pub command_exactly : AreCounted run.rises (s.past ++ l.changes ++ hits) → IsExact run s first points (answered_by run s text reply c.line l.changes hits) → IsAnswered run s (answered_by run s text reply c.line l.changes hits)
+module _ (run : Run) (s : Stage) (goes : s.table.is_ended ≡ false) (l : Leg) (leg : IsLegOf run s l) (q : Point) (hits : List Timed) (c : IsCommanding run s.next l q hits) (text reply : List ℕ) (first : Point) (points : List PassedPoint) (number : ℕ) (names : HasNames s.table) where
+  pub command_exactly : AreCounted run.rises (s.past ++ l.changes ++ hits) → IsExact run s first points number (answered_by run s text reply c.line l.changes hits) → IsAnswered run s (answered_by run s text reply c.line l.changes hits)
   command_exactly counted exact =
       command_is_answered run s goes l leg q hits c text reply counted
       (subst (λ (x : Table). IsReply (accepts run x c.line) c.line reply) (sym (table_there run s goes l leg c.line q hits (c.active (leg_goes run s goes l leg))))
-      (exact_is_reply run s first points (answered_by run s text reply c.line l.changes hits) names exact))
+      (exact_is_reply run s first points number (answered_by run s text reply c.line l.changes hits) names exact))
 
-pub inactive_exactly : (run : Run) (s : Stage) (text reply : List ℕ) (line : TimedCommand) (first : Point) (points : List PassedPoint) → is_active s.table ≡ false → AreCounted run.rises s.past
-    → ((level : Level) → line.command ≡ Start level → accepts run s.table line ≡ true → level ≡ run.level) → HasNames s.table → IsExact run s first points (answered_by run s text reply line [] [])
+pub inactive_exactly : (run : Run) (s : Stage) (text reply : List ℕ) (line : TimedCommand) (first : Point) (points : List PassedPoint) (number : ℕ) → is_active s.table ≡ false → AreCounted run.rises s.past
+    → ((level : Level) → line.command ≡ Start level → accepts run s.table line ≡ true → level ≡ run.level) → HasNames s.table → IsExact run s first points number (answered_by run s text reply line [] [])
     → IsAnswered run s (answered_by run s text reply line [] [])
-inactive_exactly run s text reply line first points off counted level names exact =
-    inactive_is_answered run s text reply line off counted level (exact_is_reply run s first points (answered_by run s text reply line [] []) names exact)
+inactive_exactly run s text reply line first points number off counted level names exact =
+    inactive_is_answered run s text reply line off counted level (exact_is_reply run s first points number (answered_by run s text reply line [] []) names exact)

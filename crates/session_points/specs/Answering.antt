@@ -28,17 +28,17 @@ answered_by run s text reply line changes hits = record {
 
 -- ---- what a reply tells
 
--- whether a way is the command of the line with a number
+-- whether a way is the command of the line with a number, or the mark that the command's record needed first
 abbrev pub is_command_of : (line : ℕ) → Way → Bool
 is_command_of line (Commanded n hits) = n == line
+is_command_of line (MarkedFor n hits) = n == line
 is_command_of line (OnTheWay changes) = false
 is_command_of line (Ending n hits) = false
-is_command_of line (MarkedFor hits) = false
 
--- the points that were passed before the command of the line with a number
+-- The points that were passed before the command of the line with a number. A mark that the command's record needed first is behind them.
 abbrev pub points_before : (line : ℕ) → List PassedPoint → List PassedPoint
 points_before line [] = []
-points_before line (n ∷ points) = if is_command_of line n.way.way then [] else n ∷ points_before line points
+points_before line (n ∷ points) = if is_command_of line n.way then [] else n ∷ points_before line points
 
 -- What a reply's line tells behind its command's word: the answer, the tracks that an accepted add has to copy, and the stamp behind `T=`,
 -- which stands there once the session has started.
@@ -56,12 +56,12 @@ tracks_of_command run first points rows time (Suspend choice) = 0
 tracks_of_command run first points rows time Query = 0
 tracks_of_command run first points rows time End = 0
 
--- What the reply to a line tells, where these points were passed before its command.
-abbrev pub reply_content : Run → Stage → (first : Point) → List PassedPoint → Answered → ReplyContent
-reply_content run s first points a =
+-- What the reply to the line with a number tells, if the session has passed these points. Its tracks are told by those before its command.
+abbrev pub reply_content : Run → Stage → (first : Point) → List PassedPoint → (number : ℕ) → Answered → ReplyContent
+reply_content run s first points number a =
     let table = table_on_the_way run.level a.changes s.table in
     record {
       answer = answer (names_at a.line.time (breaks_of run) (names_of run)) table a.line.session a.line.command;
-      tracks = tracks_of_command run first points table.rows a.line.time a.line.command;
+      tracks = tracks_of_command run first (points_before number points) table.rows a.line.time a.line.command;
       time = if a.table.is_started then Some (replied_after s a.line) else None;
     }

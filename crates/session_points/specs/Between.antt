@@ -1,6 +1,7 @@
 -- What holds of a run between two of its calls, where its replies are exact, and what its calls must leave.
-use Rattle.std.specs.Prelude.{◌≡◌, ℕ, ◌^◌, ◌<◌, List, length, Option, Some, IsTrue}
-use Rattle.crash_plant.specs.Choices.{AtNow, Choice}
+use Rattle.std.specs.Prelude.{◌≡◌, ℕ, suc, ◌^◌, ◌<◌, List, [], ◌∷◌, ◌++◌, length, fold, slice_get, Option, Some, None, IsTrue}
+use Rattle.std.specs.Option.{option_map}
+use Rattle.crash_plant.specs.Choices.{AtMoment, AtNow, Choice}
 use Rattle.crash_plant.specs.Moments.{PlantState}
 use Rattle.site_means.specs.Images.{shape_of}
 use Rattle.consistency.specs.Bears.{Run, Stage}
@@ -9,10 +10,11 @@ use Rattle.consistency.specs.Keeping.{Keeps}
 use Rattle.consistency.specs.Moments.{AreUpTo}
 use Rattle.consistency.specs.Steps.{TimedCommand}
 use Rattle.consistency.specs.Times.{times_said}
-use Rattle.session_points.specs.Bearing.{MayBeMeant, ShowsPoint}
+use Rattle.session_points.specs.Bearing.{GoesThroughPoints, MayBeMeant, ShowsPoint}
 use Rattle.session_points.specs.Leads.{Point}
 use Rattle.session_points.specs.Replying.{HasNames, IsExact}
-use Rattle.session_points.specs.Ways.{PassedPoint, stage_point}
+use Rattle.session_points.specs.Points.{AreLinked}
+use Rattle.session_points.specs.Ways.{ComesNext, Leg, PassedPoint, leg_after, stage_point}
 
 -- A run goes on from a plant's state to another: its moments so far bear, and no time that it said is behind that of its last reply.
 pub record RunGoesOn (run : Run) (grammar : List ℕ → Option TimedCommand) (lines : List Answered) (text : List ℕ) (old new : PlantState) : Type 0 where
@@ -25,13 +27,28 @@ pub record RunGoesOn (run : Run) (grammar : List ℕ → Option TimedCommand) (l
 abbrev pub ShowsMeant : Run → Stage → PlantState → Choice → Type 0
 ShowsMeant run s plant c = (p : Point) × MayBeMeant run s p × ShowsPoint run (shape_of plant) p c
 
--- A line that was heard whole may be replied to. It is answered at its stage, these points were passed before its command, its reply is
--- exact, and once the session has started whatever a crash may leave now shows the point behind the line, which may be meant before the reply.
-pub record MayReply (run : Run) (s : Stage) (first : Point) (points : List PassedPoint) (a : Answered) (now : PlantState) : Type 0 where
+-- Points were passed from a first leg up to now, each next by its way. The session began at the leg, at a moment at which whatever a crash
+-- may leave shows its point, which has no rows.
+pub record HasPassed (run : Run) (asked : ℕ → Option TimedCommand) (first : Leg) (points : List PassedPoint) (now : PlantState) : Type 0 where
+  pub rowless : first.point.rows ≡ []
+  pub from : ℕ
+  pub begins : AtMoment (ShowsPoint run (shape_of now) first.point) now from
+  pub goes : GoesThroughPoints run now from first.point points now.clock None
+  pub linked : AreLinked (ComesNext run asked) leg_after first points
+
+-- the line with a number, if it is one of these
+abbrev pub asked_in : List Answered → (number : ℕ) → Option TimedCommand
+asked_in lines number = option_map (λ a. a.line) (slice_get lines number)
+
+-- A line that was heard whole behind other lines may be replied to. It is answered at its stage, and its reply is exact. Once the session has
+-- started the points that the reply tells of were passed, to the line's command and up to now. Whatever a crash may leave now shows the point
+-- behind the line, which may be meant before the reply.
+pub record MayReply (run : Run) (s : Stage) (lines : List Answered) (first : Leg) (points : List PassedPoint) (a : Answered) (now : PlantState) : Type 0 where
   pub asks : s.next ≡ Some a.line
   pub answered : IsAnswered run s a
-  pub exact : IsExact run s first points a
+  pub exact : IsExact run s first.point points (length lines) a
   pub names : HasNames s.table
   pub short : a.line.time < 2 ^ 64
+  pub passed : IsTrue s.table.is_started → HasPassed run (asked_in (lines ++ a ∷ [])) first points now × ((fold leg_after first points).answered ≡ suc (length lines))
   pub may : IsTrue s.table.is_started → MayBeMeant run s (stage_point (stage_after s a))
   pub shows : IsTrue a.table.is_started → AtNow (ShowsPoint run (shape_of now) (stage_point (stage_after s a))) now

@@ -7,7 +7,7 @@ use Rattle.consistency.specs.Steps.{TimedCommand}
 use Rattle.session_points.specs.Bearing.{IsFlagInTime, MayBeMeant, MayBeMeantInTime}
 use Rattle.session_points.specs.Leads.{Point}
 use Rattle.session_points.specs.Points.{AreLinked}
-use Rattle.session_points.specs.Ways.{ComesNext, IsCommanding, IsEnding, IsLegOf, Leg, PassedPoint, is_on_the_way, leg_after, stage_point}
+use Rattle.session_points.specs.Ways.{ComesNext, IsCommanding, IsEnding, IsLegOf, IsMarking, Leg, PassedPoint, is_on_the_way, leg_after, stage_point}
 
 -- A flag that is in time is one that devices may have at the stage.
 abbrev pub FlagsInTimeMayBe : Type 0
@@ -21,9 +21,12 @@ abbrev pub WaysMayBeMeantInTime : Type 0
 WaysMayBeMeantInTime = (run : Run) (s : Stage) (asked : ℕ → Option TimedCommand) (l : Leg) (points : List PassedPoint) → s.table.is_ended ≡ false → IsLegOf run s l → IsTrue (list_all is_on_the_way points)
     → AreLinked (ComesNext run asked) leg_after l points → All (λ n. MayBeMeant run s n.point) points → All (λ n. MayBeMeantInTime run s n.point) points
 
--- So may the point of the next line's command, and that of the end behind it, which has the line's time.
+-- So may the point of the next line's command, that of a mark which its record needs first, and that of the end, which has the line's time.
 abbrev pub CommandsMayBeMeantInTime : Type 0
 CommandsMayBeMeantInTime = (run : Run) (s : Stage) (l : Leg) (q : Point) (hits : List Timed) → s.table.is_ended ≡ false → IsLegOf run s l → IsCommanding run s.next l q hits → MayBeMeant run s q → MayBeMeantInTime run s q
+
+abbrev pub MarksMayBeMeantInTime : Type 0
+MarksMayBeMeantInTime = (run : Run) (s : Stage) (l : Leg) (q : Point) (hits : List Timed) → s.table.is_ended ≡ false → IsLegOf run s l → IsMarking run s.next l q hits → MayBeMeant run s q → MayBeMeantInTime run s q
 
 abbrev pub EndingsMayBeMeantInTime : Type 0
 EndingsMayBeMeantInTime = (run : Run) (s : Stage) (l : Leg) (q r : Point) (hits more : List Timed) → s.table.is_ended ≡ false → IsLegOf run s l → IsCommanding run s.next l q hits → IsEnding run s.next q r more

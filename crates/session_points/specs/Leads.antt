@@ -1,9 +1,10 @@
 -- Points of a session, and how changes of rows lead from one to another.
-use Rattle.std.specs.Prelude.{◌≡◌, ℕ, ◌≤◌, List, [], ◌∷◌, Bool, Option, IsTrue}
+use Rattle.std.specs.Prelude.{◌≡◌, ℕ, ◌≤◌, ◌==◌, ◌&&◌, List, [], ◌∷◌, Bool, true, false, Option, IsTrue}
 use Rattle.std.specs.List.{list_all}
 use Rattle.pair_table.specs.declared.level.Level.{Level}
 use Rattle.pair_table.specs.declared.row.PairRow.{PairRow}
 use Rattle.row_changes.specs.Changes.{Due, Timed, after_change, after_changes, due_after, may_come, may_end}
+use Rattle.row_changes.specs.Changes.RowChange.{Break, Hit, MarkedHit, Mature, Reached}
 use Rattle.row_changes.specs.Toward.{all_broke, is_hit_at}
 
 -- What the devices of a session mean between two of its records or marks: the time, the rows, what a hit in a mark has left due, and
@@ -33,6 +34,16 @@ pub record LeadsWhole (level : Level) (breaks : List (Option ℕ)) (p q : Point)
 -- Hits at a point's own time lead to another.
 pub record HitsLead (level : Level) (breaks : List (Option ℕ)) (p q : Point) (hits : List Timed) : Type 0 where
   pub are_hits : IsTrue (list_all (is_hit_at p.time) hits)
+  pub at : q.time ≡ p.time
+  pub leads : Leads level breaks p q hits
+
+-- a hit in a mark at a time, before the record for which the mark is made
+abbrev pub is_marked_at : (time : ℕ) → Timed → Bool
+is_marked_at time t = t.time == time && elim t.change [ MarkedHit devices ↦ true | Hit devices ↦ false | Reached devices ↦ false | Mature device state ↦ false | Break control ↦ false ]
+
+-- Hits in a mark at a point's own time lead to another. They leave the other rows waiting for the record.
+pub record MarkedHitsLead (level : Level) (breaks : List (Option ℕ)) (p q : Point) (hits : List Timed) : Type 0 where
+  pub are_marked : IsTrue (list_all (is_marked_at p.time) hits)
   pub at : q.time ≡ p.time
   pub leads : Leads level breaks p q hits
 

@@ -1,10 +1,10 @@
 //! The laws of points.
 
-ghost use Rattle.session_points.specs.Laws.{BearersShow, CommandsAreAnswered, CommandsAreSteps, CommandsMayBeMeant, DuplexIsByMoments, EndedMayBeMeant, EndingsMayBeMeant, HitsStayWhole, InactiveAreAnswered};
-ghost use Rattle.session_points.specs.Laws.{LeadsAreToward, LeadsGoOn, LeadsToItself, LegsAreHit, LegsBegin, LegsBeginBehindCommands, LegsBeginBehindEnds, LegsGoOn, LegsMayBeMeant, NeverDuplexOweAll, OthersOweAll};
-ghost use Rattle.session_points.specs.Laws.{PointsAreSeen, PointsBear, PointsBearThroughout, PointsGoInARow, PointsRise, PointsStayPassed, RepliesTellAccepted, ResumedPairsAskForChanges, StagesMayBeMeant, SuspendedOweChanges, UnhitCoursesAreFunctions, WaysMayBeMeant};
-ghost use Rattle.session_points.specs.FlagLaws.{CommandsMayBeMeantInTime, EndingsMayBeMeantInTime, FlagsInTimeMayBe, LegsMayBeMeantInTime, StagesMayBeMeantInTime, WaysMayBeMeantInTime};
-ghost use Rattle.session_points.specs.ReplyLaws.{CommandsAreAnsweredExactly, CoursesHaveNames, ExactRepliesAreReplies, ExactRepliesSayTimes, ExactRepliesSayUpTo, InactiveAreAnsweredExactly, PassagesGoOn, RepliesFail, RepliesGoOn, ReportsComeFirst, RunsBegin, WorksGoOn};
+ghost use Rattle.session_points.specs.Laws.{BearersShow, CommandsAreAnswered, CommandsAreCounted, CommandsAreSteps, CommandsMayBeMeant, DuplexIsByMoments, EndedMayBeMeant, EndedPointsStay, EndingsAreCounted, EndingsMayBeMeant, EndsAreCommanded, EndsAreEnded, HitsStayCounted, HitsStayWhole, InactiveAreAnswered};
+ghost use Rattle.session_points.specs.Laws.{LeadsAreToward, LeadsGoOn, LeadsToItself, LegsAreCounted, LegsAreHit, LegsAreMarked, LegsBegin, LegsBeginBehindCommands, LegsBeginBehindEnds, LegsGoOn, LegsMayBeMeant, MarkedHitsAreCounted, MarkedRowsStand, MarksAreCommanded, MarksAreCounted, MarksMayBeMeant, NeverDuplexOweAll, OthersOweAll};
+ghost use Rattle.session_points.specs.Laws.{PointsAreSeen, PointsBear, PointsBearThroughout, PointsGoInARow, PointsRise, PointsStayPassed, RepliesTellAccepted, RepliesTellBefore, ResumedPairsAskForChanges, StagesMayBeMeant, SuspendedOweChanges, ToldPointsAreWalked, UnhitCoursesAreFunctions, WaysMayBeMeant};
+ghost use Rattle.session_points.specs.FlagLaws.{CommandsMayBeMeantInTime, EndingsMayBeMeantInTime, FlagsInTimeMayBe, LegsMayBeMeantInTime, MarksMayBeMeantInTime, StagesMayBeMeantInTime, WaysMayBeMeantInTime};
+ghost use Rattle.session_points.specs.ReplyLaws.{CommandsAreAnsweredExactly, CoursesHaveNames, ExactRepliesAreReplies, ExactRepliesSayTimes, ExactRepliesSayUpTo, ExactRepliesTellApart, InactiveAreAnsweredExactly, PassagesGoOn, RepliesFail, RepliesGoOn, ReplyLinesTellApart, ReportsComeFirst, RunsBegin, WorksGoOn};
 
 use crash_plant::Plant;
 
@@ -16,19 +16,39 @@ pub fn changes_lead_on()
     ensures toward { LeadsAreToward }
 {}
 
-/// Points on the way to the time of a line, one behind another, may each be meant.
+/// Points on the way to the time of a line, one behind another, may each be meant. A mark that a command's record needs first comes right
+/// before the command. The ending point comes right behind the command of an accepted end, and nothing changes behind it.
 pub fn ways_lead_on()
     ensures begins { LegsBegin }
     ensures goes_on { LegsGoOn }
     ensures hit { LegsAreHit }
+    ensures marked { LegsAreMarked }
+    ensures follow { MarksAreCommanded }
     ensures rise { PointsRise }
+    ensures ends { EndsAreEnded }
+    ensures commanded { EndsAreCommanded }
+    ensures ended { EndedPointsStay }
     ensures meant { LegsMayBeMeant }
     ensures each { WaysMayBeMeant }
 {}
 
-/// The points of a line's command, of the end of the session and of a stage may be meant, and the line is a step of the rows.
+/// Each device was hit at most as often as it failed. A hit in a mark that a command's record needs first counts, also if the command takes
+/// the row away; and it counts once, if it stands behind the command again.
+pub fn hits_are_counted()
+    ensures stay { HitsStayCounted }
+    ensures more { MarkedHitsAreCounted }
+    ensures leg { LegsAreCounted }
+    ensures mark { MarksAreCounted }
+    ensures command { CommandsAreCounted }
+    ensures ending { EndingsAreCounted }
+{}
+
+/// The points of a line's command, of a mark that its record needs first, of the end of the session and of a stage may be meant. The line is
+/// a step of the rows, behind which the rows that the mark hit stand as the hits left them.
 pub fn commands_lead_on()
     ensures meant { CommandsMayBeMeant }
+    ensures mark { MarksMayBeMeant }
+    ensures stand { MarkedRowsStand }
     ensures step { CommandsAreSteps }
     ensures ending { EndingsMayBeMeant }
     ensures ended { EndedMayBeMeant }
@@ -41,6 +61,7 @@ pub fn flags_are_in_time()
     ensures leg { LegsMayBeMeantInTime }
     ensures ways { WaysMayBeMeantInTime }
     ensures command { CommandsMayBeMeantInTime }
+    ensures mark { MarksMayBeMeantInTime }
     ensures ending { EndingsMayBeMeantInTime }
     ensures stage { StagesMayBeMeantInTime }
 {}
@@ -52,16 +73,20 @@ pub fn lines_are_answered()
     ensures next { LegsBeginBehindCommands }
     ensures ended { LegsBeginBehindEnds }
     ensures told { RepliesTellAccepted }
+    ensures before { RepliesTellBefore }
 {}
 
 /// The exact reply to a line, with a report before it where the line is an accepted query, is a reply to the line. No time that it says is
-/// later than that of the session behind the line. The tables of a course have names where all that its run may name has.
+/// later than that of the session behind the line. The tables of a course have names where all that its run may name has. A
+/// text is the exact reply to lines of one time and one command's word alone, of which all or none are refused, for one reason.
 pub fn replies_are_exact()
     ensures names { CoursesHaveNames }
     ensures reply { ExactRepliesAreReplies }
     ensures report { ReportsComeFirst }
     ensures times { ExactRepliesSayTimes }
     ensures up_to { ExactRepliesSayUpTo }
+    ensures apart { ReplyLinesTellApart }
+    ensures exact { ExactRepliesTellApart }
 {}
 
 /// Lines whose reply is exact are answered.
@@ -103,10 +128,12 @@ pub fn points_stay_passed<P: Plant>(old: &P, new: &P)
     ensures { PointsStayPassed (P.state old.now) (P.state new.now) }
 {}
 
-/// A pair that was suspended while duplex owes the tracks written since. The points that were passed tell whether it was duplex.
+/// A pair that was suspended while duplex owes the tracks written since. The points that were passed tell whether it was duplex. The points
+/// that a reply tells of are those up to a moment before its command, so that its tracks are the owed ones.
 pub fn owed_tracks_are_told<P: Plant>(plant: &P)
     ensures duplex { DuplexIsByMoments (P.state plant.now) }
     ensures owed { SuspendedOweChanges (P.state plant.now) }
+    ensures told { ToldPointsAreWalked (P.state plant.now) }
 {}
 
 /// Rows that owe all tracks, and pairs that are added again and ask for the changed ones.

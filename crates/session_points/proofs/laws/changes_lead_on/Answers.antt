@@ -5,6 +5,6 @@ pub returns : goal.returns
 returns c = record {
   itself = whole_itself;
   on = leads_on;
-  hits = hits_whole;
+  hits = λ level breaks p q r xs hits whole hit. hits_whole level breaks p q r xs hits whole hit.at hit.leads;
   toward = leads_toward;
 }

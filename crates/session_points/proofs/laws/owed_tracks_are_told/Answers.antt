@@ -1,4 +1,5 @@
 use Rattle.session_points.proofs.Owed.{duplex_by_moments, duplex_by_points, owes_all, owes_changes}
+use Rattle.session_points.proofs.Told.{told_points_are_walked}
 use Rattle.session_points.proofs.laws.owed_tracks_are_told.Goals as goal
 
 pub returns-clause-duplex : goal.returns-clause-duplex
@@ -10,3 +11,6 @@ pub returns-clause-owed : goal.returns-clause-owed
 returns-clause-owed g c run row cause since from to first points time track walked is =
     let plant = g.P.Plant.state c.args.plant.now in
     (owes_changes run plant row from to first points walked cause since time track is, owes_all run plant row from to first points walked cause since time track is)
+
+pub returns-clause-told : goal.returns-clause-told
+returns-clause-told g c = told_points_are_walked (g.P.Plant.state c.args.plant.now)
