@@ -28,7 +28,7 @@ use Rattle.session_points.specs.Between.{MayReply, RunGoesOn, ShowsMeant}
 use Rattle.session_points.specs.Leads.{Point}
 use Rattle.session_points.specs.Ways.{Leg, PassedPoint, Way, stage_point}
 use Rattle.session_points.proofs.Bearing.{points_bear}
-use Rattle.session_points.proofs.InARow.{all_shown}
+use Rattle.passages.proofs.InARow.{all_shown}
 use Rattle.session_points.proofs.Leading.{leads_toward, whole_itself}
 use Rattle.session_points.proofs.Replying.{exact_says_up_to}
 

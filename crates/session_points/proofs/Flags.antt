@@ -10,7 +10,7 @@ use Rattle.consistency.specs.Bears.{IsFlag, Run, Stage, accepts_end}
 use Rattle.consistency.specs.Steps.{TimedCommand}
 use Rattle.session_points.specs.Bearing.{IsFlagInTime, MayBeMeant, MayBeMeantInTime}
 use Rattle.session_points.specs.Leads.{Point}
-use Rattle.session_points.specs.Points.{AreLinked}
+use Rattle.passages.specs.Points.{AreLinked}
 use Rattle.session_points.specs.Ways.{ComesNext, IsCommanding, IsEnding, IsLegOf, IsMarking, Leg, PassedPoint, is_on_the_way, leg_after, stage_point}
 use Rattle.session_points.proofs.Legs.{ends_alike, leg_goes}
 use Rattle.session_points.proofs.OnTheWay.{leg_after_way, point_after}

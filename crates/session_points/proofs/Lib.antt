@@ -1,9 +1,7 @@
-pub mod InARow
 pub mod Leading
 pub mod Hits
 pub mod Counting
 pub mod Marked
-pub mod Since
 pub mod Bearing
 pub mod Legs
 pub mod OnTheWay

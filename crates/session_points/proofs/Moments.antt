@@ -11,10 +11,10 @@ use Rattle.site_means.proofs.Goes.{shape_same}
 use Rattle.consistency.specs.Bears.{Bears, Run, Stage}
 use Rattle.session_points.specs.Bearing.{GoesThroughPoints, MayBeMeant, ShowsPoint}
 use Rattle.session_points.specs.Leads.{Point}
-use Rattle.session_points.specs.Points.{GoesThrough, Throughout}
+use Rattle.passages.specs.Points.{GoesThrough, Throughout}
 use Rattle.session_points.specs.Ways.{PassedPoint, Way}
 use Rattle.session_points.proofs.Bearing.{points_bear}
-use Rattle.session_points.proofs.InARow.{all_shown, passed_still}
+use Rattle.passages.proofs.InARow.{all_shown, passed_still}
 
 pub points_stay : (old new : PlantState) → SameSite old new → Elapses old new → 0 < old.clock → (run : Run) (from to : ℕ) (p : Point) (points : List PassedPoint) (next : Option Point) → to ≤ old.clock
     → GoesThroughPoints run old from p points to next → GoesThroughPoints run new from p points to next

@@ -10,7 +10,7 @@ use Rattle.consistency.specs.Bears.{IsTime, Run, Stage, accepts, accepts_end, br
 use Rattle.consistency.specs.Steps.{TimedCommand}
 use Rattle.session_points.specs.Bearing.{MayBeMeant}
 use Rattle.session_points.specs.Leads.{Point, may_rest}
-use Rattle.session_points.specs.Points.{AreLinked}
+use Rattle.passages.specs.Points.{AreLinked}
 use Rattle.session_points.specs.Ways.{ComesBy, ComesNext, IsLegOf, Leg, PassedPoint, Way, is_on_the_way, last_answered, leg_after, leg_by, stage_point, table_at}
 use Rattle.session_points.specs.Ways.Way.{Commanded, Ending, MarkedFor, OnTheWay}
 use Rattle.session_points.proofs.Counting.{leg_is_counted}

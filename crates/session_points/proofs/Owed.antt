@@ -21,9 +21,10 @@ use Rattle.consistency.specs.Bears.{Run, names_of, tracks_of_row}
 use Rattle.session_points.specs.Bearing.{ShowsPoint}
 use Rattle.session_points.specs.Laws.{IsWalked}
 use Rattle.session_points.specs.Leads.{Point}
-use Rattle.session_points.specs.Owing.{HasBeenDuplex, has_pair_in, is_by_device, is_changed, is_meant_in, owes_in, owes_track, tracks_asked, tracks_owed, was_duplex}
+use Rattle.record_rows.specs.Hits.{is_by_device}
+use Rattle.session_points.specs.Owing.{HasBeenDuplex, has_pair_in, is_changed, is_meant_in, owes_in, owes_track, tracks_asked, tracks_owed, was_duplex}
 use Rattle.session_points.specs.Ways.{PassedPoint, Way}
-use Rattle.session_points.proofs.Since.{WasSince, moments_tell, points_tell}
+use Rattle.passages.proofs.Since.{WasSince, moments_tell, points_tell}
 
 -- What a choice that shows a point means of a pair is what the point has.
 meant_is : (run : Run) (plant : PlantState) (row : PairRow) (state : PairState) (p : Point) (c : Choice) → ShowsPoint run (shape_of plant) p c → is_meant_in row state plant c ≡ has_pair_in row state p.rows

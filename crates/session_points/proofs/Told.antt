@@ -11,7 +11,7 @@ use Rattle.session_points.specs.Bearing.{GoesThroughPoints, ShowsPoint}
 use Rattle.session_points.specs.Between.{HasPassed}
 use Rattle.session_points.specs.Laws.{IsWalked}
 use Rattle.session_points.specs.Leads.{Point}
-use Rattle.session_points.specs.Points.{Throughout}
+use Rattle.passages.specs.Points.{Throughout}
 use Rattle.session_points.specs.Ways.{Leg, PassedPoint}
 
 module _ (run : Run) (plant : PlantState) where

@@ -7,7 +7,7 @@ use Rattle.site_means.specs.Images.{Images, Shape, shape_of}
 use Rattle.site_means.specs.Sight.{means_in}
 use Rattle.consistency.specs.Bears.{AreRows, HoldsPrimaries, IsFlag, IsTime, Run, Stage, accepts_end}
 use Rattle.session_points.specs.Leads.{Point}
-use Rattle.session_points.specs.Points.{GoesThrough}
+use Rattle.passages.specs.Points.{GoesThrough}
 use Rattle.session_points.specs.Ways.{PassedPoint}
 
 -- Images show a point of a run: they mean it, and the device of each duplex row holds its primary's tracks at its time.

@@ -13,7 +13,7 @@ use Rattle.consistency.specs.Times.{times_said}
 use Rattle.session_points.specs.Bearing.{GoesThroughPoints, MayBeMeant, ShowsPoint}
 use Rattle.session_points.specs.Leads.{Point}
 use Rattle.session_points.specs.Replying.{HasNames, IsExact}
-use Rattle.session_points.specs.Points.{AreLinked}
+use Rattle.passages.specs.Points.{AreLinked}
 use Rattle.session_points.specs.Ways.{ComesNext, Leg, PassedPoint, leg_after, stage_point}
 
 -- A run goes on from a plant's state to another: its moments so far bear, and no time that it said is behind that of its last reply.

@@ -6,7 +6,7 @@ use Rattle.consistency.specs.Bears.{IsFlag, Run, Stage}
 use Rattle.consistency.specs.Steps.{TimedCommand}
 use Rattle.session_points.specs.Bearing.{IsFlagInTime, MayBeMeant, MayBeMeantInTime}
 use Rattle.session_points.specs.Leads.{Point}
-use Rattle.session_points.specs.Points.{AreLinked}
+use Rattle.passages.specs.Points.{AreLinked}
 use Rattle.session_points.specs.Ways.{ComesNext, IsCommanding, IsEnding, IsLegOf, IsMarking, Leg, PassedPoint, is_on_the_way, leg_after, stage_point}
 
 -- A flag that is in time is one that devices may have at the stage.

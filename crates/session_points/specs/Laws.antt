@@ -26,8 +26,9 @@ use Rattle.session_points.specs.Answering.{answered_by, points_before, reply_con
 use Rattle.session_points.specs.Bearing.{GoesThroughPoints, MayBeMeant, ShowsPoint}
 use Rattle.session_points.specs.Between.{HasPassed}
 use Rattle.session_points.specs.Leads.{HitsLead, Leads, LeadsWhole, Point, may_rest}
-use Rattle.session_points.specs.Owing.{HasBeenDuplex, is_by_device, is_changed, owes_track, tracks_asked, tracks_owed, was_duplex}
-use Rattle.session_points.specs.Points.{AreLinked, Throughout, last_point}
+use Rattle.record_rows.specs.Hits.{is_by_device}
+use Rattle.session_points.specs.Owing.{HasBeenDuplex, is_changed, owes_track, tracks_asked, tracks_owed, was_duplex}
+use Rattle.passages.specs.Points.{AreLinked, Throughout, last_point}
 use Rattle.session_points.specs.Unhit.{unhit_stage_at}
 use Rattle.session_points.specs.Ways.{ComesBy, ComesNext, HasCountedHits, IsCommanding, IsEnding, IsLegOf, IsMarking, Leg, PassedPoint, Way, hits_of_leg, is_on_the_way, leg_after, leg_at, leg_by, leg_to, table_at, stage_point}
 use Rattle.session_points.specs.Ways.Way.{Commanded, Ending, MarkedFor}

@@ -1,4 +1,3 @@
-pub mod Points
 pub mod Leads
 pub mod Ways
 pub mod Bearing

@@ -6,18 +6,17 @@ use Rattle.crash_plant.specs.Moments.{PlantState}
 use Rattle.pair_table.specs.declared.row.PairRow.{PairRow}
 use Rattle.pair_table.specs.declared.row.PairState.{PairState}
 use Rattle.pair_table.specs.declared.row.PairState.TheVariants.{Pending, Copy, Duplex, Suspended}
-use Rattle.pair_table.specs.declared.row.SuspendCause.{SuspendCause}
-use Rattle.pair_table.specs.declared.row.SuspendCause.TheVariants.{Command as ByCommand, Device as ByDevice, Session as BySession, Control as ByControl}
 use Rattle.pair_table.specs.Naming.{primary_of}
 use Rattle.pair_table.specs.Refusals.{is_pair, row_of_primary}
 use Rattle.pair_table.specs.Rows.{state_numbers}
 use Rattle.pair_table.specs.Tables.{is_of}
 use Rattle.primary_ctl.specs.Primaries.{is_on_track, writes_up_to}
+use Rattle.record_rows.specs.Hits.{is_by_device}
 use Rattle.site_means.specs.Sight.{means_of}
 use Rattle.consistency.specs.Bears.{Run, names_of, tracks_of_row}
 use Rattle.tod_stamp.specs.declared.limits.TheConstants.{TRACKS_OF_CYLINDER}
 use Rattle.session_points.specs.Leads.{Point}
-use Rattle.session_points.specs.Points.{was_so}
+use Rattle.passages.specs.Points.{was_so}
 use Rattle.session_points.specs.Ways.{PassedPoint}
 
 -- ---- whether a pair was duplex
@@ -55,12 +54,6 @@ pub record HasBeenDuplex (row : PairRow) (plant : PlantState) (from to : ℕ) : 
 -- whether a track of a control's volume has a write behind one time and up to another
 abbrev pub is_changed : Run → (control volume : ℕ) → (since to track : ℕ) → Bool
 is_changed run control volume since to x = list_any (λ w. is_on_track control volume x w && nat_lt since w.write.stamp.0) (writes_up_to run.traces to)
-
-abbrev pub is_by_device : SuspendCause → Bool
-is_by_device ByDevice = true
-is_by_device ByCommand = false
-is_by_device BySession = false
-is_by_device ByControl = false
 
 -- Whether a row in a state owes a track at a time. A suspended one owes those written since, where it was duplex and its own device hasn't
 -- failed. Any other owes all.

@@ -9,7 +9,7 @@ use Rattle.row_changes.specs.Toward.{all_broke, hit_count, is_break, is_settled}
 use Rattle.consistency.specs.Bears.{Run, Stage, accepts_end, breaks_of, names_of}
 use Rattle.consistency.specs.Steps.{TimedCommand, commanded}
 use Rattle.session_points.specs.Leads.{HitsLead, Leads, LeadsWhole, MarkedHitsLead, Point}
-use Rattle.session_points.specs.Points.{Passed}
+use Rattle.passages.specs.Points.{Passed}
 
 -- The way from a point to the next one, by one record or one mark. Lines have numbers, counted from 0.
 --   OnTheWay: changes of rows, on the way to the next line's time. A group with no change of rows has none, and so has a mark.

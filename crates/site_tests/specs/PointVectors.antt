@@ -22,7 +22,7 @@ use Rattle.consistency.specs.Bears.{Run}
 use Rattle.consistency.specs.Steps.{TimedCommand}
 use Rattle.session_points.specs.Leads.{Point}
 use Rattle.session_points.specs.Owing.{tracks_asked, tracks_owed}
-use Rattle.session_points.specs.Points.{AreLinked}
+use Rattle.passages.specs.Points.{AreLinked}
 use Rattle.session_points.specs.Answering.{points_before}
 use Rattle.session_points.specs.Ways.{ComesBy, ComesNext, Leg, PassedPoint, Way, hits_of_leg, hits_stand, leg_after, leg_by}
 use Rattle.session_points.specs.Ways.Way.{Commanded, Ending, MarkedFor, OnTheWay}

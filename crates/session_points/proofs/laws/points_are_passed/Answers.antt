@@ -3,7 +3,7 @@ use Rattle.site_means.specs.Images.{shape_of}
 use Rattle.session_points.specs.Bearing.{ShowsPoint}
 use Rattle.session_points.specs.Leads.{Point}
 use Rattle.session_points.specs.Ways.{Way}
-use Rattle.session_points.proofs.InARow.{in_a_row, some_shown}
+use Rattle.passages.proofs.InARow.{in_a_row, some_shown}
 use Rattle.session_points.proofs.Moments.{points_bear_throughout}
 use Rattle.session_points.proofs.laws.points_are_passed.Goals as goal
 
