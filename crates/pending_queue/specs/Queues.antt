@@ -1,5 +1,5 @@
 -- What a queue is to its callers.
-use Rattle.std.specs.Prelude.{ℕ, ◌-◌, List, [], length}
+use Rattle.std.specs.Prelude.{ℕ, ◌-◌, List, [], ◌++◌, length}
 use Rattle.block_region.specs.Regions.{RegionState, ChainState, block_count}
 use Rattle.pending_queue.specs.declared.room.Room.{Room}
 use Rattle.pending_queue.specs.Entries.{WaitingEntry}
@@ -21,6 +21,10 @@ empty_queue k records blocks = record { control = k; records = records; blocks =
 -- the queue with other entries
 abbrev pub with_waiting : QueueState → List WaitingEntry → QueueState
 with_waiting queue entries = record queue { waiting = entries }
+
+-- the queue with more entries behind those that wait
+abbrev pub with_more : QueueState → List WaitingEntry → QueueState
+with_more queue entries = with_waiting queue (queue.waiting ++ entries)
 
 -- the records and blocks that are free
 abbrev pub free_room : QueueState → Room

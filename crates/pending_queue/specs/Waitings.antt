@@ -4,6 +4,8 @@ use Rattle.std.specs.List.{All}
 use Rattle.block_region.specs.Regions.{RegionState, ChainState, chain_bytes, block_count, free_blocks}
 use Rattle.block_region.specs.Laws.{AreAllOut}
 use Rattle.ckd_track.specs.Entries.{longest_entry}
+use Rattle.pending_queue.specs.declared.entry.Effect.{Effect}
+use Rattle.pending_queue.specs.declared.head.EntryHead.{EntryHead}
 use Rattle.pending_queue.specs.declared.room.Room.{Room}
 use Rattle.pending_queue.specs.declared.waiting.Waiting.{Waiting}
 use Rattle.pending_queue.specs.Entries.{WaitingEntry, IsOfWrite, entry_by}
@@ -20,6 +22,14 @@ pub record WaitingState : Type 0 where
 -- the entry whose form a chain of the region has
 abbrev pub entry_in : RegionState → Waiting → WaitingEntry
 entry_in region waiting = entry_by waiting.head waiting.effect (chain_bytes region waiting.chain)
+
+-- A chain of the region has an entry's form.
+abbrev pub HasFormOf : RegionState → ChainState → WaitingEntry → Type 0
+HasFormOf region chain entry = chain_bytes region chain ≡ entry.form
+
+-- An entry is what a head and an effect give with its form.
+abbrev pub IsGivenBy : EntryHead → Effect → WaitingEntry → Type 0
+IsGivenBy head effect entry = entry_by head effect entry.form ≡ entry
 
 abbrev pub entries_in : RegionState → List Waiting → List WaitingEntry
 entries_in region waiting = map (entry_in region) waiting

@@ -1,6 +1,6 @@
 //! Entries that stand in a group, each with a part of one buffer that has its form.
 
-ghost use Rattle.std.specs.Prelude.{◌≡◌, ℕ, ◌≤◌, ◌<◌, ◌+◌, ◌*◌, ◌++◌, ◌∷◌, [], List, length, take, drop, slice_get, slice_index_or, vec_len, vec_capacity, true, false, Some, IfOk, IfSome, IsTrue};
+ghost use Rattle.std.specs.Prelude.{◌≡◌, ℕ, ◌≤◌, ◌<◌, ◌+◌, ◌*◌, ◌++◌, ◌∷◌, [], length, take, drop, slice_get, slice_index_or, vec_len, vec_capacity, true, false, Some, IfOk, IfSome, IsTrue};
 ghost use Rattle.pending_queue.specs.declared.placed.Placed.{Placed as PlacedIs};
 ghost use Rattle.pending_queue.specs.Entries.{IsOfWrite, head_before, stands_before};
 ghost use Rattle.pending_queue.specs.Placed.{placed_before};

@@ -2,12 +2,12 @@
 
 ghost use Rattle.std.specs.Prelude.{◌≡◌, ◌≢◌, ◌≤◌, ◌<◌, ◌+◌, ◌↔◌, ◌++◌, ◌∷◌, [], length, filter, nat_lt, slice_index_or, false, IfOk, IfErr, IfSome, OnOk, OnErr, IsErr, IsSome, IsTrue};
 ghost use Rattle.std.specs.List.{list_any, list_all};
-ghost use Rattle.block_region.specs.Regions.{chain_bytes, Holds, block_count, free_blocks};
+ghost use Rattle.block_region.specs.Regions.{ChainState, Holds, block_count, free_blocks};
 ghost use Rattle.pending_queue.specs.Entries.{WaitingEntry, entries_of, copy_of, copy_head, all_keep_rules, last_stamp, due, left, without_volume, entry_tracks, is_copy_of};
 ghost use Rattle.pending_queue.specs.Rooms.{blocks_taken, has_room, has_room_for_track};
 ghost use Rattle.pending_queue.specs.Maps.{with_tracks};
-ghost use Rattle.pending_queue.specs.Queues.{empty_queue, with_waiting, free_room};
-ghost use Rattle.pending_queue.specs.Waitings.{SameMemory};
+ghost use Rattle.pending_queue.specs.Queues.{empty_queue, with_more, with_waiting, free_room};
+ghost use Rattle.pending_queue.specs.Waitings.{HasFormOf, SameMemory};
 ghost use Rattle.pending_queue.specs.Groups.{HasRoomFor, with_entries};
 ghost use Rattle.ckd_track.specs.Writes.{writes_never_fall};
 
@@ -116,8 +116,9 @@ impl Queue {
     /// where no entry waits there.
     pub fn chain(&self, place: u32) -> Option<&Chain>
         ensures there { IsSome result ↔ (place < length self.now.state.waiting) }
+        ensures listed { (other : ChainState) → IfSome result (λ chain. chain.now ≡ slice_index_or self.now.chains place other) }
         ensures held { IfSome result (λ chain. Holds self.now.region chain.now) }
-        ensures form { (other : WaitingEntry) → IfSome result (λ chain. chain_bytes self.now.region chain.now ≡ (slice_index_or self.now.state.waiting place other).form) }
+        ensures form { (other : WaitingEntry) → IfSome result (λ chain. HasFormOf self.now.region chain.now (slice_index_or self.now.state.waiting place other)) }
         ensures len { (other : WaitingEntry) → IfSome result (λ chain. chain.now.len ≡ length (slice_index_or self.now.state.waiting place other).form) }
     {
         self.waiting.chain(place)
@@ -147,7 +148,7 @@ impl Queue {
     pub fn push_all(&mut self, batch: &Batch) -> Result<(), Room>
         requires rules { IsTrue (all_keep_rules batch.now.writes) }
         requires stamps { IsTrue (writes_never_fall (last_stamp self.old.state.waiting) batch.now.writes) }
-        ensures pushed { OnOk result (self.new.state ≡ with_waiting self.old.state (self.old.state.waiting ++ entries_of self.old.state.control batch.now.writes)) }
+        ensures pushed { OnOk result (self.new.state ≡ with_more self.old.state (entries_of self.old.state.control batch.now.writes)) }
         ensures refused { OnErr result (self.new ≡ self.old) }
         ensures full { IsErr result ↔ (has_room (free_room self.old.state) batch.now.writes ≡ false) }
         ensures room { IfErr result (λ room. room ≡ free_room self.old.state) }
@@ -160,7 +161,7 @@ impl Queue {
     pub fn push_carried<C: Carrier>(&mut self, batch: &Batch, carrier: &C) -> Result<(), Room>
         requires rules { IsTrue (all_keep_rules batch.now.writes) }
         requires stamps { IsTrue (writes_never_fall (last_stamp self.old.state.waiting) (filter (C.carries carrier.now) batch.now.writes)) }
-        ensures pushed { OnOk result (self.new.state ≡ with_waiting self.old.state (self.old.state.waiting ++ entries_of self.old.state.control (filter (C.carries carrier.now) batch.now.writes))) }
+        ensures pushed { OnOk result (self.new.state ≡ with_more self.old.state (entries_of self.old.state.control (filter (C.carries carrier.now) batch.now.writes))) }
         ensures refused { OnErr result (self.new ≡ self.old) }
         ensures full { IsErr result ↔ (has_room (free_room self.old.state) (filter (C.carries carrier.now) batch.now.writes) ≡ false) }
         ensures room { IfErr result (λ room. room ≡ free_room self.old.state) }
@@ -185,7 +186,7 @@ impl Queue {
         slot: &Slot,
     ) -> Result<(), Room>
         requires last { last_stamp self.old.state.waiting ≤ stamp.0 }
-        ensures pushed { OnOk result (self.new.state ≡ with_waiting self.old.state (self.old.state.waiting ++ copy_of (copy_head self.old.state.control volume track stamp) slot.now ∷ [])) }
+        ensures pushed { OnOk result (self.new.state ≡ with_more self.old.state (copy_of (copy_head self.old.state.control volume track stamp) slot.now ∷ [])) }
         ensures refused { OnErr result (self.new ≡ self.old) }
         ensures full { IsErr result ↔ (has_room_for_track (free_room self.old.state) slot.now ≡ false) }
         ensures room { IfErr result (λ room. room ≡ free_room self.old.state) }

@@ -1,13 +1,13 @@
 //! Entries that wait, each with a chain of blocks that has its form.
 
-ghost use Rattle.std.specs.Prelude.{◌≡◌, ℕ, ◌≤◌, ◌<◌, ◌+◌, ◌-◌, ◌↔◌, ◌++◌, ◌∷◌, [], List, length, take, drop, slice_index_or, IfOk, IfSome, IsSome};
+ghost use Rattle.std.specs.Prelude.{◌≡◌, ◌≤◌, ◌<◌, ◌+◌, ◌-◌, ◌↔◌, ◌++◌, ◌∷◌, [], length, take, drop, slice_index_or, IfOk, IfSome, IsSome};
 ghost use Rattle.ckd_track.specs.Entries.{longest_entry};
 ghost use Rattle.ckd_track.specs.Slots.{with_bytes};
 ghost use Rattle.block_region.specs.Blocks.{blocks_of};
-ghost use Rattle.block_region.specs.Regions.{RegionState, ChainState, empty_region, chain_bytes, Holds, block_count, free_blocks};
+ghost use Rattle.block_region.specs.Regions.{ChainState, empty_region, chain_bytes, Holds, block_count, free_blocks};
 ghost use Rattle.pending_queue.specs.Entries.{WaitingEntry, IsOfWrite, entry_by};
 ghost use Rattle.pending_queue.specs.Rooms.{blocks_taken};
-ghost use Rattle.pending_queue.specs.Waitings.{room_left, SameMemory};
+ghost use Rattle.pending_queue.specs.Waitings.{HasFormOf, IsGivenBy, SameMemory, room_left};
 
 use crate::entry::Effect;
 use crate::head::EntryHead;
@@ -116,7 +116,7 @@ impl WaitingList {
         ensures there { IsSome result ↔ (place < length self.now.entries) }
         ensures listed { (other : ChainState) → IfSome result (λ chain. chain.now ≡ slice_index_or self.now.chains place other) }
         ensures held { IfSome result (λ chain. Holds self.now.region chain.now) }
-        ensures form { (other : WaitingEntry) → IfSome result (λ chain. chain_bytes self.now.region chain.now ≡ (slice_index_or self.now.entries place other).form) }
+        ensures form { (other : WaitingEntry) → IfSome result (λ chain. HasFormOf self.now.region chain.now (slice_index_or self.now.entries place other)) }
         ensures len { (other : WaitingEntry) → IfSome result (λ chain. chain.now.len ≡ length (slice_index_or self.now.entries place other).form) }
     {
         let waiting = self.entries.get(place as usize)?;
@@ -158,7 +158,7 @@ impl WaitingList {
     /// Takes the first entry out, and gives its chain back.
     pub fn give_front(&mut self) -> (EntryHead, Effect)
         requires { 0 < length self.old.entries }
-        ensures given { (form : List ℕ) (other : WaitingEntry) → form ≡ (slice_index_or self.old.entries 0 other).form → entry_by result.0 result.1 form ≡ slice_index_or self.old.entries 0 other }
+        ensures given { (other : WaitingEntry) → IsGivenBy result.0 result.1 (slice_index_or self.old.entries 0 other) }
         ensures left { self.new.entries ≡ drop 1 self.old.entries }
         ensures same { SameMemory self.old self.new }
     {

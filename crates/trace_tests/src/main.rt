@@ -1,7 +1,9 @@
 //! Tests of what no scenario of the program shows: texts, sources, images and their faults, rows, headers, writers,
-//! what is handed over, reports and replies.
+//! what is handed over, commands, reports and replies.
 #![tactic(auto)]
 
+#[cfg(test)]
+mod commands;
 #[cfg(test)]
 mod fixtures;
 #[cfg(test)]

@@ -1,12 +1,16 @@
 //! Rows of pairs, both ways, and tables of them.
 
+ghost use Rattle.std.specs.Prelude.{◌≡◌, []};
+
 use crate::fixtures::serial;
 use pair_table::{PairRow, PairState, PairTable, SuspendCause, decode_row, encode_row};
 use std::alloc::Global;
 use std::process::Abort;
 use tod_stamp::{Session, Stamp};
 
-pub(crate) fn table(rt: &impl Abort, alloc: Global) -> PairTable {
+pub(crate) fn table(rt: &impl Abort, alloc: Global) -> PairTable
+    ensures { result.rows ≡ [] }
+{
     let session = Session::read(b"ABC").expect(rt, "a name");
     PairTable::make(alloc, session).expect(rt, "memory")
 }

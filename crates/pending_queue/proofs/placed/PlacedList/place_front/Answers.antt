@@ -22,7 +22,7 @@ abbrev item : (c : goal.After-put_placed) → Placed
 item c = record { head = c.give_front-effect.result.0; effect = c.give_front-effect.result.1; begin = c.self.inside.used; len = c.copy_front-len.result }
 
 is_first : (c : goal.After-put_placed) → entry_by c.give_front-effect.result.0 c.give_front-effect.result.1 (first c).form ≡ first c
-is_first c = c.give_front-effect.ensures.given (first c).form (some_entry c.give_front-effect.result.0) refl
+is_first c = c.give_front-effect.ensures.given (some_entry c.give_front-effect.result.0)
 
 new : (c : goal.After-put_placed) → IsNew c.self.inside.controls c.self.inside.used c.self.inside.entries.items (item c) (first c).form
 new c = record {
