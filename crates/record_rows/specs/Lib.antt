@@ -3,4 +3,5 @@ pub mod GroupRows
 pub mod Records
 pub mod ChangedRows
 pub mod Told
+pub mod Deeds
 pub mod Laws

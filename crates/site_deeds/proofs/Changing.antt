@@ -5,7 +5,7 @@ use Rattle.pair_table.specs.declared.level.Level.{Level}
 use Rattle.pair_table.specs.declared.row.PairRow.{PairRow}
 use Rattle.row_changes.specs.Changes.{Timed, after_change, after_changes}
 use Rattle.site_deeds.specs.Changing.{changes_of, deeds_of}
-use Rattle.site_deeds.specs.Deeds.{rows_by_deed, time_by_deed, time_meant_behind}
+use Rattle.record_rows.specs.Deeds.{rows_by_deed, time_by_deed, time_meant_behind}
 use Rattle.site_deeds.specs.Laws.{DeedsAreChanges}
 use Rattle.site_deeds.proofs.Timing.{later_all}
 

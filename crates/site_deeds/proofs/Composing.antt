@@ -10,7 +10,7 @@ use Rattle.crash_plant.proofs.Steps.{elapses_trans, silent_trans, site_trans}
 use Rattle.pair_table.specs.declared.row.PairRow.{PairRow}
 use Rattle.passages.specs.Points.{GoesThrough}
 use Rattle.passages.proofs.InARow.{in_a_row, passed_still}
-use Rattle.site_deeds.specs.Deeds.{Deed, rows_behind}
+use Rattle.record_rows.specs.Deeds.{Deed, rows_behind}
 use Rattle.site_deeds.specs.Doing.{DoesDeeds, GoesThroughDeeds, PassedDeed, points_of, with_next}
 use Rattle.site_deeds.specs.Exceptions.{Exceptions, excepted_behind}
 use Rattle.site_deeds.specs.Laws.{DeedsBeginBehind, DeedsGoOn, SightsCompose}

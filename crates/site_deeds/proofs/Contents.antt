@@ -14,8 +14,9 @@ use Rattle.pending_queue.specs.Entries.{WaitingEntry, is_whole}
 use Rattle.image_former.specs.Changes.{changed_by, changed_through, changed_where}
 use Rattle.image_former.specs.Entries.{is_device, is_entry_on, is_row_of, row_device}
 use Rattle.image_former.proofs.Changing.{changed_none}
-use Rattle.site_deeds.specs.Deeds.{Deed, content_behind, content_by_deed, entries_by_deed, kinds_of, rows_by_deed}
-use Rattle.site_deeds.specs.Deeds.Deed.{Logged, Changed, Marked}
+use Rattle.record_rows.specs.Deeds.{Deed, entries_by_deed, rows_by_deed}
+use Rattle.site_deeds.specs.Deeds.{content_behind, content_by_deed, kinds_of}
+use Rattle.record_rows.specs.Deeds.Deed.{Logged, Changed, Marked}
 use Rattle.site_deeds.specs.Exceptions.{is_whole_on}
 use Rattle.site_deeds.specs.Laws.{EntriesChangeTheirTracks, EntriesGoByRowsBefore, OnlyEntriesChangeContent}
 

@@ -4,7 +4,8 @@ use Rattle.std.specs.Prelude.{not}
 use Rattle.std.specs.List.{list_any}
 use Rattle.std.proofs.lemmas.Bool.{or_parts}
 use Rattle.ckd_track.specs.declared.rec.Rec.{Rec}
-use Rattle.site_deeds.specs.Deeds.{content_behind, content_by_deed, entries_by_deed, rows_by_deed}
+use Rattle.record_rows.specs.Deeds.{entries_by_deed, rows_by_deed}
+use Rattle.site_deeds.specs.Deeds.{content_behind, content_by_deed}
 use Rattle.site_deeds.specs.Exceptions.{excepted_behind, excepted_by_deed, is_kept, is_whole_on}
 use Rattle.site_deeds.specs.Laws.{WholeImagesEndExceptions}
 use Rattle.site_deeds.proofs.Contents.{same_by_deed}

@@ -7,7 +7,7 @@ use Rattle.crash_plant.specs.Moments.{PlantState}
 use Rattle.pair_table.specs.declared.row.PairRow.{PairRow}
 use Rattle.passages.specs.Points.{GoesThrough, Throughout, last_point}
 use Rattle.passages.proofs.InARow.{moments_rise, on_its_way}
-use Rattle.site_deeds.specs.Deeds.{Deed}
+use Rattle.record_rows.specs.Deeds.{Deed}
 use Rattle.site_deeds.specs.Doing.{BeginsDeeds, GoesThroughDeeds, PassedDeed, points_of, with_next}
 use Rattle.site_deeds.specs.Exceptions.{Exceptions}
 use Rattle.site_deeds.specs.Laws.{DeedsNeverGoBack, DoneDeedsHaveBegun, EachDeedHasItsMoment, FirstDeedsAreSeen, MoreDeedsMayFollow}

@@ -6,7 +6,7 @@ use Rattle.std.proofs.lemmas.List.{take_all}
 use Rattle.passages.specs.Points.{GoesThrough, last_point}
 use Rattle.passages.specs.Telling.{told_by}
 use Rattle.passages.proofs.Telling.{told_otherwise}
-use Rattle.site_deeds.specs.Deeds.{Deed}
+use Rattle.record_rows.specs.Deeds.{Deed}
 use Rattle.site_deeds.specs.Doing.{PassedDeed, deed_passed, points_of, with_next}
 
 -- The last of the points is that as many deeds are done as there are moments.

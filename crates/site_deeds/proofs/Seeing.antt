@@ -10,7 +10,8 @@ use Rattle.site_means.specs.declared.means.Means.{Means}
 use Rattle.site_means.specs.Images.{Shape}
 use Rattle.site_means.specs.Sight.{content_in, content_of, means_in, means_of}
 use Rattle.site_means.proofs.Goes.{shape_same}
-use Rattle.site_deeds.specs.Deeds.{Deed, content_behind, means_behind, rows_behind}
+use Rattle.record_rows.specs.Deeds.{Deed, rows_behind}
+use Rattle.site_deeds.specs.Deeds.{content_behind, means_behind}
 use Rattle.site_deeds.specs.Exceptions.{Exceptions, excepted_behind}
 use Rattle.site_deeds.specs.Seeing.{SeesBehind}
 use Rattle.site_deeds.proofs.Turning.{content_in_turn, exceptions_in_turn, means_in_turn}

@@ -10,7 +10,7 @@ use Rattle.pair_table.specs.declared.row.PairRow.{PairRow}
 use Rattle.passages.specs.Points.{Throughout}
 use Rattle.site_means.specs.declared.means.Means.{Means}
 use Rattle.site_means.specs.Sight.{means_of}
-use Rattle.site_deeds.specs.Deeds.{Deed}
+use Rattle.record_rows.specs.Deeds.{Deed}
 use Rattle.site_deeds.specs.Exceptions.{Exceptions}
 use Rattle.site_deeds.specs.Laws.{NoCallDoesNoDeed, OneDeedBegins, OneDeedFollows, OneDeedIsDone, ReadsAndSyncsAreNoDeed, SameContentIsNoDeed, SameSightIsNoDeed}
 use Rattle.site_deeds.specs.Seeing.{MeansByDeed, MeansTheSame, SeesBehind}

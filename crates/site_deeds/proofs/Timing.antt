@@ -1,6 +1,6 @@
 -- The times that deeds mean.
 use Rattle.std.proofs.Common.{ℕ, zero, suc, ◌≤◌, List, [], ◌∷◌, take, arith}
-use Rattle.site_deeds.specs.Deeds.{Deed, time_by_deed, time_meant_behind}
+use Rattle.record_rows.specs.Deeds.{Deed, time_by_deed, time_meant_behind}
 use Rattle.site_deeds.specs.Laws.{AreInTime, TimesNeverFall}
 
 later : (time : ℕ) (deeds : List Deed) (n : ℕ) → AreInTime time deeds → time ≤ time_meant_behind (take n deeds) time

@@ -3,8 +3,9 @@ use Rattle.std.proofs.Common.{◌≡◌, ℕ, List, [], ◌∷◌, ◌++◌, Opt
 use Rattle.ckd_track.specs.declared.rec.Rec.{Rec}
 use Rattle.pair_table.specs.declared.row.PairRow.{PairRow}
 use Rattle.site_means.specs.declared.means.Means.{Means}
-use Rattle.site_deeds.specs.Deeds.{Deed, content_behind, content_by_deed, means_behind, means_by_deed, rows_behind, rows_by_deed, time_by_deed, time_meant_behind, from_mark, with_time_and_rows}
-use Rattle.site_deeds.specs.Deeds.Deed.{Logged, Changed, Marked}
+use Rattle.record_rows.specs.Deeds.{Deed, rows_behind, rows_by_deed, time_by_deed, time_meant_behind}
+use Rattle.site_deeds.specs.Deeds.{content_behind, content_by_deed, means_behind, means_by_deed, from_mark, with_time_and_rows}
+use Rattle.record_rows.specs.Deeds.Deed.{Logged, Changed, Marked}
 use Rattle.site_deeds.specs.Exceptions.{Exceptions, excepted_behind, excepted_by_deed}
 use Rattle.site_deeds.specs.Laws.{DeedsLeaveInTurn, IsSameMark, MarksAreMeant, MeansAreBehind}
 

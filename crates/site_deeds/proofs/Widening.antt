@@ -5,7 +5,7 @@ use Rattle.std.specs.List.{list_any}
 use Rattle.crash_plant.specs.Choices.{Choice, IsChoice}
 use Rattle.crash_plant.specs.Moments.{PlantState}
 use Rattle.pair_table.specs.declared.row.PairRow.{PairRow}
-use Rattle.site_deeds.specs.Deeds.{Deed, entries_by_deed, rows_by_deed}
+use Rattle.record_rows.specs.Deeds.{Deed, entries_by_deed, rows_by_deed}
 use Rattle.site_deeds.specs.Doing.{BeginsDeeds, DoesDeeds, with_next}
 use Rattle.site_deeds.specs.Exceptions.{Exceptions, excepted_behind, excepted_by_deed, is_kept, is_whole_on}
 use Rattle.site_deeds.specs.Laws.{MoreMayBeExcepted}

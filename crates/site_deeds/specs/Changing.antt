@@ -4,7 +4,7 @@ use Rattle.std.specs.List.{All, flat_map}
 use Rattle.pair_table.specs.declared.level.Level.{Level}
 use Rattle.pair_table.specs.declared.row.PairRow.{PairRow}
 use Rattle.row_changes.specs.Changes.{Timed, after_changes}
-use Rattle.site_deeds.specs.Deeds.{Deed, rows_by_deed, time_by_deed}
+use Rattle.record_rows.specs.Deeds.{Deed, rows_by_deed, time_by_deed}
 
 -- a deed, and the changes of rows that it makes
 pub record DeedOfChanges : Type 0 where

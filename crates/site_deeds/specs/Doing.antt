@@ -5,7 +5,7 @@ use Rattle.crash_plant.specs.Choices.{AtNow, IsChoice}
 use Rattle.crash_plant.specs.Moments.{PlantState}
 use Rattle.pair_table.specs.declared.row.PairRow.{PairRow}
 use Rattle.passages.specs.Points.{GoesThrough, Passed}
-use Rattle.site_deeds.specs.Deeds.{Deed}
+use Rattle.record_rows.specs.Deeds.{Deed}
 use Rattle.site_deeds.specs.Exceptions.{Exceptions}
 use Rattle.site_deeds.specs.Seeing.{SeesBehind}
 

@@ -16,8 +16,9 @@ use Rattle.image_former.specs.Entries.{is_entry_on}
 use Rattle.row_changes.specs.Changes.{after_changes}
 use Rattle.site_means.specs.declared.means.Means.{Means}
 use Rattle.site_means.specs.Sight.{content_of, means_of}
-use Rattle.site_deeds.specs.Deeds.{Deed, content_behind, content_by_deed, entries_by_deed, means_behind, rows_behind, time_by_deed, time_meant_behind}
-use Rattle.site_deeds.specs.Deeds.Deed.{Logged, Changed, Marked}
+use Rattle.record_rows.specs.Deeds.{Deed, entries_by_deed, rows_behind, time_by_deed, time_meant_behind}
+use Rattle.site_deeds.specs.Deeds.{content_behind, content_by_deed, means_behind}
+use Rattle.record_rows.specs.Deeds.Deed.{Logged, Changed, Marked}
 use Rattle.site_deeds.specs.Changing.{AreByChanges, DeedOfChanges, changes_of, deeds_of}
 use Rattle.site_deeds.specs.Doing.{BeginsDeeds, DoesDeeds, points_of, with_next}
 use Rattle.site_deeds.specs.Exceptions.{Exceptions, excepted_behind}

@@ -4,7 +4,8 @@ use Rattle.crash_plant.specs.Choices.{Choice, IsChoice}
 use Rattle.crash_plant.specs.Moments.{PlantState}
 use Rattle.pair_table.specs.declared.row.PairRow.{PairRow}
 use Rattle.site_means.specs.Sight.{content_of, means_of}
-use Rattle.site_deeds.specs.Deeds.{Deed, content_behind, content_by_deed, means_behind, means_by_deed}
+use Rattle.record_rows.specs.Deeds.{Deed}
+use Rattle.site_deeds.specs.Deeds.{content_behind, content_by_deed, means_behind, means_by_deed}
 use Rattle.site_deeds.specs.Exceptions.{Exceptions, excepted_behind, excepted_by_deed}
 
 -- A choice is as deeds leave what could be left at a start, with these exceptions and these rows there. It means what they leave of what
