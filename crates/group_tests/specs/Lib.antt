@@ -3,3 +3,4 @@ pub mod StateVectors
 pub mod HistoryVectors
 pub mod Ready
 pub mod Tried
+pub mod Turns

@@ -22,6 +22,8 @@ mod runs;
 mod state_vectors;
 #[cfg(test)]
 mod trials;
+#[cfg(test)]
+mod turns;
 
 /// Its tests are all that this crate has. It is a program, so that no crate stands on it.
 fn main() {}

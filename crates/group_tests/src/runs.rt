@@ -32,7 +32,7 @@ fn join(rt: &impl Abort, state: &mut GroupState, batch: Batch)
 }
 
 /// Volume 0 of a control begins to be carried with a plan of two tracks that wants none.
-fn carry(rt: &impl Abort, alloc: Global, state: &mut GroupState, control: u16)
+pub fn carry(rt: &impl Abort, alloc: Global, state: &mut GroupState, control: u16)
     requires control { control < length state.old.controls }
     requires may { MayCarry (control_at state.old control) 0 none_wanted }
     ensures { state.new ≡ group_after state.old (Carry control 0 none_wanted) }
@@ -83,7 +83,7 @@ fn long_update(rt: &impl Abort, alloc: Global) -> Batch
 }
 
 /// A volume of control 0 begins to be carried with a plan that wants both of its tracks.
-fn carry_wanted(rt: &impl Abort, alloc: Global, state: &mut GroupState, volume: u16)
+pub fn carry_wanted(rt: &impl Abort, alloc: Global, state: &mut GroupState, volume: u16)
     requires control { 0 < length state.old.controls }
     requires may { MayCarry (control_at state.old 0) volume both_wanted }
     ensures { state.new ≡ group_after state.old (Carry 0 volume both_wanted) }

@@ -1,0 +1,189 @@
+//! Seats in their turns: three readers and the mover, a reader that is held and joins in the next round, and every call
+//! of a seat once.
+
+ghost use Rattle.std.specs.Prelude.{◌≡◌, ◌<◌, ◌≤◌, ◌+◌, ◌∷◌, [], length, IsTrue};
+ghost use Rattle.group_state.specs.Machine.Call.{Join};
+ghost use Rattle.group_state.specs.Answers.{run_reply};
+ghost use Rattle.turn_group.specs.Seats.{SeatMayJoin, ReaderCalled};
+ghost use Rattle.group_tests.specs.Turns.{started, ReadsUpTo, MovesUpTo};
+
+use crate::fixtures::{assert_same, one_write};
+use crate::runs::{carry, carry_wanted};
+use ckd_track::{Batch, Cause, Slot};
+use group_state::{CopyJoin, Forming, GroupState, Joining, RunJoin};
+use pending_queue::{Formed, Room};
+use std::alloc::Global;
+use std::process::Abort;
+use std::sync::Wait;
+use tod_stamp::Stamp;
+use turn_group::{MoverSeat, ReaderSeat, TurnGroup};
+
+/// How many batches each reader joins.
+const BATCHES: u64 = 20;
+
+/// A state of three controls, each of which carries its volume 0 of two tracks.
+fn three_controls(rt: &impl Abort, alloc: Global) -> GroupState
+    ensures { result ≡ started }
+{
+    let mut state = GroupState::make(alloc, 3, 32, 3_552).expect(rt, "memory");
+    carry(rt, alloc, &mut state, 0);
+    carry(rt, alloc, &mut state, 1);
+    carry(rt, alloc, &mut state, 2);
+    state
+}
+
+/// Joins a batch of one write at each time from 1 on.
+fn read_all<R: Abort + Wait>(rt: &R, alloc: Global, group: &TurnGroup, seat: &mut ReaderSeat)
+    requires reads { ReadsUpTo group.now.table 0 seat.old }
+    ensures reads { ReadsUpTo group.now.table BATCHES seat.new }
+    ensures control { seat.new.control ≡ seat.old.control }
+{
+    let control = seat.control();
+    for before in 0..BATCHES {
+        let time = before + 1;
+        let batch = one_write(rt, alloc, control, 1, time, time);
+        let joined = group.join_batch_ref(rt, seat, &batch);
+        assert_eq!(rt; joined, RunJoin::Joined);
+    }
+}
+
+/// Forms groups while readers join, and counts what they show.
+fn form_some<R: Abort + Wait>(
+    rt: &R,
+    group: &TurnGroup,
+    seat: &mut MoverSeat,
+    out: &mut Formed,
+) -> u64
+    requires moves { MovesUpTo group.now.table BATCHES seat.old }
+    requires room { 3 ≤ out.old.controls }
+    ensures moves { MovesUpTo group.now.table BATCHES seat.new }
+    ensures room { out.new.controls ≡ out.old.controls }
+{
+    let mut shown = 0;
+    for _ in 0..BATCHES {
+        group.form(rt, seat, Stamp(BATCHES), out);
+        shown = u64::saturating_add(shown, u64::from(out.count()));
+    }
+    shown
+}
+
+/// Each write of three readers is shown once.
+#[test]
+fn three_readers_take_turns_with_the_mover(rt: HostRuntime) {
+    let alloc = rt.alloc();
+    let state = three_controls(&rt, alloc);
+    let mut out = Formed::make(alloc, 3).expect(&rt, "memory");
+    let (group, mut mover, mut seats) = TurnGroup::make(alloc, state).expect(&rt, "memory");
+    let mut a = seats.take(0).expect(&rt, "seat");
+    let mut b = seats.take(1).expect(&rt, "seat");
+    let mut c = seats.take(2).expect(&rt, "seat");
+    read_all(&rt, alloc, &group, &mut a);
+    read_all(&rt, alloc, &group, &mut b);
+    let before = form_some(&rt, &group, &mut mover, &mut out);
+    read_all(&rt, alloc, &group, &mut c);
+    let last = form_some(&rt, &group, &mut mover, &mut out);
+    let shown = u64::saturating_add(before, last);
+    assert_same(&rt, &shown, &(3 * BATCHES), &"shown");
+    seats.put(a);
+    seats.put(b);
+    seats.put(c);
+    let end = group.close(mover, seats);
+    assert_same(&rt, &end.controls(), &3, &"controls");
+}
+
+/// Joins a batch that is held where it doesn't fit.
+fn assert_joined<R: Abort + Wait>(
+    rt: &R,
+    group: &TurnGroup,
+    seat: &mut ReaderSeat,
+    batch: &Batch,
+    expected: RunJoin,
+)
+    requires table { seat.old.table ≡ group.now.table }
+    requires may { SeatMayJoin seat.old batch.now }
+    ensures called { ReaderCalled seat.old (Join batch.now) (run_reply expected) seat.new }
+{
+    let joined = group.join_batch_ref(rt, seat, batch);
+    assert_eq!(rt; joined, expected);
+}
+
+/// A batch that doesn't fit is held. It joins in the next round, once a group was formed.
+#[test]
+fn a_held_batch_joins_in_the_next_round(rt: HostRuntime) {
+    let alloc = rt.alloc();
+    let mut state = GroupState::make(alloc, 1, 1, 1).expect(&rt, "memory");
+    carry(&rt, alloc, &mut state, 0);
+    let mut out = Formed::make(alloc, 1).expect(&rt, "memory");
+    let (group, mut mover, mut seats) = TurnGroup::make(alloc, state).expect(&rt, "memory");
+    let mut seat = seats.take(0).expect(&rt, "seat");
+    let none = Room {
+        records: 0,
+        blocks: 0,
+    };
+    let first = one_write(&rt, alloc, 0, 0, 1, 1);
+    let second = one_write(&rt, alloc, 0, 1, 2, 2);
+    assert_joined(&rt, &group, &mut seat, &first, RunJoin::Joined);
+    assert_joined(&rt, &group, &mut seat, &second, RunJoin::Held(none));
+    let formed = group.form(&rt, &mut mover, Stamp(2), &mut out);
+    let found = (formed, out.count(), out.cut());
+    assert_same(&rt, &found, &(Forming::Formed, 1, Stamp(1)), &"first round");
+    assert_joined(&rt, &group, &mut seat, &second, RunJoin::Joined);
+    let formed = group.form(&rt, &mut mover, Stamp(2), &mut out);
+    let found = (formed, out.count(), out.cut());
+    assert_same(&rt, &found, &(Forming::Formed, 1, Stamp(2)), &"next round");
+    seats.put(seat);
+    let end = group.close(mover, seats);
+    assert_same(&rt, &end.controls(), &1, &"controls");
+}
+
+/// What the reader's and the mover's calls answer, each called once and a copied track twice.
+#[test]
+fn every_call_takes_its_turn(rt: HostRuntime) {
+    let alloc = rt.alloc();
+    let mut state = GroupState::make(alloc, 1, 32, 3_552).expect(&rt, "memory");
+    carry_wanted(&rt, alloc, &mut state, 0);
+    let slot = Slot::make(alloc).expect(&rt, "memory");
+    let mut out = Formed::make(alloc, 1).expect(&rt, "memory");
+    let (group, mut mover, mut seats) = TurnGroup::make(alloc, state).expect(&rt, "memory");
+    let mut seat = seats.take(0).expect(&rt, "seat");
+    let wanted = group.next_wanted(&rt, &mut seat);
+    let copied = group.join_copy(&rt, &mut seat, 0, 0, Stamp(0), &slot);
+    let stale = group.join_copy(&rt, &mut seat, 0, 0, Stamp(0), &slot);
+    assert_same(&rt, &wanted, &Some((0, 0)), &"wanted");
+    let expected = [CopyJoin::Joined, CopyJoin::Stale];
+    assert_same(&rt, &[copied, stale], &expected, &"copied");
+    let batch = one_write(&rt, alloc, 0, 0, 3, 4);
+    let joined = group.join_batch(&rt, &mut seat, batch);
+    assert!(rt; matches!(&joined, Joining::Joined));
+    group.raise(&rt, &mut seat, Stamp(5));
+    group.mark_broken(&rt, &mut seat, Stamp(7), Cause::ReadFault);
+    group.drop_volume(&rt, &mut mover, 0, 0, false);
+    let formed = group.form(&rt, &mut mover, Stamp(9), &mut out);
+    let found = (formed, out.count(), out.break_at(0));
+    let broke = Some((0, Stamp(7), Cause::ReadFault));
+    assert_same(&rt, &found, &(Forming::Formed, 0, broke), &"formed");
+    seats.put(seat);
+    let end = group.close(mover, seats);
+    assert_same(&rt, &end.next_wanted(0), &None, &"dropped");
+}
+
+/// A table of so many controls has a seat for each, and gives back its state.
+fn assert_made<R: Abort + Wait>(rt: &R, alloc: Global, controls: u16)
+    requires some { 1 ≤ controls }
+    requires few { controls ≤ 16 }
+{
+    let state = GroupState::make(alloc, controls, 1, 1).expect(rt, "memory");
+    let (group, mover, mut seats) = TurnGroup::make(alloc, state).expect(rt, "memory");
+    let last = seats.take(controls - 1).expect(rt, "seat");
+    assert_same(rt, &last.control(), &(controls - 1), &"last seat");
+    seats.put(last);
+    let end = group.close(mover, seats);
+    assert_same(rt, &end.controls(), &controls, &"controls");
+}
+
+#[test]
+fn tables_have_a_seat_for_each_control(rt: HostRuntime) {
+    for controls in [1, 16] {
+        assert_made(&rt, rt.alloc(), controls);
+    }
+}

@@ -1,0 +1,288 @@
+-- What goes through a control's queue in a run.
+use Rattle.std.proofs.Common.{◌≡◌, ◌≢◌, ℕ, zero, suc, ◌+◌, ◌<◌, Bool, true, false, cond, nat_eq, nat_lt, nat_le, ◌&&◌, ◌||◌, not, List, [], ◌∷◌, ◌++◌, length, get_or, refl, sym, ap, ◌∙◌, subst, arith, append_assoc, append-nil, length-set}
+use Rattle.std.specs.Prelude.{filter, Some}
+use Rattle.std.specs.List.{list_all, flat_map}
+use Rattle.std.proofs.lemmas.Bool.{and_parts, eqb-true, eq-eqb, ne_eqb}
+use Rattle.std.proofs.lemmas.Bool.Decides.{nat_tests}
+use Rattle.std.proofs.lemmas.List.{get_or-map, length-map}
+use Rattle.tod_stamp.specs.declared.stamp.Stamp.{Stamp}
+use Rattle.ckd_track.specs.declared.rec.Rec.{Rec}
+use Rattle.ckd_track.specs.declared.write.Batch.{Batch}
+use Rattle.xrc_edge.specs.Order.{in_order, is_in_order}
+use Rattle.xrc_edge.proofs.OrderLaws.{order_stays}
+use Rattle.xrc_edge.proofs.Positions.{filter_order}
+use Rattle.pending_queue.specs.Entries.{WaitingEntry, entries_of, copy_of, copy_head, entry_stamp, entries_never_fall, is_of_volume, is_due, is_later, due, left, stands_before}
+use Rattle.pending_queue.proofs.EntryLaws.{before_order, never_fall_filter, each_once}
+use Rattle.group_state.specs.Volumes.{is_wanted}
+use Rattle.group_state.specs.Controls.{ControlState, new_control, carried_writes, fits, fits_track, joined, copied, raised, broke, begun_volume, dropped, resumed, forgotten, formed, due_of}
+use Rattle.group_state.specs.Groups.{Group, control_at, with_control, cut_of, gives_nothing, formed_at, shown_at}
+use Rattle.group_state.specs.Machine.{Call, Reply, reply_to, group_after}
+use Rattle.group_state.specs.Machine.Call.{Join, NextWanted, Copied, Raise, Break, Form, Carry, Drop, Resume, Forget}
+use Rattle.group_state.specs.Machine.Reply.{Formed, Nothing}
+use Rattle.group_state.specs.Runs.{Answer, May, Runs, shown_by}
+use Rattle.group_state.proofs.SoundLaws.{all_filter, all_kept}
+use Rattle.group_state.proofs.Stands.{at_each}
+use Rattle.turn_group.specs.Seats.{AllFrom}
+use Rattle.turn_group.specs.Queues.{is_from_control, AreOrderly, waiting_at, gained, is_shown_by, falls, stays_in, stays_of, own_part, part_by, part_of_groups, QueuesFlow}
+use Rattle.turn_group.proofs.Orderly.{orderly_next}
+
+-- ---- filters
+
+-- two tests pass the same of items that pass a third
+filter_same : {A : Type 0} (p q t : A → Bool) (items : List A) → list_all t items ≡ true → ((a : A) → t a ≡ true → p a ≡ q a) → filter p items ≡ filter q items
+filter_same p q t [] all same = refl
+filter_same {A} p q t (a ∷ items) all same =
+    let parts = and_parts (t a) (list_all t items) all in
+    (λ i. cond (same a parts.0 i) (a ∷ filter p items) (filter p items)) ∙ ap (λ (l : List A). cond (q a) (a ∷ l) l) (filter_same p q t items parts.1 same)
+
+all_true : {A : Type 0} (items : List A) → list_all (λ a. true) items ≡ true
+all_true [] = refl
+all_true (a ∷ items) = all_true items
+
+filter_true : {A : Type 0} (items : List A) → filter (λ a. true) items ≡ items
+filter_true [] = refl
+filter_true (a ∷ items) = ap (λ l. a ∷ l) (filter_true items)
+
+filter_false : {A : Type 0} (items : List A) → filter (λ a. false) items ≡ []
+filter_false [] = refl
+filter_false (a ∷ items) = filter_false items
+
+filter_more : {A : Type 0} (p : A → Bool) (xs ys : List A) → filter p (xs ++ ys) ≡ filter p xs ++ filter p ys
+filter_more p [] ys = refl
+filter_more {A} p (x ∷ xs) ys = choose (p x) (filter_more p xs ys)
+  where
+    choose : (t : Bool) → filter p (xs ++ ys) ≡ filter p xs ++ filter p ys → cond t (x ∷ filter p (xs ++ ys)) (filter p (xs ++ ys)) ≡ cond t (x ∷ filter p xs) (filter p xs) ++ filter p ys
+    choose true rest = ap (λ l. x ∷ l) rest
+    choose false rest = rest
+
+filter_twice : {A : Type 0} (p q : A → Bool) (items : List A) → filter (λ a. not (not (q a) || not (p a))) items ≡ filter p (filter q items)
+filter_twice p q [] = refl
+filter_twice {A} p q (a ∷ items) = choose (q a) (p a) refl (filter_twice p q items)
+  where
+    choose : (t u : Bool) → p a ≡ u → filter (λ a. not (not (q a) || not (p a))) items ≡ filter p (filter q items)
+        → cond (not (not t || not u)) (a ∷ filter (λ a. not (not (q a) || not (p a))) items) (filter (λ a. not (not (q a) || not (p a))) items) ≡ filter p (cond t (a ∷ filter q items) (filter q items))
+    choose true true is rest = ap (λ l. a ∷ l) rest ∙ sym (ap (λ b. cond b (a ∷ filter p (filter q items)) (filter p (filter q items))) is)
+    choose true false is rest = rest ∙ sym (ap (λ b. cond b (a ∷ filter p (filter q items)) (filter p (filter q items))) is)
+    choose false u is rest = rest
+
+-- ---- a control's part of a form's group
+
+above_last : (last : ℕ) (entries : List WaitingEntry) → entries_never_fall last entries ≡ true → list_all (λ e. nat_le last (entry_stamp e)) entries ≡ true
+above_last last [] rises = refl
+above_last last (e ∷ entries) rises =
+    let parts = and_parts (nat_le last (entry_stamp e)) (entries_never_fall (entry_stamp e) entries) rises in
+    rw parts.0 (raise_all last (entry_stamp e) entries parts.0 (above_last (entry_stamp e) entries parts.1))
+  where
+    le_through : (a b c : ℕ) → nat_le a b ≡ true → nat_le b c ≡ true → nat_le a c ≡ true
+    le_through a b c ab bc = grind (arith, nat_tests)
+
+    raise_all : (a b : ℕ) (items : List WaitingEntry) → nat_le a b ≡ true → list_all (λ e. nat_le b (entry_stamp e)) items ≡ true → list_all (λ e. nat_le a (entry_stamp e)) items ≡ true
+    raise_all a b [] ab all = refl
+    raise_all a b (x ∷ items) ab all = let parts = and_parts (nat_le b (entry_stamp x)) (list_all (λ e. nat_le b (entry_stamp e)) items) all in rw (le_through a b (entry_stamp x) ab parts.0) (raise_all a b items ab parts.1)
+
+not_before : (k a b i j : ℕ) → nat_eq i k ≡ true → nat_eq j k ≡ true → nat_le a b ≡ true → not (nat_lt b a || (nat_eq b a && nat_lt j i)) ≡ true
+not_before k a b i j ik jk ab = grind (arith, nat_tests)
+
+-- what waits for one control, by stamps, stands in the order of groups
+own_in_order : (k last : ℕ) (entries : List WaitingEntry) → list_all (is_from_control k) entries ≡ true → entries_never_fall last entries ≡ true → is_in_order stands_before entries ≡ true
+own_in_order k last [] own rises = refl
+own_in_order k last (e ∷ entries) own rises =
+    let mine = and_parts (is_from_control k e) (list_all (is_from_control k) entries) own in
+    let parts = and_parts (nat_le last (entry_stamp e)) (entries_never_fall (entry_stamp e) entries) rises in
+    rw (none entries mine.1 (above_last (entry_stamp e) entries parts.1)) (own_in_order k (entry_stamp e) entries mine.1 parts.1)
+  where
+    first_own : is_from_control k e ≡ true
+    first_own = (and_parts (is_from_control k e) (list_all (is_from_control k) entries) own).0
+
+    none : (items : List WaitingEntry) → list_all (is_from_control k) items ≡ true → list_all (λ b. nat_le (entry_stamp e) (entry_stamp b)) items ≡ true → list_all (λ b. not (stands_before b e)) items ≡ true
+    none [] mine above = refl
+    none (b ∷ items) mine above =
+        let p = and_parts (is_from_control k b) (list_all (is_from_control k) items) mine in
+        let q = and_parts (nat_le (entry_stamp e) (entry_stamp b)) (list_all (λ b. nat_le (entry_stamp e) (entry_stamp b)) items) above in
+        rw (not_before k (entry_stamp e) (entry_stamp b) e.head.control b.head.control first_own p.0 q.0) (none items p.1 q.1)
+
+-- what waits for each control is its own
+abbrev OwnAt : ℕ → ControlState → Type 0
+OwnAt i c = list_all (is_from_control i) c.queue.waiting ≡ true
+
+pub all_from : {A : Type 0} (P : ℕ → A → Type 0) (first : ℕ) (l : List A) (d : A) → ((i : ℕ) → i < length l → P (first + i) (get_or l i d)) → AllFrom P first l
+all_from P n [] d each = tt
+all_from P n (x ∷ l) d each =
+    let is : n + 0 ≡ n = omega arith in
+    (subst (λ i. P i x) is (each 0 (omega arith)), all_from P (suc n) l d (λ i lt. let next : n + suc i ≡ suc n + i = omega arith in subst (λ j. P j (get_or l i d)) next (each (suc i) (omega arith))))
+
+apart_control : (i k c : ℕ) → i ≢ k → nat_eq c i ≡ true → nat_eq c k ≡ false
+apart_control i k c apart is = ne_eqb c k (λ e. apart (sym (eqb-true c i is) ∙ e))
+
+due_away : (k i : ℕ) (cut : Stamp) (c : ControlState) → i ≢ k → OwnAt i c → filter (is_from_control k) (due_of cut c) ≡ []
+due_away k i cut c apart own =
+    filter_same (is_from_control k) (λ e. false) (is_from_control i) (due_of cut c) (all_filter (is_from_control i) (is_due cut) c.queue.waiting own) (λ e is. apart_control i k e.head.control apart is) ∙ filter_false (due_of cut c)
+
+none_of : (k first : ℕ) (cut : Stamp) (controls : List ControlState) → k < first → AllFrom OwnAt first controls → filter (is_from_control k) (flat_map (due_of cut) controls) ≡ []
+none_of k n cut [] lt own = refl
+none_of k n cut (c ∷ controls) lt own =
+    filter_more (is_from_control k) (due_of cut c) (flat_map (due_of cut) controls)
+    ∙ (λ i. due_away k n cut c (λ e. absurd (omega (arith, e, lt))) own.0 i ++ none_of k (suc n) cut controls (omega arith) own.1 i)
+
+one_of : (k first place : ℕ) (cut : Stamp) (controls : List ControlState) (d : ControlState) → first + place ≡ k → place < length controls → AllFrom OwnAt first controls
+    → filter (is_from_control k) (flat_map (due_of cut) controls) ≡ due_of cut (get_or controls place d)
+one_of k n place cut [] d is lt own = absurd (omega arith)
+one_of k n zero cut (c ∷ controls) d is lt own =
+    let here : n ≡ k = omega arith in
+    let mine : OwnAt k c = subst (λ i. OwnAt i c) here own.0 in
+    filter_more (is_from_control k) (due_of cut c) (flat_map (due_of cut) controls)
+    ∙ (λ i. filter_same (is_from_control k) (λ e. true) (is_from_control k) (due_of cut c) (all_filter (is_from_control k) (is_due cut) c.queue.waiting mine) (λ e h. h) i ++ none_of k (suc n) cut controls (omega arith) own.1 i)
+    ∙ (append-nil (filter (λ e. true) (due_of cut c)) ∙ filter_true (due_of cut c))
+one_of k n (suc place) cut (c ∷ controls) d is lt own =
+    filter_more (is_from_control k) (due_of cut c) (flat_map (due_of cut) controls)
+    ∙ (λ i. due_away k n cut c (λ e. absurd (omega (arith, e, is))) own.0 i ++ one_of k (suc n) place cut controls d (omega arith) (omega arith) own.1 i)
+
+-- Of what a form shows, a control's part is what is due in its queue.
+pub own_part_is : (k : ℕ) (cut : Stamp) (s : Group) → k < length s.controls → AreOrderly s → own_part k (Some (shown_at cut s)) ≡ due cut (waiting_at k s)
+own_part_is k cut s lt h =
+    let own = all_from OwnAt 0 s.controls (new_control 0 0 0) (λ i below. let is : i ≡ 0 + i = omega arith in subst (λ j. OwnAt j (control_at s i)) is (h i below).own) in
+    let one : filter (is_from_control k) (flat_map (due_of cut) s.controls) ≡ due cut (waiting_at k s) = one_of k 0 k cut s.controls (new_control 0 0 0) (omega arith) lt own in
+    let mine = h k lt in
+    filter_order stands_before before_order (is_from_control k) (flat_map (due_of cut) s.controls)
+    ∙ (ap (in_order stands_before) one
+    ∙ order_stays stands_before (due cut (waiting_at k s))
+    (own_in_order k 0 (due cut (waiting_at k s)) (all_filter (is_from_control k) (is_due cut) (waiting_at k s) mine.own) (never_fall_filter (is_due cut) 0 (waiting_at k s) mine.rises)))
+
+-- ---- what waits after each call
+
+itself : (k : ℕ) → nat_eq k k ≡ true
+itself k = eq-eqb k k refl
+
+-- a change of one control's queue, which gains something
+grown : (s : Group) (j : ℕ) (change : ControlState → ControlState) (more : List WaitingEntry) → j < length s.controls → (change (control_at s j)).queue.waiting ≡ (control_at s j).queue.waiting ++ more
+    → (k : ℕ) → waiting_at k (with_control j change s) ≡ waiting_at k s ++ cond (nat_eq j k) more []
+grown s j change more lt is =
+    at_each (λ k c. c.queue.waiting ≡ waiting_at k s ++ cond (nat_eq j k) more []) s j change lt (is ∙ ap (λ b. waiting_at j s ++ cond b more []) (sym (itself j)))
+    (λ k other. sym (append-nil (waiting_at k s)) ∙ ap (λ b. waiting_at k s ++ cond b more []) (sym other))
+
+same_waiting : (s : Group) (j : ℕ) (change : ControlState → ControlState) → j < length s.controls → (change (control_at s j)).queue.waiting ≡ (control_at s j).queue.waiting → (k : ℕ) → waiting_at k (with_control j change s) ≡ waiting_at k s ++ []
+same_waiting s j change lt is k =
+    at_each (λ k c. c.queue.waiting ≡ waiting_at k s) s j change lt is (λ k other. refl) k ∙ sym (append-nil (waiting_at k s))
+
+nothing_more : (t : Bool) (xs : List WaitingEntry) → xs ≡ xs ++ cond t [] []
+nothing_more true xs = sym (append-nil xs)
+nothing_more false xs = sym (append-nil xs)
+
+join_waits : (s : Group) (b : Batch) → b.control < length s.controls → (k : ℕ) → waiting_at k (group_after s (Join b)) ≡ waiting_at k s ++ gained k s (Join b)
+join_waits s b lt k = choose (fits (control_at s b.control) b)
+  where
+    choose : (t : Bool) → waiting_at k (cond t (with_control b.control (joined b) s) s) ≡ waiting_at k s ++ cond (nat_eq b.control k) (cond t (entries_of (control_at s b.control).queue.control (carried_writes (control_at s b.control) b)) []) []
+    choose true = grown s b.control (joined b) (entries_of (control_at s b.control).queue.control (carried_writes (control_at s b.control) b)) lt refl k
+    choose false = nothing_more (nat_eq b.control k) (waiting_at k s)
+
+copy_waits : (s : Group) (j v x : ℕ) (at : Stamp) (slot : List Rec) → j < length s.controls → (k : ℕ) → waiting_at k (group_after s (Copied j v x at slot)) ≡ waiting_at k s ++ gained k s (Copied j v x at slot)
+copy_waits s j v x at slot lt k = choose (is_wanted v x (control_at s j).volumes) (fits_track (control_at s j) slot)
+  where
+    choose : (t u : Bool) → waiting_at k (cond (t && u) (with_control j (copied v x at slot) s) s) ≡ waiting_at k s ++ cond (nat_eq j k) (cond (t && u) (copy_of (copy_head (control_at s j).queue.control v x at) slot ∷ []) []) []
+    choose true true = grown s j (copied v x at slot) (copy_of (copy_head (control_at s j).queue.control v x at) slot ∷ []) lt refl k
+    choose true false = nothing_more (nat_eq j k) (waiting_at k s)
+    choose false u = nothing_more (nat_eq j k) (waiting_at k s)
+
+form_waits : (s : Group) (cut : Stamp) (k : ℕ) → k < length s.controls → waiting_at k (formed_at cut s) ≡ left cut (waiting_at k s)
+form_waits s cut k lt = ap (λ (c : ControlState). c.queue.waiting) (get_or-map (formed cut) s.controls k (new_control 0 0 0) (new_control 0 0 0) lt)
+
+drop_waits : (s : Group) (j v : ℕ) (all : Bool) → j < length s.controls → (k : ℕ) → waiting_at k (with_control j (dropped v all) s) ≡ filter (λ e. not (nat_eq j k && is_of_volume v e)) (waiting_at k s)
+drop_waits s j v all lt =
+    at_each (λ k c. c.queue.waiting ≡ filter (λ e. not (nat_eq j k && is_of_volume v e)) (waiting_at k s)) s j (dropped v all) lt
+    (ap (λ t. filter (λ e. not (t && is_of_volume v e)) (waiting_at j s)) (sym (itself j)))
+    (λ k other. sym (filter_true (waiting_at k s)) ∙ ap (λ t. filter (λ e. not (t && is_of_volume v e)) (waiting_at k s)) (sym other))
+
+-- ---- a run
+
+-- a queue that grows by what is gained, and of which no form or drop takes anything
+grows : (p : WaitingEntry → Bool) (was more now stays out : List WaitingEntry) → now ≡ was ++ more → filter p now ++ stays ≡ out → filter p was ++ (filter p more ++ stays) ≡ out
+grows p was more now stays out is rest =
+    sym (append_assoc (filter p was) (filter p more) stays) ∙ (ap (λ l. l ++ stays) (sym (filter_more p was more)) ∙ (ap (λ l. filter p l ++ stays) (sym is) ∙ rest))
+
+due_later : (a b : ℕ) → nat_lt a b ≡ true → nat_le b a ≡ false
+due_later a b lt = grind (arith, nat_tests)
+
+-- a form takes what is due, and nothing of it falls
+takes : (cut : Stamp) (f : WaitingEntry → Bool) (was : List WaitingEntry) → entries_never_fall 0 was ≡ true → filter (λ e. not (not (is_due cut e) && f e)) was ≡ due cut was ++ filter (λ e. not (f e)) (left cut was)
+takes cut f was rises =
+    let p = λ (e : WaitingEntry). not (not (is_due cut e) && f e) in
+    ap (filter p) (sym (each_once cut 0 was rises))
+    ∙ (filter_more p (due cut was) (left cut was)
+    ∙ (λ i. (filter_same p (λ e. true) (is_due cut) (due cut was) (all_kept (is_due cut) was) (λ e is. ap (λ b. not (not b && f e)) is) ∙ filter_true (due cut was)) i
+    ++ filter_same p (λ e. not (f e)) (is_later cut) (left cut was) (all_kept (is_later cut) was) (λ e is. ap (λ b. not (not b && f e)) (due_later cut.0 (entry_stamp e) is)) i))
+
+pub shown_form : (s : Group) (limit : Stamp) (reply : Reply) → reply ≡ reply_to s (Form limit) → shown_by reply ≡ Some (shown_at (cut_of s limit) s)
+shown_form s limit reply is = ap shown_by is ∙ choose (gives_nothing s limit)
+  where
+    choose : (t : Bool) → shown_by (cond t (Nothing (shown_at (cut_of s limit) s)) (Formed (shown_at (cut_of s limit) s))) ≡ Some (shown_at (cut_of s limit) s)
+    choose true = refl
+    choose false = refl
+
+module _ (k : ℕ) (log : List Answer) (end : Group) where
+  abbrev Flows : Group → Type 0
+  Flows s = filter (stays_in k log) (waiting_at k s) ++ stays_of k s log ≡ part_of_groups k log ++ waiting_at k end
+
+  abbrev FlowsBy : Group → Call → Reply → Type 0
+  FlowsBy s call reply = filter (stays_in k (record { call = call; reply = reply } ∷ log)) (waiting_at k s) ++ (filter (stays_in k log) (gained k s call) ++ stays_of k (group_after s call) log) ≡ (part_by k call reply ++ part_of_groups k log) ++ waiting_at k end
+
+  flow_next : (s : Group) (call : Call) (reply : Reply) → k < length s.controls → AreOrderly s → May s call → reply ≡ reply_to s call → Flows (group_after s call) → FlowsBy s call reply
+  flow_next s (Join b) reply lt h may is rest = grows (stays_in k log) (waiting_at k s) (gained k s (Join b)) (waiting_at k (group_after s (Join b))) (stays_of k (group_after s (Join b)) log) (part_of_groups k log ++ waiting_at k end) (join_waits s b may.control k) rest
+  flow_next s (NextWanted j) reply lt h may is rest = rest
+  flow_next s (Copied j v x at slot) reply lt h may is rest =
+      grows (stays_in k log) (waiting_at k s) (gained k s (Copied j v x at slot)) (waiting_at k (group_after s (Copied j v x at slot))) (stays_of k (group_after s (Copied j v x at slot)) log) (part_of_groups k log ++ waiting_at k end) (copy_waits s j v x at slot may.0 k) rest
+  flow_next s (Raise j upto) reply lt h may is rest = grows (stays_in k log) (waiting_at k s) [] (waiting_at k (with_control j (raised upto) s)) (stays_of k (with_control j (raised upto) s) log) (part_of_groups k log ++ waiting_at k end) (same_waiting s j (raised upto) may.0 refl k) rest
+  flow_next s (Break j upto cause) reply lt h may is rest =
+      grows (stays_in k log) (waiting_at k s) [] (waiting_at k (with_control j (broke upto cause) s)) (stays_of k (with_control j (broke upto cause) s) log) (part_of_groups k log ++ waiting_at k end) (same_waiting s j (broke upto cause) may.0 refl k) rest
+  flow_next s (Form limit) reply lt h may is rest =
+      let cut = cut_of s limit in
+      let shown = shown_form s limit reply is in
+      let later = stays_of k (formed_at cut s) log in
+      let next : filter (stays_in k log) (left cut (waiting_at k s)) ++ later ≡ part_of_groups k log ++ waiting_at k end = ap (λ l. filter (stays_in k log) l ++ later) (sym (form_waits s cut k lt)) ∙ rest in
+      ap (λ o. filter (λ e. not (not (is_shown_by o e) && falls k log e)) (waiting_at k s) ++ later) shown
+      ∙ (ap (λ l. l ++ later) (takes cut (falls k log) (waiting_at k s) (h k lt).rises)
+      ∙ (append_assoc (due cut (waiting_at k s)) (filter (stays_in k log) (left cut (waiting_at k s))) later
+      ∙ (ap (λ l. due cut (waiting_at k s) ++ l) next
+      ∙ (sym (append_assoc (due cut (waiting_at k s)) (part_of_groups k log) (waiting_at k end))
+      ∙ ap (λ l. (l ++ part_of_groups k log) ++ waiting_at k end) (sym (ap (own_part k) shown ∙ own_part_is k cut s lt h))))))
+  flow_next s (Carry j v plan) reply lt h may is rest = grows (stays_in k log) (waiting_at k s) [] (waiting_at k (with_control j (begun_volume v plan) s)) (stays_of k (with_control j (begun_volume v plan) s) log) (part_of_groups k log ++ waiting_at k end) (same_waiting s j (begun_volume v plan) may.0 refl k) rest
+  flow_next s (Drop j v all) reply lt h may is rest =
+      let later = stays_of k (with_control j (dropped v all) s) log in
+      let gone = λ (e : WaitingEntry). nat_eq j k && is_of_volume v e in
+      ap (λ l. l ++ later)
+      (filter_same (λ e. not (gone e || falls k log e)) (λ e. not (not (not (gone e)) || not (stays_in k log e))) (λ e. true) (waiting_at k s) (all_true (waiting_at k s)) (λ e yes. twice (gone e) (falls k log e))
+      ∙ (filter_twice (stays_in k log) (λ e. not (gone e)) (waiting_at k s) ∙ ap (filter (stays_in k log)) (sym (drop_waits s j v all may k))))
+      ∙ rest
+    where
+      twice : (g f : Bool) → not (g || f) ≡ not (not (not g) || not (not f))
+      twice true f = refl
+      twice false true = refl
+      twice false false = refl
+  flow_next s (Resume j v) reply lt h may is rest = grows (stays_in k log) (waiting_at k s) [] (waiting_at k (with_control j (resumed v) s)) (stays_of k (with_control j (resumed v) s) log) (part_of_groups k log ++ waiting_at k end) (same_waiting s j (resumed v) may.0 refl k) rest
+  flow_next s (Forget j v) reply lt h may is rest = grows (stays_in k log) (waiting_at k s) [] (waiting_at k (with_control j (forgotten v) s)) (stays_of k (with_control j (forgotten v) s) log) (part_of_groups k log ++ waiting_at k end) (same_waiting s j (forgotten v) may.0 refl k) rest
+
+controls_stay : (s : Group) (call : Call) → length (group_after s call).controls ≡ length s.controls
+controls_stay s (Join b) = choose (fits (control_at s b.control) b)
+  where
+    choose : (t : Bool) → length (cond t (with_control b.control (joined b) s) s).controls ≡ length s.controls
+    choose true = length-set s.controls b.control (joined b (control_at s b.control))
+    choose false = refl
+controls_stay s (NextWanted j) = refl
+controls_stay s (Copied j v x at slot) = choose (is_wanted v x (control_at s j).volumes && fits_track (control_at s j) slot)
+  where
+    choose : (t : Bool) → length (cond t (with_control j (copied v x at slot) s) s).controls ≡ length s.controls
+    choose true = length-set s.controls j (copied v x at slot (control_at s j))
+    choose false = refl
+controls_stay s (Raise j upto) = length-set s.controls j (raised upto (control_at s j))
+controls_stay s (Break j upto cause) = length-set s.controls j (broke upto cause (control_at s j))
+controls_stay s (Form limit) = length-map s.controls (formed (cut_of s limit))
+controls_stay s (Carry j v plan) = length-set s.controls j (begun_volume v plan (control_at s j))
+controls_stay s (Drop j v all) = length-set s.controls j (dropped v all (control_at s j))
+controls_stay s (Resume j v) = length-set s.controls j (resumed v (control_at s j))
+controls_stay s (Forget j v) = length-set s.controls j (forgotten v (control_at s j))
+
+pub queues_flow : QueuesFlow
+queues_flow k first [] end lt h run = append-nil (filter (stays_in k []) (waiting_at k first)) ∙ (filter_true (waiting_at k first) ∙ ap (waiting_at k) (sym run))
+queues_flow k first (a ∷ log) end lt h run =
+    let next = group_after first a.call in
+    let rest : Runs next log end = subst (λ (s : Group). Runs s log end) run.2.1 run.3 in
+    flow_next k log end first a.call a.reply lt h run.1 run.2.0 (queues_flow k next log end (subst (λ n. k < n) (sym (controls_stay first a.call)) lt) (orderly_next first a.call run.1 h) rest)

@@ -1,0 +1,12 @@
+pub mod Known
+pub mod Leaving
+pub mod Turning
+pub mod Places
+pub mod Runs
+pub mod Notes
+pub mod Splitting
+pub mod Gathering
+pub mod Orderly
+pub mod Flow
+pub mod Forming
+pub mod Crossing

@@ -1,0 +1,5 @@
+pub mod Notes
+pub mod Calls
+pub mod Seats
+pub mod Histories
+pub mod Queues
