@@ -4,3 +4,4 @@ pub mod HistoryVectors
 pub mod Ready
 pub mod Tried
 pub mod Turns
+pub mod LogVectors

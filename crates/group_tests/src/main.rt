@@ -13,6 +13,8 @@ mod held;
 #[cfg(test)]
 mod history_vectors;
 #[cfg(test)]
+mod log_vectors;
+#[cfg(test)]
 mod parts;
 #[cfg(test)]
 mod queues;

@@ -1,0 +1,116 @@
+-- Calls of readers that are fed by their controls' traces.
+use Rattle.std.specs.Prelude.{◌≡◌, ℕ, ◌==◌, ◌&&◌, List, [], ◌∷◌, filter, slice_get, Bool, true, false, Some, nat_lt, nat_le, MatchBool}
+use Rattle.ckd_track.specs.declared.write.Write.{Write}
+use Rattle.write_trace.specs.declared.trace.Trace.{Trace}
+use Rattle.write_trace.specs.Writes.{writes_of}
+use Rattle.sidefile.specs.Breaks.{break_of, has_broken}
+use Rattle.primary_ctl.specs.States.{base_in, after_writes}
+use Rattle.primary_ctl.specs.Primaries.{primary}
+use Rattle.group_state.specs.Groups.{Group}
+use Rattle.group_state.specs.Machine.{Call}
+use Rattle.group_state.specs.Machine.Call.{Join, NextWanted, Copied, Raise, Break, Form, Carry, Drop, Resume, Forget}
+use Rattle.group_state.specs.Runs.{Answer}
+use Rattle.told_tracks.specs.Told.{Truth, floor_of, has_changed, is_write_up_to}
+
+-- the tracks of the primaries of traces
+abbrev pub truth_of : List Trace → Truth
+truth_of traces = λ k v x t. primary traces t k v x
+
+-- a write behind one time, up to another
+abbrev pub is_between : (from to : ℕ) → Write → Bool
+is_between from to w = nat_lt from w.stamp.0 && nat_le w.stamp.0 to
+
+-- the writes of a trace behind one time, up to another
+abbrev pub writes_between : Trace → (from to : ℕ) → List Write
+writes_between t from to = filter (is_between from to) (writes_of t.entries)
+
+-- the control's floor after a call of its reader that changed the state
+abbrev pub floor_behind : (floor : ℕ) → Call → ℕ
+floor_behind floor (Join b) = b.upto.0
+floor_behind floor (NextWanted k) = floor
+floor_behind floor (Copied k v x at slot) = floor
+floor_behind floor (Raise k upto) = upto.0
+floor_behind floor (Break k upto cause) = upto.0
+floor_behind floor (Form limit) = floor
+floor_behind floor (Carry k v plan) = floor
+floor_behind floor (Drop k v all) = floor
+floor_behind floor (Resume k v) = floor
+floor_behind floor (Forget k v) = floor
+
+-- A call of a control's reader is fed by its trace, from the control's floor on. A batch has the trace's writes behind the floor up to
+-- its own time; a raise and a break have none there. A batch and a raise come up to the trace's break time at most, and a break is the
+-- trace's. A copied track is the primary's at the floor.
+abbrev pub IsFedBy : Trace → (floor : ℕ) → Call → Type 0
+IsFedBy t floor (Join b) = (b.writes ≡ writes_between t floor b.upto.0) × (has_broken t b.upto.0 ≡ false)
+IsFedBy t floor (NextWanted k) = Unit {0}
+IsFedBy t floor (Copied k v x at slot) = slot ≡ after_writes (base_in t.header.base v x) (filter (is_write_up_to v x floor) (writes_of t.entries))
+IsFedBy t floor (Raise k upto) = (writes_between t floor upto.0 ≡ []) × (has_broken t upto.0 ≡ false)
+IsFedBy t floor (Break k upto cause) = (writes_between t floor upto.0 ≡ []) × (break_of t ≡ Some (record { cause = cause; upto = upto.0 }))
+IsFedBy t floor (Form limit) = Unit {0}
+IsFedBy t floor (Carry k v plan) = Unit {0}
+IsFedBy t floor (Drop k v all) = Unit {0}
+IsFedBy t floor (Resume k v) = Unit {0}
+IsFedBy t floor (Forget k v) = Unit {0}
+
+-- Answered calls one after another, from a floor on. What was held, what was stale and what only asked tells nothing.
+abbrev pub AreFedBy : Trace → (floor : ℕ) → List Answer → Type 0
+AreFedBy t floor [] = Unit {0}
+AreFedBy t floor (answer ∷ run) = MatchBool (has_changed answer.reply) (IsFedBy t floor answer.call × AreFedBy t (floor_behind floor answer.call) run) (AreFedBy t floor run)
+
+-- ---- whose a call is
+
+-- whether a call is one of a control's reader
+abbrev pub is_call_of : (control : ℕ) → Call → Bool
+is_call_of k (Join b) = b.control == k
+is_call_of k (NextWanted j) = j == k
+is_call_of k (Copied j v x at slot) = j == k
+is_call_of k (Raise j upto) = j == k
+is_call_of k (Break j upto cause) = j == k
+is_call_of k (Form limit) = false
+is_call_of k (Carry j v plan) = false
+is_call_of k (Drop j v all) = false
+is_call_of k (Resume j v) = false
+is_call_of k (Forget j v) = false
+
+abbrev pub is_answer_of : (control : ℕ) → Answer → Bool
+is_answer_of k answer = is_call_of k answer.call
+
+-- whether a call is one of some reader
+abbrev pub is_call_of_reader : Call → Bool
+is_call_of_reader (Join b) = true
+is_call_of_reader (NextWanted k) = true
+is_call_of_reader (Copied k v x at slot) = true
+is_call_of_reader (Raise k upto) = true
+is_call_of_reader (Break k upto cause) = true
+is_call_of_reader (Form limit) = false
+is_call_of_reader (Carry k v plan) = false
+is_call_of_reader (Drop k v all) = false
+is_call_of_reader (Resume k v) = false
+is_call_of_reader (Forget k v) = false
+
+-- whether a call is one that the mover makes while readers are beside it
+abbrev pub is_call_of_mover : Call → Bool
+is_call_of_mover (Join b) = false
+is_call_of_mover (NextWanted k) = false
+is_call_of_mover (Copied k v x at slot) = false
+is_call_of_mover (Raise k upto) = false
+is_call_of_mover (Break k upto cause) = false
+is_call_of_mover (Form limit) = true
+is_call_of_mover (Carry k v plan) = false
+is_call_of_mover (Drop k v all) = true
+is_call_of_mover (Resume k v) = false
+is_call_of_mover (Forget k v) = false
+
+abbrev pub is_answer_of_mover : Answer → Bool
+is_answer_of_mover answer = is_call_of_mover answer.call
+
+-- the mover's part of a run, and a reader's
+abbrev pub part_of_mover : List Answer → List Answer
+part_of_mover run = filter is_answer_of_mover run
+
+abbrev pub part_of_reader : (control : ℕ) → List Answer → List Answer
+part_of_reader k run = filter (is_answer_of k) run
+
+-- Each reader's part of a run from a state on is fed by its control's trace.
+abbrev pub AllAreFed : List Trace → Group → List Answer → Type 0
+AllAreFed traces s run = (k : ℕ) (t : Trace) → slice_get traces k ≡ Some t → AreFedBy t (floor_of s k) (part_of_reader k run)

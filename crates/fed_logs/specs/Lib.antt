@@ -1,0 +1,5 @@
+pub mod Deeds
+pub mod Feeds
+pub mod Moves
+pub mod Logs
+pub mod Laws
