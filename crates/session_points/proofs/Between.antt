@@ -1,19 +1,24 @@
 -- A run between its calls.
-use Rattle.std.proofs.Common.{◌≡◌, ◌⊎◌, inl, inr, ℕ, ◌^◌, ◌<◌, ◌≤◌, Bool, true, false, not, List, [], ◌∷◌, ◌++◌, length, Option, Some, None, refl, sym, ap, subst, ◌∙◌, append-nil, arith}
+use Rattle.std.proofs.Common.{◌≡◌, ◌⊎◌, inl, inr, ℕ, ◌^◌, ◌<◌, ◌≤◌, Bool, true, false, not, List, [], ◌∷◌, ◌++◌, length, take, Option, Some, None, refl, sym, ap, subst, ◌∙◌, append-nil, arith}
 use Rattle.std.specs.Prelude.{◌==◌, IfSome, is_none, if◌then◌else◌}
 use Rattle.std.specs.List.{All}
+use Rattle.std.proofs.lemmas.List.{take-append-le, take_all}
+use Rattle.std.proofs.lemmas.Option.{slice_get_within}
 use Rattle.std.proofs.lemmas.List.Elements.{All-append, All-nil, All-weaker}
+use Rattle.crash_plant.specs.declared.device.Device.TheVariants.{Control}
 use Rattle.crash_plant.specs.Calls.{Elapses, SameSite, Says, Silent, WorksOnConsole}
 use Rattle.crash_plant.specs.Choices.{AtEveryMoment, Choice, IsChoice}
 use Rattle.crash_plant.specs.Moments.{PlantState}
+use Rattle.crash_plant.proofs.Choices.{past_choice}
 use Rattle.pair_table.specs.Commands.{accepted}
 use Rattle.pair_table.specs.Refusals.{refusal}
 use Rattle.pair_table.specs.Tables.{Table}
 use Rattle.row_changes.specs.Changes.{Timed}
 use Rattle.row_changes.specs.Toward.{AreCounted}
 use Rattle.site_means.specs.declared.means.Means.{Means}
-use Rattle.site_means.specs.Images.{shape_of}
+use Rattle.site_means.specs.Images.{Shape, shape_of}
 use Rattle.site_means.specs.Sight.{means_of}
+use Rattle.site_means.proofs.Goes.{shape_same}
 use Rattle.consistency.specs.Bears.{AreAfterLine, AreOnTheWay, Run, Stage, breaks_of, names_of}
 use Rattle.consistency.specs.Courses.{Answered, IsAnswered, last_line_time, replies_of, stage_after, stage_at, texts_of}
 use Rattle.consistency.specs.Keeping.{stage_now}
@@ -21,24 +26,73 @@ use Rattle.consistency.specs.Moments.{AreUpTo, BearsThroughout, BearsTime, Means
 use Rattle.consistency.specs.Steps.{TimedCommand, names_at, table_on_the_way}
 use Rattle.consistency.specs.Times.{times_said}
 use Rattle.consistency.proofs.Keeping.{keeps_begins, keeps_says, keeps_says_throughout, keeps_works}
-use Rattle.consistency.proofs.Lines.{next_not_before, replied_by_last, replies_more, replies_whole, stage_more}
+use Rattle.consistency.proofs.Lines.{at_or_last, next_not_before, replied_by_last, replies_more, replies_whole, stage_front, stage_more}
 use Rattle.consistency.proofs.Pieces.{times_append}
 use Rattle.session_points.specs.Bearing.{GoesThroughPoints, MayBeMeant, ShowsPoint}
-use Rattle.session_points.specs.Between.{MayReply, RunGoesOn, ShowsMeant}
+use Rattle.session_points.specs.Between.{AreToldOf, HadExactReplies, HadExactReply, HasPassed, MayReply, RunGoesOn, ShowsMeant, asked_in}
 use Rattle.session_points.specs.Leads.{Point}
 use Rattle.session_points.specs.Ways.{Leg, PassedPoint, Way, stage_point}
 use Rattle.session_points.proofs.Bearing.{points_bear}
-use Rattle.passages.proofs.InARow.{all_shown}
+use Rattle.passages.proofs.InARow.{all_shown, moments_rise}
+use Rattle.session_points.proofs.Moments.{points_stay}
 use Rattle.session_points.proofs.Leading.{leads_toward, whole_itself}
 use Rattle.session_points.proofs.Replying.{exact_says_up_to}
 
 -- A run that has made no call yet goes on.
 pub runs_begin : (plant : PlantState) (run : Run) (grammar : List ℕ → Option TimedCommand) → 0 < plant.clock → RunGoesOn run grammar [] [] plant plant
-runs_begin plant run grammar up = record { up = up; keeps = keeps_begins run grammar plant; said = All-nil (λ z. z ≤ 0); short = omega arith }
+runs_begin plant run grammar up = record { up = up; keeps = keeps_begins run grammar plant; exact = λ n a at. absurd cc; said = All-nil (λ z. z ≤ 0); short = omega arith }
 
 -- What isn't behind a time isn't behind a later one.
 up_to_later : (early late : ℕ) (times : List ℕ) → early ≤ late → AreUpTo early times → AreUpTo late times
 up_to_later early late times le all = All-weaker (λ z. z ≤ early) (λ z. z ≤ late) (λ z at. omega (arith, le, at)) times all
+
+-- ---- exact replies
+
+module _ (old new : PlantState) (site : SameSite old new) (elapses : Elapses old new) (up : 0 < old.clock) (run : Run) where
+  -- Points that were passed stay passed.
+  passed_stay : (asked : ℕ → Option TimedCommand) (first : Leg) (points : List PassedPoint) (to : ℕ) → to ≤ old.clock → HasPassed run asked first points old to → HasPassed run asked first points new to
+  passed_stay asked first points to le passed = record {
+    rowless = passed.rowless;
+    from = passed.from;
+    begins = λ c is. subst (λ (shape : Shape). ShowsPoint run shape first.point c) (sym (shape_same old new site)) (passed.begins c (past_choice old new passed.from c site elapses up from_before is));
+    goes = points_stay old new site elapses up run passed.from to first.point points None le passed.goes;
+    linked = passed.linked;
+  }
+    where
+      from_before : passed.from ≤ old.clock
+      from_before = omega (arith, le, moments_rise Point Way Choice (IsChoice old) (ShowsPoint run (shape_of old)) passed.from to first.point points None passed.goes)
+
+  told_stay : (s : Stage) (before : List Answered) (first : Leg) (points : List PassedPoint) (a : Answered) (to : ℕ) → to ≤ old.clock → AreToldOf run s before first points a old to → AreToldOf run s before first points a new to
+  told_stay s before first points a to le told = record { passed = passed_stay (asked_in (before ++ a ∷ [])) first points to le told.passed; answered = told.answered; changes = told.changes; rows = told.rows }
+
+  -- A reply stays exact.
+  exact_stays : (s : Stage) (before : List Answered) (a : Answered) → HadExactReply run s before a old → HadExactReply run s before a new
+  exact_stays s before a had = record {
+    first = had.first;
+    points = had.points;
+    by = had.by;
+    within = omega (arith, had.within, (elapses.kept Control).later);
+    exact = had.exact;
+    told = λ started. told_stay s before had.first had.points a had.by had.within (had.told started);
+  }
+
+-- The replies to some lines and to one more were exact.
+exact_more : (run : Run) (plant : PlantState) (lines : List Answered) (a : Answered) → HadExactReplies run lines plant → HadExactReply run (stage_at run lines (length lines)) lines a plant → HadExactReplies run (lines ++ a ∷ []) plant
+exact_more run plant lines a all one n b at = elim (at_or_last lines a n b at) [
+  | inl here ↦ put n b (omega (arith, slice_get_within lines n b here)) (all n b here)
+  | inr last ↦ put n b (omega (arith, last.0)) (there n b last.0 last.1)
+]
+  where
+    put : (n : ℕ) (b : Answered) → n ≤ length lines → HadExactReply run (stage_at run lines n) (take n lines) b plant → HadExactReply run (stage_at run (lines ++ a ∷ []) n) (take n (lines ++ a ∷ [])) b plant
+    put n b within had =
+        subst (λ (s : Stage). HadExactReply run s (take n (lines ++ a ∷ [])) b plant) (sym (stage_front run lines (a ∷ []) n within))
+        (subst (λ (l : List Answered). HadExactReply run (stage_at run lines n) l b plant) (sym (take-append-le n lines (a ∷ []) within)) had)
+
+    whole : HadExactReply run (stage_at run lines (length lines)) (take (length lines) lines) a plant
+    whole = subst (λ (l : List Answered). HadExactReply run (stage_at run lines (length lines)) l a plant) (sym (take_all (length lines) lines (omega arith))) one
+
+    there : (n : ℕ) (b : Answered) → n ≡ length lines → a ≡ b → HadExactReply run (stage_at run lines n) (take n lines) b plant
+    there n b is same = subst (λ (m : ℕ). HadExactReply run (stage_at run lines m) (take m lines) b plant) (sym is) (subst (λ (x : Answered). HadExactReply run (stage_at run lines (length lines)) (take (length lines) lines) x plant) same whole)
 
 -- ---- works
 
@@ -47,6 +101,7 @@ pub works_go_on : (first old new : PlantState) (run : Run) (grammar : List ℕ �
 works_go_on first old new run grammar lines text goes site elapses silent means = record {
   up = goes.up;
   keeps = keeps_works run grammar lines text first old new goes.up goes.keeps site elapses silent (λ started t since to c is. bears c (means started t since to c is));
+  exact = λ n a at. exact_stays old new site elapses (omega (arith, goes.up, goes.keeps.later)) run (stage_at run lines n) (take n lines) a (goes.exact n a at);
   said = goes.said;
   short = goes.short;
 }
@@ -154,6 +209,20 @@ module _ (run : Run) (grammar : List ℕ → Option TimedCommand) (lines : List 
   mean : a.table.is_started ≡ true → (c : Choice) → IsChoice old old.clock c → (means : Means) × (means_of old c ≡ Some means) × MeansTable behind means
   mean started c is = let shown = reply.shows started c is in (shown.means, shown.defined, record { rows = shown.rows; time = shown.at; ended = shown.ended })
 
+  -- The reply was exact, and those before it.
+  exact_now : HadExactReply run before lines a old
+  exact_now = record {
+    first = from;
+    points = points;
+    by = old.clock;
+    within = omega arith;
+    exact = reply.exact;
+    told = λ started. record { passed = (reply.told started).passed; answered = (reply.told started).answered; changes = (reply.told started).changes; rows = (reply.told started).rows };
+  }
+
+  exact_all : HadExactReplies run (lines ++ a ∷ []) new
+  exact_all n b at = exact_stays old new works.site (works.elapses told) (omega (arith, goes.up, goes.keeps.later)) run (stage_at run (lines ++ a ∷ []) n) (take n (lines ++ a ∷ [])) b (exact_more run old lines a goes.exact exact_now n b at)
+
   -- Whether the reply is said whole or in part, each moment bears.
   pub replies_fail : BearsThroughout run grammar (lines ++ a ∷ []) first new
   replies_fail = keeps_says_throughout run grammar lines a.text first old new goes.up goes.keeps tells told works a says refl answered reply.asks during after mean
@@ -163,6 +232,7 @@ module _ (run : Run) (grammar : List ℕ → Option TimedCommand) (lines : List 
   replies_go_on whole = record {
     up = goes.up;
     keeps = keeps_says run grammar lines a.text first old new goes.up goes.keeps tells told works a says refl answered reply.asks during after mean whole;
+    exact = exact_all;
     said = subst (λ (x : Stage). AreUpTo x.replied (times_said (replies_of (lines ++ a ∷ [])))) (sym (stage_more run lines a)) (subst (λ (l : List ℕ). AreUpTo behind.replied (times_said l)) (sym (replies_more lines a)) said_up_to);
     short = subst (λ (x : Stage). x.replied < 2 ^ 64) (sym (stage_more run lines a)) short_behind;
   }

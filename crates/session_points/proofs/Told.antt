@@ -28,10 +28,10 @@ module _ (run : Run) (plant : PlantState) where
       by_way false rest = (rest.0, omega (arith, goes.0, rest.1), rest.2, (goes.0, goes.1, goes.2, rest.3))
 
 -- The points that a reply tells of are a way of the devices.
-pub told_points_are_walked : (plant : PlantState) (run : Run) (asked : ℕ → Option TimedCommand) (first : Leg) (points : List PassedPoint) (number : ℕ) (passed : HasPassed run asked first points plant)
-    → ((t : ℕ) → passed.from ≤ t → t ≤ plant.clock → (c : Choice) × IsChoice plant t c) → (to : ℕ) × (to ≤ plant.clock) × IsWalked run plant passed.from to first.point (points_before number points)
-told_points_are_walked plant run asked first points number passed some =
-    let front = front_passed run plant number passed.from plant.clock first.point points here passed.goes in
+pub told_points_are_walked : (plant : PlantState) (run : Run) (asked : ℕ → Option TimedCommand) (first : Leg) (points : List PassedPoint) (number by : ℕ) (passed : HasPassed run asked first points plant by)
+    → ((t : ℕ) → passed.from ≤ t → t ≤ by → (c : Choice) × IsChoice plant t c) → (to : ℕ) × (to ≤ by) × IsWalked run plant passed.from to first.point (points_before number points)
+told_points_are_walked plant run asked first points number by passed some =
+    let front = front_passed run plant number passed.from by first.point points here passed.goes in
     (front.0, front.2, record { begins = passed.begins; goes = front.3; some = λ t since within. some t since (omega (arith, within, front.2)) })
   where
     here : Throughout (IsChoice plant) passed.from passed.from (ShowsPoint run (shape_of plant) first.point)

@@ -245,8 +245,8 @@ DuplexIsByMoments plant = (run : Run) (row : PairRow) (from to : ℕ) (first : P
 
 -- The points that a reply tells of are such a way, up to some moment. So its tracks are those that the moments say.
 abbrev pub ToldPointsAreWalked : PlantState → Type 0
-ToldPointsAreWalked plant = (run : Run) (asked : ℕ → Option TimedCommand) (first : Leg) (points : List PassedPoint) (number : ℕ) (passed : HasPassed run asked first points plant)
-    → ((t : ℕ) → passed.from ≤ t → t ≤ plant.clock → (c : Choice) × IsChoice plant t c) → (to : ℕ) × (to ≤ plant.clock) × IsWalked run plant passed.from to first.point (points_before number points)
+ToldPointsAreWalked plant = (run : Run) (asked : ℕ → Option TimedCommand) (first : Leg) (points : List PassedPoint) (number by : ℕ) (passed : HasPassed run asked first points plant by)
+    → ((t : ℕ) → passed.from ≤ t → t ≤ by → (c : Choice) × IsChoice plant t c) → (to : ℕ) × (to ≤ by) × IsWalked run plant passed.from to first.point (points_before number points)
 
 -- A suspended row whose own device hasn't failed owes exactly the tracks written since, where it has been duplex so. Else it owes all.
 abbrev pub SuspendedOweChanges : PlantState → Type 0

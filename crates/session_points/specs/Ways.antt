@@ -137,9 +137,15 @@ pub record IsMarking (run : Run) (asked : Option TimedCommand) (l : Leg) (q : Po
 
 -- ---- from point to point
 
--- The next point is on the way: changes lead to it, and each break that came due since the last reply has come.
+-- whether all changes come at a time, as those of one record or one mark do: at the record's cut, or at the time of the mark
+abbrev pub are_at_time : (time : ℕ) → List Timed → Bool
+are_at_time time changes = list_all (λ t. t.time == time) changes
+
+-- The next point is on the way: changes lead to it at its own time, and each break that came due since the last reply has come. So a hit has
+-- the time that is meant with it, and so has a break.
 pub record IsOnTheWay (run : Run) (l : Leg) (q : Point) (changes : List Timed) : Type 0 where
   pub leads : Leads run.level (breaks_of run) l.point q changes
+  pub together : IsTrue (are_at_time q.time changes)
   pub broken : IsTrue (all_broke l.replied q.time 0 (breaks_of run) (l.changes ++ changes))
 
 -- the line answered last, if one was

@@ -23,7 +23,7 @@ one_hit device t = omega (arith, sum_by-cons (λ x. cond (hits device x) 1 0) t 
 pub resumed_row : ResumedRowIsWorked
 resumed_row = record {
   linked = (
-    ((record { goes_on = refl; not_ending = refl; none_marked = refl }, record { leads = record { may_come = (omega arith, refl); rows = refl; goes_on = refl }; broken = refl }), λ device. omega arith),
+    ((record { goes_on = refl; not_ending = refl; none_marked = refl }, record { leads = record { may_come = (omega arith, refl); rows = refl; goes_on = refl }; together = refl; broken = refl }), λ device. omega arith),
     (
       (
         (
@@ -40,9 +40,9 @@ resumed_row = record {
         λ device. omega arith,
       ),
       (
-        ((record { goes_on = refl; not_ending = refl; none_marked = refl }, record { leads = record { may_come = (omega arith, omega arith, refl, (omega arith, refl)); rows = refl; goes_on = refl }; broken = refl }), λ device. omega arith),
+        ((record { goes_on = refl; not_ending = refl; none_marked = refl }, record { leads = record { may_come = (omega arith, omega arith, refl, (omega arith, refl)); rows = refl; goes_on = refl }; together = refl; broken = refl }), λ device. omega arith),
         (
-          ((record { goes_on = refl; not_ending = refl; none_marked = refl }, record { leads = record { may_come = (omega arith, refl); rows = refl; goes_on = refl }; broken = refl }), λ device. omega arith),
+          ((record { goes_on = refl; not_ending = refl; none_marked = refl }, record { leads = record { may_come = (omega arith, refl); rows = refl; goes_on = refl }; together = refl; broken = refl }), λ device. omega arith),
           (
             (
               (
@@ -59,7 +59,7 @@ resumed_row = record {
               λ device. omega arith,
             ),
             (
-              ((record { goes_on = refl; not_ending = refl; none_marked = refl }, record { leads = record { may_come = (omega arith, refl); rows = refl; goes_on = refl }; broken = refl }), λ device. omega arith),
+              ((record { goes_on = refl; not_ending = refl; none_marked = refl }, record { leads = record { may_come = (omega arith, refl); rows = refl; goes_on = refl }; together = refl; broken = refl }), λ device. omega arith),
               tt,
             ),
           ),
@@ -74,9 +74,10 @@ resumed_row = record {
 pub failing_row : FailingRowIsWorked
 failing_row = record {
   linked = (
-    ((record { goes_on = refl; not_ending = refl; none_marked = refl }, record { leads = record { may_come = (omega arith, omega arith, refl, (omega arith, refl)); rows = refl; goes_on = refl }; broken = refl }), λ device. omega (arith, one_hit device (timed_change 0x80 (Hit (1 ∷ []))))),
+    ((record { goes_on = refl; not_ending = refl; none_marked = refl }, record { leads = record { may_come = (omega arith, omega arith, refl, (omega arith, refl)); rows = refl; goes_on = refl }; together = refl; broken = refl }), λ device. omega (arith, one_hit device (timed_change 0x80 (Hit (1 ∷ []))))),
     tt,
   );
+  earlier = λ way. true≢false (sym way.1.together);
   by_device = refl;
   by_session = refl;
   copied = refl;
@@ -185,9 +186,9 @@ ended_row = record {
 pub cut_row : CutRowIsWorked
 cut_row = record {
   linked = (
-    ((record { goes_on = refl; not_ending = refl; none_marked = refl }, record { leads = record { may_come = (omega arith, omega arith, refl, (omega arith, refl)); rows = refl; goes_on = refl }; broken = refl }), λ device. omega arith),
+    ((record { goes_on = refl; not_ending = refl; none_marked = refl }, record { leads = record { may_come = (omega arith, omega arith, refl, (omega arith, refl)); rows = refl; goes_on = refl }; together = refl; broken = refl }), λ device. omega arith),
     (
-      ((record { goes_on = refl; not_ending = refl; none_marked = refl }, record { leads = record { may_come = (omega arith, refl); rows = refl; goes_on = refl }; broken = refl }), λ device. omega arith),
+      ((record { goes_on = refl; not_ending = refl; none_marked = refl }, record { leads = record { may_come = (omega arith, refl); rows = refl; goes_on = refl }; together = refl; broken = refl }), λ device. omega arith),
       (
         (
           (

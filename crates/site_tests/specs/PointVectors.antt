@@ -107,10 +107,18 @@ failing_points state =
 abbrev pub failing_first : PairState → Point
 failing_first state = point_of_rows 0x70 (worked_row state ∷ other_worked_row Duplex ∷ [])
 
--- The pair whose device failed owes all its tracks. The other, which the session suspended, owes those written since where it was
+-- a hit at a time before that of the point to which it is to lead
+abbrev pub earlier_hit : Way
+earlier_hit = OnTheWay (timed_change 0x78 (Hit (1 ∷ [])) ∷ [])
+
+abbrev pub earlier_failed : Point
+earlier_failed = point_of_rows 0x80 (worked_row (since BySession 0x78) ∷ other_worked_row (since ByDevice 0x78) ∷ [])
+
+-- A hit leads to a point of its own time alone. The pair whose device failed owes all its tracks. The other, which the session suspended, owes those written since where it was
 -- duplex, and all where it was still copied.
 pub record FailingRowIsWorked : Type 0 where
   pub linked : AreLinked (ComesNext failing_run (λ line. None)) leg_after (worked_leg 2 (failing_first Duplex)) (failing_points Duplex)
+  pub earlier : ¬ ComesBy failing_run (λ line. None) (worked_leg 2 (failing_first Duplex)) earlier_failed earlier_hit
   pub by_device : tracks_owed failing_run (failing_first Duplex) (failing_points Duplex) (other_worked_row (since ByDevice 0x80)) 0x90 ≡ 15
   pub by_session : tracks_owed failing_run (failing_first Duplex) (failing_points Duplex) (worked_row (since BySession 0x80)) 0x90 ≡ 0
   pub copied : tracks_owed failing_run (failing_first Copy) (failing_points Copy) (worked_row (since BySession 0x80)) 0x90 ≡ 15
