@@ -36,29 +36,29 @@ def part_of_crate(name):
 
 
 def task_of(words, folder):
-    """Returns the part and the crate for which rt started a process, and what its edits rest on, or None where it is for no crate."""
+    """Returns the part and the crate for which rt started a process, or None where it is for no crate."""
     ran = next((found for found in (re.search(r"/rt-run-[^/]*/bin/(\w+)$", it) for it in words) if found), None)
     tools = [os.path.basename(it) for it in words]
     if ran:
-        return (TESTS, ran[1].removesuffix("_tests"), "") if "rattle-test" in tools else (part_of_crate(ran[1]), ran[1], "")
+        return (TESTS, ran[1].removesuffix("_tests")) if "rattle-test" in tools else (part_of_crate(ran[1]), ran[1])
     if "rattle-link" in tools:
         made = os.path.basename(word_after(words, "-o"))
-        return (TESTS if made.endswith("_tests") else PROGRAMS), os.path.basename(folder), ""
+        return (TESTS if made.endswith("_tests") else PROGRAMS), os.path.basename(folder)
     name = word_after(words, "--crate-name")
     if "rattle" not in tools or not name:
         return None
     if "--test" in words:
-        return TESTS, name, ""
+        return TESTS, name
     if os.path.basename(folder).startswith("rt-edit-"):
-        return EDITS, name, word_after(words, "--incremental")
-    return part_of_crate(name), name, ""
+        return EDITS, name
+    return part_of_crate(name), name
 
 
 class Task:
     """A process that rt started for a crate, with all that this one started: its ticks, and when it was there."""
 
     def __init__(self, number, what, now):
-        self.number, (self.part, self.crate, self.rests_on) = number, what
+        self.number, (self.part, self.crate) = number, what
         self.ticks, self.began, self.ended = 0, now, now
 
 
@@ -133,11 +133,11 @@ class Watch:
         self.reaped = reaped
 
     def all_tasks(self):
-        """Returns the tasks, with the first and the last check over each base as the base."""
+        """Returns the tasks. The first and the last check of a crate among those of its edits are the base."""
         rows = {}
         for it in sorted(self.tasks.values(), key=lambda it: it.number):
-            if it.part == EDITS and it.rests_on:
-                rows.setdefault(it.rests_on, []).append(it)
+            if it.part == EDITS:
+                rows.setdefault(it.crate, []).append(it)
         for row in rows.values():
             row[0].part = row[-1].part = BASES
         return list(self.tasks.values())
