@@ -1,7 +1,8 @@
-//! Seats in their turns: three readers and the mover, a reader that is held and joins in the next round, and every call
+//! Seats in their turns: three readers beside the mover on threads, a reader that is held and joins in the next round, and every call
 //! of a seat once.
 
 ghost use Rattle.std.specs.Prelude.{◌≡◌, ◌<◌, ◌≤◌, ◌+◌, ◌∷◌, [], length, IsTrue};
+ghost use Rattle.std.specs.Thread.{IsSync};
 ghost use Rattle.group_state.specs.Machine.Call.{Join};
 ghost use Rattle.group_state.specs.Answers.{run_reply};
 ghost use Rattle.turn_group.specs.Seats.{SeatMayJoin, ReaderCalled};
@@ -15,6 +16,7 @@ use pending_queue::{Formed, Room};
 use std::alloc::Global;
 use std::process::Abort;
 use std::sync::Wait;
+use std::thread::{Threads, join_mut};
 use tod_stamp::Stamp;
 use turn_group::{MoverSeat, ReaderSeat, TurnGroup};
 
@@ -67,9 +69,101 @@ fn form_some<R: Abort + Wait>(
     shown
 }
 
-/// Each write of three readers is shown once.
+/// One reader beside the mover.
+fn read_and_form<R: Abort + Threads + Wait + Sync>(
+    rt: &R,
+    alloc: Global,
+    group: &TurnGroup,
+    reader: &mut ReaderSeat,
+    seat: &mut MoverSeat,
+    out: &mut Formed,
+) -> u64
+    requires reads { ReadsUpTo group.now.table 0 reader.old }
+    requires moves { MovesUpTo group.now.table BATCHES seat.old }
+    requires room { 3 ≤ out.old.controls }
+    ensures reads { ReadsUpTo group.now.table BATCHES reader.new }
+    ensures control { reader.new.control ≡ reader.old.control }
+    ensures moves { MovesUpTo group.now.table BATCHES seat.new }
+    ensures room { out.new.controls ≡ out.old.controls }
+{
+    let ((), shown) = join_mut(
+        rt,
+        &mut || -> ()
+            requires { IsSync R.row × ReadsUpTo group.now.table 0 reader.now }
+            ensures { ReadsUpTo group.entry.now.table BATCHES reader.exit.now × (reader.exit.now.control ≡ reader.entry.now.control) }
+        { read_all(rt, alloc, group, reader) },
+        &mut || -> u64
+            requires { MovesUpTo group.now.table BATCHES seat.now × (3 ≤ out.now.controls) }
+            ensures { MovesUpTo group.entry.now.table BATCHES seat.exit.now × (out.exit.now.controls ≡ out.entry.now.controls) }
+        { form_some(rt, group, seat, out) },
+    );
+    shown
+}
+
+/// Two readers beside each other.
+fn read_both<R: Abort + Threads + Wait + Sync>(
+    rt: &R,
+    alloc: Global,
+    group: &TurnGroup,
+    first: &mut ReaderSeat,
+    second: &mut ReaderSeat,
+)
+    requires first { ReadsUpTo group.now.table 0 first.old }
+    requires second { ReadsUpTo group.now.table 0 second.old }
+    ensures first { ReadsUpTo group.now.table BATCHES first.new × (first.new.control ≡ first.old.control) }
+    ensures second { ReadsUpTo group.now.table BATCHES second.new × (second.new.control ≡ second.old.control) }
+{
+    join_mut(
+        rt,
+        &mut || -> ()
+            requires { IsSync R.row × ReadsUpTo group.now.table 0 first.now }
+            ensures { ReadsUpTo group.entry.now.table BATCHES first.exit.now × (first.exit.now.control ≡ first.entry.now.control) }
+        { read_all(rt, alloc, group, first) },
+        &mut || -> ()
+            requires { ReadsUpTo group.now.table 0 second.now }
+            ensures { ReadsUpTo group.entry.now.table BATCHES second.exit.now × (second.exit.now.control ≡ second.entry.now.control) }
+        { read_all(rt, alloc, group, second) },
+    );
+}
+
+/// Three readers and the mover, each on a thread.
+fn read_three<R: Abort + Threads + Wait + Sync>(
+    rt: &R,
+    alloc: Global,
+    group: &TurnGroup,
+    first: &mut ReaderSeat,
+    second: &mut ReaderSeat,
+    third: &mut ReaderSeat,
+    mover: &mut MoverSeat,
+    out: &mut Formed,
+) -> u64
+    requires first { ReadsUpTo group.now.table 0 first.old }
+    requires second { ReadsUpTo group.now.table 0 second.old }
+    requires third { ReadsUpTo group.now.table 0 third.old }
+    requires moves { MovesUpTo group.now.table BATCHES mover.old }
+    requires room { 3 ≤ out.old.controls }
+    ensures first { ReadsUpTo group.now.table BATCHES first.new × (first.new.control ≡ first.old.control) }
+    ensures second { ReadsUpTo group.now.table BATCHES second.new × (second.new.control ≡ second.old.control) }
+    ensures third { ReadsUpTo group.now.table BATCHES third.new × (third.new.control ≡ third.old.control) }
+    ensures moves { MovesUpTo group.now.table BATCHES mover.new }
+    ensures room { out.new.controls ≡ out.old.controls }
+{
+    let ((), shown) = join_mut(
+        rt,
+        &mut || -> ()
+            requires { IsSync R.row × ReadsUpTo group.now.table 0 first.now × ReadsUpTo group.now.table 0 second.now }
+            ensures { ReadsUpTo group.entry.now.table BATCHES first.exit.now × (first.exit.now.control ≡ first.entry.now.control) × ReadsUpTo group.entry.now.table BATCHES second.exit.now × (second.exit.now.control ≡ second.entry.now.control) }
+        { read_both(rt, alloc, group, first, second) },
+        &mut || -> u64
+            requires { IsSync R.row × ReadsUpTo group.now.table 0 third.now × MovesUpTo group.now.table BATCHES mover.now × (3 ≤ out.now.controls) }
+            ensures { ReadsUpTo group.entry.now.table BATCHES third.exit.now × (third.exit.now.control ≡ third.entry.now.control) × MovesUpTo group.entry.now.table BATCHES mover.exit.now × (out.exit.now.controls ≡ out.entry.now.controls) }
+        { read_and_form(rt, alloc, group, third, mover, out) },
+    );
+    shown
+}
+
 #[test]
-fn three_readers_take_turns_with_the_mover(rt: HostRuntime) {
+fn readers_join_beside_the_mover(rt: HostRuntime) {
     let alloc = rt.alloc();
     let state = three_controls(&rt, alloc);
     let mut out = Formed::make(alloc, 3).expect(&rt, "memory");
@@ -77,10 +171,9 @@ fn three_readers_take_turns_with_the_mover(rt: HostRuntime) {
     let mut a = seats.take(0).expect(&rt, "seat");
     let mut b = seats.take(1).expect(&rt, "seat");
     let mut c = seats.take(2).expect(&rt, "seat");
-    read_all(&rt, alloc, &group, &mut a);
-    read_all(&rt, alloc, &group, &mut b);
-    let before = form_some(&rt, &group, &mut mover, &mut out);
-    read_all(&rt, alloc, &group, &mut c);
+    let before = read_three(
+        &rt, alloc, &group, &mut a, &mut b, &mut c, &mut mover, &mut out,
+    );
     let last = form_some(&rt, &group, &mut mover, &mut out);
     let shown = u64::saturating_add(before, last);
     assert_same(&rt, &shown, &(3 * BATCHES), &"shown");

@@ -1,7 +1,8 @@
--- What a form of the mover's shows: its cut is at most the limit, and its entries are on volumes that the mover knows as carried.
-use Rattle.std.proofs.Common.{◌≡◌, ℕ, suc, ◌≤◌, Bool, true, false, cond, nat_eq, nat_lt, ◌&&◌, ◌||◌, not, List, [], ◌∷◌, length, get_or, map, Option, Some, None, refl, sym, ap, ◌∙◌, subst}
+-- What a form of the mover's shows: its cut is at least the last one and at most the limit, and its entries are on volumes that the mover knows as carried.
+use Rattle.std.proofs.Common.{◌≡◌, ℕ, suc, ◌≤◌, Bool, true, false, cond, nat_eq, nat_lt, nat_le, min, ◌&&◌, ◌||◌, not, List, [], ◌∷◌, length, get_or, map, Option, Some, None, refl, sym, ap, ◌∙◌, subst, arith}
+use Rattle.std.specs.Prelude.{fold}
 use Rattle.std.specs.List.{list_all, list_any, flat_map}
-use Rattle.std.proofs.lemmas.Bool.{and_parts, eqb-true}
+use Rattle.std.proofs.lemmas.Bool.{and_parts, eqb-true, leb-true}
 use Rattle.tod_stamp.specs.declared.stamp.Stamp.{Stamp}
 use Rattle.change_map.specs.Sets.{has_track}
 use Rattle.pending_queue.specs.Entries.{WaitingEntry, is_due, stands_before}
@@ -13,9 +14,9 @@ use Rattle.group_state.specs.declared.joining.Forming.{Forming}
 use Rattle.group_state.specs.declared.joining.Forming.TheVariants as formings
 use Rattle.group_state.specs.declared.volume.Volume.{Volume}
 use Rattle.group_state.specs.Volumes.{volume_of, passes}
-use Rattle.group_state.specs.Controls.{ControlState, new_control, due_of}
+use Rattle.group_state.specs.Controls.{ControlState, new_control, counts, lesser, due_of}
 use Rattle.group_state.specs.Groups.{Group, Shown, control_at, cut_of, shown_at, shown_in}
-use Rattle.group_state.specs.Sound.{may_wait, is_entry_of}
+use Rattle.group_state.specs.Sound.{may_wait, is_entry_of, has_told, HaveTold}
 use Rattle.group_state.specs.Machine.{Call, steps}
 use Rattle.group_state.specs.Machine.Call.{Form}
 use Rattle.group_state.specs.Runs.{shown_by}
@@ -41,6 +42,22 @@ pub form_upto : (x new : Group) (limit : Stamp) (result : Forming) (out : Formed
 form_upto x new limit result out step =
     let cut : out.cut ≡ cut_of x limit = ap (λ o. last_by o limit) (shown_is x new limit result out step) in
     subst (λ (t : Stamp). t.0 ≤ limit.0) (sym cut) (least_within limit.0 x.controls)
+
+told_up : (last : Stamp) (limit : ℕ) (controls : List ControlState) → last.0 ≤ limit → list_all (has_told last) controls ≡ true → last.0 ≤ fold lesser limit controls
+told_up last limit [] le told = le
+told_up last limit (c ∷ controls) le told =
+    let parts = and_parts (has_told last c) (list_all (has_told last) controls) told in
+    told_up last (lesser limit c) controls (choose (counts c.phase) parts.0) parts.1
+  where
+    choose : (t : Bool) → (not t || nat_le last.0 c.floor.0) ≡ true → last.0 ≤ cond t (min limit c.floor.0) limit
+    choose true here = let up = leb-true last.0 c.floor.0 here in omega (arith, le)
+    choose false here = le
+
+-- Each control that counts has told up to the last cut, so the next cut isn't below it.
+pub form_from : (x new : Group) (limit last : Stamp) (result : Forming) (out : FormedGroup) → x.last ≡ last → last.0 ≤ limit.0 → HaveTold x.last x.controls → steps x (Form limit) (form_reply result (shown_in out)) new → last.0 ≤ out.cut.0
+form_from x new limit last result out is le told step =
+    let cut : out.cut ≡ cut_of x limit = ap (λ o. last_by o limit) (shown_is x new limit result out step) in
+    subst (λ (t : Stamp). last.0 ≤ t.0) (sym cut) (told_up last limit.0 x.controls le (subst (λ (t : Stamp). list_all (has_told t) x.controls ≡ true) is told))
 
 -- ---- entries of carried volumes
 

@@ -10,3 +10,4 @@ pub mod Orderly
 pub mod Flow
 pub mod Forming
 pub mod Crossing
+pub mod Wanting

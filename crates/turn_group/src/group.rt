@@ -1,10 +1,11 @@
 //! The table of a session's group state, and its calls.
 
-ghost use Rattle.std.specs.Prelude.{◌≡◌, ◌+◌, ◌<◌, ◌≤◌, [], ◌∷◌, length, map, IfOk, IsTrue, All};
+ghost use Rattle.std.specs.Prelude.{◌≡◌, ◌+◌, ◌<◌, ◌≤◌, [], ◌∷◌, length, map, IfOk, IfSome, IsTrue, All};
 ghost use Rattle.ckd_track.specs.declared.write.Batch.{Batch as BatchIs};
 ghost use Rattle.pending_queue.specs.declared.room.Room.{Room};
 ghost use Rattle.group_state.specs.declared.joining.Joining.TheVariants as joining;
-ghost use Rattle.group_state.specs.Groups.{shown_in};
+ghost use Rattle.group_state.specs.Groups.{control_at, shown_in};
+ghost use Rattle.group_state.specs.Sound.{is_track_within};
 ghost use Rattle.group_state.specs.Machine.Call.{Join, NextWanted, Copied, Raise, Break, Form, Drop as Drops};
 ghost use Rattle.group_state.specs.Machine.Reply.{Made, Wanted};
 ghost use Rattle.group_state.specs.Answers.{join_reply, run_reply, copy_reply, form_reply};
@@ -91,10 +92,12 @@ impl TurnGroup {
         join_run(&self.table, rt, &mut seat.seat.place, batch)
     }
 
-    /// The volume and the track that the reader copies next; None where no volume of its control wants a track.
+    /// The volume and the track that the reader copies next; None where no volume of its control wants a track. The track is below
+    /// those that its volume had when the table was made, as `join_copy` asks.
     pub fn next_wanted<W: Wait>(&self, rt: &W, seat: &mut ReaderSeat) -> Option<(u16, u32)>
         requires table { seat.old.table ≡ self.now.table }
         ensures called { ReaderCalled seat.old (NextWanted seat.old.control) (Wanted result) seat.new }
+        ensures within { IfSome result (λ p. IsTrue (is_track_within (control_at seat.old.first seat.old.control).volumes p.0 p.1)) }
     {
         next_wanted(&self.table, rt, &mut seat.seat.place, seat.control)
     }
@@ -163,6 +166,8 @@ impl TurnGroup {
         requires room { length seat.old.known ≤ out.old.controls }
         ensures called { MoverCalled seat.old (Form limit) (form_reply result (shown_in out.new)) seat.new }
         ensures room { out.new.controls ≡ out.old.controls }
+        // Cuts don't fall.
+        ensures from { seat.old.last.0 ≤ out.new.cut.0 }
         ensures upto { out.new.cut.0 ≤ limit.0 }
         // Where the queues were orderly when the table was made, each entry is on a volume that the mover knows as carried.
         ensures carried { AreOrderly seat.old.first → IsTrue (list_all (is_of_carried seat.old.known) out.new.entries) }

@@ -33,10 +33,13 @@ pub fn form<W: Wait>(
     requires room { length (known_at place.old) ≤ out.old.controls }
     ensures called { CalledAt place.old (Form limit) (form_reply result (shown_in out.new)) place.new }
     ensures room { out.new.controls ≡ out.old.controls }
+    ensures from { (mover_view place.old.table_id place.old.me.0).last.0 ≤ out.new.cut.0 }
     ensures upto { out.new.cut.0 ≤ limit.0 }
     ensures carried { AreOrderly (first_or place.old.me.0.first) → IsTrue (list_all (is_of_carried (known_at place.old)) out.new.entries) }
 {
     let mut state = table.take_turn(rt, place);
+    // Its contract says what every group state keeps.
+    let _ = state.controls();
     let formed = state.form(limit, out);
     let reply = (formed, &*out);
     table.pass_turn::<Brand, Stamp, (Forming, &Formed)>(place, state, &limit, &reply);

@@ -6,7 +6,7 @@ use Rattle.turn_group.proofs.Leaving.{after_form}
 use Rattle.turn_group.proofs.Turning.{may_pass_call, called_by, noted_of, form_may}
 use Rattle.turn_group.specs.Seats.{mover_note, note_in, floor_in, known_in}
 use Rattle.turn_group.specs.Calls.{is_by_mover}
-use Rattle.turn_group.proofs.Forming.{form_upto, form_carried, orderly_of_turn}
+use Rattle.turn_group.proofs.Forming.{form_upto, form_from, form_carried, orderly_of_turn}
 use Rattle.turn_group.proofs.moving.form.Goals as goal
 
 pub pass_turn-requires-clause-call : goal.pass_turn-requires-clause-call
@@ -19,6 +19,13 @@ pass_turn-requires-clause-call g c =
 
 pub returns-clause-called : goal.returns-clause-called
 returns-clause-called g c = called_by (Form c.args.limit) (form_reply c.form-formed.result (shown_in c.form-formed.new.out)) c.take_turn-state.ensures.same c.take_turn-state.ensures.turn c.pass_turn.ensures.same c.pass_turn.ensures.passed
+
+pub returns-clause-from : goal.returns-clause-from
+returns-clause-from g c =
+    let took = c.take_turn-state.ensures.turn in
+    let note = mover_note c.args.place.now.me.0.notes in
+    let h = noted_of note is_by_mover c.requires.view took in
+    form_from c.take_turn-state.result c.form-formed.new.self c.args.limit (floor_in (note_in c.args.place.now.me.0.notes)) c.form-formed.result c.form-formed.new.out h.0 c.requires.limit c.controls.ensures.told c.form-formed.ensures.step
 
 pub returns-clause-upto : goal.returns-clause-upto
 returns-clause-upto g c = form_upto c.take_turn-state.result c.form-formed.new.self c.args.limit c.form-formed.result c.form-formed.new.out c.form-formed.ensures.step
