@@ -103,11 +103,13 @@ abbrev pub hits_stand : (marked hits : List Timed) → List PairRow → Bool
 hits_stand marked hits rows = list_all (λ r. nat_le (hit_count r.device marked) (hit_count r.device hits)) rows
 
 -- The next point is that of a line's command. The hits of a mark that was made for it stand behind the command, but for those whose rows the
--- command took away. Once the session has ended a line changes nothing, and the time stands still.
+-- command took away. A command that leaves the rows as they are writes no record, so no hit stands behind it. Once the session has ended a line
+-- changes nothing, and the time stands still.
 pub record IsCommanding (run : Run) (asked : Option TimedCommand) (l : Leg) (q : Point) (hits : List Timed) : Type 0 where
   pub line : TimedCommand
   pub heard : asked ≡ Some line
   pub stand : IsTrue (hits_stand l.marked hits q.rows)
+  pub recorded : l.point.is_ended ≡ false → (commanded_point run line l.point).rows ≡ l.point.rows → hits ≡ []
   pub active : l.point.is_ended ≡ false → TakesEffect run line l q hits
   pub ended : l.point.is_ended ≡ true → (q ≡ l.point) × (hits ≡ [])
 

@@ -33,6 +33,7 @@ resumed_row = record {
             line = line_asking 0x60 (AddPair (codes "PRIM01") (codes "SEC001"));
             heard = refl;
             stand = refl;
+            recorded = λ on same. refl;
             active = λ on. record { may = record { at = refl; none_due = refl; not_broken_yet = refl; settled = refl }; leads = record { are_hits = refl; at = refl; leads = record { may_come = (omega arith, refl); rows = refl; goes_on = refl } } };
             ended = λ off. absurd cc;
           },
@@ -52,6 +53,7 @@ resumed_row = record {
                   line = line_asking 0x100 (Suspend (One (codes "PRIM01") (codes "SEC001")));
                   heard = refl;
                   stand = refl;
+                  recorded = λ on same. refl;
                   active = λ on. record { may = record { at = refl; none_due = refl; not_broken_yet = refl; settled = refl }; leads = record { are_hits = refl; at = refl; leads = record { may_come = (omega arith, refl); rows = refl; goes_on = refl } } };
                   ended = λ off. absurd cc;
                 },
@@ -103,6 +105,7 @@ marked_row = record {
             line = line_asking 0x80 (Suspend (One (codes "PRIM02") (codes "SEC002")));
             heard = refl;
             stand = refl;
+            recorded = λ on same. absurd (true≢false (ap (λ (rows : List PairRow). list_any (λ r. is_suspended r.state) rows) same));
             active = λ on. record { may = record { at = refl; none_due = refl; not_broken_yet = refl; settled = refl }; leads = record { are_hits = refl; at = refl; leads = record { may_come = (omega arith, omega arith, refl, (omega arith, refl)); rows = refl; goes_on = refl } } };
             ended = λ off. absurd cc;
           },
@@ -131,6 +134,7 @@ marked_row = record {
             line = line_asking 0x80 (DelPair (One (codes "PRIM01") (codes "SEC001")));
             heard = refl;
             stand = refl;
+            recorded = λ on same. refl;
             active = λ on. record { may = record { at = refl; none_due = refl; not_broken_yet = refl; settled = refl }; leads = record { are_hits = refl; at = refl; leads = record { may_come = (omega arith, refl); rows = refl; goes_on = refl } } };
             ended = λ off. absurd cc;
           },
@@ -158,6 +162,7 @@ ended_row = record {
           line = line_asking 0x80 End;
           heard = refl;
           stand = refl;
+          recorded = λ on same. refl;
           active = λ on. record { may = record { at = refl; none_due = refl; not_broken_yet = refl; settled = refl }; leads = record { are_hits = refl; at = refl; leads = record { may_come = (omega arith, refl); rows = refl; goes_on = refl } } };
           ended = λ off. absurd cc;
         },
@@ -171,7 +176,7 @@ ended_row = record {
           (
             refl,
             refl,
-            record { line = line_asking 0x80 End; heard = refl; stand = refl; active = λ on. absurd cc; ended = λ off. (refl, refl) },
+            record { line = line_asking 0x80 End; heard = refl; stand = refl; recorded = λ on same. absurd cc; active = λ on. absurd cc; ended = λ off. (refl, refl) },
           ),
           λ device. omega (arith, one_hit device (timed_change 0x80 (Hit (0 ∷ [])))),
         ),
@@ -198,6 +203,7 @@ cut_row = record {
               line = line_asking 0x70 Query;
               heard = refl;
               stand = refl;
+              recorded = λ on same. refl;
               active = λ on. record { may = record { at = refl; none_due = refl; not_broken_yet = refl; settled = refl }; leads = record { are_hits = refl; at = refl; leads = record { may_come = (omega arith, refl); rows = refl; goes_on = refl } } };
               ended = λ off. absurd cc;
             },
