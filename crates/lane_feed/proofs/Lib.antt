@@ -1,0 +1,5 @@
+pub mod Entries
+pub mod Hands
+pub mod InTurn
+pub mod Stepping
+pub mod Telling

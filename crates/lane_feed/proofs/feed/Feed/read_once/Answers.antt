@@ -1,0 +1,33 @@
+use Rattle.std.proofs.Common.{◌∙◌, sym, ap, Some}
+use Rattle.std.specs.Option.{is_some}
+use Rattle.lane_feed.specs.Feeds.{FeedState}
+use Rattle.lane_feed.specs.declared.reading.Reading.{Reading}
+use Rattle.lane_feed.proofs.Telling.{tells_nothing, tells_step, tells_in_turn, holds_batch, fault_behind}
+use Rattle.lane_feed.proofs.feed.Feed.read_once.Goals as goal
+
+pub returns-in-Some-clause-reads : goal.returns-in-Some-clause-reads
+returns-in-Some-clause-reads g c = tells_nothing _ _ _
+
+pub join_held-requires-clause-held : goal.join_held-requires-clause-held
+join_held-requires-clause-held g c = holds_batch c.args.self.now.held (ap is_some (sym (ap (λ (f : FeedState). f.held) c.self.view_is)) ∙ sym c.is_some.ensures ∙ c.if-is_some.true)
+
+pub returns-then-is_some-clause-reads : goal.returns-then-is_some-clause-reads
+returns-then-is_some-clause-reads g c = tells_step _ _ c.args.limit _ _ _ _ (c.join_held.ensures.steps _ c.args.limit)
+
+pub returns-then-is_some-clause-fault : goal.returns-then-is_some-clause-fault
+returns-then-is_some-clause-fault g c = λ goes. c.join_held.ensures.fault (g.S.Source.faults c.args.source.now)
+
+pub returns-in-Some-hand_over-clause-reads : goal.returns-in-Some-hand_over-clause-reads
+returns-in-Some-hand_over-clause-reads g c = tells_step _ _ c.args.limit _ _ _ _ c.hand_over.ensures.steps
+
+pub returns-in-Some-hand_over-clause-rises : goal.returns-in-Some-hand_over-clause-rises
+returns-in-Some-hand_over-clause-rises g c = λ joined. absurd (c.hand_over.ensures.joins_none (c.in-Some-hand_over.is ∙ ap (λ (r : Reading). Some r) joined))
+
+pub returns-in-None-clause-reads : goal.returns-in-None-clause-reads
+returns-in-None-clause-reads g c =
+    tells_in_turn _ _ _ _ _ _ _ _ _ (tells_step _ _ c.args.limit _ _ _ _ c.hand_over.ensures.steps) (tells_step _ _ c.args.limit _ _ _ _ (c.join_held-in-None.ensures.steps (g.S.Source.left c.hand_over.new.source) c.args.limit))
+
+pub returns-in-None-clause-fault : goal.returns-in-None-clause-fault
+returns-in-None-clause-fault g c = λ goes.
+    fault_behind (g.S.Source.faults c.args.source.now) (g.S.Source.faults c.hand_over.new.source) c.hand_over.new.self.halted c.join_held-in-None.new.self.halted c.in-None.ensures.stands.0 c.in-None.ensures.fault
+    (c.join_held-in-None.ensures.fault (g.S.Source.faults c.args.source.now))

@@ -1,0 +1,6 @@
+pub mod Feeds
+pub mod Reads
+pub mod Steps
+pub mod Readings
+pub mod Tellers
+pub mod Laws

@@ -1,0 +1,95 @@
+-- What a reader tells of its control, and how its feed stands to it.
+use Rattle.std.specs.Prelude.{◌≡◌, ℕ, List, [], ◌∷◌, ◌++◌, Bool, false, Option, Some, None, if◌then◌else◌, IsTrue}
+use Rattle.tod_stamp.specs.declared.stamp.Stamp.{Stamp}
+use Rattle.ckd_track.specs.declared.write.Batch.{Batch}
+use Rattle.ckd_track.specs.declared.write.Cause.{Cause}
+use Rattle.ckd_track.specs.declared.write.Cause.TheVariants.{ReadFault}
+use Rattle.xrc_edge.specs.Causes.{Rose}
+use Rattle.write_trace.specs.declared.header.VolumeHead.{VolumeHead}
+use Rattle.sidefile.specs.declared.hand.Halt.{Halt}
+use Rattle.sidefile.specs.declared.hand.Halt.TheVariants as halts
+use Rattle.group_state.specs.Machine.{Call, Reply}
+use Rattle.group_state.specs.Machine.Call.{Join, NextWanted, Copied, Raise, Break, Form, Carry, Drop, Resume, Forget}
+use Rattle.group_state.specs.Runs.{Answer}
+use Rattle.lane_feed.specs.declared.reading.Reading.{Reading}
+use Rattle.lane_feed.specs.declared.reading.Reading.TheVariants as readings
+use Rattle.told_tracks.specs.Told.{has_changed}
+use Rattle.fed_logs.specs.Feeds.{floor_behind}
+use Rattle.lane_feed.specs.Feeds.{FeedState}
+use Rattle.lane_feed.specs.Reads.{ReadsOn}
+use Rattle.lane_feed.specs.Steps.{FeedStep}
+
+-- A teller: its control, the volumes of the control's trace, the control's floor, whether the control still tells, and the calls that were
+-- made with their replies.
+pub record TellerState : Type 0 where
+  pub control : ℕ
+  pub volumes : List VolumeHead
+  pub floor : ℕ
+  pub telling : Bool
+  pub answers : List Answer
+
+-- a control tells until it breaks
+abbrev pub tells_after : Call → (telling : Bool) → Bool
+tells_after (Join b) telling = telling
+tells_after (NextWanted k) telling = telling
+tells_after (Copied k v x at slot) telling = telling
+tells_after (Raise k upto) telling = telling
+tells_after (Break k upto cause) telling = false
+tells_after (Form limit) telling = telling
+tells_after (Carry k v plan) telling = telling
+tells_after (Drop k v all) telling = telling
+tells_after (Resume k v) telling = telling
+tells_after (Forget k v) telling = telling
+
+-- a teller behind a call with this reply
+abbrev pub teller_after : Call → Reply → TellerState → TellerState
+teller_after call reply s = record s {
+  floor = if has_changed reply then floor_behind s.floor call else s.floor;
+  telling = tells_after call s.telling;
+  answers = s.answers ++ record { call = call; reply = reply } ∷ [];
+}
+
+-- A feed's teller is of its control and its trace's volumes. While the feed reads on the control tells, and its floor is the primary's time.
+pub record IsToldBy (feed : FeedState) (s : TellerState) : Type 0 where
+  pub control : s.control ≡ feed.side.control
+  pub volumes : s.volumes ≡ feed.side.reader.volumes
+  pub floor : feed.halted ≡ None → s.floor ≡ feed.primary.time
+  pub telling : feed.halted ≡ None → IsTrue s.telling
+
+-- ---- what became of a step
+
+abbrev pub HoldsBatch : Option Batch → Type 0
+HoldsBatch held = (batch : Batch) × (held ≡ Some batch)
+
+-- How a feed stands behind a step towards a limit.
+abbrev pub StandsAs : Reading → (limit : ℕ) → FeedState → Type 0
+StandsAs readings.Joined limit feed = (feed.halted ≡ None) × (feed.held ≡ None)
+StandsAs (readings.Held room) limit feed = (feed.halted ≡ None) × HoldsBatch feed.held
+StandsAs readings.AtLimit limit feed = (feed.halted ≡ None) × (feed.held ≡ None) × (feed.primary.time ≡ limit)
+StandsAs readings.Broken limit feed = (cause : Cause) × (upto : Stamp) × (feed.halted ≡ Some (halts.Broken cause upto))
+StandsAs readings.NoMemory limit feed = feed.halted ≡ Some halts.NoMemory
+
+abbrev pub StandsAsOrHolds : Option Reading → (limit : ℕ) → FeedState → Type 0
+StandsAsOrHolds None limit feed = (feed.halted ≡ None) × HoldsBatch feed.held
+StandsAsOrHolds (Some reading) limit feed = StandsAs reading limit feed
+
+-- The count of the source's faults rose only where the feed broke by one.
+abbrev pub HasFaultBy : (faults risen : ℕ) → Option Halt → Type 0
+HasFaultBy faults risen None = risen ≡ faults
+HasFaultBy faults risen (Some (halts.Broken ReadFault upto)) = Rose faults risen
+HasFaultBy faults risen (Some (halts.Broken cause upto)) = risen ≡ faults
+HasFaultBy faults risen (Some halts.NoMemory) = risen ≡ faults
+
+-- ---- what was told
+
+-- One step of a reader, and what it told.
+pub record StepsOn (before now : Option (List ℕ)) (limit : Stamp) (old new : FeedState) (told after : TellerState) : Type 0 where
+  pub gained : List Answer
+  pub answers : after.answers ≡ told.answers ++ gained
+  pub step : FeedStep before now limit old new gained
+
+-- Calls of a reader read on, and were told.
+pub record TellsOn (before now : Option (List ℕ)) (old new : FeedState) (told after : TellerState) : Type 0 where
+  pub gained : List Answer
+  pub answers : after.answers ≡ told.answers ++ gained
+  pub reads_on : ReadsOn before now old new gained

@@ -1,0 +1,35 @@
+//! What takes what a reader tells.
+
+ghost use Rattle.std.specs.Prelude.{◌≡◌, ◌≤◌, IsTrue};
+ghost use Rattle.sidefile.specs.States.{IsRunOf};
+ghost use Rattle.group_state.specs.Answers.{run_reply};
+ghost use Rattle.group_state.specs.Machine.Call.{Join, Raise, Break};
+ghost use Rattle.group_state.specs.Machine.Reply.{Made};
+ghost use Rattle.lane_feed.specs.Tellers.{TellerState, teller_after};
+
+use ckd_track::{Batch, Cause};
+use group_state::RunJoin;
+use tod_stamp::Stamp;
+
+/// A control's part of the shared state, to which its reader tells what it read. Each call is one call on that state, with its reply.
+pub trait Teller {
+    ghost state: { Self → TellerState };
+
+    /// Joins a batch that is lent, if there is room for it.
+    fn join(&mut self, batch: &Batch) -> RunJoin
+        requires telling { IsTrue (state self.old).telling }
+        requires run { IsRunOf (state self.old).volumes (state self.old).control (state self.old).floor batch.now.upto.0 batch.now }
+        ensures { state self.new ≡ teller_after (Join batch.now) (run_reply result) (state self.old) };
+
+    /// The control has no further write up to a time.
+    fn raise(&mut self, upto: Stamp)
+        requires telling { IsTrue (state self.old).telling }
+        requires later { (state self.old).floor ≤ upto.0 }
+        ensures { state self.new ≡ teller_after (Raise (state self.old).control upto) Made (state self.old) };
+
+    /// The control breaks at a time, up to which its writes are known.
+    fn mark_broken(&mut self, upto: Stamp, cause: Cause)
+        requires telling { IsTrue (state self.old).telling }
+        requires later { (state self.old).floor ≤ upto.0 }
+        ensures { state self.new ≡ teller_after (Break (state self.old).control upto cause) Made (state self.old) };
+}
