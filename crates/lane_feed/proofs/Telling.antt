@@ -19,7 +19,9 @@ use Rattle.group_state.specs.Runs.{Answer}
 use Rattle.lane_feed.specs.Feeds.{FeedState, ReadsFurther, KeepsFeed}
 use Rattle.lane_feed.specs.Steps.{IsIdle, primary_at, joined_answer, held_answer, raised_answer, broken_answer}
 use Rattle.lane_feed.specs.Steps.FeedStep.{Hands, Joins, Lacks, Holds, Passes, Breaks, Wants}
-use Rattle.lane_feed.specs.Tellers.{TellerState, teller_after, HoldsBatch, HasFaultBy, StepsOn, TellsOn}
+use Rattle.lane_feed.specs.declared.reading.Reading.{Reading}
+use Rattle.lane_feed.specs.declared.reading.Reading.TheVariants as readings
+use Rattle.lane_feed.specs.Tellers.{TellerState, teller_after, HoldsBatch, HasFaultBy, IsRefusedBy, StepsOn, TellsOn, WasRefused}
 use Rattle.lane_feed.proofs.InTurn.{reads_nothing, reads_in_turn}
 use Rattle.lane_feed.proofs.Stepping.{steps_read_on}
 
@@ -129,3 +131,20 @@ pub fault_behind : (faults risen : ℕ) (between halted : Option Halt) → betwe
 fault_behind faults risen between halted goes h k =
     let same : risen ≡ faults = subst (λ (x : Option Halt). HasFaultBy faults risen x) goes h in
     subst (λ (n : ℕ). HasFaultBy faults n halted) (sym same) k
+
+-- ---- a batch that was refused
+
+room_is : (room asked : Room) → (let a : Reading = readings.Held room in let b : Reading = readings.Held asked in a ≡ b) → room ≡ asked
+room_is room asked same = cc
+
+pub was_refused : (feed : FeedState) (batch : Batch) (room asked : Room) (told then : TellerState) → feed.held ≡ Some batch → then ≡ teller_after (Join batch) (Held room) told → (let a : Reading = readings.Held room in let b : Reading = readings.Held asked in a ≡ b)
+    → WasRefused asked feed told then
+was_refused feed batch room asked told then holds called same = record {
+  batch = batch;
+  holds = holds;
+  answers = ap (λ (s : TellerState). s.answers) called ∙ ap (λ (r : Room). told.answers ++ held_answer batch r ∷ []) (room_is room asked same);
+}
+
+-- So it was where nothing was told before.
+pub refused_behind : (reading : Reading) (feed : FeedState) (told mid then : TellerState) → mid ≡ told → IsRefusedBy reading feed mid then → IsRefusedBy reading feed told then
+refused_behind reading feed told mid then same refused = subst (λ (s : TellerState). IsRefusedBy reading feed s then) same refused

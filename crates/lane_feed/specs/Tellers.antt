@@ -5,6 +5,7 @@ use Rattle.ckd_track.specs.declared.write.Batch.{Batch}
 use Rattle.ckd_track.specs.declared.write.Cause.{Cause}
 use Rattle.ckd_track.specs.declared.write.Cause.TheVariants.{ReadFault}
 use Rattle.xrc_edge.specs.Causes.{Rose}
+use Rattle.pending_queue.specs.declared.room.Room.{Room}
 use Rattle.write_trace.specs.declared.header.VolumeHead.{VolumeHead}
 use Rattle.sidefile.specs.declared.hand.Halt.{Halt}
 use Rattle.sidefile.specs.declared.hand.Halt.TheVariants as halts
@@ -17,7 +18,7 @@ use Rattle.told_tracks.specs.Told.{has_changed}
 use Rattle.fed_logs.specs.Feeds.{floor_behind}
 use Rattle.lane_feed.specs.Feeds.{FeedState}
 use Rattle.lane_feed.specs.Reads.{ReadsOn}
-use Rattle.lane_feed.specs.Steps.{FeedStep}
+use Rattle.lane_feed.specs.Steps.{FeedStep, held_answer}
 
 -- A teller: its control, the volumes of the control's trace, the control's floor, whether the control still tells, and the calls that were
 -- made with their replies.
@@ -93,3 +94,13 @@ pub record TellsOn (before now : Option (List ℕ)) (old new : FeedState) (told 
   pub gained : List Answer
   pub answers : after.answers ≡ told.answers ++ gained
   pub reads_on : ReadsOn before now old new gained
+
+-- The batch that is held was told, and refused for this room. That is all that was told.
+pub record WasRefused (room : Room) (feed : FeedState) (told after : TellerState) : Type 0 where
+  pub batch : Batch
+  pub holds : feed.held ≡ Some batch
+  pub answers : after.answers ≡ told.answers ++ held_answer batch room ∷ []
+
+-- It was so where a step answers that a batch is held.
+abbrev pub IsRefusedBy : Reading → FeedState → (told after : TellerState) → Type 0
+IsRefusedBy reading feed told after = (room : Room) → reading ≡ readings.Held room → WasRefused room feed told after

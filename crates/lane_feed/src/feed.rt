@@ -7,7 +7,8 @@ ghost use Rattle.sidefile.specs.Halts.{broken_in};
 ghost use Rattle.sidefile.specs.declared.hand.Halt.{Halt as HaltIs};
 ghost use Rattle.lane_feed.specs.declared.reading.Reading.TheVariants as readings;
 ghost use Rattle.lane_feed.specs.Steps.{IsIdle};
-ghost use Rattle.lane_feed.specs.Tellers.{IsToldBy, HoldsBatch, StandsAs, StandsAsOrHolds, HasFaultBy, StepsOn, TellsOn};
+ghost use Rattle.pending_queue.specs.declared.room.Room.{Room as RoomIs};
+ghost use Rattle.lane_feed.specs.Tellers.{IsToldBy, HoldsBatch, IsRefusedBy, StandsAs, StandsAsOrHolds, HasFaultBy, StepsOn, TellsOn};
 
 use crate::reading::Reading;
 use crate::teller::Teller;
@@ -85,6 +86,7 @@ impl Feed {
         ensures side { self.new.side ≡ self.old.side }
         ensures stands { (limit : ℕ) → StandsAs result limit self.new }
         ensures fault { (n : ℕ) → HasFaultBy n n self.new.halted }
+        ensures refused { IsRefusedBy result self.new (T.state teller.old) (T.state teller.new) }
         ensures rises { result ≡ readings.Joined → self.old.primary.time < self.new.primary.time }
     {
         let Some(batch) = self.held.take() else {
@@ -123,6 +125,8 @@ impl Feed {
         ensures fault { HasFaultBy (S.faults source.old) (S.faults source.new) self.new.halted }
         ensures time { result ≡ None → self.new.primary.time ≡ self.old.primary.time }
         ensures joins_none { result ≡ Some readings.Joined → ⊥ }
+        ensures refuses_none { (room : RoomIs) → result ≡ Some (readings.Held room) → ⊥ }
+        ensures untold { result ≡ None → teller.new ≡ teller.old }
     {
         match self.side.handover(alloc, source, limit) {
             Hand::Batch(batch) => {
@@ -163,6 +167,8 @@ impl Feed {
         ensures within { self.new.side.upto ≤ limit.0 }
         ensures stands { StandsAs result limit.0 self.new }
         ensures fault { self.old.halted ≡ None → HasFaultBy (S.faults source.old) (S.faults source.new) self.new.halted }
+        // A batch that is held was told in this step.
+        ensures refused { IsRefusedBy result self.new (T.state teller.old) (T.state teller.new) }
         ensures rises { result ≡ readings.Joined → self.old.primary.time < self.new.primary.time }
     {
         if let Some(halt) = self.halted {

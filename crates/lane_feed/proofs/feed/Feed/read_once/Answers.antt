@@ -2,7 +2,7 @@ use Rattle.std.proofs.Common.{◌∙◌, sym, ap, Some}
 use Rattle.std.specs.Option.{is_some}
 use Rattle.lane_feed.specs.Feeds.{FeedState}
 use Rattle.lane_feed.specs.declared.reading.Reading.{Reading}
-use Rattle.lane_feed.proofs.Telling.{tells_nothing, tells_step, tells_in_turn, holds_batch, fault_behind}
+use Rattle.lane_feed.proofs.Telling.{tells_nothing, tells_step, tells_in_turn, holds_batch, fault_behind, refused_behind}
 use Rattle.lane_feed.proofs.feed.Feed.read_once.Goals as goal
 
 pub returns-in-Some-clause-reads : goal.returns-in-Some-clause-reads
@@ -31,3 +31,10 @@ pub returns-in-None-clause-fault : goal.returns-in-None-clause-fault
 returns-in-None-clause-fault g c = λ goes.
     fault_behind (g.S.Source.faults c.args.source.now) (g.S.Source.faults c.hand_over.new.source) c.hand_over.new.self.halted c.join_held-in-None.new.self.halted c.in-None.ensures.stands.0 c.in-None.ensures.fault
     (c.join_held-in-None.ensures.fault (g.S.Source.faults c.args.source.now))
+
+pub returns-in-Some-hand_over-clause-refused : goal.returns-in-Some-hand_over-clause-refused
+returns-in-Some-hand_over-clause-refused g c = λ room held. absurd (c.hand_over.ensures.refuses_none room (c.in-Some-hand_over.is ∙ ap (λ (r : Reading). Some r) held))
+
+pub returns-in-None-clause-refused : goal.returns-in-None-clause-refused
+returns-in-None-clause-refused g c =
+    refused_behind _ _ (g.T.Teller.state c.args.teller.now) (g.T.Teller.state c.hand_over.new.teller) _ (ap (λ t. g.T.Teller.state t) (c.hand_over.ensures.untold c.in-None.is)) c.join_held-in-None.ensures.refused
