@@ -56,7 +56,8 @@ fn apply_items<D: Disk>(
 }
 
 /// Writes each image that a body has of the job's volume at the front of its track's slot, in order. At the first write that
-/// fails the job is marked failed, and nothing more is written. A failed job is left alone. Nothing is synced.
+/// fails the job is marked failed, and nothing more is written. A failed job is left alone. A crash may still take what was
+/// written, until the volume is synced.
 pub fn apply_volume<D: Disk>(body: &Body, job: &mut VolumeJob<D>)
     requires { job.old.failed ≡ false → HasSlots D.state job.old.device body.now.items job.old.disk }
     ensures device { job.new.device ≡ job.old.device }

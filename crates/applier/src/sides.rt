@@ -110,7 +110,7 @@ fn work_on_parts<R: Threads + Sync, D: Send, F: Fn(&mut VolumeJob<D>) + Sync>(
 /// Applies a body to the volume of each job that has its disk and hasn't failed, as `apply_volume` does. These volumes are worked
 /// on side by side: one in this thread, each other in a thread of its own. Every other job is left as it is, and takes no thread.
 /// A volume that is lent takes one even if the body has no item of it. If no thread can be started, one volume is worked on after
-/// another. Nothing is synced.
+/// another. A crash may still take what was written, until the volumes are synced.
 pub fn apply_all<R: Threads + Sync, D: Disk + Send>(rt: &R, body: &Body, jobs: &mut [VolumeJob<D>])
     requires { All (HasItsSlots D.state body.now.items) jobs.old }
     ensures same { length jobs.new ≡ length jobs.old }

@@ -30,7 +30,6 @@ fn put_track<D>(job: &VolumeJob<D>, track: u32, body: &mut Body)
     ensures keep { AreItems anywhere body.new.items }
     ensures short { length (item_spelling (Image job.now.device track job.now.slot)) ≤ 56669 }
 {
-    let _short = job.slot.bytes();
     body.put_image(job.device, track, &job.slot);
 }
 

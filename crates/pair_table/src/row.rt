@@ -54,10 +54,7 @@ impl PairState {
         ensures valid { IsTrue (is_state self) }
     {
         match self {
-            PairState::Suspended { cause: _, since } => {
-                let _valid = since.0;
-                true
-            }
+            PairState::Suspended { cause: _, since: _ } => true,
             _ => false,
         }
     }
@@ -71,19 +68,13 @@ const LAST_VOLUME: u16 = MOST_VOLUMES - 1;
 
 impl PairRow {
     ghost use Rattle.std.specs.Prelude.{◌≡◌};
-    ghost use Rattle.pair_table.specs.Rows.{keeps_row_rules, is_row};
+    ghost use Rattle.pair_table.specs.Rows.{keeps_row_rules};
     ghost use Rattle.pair_table.specs.Tables.{clashes};
 
     /// Whether control, volume and cylinders are in their ranges.
     pub(crate) fn keeps_rules(&self) -> bool
-        ensures rules { result ≡ keeps_row_rules self.now }
-        ensures row { result ≡ is_row self.now }
+        ensures { result ≡ keeps_row_rules self.now }
     {
-        // The other fields are in theirs by their types.
-        let _valid = self.primary.as_bytes();
-        let _valid = self.secondary.as_bytes();
-        let _valid = self.state.is_suspended();
-        let _valid = self.device;
         self.control <= LAST_CONTROL
             && self.volume <= LAST_VOLUME
             && (1..=u32::from(MOST_CYLINDERS)).contains(&self.cylinders)

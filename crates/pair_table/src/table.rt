@@ -184,7 +184,6 @@ impl PairTable {
         requires { HasRow device self.old.rows }
         ensures { self.new ≡ with_rows self.old (with_state device state self.old.rows) }
     {
-        let _valid = state.is_suspended();
         if let Some(row) = self.rows.get_mut(&device) {
             row.state = state;
         }
@@ -222,7 +221,9 @@ impl PairTable {
         ensures ok { OnOk result (self.new ≡ with_rows self.old (with_row row self.old.rows)) }
         ensures err { OnErr result (self.new ≡ self.old) }
     {
-        let _valid = row.keeps_rules();
+        // The two names are serials by their type, which says so where their bytes are read.
+        let _primary = row.primary.as_bytes();
+        let _secondary = row.secondary.as_bytes();
         self.rows.insert(row.device, row)?;
         Ok(())
     }

@@ -1,5 +1,5 @@
 -- A run between its calls.
-use Rattle.std.proofs.Common.{◌≡◌, ◌⊎◌, inl, inr, ℕ, ◌^◌, ◌<◌, ◌≤◌, Bool, true, false, not, List, [], ◌∷◌, ◌++◌, length, take, Option, Some, None, refl, sym, ap, subst, ◌∙◌, append-nil, arith}
+use Rattle.std.proofs.Common.{◌≡◌, ◌⊎◌, inl, inr, ℕ, ◌^◌, ◌<◌, ◌≤◌, Bool, true, false, not, List, [], ◌∷◌, ◌++◌, length, take, Option, Some, None, refl, sym, ap, subst, ◌∙◌, append_assoc, append-nil, arith}
 use Rattle.std.specs.Prelude.{◌==◌, IfSome, is_none, if◌then◌else◌}
 use Rattle.std.specs.List.{All}
 use Rattle.std.proofs.lemmas.List.{take-append-le, take_all}
@@ -10,6 +10,7 @@ use Rattle.crash_plant.specs.Calls.{Elapses, SameSite, Says, Silent, WorksOnCons
 use Rattle.crash_plant.specs.Choices.{AtEveryMoment, Choice, IsChoice}
 use Rattle.crash_plant.specs.Moments.{PlantState}
 use Rattle.crash_plant.proofs.Choices.{past_choice}
+use Rattle.crash_plant.proofs.Steps.{site_trans}
 use Rattle.pair_table.specs.Commands.{accepted}
 use Rattle.pair_table.specs.Refusals.{refusal}
 use Rattle.pair_table.specs.Tables.{Table}
@@ -25,9 +26,10 @@ use Rattle.consistency.specs.Keeping.{stage_now}
 use Rattle.consistency.specs.Moments.{AreUpTo, BearsThroughout, BearsTime, MeansTable}
 use Rattle.consistency.specs.Steps.{TimedCommand, names_at, table_on_the_way}
 use Rattle.consistency.specs.Times.{times_said}
-use Rattle.consistency.proofs.Keeping.{keeps_begins, keeps_says, keeps_says_throughout, keeps_works}
-use Rattle.consistency.proofs.Lines.{at_or_last, next_not_before, replied_by_last, replies_more, replies_whole, stage_front, stage_more}
+use Rattle.consistency.proofs.Keeping.{keeps_begins, keeps_says, keeps_says_throughout, keeps_works, stage_answered}
+use Rattle.consistency.proofs.Lines.{asked_more, at_or_last, course_more, next_not_before, replied_by_last, replies_more, replies_whole, stage_front, stage_more, texts_more}
 use Rattle.consistency.proofs.Pieces.{times_append}
+use Rattle.consistency.proofs.Standing.{bears_on, console_choice}
 use Rattle.session_points.specs.Bearing.{GoesThroughPoints, MayBeMeant, ShowsPoint}
 use Rattle.session_points.specs.Between.{AreToldOf, HadExactReplies, HadExactReply, HasPassed, MayReply, RunGoesOn, ShowsMeant, asked_in}
 use Rattle.session_points.specs.Leads.{Point}
@@ -39,8 +41,26 @@ use Rattle.session_points.proofs.Leading.{leads_toward, whole_itself}
 use Rattle.session_points.proofs.Replying.{exact_says_up_to}
 
 -- A run that has made no call yet goes on.
-pub runs_begin : (plant : PlantState) (run : Run) (grammar : List ℕ → Option TimedCommand) → 0 < plant.clock → RunGoesOn run grammar [] [] plant plant
-runs_begin plant run grammar up = record { up = up; keeps = keeps_begins run grammar plant; exact = λ n a at. absurd cc; said = All-nil (λ z. z ≤ 0); short = omega arith }
+pub runs_begin : (plant : PlantState) (run : Run) (grammar : List ℕ → Option TimedCommand) → RunGoesOn run grammar [] [] plant plant
+runs_begin plant run grammar =
+    let begun = keeps_begins run grammar plant in
+    record {
+      now = record {
+        course = begun.course;
+        asked = begun.asked;
+        later = begun.later;
+        site = begun.site;
+        heard = begun.heard;
+        script = begun.script;
+        said = begun.said;
+        one_line = begun.one_line;
+        bears = λ started. absurd cc;
+        times = All-nil (λ z. z ≤ 0);
+        short = omega arith;
+      };
+      exact = λ n a at. absurd cc;
+      keeps = λ up. begun;
+    }
 
 -- What isn't behind a time isn't behind a later one.
 up_to_later : (early late : ℕ) (times : List ℕ) → early ≤ late → AreUpTo early times → AreUpTo late times
@@ -48,69 +68,83 @@ up_to_later early late times le all = All-weaker (λ z. z ≤ early) (λ z. z �
 
 -- ---- exact replies
 
-module _ (old new : PlantState) (site : SameSite old new) (elapses : Elapses old new) (up : 0 < old.clock) (run : Run) where
-  -- Points that were passed stay passed.
-  passed_stay : (asked : ℕ → Option TimedCommand) (first : Leg) (points : List PassedPoint) (to : ℕ) → to ≤ old.clock → HasPassed run asked first points old to → HasPassed run asked first points new to
-  passed_stay asked first points to le passed = record {
-    rowless = passed.rowless;
-    from = passed.from;
-    begins = λ c is. subst (λ (shape : Shape). ShowsPoint run shape first.point c) (sym (shape_same old new site)) (passed.begins c (past_choice old new passed.from c site elapses up from_before is));
-    goes = points_stay old new site elapses up run passed.from to first.point points None le passed.goes;
-    linked = passed.linked;
-  }
-    where
-      from_before : passed.from ≤ old.clock
-      from_before = omega (arith, le, moments_rise Point Way Choice (IsChoice old) (ShowsPoint run (shape_of old)) passed.from to first.point points None passed.goes)
+module _ (old new : PlantState) (site : SameSite old new) (elapses : Elapses old new) (run : Run) where
+  module _ (up : 0 < old.clock) where
+    -- Points that were passed stay passed.
+    passed_stay : (asked : ℕ → Option TimedCommand) (first : Leg) (points : List PassedPoint) (to : ℕ) → to ≤ old.clock → HasPassed run asked first points old to → HasPassed run asked first points new to
+    passed_stay asked first points to le passed = record {
+      rowless = passed.rowless;
+      from = passed.from;
+      begins = λ c is. subst (λ (shape : Shape). ShowsPoint run shape first.point c) (sym (shape_same old new site)) (passed.begins c (past_choice old new passed.from c site elapses up from_before is));
+      goes = points_stay old new site elapses up run passed.from to first.point points None le passed.goes;
+      linked = passed.linked;
+    }
+      where
+        from_before : passed.from ≤ old.clock
+        from_before = omega (arith, le, moments_rise Point Way Choice (IsChoice old) (ShowsPoint run (shape_of old)) passed.from to first.point points None passed.goes)
 
-  told_stay : (s : Stage) (before : List Answered) (first : Leg) (points : List PassedPoint) (a : Answered) (to : ℕ) → to ≤ old.clock → AreToldOf run s before first points a old to → AreToldOf run s before first points a new to
-  told_stay s before first points a to le told = record { passed = passed_stay (asked_in (before ++ a ∷ [])) first points to le told.passed; answered = told.answered; changes = told.changes; rows = told.rows }
+    told_stay : (s : Stage) (before : List Answered) (first : Leg) (points : List PassedPoint) (a : Answered) (to : ℕ) → to ≤ old.clock → AreToldOf run s before first points a old to → AreToldOf run s before first points a new to
+    told_stay s before first points a to le told = record { passed = passed_stay (asked_in (before ++ a ∷ [])) first points to le told.passed; answered = told.answered; changes = told.changes; rows = told.rows }
 
   -- A reply stays exact.
-  exact_stays : (s : Stage) (before : List Answered) (a : Answered) → HadExactReply run s before a old → HadExactReply run s before a new
-  exact_stays s before a had = record {
+  exact_stays : (began : ℕ) → began ≤ old.clock → (s : Stage) (before : List Answered) (a : Answered) → HadExactReply run s before a began old → HadExactReply run s before a began new
+  exact_stays began le s before a had = record {
     first = had.first;
     points = had.points;
     by = had.by;
     within = omega (arith, had.within, (elapses.kept Control).later);
     exact = had.exact;
-    told = λ started. told_stay s before had.first had.points a had.by had.within (had.told started);
+    told = λ up started. told_stay (omega (arith, up, le)) s before had.first had.points a had.by had.within (had.told up started);
   }
 
 -- The replies to some lines and to one more were exact.
-exact_more : (run : Run) (plant : PlantState) (lines : List Answered) (a : Answered) → HadExactReplies run lines plant → HadExactReply run (stage_at run lines (length lines)) lines a plant → HadExactReplies run (lines ++ a ∷ []) plant
-exact_more run plant lines a all one n b at = elim (at_or_last lines a n b at) [
+exact_more : (run : Run) (began : ℕ) (plant : PlantState) (lines : List Answered) (a : Answered) → HadExactReplies run lines began plant → HadExactReply run (stage_at run lines (length lines)) lines a began plant → HadExactReplies run (lines ++ a ∷ []) began plant
+exact_more run began plant lines a all one n b at = elim (at_or_last lines a n b at) [
   | inl here ↦ put n b (omega (arith, slice_get_within lines n b here)) (all n b here)
   | inr last ↦ put n b (omega (arith, last.0)) (there n b last.0 last.1)
 ]
   where
-    put : (n : ℕ) (b : Answered) → n ≤ length lines → HadExactReply run (stage_at run lines n) (take n lines) b plant → HadExactReply run (stage_at run (lines ++ a ∷ []) n) (take n (lines ++ a ∷ [])) b plant
+    put : (n : ℕ) (b : Answered) → n ≤ length lines → HadExactReply run (stage_at run lines n) (take n lines) b began plant → HadExactReply run (stage_at run (lines ++ a ∷ []) n) (take n (lines ++ a ∷ [])) b began plant
     put n b within had =
-        subst (λ (s : Stage). HadExactReply run s (take n (lines ++ a ∷ [])) b plant) (sym (stage_front run lines (a ∷ []) n within))
-        (subst (λ (l : List Answered). HadExactReply run (stage_at run lines n) l b plant) (sym (take-append-le n lines (a ∷ []) within)) had)
+        subst (λ (s : Stage). HadExactReply run s (take n (lines ++ a ∷ [])) b began plant) (sym (stage_front run lines (a ∷ []) n within))
+        (subst (λ (l : List Answered). HadExactReply run (stage_at run lines n) l b began plant) (sym (take-append-le n lines (a ∷ []) within)) had)
 
-    whole : HadExactReply run (stage_at run lines (length lines)) (take (length lines) lines) a plant
-    whole = subst (λ (l : List Answered). HadExactReply run (stage_at run lines (length lines)) l a plant) (sym (take_all (length lines) lines (omega arith))) one
+    whole : HadExactReply run (stage_at run lines (length lines)) (take (length lines) lines) a began plant
+    whole = subst (λ (l : List Answered). HadExactReply run (stage_at run lines (length lines)) l a began plant) (sym (take_all (length lines) lines (omega arith))) one
 
-    there : (n : ℕ) (b : Answered) → n ≡ length lines → a ≡ b → HadExactReply run (stage_at run lines n) (take n lines) b plant
-    there n b is same = subst (λ (m : ℕ). HadExactReply run (stage_at run lines m) (take m lines) b plant) (sym is) (subst (λ (x : Answered). HadExactReply run (stage_at run lines (length lines)) (take (length lines) lines) x plant) same whole)
+    there : (n : ℕ) (b : Answered) → n ≡ length lines → a ≡ b → HadExactReply run (stage_at run lines n) (take n lines) b began plant
+    there n b is same = subst (λ (m : ℕ). HadExactReply run (stage_at run lines m) (take m lines) b began plant) (sym is) (subst (λ (x : Answered). HadExactReply run (stage_at run lines (length lines)) (take (length lines) lines) x began plant) same whole)
 
 -- ---- works
 
 pub works_go_on : (first old new : PlantState) (run : Run) (grammar : List ℕ → Option TimedCommand) (lines : List Answered) (text : List ℕ) → RunGoesOn run grammar lines text first old → SameSite old new → Elapses old new → Silent old new
     → ((stage_now run grammar first.script lines text).table.is_started ≡ true → AtEveryMoment (ShowsMeant run (stage_now run grammar first.script lines text) new) old new) → RunGoesOn run grammar lines text first new
 works_go_on first old new run grammar lines text goes site elapses silent means = record {
-  up = goes.up;
-  keeps = keeps_works run grammar lines text first old new goes.up goes.keeps site elapses silent (λ started t since to c is. bears c (means started t since to c is));
-  exact = λ n a at. exact_stays old new site elapses (omega (arith, goes.up, goes.keeps.later)) run (stage_at run lines n) (take n lines) a (goes.exact n a at);
-  said = goes.said;
-  short = goes.short;
+  now = record {
+    course = goes.now.course;
+    asked = goes.now.asked;
+    later = omega (arith, goes.now.later, later);
+    site = site_trans first old new goes.now.site site;
+    heard = silent.heard new.clock later (omega arith) ∙ goes.now.heard;
+    script = goes.now.script ∙ ap (λ (l : List ℕ). texts_of lines ++ text ++ l) (sym silent.script);
+    said = silent.said new.clock later (omega arith) ∙ goes.now.said;
+    one_line = goes.now.one_line;
+    bears = λ started c is. bears c (means started new.clock later (omega arith) c is);
+    times = goes.now.times;
+    short = goes.now.short;
+  };
+  exact = λ n a at. exact_stays old new site elapses run first.clock goes.now.later (stage_at run lines n) (take n lines) a (goes.exact n a at);
+  keeps = λ up. keeps_works run grammar lines text first old new up (goes.keeps up) site elapses silent (λ started t since to c is. bears c (means started t since to c is));
 }
   where
+    later : old.clock ≤ new.clock
+    later = (elapses.kept Control).later
+
     bears : (c : Choice) → ShowsMeant run (stage_now run grammar first.script lines text) new c → BearsTime run (stage_now run grammar first.script lines text) (replies_of lines) new c
     bears c shown = record {
       time = shown.0.time;
       bears = points_bear run (stage_now run grammar first.script lines text) (shape_of new) shown.0 c shown.2 shown.1;
-      not_earlier = up_to_later (stage_at run lines (length lines)).replied shown.0.time (times_said (replies_of lines)) shown.1.in_time.0 goes.said;
+      not_earlier = up_to_later (stage_at run lines (length lines)).replied shown.0.time (times_said (replies_of lines)) shown.1.in_time.0 goes.now.times;
     }
 
 pub passages_go_on : (first old new : PlantState) (run : Run) (grammar : List ℕ → Option TimedCommand) (lines : List Answered) (text : List ℕ) (p : Point) (points : List PassedPoint) (next : Option Point) → RunGoesOn run grammar lines text first old
@@ -164,7 +198,7 @@ module _ (run : Run) (grammar : List ℕ → Option TimedCommand) (lines : List 
   rises : before.replied ≤ behind.replied
   rises =
       let later = next_not_before grammar (length lines) (last_line_time lines (length lines)) (length (texts_of lines ++ a.text) == length first.script) a.text a.line reply.asks in
-      let last = replied_by_last run grammar first.script lines (length lines) goes.keeps.asked (omega arith) in
+      let last = replied_by_last run grammar first.script lines (length lines) goes.now.asked (omega arith) in
       by_end before.table.is_ended (omega (arith, later, last))
     where
       by_end : (e : Bool) → before.replied ≤ a.line.time → before.replied ≤ (if e then before.replied else a.line.time)
@@ -175,15 +209,15 @@ module _ (run : Run) (grammar : List ℕ → Option TimedCommand) (lines : List 
   short_behind = by_end before.table.is_ended
     where
       by_end : (e : Bool) → (if e then before.replied else a.line.time) < 2 ^ 64
-      by_end true = goes.short
+      by_end true = goes.now.short
       by_end false = reply.short
 
   -- No time that was said is behind it.
   said_up_to : AreUpTo behind.replied (times_said (replies_of lines ++ a.reply))
   said_up_to =
-      subst (λ (l : List ℕ). AreUpTo behind.replied l) (sym (times_append (replies_of lines) a.reply (replies_whole run lines goes.keeps.course)))
-      (All-append (λ z. z ≤ behind.replied) (times_said (replies_of lines)) (times_said a.reply) (up_to_later before.replied behind.replied (times_said (replies_of lines)) rises goes.said)
-      (exact_says_up_to run s from.point points (length lines) a reply.names goes.short reply.short reply.exact))
+      subst (λ (l : List ℕ). AreUpTo behind.replied l) (sym (times_append (replies_of lines) a.reply (replies_whole run lines goes.now.course)))
+      (All-append (λ z. z ≤ behind.replied) (times_said (replies_of lines)) (times_said a.reply) (up_to_later before.replied behind.replied (times_said (replies_of lines)) rises goes.now.times)
+      (exact_says_up_to run s from.point points (length lines) a reply.names goes.now.short reply.short reply.exact))
 
   -- A started session stays started.
   stays_started : before.table.is_started ≡ true → a.table.is_started ≡ true
@@ -210,29 +244,58 @@ module _ (run : Run) (grammar : List ℕ → Option TimedCommand) (lines : List 
   mean started c is = let shown = reply.shows started c is in (shown.means, shown.defined, record { rows = shown.rows; time = shown.at; ended = shown.ended })
 
   -- The reply was exact, and those before it.
-  exact_now : HadExactReply run before lines a old
+  exact_now : HadExactReply run before lines a first.clock old
   exact_now = record {
     first = from;
     points = points;
     by = old.clock;
     within = omega arith;
     exact = reply.exact;
-    told = λ started. record { passed = (reply.told started).passed; answered = (reply.told started).answered; changes = (reply.told started).changes; rows = (reply.told started).rows };
+    told = λ up started. record { passed = (reply.told started).passed; answered = (reply.told started).answered; changes = (reply.told started).changes; rows = (reply.told started).rows };
   }
 
-  exact_all : HadExactReplies run (lines ++ a ∷ []) new
-  exact_all n b at = exact_stays old new works.site (works.elapses told) (omega (arith, goes.up, goes.keeps.later)) run (stage_at run (lines ++ a ∷ []) n) (take n (lines ++ a ∷ [])) b (exact_more run old lines a goes.exact exact_now n b at)
+  abbrev all : List Answered
+  all = lines ++ a ∷ []
 
-  -- Whether the reply is said whole or in part, each moment bears.
-  pub replies_fail : BearsThroughout run grammar (lines ++ a ∷ []) first new
-  replies_fail = keeps_says_throughout run grammar lines a.text first old new goes.up goes.keeps tells told works a says refl answered reply.asks during after mean
+  exact_all : HadExactReplies run all first.clock new
+  exact_all n b at = exact_stays old new works.site (works.elapses told) run first.clock goes.now.later (stage_at run all n) (take n all) b (exact_more run first.clock old lines a goes.exact exact_now n b at)
+
+  -- On a plant that keeps its past each moment bears, whether the reply is said whole or in part.
+  pub replies_fail : 0 < first.clock → BearsThroughout run grammar all first new
+  replies_fail up = keeps_says_throughout run grammar lines a.text first old new up (goes.keeps up) tells told works a says refl answered reply.asks during after mean
+
+  reaches : old.clock ≤ new.clock
+  reaches = ((works.elapses told).kept Control).later
+
+  -- The texts of all lines are those of the lines before and that of the last.
+  texts_all : texts_of lines ++ a.text ≡ texts_of all ++ []
+  texts_all = sym (texts_more lines a) ∙ sym (append-nil (texts_of all))
+
+  -- Behind the reply each choice bears a time at the stage behind the line.
+  bears_now : (stage_now run grammar first.script all []).table.is_started ≡ true → (c : Choice) → IsChoice new new.clock c → BearsTime run (stage_now run grammar first.script all []) (replies_of all) new c
+  bears_now started c is =
+      let next_is = stage_answered run grammar first.script lines a in
+      let left = console_choice tells told old new new.clock c works reaches (omega arith) is in
+      bears_on run (stage_now run grammar first.script all []) (replies_of all) old new c works.site
+      (subst (λ (x : Stage). BearsTime run x (replies_of all) old c) (sym next_is)
+      (subst (λ (l : List ℕ). BearsTime run behind l old c) (sym (replies_more lines a)) (after (subst (λ (x : Stage). x.table.is_started ≡ true) next_is started) c left)))
 
   -- Once it was said whole, the run goes on with one line more.
-  pub replies_go_on : new.said new.clock ≡ old.said old.clock ++ a.reply → RunGoesOn run grammar (lines ++ a ∷ []) [] first new
+  pub replies_go_on : new.said new.clock ≡ old.said old.clock ++ a.reply → RunGoesOn run grammar all [] first new
   replies_go_on whole = record {
-    up = goes.up;
-    keeps = keeps_says run grammar lines a.text first old new goes.up goes.keeps tells told works a says refl answered reply.asks during after mean whole;
+    now = record {
+      course = course_more run lines a goes.now.course answered;
+      asked = asked_more grammar first.script lines a goes.now.asked (record { asks = reply.asks; one_line = goes.now.one_line });
+      later = omega (arith, goes.now.later, reaches);
+      site = site_trans first old new goes.now.site works.site;
+      heard = says.heard new.clock reaches (omega arith) ∙ goes.now.heard ∙ ap (λ (l : List ℕ). first.heard first.clock ++ l) texts_all;
+      script = goes.now.script ∙ ap (λ (l : List ℕ). texts_of lines ++ a.text ++ l) (sym says.script) ∙ ap (λ (l : List ℕ). l ++ new.script) texts_all;
+      said = whole ∙ ap (λ (l : List ℕ). l ++ a.reply) goes.now.said ∙ append_assoc (first.said first.clock) (replies_of lines) a.reply ∙ ap (λ (l : List ℕ). first.said first.clock ++ l) (sym (replies_more lines a));
+      one_line = omega arith;
+      bears = bears_now;
+      times = subst (λ (x : Stage). AreUpTo x.replied (times_said (replies_of all))) (sym (stage_more run lines a)) (subst (λ (l : List ℕ). AreUpTo behind.replied (times_said l)) (sym (replies_more lines a)) said_up_to);
+      short = subst (λ (x : Stage). x.replied < 2 ^ 64) (sym (stage_more run lines a)) short_behind;
+    };
     exact = exact_all;
-    said = subst (λ (x : Stage). AreUpTo x.replied (times_said (replies_of (lines ++ a ∷ [])))) (sym (stage_more run lines a)) (subst (λ (l : List ℕ). AreUpTo behind.replied (times_said l)) (sym (replies_more lines a)) said_up_to);
-    short = subst (λ (x : Stage). x.replied < 2 ^ 64) (sym (stage_more run lines a)) short_behind;
+    keeps = λ up. keeps_says run grammar lines a.text first old new up (goes.keeps up) tells told works a says refl answered reply.asks during after mean whole;
   }

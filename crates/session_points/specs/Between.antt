@@ -1,14 +1,15 @@
 -- What holds of a run between two of its calls, where its replies are exact, and what its calls must leave.
 use Rattle.std.specs.Prelude.{◌≡◌, ℕ, suc, ◌^◌, ◌<◌, ◌≤◌, List, [], ◌∷◌, ◌++◌, length, take, fold, slice_get, Option, Some, None, IsTrue}
 use Rattle.std.specs.Option.{option_map}
+use Rattle.crash_plant.specs.Calls.{SameSite}
 use Rattle.crash_plant.specs.Choices.{AtMoment, AtNow, Choice}
 use Rattle.crash_plant.specs.Moments.{PlantState}
 use Rattle.site_means.specs.Images.{shape_of}
 use Rattle.row_changes.specs.Changes.{after_changes}
 use Rattle.consistency.specs.Bears.{Run, Stage}
-use Rattle.consistency.specs.Courses.{Answered, IsAnswered, replies_of, stage_after, stage_at}
-use Rattle.consistency.specs.Keeping.{Keeps}
-use Rattle.consistency.specs.Moments.{AreUpTo}
+use Rattle.consistency.specs.Courses.{Answered, AreAsked, IsAnswered, IsCourse, lines_begun, replies_of, stage_after, stage_at, texts_of}
+use Rattle.consistency.specs.Keeping.{Keeps, stage_now}
+use Rattle.consistency.specs.Moments.{AreUpTo, BearsTime}
 use Rattle.consistency.specs.Steps.{TimedCommand}
 use Rattle.consistency.specs.Times.{times_said}
 use Rattle.session_points.specs.Answering.{points_before}
@@ -43,27 +44,42 @@ pub record AreToldOf (run : Run) (s : Stage) (lines : List Answered) (first : Le
   pub changes : (fold leg_after first (points_before (length lines) points)).changes ≡ a.changes
   pub rows : (last_point first.point (points_before (length lines) points)).rows ≡ after_changes run.level a.changes s.table.rows
 
--- The reply to a line behind others was exact. Where the session had started before the line, it told of points that were passed by then.
-pub record HadExactReply (run : Run) (s : Stage) (before : List Answered) (a : Answered) (plant : PlantState) : Type 0 where
+-- The reply to a line behind others was exact. Where the plant keeps its past, as its clock when the run began tells, and the session had
+-- started before the line, the reply told of points that were passed by then.
+pub record HadExactReply (run : Run) (s : Stage) (before : List Answered) (a : Answered) (began : ℕ) (plant : PlantState) : Type 0 where
   pub first : Leg
   pub points : List PassedPoint
   pub by : ℕ
   pub within : by ≤ plant.clock
   pub exact : IsExact run s first.point points (length before) a
-  pub told : IsTrue s.table.is_started → AreToldOf run s before first points a plant by
+  pub told : 0 < began → IsTrue s.table.is_started → AreToldOf run s before first points a plant by
 
 -- So was each of these lines, behind those before it.
-abbrev pub HadExactReplies : Run → List Answered → PlantState → Type 0
-HadExactReplies run lines plant = (n : ℕ) (a : Answered) → slice_get lines n ≡ Some a → HadExactReply run (stage_at run lines n) (take n lines) a plant
+abbrev pub HadExactReplies : Run → List Answered → (began : ℕ) → PlantState → Type 0
+HadExactReplies run lines began plant = (n : ℕ) (a : Answered) → slice_get lines n ≡ Some a → HadExactReply run (stage_at run lines n) (take n lines) a began plant
 
--- A run goes on from a plant's state to another: its moments so far bear, and each reply was exact. No time that it said is behind that of its
+-- What holds now of a run that began at a plant's old state, also where the plant keeps no past: these lines were answered, this was heard of
+-- the next one, and where the session has started each choice that a crash may leave bears a time. No time that was said is behind that of the
 -- last reply.
-pub record RunGoesOn (run : Run) (grammar : List ℕ → Option TimedCommand) (lines : List Answered) (text : List ℕ) (old new : PlantState) : Type 0 where
-  pub up : 0 < old.clock
-  pub keeps : Keeps run grammar lines text old new
-  pub exact : HadExactReplies run lines new
-  pub said : AreUpTo (stage_at run lines (length lines)).replied (times_said (replies_of lines))
+pub record StandsNow (run : Run) (grammar : List ℕ → Option TimedCommand) (lines : List Answered) (text : List ℕ) (old new : PlantState) : Type 0 where
+  pub course : IsCourse run lines
+  pub asked : AreAsked grammar old.script lines
+  pub later : old.clock ≤ new.clock
+  pub site : SameSite old new
+  pub heard : new.heard new.clock ≡ old.heard old.clock ++ (texts_of lines ++ text)
+  pub script : old.script ≡ texts_of lines ++ text ++ new.script
+  pub said : new.said new.clock ≡ old.said old.clock ++ replies_of lines
+  pub one_line : lines_begun text ≤ 1
+  pub bears : let s = stage_now run grammar old.script lines text in IsTrue s.table.is_started → AtNow (BearsTime run s (replies_of lines) new) new
+  pub times : AreUpTo (stage_at run lines (length lines)).replied (times_said (replies_of lines))
   pub short : (stage_at run lines (length lines)).replied < 2 ^ 64
+
+-- A run goes on from a plant's state to another: it stands so now, and each reply was exact. Where the plant keeps its past, each moment so far
+-- bears.
+pub record RunGoesOn (run : Run) (grammar : List ℕ → Option TimedCommand) (lines : List Answered) (text : List ℕ) (old new : PlantState) : Type 0 where
+  pub now : StandsNow run grammar lines text old new
+  pub exact : HadExactReplies run lines old.clock new
+  pub keeps : 0 < old.clock → Keeps run grammar lines text old new
 
 -- A line that was heard whole behind other lines may be replied to. It is answered at its stage, and its reply is exact. Once the session has
 -- started the reply tells of points that were passed up to now. Whatever a crash may leave now shows the point behind the line, which may be

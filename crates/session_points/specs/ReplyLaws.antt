@@ -77,7 +77,7 @@ InactiveAreAnsweredExactly = (run : Run) (s : Stage) (text reply : List ℕ) (li
 
 -- A run that has made no call yet goes on with no line.
 abbrev pub RunsBegin : PlantState → Type 0
-RunsBegin plant = (run : Run) (grammar : List ℕ → Option TimedCommand) → 0 < plant.clock → RunGoesOn run grammar [] [] plant plant
+RunsBegin plant = (run : Run) (grammar : List ℕ → Option TimedCommand) → RunGoesOn run grammar [] [] plant plant
 
 -- It goes on through calls that work on devices alone, where each choice of each of their moments shows a point that may be meant.
 abbrev pub WorksGoOn : (first old new : PlantState) → Type 0
@@ -97,7 +97,8 @@ RepliesGoOn tells first old new = (run : Run) (grammar : List ℕ → Option Tim
     → MayReply run (stage_now run grammar first.script lines a.text) lines from points a old → WorksOnConsole tells old new → Says a.reply old new → new.said new.clock ≡ old.said old.clock ++ a.reply
     → RunGoesOn run grammar (lines ++ a ∷ []) [] first new
 
--- Where a part of the reply was said each moment of the run still bears.
+-- Where a part of the reply was said each moment of the run still bears, on a plant that keeps its past.
 abbrev pub RepliesFail : (tells : Type 0) → (first old new : PlantState) → Type 0
 RepliesFail tells first old new = (run : Run) (grammar : List ℕ → Option TimedCommand) (lines : List Answered) (from : Leg) (points : List PassedPoint) (a : Answered) → RunGoesOn run grammar lines a.text first old
-    → MayReply run (stage_now run grammar first.script lines a.text) lines from points a old → WorksOnConsole tells old new → Says a.reply old new → BearsThroughout run grammar (lines ++ a ∷ []) first new
+    → MayReply run (stage_now run grammar first.script lines a.text) lines from points a old → WorksOnConsole tells old new → Says a.reply old new → 0 < first.clock
+    → BearsThroughout run grammar (lines ++ a ∷ []) first new

@@ -1,5 +1,5 @@
 -- What stands at a spot, from what is found there.
-use Rattle.std.proofs.Common.{◌≡◌, ◌⊎◌, inl, inr, ℕ, ◌+◌, ◌-◌, ◌^◌, ◌≤◌, ◌<◌, Bool, true, false, cond, nat_eq, nat_lt, nat_le, ◌&&◌, List, [], length, drop, slice_index, Option, Some, None, Result, Ok, Err, refl, sym, ap, ◌∙◌, arith, length-drop, length-take}
+use Rattle.std.proofs.Common.{◌≡◌, ◌⊎◌, inl, inr, ℕ, ◌+◌, ◌-◌, ◌^◌, ◌≤◌, ◌<◌, Bool, true, false, cond, nat_eq, nat_lt, nat_le, ◌&&◌, List, [], length, drop, slice_index, Option, Some, None, Result, Ok, Err, refl, sym, ap, ◌∙◌, arith, length-take}
 use Rattle.std.specs.Int.{w8, w16, w32, w64}
 use Rattle.std.proofs.lemmas.Bool.{eqb-true, eqb-false}
 use Rattle.tod_stamp.specs.Fields.{◌>>=◌, Left, Bad, number_at, within}
@@ -17,7 +17,7 @@ use Rattle.xrc_journal.proofs.Fields.{given_is}
 use Rattle.xrc_journal.proofs.RecordsRead.{group_fits, group_found}
 use Rattle.site_means.specs.Steps.{HavePlaces}
 use Rattle.control_set.proofs.Keeps.{number_kept}
-use Rattle.site_means.proofs.Long.{items_long}
+use Rattle.site_means.proofs.Long.{Ending, items_long}
 
 -- ---- the answer of a walk
 
@@ -80,53 +80,49 @@ group_ends form sets journal at last time items after e =
 
 -- ---- the items that were found
 
-stretch_fits : (from count : ℕ) (bytes : List ℕ) → from + count ≤ length bytes → length (stretch from count bytes) ≡ count
-stretch_fits from count bytes fits = omega (arith, fits, length-take count (drop from bytes), length-drop from bytes)
+-- the place behind what was found, or that of the first bad byte
+abbrev pub behind_found : Found → ℕ
+behind_found End = 0
+behind_found (Group time items after) = after.place
+behind_found (Switch time after) = after.place
+behind_found (Damaged place items) = place
 
 module _ (form : Form) (sets : ℕ) (journal : List ℕ) (at : Spot) (last : ℕ) where
-  group_items : (head : Head) (read : Items) (bad : Option ℕ) → items_found (group_or at head read bad) ≡ read.good
-  group_items head read None = refl
-  group_items head read (Some place) = refl
+  -- the items that were found end before it
+  abbrev Lie : Found → Type 0
+  Lie found = are_items_behind anywhere none_earlier (items_found found) ≡ true → (items_found found ≡ []) ⊎ (at.place + 22 + length (body_spelling (items_found found)) ≤ behind_found found)
 
-  switch_items : (head : Head) (set : Result (ℕ × Left) Bad) → items_found (switch_or at head set) ≡ []
-  switch_items head (Ok set) = refl
-  switch_items head (Err bad) = refl
+  group_lies : (head : Head) (read : Items) (bad : Option ℕ) → read.bad ≡ bad → (are_items_behind anywhere none_earlier read.good ≡ true → Ending (at_place (at.place + 22) (stretch (at.place + 22) head.len journal)) read) → Lie (group_or at head read bad)
+  group_lies head read None none ends keep = inr (omega (arith, (ends keep).within, length-take head.len (drop (at.place + 22) journal)))
+  group_lies head read (Some place) some ends keep = inr (omega (arith, (ends keep).before place some))
 
-  -- they lie in the journal
-  abbrev Lie : List Item → Type 0
-  Lie items = (items ≡ []) ⊎ (at.place + 22 + length (body_spelling items) ≤ length journal)
+  switch_lies : (head : Head) (set : Result (ℕ × Left) Bad) → Lie (switch_or at head set)
+  switch_lies head (Ok set) keep = inl refl
+  switch_lies head (Err bad) keep = inl refl
 
-  by_kind : (head : Head) (left : Left) (group : Bool) → record_head_at (length journal) at last (at_place (at.place + 1) (stretch (at.place + 1) 21 journal)) ≡ Ok (head, left) → nat_eq head.kind 1 ≡ group
-      → (let read = items_at form (at.place + 22) (stretch (at.place + 22) head.len journal) in let found = cond group (group_or at head read read.bad) (switch_of sets journal at head) in
-      are_items_behind anywhere none_earlier (items_found found) ≡ true → Lie (items_found found))
-  by_kind head left true header kind keep =
+  by_kind : (head : Head) (group : Bool) → (let read = items_at form (at.place + 22) (stretch (at.place + 22) head.len journal) in Lie (cond group (group_or at head read read.bad) (switch_of sets journal at head)))
+  by_kind head true =
       let read = items_at form (at.place + 22) (stretch (at.place + 22) head.len journal) in
-      let good = group_items head read read.bad in
-      let bounds = group_fits (length journal) at head kind (head_fits (length journal) at last (at_place (at.place + 1) (stretch (at.place + 1) 21 journal)) head left header) in
-      let size = stretch_fits (at.place + 22) head.len journal (omega (arith, bounds.1)) in
-      let keep_good : are_items_behind anywhere none_earlier read.good ≡ true = ap (λ (l : List Item). are_items_behind anywhere none_earlier l) (sym good) ∙ keep in
-      let long = items_long (length (stretch (at.place + 22) head.len journal)) form none_earlier (at_place (at.place + 22) (stretch (at.place + 22) head.len journal)) none_earlier keep_good in
-      inr (omega (arith, bounds.1, size, long, ap (λ (l : List Item). length (body_spelling l)) good))
-  by_kind head left false header kind keep = inl (switch_items head (number_at w16 (λ n. nat_eq n (next_set sets at.set)) (at_place (at.place + 22) (stretch (at.place + 22) 2 journal))))
+      group_lies head read read.bad refl (items_long (length (stretch (at.place + 22) head.len journal)) form none_earlier (at_place (at.place + 22) (stretch (at.place + 22) head.len journal)) none_earlier)
+  by_kind head false = switch_lies head (number_at w16 (λ n. nat_eq n (next_set sets at.set)) (at_place (at.place + 22) (stretch (at.place + 22) 2 journal)))
 
-  by_head : (read : Result (Head × Left) Bad) → record_head_at (length journal) at last (at_place (at.place + 1) (stretch (at.place + 1) 21 journal)) ≡ read → are_items_behind anywhere none_earlier (items_found (record_or form sets journal at read)) ≡ true
-      → Lie (items_found (record_or form sets journal at read))
-  by_head (Ok head) header keep = by_kind head.0 head.1 (nat_eq head.0.kind 1) header refl keep
-  by_head (Err bad) header keep = inl refl
+  by_head : (read : Result (Head × Left) Bad) → Lie (record_or form sets journal at read)
+  by_head (Ok head) keep = by_kind head.0 (nat_eq head.0.kind 1) keep
+  by_head (Err bad) keep = inl refl
 
-  by_gate : (is_open : Bool) → (let found = cond is_open (record_or form sets journal at (record_head_at (length journal) at last (at_place (at.place + 1) (stretch (at.place + 1) 21 journal)))) End in are_items_behind anywhere none_earlier (items_found found) ≡ true → Lie (items_found found))
-  by_gate true keep = by_head (record_head_at (length journal) at last (at_place (at.place + 1) (stretch (at.place + 1) 21 journal))) refl keep
+  by_gate : (is_open : Bool) → Lie (cond is_open (record_or form sets journal at (record_head_at (length journal) at last (at_place (at.place + 1) (stretch (at.place + 1) 21 journal)))) End)
+  by_gate true keep = by_head (record_head_at (length journal) at last (at_place (at.place + 1) (stretch (at.place + 1) 21 journal))) keep
   by_gate false keep = inl refl
 
-  lie : are_items_behind anywhere none_earlier (items_found (walk_one form sets journal at last)) ≡ true → Lie (items_found (walk_one form sets journal at last))
+  lie : Lie (walk_one form sets journal at last)
   unfolding walk_one
-  lie keep = by_gate (nat_eq (slice_index journal at.place) 1) keep
+  lie = by_gate (nat_eq (slice_index journal at.place) 1)
 
-  -- so their places are numbers of 64 bits
-  pub found_places : length journal < 2 ^ 64 → HavePlaces at (items_found (walk_one form sets journal at last))
-  found_places short keep = elim (lie keep) [
+  -- so their places are numbers of 64 bits where that one is
+  pub found_places : (found : Found) → walk_one form sets journal at last ≡ found → behind_found found < 2 ^ 64 → HavePlaces at (items_found (walk_one form sets journal at last))
+  found_places found is short keep = elim (lie keep) [
     | inl none ↦ inl none
-    | inr within ↦ inr (omega (arith, within, short))
+    | inr within ↦ inr (omega (arith, within, short, ap behind_found is))
   ]
 
   -- ---- a switch

@@ -1,5 +1,5 @@
--- How long what was read is, whatever numbers the bytes are.
-use Rattle.std.proofs.Common.{◌≡◌, ℕ, zero, suc, ◌+◌, ◌-◌, ◌≤◌, Bool, true, false, cond, nat_eq, nat_lt, nat_le, List, [], ◌∷◌, length, take, drop, slice_index, Result, Ok, Err, refl, ap, ◌∙◌, arith, length-append, length-drop, length-take}
+-- How long what was read is and where what is left begins, whatever numbers the bytes are.
+use Rattle.std.proofs.Common.{◌≡◌, ℕ, zero, suc, ◌+◌, ◌-◌, ◌≤◌, Bool, true, false, cond, nat_eq, nat_lt, nat_le, List, [], ◌∷◌, length, take, drop, slice_index, Result, Ok, Err, Some, refl, sym, ap, ◌∙◌, arith, length-append, length-drop, length-take}
 use Rattle.std.specs.Prelude.{slice_range}
 use Rattle.std.specs.List.{flat_map}
 use Rattle.std.specs.Int.{Width, w8, w16, w32, byte_len, from_be_bytes}
@@ -19,22 +19,33 @@ use Rattle.xrc_journal.specs.Deltas.{change_at}
 use Rattle.xrc_journal.specs.Reading.{Items, track_at, body_image_field, row_or, image_item_at, delta_item_at, pair_item_at, gone_item_at, is_tag, item_at, no_items, first_and_rest, items_from}
 use Rattle.xrc_journal.proofs.Fields.{given_is, field_ok, spelled_length}
 
+-- So many bytes were read from the front of what was left.
+record ReadsOn (left next : Left) (size : ℕ) : Type 0 where
+  long : length left.bytes ≡ size + length next.bytes
+  place : next.place ≡ left.place + size
+
 -- ---- fields
 
-number_long : (w : Width) (rule : ℕ → Bool) (left : Left) (n : ℕ) (next : Left) → number_at w rule left ≡ Ok (n, next) → length left.bytes ≡ byte_len w + length next.bytes
+number_long : (w : Width) (rule : ℕ → Bool) (left : Left) (n : ℕ) (next : Left) → number_at w rule left ≡ Ok (n, next) → ReadsOn left next (byte_len w)
 unfolding number_at
 number_long w rule left n next e =
     let value = from_be_bytes w (take (byte_len w) left.bytes) in
     let long = guard_ok (nat_lt (length left.bytes) (byte_len w)) (Cut left.place) (cond (rule value) (Ok (value, after (byte_len w) left)) (Err (Broken left.place))) (n, next) e in
     let kept = allow_ok (rule value) (Broken left.place) (value, after (byte_len w) left) (n, next) long.1 in
-    omega (arith, ltb-false (length left.bytes) (byte_len w) long.0, ap (λ (p : ℕ × Left). length p.1.bytes) kept.1, length-drop (byte_len w) left.bytes)
+    record {
+      long = omega (arith, ltb-false (length left.bytes) (byte_len w) long.0, ap (λ (p : ℕ × Left). length p.1.bytes) kept.1, length-drop (byte_len w) left.bytes);
+      place = ap (λ (p : ℕ × Left). p.1.place) (sym kept.1);
+    }
 
-bytes_long : (n : ℕ) (rule : List ℕ → Bool) (left : Left) (text : List ℕ) (next : Left) → bytes_at n rule left ≡ Ok (text, next) → length left.bytes ≡ n + length next.bytes
+bytes_long : (n : ℕ) (rule : List ℕ → Bool) (left : Left) (text : List ℕ) (next : Left) → bytes_at n rule left ≡ Ok (text, next) → ReadsOn left next n
 unfolding bytes_at
 bytes_long n rule left text next e =
     let long = guard_ok (nat_lt (length left.bytes) n) (Cut left.place) (cond (rule (take n left.bytes)) (Ok (take n left.bytes, after n left)) (Err (Broken left.place))) (text, next) e in
     let kept = allow_ok (rule (take n left.bytes)) (Broken left.place) (take n left.bytes, after n left) (text, next) long.1 in
-    omega (arith, ltb-false (length left.bytes) n long.0, ap (λ (p : List ℕ × Left). length p.1.bytes) kept.1, length-drop n left.bytes)
+    record {
+      long = omega (arith, ltb-false (length left.bytes) n long.0, ap (λ (p : List ℕ × Left). length p.1.bytes) kept.1, length-drop n left.bytes);
+      place = ap (λ (p : List ℕ × Left). p.1.place) (sym kept.1);
+    }
 
 -- ---- images
 
@@ -101,8 +112,13 @@ image_long bytes recs rest e =
 
 -- ---- items
 
+-- behind its tag of one byte, the item that was read
+record Tagged (left next : Left) (item : Item) : Type 0 where
+  long : 1 + length left.bytes ≡ length (item_spelling item) + length next.bytes
+  place : 1 + next.place ≡ left.place + length (item_spelling item)
+
 module _ (form : Form) (earlier : Earlier) (left : Left) (item : Item) (next : Left) where
-  image_item_long : image_item_at form earlier left ≡ Ok (item, next) → 1 + length left.bytes ≡ length (item_spelling item) + length next.bytes
+  image_item_long : image_item_at form earlier left ≡ Ok (item, next) → Tagged left next item
   unfolding image_item_at track_at
   image_item_long e =
       let one = bind_ok (track_at (may_draw form earlier) left) (λ at. body_image_field at.1 >>= (λ r. Ok (Image at.0.0 at.0.1 r.0, r.1))) (item, next) e in
@@ -112,16 +128,32 @@ module _ (form : Form) (earlier : Earlier) (left : Left) (item : Item) (next : L
       let two = bind_ok (body_image_field one.0.1) (λ r. Ok (Image one.0.0.0 one.0.0.1 r.0, r.1)) (item, next) one.2 in
       let read = field_ok one.0.1 (image_at one.0.1.bytes) two.0.0 two.0.1 two.1 in
       let is = given_is (Image one.0.0.0 one.0.0.1 two.0.0, two.0.1) (item, next) two.2 in
-      omega (
-        arith,
-        number_long w16 any left device.0.0 device.0.1 device.1,
-        number_long w32 (may_draw form earlier device.0.0) device.0.1 track.0.0 track.0.1 track.1,
-        ap (λ (p : (ℕ × ℕ) × Left). length p.1.bytes) at_is,
-        image_long one.0.1.bytes two.0.0 read.0 read.1,
-        ap (λ (l : Left). length l.bytes) read.2,
-        ap (λ (p : Item × Left). length (item_spelling p.0)) is,
-        ap (λ (p : Item × Left). length p.1.bytes) is,
-      )
+      let first = number_long w16 any left device.0.0 device.0.1 device.1 in
+      let second = number_long w32 (may_draw form earlier device.0.0) device.0.1 track.0.0 track.0.1 track.1 in
+      let drawn = image_long one.0.1.bytes two.0.0 read.0 read.1 in
+      let size = ap (λ (p : Item × Left). length (item_spelling p.0)) is in
+      record {
+        long = omega (
+          arith,
+          first.long,
+          second.long,
+          ap (λ (p : (ℕ × ℕ) × Left). length p.1.bytes) at_is,
+          drawn,
+          ap (λ (l : Left). length l.bytes) read.2,
+          size,
+          ap (λ (p : Item × Left). length p.1.bytes) is,
+        );
+        place = omega (
+          arith,
+          first.place,
+          second.place,
+          ap (λ (p : (ℕ × ℕ) × Left). p.1.place) at_is,
+          drawn,
+          ap (λ (l : Left). l.place) read.2,
+          size,
+          ap (λ (p : Item × Left). p.1.place) is,
+        );
+      }
 
   no_delta : (e : Earlier) → is_item anywhere e item ≡ true → delta_item_at form left ≡ Ok (item, next) → ⊥
   unfolding delta_item_at
@@ -134,55 +166,79 @@ module _ (form : Form) (earlier : Earlier) (left : Left) (item : Item) (next : L
       clash : false ≡ true → ⊥
       clash e = cc
 
-  pair_item_long : (e : Earlier) → is_item anywhere e item ≡ true → pair_item_at left ≡ Ok (item, next) → 1 + length left.bytes ≡ length (item_spelling item) + length next.bytes
+  pair_item_long : (e : Earlier) → is_item anywhere e item ≡ true → pair_item_at left ≡ Ok (item, next) → Tagged left next item
   unfolding pair_item_at
   pair_item_long e keep read =
       let one = bind_ok (bytes_at 30 any left) (λ t. row_or left (row_at t.0) >>= (λ r. Ok (Pair r, t.1))) (item, next) read in
       let two = bind_ok (row_or left (row_at one.0.0)) (λ r. Ok (Pair r, one.0.1)) (item, next) one.2 in
       let is = given_is (Pair two.0, one.0.1) (item, next) two.2 in
-      omega (
-        arith,
-        bytes_long 30 any left one.0.0 one.0.1 one.1,
-        spelled_length two.0 (ap (λ (p : Item × Left). is_item anywhere e p.0) is ∙ keep),
-        ap (λ (p : Item × Left). length (item_spelling p.0)) is,
-        ap (λ (p : Item × Left). length p.1.bytes) is,
-      )
+      let row = bytes_long 30 any left one.0.0 one.0.1 one.1 in
+      let thirty = spelled_length two.0 (ap (λ (p : Item × Left). is_item anywhere e p.0) is ∙ keep) in
+      let size = ap (λ (p : Item × Left). length (item_spelling p.0)) is in
+      record {
+        long = omega (arith, row.long, thirty, size, ap (λ (p : Item × Left). length p.1.bytes) is);
+        place = omega (arith, row.place, thirty, size, ap (λ (p : Item × Left). p.1.place) is);
+      }
 
-  gone_item_long : gone_item_at left ≡ Ok (item, next) → 1 + length left.bytes ≡ length (item_spelling item) + length next.bytes
+  gone_item_long : gone_item_at left ≡ Ok (item, next) → Tagged left next item
   unfolding gone_item_at
   gone_item_long e =
       let one = bind_ok (number_at w16 any left) (λ d. Ok (Gone d.0, d.1)) (item, next) e in
       let is = given_is (Gone one.0.0, one.0.1) (item, next) one.2 in
-      omega (arith, number_long w16 any left one.0.0 one.0.1 one.1, ap (λ (p : Item × Left). length (item_spelling p.0)) is, ap (λ (p : Item × Left). length p.1.bytes) is)
+      let device = number_long w16 any left one.0.0 one.0.1 one.1 in
+      let size = ap (λ (p : Item × Left). length (item_spelling p.0)) is in
+      record {
+        long = omega (arith, device.long, size, ap (λ (p : Item × Left). length p.1.bytes) is);
+        place = omega (arith, device.place, size, ap (λ (p : Item × Left). p.1.place) is);
+      }
 
-pub item_long : (form : Form) (earlier : Earlier) (left : Left) (item : Item) (next : Left) (e : Earlier) → is_item anywhere e item ≡ true → item_at form earlier left ≡ Ok (item, next) → length left.bytes ≡ length (item_spelling item) + length next.bytes
+item_long : (form : Form) (earlier : Earlier) (left : Left) (item : Item) (next : Left) (e : Earlier) → is_item anywhere e item ≡ true → item_at form earlier left ≡ Ok (item, next) → ReadsOn left next (length (item_spelling item))
 unfolding item_at
 item_long form earlier left item next e keep read =
     let one = bind_ok (number_at w8 (is_tag form.deltas earlier.late) left)
     (λ t. cond (nat_eq t.0 1) (image_item_at form earlier t.1) (cond (nat_eq t.0 2) (delta_item_at form t.1) (cond (nat_eq t.0 3) (pair_item_at t.1) (gone_item_at t.1)))) (item, next) read in
-    omega (arith, number_long w8 (is_tag form.deltas earlier.late) left one.0.0 one.0.1 one.1, choose one.0.1 (nat_eq one.0.0 1) (nat_eq one.0.0 2) (nat_eq one.0.0 3) one.2)
+    let tag = number_long w8 (is_tag form.deltas earlier.late) left one.0.0 one.0.1 one.1 in
+    let behind_tag = choose one.0.1 (nat_eq one.0.0 1) (nat_eq one.0.0 2) (nat_eq one.0.0 3) one.2 in
+    record { long = omega (arith, tag.long, behind_tag.long); place = omega (arith, tag.place, behind_tag.place) }
   where
-    choose : (after : Left) (one two three : Bool) → cond one (image_item_at form earlier after) (cond two (delta_item_at form after) (cond three (pair_item_at after) (gone_item_at after))) ≡ Ok (item, next) → 1 + length after.bytes ≡ length (item_spelling item) + length next.bytes
+    choose : (after : Left) (one two three : Bool) → cond one (image_item_at form earlier after) (cond two (delta_item_at form after) (cond three (pair_item_at after) (gone_item_at after))) ≡ Ok (item, next) → Tagged after next item
     choose after true two three read = image_item_long form earlier after item next read
     choose after false true three read = absurd (no_delta form earlier after item next e keep read)
     choose after false false true read = pair_item_long form earlier after item next e keep read
     choose after false false false read = gone_item_long form earlier after item next read
 
+-- The good items are no longer than the bytes, and end where the first bad one begins.
+pub record Ending (left : Left) (items : Items) : Type 0 where
+  pub within : length (body_spelling items.good) ≤ length left.bytes
+  pub before : (at : ℕ) → items.bad ≡ Some at → left.place + length (body_spelling items.good) ≤ at
+
+none_ends : (left : Left) → Ending left no_items
+none_ends left = record { within = omega arith; before = λ at is. absurd cc }
+
+bad_ends : (left : Left) → Ending left (record { good = []; bad = Some left.place })
+bad_ends left = record { within = omega arith; before = λ at is. let same : left.place ≡ at = cc in omega (arith, same) }
+
 first_long : (form : Form) (earlier : Earlier) (left : Left) (e : Earlier) (read : Result (Item × Left) Bad) (rest : Item × Left → Items) → item_at form earlier left ≡ read
-    → ((i : Item × Left) → are_items_behind anywhere (behind i.0 e) (rest i).good ≡ true → length (body_spelling (rest i).good) ≤ length i.1.bytes)
-    → are_items_behind anywhere e (first_and_rest left.place read rest).good ≡ true → length (body_spelling (first_and_rest left.place read rest).good) ≤ length left.bytes
-first_long form earlier left e (Err bad) rest is more keep = omega arith
+    → ((i : Item × Left) → are_items_behind anywhere (behind i.0 e) (rest i).good ≡ true → Ending i.1 (rest i))
+    → are_items_behind anywhere e (first_and_rest left.place read rest).good ≡ true → Ending left (first_and_rest left.place read rest)
+first_long form earlier left e (Err bad) rest is more keep = bad_ends left
 first_long form earlier left e (Ok i) rest is more keep =
     let parts = and_parts (is_item anywhere e i.0) (are_items_behind anywhere (behind i.0 e) (rest i).good) keep in
-    omega (arith, item_long form earlier left i.0 i.1 e parts.0 is, more i parts.1, length-append (item_spelling i.0) (body_spelling (rest i).good))
+    let front = item_long form earlier left i.0 i.1 e parts.0 is in
+    let others = more i parts.1 in
+    let size = length-append (item_spelling i.0) (body_spelling (rest i).good) in
+    record {
+      within = omega (arith, front.long, others.within, size);
+      before = λ at bad. omega (arith, front.place, others.before at bad, size);
+    }
 
-pub items_long : (turns : ℕ) (form : Form) (earlier : Earlier) (left : Left) (e : Earlier) → are_items_behind anywhere e (items_from turns form earlier left).good ≡ true → length (body_spelling (items_from turns form earlier left).good) ≤ length left.bytes
+pub items_long : (turns : ℕ) (form : Form) (earlier : Earlier) (left : Left) (e : Earlier) → are_items_behind anywhere e (items_from turns form earlier left).good ≡ true → Ending left (items_from turns form earlier left)
 unfolding items_from
-items_long zero form earlier left e keep = omega arith
+items_long zero form earlier left e keep = none_ends left
 items_long (suc turns) form earlier left e keep = by_end (nat_eq (length left.bytes) 0) (λ i more. items_long turns form (behind i.0 earlier) i.1 (behind i.0 e) more) keep
   where
-    by_end : (over : Bool) → ((i : Item × Left) → are_items_behind anywhere (behind i.0 e) (items_from turns form (behind i.0 earlier) i.1).good ≡ true → length (body_spelling (items_from turns form (behind i.0 earlier) i.1).good) ≤ length i.1.bytes)
+    by_end : (over : Bool) → ((i : Item × Left) → are_items_behind anywhere (behind i.0 e) (items_from turns form (behind i.0 earlier) i.1).good ≡ true → Ending i.1 (items_from turns form (behind i.0 earlier) i.1))
         → are_items_behind anywhere e (cond over no_items (first_and_rest left.place (item_at form earlier left) (λ i. items_from turns form (behind i.0 earlier) i.1))).good ≡ true
-        → length (body_spelling (cond over no_items (first_and_rest left.place (item_at form earlier left) (λ i. items_from turns form (behind i.0 earlier) i.1))).good) ≤ length left.bytes
-    by_end true more keep = omega arith
+        → Ending left (cond over no_items (first_and_rest left.place (item_at form earlier left) (λ i. items_from turns form (behind i.0 earlier) i.1)))
+    by_end true more keep = none_ends left
     by_end false more keep = first_long form earlier left e (item_at form earlier left) (λ i. items_from turns form (behind i.0 earlier) i.1) refl more keep

@@ -203,8 +203,7 @@ impl Walking {
         ensures reads { ReadsAll P.tells (P.state plant.old) (P.state plant.new) }
     {
         let at = self.at;
-        // Places and record numbers are numbers of 64 bits.
-        let _valid = plant.length(Device::Journal(at.set));
+        // The number of a record is one of 64 bits.
         let _number = self.at.number;
         let volumes = plant.volumes();
         match walk(plant, at, self.last, &mut buffers.body) {

@@ -5,6 +5,7 @@ use Rattle.xrc_edge.specs.Causes.{Rose}
 use Rattle.crash_plant.specs.declared.device.Device.{Device}
 use Rattle.crash_plant.specs.declared.device.Device.TheVariants.{Journal}
 use Rattle.crash_plant.specs.Moments.{PlantState}
+use Rattle.crash_plant.proofs.Choices.{device_cases}
 use Rattle.xrc_journal.specs.declared.journal.AppendError.{AppendError}
 use Rattle.xrc_journal.specs.declared.journal.AppendError.TheVariants.{NoRoom, Fault}
 use Rattle.xrc_journal.specs.Appending.{GrowCause, RefusesRoom}
@@ -16,11 +17,19 @@ pub fault_not_full : (set n f : ℕ) → (let a : Result (Unit {0}) AppendError 
 fault_not_full set n f e = cc
 
 -- A journal whose count rose is named.
-pub fault_grows : (among : Device → Type 0) (old new : PlantState) (set : ℕ) → among (Journal set) → Rose (old.faults (Journal set)) (new.faults (Journal set)) → GrowCause among old new (Err (Fault set))
-fault_grows among old new set is rose = record {
+pub fault_grows : (among : Device → Type 0) (old new : PlantState) (set : ℕ) → among (Journal set) → Rose (old.faults (Journal set)) (new.faults (Journal set)) → ((d : Device) → ¬ (d ≡ Journal set) → new.faults d ≡ old.faults d) → GrowCause among old new (Err (Fault set))
+fault_grows among old new set is rose others = record {
   fault = λ j named. let same = sym (fault_is set j named) in (subst (λ (n : ℕ). among (Journal n)) same is, subst (λ (n : ℕ). Rose (old.faults (Journal n)) (new.faults (Journal n))) same rose);
-  others = λ none. absurd (none set refl);
+  others = λ d none. others d (none set refl);
 }
+
+-- Counts stay in a call that doesn't fail and in one behind it, but for those of that one's device.
+pub counts_still : (device : Device) (old mid new : PlantState) → ((d : Device) → ¬ (d ≡ device) → mid.faults d ≡ old.faults d) → mid.faults device ≡ old.faults device → (other : Device) → ((d : Device) → ¬ (d ≡ other) → new.faults d ≡ mid.faults d)
+    → (d : Device) → ¬ (d ≡ other) → new.faults d ≡ old.faults d
+counts_still device old mid new first same other then d not = elim (device_cases d device) [
+  | inl is ↦ then d not ∙ subst (λ (e : Device). mid.faults e ≡ old.faults e) (sym is) same
+  | inr differs ↦ then d not ∙ first d differs
+]
 
 -- A count that rose in a later call rose.
 pub rose_since : (a b c : ℕ) → a ≤ b → Rose b c → Rose a c
@@ -46,8 +55,8 @@ ok_is_no_fault : (value : Unit {0}) (j : ℕ) → (let a : Result (Unit {0}) App
 ok_is_no_fault value j e = cc
 
 pub grows_ok : (among : Device → Type 0) (old new : PlantState) (result : Result (Unit {0}) AppendError) (d : Device) → GrowCause among old new result → OnOk result (new.faults d ≡ old.faults d)
-grows_ok among old new (Ok value) d cause = cause.others (λ j. ok_is_no_fault value j) d
+grows_ok among old new (Ok value) d cause = cause.others d (λ j fault. absurd (ok_is_no_fault value j fault))
 grows_ok among old new (Err error) d cause = tt
 
 pub refusal_grows : (among : Device → Type 0) (old new : PlantState) (result : Result (Unit {0}) AppendError) (n f : ℕ) (d : Device) → (let refusal : Result (Unit {0}) AppendError = Err (NoRoom n f) in result ≡ refusal) → GrowCause among old new result → new.faults d ≡ old.faults d
-refusal_grows among old new result n f d is cause = cause.others (λ j fault. fault_not_full j n f (sym fault ∙ is)) d
+refusal_grows among old new result n f d is cause = cause.others d (λ j fault. absurd (fault_not_full j n f (sym fault ∙ is)))

@@ -89,10 +89,10 @@ pub record SwitchIsPut (from at : Spot) (time : ℕ) (old new : PlantState) : Ty
 abbrev pub IsOfSwitch : (sets : ℕ) → Spot → Device → Type 0
 IsOfSwitch sets at d = (d ≡ Journal at.set) ⊎ (d ≡ Journal (next_set sets at.set))
 
--- A fault names one of these journals, and its count of faults rose. No count rises with another answer.
+-- A fault names one of these journals, and its count of faults rose. No other count rises.
 pub record GrowCause (among : Device → Type 0) (old new : PlantState) (result : Result (Unit {0}) AppendError) : Type 0 where
   pub fault : (j : ℕ) → IsErrOf result (Fault j) → among (Journal j) × Rose (old.faults (Journal j)) (new.faults (Journal j))
-  pub others : ((j : ℕ) → ¬ IsErrOf result (Fault j)) → (d : Device) → new.faults d ≡ old.faults d
+  pub others : (d : Device) → ((j : ℕ) → IsErrOf result (Fault j) → d ≢ Journal j) → new.faults d ≡ old.faults d
 
 -- NoRoom is answered exactly where this is so, and with these numbers.
 pub record RefusesRoom (why : Type 0) (needed free : ℕ) (result : Result (Unit {0}) AppendError) : Type 0 where

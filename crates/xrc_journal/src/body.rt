@@ -1,6 +1,7 @@
 //! The body of a group.
 
 ghost use Rattle.std.specs.Prelude.{◌≡◌, ◌≤◌, ◌+◌, ◌<◌, ◌^◌, ◌==◌, ◌∷◌, ◌++◌, [], length, false, Some, None, IfOk, OnErr, IsTrue, if◌then◌else◌, replicate};
+ghost use Rattle.ckd_track.specs.Images.{image, longest_image};
 ghost use Rattle.pair_table.specs.Rows.{keeps_row_rules};
 ghost use Rattle.xrc_journal.specs.Items.{AreItems, anywhere, body_spelling, form_of};
 ghost use Rattle.xrc_journal.specs.Items.Item.{Image, Pair, Gone};
@@ -111,11 +112,13 @@ impl Body {
 
     /// Puts a track of a device. Images stand before rows, and a track has one at most.
     pub fn put_image(&mut self, device: u16, track: u32, slot: &Slot)
-        requires fits { FitsInRoom self.old (Image device track slot.now) }
+        requires fits { length (image slot.now) ≤ longest_image → FitsInRoom self.old (Image device track slot.now) }
         requires early { are_late self.old.items ≡ false }
         requires first { have_image self.old.items device track ≡ false }
         ensures put { self.new ≡ with_item (Image device track slot.now) self.old }
         ensures keep { AreItems anywhere self.new.items }
+        // No track's image is longer.
+        ensures short { length (image slot.now) ≤ longest_image }
     {
         self.put(&image_front(device, track), slot.bytes());
     }

@@ -280,7 +280,7 @@ impl Journal {
         self.put_at_end(plant, cut, body)
     }
 
-    /// Closes the first gate of the next data set, and then puts a switch to that set at the end. It takes no memory. After a `Fault`
+    /// Puts a switch to the next data set at the end, with the first gate of that set closed. It takes no memory. After a `Fault`
     /// the journal may not be used again.
     pub fn switch<P: Plant>(&mut self, plant: &mut P, cut: Stamp) -> Result<(), AppendError>
         requires grows { MayGrow (P.state plant.old) self.old.at }

@@ -98,11 +98,11 @@ pub fn recover<R: Threads + Sync, P: Plant>(
     requires home { NoneLent (P.state plant.old) }
     // What the devices mean, or why they can't be recovered, in this order: lengths, the control, the session, the state, the journals
     // in the order of the walk, and the lengths of the duplex pairs' volumes.
-    ensures says { P.tells → IsGoodOrCalledFor (P.state plant.old) session (λ o. IsRecoverable (P.state plant.old) session o.means) result }
+    ensures ok { P.tells → IsGoodOrCalledFor (P.state plant.old) session (λ o. IsRecoverable (P.state plant.old) session o.means) result }
     ensures short { (d : AnyDevice) → first_short (P.state plant.old) ≡ Some d → result ≡ Err (Site (TooSmall d (need d))) }
     // Why it fails: a fault is of a device whose count rose, and the failed devices are those of duplex pairs whose counts rose. A
     // volume is left at its first fault, whatever is answered.
-    ensures fault { (d : AnyDevice) → IsErrOf result (Site (Fault d)) → Rose ((P.state plant.old).faults d) ((P.state plant.new).faults d) }
+    ensures cause { (d : AnyDevice) → IsErrOf result (Site (Fault d)) → Rose ((P.state plant.old).faults d) ((P.state plant.new).faults d) }
     ensures failed { IfOk result (λ o. AreFaulty o.means.table.rows (P.state plant.old).faults (P.state plant.new).faults o.failed) }
     ensures once { (v : ℕ) → (P.state plant.new).faults (Volume v) ≤ (P.state plant.old).faults (Volume v) + 1 }
     // Each duplex pair's volume that isn't among them holds what the devices meant, is labelled as its primary, and is durable.

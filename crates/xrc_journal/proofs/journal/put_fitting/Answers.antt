@@ -16,6 +16,6 @@ returns-in-Err-clause-put g c =
       fits = omega (arith, c.length.ensures);
       stamp = c.put_group.ensures.stamp;
       only = c.put_group.ensures.only;
-      cause = fault_grows (λ d. d ≡ JournalDevice set) old new set refl c.in-Err.ensures.cause.failed;
+      cause = fault_grows (λ d. d ≡ JournalDevice set) old new set refl c.in-Err.ensures.cause.failed c.put_group.ensures.only.others_faults;
       no_room = fault_has_room _ _ _ set (λ full. omega (arith, full, c.if-free-needed.false, c.length.ensures, ap length c.bytes.ensures.spelled, c.requires.grows.room));
     }

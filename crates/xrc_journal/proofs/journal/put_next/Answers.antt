@@ -1,7 +1,7 @@
 use Rattle.std.proofs.Common.{ℕ, refl, ap, arith, inl, inr, rules}
 use Rattle.crash_plant.specs.declared.device.Device.TheVariants.{Journal as JournalDevice}
 use Rattle.xrc_journal.specs.Appending.{IsOfSwitch}
-use Rattle.xrc_journal.proofs.Causes.{fault_grows, rose_since}
+use Rattle.xrc_journal.proofs.Causes.{counts_still, fault_grows, rose_since}
 use Rattle.xrc_journal.proofs.RingAppends.{all_end_shut}
 use Rattle.xrc_journal.proofs.RingSwitches.{ClosesGate, HasClosedGate, LeadsOn, MaySwitchTo, moments_closing, moments_switching, only_closing, only_switching, put_switching, shut_between}
 use Rattle.xrc_journal.proofs.journal.put_next.Goals as goal
@@ -36,7 +36,7 @@ pub returns-in_default-clause-cause : goal.returns-in_default-clause-cause
 returns-in_default-clause-cause g c =
     let old = g.P.Plant.state c.args.plant.now in
     let mid = g.P.Plant.state c.put_down.new.plant in
-    fault_grows (IsOfSwitch old.journals c.args.journal.at) old mid c.args.set (inr (ap (λ (n : ℕ). JournalDevice n) c.requires.next)) c.in_default.ensures.cause.failed
+    fault_grows (IsOfSwitch old.journals c.args.journal.at) old mid c.args.set (inr (ap (λ (n : ℕ). JournalDevice n) c.requires.next)) c.in_default.ensures.cause.failed c.put_down.ensures.only.others_faults
 
 pub put_switch-requires-clause-shut : goal.put_switch-requires-clause-shut
 put_switch-requires-clause-shut g c κs within = λ told.
@@ -146,3 +146,4 @@ returns-in-Err-clause-cause g c =
     let new = g.P.Plant.state c.put_switch.new.plant in
     let device = JournalDevice c.args.journal.at.set in
     fault_grows (IsOfSwitch old.journals c.args.journal.at) old new c.args.journal.at.set (inl refl) (rose_since (old.faults device) (mid.faults device) (new.faults device) (c.put_down.ensures.only.faults device) c.in-Err.ensures.cause.failed)
+    (counts_still (JournalDevice c.args.set) old mid new c.put_down.ensures.only.others_faults c.in-Ok.ensures.cause.ok device c.put_switch.ensures.only.others_faults)

@@ -18,7 +18,7 @@ returns-in-Err g c =
     let b = g.P.Plant.state c.recover.new.plant in
     let site = c.is_site.ensures.0 c.if-not-is_site.false in
     let e = c.in-Err.error in
-    let k = at_error g.P.Plant.tells c.args.session a b e c.stop_of.result c.stop_of.ensures site c.in-Err.ensures.says (λ d first. let same = c.in-Err.ensures.short d first in cc) (λ d is. c.in-Err.ensures.fault d (λ i. Err (is i)))
+    let k = at_error g.P.Plant.tells c.args.session a b e c.stop_of.result c.stop_of.ensures site c.in-Err.ensures.ok (λ d first. let same = c.in-Err.ensures.short d first in cc) (λ d is. c.in-Err.ensures.cause d (λ i. Err (is i)))
     c.recover.ensures.works c.recover.ensures.labels c.recover.ensures.named c.recover.ensures.moments c.recover.ensures.once (λ early. c.in-Err.ensures.unwritten e refl early) in
     record {
       untouched = λ is. absurd (k.site.0 is site);
@@ -34,7 +34,7 @@ returns-in-Ok g c =
     let k = at_report g.P.Plant.tells c.args.session a b (g.P.Plant.state c.report.new.plant) o.means o.failed c.report.result (record {
       site = site;
       long = λ d first. let same = c.in-Ok.ensures.short d first in cc;
-      is_meant = c.in-Ok.ensures.says;
+      is_meant = c.in-Ok.ensures.ok;
       faulty = c.in-Ok.ensures.failed;
       redone = c.in-Ok.ensures.redone;
       once = c.recover.ensures.once;

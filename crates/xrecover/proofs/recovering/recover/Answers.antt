@@ -43,8 +43,8 @@ pub redo_pairs-requires-clause-walk : goal.redo_pairs-requires-clause-walk
 redo_pairs-requires-clause-walk g c κs within = λ told.
     walk_now g.P.Plant.tells (g.P.Plant.state c.args.plant.now) (g.P.Plant.state c.read_meant.new.plant) c.read_meant.ensures.reads c.in_ok-meant.meant.mark told (c.in_ok-meant.ensures.says told).1
 
-pub returns-in_err-failed-clause-says : goal.returns-in_err-failed-clause-says
-returns-in_err-failed-clause-says g c = λ told.
+pub returns-in_err-failed-clause-ok : goal.returns-in_err-failed-clause-ok
+returns-in_err-failed-clause-ok g c = λ told.
     let old = g.P.Plant.state c.args.plant.now in
     let one = g.P.Plant.state c.read_meant.new.plant in
     let e = c.in_err-failed.field-0.0 in
@@ -133,8 +133,8 @@ returns-clause-named g c = λ told.
     all_named g.P.Plant.tells (g.P.Plant.state c.args.plant.now) (g.P.Plant.state c.read_meant.new.plant) c.read_meant.ensures.reads c.args.session c.in_ok-meant.meant.means (λ told. (c.in_ok-meant.ensures.says told).0) (g.P.Plant.state c.redo_pairs.new.plant) told
     (c.redo_pairs.ensures.named told)
 
-pub returns-in_err-failed-clause-fault : goal.returns-in_err-failed-clause-fault
-returns-in_err-failed-clause-fault g c = λ d is.
+pub returns-in_err-failed-clause-cause : goal.returns-in_err-failed-clause-cause
+returns-in_err-failed-clause-cause g c = λ d is.
     let old = g.P.Plant.state c.args.plant.now in
     let one = g.P.Plant.state c.read_meant.new.plant in
     let same : Site (Fault d) ≡ c.in_err-failed.field-0.0 = search rules in

@@ -1,7 +1,8 @@
-use Rattle.std.proofs.Common.{◌≡◌, true, None, refl, ap, sym, subst, ◌∙◌, true≢false}
+use Rattle.std.proofs.Common.{rules, ◌≡◌, true, None, refl, ap, sym, subst, ◌∙◌, true≢false}
 use Rattle.std.specs.Map.{values_of}
 use Rattle.std.specs.List.{list_any}
 use Rattle.pair_table.specs.declared.table.PairTable.TheInside.{Inside}
+use Rattle.pair_table.specs.Rows.{is_state}
 use Rattle.pair_table.specs.Tables.{Table, is_of, row_of, with_state, in_state}
 use Rattle.pair_table.specs.Maps.{by_device}
 use Rattle.pair_table.proofs.TableLaws.{no_row, keeps_with_state}
@@ -28,7 +29,8 @@ changed c = elim c.match-get_mut.branch [
 pub invariant_of-self : goal.invariant_of-self
 invariant_of-self c =
     let rows = values_of c.self.inside.rows.entries in
-    keeps_map c.match-get_mut.self-inside.rows.entries (with_state c.args.device c.args.state rows) (changed c) (keeps_with_state c.args.device c.args.state rows c.is_suspended-valid.ensures.valid c.self.invariant.rows)
+    let valid : is_state c.args.state ≡ true = search rules in
+    keeps_map c.match-get_mut.self-inside.rows.entries (with_state c.args.device c.args.state rows) (changed c) (keeps_with_state c.args.device c.args.state rows valid c.self.invariant.rows)
 
 -- session, start and end stay
 record Kept (old new : Inside) : Type 0 where

@@ -1,7 +1,7 @@
 use Rattle.site_means.specs.Answers.{FaultsAreCounted}
 use Rattle.site_means.specs.declared.site_error.SiteError.{SiteError}
 use Rattle.site_means.specs.declared.site_error.SiteError.TheVariants.{Fault}
-use Rattle.std.proofs.Common.{◌≡◌, ◌<◌, ℕ, Bool, Result, List, Ok, Err, sym, ap, subst, ◌∙◌, arith}
+use Rattle.std.proofs.Common.{rules, ◌≡◌, ◌<◌, ◌^◌, ℕ, Bool, Result, List, Ok, Err, sym, ap, subst, ◌∙◌, arith}
 use Rattle.crash_plant.specs.declared.device.Device.TheVariants.{Journal}
 use Rattle.pair_table.specs.Tables.{are_below}
 use Rattle.xrc_journal.specs.Items.{Item, form_of}
@@ -58,8 +58,8 @@ returns-in-Ok-Group-clause-passes g c = λ told.
     let items_are : items ≡ items_found found = ap (λ (h : Held). h.items) finds.held in
     let first = told_group self.at.set found time after (sym finds.told ∙ ap Ok c.in-Ok-Group.field-0-is) in
     let is : found ≡ Group time.0 items after = first ∙ ap (λ (l : List Item). Group time.0 l after) (sym items_are) in
-    let size = g.met.P.Plant.length_told c.args.plant.now (Journal self.at.set) told stands.set in
-    let places = subst (λ (l : List Item). HavePlaces self.at l) (sym items_are) (found_places (form_of old) old.journals journal self.at self.last.0 (omega (arith, size, c.length-valid.ensures))) in
+    let ends : after.place < 2 ^ 64 = search rules in
+    let places = subst (λ (l : List Item). HavePlaces self.at l) (sym items_are) (found_places (form_of old) old.journals journal self.at self.last.0 _ is ends) in
     let volumes = c.volumes-volumes.ensures in
     let below = ap (λ (n : ℕ). are_below n self.table.rows) volumes ∙ stands.below in
     let passes = c.pass_group.ensures.passes places in
@@ -93,8 +93,8 @@ returns-in-Err-Damaged-clause-passes g c = λ told.
     let items_are : items ≡ items_found found = ap (λ (h : Held). h.items) finds.held in
     let first = told_damaged self.at.set found _ place (sym finds.told ∙ ap Err c.in-Err-Damaged.field-0-is) in
     let is : found ≡ Damaged place items = first ∙ ap (λ (l : List Item). Damaged place l) (sym items_are) in
-    let size = g.met.P.Plant.length_told c.args.plant.now (Journal self.at.set) told stands.set in
-    let places = subst (λ (l : List Item). HavePlaces self.at l) (sym items_are) (found_places (form_of old) old.journals journal self.at self.last.0 (omega (arith, size, c.length-valid.ensures))) in
+    let ends : place < 2 ^ 64 = search rules in
+    let places = subst (λ (l : List Item). HavePlaces self.at l) (sym items_are) (found_places (form_of old) old.journals journal self.at self.last.0 _ is ends) in
     let volumes = c.volumes-volumes.ensures in
     let below = ap (λ (n : ℕ). are_below n self.table.rows) volumes ∙ stands.below in
     let passes = c.break_at.ensures.passes below places in
