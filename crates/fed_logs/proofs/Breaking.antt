@@ -24,7 +24,8 @@ use Rattle.told_tracks.specs.Told.{floor_of, has_changed}
 use Rattle.told_tracks.proofs.Keeping.{at_map, told_to_last}
 use Rattle.record_rows.specs.Deeds.{Deed, time_meant_behind}
 use Rattle.record_rows.specs.Deeds.Deed.{Logged, Changed, Marked}
-use Rattle.fed_logs.specs.Feeds.{IsFedBy, is_call_of, is_call_of_reader, part_of_mover}
+use Rattle.fed_logs.specs.Feeds.{IsFedBy, is_call_of_reader, part_of_mover}
+use Rattle.group_state.specs.Calls.{is_by_reader}
 use Rattle.fed_logs.specs.Moves.{AreQuiet, ShowsNothing, MayFollow, Plans, plans_with_shown, plans_without, IsLogged, KeepsShown, KeepsCall, IsKeptOn, MakesDeeds, is_break_of_control}
 use Rattle.fed_logs.specs.Logs.{IsFedLog, AwaitsBreak, is_call_of_seat}
 use Rattle.fed_logs.specs.Laws.{WasShown, ReportsBreak, BreaksCome}
@@ -56,7 +57,7 @@ told_up_to t b time is none = ltb-false b time (ap (λ (o : Option ℕ). is_belo
 broke_at : (t : Trace) (b : ℕ) (upto : Stamp) (cause : Cause) → break_time t ≡ Some b → break_of t ≡ Some (record { cause = cause; upto = upto.0 }) → upto.0 ≡ b
 broke_at t b upto cause is broken = same_Some upto.0 b (sym (ap (option_map (λ r. r.upto)) broken) ∙ is)
 
-awaits_read : (s next : Group) (call : Call) (reply : Reply) (k b : ℕ) (t : Trace) → break_time t ≡ Some b → May s call → WentRead s call reply next → (is_call_of k call ≡ true → has_changed reply ≡ true → IsFedBy t (floor_of s k) call) → AwaitsBreak s k b → AwaitsBreak next k b
+awaits_read : (s next : Group) (call : Call) (reply : Reply) (k b : ℕ) (t : Trace) → break_time t ≡ Some b → May s call → WentRead s call reply next → (is_by_reader k call ≡ true → has_changed reply ≡ true → IsFedBy t (floor_of s k) call) → AwaitsBreak s k b → AwaitsBreak next k b
 awaits_read s _ _ _ k b t is may (Same call reply none) fed h = h
 awaits_read s _ _ _ k b t is may (Joins batch) fed h =
     awaits_with s batch.control k b (joined batch)

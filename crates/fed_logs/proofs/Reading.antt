@@ -23,7 +23,8 @@ use Rattle.told_tracks.specs.Told.{HeldTracks, AllHold, TellsTruth, floor_of, ha
 use Rattle.told_tracks.proofs.Keeping.{at_map, form_keeps, steps_keep, done_is_told}
 use Rattle.record_rows.specs.Deeds.{Deed}
 use Rattle.record_rows.specs.Deeds.Deed.{Logged, Changed, Marked}
-use Rattle.fed_logs.specs.Feeds.{truth_of, floor_behind, IsFedBy, AreFedBy, is_call_of, is_answer_of, is_call_of_reader, part_of_reader}
+use Rattle.fed_logs.specs.Feeds.{truth_of, floor_behind, IsFedBy, AreFedBy, is_answer_of, is_call_of_reader, part_of_reader}
+use Rattle.group_state.specs.Calls.{is_by_reader}
 use Rattle.fed_logs.specs.Moves.{HasRowIn, IsDuplex, AreFewer, AreQuiet, MayFollow, ShowsNothing, Plans, plans_with_shown, plans_without}
 use Rattle.fed_logs.specs.Logs.{Sizes, is_of_size, IsFedLog, BeginsLog, is_call_of_seat}
 use Rattle.fed_logs.proofs.Writes.{fed_tell_truth}
@@ -41,7 +42,7 @@ floor_with s j k change floor low here there = at_with s j k change (λ c. c.flo
 
 -- the floor of a control after a call that is its own and changed the state, and after one of another control
 pub floor_next : (s next : Group) (call : Call) (reply : Reply) (k : ℕ) → WentRead s call reply next → k < length s.controls
-    → (is_call_of k call ≡ true → has_changed reply ≡ true → floor_of next k ≡ floor_behind (floor_of s k) call) × (is_call_of k call ≡ false → floor_of next k ≡ floor_of s k) × (has_changed reply ≡ false → floor_of next k ≡ floor_of s k)
+    → (is_by_reader k call ≡ true → has_changed reply ≡ true → floor_of next k ≡ floor_behind (floor_of s k) call) × (is_by_reader k call ≡ false → floor_of next k ≡ floor_of s k) × (has_changed reply ≡ false → floor_of next k ≡ floor_of s k)
 floor_next s _ _ _ k (Same call reply none) low = (λ own done. absurd (true≢false (sym done ∙ none)), λ other. refl, λ none. refl)
 floor_next s _ _ _ k (Joins b) low = (
   λ own done. floor_with s b.control k (joined b) b.upto.0 low (λ e. refl) (λ apart. absurd (true≢false (sym own ∙ apart))),
@@ -125,7 +126,7 @@ fed_own t k floor a run own done h = choose (is_answer_of k a) own (has_changed 
 -- whose a reader's call is
 record IsOwnOf (s : Group) (call : Call) : Type 0 where
   control : ℕ
-  own : is_call_of control call ≡ true
+  own : is_by_reader control call ≡ true
   low : control < length s.controls
 
 own_of : (s : Group) (call : Call) → is_call_of_reader call ≡ true → May s call → IsOwnOf s call

@@ -15,30 +15,18 @@ use Rattle.group_state.specs.declared.phase.Phase.TheVariants.{Telling, Broken, 
 use Rattle.group_state.specs.declared.volume.Volume.{Volume}
 use Rattle.group_state.specs.Volumes.{is_numbered, volume_of, has_volume, passes, wants, is_volume_done}
 use Rattle.group_state.specs.Controls.{ControlState, new_control, counts, is_telling, reported, reported_cause, reported_break, phase_after, formed, done_of}
-use Rattle.group_state.specs.Groups.{Group, control_at, formed_at, shown_at, are_numbered, has_few}
+use Rattle.group_state.specs.Groups.{Group, control_at, formed_at, shown_at}
 use Rattle.group_state.specs.Sound.{Sound, KeepsGroup, are_distinct, passes_or_none, has_joined}
 use Rattle.group_state.specs.HistoryLaws.{is_named}
 use Rattle.group_state.proofs.SoundLaws.{count_cons}
 use Rattle.group_state.proofs.FormLaws.{sound_formed}
 use Rattle.group_state.proofs.VolumeLaws.{has_found}
+use Rattle.group_state.proofs.OwnParts.{control_number}
 use Rattle.told_tracks.proofs.Keeping.{at_map}
 use Rattle.fed_logs.specs.Moves.{is_break_of_control, is_plan_shown_done}
 use Rattle.fed_logs.specs.Logs.{IsPlanDone}
 
 -- ---- parts of lists
-
-pub number_at : (first i : ℕ) (controls : List ControlState) (d : ControlState) → are_numbered first controls ≡ true → i < length controls → (get_or controls i d).queue.control ≡ first + i
-number_at first i [] d numbered low = absurd (omega (arith, low))
-number_at first zero (c ∷ controls) d numbered low =
-    let parts = and_parts (nat_eq c.queue.control first && has_few c) (are_numbered (first + 1) controls) numbered in
-    let is : c.queue.control ≡ first = eqb-true c.queue.control first (and_parts (nat_eq c.queue.control first) (has_few c) parts.0).0 in
-    is ∙ omega arith
-number_at first (suc i) (c ∷ controls) d numbered low =
-    let parts = and_parts (nat_eq c.queue.control first && has_few c) (are_numbered (first + 1) controls) numbered in
-    number_at (first + 1) i controls d parts.1 (omega (arith, low)) ∙ omega arith
-
-pub control_number : (s : Group) (k : ℕ) → KeepsGroup s → k < length s.controls → (control_at s k).queue.control ≡ k
-control_number s k keeps low = number_at 0 k s.controls (new_control 0 0 0) keeps.controls_kept.numbered low ∙ omega arith
 
 -- some item's part has one that passes
 record AnyAt {A B : Type 0} (p : B → Bool) (f : A → List B) (items : List A) (d : A) : Type 0 where

@@ -3,7 +3,7 @@ use Rattle.std.proofs.Common.{◌≡◌, ℕ, ◌<◌, Bool, true, false, not, c
 use Rattle.std.specs.Prelude.{slice_set}
 use Rattle.std.specs.List.{list_all}
 use Rattle.std.proofs.lemmas.Bool.{cases_Bool, and_parts, and_from, or_cases, eqb-true, eqb-false, eq-eqb}
-use Rattle.std.proofs.lemmas.List.{get_or_default, length-map, length-replicate}
+use Rattle.std.proofs.lemmas.List.{length-map, length-replicate}
 use Rattle.std.proofs.lemmas.List.Folds.{list_all-append}
 use Rattle.tod_stamp.specs.declared.stamp.Stamp.{Stamp}
 use Rattle.ckd_track.specs.declared.rec.Rec.{Rec}
@@ -23,7 +23,7 @@ use Rattle.group_state.specs.Machine.{Call, Reply}
 use Rattle.group_state.specs.Runs.{May}
 use Rattle.group_state.proofs.VolumeLaws.{Keeps, same_or_none}
 use Rattle.group_state.proofs.SoundLaws.{all_filter}
-use Rattle.group_state.proofs.Kept.{KeepsOne, kept_call, keeps_joined, keeps_copied, keeps_raised, keeps_broke, keeps_dropped}
+use Rattle.group_state.proofs.Kept.{kept_with, keeps_joined, keeps_copied, keeps_raised, keeps_broke, keeps_dropped}
 use Rattle.told_tracks.proofs.Tracks.{tested_with}
 use Rattle.told_tracks.proofs.Keeping.{at_map}
 use Rattle.fed_logs.specs.Moves.{HasRowIn, IsLive, IsDuplex, AreFewer, MayFollow, Plans, plans_with_shown, plans_without, is_plan_shown_done}
@@ -136,9 +136,6 @@ sized_form size s cut h = λ k v low.
     subst (λ (c : ControlState). IsSized (size k v) v c.volumes) (sym (at_map cut s.controls k was)) (sized_formed (size k v) v c.volumes (copies (due cut c.queue.waiting)) (h k v was))
 
 -- ---- what every state keeps
-
-kept_with : (s : Group) (k : ℕ) (change : ControlState → ControlState) → KeepsGroup s → k < length s.controls → KeepsOne s.last (change (control_at s k)) (control_at s k) → KeepsGroup (with_control k change s)
-kept_with s k change keeps low one = kept_call s s k (change (control_at s k)) (control_at s k) keeps refl low (get_or_default s.controls k (new_control 0 0 0) (control_at s k) low) (λ e. one)
 
 pub kept_read : (s next : Group) (call : Call) (reply : Reply) → May s call → WentRead s call reply next → KeepsGroup s → KeepsGroup next
 kept_read s _ _ _ may (Same call reply none) keeps = keeps

@@ -9,6 +9,7 @@ use Rattle.primary_ctl.specs.Primaries.{primary}
 use Rattle.group_state.specs.Groups.{Group}
 use Rattle.group_state.specs.Machine.{Call}
 use Rattle.group_state.specs.Machine.Call.{Join, NextWanted, Copied, Raise, Break, Form, Carry, Drop, Resume, Forget}
+use Rattle.group_state.specs.Calls.{is_by_reader, is_by_mover}
 use Rattle.group_state.specs.Runs.{Answer}
 use Rattle.told_tracks.specs.Told.{Truth, floor_of, has_changed, is_write_up_to}
 
@@ -60,20 +61,8 @@ AreFedBy t floor (answer ∷ run) = MatchBool (has_changed answer.reply) (IsFedB
 -- ---- whose a call is
 
 -- whether a call is one of a control's reader
-abbrev pub is_call_of : (control : ℕ) → Call → Bool
-is_call_of k (Join b) = b.control == k
-is_call_of k (NextWanted j) = j == k
-is_call_of k (Copied j v x at slot) = j == k
-is_call_of k (Raise j upto) = j == k
-is_call_of k (Break j upto cause) = j == k
-is_call_of k (Form limit) = false
-is_call_of k (Carry j v plan) = false
-is_call_of k (Drop j v all) = false
-is_call_of k (Resume j v) = false
-is_call_of k (Forget j v) = false
-
 abbrev pub is_answer_of : (control : ℕ) → Answer → Bool
-is_answer_of k answer = is_call_of k answer.call
+is_answer_of k answer = is_by_reader k answer.call
 
 -- whether a call is one of some reader
 abbrev pub is_call_of_reader : Call → Bool
@@ -89,20 +78,8 @@ is_call_of_reader (Resume k v) = false
 is_call_of_reader (Forget k v) = false
 
 -- whether a call is one that the mover makes while readers are beside it
-abbrev pub is_call_of_mover : Call → Bool
-is_call_of_mover (Join b) = false
-is_call_of_mover (NextWanted k) = false
-is_call_of_mover (Copied k v x at slot) = false
-is_call_of_mover (Raise k upto) = false
-is_call_of_mover (Break k upto cause) = false
-is_call_of_mover (Form limit) = true
-is_call_of_mover (Carry k v plan) = false
-is_call_of_mover (Drop k v all) = true
-is_call_of_mover (Resume k v) = false
-is_call_of_mover (Forget k v) = false
-
 abbrev pub is_answer_of_mover : Answer → Bool
-is_answer_of_mover answer = is_call_of_mover answer.call
+is_answer_of_mover answer = is_by_mover answer.call
 
 -- the mover's part of a run, and a reader's
 abbrev pub part_of_mover : List Answer → List Answer

@@ -14,7 +14,8 @@ use Rattle.told_tracks.specs.Told.{HeldTracks, TellsTruth, floor_of}
 use Rattle.record_rows.specs.Deeds.{Deed, rows_by_deed, rows_behind, time_meant_behind}
 use Rattle.fed_logs.specs.Deeds.{held_behind}
 use Rattle.record_rows.specs.Deeds.Deed.{Logged}
-use Rattle.fed_logs.specs.Feeds.{truth_of, part_of_mover, IsFedBy, is_call_of}
+use Rattle.fed_logs.specs.Feeds.{truth_of, part_of_mover, IsFedBy}
+use Rattle.group_state.specs.Calls.{is_by_reader}
 use Rattle.fed_logs.specs.Moves.{Plans, MayFollow, MakesDeeds, MakesAllDeeds, is_break_of_control}
 use Rattle.fed_logs.specs.Logs.{Sizes, IsFedLog, BeginsLog, HoldTruth, AwaitsBreak}
 
@@ -22,7 +23,7 @@ use Rattle.fed_logs.specs.Logs.{Sizes, IsFedLog, BeginsLog, HoldTruth, AwaitsBre
 
 -- A call that is fed by its control's trace tells what is true of the primary.
 abbrev pub FedTellTruth : Type 0
-FedTellTruth = (traces : List Trace) (s : Group) (call : Call) (k : ℕ) (t : Trace) → IsTrue (none_falls traces) → slice_get traces k ≡ Some t → IsTrue (is_call_of k call) → May s call
+FedTellTruth = (traces : List Trace) (s : Group) (call : Call) (k : ℕ) (t : Trace) → IsTrue (none_falls traces) → slice_get traces k ≡ Some t → IsTrue (is_by_reader k call) → May s call
     → IsFedBy t (floor_of s k) call → TellsTruth (truth_of traces) s call
 
 -- Behind each of the deeds each duplex row's volume holds its primary's tracks at the time that is then meant.

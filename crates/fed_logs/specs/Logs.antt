@@ -12,7 +12,8 @@ use Rattle.group_state.specs.Groups.{Group, control_at}
 use Rattle.group_state.specs.Sound.{KeepsGroup, passes_or_none}
 use Rattle.group_state.specs.Runs.{Answer, Runs}
 use Rattle.told_tracks.specs.Told.{Truth, HeldTracks, AllHold, floor_of}
-use Rattle.fed_logs.specs.Feeds.{truth_of, is_call_of_reader, is_call_of_mover, AllAreFed}
+use Rattle.fed_logs.specs.Feeds.{truth_of, is_call_of_reader, AllAreFed}
+use Rattle.group_state.specs.Calls.{is_by_mover}
 use Rattle.fed_logs.specs.Moves.{HasRowIn, IsLive, IsDuplex, Plans}
 
 -- how many tracks a control's volume has
@@ -28,7 +29,7 @@ AreSized size s = (k v : ℕ) → k < length s.controls → IsTrue (passes_or_no
 
 -- A call is a reader's or the mover's: no volume begins to be carried, is resumed or is forgotten.
 abbrev pub is_call_of_seat : Answer → Bool
-is_call_of_seat answer = is_call_of_reader answer.call || is_call_of_mover answer.call
+is_call_of_seat answer = is_call_of_reader answer.call || is_by_mover answer.call
 
 -- A plan is done: its volume is carried, no track of it is wanted, and no copied track of it waits.
 pub record IsPlanDone (v : ℕ) (c : ControlState) : Type 0 where

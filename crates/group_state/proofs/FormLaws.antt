@@ -15,8 +15,9 @@ use Rattle.group_state.specs.declared.volume.Volume.{Volume}
 use Rattle.group_state.specs.Volumes.{is_numbered, volume_of, has_volume, with_volume, passes, formed_track, with_formed_copy, with_formed_copies, is_volume_done, is_done_after, numbers_of}
 use Rattle.group_state.specs.Controls.{ControlState, formed, reported_break, done_of}
 use Rattle.group_state.specs.Groups.{with_news}
-use Rattle.group_state.specs.Sound.{passes_or_none, has_sizes, are_distinct, may_wait, is_entry_of, may_form, has_joined, CopiesAreCounted, Sound}
+use Rattle.group_state.specs.Sound.{passes_or_none, has_sizes, are_distinct, may_wait, is_entry_of, is_entry_of_control, may_form, has_joined, CopiesAreCounted, Sound}
 use Rattle.group_state.proofs.VolumeLaws.{distinct_with, all_with, or_none_with, none_found}
+use Rattle.pending_queue.proofs.EntryLaws.{left_never_falls}
 use Rattle.group_state.proofs.SoundLaws.{all_filter, entries_with, count_cons, swapped}
 
 -- ---- a form
@@ -84,6 +85,8 @@ sound_formed cut c s =
     let waiting = c.queue.waiting in
     let taken = copies (due cut waiting) in
     record {
+      own = all_filter (is_entry_of_control c.queue.control) (is_later cut) waiting s.own;
+      rises = left_never_falls cut waiting s.rises;
       stamps = all_filter (λ e. nat_le (entry_stamp e) c.floor.0) (is_later cut) waiting s.stamps;
       sizes = sizes_formed c.volumes taken s.sizes;
       distinct = distinct_formed c.volumes taken ∙ s.distinct;

@@ -1,5 +1,5 @@
 -- What every group state keeps, each call keeps.
-use Rattle.std.proofs.Common.{◌≡◌, ℕ, zero, suc, ◌+◌, ◌≤◌, ◌<◌, Bool, true, false, not, ◌||◌, cond, min, nat_eq, nat_le, List, [], ◌∷◌, length, get_or, set, map, Ok, Err, refl, sym, ap, subst, ◌∙◌, arith}
+use Rattle.std.proofs.Common.{◌≡◌, ℕ, zero, suc, ◌+◌, ◌≤◌, ◌<◌, Bool, true, false, not, ◌||◌, ◌&&◌, cond, min, nat_eq, nat_le, List, [], ◌∷◌, length, get_or, set, map, Ok, Err, refl, sym, ap, subst, ◌∙◌, arith}
 use Rattle.std.specs.Prelude.{Result, OnOk, OnErr, fold}
 use Rattle.std.specs.List.{list_all}
 use Rattle.std.proofs.lemmas.Bool.{and_parts, and_from, leb-true, le-leb}
@@ -14,8 +14,11 @@ use Rattle.copy_plan.specs.Plans.{PlanState}
 use Rattle.group_state.specs.declared.phase.Phase.{Phase}
 use Rattle.group_state.specs.declared.phase.Phase.TheVariants.{Telling, Broken, Reported}
 use Rattle.group_state.specs.Volumes.{is_wanted}
-use Rattle.group_state.specs.Controls.{ControlState, new_control, counts, is_telling, lesser, phase_after, joined, copied, raised, broke, begun_volume, dropped, resumed, forgotten, formed}
-use Rattle.group_state.specs.Groups.{Group, new_controls, control_at, formed_at, most_records}
+use Rattle.group_state.specs.Controls.{ControlState, new_control, counts, fits, fits_track, is_telling, lesser, phase_after, joined, copied, raised, broke, begun_volume, dropped, resumed, forgotten, formed}
+use Rattle.group_state.specs.Groups.{Group, new_controls, control_at, with_control, cut_of, formed_at, most_records}
+use Rattle.group_state.specs.Machine.{Call, group_after}
+use Rattle.group_state.specs.Machine.Call.{Join, NextWanted, Copied, Raise, Break, Form, Carry, Drop, Resume, Forget}
+use Rattle.group_state.specs.Runs.{May}
 use Rattle.group_state.specs.Sound.{Sound, has_told, KeepsGroup, is_track_within, MayTell, MayJoin, MayCarry, is_dropped}
 use Rattle.group_state.proofs.SoundLaws.{sound_joined, sound_copied, sound_raised, sound_broke, sound_begun, sound_dropped, sound_resumed, sound_forgotten}
 use Rattle.group_state.proofs.FormLaws.{all_at, sound_formed}
@@ -148,6 +151,32 @@ kept_form s limit cut is keeps = record {
       (λ i lt. sound_formed cut (control_at s i) (All-get_or Sound s.controls i (new_control 0 0 0) lt keeps.sound)));
   told = told_formed cut limit s.controls (omega (arith, is));
 }
+
+pub kept_with : (s : Group) (k : ℕ) (change : ControlState → ControlState) → KeepsGroup s → k < length s.controls → KeepsOne s.last (change (control_at s k)) (control_at s k) → KeepsGroup (with_control k change s)
+kept_with s k change keeps low one = kept_call s s k (change (control_at s k)) (control_at s k) keeps refl low (get_or_default s.controls k (new_control 0 0 0) (control_at s k) low) (λ e. one)
+
+-- ---- each call
+
+pub kept_next : (s : Group) (call : Call) → KeepsGroup s → May s call → KeepsGroup (group_after s call)
+kept_next s (Join b) keeps may = choose (fits (control_at s b.control) b)
+  where
+    choose : (t : Bool) → KeepsGroup (cond t (with_control b.control (joined b) s) s)
+    choose true = kept_with s b.control (joined b) keeps may.control (keeps_joined s.last b (control_at s b.control) may.legal)
+    choose false = keeps
+kept_next s (NextWanted k) keeps may = keeps
+kept_next s (Copied k v x at slot) keeps may = choose (is_wanted v x (control_at s k).volumes) (fits_track (control_at s k) slot) refl
+  where
+    choose : (t u : Bool) → is_wanted v x (control_at s k).volumes ≡ t → KeepsGroup (cond (t && u) (with_control k (copied v x at slot) s) s)
+    choose true true wanted = kept_with s k (copied v x at slot) keeps may.0 (keeps_copied s.last v x at slot (control_at s k) may.1.floor wanted may.1.track)
+    choose true false wanted = keeps
+    choose false u wanted = keeps
+kept_next s (Raise k upto) keeps may = kept_with s k (raised upto) keeps may.0 (keeps_raised s.last upto (control_at s k) may.1)
+kept_next s (Break k upto cause) keeps may = kept_with s k (broke upto cause) keeps may.0 (keeps_broke s.last upto cause (control_at s k) may.1)
+kept_next s (Form limit) keeps may = kept_form s limit.0 (cut_of s limit) refl keeps
+kept_next s (Carry k v plan) keeps may = kept_with s k (begun_volume v plan) keeps may.0 (keeps_begun s.last v plan (control_at s k) may.1)
+kept_next s (Drop k v all) keeps may = kept_with s k (dropped v all) keeps may (keeps_dropped s.last v all (control_at s k))
+kept_next s (Resume k v) keeps may = kept_with s k (resumed v) keeps may.0 (keeps_resumed s.last v (control_at s k) may.1)
+kept_next s (Forget k v) keeps may = kept_with s k (forgotten v) keeps may.0 (keeps_forgotten s.last v (control_at s k) may.1)
 
 -- ---- the first state
 

@@ -13,6 +13,7 @@ pub mod Elsewhere
 pub mod Controls
 pub mod Stands
 pub mod Kept
+pub mod OwnParts
 pub mod Forms
 pub mod Steps
 pub mod RunLaws

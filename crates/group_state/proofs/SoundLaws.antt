@@ -18,12 +18,14 @@ use Rattle.cut_core.specs.Legal.{are_in}
 use Rattle.change_map.specs.Sets.{no_track, has_track, with_track, without_track}
 use Rattle.change_map.proofs.InSets.{has_without}
 use Rattle.copy_plan.specs.Plans.{PlanState}
-use Rattle.pending_queue.specs.Entries.{WaitingEntry, entry_of, entries_of, copy_of, copy_head, entry_stamp, last_stamp_from, is_of_volume, is_copy_of, without_volume, entry_tracks}
+use Rattle.pending_queue.specs.Entries.{WaitingEntry, entry_of, entries_of, copy_of, copy_head, entry_stamp, last_stamp, last_stamp_from, is_of_volume, is_copy_of, without_volume, entry_tracks}
 use Rattle.pending_queue.specs.Maps.{with_tracks}
+use Rattle.pending_queue.proofs.EntryLaws.{pushed_never_fall}
+use Rattle.pending_queue.proofs.VolumeLaws.{carried_never_fall, pushed_rises, without_never_falls}
 use Rattle.group_state.specs.declared.volume.Volume.{Volume}
 use Rattle.group_state.specs.Volumes.{is_numbered, volume_of, has_volume, with_volume, without_number, passes, carries, is_carried, is_wanted, wants, begun, noted_write, with_write, with_writes, copied_track, dropped_map, dropped_volume, resumed_volume}
 use Rattle.group_state.specs.Controls.{ControlState, carried_writes, joined, copied, raised, broke, begun_volume, dropped, resumed, forgotten}
-use Rattle.group_state.specs.Sound.{passes_or_none, has_sizes, are_distinct, may_wait, is_entry_of, has_joined, are_up_to, Sound, is_track_within, are_within, MayTell, MayJoin, MayCarry, is_dropped}
+use Rattle.group_state.specs.Sound.{passes_or_none, has_sizes, are_distinct, may_wait, is_entry_of, is_entry_of_control, has_joined, are_up_to, Sound, is_track_within, are_within, MayTell, MayJoin, MayCarry, is_dropped}
 use Rattle.group_state.proofs.VolumeLaws.{Keeps, found_with, distinct_with, all_with, passes_with, same_or_none, or_none_with, none_found, has_found, found_behind, distinct_behind, distinct_without, all_without, found_without}
 use Rattle.ckd_track.specs.Writes.{is_earlier, writes_never_fall}
 
@@ -223,11 +225,33 @@ no_copies v k (w ∷ writes) = and_from (not (is_copy_of v (entry_of k w))) (lis
     never true = refl
     never false = refl
 
+-- a joined batch's stamps don't fall, from those that wait on
+writes_from : (last : ℕ) (writes : List Write) → list_all (λ w. nat_le last w.stamp.0) writes ≡ true → is_in_order is_earlier writes ≡ true → writes_never_fall last writes ≡ true
+writes_from last [] le order = refl
+writes_from last (w ∷ writes) le order =
+    let low = and_parts (nat_le last w.stamp.0) (list_all (λ w. nat_le last w.stamp.0) writes) le in
+    let rest = and_parts (list_all (λ x. not (is_earlier x w)) writes) (is_in_order is_earlier writes) order in
+    and_from (nat_le last w.stamp.0) (writes_never_fall w.stamp.0 writes) low.0
+    (writes_from w.stamp.0 writes (all_up (λ x. not (is_earlier x w)) (λ x. nat_le w.stamp.0 x.stamp.0) writes (λ x is. le-leb w.stamp.0 x.stamp.0 (ltb-false x.stamp.0 w.stamp.0 (not-true (nat_lt x.stamp.0 w.stamp.0) is))) rest.0) rest.1)
+
+pub batch_rises : (b : Batch) (c : ControlState) → Sound c → MayJoin c b → writes_never_fall (last_stamp_from 0 c.queue.waiting) b.writes ≡ true
+batch_rises b c s may =
+    let last = last_up_to c.floor 0 c.queue.waiting (omega arith) s.stamps in
+    writes_from (last_stamp_from 0 c.queue.waiting) b.writes
+    (all_up (λ w. nat_lt c.floor.0 w.stamp.0 && nat_le w.stamp.0 b.upto.0) (λ w. nat_le (last_stamp_from 0 c.queue.waiting) w.stamp.0) b.writes
+    (λ w is. le-leb (last_stamp_from 0 c.queue.waiting) w.stamp.0 (omega (arith, last, ltb-true c.floor.0 w.stamp.0 (and_parts (nat_lt c.floor.0 w.stamp.0) (nat_le w.stamp.0 b.upto.0) is).0))) may.within) may.order
+
+written_own : (k : ℕ) (writes : List Write) → list_all (is_entry_of_control k) (entries_of k writes) ≡ true
+written_own k [] = refl
+written_own k (w ∷ writes) = and_from (nat_eq k k) (list_all (is_entry_of_control k) (entries_of k writes)) (eq-eqb k k refl) (written_own k writes)
+
 pub sound_joined : (b : Batch) (c : ControlState) → Sound c → MayJoin c b → Sound (joined b c)
 sound_joined b c s may =
     let waiting = c.queue.waiting in
     let new = entries_of c.queue.control (carried_writes c b) in
     record {
+      own = all_joined (is_entry_of_control c.queue.control) waiting new s.own (written_own c.queue.control (carried_writes c b));
+      rises = pushed_never_fall c.queue.control 0 waiting (carried_writes c b) s.rises (carried_never_fall (λ w. is_carried c.volumes w) (last_stamp waiting) b.writes (batch_rises b c s may));
       stamps = all_joined (λ e. nat_le (entry_stamp e) b.upto.0) waiting new (later c.floor b.upto waiting may.tells.up s.stamps) (written_up_to c.queue.control c.floor.0 b.upto (is_carried c.volumes) b.writes may.within);
       sizes = sizes_written c.volumes b.writes s.sizes;
       distinct = distinct_written c.volumes b.writes ∙ s.distinct;
@@ -240,10 +264,10 @@ sound_joined b c s may =
 -- ---- a raise and a break
 
 pub sound_raised : (upto : Stamp) (c : ControlState) → Sound c → MayTell c upto → Sound (raised upto c)
-sound_raised upto c s may = record { stamps = later c.floor upto c.queue.waiting may.up s.stamps; sizes = s.sizes; distinct = s.distinct; entries = s.entries; counts = s.counts }
+sound_raised upto c s may = record { own = s.own; rises = s.rises; stamps = later c.floor upto c.queue.waiting may.up s.stamps; sizes = s.sizes; distinct = s.distinct; entries = s.entries; counts = s.counts }
 
 pub sound_broke : (upto : Stamp) (cause : Cause) (c : ControlState) → Sound c → MayTell c upto → Sound (broke upto cause c)
-sound_broke upto cause c s may = record { stamps = later c.floor upto c.queue.waiting may.up s.stamps; sizes = s.sizes; distinct = s.distinct; entries = s.entries; counts = s.counts }
+sound_broke upto cause c s may = record { own = s.own; rises = s.rises; stamps = later c.floor upto c.queue.waiting may.up s.stamps; sizes = s.sizes; distinct = s.distinct; entries = s.entries; counts = s.counts }
 
 -- ---- a copied track
 
@@ -291,7 +315,10 @@ sound_copied v x at recs c s floor wanted within =
     let waiting = c.queue.waiting in
     let e = copy_of (copy_head c.queue.control v x at) recs in
     let volumes = with_volume v (copied_track x) c.volumes in
+    let last : last_stamp waiting ≤ c.floor.0 = last_up_to c.floor 0 waiting (omega arith) s.stamps in
     record {
+      own = all_joined (is_entry_of_control c.queue.control) waiting (e ∷ []) s.own (and_from (nat_eq c.queue.control c.queue.control) true (eq-eqb c.queue.control c.queue.control refl) refl);
+      rises = pushed_rises 0 waiting e s.rises (subst (λ (f : Stamp). last_stamp waiting ≤ f.0) (sym floor) last);
       stamps = all_joined (λ e. nat_le (entry_stamp e) c.floor.0) waiting (e ∷ []) s.stamps (and_from (nat_le at.0 c.floor.0) true (le-leb at.0 c.floor.0 (omega (arith, ap (λ (t : Stamp). t.0) floor))) refl);
       sizes = all_with has_sizes v (copied_track x) (copied_sizes x) c.volumes s.sizes;
       distinct = distinct_with v (copied_track x) (λ u. refl) c.volumes ∙ s.distinct;
@@ -353,6 +380,8 @@ sound_begun v plan c s may =
     let u = begun v plan in
     let none = may.unknown in
     record {
+      own = s.own;
+      rises = s.rises;
       stamps = s.stamps;
       sizes = all_joined has_sizes c.volumes (u ∷ []) s.sizes (and_from (has_sizes u) true (eq-eqb (length (no_track (length plan.wanted))) (length plan.wanted) (length-replicate (length plan.wanted) false)) refl);
       distinct = distinct_behind c.volumes u none s.distinct;
@@ -411,6 +440,8 @@ sound_dropped v all c s =
     let others = without_volume v c.queue.waiting in
     let volumes = with_volume v (dropped_volume all tracks) c.volumes in
     record {
+      own = all_filter (is_entry_of_control c.queue.control) (λ e. not (is_of_volume v e)) c.queue.waiting s.own;
+      rises = without_never_falls v c.queue.waiting s.rises;
       stamps = all_filter (λ e. nat_le (entry_stamp e) c.floor.0) (λ e. not (is_of_volume v e)) c.queue.waiting s.stamps;
       sizes = all_with has_sizes v (dropped_volume all tracks) (λ u e. ap (λ n. nat_eq n (length u.plan.wanted)) (length_dropped all tracks u.map) ∙ e) c.volumes s.sizes;
       distinct = distinct_with v (dropped_volume all tracks) (λ u. refl) c.volumes ∙ s.distinct;
@@ -429,22 +460,6 @@ none_out v (x ∷ waiting) e =
     let parts = and_parts (not (is_of_volume v x)) (list_all (λ e. not (is_of_volume v e)) waiting) e in
     ap (λ (b : Bool). cond b (x ∷ without_volume v waiting) (without_volume v waiting)) parts.0 ∙ ap (λ (es : List WaitingEntry). x ∷ es) (none_out v waiting parts.1)
 
--- a joined batch's stamps don't fall, from those that wait on
-writes_from : (last : ℕ) (writes : List Write) → list_all (λ w. nat_le last w.stamp.0) writes ≡ true → is_in_order is_earlier writes ≡ true → writes_never_fall last writes ≡ true
-writes_from last [] le order = refl
-writes_from last (w ∷ writes) le order =
-    let low = and_parts (nat_le last w.stamp.0) (list_all (λ w. nat_le last w.stamp.0) writes) le in
-    let rest = and_parts (list_all (λ x. not (is_earlier x w)) writes) (is_in_order is_earlier writes) order in
-    and_from (nat_le last w.stamp.0) (writes_never_fall w.stamp.0 writes) low.0
-    (writes_from w.stamp.0 writes (all_up (λ x. not (is_earlier x w)) (λ x. nat_le w.stamp.0 x.stamp.0) writes (λ x is. le-leb w.stamp.0 x.stamp.0 (ltb-false x.stamp.0 w.stamp.0 (not-true (nat_lt x.stamp.0 w.stamp.0) is))) rest.0) rest.1)
-
-pub batch_rises : (b : Batch) (c : ControlState) → Sound c → MayJoin c b → writes_never_fall (last_stamp_from 0 c.queue.waiting) b.writes ≡ true
-batch_rises b c s may =
-    let last = last_up_to c.floor 0 c.queue.waiting (omega arith) s.stamps in
-    writes_from (last_stamp_from 0 c.queue.waiting) b.writes
-    (all_up (λ w. nat_lt c.floor.0 w.stamp.0 && nat_le w.stamp.0 b.upto.0) (λ w. nat_le (last_stamp_from 0 c.queue.waiting) w.stamp.0) b.writes
-    (λ w is. le-leb (last_stamp_from 0 c.queue.waiting) w.stamp.0 (omega (arith, last, ltb-true c.floor.0 w.stamp.0 (and_parts (nat_lt c.floor.0 w.stamp.0) (nat_le w.stamp.0 b.upto.0) is).0))) may.within) may.order
-
 -- what was written over a vector's items
 pub written_back : {A : Type 0} (len : ℕ) (new old : List A) → length new ≡ len → take len (new ++ old) ≡ new
 written_back len new old e = ap (λ k. take k (new ++ old)) (sym e) ∙ take-append_seam new old
@@ -459,6 +474,8 @@ sound_resumed v c s dropped =
     let waiting = c.queue.waiting in
     let none = none_waits v c.volumes waiting (dropped_none v c.volumes dropped) s.entries in
     record {
+      own = s.own;
+      rises = s.rises;
       stamps = s.stamps;
       sizes = all_with has_sizes v resumed_volume (λ u e. eq-eqb (length (no_track (length u.map))) (length u.map) (length-replicate (length u.map) false)) c.volumes s.sizes;
       distinct = distinct_with v resumed_volume (λ u. refl) c.volumes ∙ s.distinct;
@@ -475,6 +492,8 @@ sound_forgotten v c s dropped =
     let waiting = c.queue.waiting in
     let none = none_waits v c.volumes waiting (dropped_none v c.volumes dropped) s.entries in
     record {
+      own = s.own;
+      rises = s.rises;
       stamps = s.stamps;
       sizes = all_without has_sizes v c.volumes s.sizes;
       distinct = distinct_without v c.volumes s.distinct;

@@ -89,7 +89,7 @@ new_follows k records blocks = record {
 }
 
 pub new_sound : (k records blocks : ℕ) → Sound (new_control k records blocks)
-new_sound k records blocks = record { stamps = refl; sizes = refl; distinct = refl; entries = refl; counts = λ v. refl }
+new_sound k records blocks = record { own = refl; rises = refl; stamps = refl; sizes = refl; distinct = refl; entries = refl; counts = λ v. refl }
 
 pub stands_first : (n records blocks : ℕ) → Stands n [] (new_group n records blocks)
 stands_first n records blocks =

@@ -6,7 +6,7 @@ use Rattle.ckd_track.specs.declared.rec.Rec.{Rec}
 use Rattle.ckd_track.specs.declared.write.Batch.{Batch}
 use Rattle.ckd_track.specs.declared.write.Cause.{Cause}
 use Rattle.xrc_edge.specs.Order.{in_order}
-use Rattle.pending_queue.specs.Entries.{WaitingEntry, copy_head, copy_of, entry_stamp}
+use Rattle.pending_queue.specs.Entries.{WaitingEntry, copy_head, copy_of, due, entry_stamp}
 use Rattle.cut_core.specs.Events.{Event, floor, is_live, last_cut}
 use Rattle.cut_core.specs.Events.Event.{Form as Forms}
 use Rattle.cut_core.specs.Shares.{names_volume, share}
@@ -16,8 +16,8 @@ use Rattle.cut_core.specs.Cuts.{kept_writes}
 use Rattle.group_state.specs.declared.volume.Volume.{Volume}
 use Rattle.group_state.specs.Volumes.{volume_of}
 use Rattle.group_state.specs.Controls.{ControlState}
-use Rattle.group_state.specs.Groups.{Group, Shown, new_group, control_at}
-use Rattle.group_state.specs.Sound.{are_distinct}
+use Rattle.group_state.specs.Groups.{Group, Shown, new_group, control_at, shown_at}
+use Rattle.group_state.specs.Sound.{KeepsGroup, are_distinct, is_entry_of_control}
 use Rattle.group_state.specs.Machine.{Call, Reply}
 use Rattle.group_state.specs.Machine.Call.{Join, Copied, Break, Form, Carry, Resume}
 use Rattle.group_state.specs.Machine.Reply.{Made, Joined, Owed}
@@ -176,3 +176,10 @@ pub record IsComplete (before run : List Event) (shown : Shown) : Type 0 where
 abbrev pub FormsAreComplete : Type 0
 FormsAreComplete = (controls : ℕ) (before later : List Answer) (limit : Stamp) (shown : Shown) → HasForm controls before later limit shown
     → IsComplete (history before) (history before ++ Forms shown.cut.0 ∷ history later) shown
+
+-- ---- the parts of a group
+
+-- Of the entries that a form shows those of one control are what its queue had up to the cut, in order.
+abbrev pub FormsShowOwnParts : Type 0
+FormsShowOwnParts = (s : Group) (cut : Stamp) (k : ℕ) → KeepsGroup s → k < length s.controls
+    → filter (is_entry_of_control k) (shown_at cut s).entries ≡ due cut (control_at s k).queue.waiting

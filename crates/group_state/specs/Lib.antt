@@ -3,6 +3,7 @@ pub mod Controls
 pub mod Groups
 pub mod Sound
 pub mod Machine
+pub mod Calls
 pub mod Answers
 pub mod Runs
 pub mod Follows

@@ -8,7 +8,7 @@ use Rattle.xrc_edge.specs.Order.{is_in_order}
 use Rattle.cut_core.specs.Legal.{are_in}
 use Rattle.change_map.specs.Sets.{has_track}
 use Rattle.copy_plan.specs.Plans.{PlanState}
-use Rattle.pending_queue.specs.Entries.{WaitingEntry, entry_stamp, is_copy_of}
+use Rattle.pending_queue.specs.Entries.{WaitingEntry, entries_never_fall, entry_stamp, is_copy_of}
 use Rattle.pending_queue.specs.Groups.{most_done_of_control}
 use Rattle.group_state.specs.declared.volume.Volume.{Volume}
 use Rattle.group_state.specs.Volumes.{volume_of, has_volume, passes}
@@ -54,7 +54,14 @@ CopiesAreCounted waiting volumes = (v : ℕ) → IsTrue (passes_or_none (has_joi
 abbrev pub are_up_to : (time : Stamp) → List WaitingEntry → Bool
 are_up_to time entries = list_all (λ e. nat_le (entry_stamp e) time.0) entries
 
+-- whether an entry is a control's
+abbrev pub is_entry_of_control : (control : ℕ) → WaitingEntry → Bool
+is_entry_of_control k e = e.head.control == k
+
 pub record Sound (c : ControlState) : Type 0 where
+  -- the entries are the control's own, and their stamps don't fall
+  pub own : IsTrue (list_all (is_entry_of_control c.queue.control) c.queue.waiting)
+  pub rises : IsTrue (entries_never_fall 0 c.queue.waiting)
   -- no entry is above the floor
   pub stamps : IsTrue (are_up_to c.floor c.queue.waiting)
   pub sizes : IsTrue (list_all has_sizes c.volumes)

@@ -1,6 +1,6 @@
 //! The laws of runs.
 
-ghost use Rattle.group_state.specs.HistoryLaws.{RunsAreHistories, FormsGiveGroups, BreaksWereTold, CopiesWereTold, DonePlansAreShown, SizesAreTold, NumbersAreKept, ResumesOweMapped, NoLateJoin, FormsAreComplete};
+ghost use Rattle.group_state.specs.HistoryLaws.{RunsAreHistories, FormsGiveGroups, BreaksWereTold, CopiesWereTold, DonePlansAreShown, SizesAreTold, NumbersAreKept, ResumesOweMapped, NoLateJoin, FormsAreComplete, FormsShowOwnParts};
 
 /// A run of calls is a legal history, and what the state keeps after it is the history's: floors, breaks, the last cut, what is
 /// carried, wanted and mapped, and what waits. So the theorem on cuts speaks of this state.
@@ -35,4 +35,9 @@ pub fn resumes_owe_mapped()
 pub fn runs_keep_to_cuts()
     ensures no_late_join { NoLateJoin }
     ensures complete { FormsAreComplete }
+{}
+
+/// A form takes from each control what was due there, in order.
+pub fn forms_show_own_parts()
+    ensures { FormsShowOwnParts }
 {}

@@ -12,7 +12,8 @@ mod volume;
 mod volumes;
 
 pub use history_laws::{
-    forms_give_groups, resumes_owe_mapped, runs_are_histories, runs_keep_to_cuts, sizes_are_told,
+    forms_give_groups, forms_show_own_parts, resumes_owe_mapped, runs_are_histories,
+    runs_keep_to_cuts, sizes_are_told,
 };
 pub use joining::{CopyJoin, Forming, Joining, RunJoin};
 pub use state::GroupState;

@@ -7,7 +7,6 @@ ghost use Rattle.ckd_track.specs.declared.write.Batch.{Batch as BatchIs};
 ghost use Rattle.change_map.specs.Sets.{size};
 ghost use Rattle.pending_queue.specs.declared.room.Room.{Room};
 ghost use Rattle.pending_queue.specs.Entries.{all_keep_rules};
-ghost use Rattle.std.specs.List.{All};
 ghost use Rattle.group_state.specs.declared.joining.Joining.TheVariants as joining;
 ghost use Rattle.group_state.specs.declared.joining.RunJoin.TheVariants as running;
 ghost use Rattle.group_state.specs.declared.joining.CopyJoin.TheVariants as copying;
@@ -15,7 +14,7 @@ ghost use Rattle.group_state.specs.declared.joining.Forming.TheVariants as formi
 ghost use Rattle.group_state.specs.Volumes.{volume_of, is_wanted, next_wanted, owed};
 ghost use Rattle.group_state.specs.Controls.{is_telling, fits, fits_track, room_of};
 ghost use Rattle.group_state.specs.Groups.{new_group, control_at, cut_of, gives_nothing, shown_at, shown_in};
-ghost use Rattle.group_state.specs.Sound.{Sound, HaveTold, MayTell, MayJoin, MayCarry, is_track_within, is_dropped};
+ghost use Rattle.group_state.specs.Sound.{KeepsGroup, MayTell, MayJoin, MayCarry, is_track_within, is_dropped};
 ghost use Rattle.group_state.specs.Machine.{steps, Reply};
 ghost use Rattle.group_state.specs.Machine.Call.{Join, NextWanted, Copied, Raise, Break, Form, Carry, Drop, Resume, Forget};
 ghost use Rattle.group_state.specs.Machine.Reply.{Made, Wanted, Owed};
@@ -85,8 +84,7 @@ impl GroupState {
         ensures some { 1 ≤ result }
         ensures few { result ≤ MOST_CONTROLS }
         // What every group state keeps.
-        ensures sound { All Sound self.now.controls }
-        ensures told { HaveTold self.now.last self.now.controls }
+        ensures kept { KeepsGroup self.now }
     {
         self.controls.len() as u16
     }

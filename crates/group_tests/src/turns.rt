@@ -49,24 +49,31 @@ fn read_all<R: Abort + Wait>(rt: &R, alloc: Global, group: &TurnGroup, seat: &mu
     }
 }
 
-/// Forms groups while readers join, and counts what they show.
+/// Notes the control and the stamp of each entry that a group shows.
+fn note_shown(rt: &impl Abort, out: &Formed, shown: &mut Vec<(u16, Stamp)>) {
+    for place in 0..out.count() {
+        let head = out.head(place);
+        shown.push((head.control, head.stamp)).expect(rt, "memory");
+    }
+}
+
+/// Forms groups while readers join, and notes what they show.
 fn form_some<R: Abort + Wait>(
     rt: &R,
     group: &TurnGroup,
     seat: &mut MoverSeat,
     out: &mut Formed,
-) -> u64
+    shown: &mut Vec<(u16, Stamp)>,
+)
     requires moves { MovesUpTo group.now.table BATCHES seat.old }
     requires room { 3 ≤ out.old.controls }
     ensures moves { MovesUpTo group.now.table BATCHES seat.new }
     ensures room { out.new.controls ≡ out.old.controls }
 {
-    let mut shown = 0;
     for _ in 0..BATCHES {
         group.form(rt, seat, Stamp(BATCHES), out);
-        shown = u64::saturating_add(shown, u64::from(out.count()));
+        note_shown(rt, out, shown);
     }
-    shown
 }
 
 /// One reader beside the mover.
@@ -77,7 +84,8 @@ fn read_and_form<R: Abort + Threads + Wait + Sync>(
     reader: &mut ReaderSeat,
     seat: &mut MoverSeat,
     out: &mut Formed,
-) -> u64
+    shown: &mut Vec<(u16, Stamp)>,
+)
     requires reads { ReadsUpTo group.now.table 0 reader.old }
     requires moves { MovesUpTo group.now.table BATCHES seat.old }
     requires room { 3 ≤ out.old.controls }
@@ -86,18 +94,17 @@ fn read_and_form<R: Abort + Threads + Wait + Sync>(
     ensures moves { MovesUpTo group.now.table BATCHES seat.new }
     ensures room { out.new.controls ≡ out.old.controls }
 {
-    let ((), shown) = join_mut(
+    join_mut(
         rt,
         &mut || -> ()
             requires { IsSync R.row × ReadsUpTo group.now.table 0 reader.now }
             ensures { ReadsUpTo group.entry.now.table BATCHES reader.exit.now × (reader.exit.now.control ≡ reader.entry.now.control) }
         { read_all(rt, alloc, group, reader) },
-        &mut || -> u64
+        &mut || -> ()
             requires { MovesUpTo group.now.table BATCHES seat.now × (3 ≤ out.now.controls) }
             ensures { MovesUpTo group.entry.now.table BATCHES seat.exit.now × (out.exit.now.controls ≡ out.entry.now.controls) }
-        { form_some(rt, group, seat, out) },
+        { form_some(rt, group, seat, out, shown) },
     );
-    shown
 }
 
 /// Two readers beside each other.
@@ -136,7 +143,8 @@ fn read_three<R: Abort + Threads + Wait + Sync>(
     third: &mut ReaderSeat,
     mover: &mut MoverSeat,
     out: &mut Formed,
-) -> u64
+    shown: &mut Vec<(u16, Stamp)>,
+)
     requires first { ReadsUpTo group.now.table 0 first.old }
     requires second { ReadsUpTo group.now.table 0 second.old }
     requires third { ReadsUpTo group.now.table 0 third.old }
@@ -148,40 +156,88 @@ fn read_three<R: Abort + Threads + Wait + Sync>(
     ensures moves { MovesUpTo group.now.table BATCHES mover.new }
     ensures room { out.new.controls ≡ out.old.controls }
 {
-    let ((), shown) = join_mut(
+    join_mut(
         rt,
         &mut || -> ()
             requires { IsSync R.row × ReadsUpTo group.now.table 0 first.now × ReadsUpTo group.now.table 0 second.now }
             ensures { ReadsUpTo group.entry.now.table BATCHES first.exit.now × (first.exit.now.control ≡ first.entry.now.control) × ReadsUpTo group.entry.now.table BATCHES second.exit.now × (second.exit.now.control ≡ second.entry.now.control) }
         { read_both(rt, alloc, group, first, second) },
-        &mut || -> u64
+        &mut || -> ()
             requires { IsSync R.row × ReadsUpTo group.now.table 0 third.now × MovesUpTo group.now.table BATCHES mover.now × (3 ≤ out.now.controls) }
             ensures { ReadsUpTo group.entry.now.table BATCHES third.exit.now × (third.exit.now.control ≡ third.entry.now.control) × MovesUpTo group.entry.now.table BATCHES mover.exit.now × (out.exit.now.controls ≡ out.entry.now.controls) }
-        { read_and_form(rt, alloc, group, third, mover, out) },
+        { read_and_form(rt, alloc, group, third, mover, out, shown) },
     );
-    shown
 }
 
-#[test]
-fn readers_join_beside_the_mover(rt: HostRuntime) {
-    let alloc = rt.alloc();
-    let state = three_controls(&rt, alloc);
-    let mut out = Formed::make(alloc, 3).expect(&rt, "memory");
-    let (group, mut mover, mut seats) = TurnGroup::make(alloc, state).expect(&rt, "memory");
-    let mut a = seats.take(0).expect(&rt, "seat");
-    let mut b = seats.take(1).expect(&rt, "seat");
-    let mut c = seats.take(2).expect(&rt, "seat");
-    let before = read_three(
-        &rt, alloc, &group, &mut a, &mut b, &mut c, &mut mover, &mut out,
-    );
-    let last = form_some(&rt, &group, &mut mover, &mut out);
-    let shown = u64::saturating_add(before, last);
-    assert_same(&rt, &shown, &(3 * BATCHES), &"shown");
+/// The same calls one after another, each reader's in turn and then the mover's.
+fn read_in_turn<R: Abort + Wait>(
+    rt: &R,
+    alloc: Global,
+    group: &TurnGroup,
+    first: &mut ReaderSeat,
+    second: &mut ReaderSeat,
+    third: &mut ReaderSeat,
+    mover: &mut MoverSeat,
+    out: &mut Formed,
+    shown: &mut Vec<(u16, Stamp)>,
+)
+    requires first { ReadsUpTo group.now.table 0 first.old }
+    requires second { ReadsUpTo group.now.table 0 second.old }
+    requires third { ReadsUpTo group.now.table 0 third.old }
+    requires moves { MovesUpTo group.now.table BATCHES mover.old }
+    requires room { 3 ≤ out.old.controls }
+    ensures first { ReadsUpTo group.now.table BATCHES first.new × (first.new.control ≡ first.old.control) }
+    ensures second { ReadsUpTo group.now.table BATCHES second.new × (second.new.control ≡ second.old.control) }
+    ensures third { ReadsUpTo group.now.table BATCHES third.new × (third.new.control ≡ third.old.control) }
+    ensures moves { MovesUpTo group.now.table BATCHES mover.new }
+    ensures room { out.new.controls ≡ out.old.controls }
+{
+    read_all(rt, alloc, group, first);
+    read_all(rt, alloc, group, second);
+    read_all(rt, alloc, group, third);
+    form_some(rt, group, mover, out, shown);
+}
+
+/// What groups show of the batches of three readers, on threads or one after another.
+fn shown_by<R: Abort + Threads + Wait + Sync>(
+    rt: &R,
+    alloc: Global,
+    on_threads: bool,
+) -> Vec<(u16, Stamp)> {
+    let state = three_controls(rt, alloc);
+    let mut out = Formed::make(alloc, 3).expect(rt, "memory");
+    let mut shown = Vec::new(alloc);
+    let (group, mut mover, mut seats) = TurnGroup::make(alloc, state).expect(rt, "memory");
+    let mut a = seats.take(0).expect(rt, "seat");
+    let mut b = seats.take(1).expect(rt, "seat");
+    let mut c = seats.take(2).expect(rt, "seat");
+    let (out, log) = (&mut out, &mut shown);
+    if on_threads {
+        read_three(
+            rt, alloc, &group, &mut a, &mut b, &mut c, &mut mover, out, log,
+        );
+    } else {
+        read_in_turn(
+            rt, alloc, &group, &mut a, &mut b, &mut c, &mut mover, out, log,
+        );
+    }
+    form_some(rt, &group, &mut mover, out, log);
     seats.put(a);
     seats.put(b);
     seats.put(c);
     let end = group.close(mover, seats);
-    assert_same(&rt, &end.controls(), &3, &"controls");
+    assert_same(rt, &end.controls(), &3, &"controls");
+    shown
+}
+
+/// The groups show the same entries in the same order, however the threads' calls come between each other.
+#[test]
+fn readers_join_beside_the_mover(rt: HostRuntime) {
+    let alloc = rt.alloc();
+    let in_turn = shown_by(&rt, alloc, false);
+    let on_threads = shown_by(&rt, alloc, true);
+    assert_same(&rt, &(in_turn.len() as u64), &(3 * BATCHES), &"shown");
+    assert_same(&rt, &on_threads, &in_turn, &"on threads");
 }
 
 /// Joins a batch that is held where it doesn't fit.

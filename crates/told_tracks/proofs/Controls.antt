@@ -2,7 +2,7 @@
 use Rattle.std.proofs.Common.{◌≡◌, ℕ, ◌<◌, ◌≤◌, Bool, true, false, not, cond, nat_eq, nat_lt, nat_le, ◌&&◌, ◌||◌, List, [], ◌∷◌, ◌++◌, length, Option, Some, ◌⊎◌, inl, inr, refl, sym, ap, subst, ◌∙◌, arith, true≢false}
 use Rattle.std.specs.Prelude.{filter, map}
 use Rattle.std.specs.List.{list_all}
-use Rattle.std.proofs.lemmas.Bool.{cases_Bool, cases_lt, and_parts, and_from, eqb-true, eqb-false, eq-eqb, ltb-true, lt-ltb, le-ltb, leb-true, le-leb, lt-leb}
+use Rattle.std.proofs.lemmas.Bool.{cases_Bool, cases_lt, and_parts, and_from, eqb-true, eqb-false, ltb-true, lt-ltb, le-ltb, leb-true, le-leb, lt-leb}
 use Rattle.std.proofs.lemmas.List.Folds.{list_all-append}
 use Rattle.tod_stamp.specs.declared.stamp.Stamp.{Stamp}
 use Rattle.ckd_track.specs.declared.rec.Rec.{Rec}
@@ -12,9 +12,8 @@ use Rattle.ckd_track.specs.Effects.{apply}
 use Rattle.cut_core.specs.Legal.{are_in}
 use Rattle.change_map.specs.Sets.{has_track}
 use Rattle.copy_plan.specs.Plans.{PlanState}
-use Rattle.pending_queue.specs.Entries.{WaitingEntry, entry_stamp, entry_of, entries_of, copy_of, copy_head, last_stamp, is_later, due, left, is_of_volume, without_volume, entry_tracks, is_queued_on}
-use Rattle.pending_queue.proofs.EntryLaws.{left_never_falls, pushed_never_fall, each_once}
-use Rattle.pending_queue.proofs.VolumeLaws.{without_never_falls, carried_never_fall, pushed_rises}
+use Rattle.pending_queue.specs.Entries.{WaitingEntry, entry_stamp, entry_of, entries_of, copy_of, copy_head, due, left, is_of_volume, without_volume, entry_tracks, is_queued_on}
+use Rattle.pending_queue.proofs.EntryLaws.{each_once}
 use Rattle.image_former.specs.Changes.{changed_by}
 use Rattle.primary_ctl.specs.States.{after_writes}
 use Rattle.group_state.specs.declared.phase.Phase.{Phase}
@@ -22,8 +21,8 @@ use Rattle.group_state.specs.declared.volume.Volume.{Volume}
 use Rattle.group_state.specs.Volumes.{passes, carries, volume_of, is_carried, wants}
 use Rattle.group_state.specs.Controls.{ControlState, carried_writes, joined, copied, dropped, formed, begun_volume, resumed, forgotten}
 use Rattle.group_state.specs.Sound.{Sound, MayTell, MayJoin, is_dropped}
-use Rattle.group_state.proofs.SoundLaws.{all_filter, last_up_to, batch_rises}
-use Rattle.told_tracks.specs.Told.{after_entries, is_queued_up_to, is_write_up_to, is_entry_of_control, is_no_later_copy, has_no_later_copy, HoldsTold}
+use Rattle.group_state.proofs.SoundLaws.{all_filter}
+use Rattle.told_tracks.specs.Told.{after_entries, is_queued_up_to, is_write_up_to, is_no_later_copy, has_no_later_copy, HoldsTold}
 use Rattle.told_tracks.proofs.Entries.{changed_append, changed_none, changed_filter, up_to_later}
 use Rattle.told_tracks.proofs.Tracks.{settled_in, settled_carries, settled_writes, settled_copies, settled_copied, settled_dropped, settled_begun, settled_resumed, settled_forgotten}
 
@@ -118,20 +117,11 @@ floor_copies v x floor (e ∷ entries) all =
     either true b e = refl
     either false b e = e
 
-own_entries : (k : ℕ) (writes : List Write) → list_all (is_entry_of_control k) (entries_of k writes) ≡ true
-own_entries k [] = refl
-own_entries k (w ∷ writes) = and_from (nat_eq k k) (list_all (is_entry_of_control k) (entries_of k writes)) (eq-eqb k k refl) (own_entries k writes)
-
-own_behind : (k : ℕ) (entries more : List WaitingEntry) → list_all (is_entry_of_control k) entries ≡ true → list_all (is_entry_of_control k) more ≡ true → list_all (is_entry_of_control k) (entries ++ more) ≡ true
-own_behind k entries more all rest = list_all-append (is_entry_of_control k) entries more ∙ and_from (list_all (is_entry_of_control k) entries) (list_all (is_entry_of_control k) more) all rest
-
 pub joins : (truth : Tracks) (last : ℕ) (held : Kept) (c : ControlState) (b : Batch) → Sound c → MayJoin c b → last ≤ c.floor.0
     → ((v x t : ℕ) → c.floor.0 ≤ t → t ≤ b.upto.0 → truth v x t ≡ after_writes (truth v x c.floor.0) (filter (is_write_up_to v x t) b.writes)) → HoldsTold truth last held c → HoldsTold truth last held (joined b c)
 joins truth last held c b sound may low tells h =
     let new = entries_of c.queue.control (carried_writes c b) in
     record {
-      own = own_behind c.queue.control c.queue.waiting new h.own (own_entries c.queue.control (carried_writes c b));
-      rising = pushed_never_fall c.queue.control 0 c.queue.waiting (carried_writes c b) h.rising (carried_never_fall (is_carried c.volumes) (last_stamp c.queue.waiting) b.writes (batch_rises b c sound may));
       holds = λ v x t settled copies from to.
           let was = settled_writes v x c.volumes b.writes settled in
           let first = and_parts (has_no_later_copy v x t c.queue.waiting) (has_no_later_copy v x t new) (sym (list_all-append (is_no_later_copy v x t) c.queue.waiting new) ∙ copies) in
@@ -158,8 +148,6 @@ joins truth last held c b sound may low tells h =
 -- An entry that isn't on a track leaves it as it is.
 pub copies_in : (truth : Tracks) (last : ℕ) (held : Kept) (c : ControlState) (w y : ℕ) (at : Stamp) (recs : List Rec) → Sound c → at ≡ c.floor → recs ≡ truth w y at.0 → HoldsTold truth last held c → HoldsTold truth last held (copied w y at recs c)
 copies_in truth last held c w y at recs sound floor tells h = record {
-  own = own_behind c.queue.control c.queue.waiting (copy_of (copy_head c.queue.control w y at) recs ∷ []) h.own (and_from (nat_eq c.queue.control c.queue.control) true (eq-eqb c.queue.control c.queue.control refl) refl);
-  rising = pushed_rises 0 c.queue.waiting (copy_of (copy_head c.queue.control w y at) recs) h.rising (omega (arith, last_up_to c.floor 0 c.queue.waiting (omega arith) sound.stamps, ap (λ (s : Stamp). s.0) floor));
   holds = λ v x t carried copies from to.
       let new : WaitingEntry = copy_of (copy_head c.queue.control w y at) recs in
       let parts = and_parts (has_no_later_copy v x t c.queue.waiting) (has_no_later_copy v x t (new ∷ [])) (sym (list_all-append (is_no_later_copy v x t) c.queue.waiting (new ∷ [])) ∙ copies) in
@@ -181,8 +169,6 @@ copies_in truth last held c w y at recs sound floor tells h = record {
 pub tells_upto : (truth : Tracks) (last : ℕ) (held : Kept) (c : ControlState) (upto : Stamp) (phase : Phase) → Sound c → MayTell c upto → last ≤ c.floor.0
     → ((v x t : ℕ) → c.floor.0 ≤ t → t ≤ upto.0 → truth v x t ≡ truth v x c.floor.0) → HoldsTold truth last held c → HoldsTold truth last held (record c { floor = upto; phase = phase })
 tells_upto truth last held c upto phase sound may low tells h = record {
-  own = h.own;
-  rising = h.rising;
   holds = λ v x t settled copies from to. elim (cases_lt c.floor.0 t) [
     | inl later ↦
         up_to_later v x c.floor.0 t c.queue.waiting (held v x) (omega (arith, later)) sound.stamps
@@ -196,8 +182,6 @@ tells_upto truth last held c upto phase sound may low tells h = record {
 
 pub drops : (truth : Tracks) (last : ℕ) (held : Kept) (c : ControlState) (w : ℕ) (all : Bool) → (all ≡ false → (y : ℕ) → passes (wants y) (volume_of w c.volumes) ≡ false) → HoldsTold truth last held c → HoldsTold truth last held (dropped w all c)
 drops truth last held c w all none h = record {
-  own = all_filter (is_entry_of_control c.queue.control) (λ e. not (is_of_volume w e)) c.queue.waiting h.own;
-  rising = without_never_falls w c.queue.waiting h.rising;
   holds = λ v x t settled copies from to.
       let was = settled_dropped w v x all (entry_tracks w c.queue.waiting) c.volumes none settled in
       elim (cases_Bool (nat_eq w v)) [
@@ -273,16 +257,14 @@ drops truth last held c w all none h = record {
 
 -- ---- a form
 
-pub forms : (truth : Tracks) (last : ℕ) (cut : Stamp) (held : Kept) (c : ControlState) → last ≤ cut.0 → HoldsTold truth last held c
+pub forms : (truth : Tracks) (last : ℕ) (cut : Stamp) (held : Kept) (c : ControlState) → Sound c → last ≤ cut.0 → HoldsTold truth last held c
     → HoldsTold truth cut.0 (λ v x. after_entries (is_queued_on v x) (due cut c.queue.waiting) (held v x)) (formed cut c)
-forms truth last cut held c rises h = record {
-  own = all_filter (is_entry_of_control c.queue.control) (is_later cut) c.queue.waiting h.own;
-  rising = left_never_falls cut c.queue.waiting h.rising;
+forms truth last cut held c sound rises h = record {
   holds = λ v x t settled copies from to.
       let was = sym (settled_copies v x c.volumes (filter (λ e. e.is_copy) (due cut c.queue.waiting))) ∙ settled in
       ap (after_entries (is_queued_up_to v x t) (left cut c.queue.waiting)) (taken v x t from c.queue.waiting (held v x))
       ∙ sym (changed_append (is_queued_up_to v x t) (due cut c.queue.waiting) (left cut c.queue.waiting) (held v x))
-      ∙ ap (λ (es : List WaitingEntry). after_entries (is_queued_up_to v x t) es (held v x)) (each_once cut 0 c.queue.waiting h.rising)
+      ∙ ap (λ (es : List WaitingEntry). after_entries (is_queued_up_to v x t) es (held v x)) (each_once cut 0 c.queue.waiting sound.rises)
       ∙ h.holds v x t was (all_copies v x t from c.queue.waiting copies) (omega (arith, rises, from)) to;
 }
   where
@@ -321,10 +303,10 @@ forms truth last cut held c rises h = record {
 -- ---- a carry, a resume and a forget
 
 pub begins : (truth : Tracks) (last : ℕ) (held : Kept) (c : ControlState) (w : ℕ) (plan : PlanState) → ((x : ℕ) → x < length plan.wanted → has_track plan.wanted x ≡ true) → HoldsTold truth last held c → HoldsTold truth last held (begun_volume w plan c)
-begins truth last held c w plan every h = record { own = h.own; rising = h.rising; holds = λ v x t settled copies from to. h.holds v x t (settled_begun w v x plan c.volumes every settled) copies from to }
+begins truth last held c w plan every h = record { holds = λ v x t settled copies from to. h.holds v x t (settled_begun w v x plan c.volumes every settled) copies from to }
 
 pub resumes : (truth : Tracks) (last : ℕ) (held : Kept) (c : ControlState) (w : ℕ) → is_dropped w c.volumes ≡ true → HoldsTold truth last held c → HoldsTold truth last held (resumed w c)
-resumes truth last held c w dropped h = record { own = h.own; rising = h.rising; holds = λ v x t settled copies from to. h.holds v x t (sym (settled_resumed w v x c.volumes dropped) ∙ settled) copies from to }
+resumes truth last held c w dropped h = record { holds = λ v x t settled copies from to. h.holds v x t (sym (settled_resumed w v x c.volumes dropped) ∙ settled) copies from to }
 
 pub forgets : (truth : Tracks) (last : ℕ) (held : Kept) (c : ControlState) (w : ℕ) → Sound c → HoldsTold truth last held c → HoldsTold truth last held (forgotten w c)
-forgets truth last held c w sound h = record { own = h.own; rising = h.rising; holds = λ v x t settled copies from to. h.holds v x t (settled_forgotten w v x c.volumes sound.distinct settled) copies from to }
+forgets truth last held c w sound h = record { holds = λ v x t settled copies from to. h.holds v x t (settled_forgotten w v x c.volumes sound.distinct settled) copies from to }

@@ -21,10 +21,11 @@ use Rattle.group_state.specs.Machine.Reply.{Joined, Held, Formed, Nothing}
 use Rattle.group_state.specs.Runs.{May}
 use Rattle.group_state.proofs.FormLaws.{all_at}
 use Rattle.group_state.proofs.Kept.{kept_form}
+use Rattle.group_state.proofs.OwnParts.{own_part}
 use Rattle.told_tracks.specs.Told.{Truth, HeldTracks, TellsTruth, HoldsTold, AllHold, has_changed, after_entries, is_queued_up_to, held_behind_group, held_after}
 use Rattle.told_tracks.specs.Laws.{StepsKeep, DoneIsTold}
 use Rattle.told_tracks.proofs.Controls.{joins, copies_in, tells_upto, drops, forms, begins, resumes, forgets}
-use Rattle.told_tracks.proofs.Parts.{own_part, names_own}
+use Rattle.told_tracks.proofs.Parts.{names_own}
 
 -- ---- one control of the state
 
@@ -83,8 +84,6 @@ at_map cut (c ∷ controls) (suc k) low = at_map cut controls k (omega (arith, l
 
 held_same : (truth : (volume track time : ℕ) → List Rec) (last : ℕ) (new old : (volume track : ℕ) → Option (List Rec)) (c : ControlState) → ((v x : ℕ) → new v x ≡ old v x) → HoldsTold truth last old c → HoldsTold truth last new c
 held_same truth last new old c same h = record {
-  own = h.own;
-  rising = h.rising;
   holds = λ v x t settled copies from to. ap (after_entries (is_queued_up_to v x t) c.queue.waiting) (same v x) ∙ h.holds v x t settled copies from to;
 }
 
@@ -96,8 +95,8 @@ form_keeps truth held s limit keeps may all = λ k low.
     let c = control_at s k in
     subst (HoldsTold (truth k) cut.0 (held_behind_group (shown_at cut s).entries held k)) (sym (at_map cut s.controls k within))
     (held_same (truth k) cut.0 (held_behind_group (shown_at cut s).entries held k) (λ v x. after_entries (is_queued_on v x) (due cut c.queue.waiting) (held k v x)) (formed cut c)
-    (λ v x. names_own k v x (shown_at cut s).entries (held k v x) ∙ ap (λ (es : List WaitingEntry). after_entries (is_queued_on v x) es (held k v x)) (own_part truth held s limit k keeps all within))
-    (forms (truth k) s.last.0 cut (held k) c (cut_above s.last limit.0 s.controls may keeps.told) (all k within)))
+    (λ v x. names_own k v x (shown_at cut s).entries (held k v x) ∙ ap (λ (es : List WaitingEntry). after_entries (is_queued_on v x) es (held k v x)) (own_part s cut k keeps within))
+    (forms (truth k) s.last.0 cut (held k) c (sound_at s k keeps within) (cut_above s.last limit.0 s.controls may keeps.told) (all k within)))
 
 call_keeps : (truth : Truth) (held : HeldTracks) (s : Group) (call : Call) → KeepsGroup s → May s call → (IsTrue (has_changed (reply_to s call)) → TellsTruth truth s call) → AllHold truth held s
     → AllHold truth (held_after (reply_to s call) held) (group_after s call)

@@ -1,23 +1,17 @@
 -- The laws of told tracks. Each is the contract of a public function without parameters.
-use Rattle.std.specs.Prelude.{◌≡◌, ℕ, ◌<◌, ◌≤◌, length, filter, Some, IsTrue}
+use Rattle.std.specs.Prelude.{◌≡◌, ℕ, ◌<◌, ◌≤◌, length, Some, IsTrue}
 use Rattle.tod_stamp.specs.declared.stamp.Stamp.{Stamp}
-use Rattle.pending_queue.specs.Entries.{due}
 use Rattle.group_state.specs.Controls.{counts}
 use Rattle.group_state.specs.Groups.{Group, control_at, cut_of, formed_at, shown_at}
 use Rattle.group_state.specs.Sound.{KeepsGroup}
 use Rattle.group_state.specs.Machine.{Call, Reply, steps}
 use Rattle.group_state.specs.Runs.{May}
-use Rattle.told_tracks.specs.Told.{Truth, HeldTracks, TellsTruth, AllHold, has_changed, has_no_later_copy, is_entry_of_control, is_settled_in, held_after, held_behind_group}
+use Rattle.told_tracks.specs.Told.{Truth, HeldTracks, TellsTruth, AllHold, has_changed, has_no_later_copy, is_settled_in, held_after, held_behind_group}
 
 -- Each call keeps it, from any state, where a call that changes the state tells what is true.
 abbrev pub StepsKeep : Type 0
 StepsKeep = (truth : Truth) (held : HeldTracks) (s next : Group) (call : Call) (reply : Reply) → KeepsGroup s → May s call → steps s call reply next
     → (IsTrue (has_changed reply) → TellsTruth truth s call) → AllHold truth held s → AllHold truth (held_after reply held) next
-
--- Of the entries that a form shows those of one control are what its queue had up to the cut, in order.
-abbrev pub OwnPart : Type 0
-OwnPart = (truth : Truth) (held : HeldTracks) (s : Group) (limit : Stamp) (k : ℕ) → KeepsGroup s → AllHold truth held s → k < length s.controls
-    → filter (is_entry_of_control k) (shown_at (cut_of s limit) s).entries ≡ due (cut_of s limit) (control_at s k).queue.waiting
 
 -- After a form each track that is settled, of a control that counts, and of which no copied track waits is the primary's at the cut.
 abbrev pub DoneIsTold : Type 0

@@ -4,13 +4,14 @@ use Rattle.std.specs.List.{list_all}
 use Rattle.ckd_track.specs.declared.rec.Rec.{Rec}
 use Rattle.ckd_track.specs.declared.write.Write.{Write}
 use Rattle.change_map.specs.Sets.{has_track}
-use Rattle.pending_queue.specs.Entries.{WaitingEntry, entry_stamp, entries_never_fall, is_queued_on}
+use Rattle.pending_queue.specs.Entries.{WaitingEntry, entry_stamp, is_queued_on}
 use Rattle.image_former.specs.Changes.{changed_where}
 use Rattle.primary_ctl.specs.States.{is_on, after_writes}
 use Rattle.group_state.specs.declared.volume.Volume.{Volume}
 use Rattle.group_state.specs.Volumes.{volume_of, passes, is_wanted}
 use Rattle.group_state.specs.Controls.{ControlState}
 use Rattle.group_state.specs.Groups.{Group, Shown, control_at}
+use Rattle.group_state.specs.Sound.{is_entry_of_control}
 use Rattle.group_state.specs.Machine.{Call, Reply}
 use Rattle.group_state.specs.Machine.Call.{Join, NextWanted, Copied, Raise, Break, Form, Carry, Drop, Resume, Forget}
 use Rattle.group_state.specs.Machine.Reply.{Made, Joined, Held, Stale, Wanted, Formed, Nothing, Owed}
@@ -37,9 +38,6 @@ is_queued_up_to v x t entry = is_queued_on v x entry && nat_le (entry_stamp entr
 -- a write on a track with a stamp up to a time
 abbrev pub is_write_up_to : (volume track time : ℕ) → Write → Bool
 is_write_up_to v x t w = is_on v x w && nat_le w.stamp.0 t
-
-abbrev pub is_entry_of_control : (control : ℕ) → WaitingEntry → Bool
-is_entry_of_control k entry = entry.head.control == k
 
 -- an entry on a track of a control's volume
 abbrev pub names_track : (control volume track : ℕ) → WaitingEntry → Bool
@@ -102,12 +100,9 @@ abbrev pub is_settled_in : (volume track : ℕ) → ControlState → Bool
 is_settled_in v x c = passes (is_track_settled x) (volume_of v c.volumes)
 
 -- What waits on each track that is settled stands between what is held of it and what was told of it.
---   own, rising: a control's entries are its own, and their stamps never fall
 --   holds: what is held, changed by what waits up to a time, is the primary's track at that time, for each time from the last cut, or from
 --          the stamp of a copied track that waits on it, to the floor
 pub record HoldsTold (truth : (volume track time : ℕ) → List Rec) (last : ℕ) (held : (volume track : ℕ) → Option (List Rec)) (c : ControlState) : Type 0 where
-  pub own : IsTrue (list_all (is_entry_of_control c.queue.control) c.queue.waiting)
-  pub rising : IsTrue (entries_never_fall 0 c.queue.waiting)
   pub holds : (v x t : ℕ) → IsTrue (is_settled_in v x c) → IsTrue (has_no_later_copy v x t c.queue.waiting) → last ≤ t → t ≤ c.floor.0
       → after_entries (is_queued_up_to v x t) c.queue.waiting (held v x) ≡ Some (truth v x t)
 

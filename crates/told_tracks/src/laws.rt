@@ -1,16 +1,11 @@
 //! The laws of told tracks.
 
-ghost use Rattle.told_tracks.specs.Laws.{StepsKeep, OwnPart, DoneIsTold};
+ghost use Rattle.told_tracks.specs.Laws.{StepsKeep, DoneIsTold};
 
 /// What is held of a settled track, changed by what waits, is what was told of it; and each of the calls keeps that. So an epoch
 /// needs no history before its start.
 pub fn steps_keep_told()
     ensures { StepsKeep }
-{}
-
-/// A form takes from each control what was due there, in order.
-pub fn forms_show_own_parts()
-    ensures { OwnPart }
 {}
 
 /// A group makes of each settled track, of which no copied track waits behind it, the primary's at its cut.

@@ -4,4 +4,4 @@
 
 mod laws;
 
-pub use laws::{done_is_told, forms_show_own_parts, steps_keep_told};
+pub use laws::{done_is_told, steps_keep_told};

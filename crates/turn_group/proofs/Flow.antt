@@ -1,30 +1,29 @@
 -- What goes through a control's queue in a run.
-use Rattle.std.proofs.Common.{◌≡◌, ◌≢◌, ℕ, zero, suc, ◌+◌, ◌<◌, Bool, true, false, cond, nat_eq, nat_lt, nat_le, ◌&&◌, ◌||◌, not, List, [], ◌∷◌, ◌++◌, length, get_or, refl, sym, ap, ◌∙◌, subst, arith, append_assoc, append-nil, length-set}
+use Rattle.std.proofs.Common.{◌≡◌, ◌≢◌, ℕ, ◌+◌, ◌<◌, Bool, true, false, cond, nat_eq, nat_lt, nat_le, ◌&&◌, ◌||◌, not, List, [], ◌∷◌, ◌++◌, length, refl, sym, ap, ◌∙◌, subst, arith, append_assoc, append-nil, length-set}
 use Rattle.std.specs.Prelude.{filter, Some}
-use Rattle.std.specs.List.{list_all, flat_map}
-use Rattle.std.proofs.lemmas.Bool.{and_parts, eqb-true, eq-eqb, ne_eqb}
+use Rattle.std.specs.List.{list_all}
+use Rattle.std.proofs.lemmas.Bool.{and_parts, eq-eqb}
 use Rattle.std.proofs.lemmas.Bool.Decides.{nat_tests}
 use Rattle.std.proofs.lemmas.List.{get_or-map, length-map}
+use Rattle.std.proofs.lemmas.List.Elements.{All-get_or}
 use Rattle.tod_stamp.specs.declared.stamp.Stamp.{Stamp}
 use Rattle.ckd_track.specs.declared.rec.Rec.{Rec}
 use Rattle.ckd_track.specs.declared.write.Batch.{Batch}
-use Rattle.xrc_edge.specs.Order.{in_order, is_in_order}
-use Rattle.xrc_edge.proofs.OrderLaws.{order_stays}
-use Rattle.xrc_edge.proofs.Positions.{filter_order}
-use Rattle.pending_queue.specs.Entries.{WaitingEntry, entries_of, copy_of, copy_head, entry_stamp, entries_never_fall, is_of_volume, is_due, is_later, due, left, stands_before}
-use Rattle.pending_queue.proofs.EntryLaws.{before_order, never_fall_filter, each_once}
+use Rattle.pending_queue.specs.Entries.{WaitingEntry, entries_of, copy_of, copy_head, entry_stamp, entries_never_fall, is_of_volume, is_due, is_later, due, left}
+use Rattle.pending_queue.proofs.EntryLaws.{each_once}
 use Rattle.group_state.specs.Volumes.{is_wanted}
-use Rattle.group_state.specs.Controls.{ControlState, new_control, carried_writes, fits, fits_track, joined, copied, raised, broke, begun_volume, dropped, resumed, forgotten, formed, due_of}
+use Rattle.group_state.specs.Controls.{ControlState, new_control, carried_writes, fits, fits_track, joined, copied, raised, broke, begun_volume, dropped, resumed, forgotten, formed}
 use Rattle.group_state.specs.Groups.{Group, control_at, with_control, cut_of, gives_nothing, formed_at, shown_at}
 use Rattle.group_state.specs.Machine.{Call, Reply, reply_to, group_after}
 use Rattle.group_state.specs.Machine.Call.{Join, NextWanted, Copied, Raise, Break, Form, Carry, Drop, Resume, Forget}
 use Rattle.group_state.specs.Machine.Reply.{Formed, Nothing}
 use Rattle.group_state.specs.Runs.{Answer, May, Runs, shown_by}
-use Rattle.group_state.proofs.SoundLaws.{all_filter, all_kept}
+use Rattle.group_state.specs.Sound.{Sound, KeepsGroup}
+use Rattle.group_state.proofs.SoundLaws.{all_kept}
 use Rattle.group_state.proofs.Stands.{at_each}
-use Rattle.turn_group.specs.Seats.{AllFrom}
-use Rattle.turn_group.specs.Queues.{is_from_control, AreOrderly, waiting_at, gained, is_shown_by, falls, stays_in, stays_of, own_part, part_by, part_of_groups, QueuesFlow}
-use Rattle.turn_group.proofs.Orderly.{orderly_next}
+use Rattle.turn_group.specs.Queues.{waiting_at, gained, is_shown_by, falls, stays_in, stays_of, own_part, part_by, part_of_groups, QueuesFlow}
+use Rattle.group_state.proofs.Kept.{kept_next}
+use Rattle.group_state.proofs.OwnParts.{own_part as all_parts}
 
 -- ---- filters
 
@@ -64,89 +63,6 @@ filter_twice {A} p q (a ∷ items) = choose (q a) (p a) refl (filter_twice p q i
     choose true true is rest = ap (λ l. a ∷ l) rest ∙ sym (ap (λ b. cond b (a ∷ filter p (filter q items)) (filter p (filter q items))) is)
     choose true false is rest = rest ∙ sym (ap (λ b. cond b (a ∷ filter p (filter q items)) (filter p (filter q items))) is)
     choose false u is rest = rest
-
--- ---- a control's part of a form's group
-
-above_last : (last : ℕ) (entries : List WaitingEntry) → entries_never_fall last entries ≡ true → list_all (λ e. nat_le last (entry_stamp e)) entries ≡ true
-above_last last [] rises = refl
-above_last last (e ∷ entries) rises =
-    let parts = and_parts (nat_le last (entry_stamp e)) (entries_never_fall (entry_stamp e) entries) rises in
-    rw parts.0 (raise_all last (entry_stamp e) entries parts.0 (above_last (entry_stamp e) entries parts.1))
-  where
-    le_through : (a b c : ℕ) → nat_le a b ≡ true → nat_le b c ≡ true → nat_le a c ≡ true
-    le_through a b c ab bc = grind (arith, nat_tests)
-
-    raise_all : (a b : ℕ) (items : List WaitingEntry) → nat_le a b ≡ true → list_all (λ e. nat_le b (entry_stamp e)) items ≡ true → list_all (λ e. nat_le a (entry_stamp e)) items ≡ true
-    raise_all a b [] ab all = refl
-    raise_all a b (x ∷ items) ab all = let parts = and_parts (nat_le b (entry_stamp x)) (list_all (λ e. nat_le b (entry_stamp e)) items) all in rw (le_through a b (entry_stamp x) ab parts.0) (raise_all a b items ab parts.1)
-
-not_before : (k a b i j : ℕ) → nat_eq i k ≡ true → nat_eq j k ≡ true → nat_le a b ≡ true → not (nat_lt b a || (nat_eq b a && nat_lt j i)) ≡ true
-not_before k a b i j ik jk ab = grind (arith, nat_tests)
-
--- what waits for one control, by stamps, stands in the order of groups
-own_in_order : (k last : ℕ) (entries : List WaitingEntry) → list_all (is_from_control k) entries ≡ true → entries_never_fall last entries ≡ true → is_in_order stands_before entries ≡ true
-own_in_order k last [] own rises = refl
-own_in_order k last (e ∷ entries) own rises =
-    let mine = and_parts (is_from_control k e) (list_all (is_from_control k) entries) own in
-    let parts = and_parts (nat_le last (entry_stamp e)) (entries_never_fall (entry_stamp e) entries) rises in
-    rw (none entries mine.1 (above_last (entry_stamp e) entries parts.1)) (own_in_order k (entry_stamp e) entries mine.1 parts.1)
-  where
-    first_own : is_from_control k e ≡ true
-    first_own = (and_parts (is_from_control k e) (list_all (is_from_control k) entries) own).0
-
-    none : (items : List WaitingEntry) → list_all (is_from_control k) items ≡ true → list_all (λ b. nat_le (entry_stamp e) (entry_stamp b)) items ≡ true → list_all (λ b. not (stands_before b e)) items ≡ true
-    none [] mine above = refl
-    none (b ∷ items) mine above =
-        let p = and_parts (is_from_control k b) (list_all (is_from_control k) items) mine in
-        let q = and_parts (nat_le (entry_stamp e) (entry_stamp b)) (list_all (λ b. nat_le (entry_stamp e) (entry_stamp b)) items) above in
-        rw (not_before k (entry_stamp e) (entry_stamp b) e.head.control b.head.control first_own p.0 q.0) (none items p.1 q.1)
-
--- what waits for each control is its own
-abbrev OwnAt : ℕ → ControlState → Type 0
-OwnAt i c = list_all (is_from_control i) c.queue.waiting ≡ true
-
-pub all_from : {A : Type 0} (P : ℕ → A → Type 0) (first : ℕ) (l : List A) (d : A) → ((i : ℕ) → i < length l → P (first + i) (get_or l i d)) → AllFrom P first l
-all_from P n [] d each = tt
-all_from P n (x ∷ l) d each =
-    let is : n + 0 ≡ n = omega arith in
-    (subst (λ i. P i x) is (each 0 (omega arith)), all_from P (suc n) l d (λ i lt. let next : n + suc i ≡ suc n + i = omega arith in subst (λ j. P j (get_or l i d)) next (each (suc i) (omega arith))))
-
-apart_control : (i k c : ℕ) → i ≢ k → nat_eq c i ≡ true → nat_eq c k ≡ false
-apart_control i k c apart is = ne_eqb c k (λ e. apart (sym (eqb-true c i is) ∙ e))
-
-due_away : (k i : ℕ) (cut : Stamp) (c : ControlState) → i ≢ k → OwnAt i c → filter (is_from_control k) (due_of cut c) ≡ []
-due_away k i cut c apart own =
-    filter_same (is_from_control k) (λ e. false) (is_from_control i) (due_of cut c) (all_filter (is_from_control i) (is_due cut) c.queue.waiting own) (λ e is. apart_control i k e.head.control apart is) ∙ filter_false (due_of cut c)
-
-none_of : (k first : ℕ) (cut : Stamp) (controls : List ControlState) → k < first → AllFrom OwnAt first controls → filter (is_from_control k) (flat_map (due_of cut) controls) ≡ []
-none_of k n cut [] lt own = refl
-none_of k n cut (c ∷ controls) lt own =
-    filter_more (is_from_control k) (due_of cut c) (flat_map (due_of cut) controls)
-    ∙ (λ i. due_away k n cut c (λ e. absurd (omega (arith, e, lt))) own.0 i ++ none_of k (suc n) cut controls (omega arith) own.1 i)
-
-one_of : (k first place : ℕ) (cut : Stamp) (controls : List ControlState) (d : ControlState) → first + place ≡ k → place < length controls → AllFrom OwnAt first controls
-    → filter (is_from_control k) (flat_map (due_of cut) controls) ≡ due_of cut (get_or controls place d)
-one_of k n place cut [] d is lt own = absurd (omega arith)
-one_of k n zero cut (c ∷ controls) d is lt own =
-    let here : n ≡ k = omega arith in
-    let mine : OwnAt k c = subst (λ i. OwnAt i c) here own.0 in
-    filter_more (is_from_control k) (due_of cut c) (flat_map (due_of cut) controls)
-    ∙ (λ i. filter_same (is_from_control k) (λ e. true) (is_from_control k) (due_of cut c) (all_filter (is_from_control k) (is_due cut) c.queue.waiting mine) (λ e h. h) i ++ none_of k (suc n) cut controls (omega arith) own.1 i)
-    ∙ (append-nil (filter (λ e. true) (due_of cut c)) ∙ filter_true (due_of cut c))
-one_of k n (suc place) cut (c ∷ controls) d is lt own =
-    filter_more (is_from_control k) (due_of cut c) (flat_map (due_of cut) controls)
-    ∙ (λ i. due_away k n cut c (λ e. absurd (omega (arith, e, is))) own.0 i ++ one_of k (suc n) place cut controls d (omega arith) (omega arith) own.1 i)
-
--- Of what a form shows, a control's part is what is due in its queue.
-pub own_part_is : (k : ℕ) (cut : Stamp) (s : Group) → k < length s.controls → AreOrderly s → own_part k (Some (shown_at cut s)) ≡ due cut (waiting_at k s)
-own_part_is k cut s lt h =
-    let own = all_from OwnAt 0 s.controls (new_control 0 0 0) (λ i below. let is : i ≡ 0 + i = omega arith in subst (λ j. OwnAt j (control_at s i)) is (h i below).own) in
-    let one : filter (is_from_control k) (flat_map (due_of cut) s.controls) ≡ due cut (waiting_at k s) = one_of k 0 k cut s.controls (new_control 0 0 0) (omega arith) lt own in
-    let mine = h k lt in
-    filter_order stands_before before_order (is_from_control k) (flat_map (due_of cut) s.controls)
-    ∙ (ap (in_order stands_before) one
-    ∙ order_stays stands_before (due cut (waiting_at k s))
-    (own_in_order k 0 (due cut (waiting_at k s)) (all_filter (is_from_control k) (is_due cut) (waiting_at k s) mine.own) (never_fall_filter (is_due cut) 0 (waiting_at k s) mine.rises)))
 
 -- ---- what waits after each call
 
@@ -225,7 +141,7 @@ module _ (k : ℕ) (log : List Answer) (end : Group) where
   abbrev FlowsBy : Group → Call → Reply → Type 0
   FlowsBy s call reply = filter (stays_in k (record { call = call; reply = reply } ∷ log)) (waiting_at k s) ++ (filter (stays_in k log) (gained k s call) ++ stays_of k (group_after s call) log) ≡ (part_by k call reply ++ part_of_groups k log) ++ waiting_at k end
 
-  flow_next : (s : Group) (call : Call) (reply : Reply) → k < length s.controls → AreOrderly s → May s call → reply ≡ reply_to s call → Flows (group_after s call) → FlowsBy s call reply
+  flow_next : (s : Group) (call : Call) (reply : Reply) → k < length s.controls → KeepsGroup s → May s call → reply ≡ reply_to s call → Flows (group_after s call) → FlowsBy s call reply
   flow_next s (Join b) reply lt h may is rest = grows (stays_in k log) (waiting_at k s) (gained k s (Join b)) (waiting_at k (group_after s (Join b))) (stays_of k (group_after s (Join b)) log) (part_of_groups k log ++ waiting_at k end) (join_waits s b may.control k) rest
   flow_next s (NextWanted j) reply lt h may is rest = rest
   flow_next s (Copied j v x at slot) reply lt h may is rest =
@@ -239,11 +155,11 @@ module _ (k : ℕ) (log : List Answer) (end : Group) where
       let later = stays_of k (formed_at cut s) log in
       let next : filter (stays_in k log) (left cut (waiting_at k s)) ++ later ≡ part_of_groups k log ++ waiting_at k end = ap (λ l. filter (stays_in k log) l ++ later) (sym (form_waits s cut k lt)) ∙ rest in
       ap (λ o. filter (λ e. not (not (is_shown_by o e) && falls k log e)) (waiting_at k s) ++ later) shown
-      ∙ (ap (λ l. l ++ later) (takes cut (falls k log) (waiting_at k s) (h k lt).rises)
+      ∙ (ap (λ l. l ++ later) (takes cut (falls k log) (waiting_at k s) (All-get_or Sound s.controls k (new_control 0 0 0) lt h.sound).rises)
       ∙ (append_assoc (due cut (waiting_at k s)) (filter (stays_in k log) (left cut (waiting_at k s))) later
       ∙ (ap (λ l. due cut (waiting_at k s) ++ l) next
       ∙ (sym (append_assoc (due cut (waiting_at k s)) (part_of_groups k log) (waiting_at k end))
-      ∙ ap (λ l. (l ++ part_of_groups k log) ++ waiting_at k end) (sym (ap (own_part k) shown ∙ own_part_is k cut s lt h))))))
+      ∙ ap (λ l. (l ++ part_of_groups k log) ++ waiting_at k end) (sym (ap (own_part k) shown ∙ all_parts s cut k h lt))))))
   flow_next s (Carry j v plan) reply lt h may is rest = grows (stays_in k log) (waiting_at k s) [] (waiting_at k (with_control j (begun_volume v plan) s)) (stays_of k (with_control j (begun_volume v plan) s) log) (part_of_groups k log ++ waiting_at k end) (same_waiting s j (begun_volume v plan) may.0 refl k) rest
   flow_next s (Drop j v all) reply lt h may is rest =
       let later = stays_of k (with_control j (dropped v all) s) log in
@@ -285,4 +201,4 @@ queues_flow k first [] end lt h run = append-nil (filter (stays_in k []) (waitin
 queues_flow k first (a ∷ log) end lt h run =
     let next = group_after first a.call in
     let rest : Runs next log end = subst (λ (s : Group). Runs s log end) run.2.1 run.3 in
-    flow_next k log end first a.call a.reply lt h run.1 run.2.0 (queues_flow k next log end (subst (λ n. k < n) (sym (controls_stay first a.call)) lt) (orderly_next first a.call run.1 h) rest)
+    flow_next k log end first a.call a.reply lt h run.1 run.2.0 (queues_flow k next log end (subst (λ n. k < n) (sym (controls_stay first a.call)) lt) (kept_next first a.call h run.1) rest)

@@ -13,7 +13,8 @@ use Rattle.group_state.specs.Machine.{Call, Reply, group_after}
 use Rattle.group_state.specs.Machine.Call.{Join, NextWanted, Copied, Raise, Break, Form, Carry, Drop, Resume, Forget}
 use Rattle.group_state.proofs.SoundLaws.{length_dropped}
 use Rattle.turn_group.specs.Notes.{KnownVolume, known_volume, known_of, volumes_known, without_carrying, known_after}
-use Rattle.turn_group.specs.Calls.{is_by_seat, seat_steps}
+use Rattle.turn_group.specs.Calls.{seat_steps}
+use Rattle.group_state.specs.Calls.{is_by_seat}
 
 -- ---- lists
 

@@ -6,7 +6,6 @@ pub mod Runs
 pub mod Notes
 pub mod Splitting
 pub mod Gathering
-pub mod Orderly
 pub mod Flow
 pub mod Forming
 pub mod Crossing

@@ -11,7 +11,8 @@ use Rattle.group_state.specs.Groups.{Group}
 use Rattle.group_state.specs.Machine.{Call}
 use Rattle.group_state.specs.Machine.Call.{Join, NextWanted, Copied, Raise, Break, Form, Carry, Drop, Resume, Forget}
 use Rattle.group_state.specs.Runs.{Runs}
-use Rattle.turn_group.specs.Calls.{MadeCall, as_answer, is_by_seat, is_by_reader, is_by_mover, seat_steps}
+use Rattle.turn_group.specs.Calls.{MadeCall, as_answer, seat_steps}
+use Rattle.group_state.specs.Calls.{is_by_seat, is_by_reader, is_by_mover}
 use Rattle.turn_group.specs.Seats.{AllFrom, IsOwn}
 use Rattle.turn_group.specs.Histories.{OneHistory}
 use Rattle.turn_group.proofs.Places.{at_place}

@@ -4,7 +4,8 @@ use Rattle.std.specs.List.{list_all}
 use Rattle.turn.specs.Turn.{times_in, once_below, AllInOrder}
 use Rattle.group_state.specs.Groups.{Group}
 use Rattle.group_state.specs.Runs.{Runs}
-use Rattle.turn_group.specs.Calls.{MadeCall, as_answer, is_by_seat, is_by_reader, is_by_mover}
+use Rattle.turn_group.specs.Calls.{MadeCall, as_answer}
+use Rattle.group_state.specs.Calls.{is_by_seat, is_by_reader, is_by_mover}
 
 pub record OneHistory (first : Group) (mover : List MadeCall) (readers : List (List MadeCall)) (end : Group) : Type 0 where
   -- all calls, in order of tickets

@@ -7,6 +7,7 @@ use Rattle.group_state.specs.declared.volume.Volume.{Volume}
 use Rattle.group_state.specs.Controls.{ControlState, is_telling}
 use Rattle.group_state.specs.Groups.{Group, Shown, control_at}
 use Rattle.group_state.specs.Machine.{Call, Reply}
+use Rattle.group_state.specs.Calls.{telling_after}
 use Rattle.group_state.specs.Machine.Call.{Join, Raise, Break, Form, Drop}
 use Rattle.group_state.specs.Machine.Reply.{Joined}
 use Rattle.group_state.specs.Runs.{shown_by}
@@ -87,10 +88,6 @@ floor_after (Join b) Joined floor = b.upto
 floor_after (Raise k upto) reply floor = upto
 floor_after (Break k upto cause) reply floor = upto
 floor_after call reply floor = floor
-
-abbrev pub telling_after : Call → (telling : Bool) → Bool
-telling_after (Break k upto cause) telling = false
-telling_after call telling = telling
 
 abbrev pub note_after : Call → Reply → SeatNote → SeatNote
 note_after call reply (MoverNote last known) = MoverNote (last_after call reply last) (known_after call known)

@@ -1,31 +1,17 @@
 -- What goes through a control's queue in a run: what waited at its start and what it gains is, without what drops take out, what groups
 -- show of it and what waits at the end.
-use Rattle.std.specs.Prelude.{◌≡◌, ℕ, ◌<◌, ◌==◌, ◌&&◌, ◌||◌, not, List, [], ◌∷◌, ◌++◌, length, filter, Bool, false, Option, Some, None, if◌then◌else◌, IsTrue}
-use Rattle.std.specs.List.{list_all}
+use Rattle.std.specs.Prelude.{◌≡◌, ℕ, ◌<◌, ◌==◌, ◌&&◌, ◌||◌, not, List, [], ◌∷◌, ◌++◌, length, filter, Bool, false, Option, Some, None, if◌then◌else◌}
 use Rattle.tod_stamp.specs.declared.stamp.Stamp.{Stamp}
 use Rattle.ckd_track.specs.declared.rec.Rec.{Rec}
 use Rattle.ckd_track.specs.declared.write.Batch.{Batch}
-use Rattle.pending_queue.specs.Entries.{WaitingEntry, entries_of, copy_of, copy_head, entries_never_fall, is_of_volume, is_due}
+use Rattle.pending_queue.specs.Entries.{WaitingEntry, entries_of, copy_of, copy_head, is_of_volume, is_due}
 use Rattle.group_state.specs.Volumes.{is_wanted}
 use Rattle.group_state.specs.Controls.{ControlState, carried_writes, fits, fits_track}
-use Rattle.group_state.specs.Groups.{Group, Shown, new_group, control_at}
-use Rattle.group_state.specs.Sound.{Sound}
+use Rattle.group_state.specs.Groups.{Group, Shown, control_at}
+use Rattle.group_state.specs.Sound.{KeepsGroup, is_entry_of_control}
 use Rattle.group_state.specs.Machine.{Call, Reply, group_after}
 use Rattle.group_state.specs.Machine.Call.{Join, Copied, Form, Drop}
 use Rattle.group_state.specs.Runs.{Answer, Runs, shown_by}
-
-abbrev pub is_from_control : (control : ℕ) → WaitingEntry → Bool
-is_from_control k e = e.head.control == k
-
--- A control stands under its number, what waits is its own, and stamps don't fall.
-pub record IsOrderly (k : ℕ) (c : ControlState) : Type 0 where
-  pub number : c.queue.control ≡ k
-  pub own : IsTrue (list_all (is_from_control k) c.queue.waiting)
-  pub rises : IsTrue (entries_never_fall 0 c.queue.waiting)
-  pub sound : Sound c
-
-abbrev pub AreOrderly : Group → Type 0
-AreOrderly s = (k : ℕ) → k < length s.controls → IsOrderly k (control_at s k)
 
 abbrev pub waiting_at : (control : ℕ) → Group → List WaitingEntry
 waiting_at k s = (control_at s k).queue.waiting
@@ -73,7 +59,7 @@ stays_of k s (a ∷ log) = filter (stays_in k log) (gained k s a.call) ++ stays_
 
 abbrev pub own_part : (control : ℕ) → Option Shown → List WaitingEntry
 own_part k None = []
-own_part k (Some shown) = filter (is_from_control k) shown.entries
+own_part k (Some shown) = filter (is_entry_of_control k) shown.entries
 
 abbrev pub part_by : (control : ℕ) → Call → Reply → List WaitingEntry
 part_by k (Form limit) reply = own_part k (shown_by reply)
@@ -84,18 +70,10 @@ abbrev pub part_of_groups : (control : ℕ) → List Answer → List WaitingEntr
 part_of_groups k [] = []
 part_of_groups k (a ∷ log) = part_by k a.call a.reply ++ part_of_groups k log
 
--- ---- the laws
+-- ---- the law
 
 -- For each control, what waited and what it gained, both without what drops take out, are its part of the groups and then what waits
 -- at the end, in order, each once.
 abbrev pub QueuesFlow : Type 0
-QueuesFlow = (k : ℕ) (first : Group) (log : List Answer) (end : Group) → k < length first.controls → AreOrderly first → Runs first log end
+QueuesFlow = (k : ℕ) (first : Group) (log : List Answer) (end : Group) → k < length first.controls → KeepsGroup first → Runs first log end
     → filter (stays_in k log) (waiting_at k first) ++ stays_of k first log ≡ part_of_groups k log ++ waiting_at k end
-
--- What is orderly stays so.
-abbrev pub OrderIsKept : Type 0
-OrderIsKept = (first : Group) (log : List Answer) (end : Group) → AreOrderly first → Runs first log end → AreOrderly end
-
--- The state of a session's start is orderly.
-abbrev pub NewIsOrderly : Type 0
-NewIsOrderly = (controls records blocks : ℕ) → AreOrderly (new_group controls records blocks)

@@ -15,9 +15,11 @@ use Rattle.group_state.specs.Controls.{is_telling}
 use Rattle.group_state.specs.Groups.{Group, new_group, control_at}
 use Rattle.group_state.specs.Sound.{are_within, is_track_within}
 use Rattle.group_state.specs.Machine.{Call, Reply}
-use Rattle.turn_group.specs.Notes.{KnownVolume, SeatNote, volumes_known, last_after, known_after, floor_after, telling_after, note_after}
+use Rattle.turn_group.specs.Notes.{KnownVolume, SeatNote, volumes_known, last_after, known_after, floor_after, note_after}
+use Rattle.group_state.specs.Calls.{telling_after}
 use Rattle.turn_group.specs.Notes.SeatNote.{MoverNote, ReaderNote}
-use Rattle.turn_group.specs.Calls.{MadeCall, is_by_reader, is_by_mover}
+use Rattle.turn_group.specs.Calls.{MadeCall}
+use Rattle.group_state.specs.Calls.{is_by_reader, is_by_mover}
 
 -- A table: its identity, and the state that it was made with.
 pub record TurnState : Type 0 where

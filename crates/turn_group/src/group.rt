@@ -13,7 +13,6 @@ ghost use Rattle.turn_group.specs.Seats.{new_mover, new_readers, SeatMayTell, Se
 ghost use Rattle.turn.specs.Turn.{IsSameSeat, first_view, lists};
 ghost use Rattle.std.specs.List.{list_all};
 ghost use Rattle.turn_group.specs.Notes.{notes_of, is_of_carried};
-ghost use Rattle.turn_group.specs.Queues.{AreOrderly};
 ghost use Rattle.turn_group.specs.Histories.{OneHistory};
 
 use crate::copying::{join_copy, next_wanted};
@@ -170,7 +169,7 @@ impl TurnGroup {
         ensures from { seat.old.last.0 ≤ out.new.cut.0 }
         ensures upto { out.new.cut.0 ≤ limit.0 }
         // Where the queues were orderly when the table was made, each entry is on a volume that the mover knows as carried.
-        ensures carried { AreOrderly seat.old.first → IsTrue (list_all (is_of_carried seat.old.known) out.new.entries) }
+        ensures carried { IsTrue (list_all (is_of_carried seat.old.known) out.new.entries) }
     {
         form(&self.table, rt, &mut seat.seat.place, limit, out)
     }

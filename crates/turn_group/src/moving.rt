@@ -8,7 +8,6 @@ ghost use Rattle.group_state.specs.Machine.Reply.{Made};
 ghost use Rattle.group_state.specs.Answers.{form_reply};
 ghost use Rattle.std.specs.List.{list_all};
 ghost use Rattle.turn_group.specs.Notes.{is_of_carried};
-ghost use Rattle.turn_group.specs.Queues.{AreOrderly};
 ghost use Rattle.turn_group.specs.Seats.{IsMoverView, mover_view, CalledAt, first_or, known_at};
 
 use crate::machine::{GroupPlace, GroupTable};
@@ -35,7 +34,7 @@ pub fn form<W: Wait>(
     ensures room { out.new.controls ≡ out.old.controls }
     ensures from { (mover_view place.old.table_id place.old.me.0).last.0 ≤ out.new.cut.0 }
     ensures upto { out.new.cut.0 ≤ limit.0 }
-    ensures carried { AreOrderly (first_or place.old.me.0.first) → IsTrue (list_all (is_of_carried (known_at place.old)) out.new.entries) }
+    ensures carried { IsTrue (list_all (is_of_carried (known_at place.old)) out.new.entries) }
 {
     let mut state = table.take_turn(rt, place);
     // Its contract says what every group state keeps.

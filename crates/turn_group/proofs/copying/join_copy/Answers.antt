@@ -4,7 +4,7 @@ use Rattle.group_state.specs.Answers.{copy_reply}
 use Rattle.turn_group.proofs.Leaving.{after_copy}
 use Rattle.turn_group.proofs.Turning.{may_pass_call, called_by, noted_of, sizes_of_turn, copy_may}
 use Rattle.turn_group.specs.Seats.{reader_note, reader_view, note_in, floor_in, telling_in}
-use Rattle.turn_group.specs.Calls.{is_by_reader}
+use Rattle.group_state.specs.Calls.{is_by_reader}
 use Rattle.turn_group.proofs.copying.join_copy.Goals as goal
 
 pub copied-joined-requires-clause-track : goal.copied-joined-requires-clause-track

@@ -4,7 +4,7 @@ use Rattle.group_state.specs.Machine.Reply.{Made}
 use Rattle.turn_group.proofs.Leaving.{after_drop}
 use Rattle.turn_group.proofs.Turning.{may_pass_call, called_by, noted_of, controls_known}
 use Rattle.turn_group.specs.Seats.{mover_note, note_in, floor_in, known_in}
-use Rattle.turn_group.specs.Calls.{is_by_mover}
+use Rattle.group_state.specs.Calls.{is_by_mover}
 use Rattle.turn_group.proofs.moving.drop_volume.Goals as goal
 
 pub pass_turn-requires-clause-call : goal.pass_turn-requires-clause-call

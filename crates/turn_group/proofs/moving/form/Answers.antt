@@ -5,8 +5,8 @@ use Rattle.group_state.specs.Answers.{form_reply}
 use Rattle.turn_group.proofs.Leaving.{after_form}
 use Rattle.turn_group.proofs.Turning.{may_pass_call, called_by, noted_of, form_may}
 use Rattle.turn_group.specs.Seats.{mover_note, note_in, floor_in, known_in}
-use Rattle.turn_group.specs.Calls.{is_by_mover}
-use Rattle.turn_group.proofs.Forming.{form_upto, form_from, form_carried, orderly_of_turn}
+use Rattle.group_state.specs.Calls.{is_by_mover}
+use Rattle.turn_group.proofs.Forming.{form_upto, form_from, form_carried}
 use Rattle.turn_group.proofs.moving.form.Goals as goal
 
 pub pass_turn-requires-clause-call : goal.pass_turn-requires-clause-call
@@ -25,7 +25,7 @@ returns-clause-from g c =
     let took = c.take_turn-state.ensures.turn in
     let note = mover_note c.args.place.now.me.0.notes in
     let h = noted_of note is_by_mover c.requires.view took in
-    form_from c.take_turn-state.result c.form-formed.new.self c.args.limit (floor_in (note_in c.args.place.now.me.0.notes)) c.form-formed.result c.form-formed.new.out h.0 c.requires.limit c.controls.ensures.told c.form-formed.ensures.step
+    form_from c.take_turn-state.result c.form-formed.new.self c.args.limit (floor_in (note_in c.args.place.now.me.0.notes)) c.form-formed.result c.form-formed.new.out h.0 c.requires.limit c.controls.ensures.kept.told c.form-formed.ensures.step
 
 pub returns-clause-upto : goal.returns-clause-upto
 returns-clause-upto g c = form_upto c.take_turn-state.result c.form-formed.new.self c.args.limit c.form-formed.result c.form-formed.new.out c.form-formed.ensures.step
@@ -36,5 +36,4 @@ returns-clause-carried g c =
     let notes = c.args.place.now.me.0.notes in
     let note = mover_note notes in
     let h = noted_of note is_by_mover c.requires.view took in
-    λ first.
-    form_carried c.take_turn-state.result c.form-formed.new.self c.args.limit c.form-formed.result c.form-formed.new.out (known_in (note_in notes)) h.1 (orderly_of_turn note is_by_mover c.requires.view took first) c.form-formed.ensures.step
+    form_carried c.take_turn-state.result c.form-formed.new.self c.args.limit c.form-formed.result c.form-formed.new.out (known_in (note_in notes)) h.1 c.controls.ensures.kept c.form-formed.ensures.step

@@ -4,7 +4,7 @@ use Rattle.group_state.specs.Machine.Reply.{Made}
 use Rattle.turn_group.proofs.Leaving.{after_raise}
 use Rattle.turn_group.proofs.Turning.{may_pass_call, called_by, noted_of, tell_may}
 use Rattle.turn_group.specs.Seats.{reader_note, reader_view, note_in, floor_in, telling_in}
-use Rattle.turn_group.specs.Calls.{is_by_reader}
+use Rattle.group_state.specs.Calls.{is_by_reader}
 use Rattle.turn_group.proofs.telling.raise.Goals as goal
 
 pub pass_turn-requires-clause-call : goal.pass_turn-requires-clause-call

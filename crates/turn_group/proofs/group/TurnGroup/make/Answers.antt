@@ -1,5 +1,5 @@
 use Rattle.std.proofs.Common.{rules, arith, ◌≡◌, ◌<◌, ◌∷◌, [], length, Some, refl, sym, ap, ◌∙◌, subst, length-append}
-use Rattle.turn_group.specs.Calls.{is_by_reader}
+use Rattle.group_state.specs.Calls.{is_by_reader}
 use Rattle.turn_group.specs.Seats.{SeatView, KeepsView, reader_note, reader_view, new_reader}
 use Rattle.turn_group.proofs.Splitting.{split_more, split_seat, readers_more, new_places}
 use Rattle.turn_group.proofs.group.TurnGroup.make.Goals as goal
