@@ -9,7 +9,7 @@ use Rattle.group_state.specs.Runs.{Answer}
 use Rattle.told_tracks.specs.Told.{has_changed}
 use Rattle.fed_logs.specs.Feeds.{AreFedBy, IsFedBy, floor_behind}
 use Rattle.lane_feed.specs.Feeds.{FeedState, floor_behind_calls}
-use Rattle.lane_feed.specs.Reads.{Outlook, HasRead, AreLeft, StandsSo, MayTurnOutOf, IsStillToCome, ReadsOn}
+use Rattle.lane_feed.specs.Reads.{Outlook, HasRead, AreLeft, StandsSo, MayTurnOutOf, IsToFailIn, IsStillToCome, ReadsOn}
 use Rattle.lane_feed.specs.Reads.Outlook.{Whole, Failing}
 use Rattle.lane_feed.specs.Laws.{NoCallReadsNothing, CallsReadInTurn}
 
@@ -39,6 +39,7 @@ reads_nothing told feed = record {
     split = refl;
     left = subst (λ (h : Option Halt). AreLeft told h feed.side.reader bytes) (sym goes) there;
     could = λ o later turn. turn;
+    fails = λ later fails. fails;
     reads = λ o t later come turn read. record { fed = tt; stands = subst (λ (h : Option Halt). StandsSo o later t feed h) (sym goes) read };
   };
 }
@@ -71,6 +72,7 @@ reads_in_turn before mid now a b c first then h k = choose b.halted refl
                 split = r.split ∙ ap (λ (x : List ℕ). r.used ++ x) s.split ∙ sym (append_assoc r.used s.used s.rest);
                 left = s.left;
                 could = λ o later turn. subst (λ (x : List ℕ). MayTurnOutOf o x a) (sym (append_assoc r.used s.used later)) (r.could o (s.used ++ later) (s.could o later turn));
+                fails = λ later fails. subst (λ (x : List ℕ). IsToFailIn x a) (sym (append_assoc r.used s.used later)) (r.fails (s.used ++ later) (s.fails later fails));
                 reads = λ o t later come turn read.
                     let all : HasRead o (r.used ++ (s.used ++ later)) t a = subst (λ (x : List ℕ). HasRead o x t a) (append_assoc r.used s.used later) read in
                     let one = r.reads o t (s.used ++ later) (still_before o r.rest s.used s.rest later s.split come) (s.could o later turn) all in

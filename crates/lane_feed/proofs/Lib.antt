@@ -3,3 +3,4 @@ pub mod Hands
 pub mod InTurn
 pub mod Stepping
 pub mod Telling
+pub mod Beginning

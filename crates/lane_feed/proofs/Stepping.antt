@@ -13,6 +13,7 @@ use Rattle.ckd_track.specs.declared.write.Write.{Write}
 use Rattle.write_trace.specs.declared.entry.Entry.{Entry}
 use Rattle.write_trace.specs.declared.next.Stopped.{Stopped}
 use Rattle.write_trace.specs.declared.trace.Trace.{Trace}
+use Rattle.write_trace.specs.Answers.{ReaderState}
 use Rattle.write_trace.specs.Writes.{writes_of}
 use Rattle.primary_ctl.specs.States.{PrimaryState, track_of, base_in, is_on, after_writes}
 use Rattle.sidefile.specs.declared.hand.Hand.{Hand}
@@ -21,7 +22,7 @@ use Rattle.sidefile.specs.declared.hand.Halt.{Halt}
 use Rattle.sidefile.specs.declared.hand.Halt.TheVariants as halts
 use Rattle.sidefile.specs.Runs.{runs}
 use Rattle.sidefile.specs.Breaks.{Break, break_in, break_of, cause_of, has_broken, is_below}
-use Rattle.sidefile.specs.Ahead.{IsAhead, ahead, cause_ahead}
+use Rattle.sidefile.specs.Ahead.{IsAhead, IsFault, ahead, cause_ahead}
 use Rattle.sidefile.specs.Exact.{IsHand, LeavesRuns}
 use Rattle.sidefile.specs.Hands.{hand}
 use Rattle.sidefile.specs.States.{SidefileState, front_of}
@@ -29,7 +30,7 @@ use Rattle.group_state.specs.Runs.{Answer}
 use Rattle.told_tracks.specs.Told.{has_changed, is_write_up_to}
 use Rattle.fed_logs.specs.Feeds.{AreFedBy, is_between, writes_between}
 use Rattle.lane_feed.specs.Feeds.{FeedState}
-use Rattle.lane_feed.specs.Reads.{Outlook, IsHeldRun, HasRead, HasTracksAt, HasBroken, MayTurnOut, IsStillToCome, StandsSo, Went, AreLeft, ReadsBytes, do_rise}
+use Rattle.lane_feed.specs.Reads.{Outlook, IsHeldRun, HasRead, HasTracksAt, HasBroken, MayTurnOut, IsToFail, IsStillToCome, StandsSo, Went, AreLeft, ReadsBytes, do_rise}
 use Rattle.lane_feed.specs.Reads.Outlook.{Whole, Failing}
 use Rattle.lane_feed.specs.Steps.{HandsOver, TakesBatch, IsIdle, primary_at, joined_answer, held_answer, raised_answer, broken_answer, wanted_answer, copied_answer}
 use Rattle.lane_feed.specs.Steps.FeedStep.{Hands, Joins, Lacks, Holds, Passes, Breaks, Wants, Asks, Copies}
@@ -37,6 +38,16 @@ use Rattle.lane_feed.specs.Laws.{StepsReadOn, ReadTracksAreThePrimary, NothingIs
 use Rattle.lane_feed.proofs.Entries.{all_more, all_append, after_then, writes_then, rise_lower, rise_behind, held_between, up_to_time, none_between, up_to_later, above_rises, above_unbroken, same_runs}
 use Rattle.lane_feed.proofs.Hands.{leaves, could_turn_out, takes_run, waits_above, gives_up}
 use Rattle.lane_feed.proofs.InTurn.{no_halt}
+
+-- ---- outlooks
+
+-- a source that fails so may turn out so
+may_fail : (later : List ℕ) (halted : Option Halt) (reader : ReaderState) → IsToFail later halted reader → MayTurnOut Failing later halted reader.stopped
+may_fail later None reader fails = fails.0
+may_fail later (Some (halts.Broken ReadFault upto)) reader fails = fails
+may_fail later (Some (halts.Broken (BadTrace place) upto)) reader fails = absurd fails
+may_fail later (Some (halts.Broken (Crowded stamp) upto)) reader fails = absurd fails
+may_fail later (Some halts.NoMemory) reader fails = absurd fails
 
 -- ---- what is held
 
@@ -252,6 +263,8 @@ module _ (before now : Option (List ℕ)) (limit : ℕ) (old : FeedState) (side 
         split = d.split;
         left = d.told;
         could = could d.front d.went_on;
+        fails = λ later none. subst (λ (x : Option Halt). IsToFail (d.front ++ later) x old.side.reader) (sym idle.goes_on)
+            (d.went_on, subst (λ (b : List ℕ). IsFault old.side.reader b) (sym (append-nil d.front) ∙ ap (λ (x : List ℕ). d.front ++ x) (sym none)) d.fault);
         reads = reads d.front d.left d.hand;
       }
     where
@@ -286,6 +299,7 @@ module _ (before now : Option (List ℕ)) (limit : ℕ) (old : FeedState) (side 
         left = left [];
         could = λ o later turn. subst (λ (x : Outlook). MayTurnOut x (bytes ++ later) old.halted old.side.reader.stopped) (sym (of upto o later turn))
             (subst (λ (x : Option Halt). MayTurnOut Whole (bytes ++ later) x old.side.reader.stopped) (sym idle.goes_on) tt);
+        fails = λ later fails. absurd (let e : Failing ≡ Whole = of upto Failing later (may_fail later (Some (halts.Broken cause upto)) side.reader fails) in cc e);
         reads = λ o t later come turn read. reads o (of upto o later turn) t later come read;
       }
     where
@@ -343,6 +357,7 @@ still_reads before now old new gained goes same still side reads bytes there = r
   left = subst (λ (x : Option Halt). AreLeft now x new.side.reader bytes) (sym still)
       (subst (λ (s : SidefileState). IsAhead s.reader now bytes) (sym side) (subst (λ (n : Option (List ℕ)). IsAhead old.side.reader n bytes) (sym same) there));
   could = λ o later turn. subst (λ (x : Option Halt). MayTurnOut o later x old.side.reader.stopped) (still ∙ sym goes) (subst (λ (s : SidefileState). MayTurnOut o later new.halted s.reader.stopped) side turn);
+  fails = λ later fails. subst (λ (x : Option Halt). IsToFail later x old.side.reader) (still ∙ sym goes) (subst (λ (s : SidefileState). IsToFail later new.halted s.reader) side fails);
   reads = λ o t later come turn read.
       let r = reads o t later read in
       record { fed = r.0; stands = subst (λ (x : Option Halt). StandsSo o later t new x) (sym still) r.1 };
@@ -360,6 +375,9 @@ hands_on before now limit old new gained given goes still bytes l reads = record
   left = subst (λ (x : Option Halt). AreLeft now x new.side.reader l.rest) (sym still) l.there;
   could = λ o later turn. subst (λ (x : Option Halt). MayTurnOut o (l.used ++ later) x old.side.reader.stopped) (sym goes)
       (could_turn_out o old.side.control limit now old.side new.side bytes later given l (subst (λ (x : Option Halt). MayTurnOut o later x new.side.reader.stopped) still turn));
+  fails = λ later fails.
+      let then : IsToFail later None new.side.reader = subst (λ (x : Option Halt). IsToFail later x new.side.reader) still fails in
+      subst (λ (x : Option Halt). IsToFail (l.used ++ later) x old.side.reader) (sym goes) (l.went_on then.0, (l.fronts then.0 later).fault then.1);
   reads = λ o t later come turn read.
       let r = reads o t later come (subst (λ (x : Option Halt). MayTurnOut o later x new.side.reader.stopped) still turn) read in
       record { fed = r.0; stands = subst (λ (x : Option Halt). StandsSo o later t new x) (sym still) r.1 };
@@ -389,6 +407,7 @@ steps_read_on before now limit _ _ _ (Lacks old batch primary goes held same) = 
     split = refl;
     left = tt;
     could = λ o later turn. of_no_memory o later [] old old.side.reader.stopped goes turn;
+    fails = λ later fails. absurd fails;
     reads = λ o t later come turn read. record { fed = joined_fed o later t old batch held read; stands = tt };
   };
 }
@@ -419,6 +438,7 @@ steps_read_on before now limit _ _ _ (Wants old side idle h) = record {
     split = sym (append-nil bytes);
     left = tt;
     could = λ o later turn. of_no_memory o later bytes old side.reader.stopped idle.goes_on turn;
+    fails = λ later fails. absurd fails;
     reads = λ o t later come turn read. record { fed = tt; stands = tt };
   };
 }

@@ -3,9 +3,12 @@ use Rattle.std.proofs.Common.{◌≡◌, ◌≤◌, ℕ, true, List, [], ◌∷�
 use Rattle.std.specs.Prelude.{filter}
 use Rattle.std.specs.Option.{is_some}
 use Rattle.tod_stamp.specs.declared.stamp.Stamp.{Stamp}
+use Rattle.ckd_track.specs.declared.rec.Rec.{Rec}
 use Rattle.ckd_track.specs.declared.write.Batch.{Batch}
 use Rattle.ckd_track.specs.declared.write.Cause.{Cause}
 use Rattle.pending_queue.specs.declared.room.Room.{Room}
+use Rattle.write_trace.specs.declared.header.VolumeHead.{VolumeHead}
+use Rattle.write_trace.specs.Headers.{is_track_of}
 use Rattle.primary_ctl.specs.States.{PrimaryState, track_of, is_on, after_writes}
 use Rattle.sidefile.specs.declared.hand.Hand.TheVariants as hands
 use Rattle.sidefile.specs.declared.hand.Halt.{Halt}
@@ -13,12 +16,13 @@ use Rattle.sidefile.specs.declared.hand.Halt.TheVariants as halts
 use Rattle.sidefile.specs.Exact.{IsDue}
 use Rattle.sidefile.specs.Halts.{reached}
 use Rattle.sidefile.specs.States.{SidefileState, HoldsRun, front_of}
-use Rattle.group_state.specs.Machine.Call.{Join, Raise, Break}
-use Rattle.group_state.specs.Machine.Reply.{Made, Joined, Held}
+use Rattle.group_state.specs.Machine.{Reply}
+use Rattle.group_state.specs.Machine.Call.{Join, NextWanted, Copied, Raise, Break}
+use Rattle.group_state.specs.Machine.Reply.{Made, Joined, Held, Wanted}
 use Rattle.group_state.specs.Runs.{Answer}
 use Rattle.lane_feed.specs.Feeds.{FeedState, ReadsFurther, KeepsFeed}
-use Rattle.lane_feed.specs.Steps.{IsIdle, primary_at, joined_answer, held_answer, raised_answer, broken_answer}
-use Rattle.lane_feed.specs.Steps.FeedStep.{Hands, Joins, Lacks, Holds, Passes, Breaks, Wants}
+use Rattle.lane_feed.specs.Steps.{IsIdle, primary_at, joined_answer, held_answer, raised_answer, broken_answer, wanted_answer, copied_answer}
+use Rattle.lane_feed.specs.Steps.FeedStep.{Hands, Joins, Lacks, Holds, Passes, Breaks, Wants, Asks, Copies}
 use Rattle.lane_feed.specs.declared.reading.Reading.{Reading}
 use Rattle.lane_feed.specs.declared.reading.Reading.TheVariants as readings
 use Rattle.lane_feed.specs.Tellers.{TellerState, teller_after, HoldsBatch, HasFaultBy, IsRefusedBy, StepsOn, TellsOn, WasRefused}
@@ -43,6 +47,13 @@ module _ (old : FeedState) (side : SidefileState) (primary : PrimaryState) (held
   side_goes_on goes keeps =
       let g : ReadsFurther side primary held = subst (λ (h : Option Halt). KeepsFeed h side primary held) (goes_inside goes) keeps in
       g.hands
+
+  -- A track of the teller's volumes is one of the primary's.
+  pub track_within : (told : TellerState) → old.halted ≡ None → KeepsFeed halted side primary held → told.volumes ≡ old.side.reader.volumes → (v x : ℕ) → is_track_of told.volumes v x ≡ true → is_track_of primary.volumes v x ≡ true
+  track_within told goes keeps volumes v x within =
+      let g : ReadsFurther side primary held = subst (λ (h : Option Halt). KeepsFeed h side primary held) (goes_inside goes) keeps in
+      let same : told.volumes ≡ primary.volumes = volumes ∙ sym (ap (λ (f : FeedState). f.side.reader.volumes) is) ∙ sym g.volumes in
+      subst (λ (heads : List VolumeHead). is_track_of heads v x ≡ true) same within
 
   -- ---- the held batch
 
@@ -105,6 +116,19 @@ module _ (old : FeedState) (side : SidefileState) (primary : PrimaryState) (held
         subst (λ (f : FeedState). StepsOn before now limit f (feed_of next primary held (Some halts.NoMemory)) told told) is
         (record { gained = []; answers = sym (append-nil told.answers); step = Wants was next (idle_inside idle) (record { due = tt; run = tt; upto = upto }) })
 
+-- ---- a copied track
+
+pub asked_step : (left : Option (List ℕ)) (limit : Stamp) (feed : FeedState) (told then : TellerState) (found : Option (ℕ × ℕ)) → feed.halted ≡ None → then ≡ teller_after (NextWanted told.control) (Wanted found) told → StepsOn left left limit feed feed told then
+asked_step left limit feed told then found goes called = record { gained = wanted_answer told.control found ∷ []; answers = ap (λ (s : TellerState). s.answers) called; step = Asks feed told.control found goes refl }
+
+pub copied_step : (left : Option (List ℕ)) (limit : Stamp) (feed : FeedState) (told then : TellerState) (v x : ℕ) (at : Stamp) (slot : List Rec) (reply : Reply) → feed.halted ≡ None → slot ≡ track_of feed.primary v x
+    → then ≡ teller_after (Copied told.control v x at slot) reply told → StepsOn left left limit feed feed told then
+copied_step left limit feed told then v x at slot reply goes is called = record {
+  gained = copied_answer told.control v x at slot reply ∷ [];
+  answers = ap (λ (s : TellerState). s.answers) called;
+  step = Copies feed told.control v x at slot reply goes refl is;
+}
+
 -- ---- calls one after another
 
 pub tells_nothing : (left : Option (List ℕ)) (feed : FeedState) (told : TellerState) → TellsOn left left feed feed told told
@@ -119,6 +143,13 @@ tells_in_turn before mid now a b c told next after h k = record {
   answers = k.answers ∙ ap (λ (l : List Answer). l ++ k.gained) h.answers ∙ append_assoc told.answers h.gained k.gained;
   reads_on = reads_in_turn before mid now a b c h.gained k.gained h.reads_on k.reads_on;
 }
+
+-- A track was asked for, and told.
+pub tells_copied : (left : Option (List ℕ)) (feed : FeedState) (told mid then : TellerState) (found : Option (ℕ × ℕ)) (v x : ℕ) (at : Stamp) (slot : List Rec) (reply : Reply) → feed.halted ≡ None → mid ≡ teller_after (NextWanted told.control) (Wanted found) told
+    → slot ≡ track_of feed.primary v x → then ≡ teller_after (Copied mid.control v x at slot) reply mid → TellsOn left left feed feed told then
+tells_copied left feed told mid then found v x at slot reply goes asked is called =
+    tells_in_turn left left left feed feed feed told mid then (tells_step left left at feed feed told mid (asked_step left at feed told mid found goes asked))
+    (tells_step left left at feed feed mid then (copied_step left at feed mid then v x at slot reply goes is called))
 
 -- ---- what is held, and what was counted
 

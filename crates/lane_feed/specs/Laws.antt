@@ -1,12 +1,17 @@
 -- The laws of feeds. Each is the contract of a public function without parameters.
-use Rattle.std.specs.Prelude.{◌≡◌, ℕ, List, [], ◌++◌, Option, None, IsTrue}
+use Rattle.std.specs.Prelude.{◌≡◌, ℕ, ◌+◌, ◌-◌, List, [], ◌++◌, length, take, true, false, Option, Some, None, Ok, IsTrue}
 use Rattle.tod_stamp.specs.declared.stamp.Stamp.{Stamp}
+use Rattle.write_trace.specs.declared.header.Header.{Header}
 use Rattle.write_trace.specs.declared.trace.Trace.{Trace}
+use Rattle.write_trace.specs.Answers.{ReaderState}
+use Rattle.write_trace.specs.Good.{trace_of}
+use Rattle.write_trace.specs.Starts.{ReadsHeader}
 use Rattle.primary_ctl.specs.States.{track_of, base_in}
-use Rattle.sidefile.specs.Ahead.{entries_ahead}
+use Rattle.sidefile.specs.Ahead.{IsAhead, IsFault, entries_ahead}
 use Rattle.group_state.specs.Runs.{Answer}
 use Rattle.lane_feed.specs.Feeds.{FeedState}
 use Rattle.lane_feed.specs.Reads.{Outlook, EndsAsAhead, HasRead, HasTracksAt, ReadsOn, do_rise}
+use Rattle.lane_feed.specs.Reads.Outlook.{Whole, Failing}
 use Rattle.lane_feed.specs.Steps.{FeedStep}
 
 -- Without a call nothing is read.
@@ -26,15 +31,45 @@ StepsReadOn = (before now : Option (List ℕ)) (limit : Stamp) (old new : FeedSt
 abbrev pub ReadTracksAreThePrimary : Type 0
 ReadTracksAreThePrimary = (o : Outlook) (rest : List ℕ) (t : Trace) (feed : FeedState) → HasRead o rest t feed → HasTracksAt t feed.primary.time feed.primary
 
--- A feed at the start of a trace, whose primary has the base tracks.
-pub record IsFirstFeed (t : Trace) (feed : FeedState) : Type 0 where
+-- A feed behind a header, whose primary has the base tracks.
+pub record IsFirstFeed (head : Header) (feed : FeedState) : Type 0 where
   pub waiting : feed.side.waiting ≡ None
   pub upto : feed.side.upto ≡ 0
   pub time : feed.primary.time ≡ 0
   pub held : feed.held ≡ None
-  pub tracks : (v x : ℕ) → track_of feed.primary v x ≡ base_in t.header.base v x
+  pub tracks : (v x : ℕ) → track_of feed.primary v x ≡ base_in head.base v x
 
 -- At the start nothing was read of a trace whose entries are all ahead.
 abbrev pub NothingIsReadFirst : Type 0
-NothingIsReadFirst = (o : Outlook) (rest : List ℕ) (t : Trace) (feed : FeedState) → IsFirstFeed t feed → entries_ahead feed.side.reader.stopped feed.side.reader rest ≡ t.entries → IsTrue (do_rise 1 t.entries)
+NothingIsReadFirst = (o : Outlook) (rest : List ℕ) (t : Trace) (feed : FeedState) → IsFirstFeed t.header feed → entries_ahead feed.side.reader.stopped feed.side.reader rest ≡ t.entries → IsTrue (do_rise 1 t.entries)
     → EndsAsAhead o t feed.side.reader rest → HasRead o rest t feed
+
+-- ---- the bytes of a source
+
+-- All bytes that are ahead come, or those come behind which the source fails, with some left.
+abbrev pub ComeSo : Outlook → ReaderState → (rest later left : List ℕ) → Type 0
+ComeSo Whole reader rest later left = later ≡ rest
+ComeSo Failing reader rest later left = (rest ≡ later ++ left) × IsFault reader later
+
+-- the trace of all bytes that a source told, or of those that it gave before it failed, with some left
+abbrev pub IsTraceOf : Outlook → (told left : List ℕ) → Trace → Type 0
+IsTraceOf Whole told left t = trace_of 1 false told ≡ Ok t
+IsTraceOf Failing told left t = trace_of 1 true (take (length told - length left) told) ≡ Ok t
+
+-- These bytes are ahead, behind a header that was read of the bytes of a source.
+pub record IsBehindHeader (told : List ℕ) (now : Option (List ℕ)) (head : Header) (feed : FeedState) (rest : List ℕ) : Type 0 where
+  pub reads : ReadsHeader (Some told) now head feed.side.reader
+  pub first : IsFirstFeed head feed
+  pub there : IsAhead feed.side.reader now rest
+
+-- Nothing was read yet of the trace that a source's bytes are.
+pub record BeginsTrace (o : Outlook) (told later left : List ℕ) (head : Header) (feed : FeedState) : Type 0 where
+  pub trace : Trace
+  pub headed : trace.header ≡ head
+  pub is : IsTraceOf o told left trace
+  pub unread : HasRead o later trace feed
+
+-- A feed behind a header has read nothing of the trace that its source's bytes are, whether all of them come or the source fails.
+abbrev pub HeadersBeginTraces : Type 0
+HeadersBeginTraces = (told : List ℕ) (now : Option (List ℕ)) (head : Header) (feed : FeedState) (rest : List ℕ) → IsBehindHeader told now head feed rest
+    → (o : Outlook) (later left : List ℕ) → ComeSo o feed.side.reader rest later left → BeginsTrace o told later left head feed

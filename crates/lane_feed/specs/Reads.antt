@@ -14,7 +14,7 @@ use Rattle.write_trace.specs.Writes.{writes_of}
 use Rattle.primary_ctl.specs.States.{PrimaryState, track_of, base_in, is_on, after_writes}
 use Rattle.sidefile.specs.Runs.{runs}
 use Rattle.sidefile.specs.Breaks.{break_in, break_of, cause_of, has_broken}
-use Rattle.sidefile.specs.Ahead.{IsAhead, ahead, cause_ahead}
+use Rattle.sidefile.specs.Ahead.{IsAhead, IsFault, ahead, cause_ahead}
 use Rattle.sidefile.specs.declared.hand.Halt.{Halt}
 use Rattle.sidefile.specs.declared.hand.Halt.TheVariants as halts
 use Rattle.group_state.specs.Runs.{Answer}
@@ -89,6 +89,16 @@ MayTurnOut Failing later (Some halts.NoMemory) stopped = ⊥
 abbrev pub MayTurnOutOf : Outlook → (later : List ℕ) → FeedState → Type 0
 MayTurnOutOf o later feed = MayTurnOut o later feed.halted feed.side.reader.stopped
 
+-- The source fails behind these bytes: an entry is cut there. Where the feed broke by the fault none is to come.
+abbrev pub IsToFail : (later : List ℕ) → Option Halt → ReaderState → Type 0
+IsToFail later None reader = (reader.stopped ≡ None) × IsFault reader later
+IsToFail later (Some (halts.Broken ReadFault upto)) reader = later ≡ []
+IsToFail later (Some (halts.Broken cause upto)) reader = ⊥
+IsToFail later (Some halts.NoMemory) reader = ⊥
+
+abbrev pub IsToFailIn : (later : List ℕ) → FeedState → Type 0
+IsToFailIn later feed = IsToFail later feed.halted feed.side.reader
+
 -- All bytes that are left come, or some that come before a fault.
 abbrev pub IsStillToCome : Outlook → (rest later : List ℕ) → Type 0
 IsStillToCome Whole rest later = later ≡ rest
@@ -116,12 +126,14 @@ AreLeft now (Some halts.NoMemory) reader rest = Unit {0}
 
 -- Calls on a feed used some of the bytes that were ahead of it. However the trace turns out behind them, the calls were fed by it.
 --   could: the trace might turn out so before the calls too
+--   fails: where the source fails behind the calls, it failed so behind them all
 pub record ReadsBytes (now : Option (List ℕ)) (old new : FeedState) (gained : List Answer) (bytes : List ℕ) : Type 0 where
   pub used : List ℕ
   pub rest : List ℕ
   pub split : bytes ≡ used ++ rest
   pub left : AreLeft now new.halted new.side.reader rest
   pub could : (o : Outlook) (later : List ℕ) → MayTurnOutOf o later new → MayTurnOutOf o (used ++ later) old
+  pub fails : (later : List ℕ) → IsToFailIn later new → IsToFailIn (used ++ later) old
   pub reads : (o : Outlook) (t : Trace) (later : List ℕ) → IsStillToCome o rest later → MayTurnOutOf o later new → HasRead o (used ++ later) t old → Went o later t old new gained
 
 -- Calls on a feed read on.

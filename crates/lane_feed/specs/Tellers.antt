@@ -1,5 +1,5 @@
 -- What a reader tells of its control, and how its feed stands to it.
-use Rattle.std.specs.Prelude.{◌≡◌, ℕ, List, [], ◌∷◌, ◌++◌, Bool, false, Option, Some, None, if◌then◌else◌, IsTrue}
+use Rattle.std.specs.Prelude.{◌≡◌, ℕ, List, [], ◌∷◌, ◌++◌, Bool, Option, Some, None, if◌then◌else◌, IsTrue}
 use Rattle.tod_stamp.specs.declared.stamp.Stamp.{Stamp}
 use Rattle.ckd_track.specs.declared.write.Batch.{Batch}
 use Rattle.ckd_track.specs.declared.write.Cause.{Cause}
@@ -9,8 +9,11 @@ use Rattle.pending_queue.specs.declared.room.Room.{Room}
 use Rattle.write_trace.specs.declared.header.VolumeHead.{VolumeHead}
 use Rattle.sidefile.specs.declared.hand.Halt.{Halt}
 use Rattle.sidefile.specs.declared.hand.Halt.TheVariants as halts
+use Rattle.primary_ctl.specs.States.{PrimaryState, track_of}
+use Rattle.group_state.specs.declared.joining.CopyJoin.{CopyJoin}
+use Rattle.group_state.specs.Answers.{copy_reply}
 use Rattle.group_state.specs.Machine.{Call, Reply}
-use Rattle.group_state.specs.Machine.Call.{Join, NextWanted, Copied, Raise, Break, Form, Carry, Drop, Resume, Forget}
+use Rattle.group_state.specs.Calls.{telling_after}
 use Rattle.group_state.specs.Runs.{Answer}
 use Rattle.lane_feed.specs.declared.reading.Reading.{Reading}
 use Rattle.lane_feed.specs.declared.reading.Reading.TheVariants as readings
@@ -18,7 +21,7 @@ use Rattle.told_tracks.specs.Told.{has_changed}
 use Rattle.fed_logs.specs.Feeds.{floor_behind}
 use Rattle.lane_feed.specs.Feeds.{FeedState}
 use Rattle.lane_feed.specs.Reads.{ReadsOn}
-use Rattle.lane_feed.specs.Steps.{FeedStep, held_answer}
+use Rattle.lane_feed.specs.Steps.{FeedStep, held_answer, wanted_answer, copied_answer}
 
 -- A teller: its control, the volumes of the control's trace, the control's floor, whether the control still tells, and the calls that were
 -- made with their replies.
@@ -29,24 +32,11 @@ pub record TellerState : Type 0 where
   pub telling : Bool
   pub answers : List Answer
 
--- a control tells until it breaks
-abbrev pub tells_after : Call → (telling : Bool) → Bool
-tells_after (Join b) telling = telling
-tells_after (NextWanted k) telling = telling
-tells_after (Copied k v x at slot) telling = telling
-tells_after (Raise k upto) telling = telling
-tells_after (Break k upto cause) telling = false
-tells_after (Form limit) telling = telling
-tells_after (Carry k v plan) telling = telling
-tells_after (Drop k v all) telling = telling
-tells_after (Resume k v) telling = telling
-tells_after (Forget k v) telling = telling
-
 -- a teller behind a call with this reply
 abbrev pub teller_after : Call → Reply → TellerState → TellerState
 teller_after call reply s = record s {
   floor = if has_changed reply then floor_behind s.floor call else s.floor;
-  telling = tells_after call s.telling;
+  telling = telling_after call s.telling;
   answers = s.answers ++ record { call = call; reply = reply } ∷ [];
 }
 
@@ -104,3 +94,21 @@ pub record WasRefused (room : Room) (feed : FeedState) (told after : TellerState
 -- It was so where a step answers that a batch is held.
 abbrev pub IsRefusedBy : Reading → FeedState → (told after : TellerState) → Type 0
 IsRefusedBy reading feed told after = (room : Room) → reading ≡ readings.Held room → WasRefused room feed told after
+
+-- ---- what was copied
+
+-- the answers by which a wanted track of a primary is told
+abbrev pub copying_answers : (control : ℕ) → PrimaryState → (volume track : ℕ) → (at : Stamp) → CopyJoin → List Answer
+copying_answers k primary v x at joined = wanted_answer k (Some (v, x)) ∷ copied_answer k v x at (track_of primary v x) (copy_reply joined) ∷ []
+
+-- A track was asked for. The one that is wanted was told as the primary has it at its time. That is all that was told.
+pub record WasToldCopied (joined : CopyJoin) (feed : FeedState) (told after : TellerState) : Type 0 where
+  pub volume : ℕ
+  pub track : ℕ
+  pub at : Stamp
+  pub time : at.0 ≡ feed.primary.time
+  pub answers : after.answers ≡ told.answers ++ copying_answers told.control feed.primary volume track at joined
+
+abbrev pub IsCopiedBy : Option CopyJoin → FeedState → (told after : TellerState) → Type 0
+IsCopiedBy None feed told after = after.answers ≡ told.answers ++ wanted_answer told.control None ∷ []
+IsCopiedBy (Some joined) feed told after = WasToldCopied joined feed told after

@@ -8,12 +8,12 @@ ghost use Rattle.sidefile.specs.declared.hand.Halt.{Halt as HaltIs};
 ghost use Rattle.lane_feed.specs.declared.reading.Reading.TheVariants as readings;
 ghost use Rattle.lane_feed.specs.Steps.{IsIdle};
 ghost use Rattle.pending_queue.specs.declared.room.Room.{Room as RoomIs};
-ghost use Rattle.lane_feed.specs.Tellers.{IsToldBy, HoldsBatch, IsRefusedBy, StandsAs, StandsAsOrHolds, HasFaultBy, StepsOn, TellsOn};
+ghost use Rattle.lane_feed.specs.Tellers.{IsToldBy, HoldsBatch, IsRefusedBy, StandsAs, StandsAsOrHolds, HasFaultBy, StepsOn, TellsOn, IsCopiedBy};
 
 use crate::reading::Reading;
 use crate::teller::Teller;
 use ckd_track::{Batch, Cause, Slot};
-use group_state::RunJoin;
+use group_state::{CopyJoin, RunJoin};
 use primary_ctl::Primary;
 use sidefile::{Halt, Hand, Sidefile};
 use std::alloc::Global;
@@ -181,5 +181,18 @@ impl Feed {
             Some(reading) => reading,
             None => self.join_held(alloc, teller),
         }
+    }
+    /// One step of a reader that copies: it asks which track is wanted next, and tells that track as the primary has it at the floor. None
+    /// where no track is wanted. `slot` is left with the track.
+    pub fn copy_once<T: Teller>(&self, teller: &mut T, slot: &mut Slot) -> Option<CopyJoin>
+        requires goes_on { self.now.halted ≡ None }
+        requires told { IsToldBy self.now (T.state teller.old) }
+        ensures reads { (left : Option (List ℕ)) → TellsOn left left self.now self.now (T.state teller.old) (T.state teller.new) }
+        ensures told { IsToldBy self.now (T.state teller.new) }
+        ensures copied { IsCopiedBy result self.now (T.state teller.old) (T.state teller.new) }
+    {
+        let (volume, track) = teller.next_wanted()?;
+        let at = self.primary.read_track(volume, track, slot);
+        Some(teller.join_copy(volume, track, at, slot))
     }
 }

@@ -1,6 +1,6 @@
 //! The laws of feeds.
 
-ghost use Rattle.lane_feed.specs.Laws.{NoCallReadsNothing, CallsReadInTurn, StepsReadOn, ReadTracksAreThePrimary, NothingIsReadFirst};
+ghost use Rattle.lane_feed.specs.Laws.{NoCallReadsNothing, CallsReadInTurn, StepsReadOn, ReadTracksAreThePrimary, NothingIsReadFirst, HeadersBeginTraces};
 
 /// Calls on a feed one after another read on.
 pub fn calls_read_in_turn()
@@ -18,7 +18,8 @@ pub fn read_tracks()
     ensures { ReadTracksAreThePrimary }
 {}
 
-/// At the start of a trace nothing was read of it.
+/// At the start of a trace nothing was read of it, and behind the header of a source's bytes its trace starts.
 pub fn first_feed()
-    ensures { NothingIsReadFirst }
+    ensures nothing { NothingIsReadFirst }
+    ensures begins { HeadersBeginTraces }
 {}

@@ -1,0 +1,11 @@
+pub mod Pairs
+pub mod Held
+pub mod Failing
+pub mod Copying
+pub mod Excepting
+pub mod Breaking
+pub mod Leading
+pub mod Bearing
+pub mod Passing
+pub mod Keeping
+pub mod Ending

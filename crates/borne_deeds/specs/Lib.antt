@@ -1,0 +1,4 @@
+pub mod Points
+pub mod Told
+pub mod Working
+pub mod Laws

@@ -1,0 +1,10 @@
+pub mod Rows
+pub mod Calls
+pub mod Standing
+pub mod Beginning
+pub mod Knowing
+pub mod Suspending
+pub mod Resuming
+pub mod Forgetting
+pub mod Adding
+pub mod Recording

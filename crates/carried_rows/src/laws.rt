@@ -1,0 +1,20 @@
+//! The laws of rows between two epochs.
+
+ghost use Rattle.carried_rows.specs.Laws.{AddedRowsStand, FirstRowsStand, ForgottenRowsStand, RecordedRowsStand, ResumedRowsStand, SuspendedRowsStand};
+
+use crash_plant::Plant;
+
+/// The shared state stands for the rows of a session that begins, of which there are none. Where a row is suspended and its volume
+/// dropped, resumed with its volume, taken out with it, or added with a volume of which all tracks are wanted, the state stands again.
+pub fn rows_stand_again<P: Plant>(start: &P)
+    ensures begun { FirstRowsStand (P.state start.now) }
+    ensures suspended { SuspendedRowsStand (P.state start.now) }
+    ensures resumed { ResumedRowsStand (P.state start.now) }
+    ensures forgotten { ForgottenRowsStand (P.state start.now) }
+    ensures added { AddedRowsStand (P.state start.now) }
+{}
+
+/// A record of rows, and a mark, leave that the shared state stands for the rows that they bring.
+pub fn recorded_rows_stand<P: Plant>(old: &P, new: &P)
+    ensures { RecordedRowsStand (P.state old.now) (P.state new.now) }
+{}

@@ -1,0 +1,135 @@
+-- A change of rows behind what comes first, nothing or a mark: the deeds and the site behind both, over plain states.
+use Rattle.std.proofs.Common.{◌≡◌, inl, inr, ℕ, ◌^◌, ◌<◌, ◌++◌, ◌||◌, Bool, false, List, [], ◌∷◌, Result, Ok, Err, refl, sym, subst, ◌∙◌, arith}
+use Rattle.std.specs.Prelude.{OnOk, slice_index_or}
+use Rattle.std.specs.List.{list_any}
+use Rattle.xrc_edge.specs.Causes.{Rose}
+use Rattle.crash_plant.specs.declared.device.Device.{Device}
+use Rattle.crash_plant.specs.declared.device.Device.TheVariants.{Volume}
+use Rattle.crash_plant.specs.Calls.{WorksOn}
+use Rattle.crash_plant.specs.Moments.{PlantState}
+use Rattle.crash_plant.proofs.Steps.{works_on_more, works_on_trans}
+use Rattle.pair_table.specs.declared.row.PairRow.{PairRow}
+use Rattle.record_rows.specs.Deeds.{Deed, rows_behind}
+use Rattle.record_rows.specs.Deeds.Deed.{Changed, Marked as MarkedDeed}
+use Rattle.site_deeds.specs.Doing.{BeginsDeeds, DoesDeeds}
+use Rattle.site_deeds.specs.Exceptions.{Exceptions, excepted_behind}
+use Rattle.site_deeds.proofs.Composing.{begin_behind, go_on}
+use Rattle.site_deeds.proofs.Single.{no_call}
+use Rattle.site_deeds.proofs.Widening.{begins_still, does_still}
+use Rattle.xrc_journal.specs.Contents.{is_of_track}
+use Rattle.xrc_journal.specs.Items.{Item}
+use Rattle.xrc_journal.specs.Jobs.{FailsByCount}
+use Rattle.site_store.specs.declared.store_error.StoreError.{StoreError}
+use Rattle.site_store.specs.declared.way.Way.{Way}
+use Rattle.site_store.specs.Causes.{FailByCounts, HasStoreCause}
+use Rattle.site_store.specs.Marking.{MakesMark, excepted_with_waiting}
+use Rattle.site_store.specs.Recording.{ShowsRecord, group_with}
+use Rattle.site_store.specs.Records.{IsJournal, IsOfMark, IsOfRecord, IsStore}
+use Rattle.site_store.specs.Sites.{SiteState}
+use Rattle.site_store.specs.Standing.{Leaves, SiteStands, none_excepted}
+use Rattle.site_store.proofs.RecordPuts.{on_ok}
+use Rattle.site_store.proofs.RowsLogged.{AreRowsLogged, rows_begin, rows_done, rows_stand, stands_more, with_logged_rows}
+
+-- ---- what comes first
+
+-- Deeds come first, and lead from a site to another, which stands with what it was excepted from before and behind them.
+pub record ComesFirst (tells : Type 0) (first : List Deed) (site here : SiteState) (old mid : PlantState) : Type 0 where
+  pub does : tells → (e : Exceptions) → SiteStands e site old → DoesDeeds e site.told first old mid
+  pub stands : tells → (e : Exceptions) → SiteStands e site old → SiteStands e here mid
+  pub behind : tells → (e : Exceptions) → SiteStands e site old → SiteStands (excepted_behind site.told first e) here mid
+  pub rows : rows_behind first site.told ≡ here.told
+
+-- nothing
+pub nothing_first : (tells : Type 0) (site : SiteState) (plant : PlantState) → ComesFirst tells [] site site plant plant
+nothing_first tells site plant = record {
+  does = λ told e stands. no_call plant e site.told;
+  stands = λ told e stands. stands;
+  behind = λ told e stands. stands;
+  rows = refl;
+}
+
+-- No track is excepted for a waiting item.
+none_waits : (site : SiteState) → site.waiting ≡ [] → (e : Exceptions) (d x : ℕ) → e d x ≡ false → excepted_with_waiting site e d x ≡ false
+none_waits site idle e d x not = (λ i. not i || list_any (is_of_track d x) (idle i))
+
+module _ (tells : Type 0) (site here : SiteState) (old mid : PlantState) (ended : Bool) (rows : List PairRow) (idle : site.waiting ≡ []) where
+  -- a mark, which is made
+  pub mark_first : MakesMark tells ended rows site here old mid (Ok tt) → Leaves tells (λ e. none_excepted) site here old mid → here.told ≡ rows → ComesFirst tells (MarkedDeed site.at ended rows ∷ []) site here old mid
+  mark_first makes leaves told_is = record {
+    does = λ told e stands. does_still old mid (excepted_with_waiting site e) e site.told (none_waits site idle e) (MarkedDeed site.at ended rows ∷ []) (makes.does told e stands);
+    stands = λ told e stands. stands_more e here mid (leaves.stands told e stands);
+    behind = λ told e stands. stands_more (excepted_behind site.told (MarkedDeed site.at ended rows ∷ []) e) here mid (leaves.stands told e stands);
+    rows = sym told_is;
+  }
+
+  -- a mark, as far as it comes
+  pub mark_begins : (result : Result (Unit {0}) StoreError) → MakesMark tells ended rows site here old mid result → tells → (e : Exceptions) → SiteStands e site old → BeginsDeeds e site.told (MarkedDeed site.at ended rows ∷ []) old mid
+  mark_begins result makes told e stands = begins_still old mid (excepted_with_waiting site e) e site.told (none_waits site idle e) (MarkedDeed site.at ended rows ∷ []) (makes.begins told e stands)
+
+  pub mark_done : (result : Result (Unit {0}) StoreError) → MakesMark tells ended rows site here old mid result → tells → OnOk result ((e : Exceptions) → SiteStands e site old → DoesDeeds e site.told (MarkedDeed site.at ended rows ∷ []) old mid)
+  mark_done result makes told = on_ok result (λ (does : (e : Exceptions) → SiteStands e site old → DoesDeeds (excepted_with_waiting site e) site.told (MarkedDeed site.at ended rows ∷ []) old mid) e stands.
+      does_still old mid (excepted_with_waiting site e) e site.told (none_waits site idle e) (MarkedDeed site.at ended rows ∷ []) (does e stands)) (makes.does told)
+
+-- ---- the change behind it
+
+-- What is so of each answer is so of all.
+pub all_ok : (result : Result (Unit {0}) StoreError) (site : SiteState) (plant : PlantState) (P : Exceptions → Type 0) → ((e : Exceptions) → SiteStands e site plant → OnOk result (P e)) → OnOk result ((e : Exceptions) → SiteStands e site plant → P e)
+all_ok (Ok value) site plant P each = each
+all_ok (Err error) site plant P each = tt
+
+module _ (tells : Type 0) (first : List Deed) (site here : SiteState) (old mid new : PlantState) (before : ComesFirst tells first site here old mid) (way : Way) (cut : ℕ) (items : List Item) (rows : List PairRow)
+    (logged : tells → (e : Exceptions) → SiteStands e site old → AreRowsLogged here mid cut items rows) (low : here.mark.at.number < 2 ^ 64) (works : WorksOn tells IsJournal mid new) (result : Result (Unit {0}) StoreError)
+    (shows : ShowsRecord tells way here.mark.at here.at (group_with cut items) mid new result) where
+  abbrev Deeds : List Deed
+  Deeds = first ++ Changed cut rows ∷ []
+
+  pub change_begins : tells → (e : Exceptions) → SiteStands e site old → BeginsDeeds e site.told Deeds old new
+  change_begins told e stands =
+      let f = excepted_behind site.told first e in
+      begin_behind old mid new e site.told first (Changed cut rows ∷ []) (before.does told e stands)
+      (subst (λ (l : List PairRow). BeginsDeeds f l (Changed cut rows ∷ []) mid new) (sym before.rows) (rows_begin tells told f here mid new way cut items rows (before.behind told e stands) (logged told e stands) low works result shows))
+
+  pub change_done : tells → OnOk result ((e : Exceptions) → SiteStands e site old → DoesDeeds e site.told Deeds old new)
+  change_done told = all_ok result site old (λ e. DoesDeeds e site.told Deeds old new) (λ e stands.
+      let f = excepted_behind site.told first e in
+      on_ok result (λ (done : DoesDeeds f here.told (Changed cut rows ∷ []) mid new). go_on old mid new e site.told first (Changed cut rows ∷ []) (before.does told e stands)
+      (subst (λ (l : List PairRow). DoesDeeds f l (Changed cut rows ∷ []) mid new) (sym before.rows) done))
+      (rows_done tells told f here mid new way cut items rows (before.behind told e stands) (logged told e stands) low works result shows))
+
+  pub change_stands : tells → OnOk result ((e : Exceptions) → SiteStands e site old → SiteStands e (with_logged_rows mid.journals way cut items rows here) new)
+  change_stands told = all_ok result site old (λ e. SiteStands e (with_logged_rows mid.journals way cut items rows here) new) (λ e stands.
+      rows_stand tells told e here mid new way cut items rows (before.stands told e stands) (logged told e stands) low works result shows)
+
+-- ---- devices, counts and jobs
+
+pub record_works : (tells : Type 0) (site : SiteState) (old mid new : PlantState) → WorksOn tells (IsOfMark site) old mid → WorksOn tells IsJournal mid new → WorksOn tells (IsOfRecord site) old new
+record_works tells site old mid new one two = works_on_trans tells (IsOfRecord site) old mid new (works_on_more tells (IsOfMark site) (IsOfRecord site) old mid (λ d is. inr is) one) (works_on_more tells IsJournal (IsOfRecord site) mid new (λ d is. inl is) two)
+
+-- No count of the control, the state or a journal rose in calls that answered Ok.
+pub none_rose : (old mid : Device → ℕ) → HasStoreCause old mid (Ok tt) → (d : Device) → IsStore d → mid d ≡ old d
+none_rose old mid cause d store = cause.counts.others d store (λ e. cc e)
+
+pub cause_then : (old mid new : Device → ℕ) (result : Result (Unit {0}) StoreError) → ((d : Device) → IsStore d → mid d ≡ old d) → HasStoreCause mid new result → HasStoreCause old new result
+cause_then old mid new result same cause = record {
+  counts = record {
+    fault = λ d named. let why = cause.counts.fault d named in (why.0, subst (λ (n : ℕ). Rose n (new d)) (same d why.0) why.1);
+    others = λ d store not. cause.counts.others d store not ∙ same d store;
+  };
+  memory = cause.memory;
+}
+
+-- No job fails where no count rises.
+pub none_fail : (failed : List Bool) (count : Device → ℕ) → FailByCounts failed failed count count
+none_fail failed count = record {
+  size = refl;
+  alone = λ d lt bad. (bad, refl);
+  by_count = λ d lt good. record { later = omega arith; by_one = omega arith; same = λ e. refl; rose = λ bad. absurd (cc (bad, good)) };
+}
+
+-- No volume's count rises while a record is put.
+pub fail_first : (failed now : List Bool) (old mid new : Device → ℕ) → ((d : Device) → ¬ IsJournal d → new d ≡ mid d) → FailByCounts failed now old mid → FailByCounts failed now old new
+fail_first failed now old mid new same fails = record {
+  size = fails.size;
+  alone = λ d lt bad. let was = fails.alone d lt bad in (was.0, same (Volume d) (λ no. no) ∙ was.1);
+  by_count = λ d lt good. subst (λ (n : ℕ). FailsByCount (slice_index_or now d false) (old (Volume d)) n) (sym (same (Volume d) (λ no. no))) (fails.by_count d lt good);
+}

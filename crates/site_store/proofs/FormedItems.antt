@@ -1,0 +1,86 @@
+-- The items of a formed record: images, and behind them the pairs of the rows that change.
+use Rattle.std.proofs.Common.{◌≡◌, ◌==◌, ℕ, ◌+◌, ◌*◌, true, nat_lt, List, [], ◌∷◌, ◌++◌, Option, Some, None, refl, sym, ap, subst, ◌∙◌, arith, eqb-true}
+use Rattle.std.specs.List.{All, list_all}
+use Rattle.std.proofs.lemmas.Bool.{and_parts, and_from, lt-ltb, le-leb}
+use Rattle.crash_plant.specs.declared.device.Device.TheVariants.{Volume}
+use Rattle.crash_plant.specs.Moments.{PlantState}
+use Rattle.pair_table.specs.declared.row.PairState.{PairState}
+use Rattle.pair_table.specs.declared.row.PairRow.{PairRow}
+use Rattle.pair_table.specs.Tables.{in_state, none_clash, with_row}
+use Rattle.record_rows.specs.ChangedRows.{changed_rows, changed_to, rows_in_states, with_rows_put}
+use Rattle.record_rows.proofs.Changed.{changed_make}
+use Rattle.record_rows.proofs.Devices.{apart_of}
+use Rattle.site_means.specs.Walk.{rows_through}
+use Rattle.pending_queue.specs.Entries.{WaitingEntry}
+use Rattle.xrc_journal.specs.Items.{AreItems, Earlier, Form, Item, anywhere, are_items_behind, behind, form_of, is_item, is_within, none_earlier}
+use Rattle.xrc_journal.specs.Items.Item.{Pair}
+use Rattle.xrc_journal.specs.Contents.{HasItem}
+use Rattle.image_former.specs.Entries.{HasEntry, is_device, is_entry_on, row_device}
+use Rattle.image_former.specs.Forms.{AreItemsWhereAllowed}
+use Rattle.site_store.specs.Hits.{Next, pair_in, pairs_with_next}
+use Rattle.site_store.specs.Logging.{IsOfSomeRow, is_entry_of_device, is_pair_item}
+use Rattle.site_store.specs.Standing.{row_has_volume}
+use Rattle.site_store.proofs.LentJobs.{found_any, row_of_entry, slot_reach}
+
+-- ---- pairs
+
+pub pairs_are : (next : Next) (rows : List PairRow) → list_all is_pair_item (pairs_with_next next rows) ≡ true
+pairs_are next [] = refl
+pairs_are next (r ∷ rows) = by_state (next r) (pairs_are next rows)
+  where
+    by_state : (state : Option PairState) → list_all is_pair_item (pairs_with_next next rows) ≡ true → list_all is_pair_item (pair_in r state ++ pairs_with_next next rows) ≡ true
+    by_state (Some state) more = more
+    by_state None more = more
+
+pairs_put : (next : Next) (rows all : List PairRow) → rows_through (pairs_with_next next rows) all ≡ with_rows_put (changed_rows next rows) all
+pairs_put next [] all = refl
+pairs_put next (r ∷ rows) all = by_state (next r) (λ l. pairs_put next rows l)
+  where
+    by_state : (state : Option PairState) → ((l : List PairRow) → rows_through (pairs_with_next next rows) l ≡ with_rows_put (changed_rows next rows) l) → rows_through (pair_in r state ++ pairs_with_next next rows) all ≡ with_rows_put (changed_to r state ++ changed_rows next rows) all
+    by_state (Some state) more = more (with_row (in_state state r) all)
+    by_state None more = more all
+
+-- Pairs lead from rows to those in their new states.
+pub pairs_lead : (next : Next) (rows : List PairRow) → none_clash rows ≡ true → rows_through (pairs_with_next next rows) rows ≡ rows_in_states next rows
+pairs_lead next rows apart = pairs_put next rows rows ∙ changed_make next rows (apart_of rows apart)
+
+-- ---- the rules on one record
+
+-- Pairs keep them whatever tracks a form allows.
+pairs_keep : (form : Form) (next : Next) (earlier : Earlier) (rows : List PairRow) → are_items_behind anywhere earlier (pairs_with_next next rows) ≡ true → are_items_behind form earlier (pairs_with_next next rows) ≡ true
+pairs_keep form next earlier [] keep = refl
+pairs_keep form next earlier (r ∷ rows) keep = by_state (next r) (λ e more. pairs_keep form next e rows more) keep
+  where
+    by_state : (state : Option PairState) → ((e : Earlier) → are_items_behind anywhere e (pairs_with_next next rows) ≡ true → are_items_behind form e (pairs_with_next next rows) ≡ true)
+        → are_items_behind anywhere earlier (pair_in r state ++ pairs_with_next next rows) ≡ true → are_items_behind form earlier (pair_in r state ++ pairs_with_next next rows) ≡ true
+    by_state None more keep = more earlier keep
+    by_state (Some state) more keep =
+        let item : Item = Pair (in_state state r) in
+        let parts = and_parts (is_item anywhere earlier item) (are_items_behind anywhere (behind item earlier) (pairs_with_next next rows)) keep in
+        and_from (is_item form earlier item) (are_items_behind form (behind item earlier) (pairs_with_next next rows)) parts.0 (more (behind item earlier) parts.1)
+
+-- So do images with pairs behind them.
+items_keep : (form : Form) (next : Next) (earlier : Earlier) (images : List Item) (rows : List PairRow) → are_items_behind form earlier images ≡ true → are_items_behind anywhere earlier (images ++ pairs_with_next next rows) ≡ true
+    → are_items_behind form earlier (images ++ pairs_with_next next rows) ≡ true
+items_keep form next earlier [] rows first all = pairs_keep form next earlier rows all
+items_keep form next earlier (i ∷ images) rows first all =
+    let here = and_parts (is_item form earlier i) (are_items_behind form (behind i earlier) images) first in
+    let there = and_parts (is_item anywhere earlier i) (are_items_behind anywhere (behind i earlier) (images ++ pairs_with_next next rows)) all in
+    and_from (is_item form earlier i) (are_items_behind form (behind i earlier) (images ++ pairs_with_next next rows)) here.0 (items_keep form next (behind i earlier) images rows here.1 there.1)
+
+-- The slot of a track with an entry is one of the plant's.
+pub slot_there : (start : PlantState) (rows : List PairRow) (entries : List WaitingEntry) → list_all (row_has_volume start) rows ≡ true → All (IsOfSomeRow rows) entries → (device x : ℕ) → HasEntry rows device x entries → (form_of start).has_slot device x ≡ true
+slot_there start rows entries below live device x has =
+    let f = found_any (is_entry_on rows device x) entries has in
+    let r = row_of_entry start rows f.element below (subst (IsOfSomeRow rows) f.there (live f.place f.element f.within)) in
+    let on = and_parts (is_entry_of_device rows device f.element) (f.element.head.track == x) f.passes in
+    let is : r.row.device ≡ device = eqb-true r.row.device device (ap (λ (o : Option PairRow). is_device device (row_device o)) (sym r.found) ∙ on.0) in
+    and_from (nat_lt device start.volumes) (is_within (start.lengths (Volume device)) x) (lt-ltb device start.volumes (omega (arith, r.there, is)))
+    (le-leb (512 + x * 57344 + 57344) (start.lengths (Volume device)) (omega (arith, slot_reach start rows entries below live device x has)))
+
+-- The items of a formed record keep the rules on one record.
+pub formed_keep : (start : PlantState) (rows : List PairRow) (entries : List WaitingEntry) (next : Next) (images items : List Item) → list_all (row_has_volume start) rows ≡ true → All (IsOfSomeRow rows) entries → AreItemsWhereAllowed images
+    → ((d x : ℕ) → HasItem d x images → HasEntry rows d x entries) → items ≡ images ++ pairs_with_next next rows → AreItems anywhere items → AreItems (form_of start) items
+formed_keep start rows entries next images items below live allowed on is keep =
+    let first : AreItems (form_of start) images = allowed (form_of start) (λ d x has. slot_there start rows entries below live d x (on d x has)) in
+    subst (AreItems (form_of start)) (sym is) (items_keep (form_of start) next none_earlier images rows first (subst (AreItems anywhere) is keep))

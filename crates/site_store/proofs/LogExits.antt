@@ -1,0 +1,350 @@
+-- How a group's logging ends, by what its parts answer, over plain states.
+use Rattle.std.proofs.Common.{◌≡◌, ◌≢◌, inr, ℕ, ◌+◌, ◌*◌, ◌-◌, ◌^◌, ◌≤◌, ◌<◌, Bool, true, false, List, [], length, Ok, Err, Result, refl, sym, ap, subst, ◌∙◌, arith}
+use Rattle.std.specs.Prelude.{IsErrOf, OnOk}
+use Rattle.std.specs.List.{All}
+use Rattle.crash_plant.specs.declared.device.Device.{Device}
+use Rattle.crash_plant.specs.declared.device.Device.TheVariants.{Journal, Volume}
+use Rattle.crash_plant.specs.declared.spot.Spot.{Spot}
+use Rattle.crash_plant.specs.Calls.{NoneLent, WorksOn}
+use Rattle.crash_plant.specs.Choices.{IsChoice}
+use Rattle.crash_plant.specs.Moments.{PlantState}
+use Rattle.applier.specs.Back.{OnlyReads, WorksOnLent}
+use Rattle.applier.proofs.Works.{works_lent_more, works_lent_trans}
+use Rattle.pair_table.specs.declared.level.Level.{Level}
+use Rattle.pair_table.specs.declared.row.PairRow.{PairRow}
+use Rattle.pending_queue.specs.Groups.{FormedGroup, most_of_control}
+use Rattle.record_rows.specs.ChangedRows.{rows_in_states}
+use Rattle.record_rows.specs.Hits.{hit_now}
+use Rattle.record_rows.specs.Records.{rows_behind_mark, rows_with_record}
+use Rattle.xrc_journal.specs.Bodies.{Held}
+use Rattle.xrc_journal.specs.Items.{Item, body_spelling}
+use Rattle.site_deeds.specs.Exceptions.{Exceptions}
+use Rattle.site_store.specs.declared.hits.Hits.{Hits}
+use Rattle.site_store.specs.declared.store_error.StoreError.{StoreError}
+use Rattle.site_store.specs.declared.store_error.StoreError.TheVariants.{Spent}
+use Rattle.site_store.specs.declared.way.Way.{Way}
+use Rattle.site_store.specs.declared.way.Way.TheVariants.{Marked as MarkedFirst}
+use Rattle.site_store.specs.Causes.{FailByCounts, HasStoreCause}
+use Rattle.site_store.specs.Hits.{AreHits, are_some, with_group_and_hits}
+use Rattle.site_store.specs.Jobs.{body_room}
+use Rattle.site_store.specs.Logging.{FormsRecord, HasEntryOn, IsOfLog, IsOfSomeRow, LogsBy, LogsGroup, MayLog, rows_before, rows_logged}
+use Rattle.site_store.specs.Marking.{MakesMark}
+use Rattle.site_store.specs.Recording.{HasRoomBehindSwitch, MayPutRecord, ShowsRecord, group_with}
+use Rattle.site_store.specs.Records.{IsJournal, IsOfMark, behind_mark, one_more}
+use Rattle.site_store.specs.Sites.{SiteState}
+use Rattle.site_store.specs.Standing.{FitsPlant, Leaves, MayRecord, SiteStands, none_excepted}
+use Rattle.site_store.specs.Ways.{is_spent, record_needs_more, way_from}
+use Rattle.site_store.proofs.LogFails.{StoresQuiet, cause_then, fails_trans, quiet_reads, spent_cause}
+use Rattle.site_store.proofs.LogForms.{FirstForm, HasPlace, fits_formed, formed_ready, formed_stands, forms_first, logs_before, logs_spent, marked_entries, marked_stage, plain_place, plain_stage}
+use Rattle.site_store.proofs.LogPut.{IsReady, logged_site, may_put}
+use Rattle.site_store.proofs.LogReads.{with_failed}
+use Rattle.site_store.proofs.LogStage.{PutStage, put_cause, put_failed, put_fails, put_leaves, put_logs, put_others}
+use Rattle.site_store.proofs.LogStart.{FormedBy, first_formed, first_rows, formed_short, marked_formed, marked_rows, way_still}
+use Rattle.site_store.proofs.MarkFirst.{room_behind_mark, suffice}
+use Rattle.site_store.proofs.RecordPuts.{on_ok}
+
+-- ---- a record put, from any stage
+
+module _ (tells : Type 0) (group : FormedGroup) (way : Way) (site last : SiteState) (after : List PairRow) (old plant new : PlantState) (items : List Item) (stage : PutStage tells group way site last after old plant new items)
+    (read : tells → IsChoice plant plant.clock plant.bytes) (works : WorksOn tells IsJournal plant new) (start : SiteState) (is : site ≡ start) where
+  -- The journal was marked at this spot, and the group has this time.
+  module _ (from : Spot) (cut : ℕ) (from_is : from ≡ last.mark.at) (cut_is : cut ≡ group.cut.0) where
+    shows_there : (result : Result (Unit {0}) StoreError) → ShowsRecord tells way from last.at (group_with cut items) plant new result → ShowsRecord tells way last.mark.at last.at (group_with group.cut.0 items) plant new result
+    shows_there result shows = subst (λ (n : ℕ). ShowsRecord tells way last.mark.at last.at (group_with n items) plant new result) cut_is (subst (λ (s : Spot). ShowsRecord tells way s last.at (group_with cut items) plant new result) from_is shows)
+
+    pub end_fails : (next : SiteState) (error : StoreError) → next.failed ≡ last.failed → ShowsRecord tells way from last.at (group_with cut items) plant new (Err error) → LogsBy tells group way start next old new (Err error)
+    end_fails next error failed_is shows = subst (λ (s : SiteState). LogsBy tells group way s next old new (Err error)) is (put_fails tells group way site last after old plant new items stage read works next error failed_is (shows_there (Err error) shows))
+
+    pub end_logs : (next : SiteState) → next ≡ logged_site plant.journals way group.cut.0 items after (one_more last.since) last → ShowsRecord tells way from last.at (group_with cut items) plant new (Ok tt) → LogsBy tells group way start next old new (Ok tt)
+    end_logs next next_is shows =
+        subst (λ (s : SiteState). LogsBy tells group way s next old new (Ok tt)) is
+        (subst (λ (n : SiteState). LogsBy tells group way site n old new (Ok tt)) (sym next_is) (put_logs tells group way site last after old plant new items stage read works (shows_there (Ok tt) shows)))
+
+    pub end_leaves : (next : SiteState) → next ≡ logged_site plant.journals way group.cut.0 items after (one_more last.since) last → ShowsRecord tells way from last.at (group_with cut items) plant new (Ok tt) → Leaves tells (λ e. e) start next old new
+    end_leaves next next_is shows =
+        subst (λ (s : SiteState). Leaves tells (λ e. e) s next old new) is
+        (subst (λ (n : SiteState). Leaves tells (λ e. e) site n old new) (sym next_is) (put_leaves tells group way site last after old plant new items stage read works (shows_there (Ok tt) shows)))
+
+  pub end_others : WorksOnLent tells (IsOfLog start group) old new
+  end_others = subst (λ (s : SiteState). WorksOnLent tells (IsOfLog s group) old new) is (put_others tells group way site last after old plant new items stage read works)
+
+  pub end_failed : (next : SiteState) → next.failed ≡ last.failed → FailByCounts start.failed next.failed old.faults new.faults
+  end_failed next failed_is =
+      subst (λ (s : SiteState). FailByCounts s.failed next.failed old.faults new.faults) is
+      (subst (λ (f : List Bool). FailByCounts site.failed f old.faults new.faults) (sym failed_is) (put_failed tells group way site last after old plant new items stage read works))
+
+  pub end_cause : (result : Result (Unit {0}) StoreError) → HasStoreCause plant.faults new.faults result → HasStoreCause old.faults new.faults result
+  end_cause result cause = put_cause tells group way site last after old plant new items stage read works result cause
+
+-- It may be put.
+pub end_may : (tells : Type 0) (group : FormedGroup) (way : Way) (last : SiteState) (after : List PairRow) (plant : PlantState) (items : List Item) (ready : IsReady tells group way last after plant items) (stands : tells → (e : Exceptions) × SiteStands e last plant)
+    (read : tells → IsChoice plant plant.clock plant.bytes) (size : tells → length (plant.bytes (Journal last.at.set)) ≡ plant.lengths (Journal last.at.set)) (from : Spot) (cut : ℕ) → from ≡ last.mark.at → cut ≡ group.cut.0 → MayPutRecord tells way from last.at cut items plant
+end_may tells group way last after plant items ready stands read size from cut from_is cut_is =
+    subst (λ (n : ℕ). MayPutRecord tells way from last.at n items plant) (sym cut_is) (subst (λ (s : Spot). MayPutRecord tells way s last.at group.cut.0 items plant) (sym from_is) (may_put tells group way last after plant items ready stands read size))
+
+-- ---- the record that was formed first
+
+pub record IsFirst (tells : Type 0) (group : FormedGroup) (site : SiteState) (old mid : PlantState) (failed : List Bool) (items : List Item) (way : Way) : Type 0 where
+  pub ready : MayRecord tells site old
+  pub may : MayLog site group
+  pub told_is : site.told ≡ site.table.rows
+  pub by : FormedBy tells group site old failed items (rows_with_record site.level group failed site.told)
+  pub works : WorksOnLent tells (λ device. (d : ℕ) × (device ≡ Volume d) × HasEntryOn site.table.rows group.entries d) old mid
+  pub reads : OnlyReads tells old mid
+  pub home : NoneLent mid
+  pub fails : FailByCounts site.failed failed old.faults mid.faults
+  pub short : length (body_spelling items) ≤ body_room site.controls
+  pub way_is : way ≡ way_from mid site.at site.mark.at items
+
+module _ (tells : Type 0) (group : FormedGroup) (site : SiteState) (old mid : PlantState) (held now : Held) (due was failed : List Bool) (hits : Hits) (ready : MayRecord tells site old) (told_is : site.told ≡ site.table.rows)
+    (forms : FormsRecord tells group site.table.rows old held now due failed hits) (are : AreHits site.level group.cut failed false site.table.rows hits) where
+  forms_told : FormsRecord tells group site.told old held now due failed hits
+  forms_told = subst (λ (rows : List PairRow). FormsRecord tells group rows old held now due failed hits) (sym told_is) forms
+
+  hits_told : AreHits site.level group.cut failed false site.told hits
+  hits_told = subst (λ (rows : List PairRow). AreHits site.level group.cut failed false rows hits) (sym told_is) are
+
+  -- the rows behind it
+  pub first_after : rows_in_states (with_group_and_hits group hits) site.table.rows ≡ rows_with_record site.level group failed site.told
+  first_after = ap (λ (rows : List PairRow). rows_in_states (with_group_and_hits group hits) rows) (sym told_is) ∙ first_rows tells group site old held now due failed hits forms_told ready.fast.fits hits_told
+
+  pub is_first : (way : Way) → MayLog site group → was ≡ site.failed → FailByCounts was failed old.faults mid.faults → OnlyReads tells old mid → NoneLent mid → WorksOnLent tells (λ device. (d : ℕ) × (device ≡ Volume d) × HasEntryOn site.table.rows group.entries d) old mid
+      → length group.entries ≤ most_of_control * group.controls → way ≡ way_from mid site.at site.mark.at now.items → IsFirst tells group site old mid failed now.items way
+  is_first way may was_is fails reads home works few way_is = record {
+    ready = ready;
+    may = may;
+    told_is = told_is;
+    by = first_formed tells group site old held now due failed hits forms_told ready.fast.fits hits_told;
+    works = works;
+    reads = reads;
+    home = home;
+    fails = subst (λ (f : List Bool). FailByCounts f failed old.faults mid.faults) was_is fails;
+    short = formed_short site.controls group.controls group.entries now.items may.controls few forms.short;
+    way_is = way_is;
+  }
+
+module _ (tells : Type 0) (group : FormedGroup) (site : SiteState) (old mid : PlantState) (failed : List Bool) (items : List Item) (way : Way) (first : IsFirst tells group site old mid failed items way) where
+  first_form : FirstForm tells group site old way failed items
+  first_form = record { are = first.by.are; way_is = first.way_is ∙ way_still old mid site.at site.mark.at items first.works.site }
+
+  fits_then : FitsPlant (with_failed failed site) mid
+  fits_then =
+      fits_formed tells group site old mid failed items (rows_with_record site.level group failed site.told) first.ready.fast.fits first.ready.idle first.may.cut first.by.are first.by.fit first.by.have first.by.told_by first.works first.reads first.home first.fails first.short
+
+  stands_then : tells → (e : Exceptions) → SiteStands e site old → SiteStands e (with_failed failed site) mid
+  stands_then =
+      formed_stands tells group site old mid failed items (rows_with_record site.level group failed site.told) first.ready.fast.fits first.ready.idle first.may.cut first.by.are first.by.fit first.by.have first.by.told_by first.works first.reads first.home first.fails first.short
+
+  pub some_stands : tells → (e : Exceptions) × SiteStands e (with_failed failed site) mid
+  some_stands told = let at = first.ready.fast.stands told in (at.0, stands_then told at.0 at.1)
+
+  pub set_there : site.at.set < mid.journals
+  set_there = fits_then.set
+
+  pub room_there : site.at.place + 24 ≤ mid.lengths (Journal site.at.set)
+  room_there = fits_then.room
+
+  -- ---- the numbers don't suffice
+
+  pub spent_logged : (start next : SiteState) → site ≡ start → next.failed ≡ failed → is_spent way site ≡ true → LogsGroup tells group start next old mid (Err Spent)
+  spent_logged start next is failed_is spent = subst (λ (s : SiteState). LogsGroup tells group s next old mid (Err Spent)) is (logs_spent tells group site next old mid failed first.works first.reads first.fails way items spent first_form failed_is)
+
+  first_others : WorksOnLent tells (IsOfLog site group) old mid
+  first_others = works_lent_more tells _ (IsOfLog site group) old mid (λ d is. inr is) first.works
+
+  pub spent_others : (start : SiteState) → site ≡ start → WorksOnLent tells (IsOfLog start group) old mid
+  spent_others start is = subst (λ (s : SiteState). WorksOnLent tells (IsOfLog s group) old mid) is first_others
+
+  quiet_first : StoresQuiet old.faults mid.faults
+  quiet_first = quiet_reads tells (λ d. HasEntryOn site.table.rows group.entries d) old mid first.works
+
+  pub spent_causes : HasStoreCause old.faults mid.faults (Err Spent)
+  spent_causes = spent_cause old.faults mid.faults quiet_first
+
+  pub spent_failed : (start next : SiteState) → site ≡ start → next.failed ≡ failed → FailByCounts start.failed next.failed old.faults mid.faults
+  spent_failed start next is failed_is = subst (λ (s : SiteState). FailByCounts s.failed next.failed old.faults mid.faults) is (subst (λ (f : List Bool). FailByCounts site.failed f old.faults mid.faults) (sym failed_is) first.fails)
+
+  -- ---- behind a mark
+
+  pub mark_ready : (now : SiteState) → now ≡ with_failed failed site → MayRecord tells now mid
+  mark_ready now is = subst (λ (s : SiteState). MayRecord tells s mid) (sym is) (record { fast = record { fits = fits_then; stands = some_stands }; level = first.ready.level; idle = first.ready.idle })
+
+  pub mark_may : (now : SiteState) → now ≡ with_failed failed site → MayLog now group
+  mark_may now is = subst (λ (s : SiteState). MayLog s group) (sym is) (record { controls = first.may.controls; entries = first.may.entries; cut = first.may.cut })
+
+  module _ (start next now : SiteState) (new : PlantState) (result : Result (Unit {0}) StoreError) (is : site ≡ start) (now_is : now ≡ with_failed failed site) where
+    pub behind_logged : way ≡ MarkedFirst → is_spent way site ≡ false → LogsBy tells group MarkedFirst now next mid new result → FailByCounts now.failed next.failed mid.faults new.faults → ¬ IsErrOf result Spent → LogsGroup tells group start next old new result
+    behind_logged way_is enough logs fails unspent = subst (λ (s : SiteState). LogsGroup tells group s next old new result) is (record {
+      way = way;
+      first = forms_first tells group way site next old mid new failed items result first_form enough unspent first.fails (subst (λ (s : SiteState). FailByCounts s.failed next.failed mid.faults new.faults) now_is fails) (λ other. absurd (other way_is));
+      logs = subst (λ (w : Way). LogsBy tells group w site next old new result) (sym way_is)
+          (logs_before tells group site next old mid failed first.works first.reads first.fails new result stands_then (subst (λ (s : SiteState). LogsBy tells group MarkedFirst s next mid new result) now_is logs) (subst (λ (s : SiteState). FailByCounts s.failed next.failed mid.faults new.faults) now_is fails));
+    })
+
+    leaves_then : Leaves tells (λ e. e) now next mid new → Leaves tells (λ e. e) start next old new
+    leaves_then leaves =
+        let here : Leaves tells (λ e. e) (with_failed failed site) next mid new = subst (λ (s : SiteState). Leaves tells (λ e. e) s next mid new) now_is leaves in
+        subst (λ (s : SiteState). Leaves tells (λ e. e) s next old new) is (record { fits = here.fits; stands = λ told e stood. here.stands told e (stands_then told e stood) })
+
+    pub behind_leaves : OnOk result (Leaves tells (λ e. e) now next mid new) → OnOk result (Leaves tells (λ e. e) start next old new)
+    behind_leaves = on_ok result leaves_then
+
+    pub behind_others : WorksOnLent tells (IsOfLog now group) mid new → WorksOnLent tells (IsOfLog start group) old new
+    behind_others works =
+        subst (λ (s : SiteState). WorksOnLent tells (IsOfLog s group) old new) is
+        (works_lent_trans tells (IsOfLog site group) old mid new first_others (works_lent_more tells (IsOfLog (with_failed failed site) group) (IsOfLog site group) mid new of_site (subst (λ (s : SiteState). WorksOnLent tells (IsOfLog s group) mid new) now_is works)))
+      where
+        of_site : (d : Device) → IsOfLog (with_failed failed site) group d → IsOfLog site group d
+        of_site d among = among
+
+    pub behind_cause : HasStoreCause mid.faults new.faults result → HasStoreCause old.faults new.faults result
+    behind_cause cause = cause_then old.faults mid.faults new.faults result quiet_first cause
+
+    pub behind_failed : FailByCounts now.failed next.failed mid.faults new.faults → FailByCounts start.failed next.failed old.faults new.faults
+    behind_failed fails =
+        subst (λ (s : SiteState). FailByCounts s.failed next.failed old.faults new.faults) is
+        (fails_trans site.failed failed next.failed old.faults mid.faults new.faults first.fails (subst (λ (s : SiteState). FailByCounts s.failed next.failed mid.faults new.faults) now_is fails))
+
+  -- The numbers of a mark and of a record behind a switch suffice.
+  pub mark_number : way ≡ MarkedFirst → is_spent way site ≡ false → site.mark.number < 2 ^ 64 - 2
+  mark_number way_is enough = (suffice site.at.number site.mark.number fits_then.mark.most (subst (λ (w : Way). record_needs_more w site.at.number site.mark.number ≡ false) way_is enough)).mark_is
+
+  pub next_number : way ≡ MarkedFirst → is_spent way site ≡ false → site.at.number < 2 ^ 64 - 2
+  next_number way_is enough = let low = (suffice site.at.number site.mark.number fits_then.mark.most (subst (λ (w : Way). record_needs_more w site.at.number site.mark.number ≡ false) way_is enough)).next_is in omega (arith, low)
+
+  -- ---- without a mark
+
+  module _ (plain : way ≢ MarkedFirst) (enough : is_spent way site ≡ false) where
+    pub plain_ready : IsReady tells group way (with_failed failed site) (rows_with_record site.level group failed site.told) mid items
+    plain_ready =
+        formed_ready tells group site old mid failed items (rows_with_record site.level group failed site.told) first.ready.fast.fits first.ready.idle first.may.cut first.by.are first.by.fit first.by.have first.by.told_by first.works first.reads first.home first.fails first.short
+        way (plain_place site.controls site.mark.number mid site.at site.mark.at items way fits_then.lengths fits_then.set first.short first.way_is plain enough)
+
+    pub plain_put : (new : PlantState) → PutStage tells group way site (with_failed failed site) (rows_with_record site.level group failed site.told) old mid new items
+    plain_put new = plain_stage tells group way site old mid new failed items plain first.works first.reads first.fails plain_ready stands_then
+
+    -- The group is logged as the parts say.
+    pub plain_group : (start next : SiteState) (new : PlantState) (result : Result (Unit {0}) StoreError) → site ≡ start → ¬ IsErrOf result Spent → FailByCounts failed next.failed mid.faults new.faults → (way ≢ MarkedFirst → OnOk result (next.waiting ≡ items))
+        → LogsBy tells group way start next old new result → LogsGroup tells group start next old new result
+    plain_group start next new result is unspent fails here logs = subst (λ (s : SiteState). LogsBy tells group way s next old new result → LogsGroup tells group s next old new result) is
+        (λ by. record { way = way; first = forms_first tells group way site next old mid new failed items result first_form enough unspent first.fails fails here; logs = by }) logs
+
+-- ---- behind a mark that was made first
+
+-- What a mark that was made leaves.
+pub record MadeMark (tells : Type 0) (site behind : SiteState) (old marked : PlantState) : Type 0 where
+  pub is : behind ≡ behind_mark site.mark.ended (rows_before MarkedFirst site behind.failed) behind.failed site
+  pub leaves : Leaves tells (λ e. none_excepted) site behind old marked
+  pub makes : MakesMark tells site.mark.ended (rows_before MarkedFirst site behind.failed) site behind old marked (Ok tt)
+  pub works : WorksOn tells (IsOfMark site) old marked
+  pub quiet : StoresQuiet old.faults marked.faults
+  pub fails : FailByCounts site.failed behind.failed old.faults marked.faults
+
+-- the rows behind the record
+abbrev pub rows_after : FormedGroup → (site behind : SiteState) → (failed : List Bool) → List PairRow
+rows_after group site behind failed = rows_behind_mark behind.level (hit_now behind.failed site.told) group failed behind.told
+
+-- The record was formed behind the mark.
+pub record IsBehind (tells : Type 0) (group : FormedGroup) (site behind : SiteState) (old marked last : PlantState) (failed : List Bool) (items : List Item) : Type 0 where
+  pub idle : site.waiting ≡ []
+  pub late : site.time ≤ group.cut.0
+  pub told_is : site.told ≡ site.table.rows
+  pub stands : tells → (e : Exceptions) × SiteStands e site old
+  pub number : site.at.number < 2 ^ 64 - 2
+  pub mark : MadeMark tells site behind old marked
+  pub by : FormedBy tells group behind marked failed items (rows_after group site behind failed)
+  pub works : WorksOnLent tells (λ device. (d : ℕ) × (device ≡ Volume d) × HasEntryOn behind.table.rows group.entries d) marked last
+  pub reads : OnlyReads tells marked last
+  pub home : NoneLent last
+  pub fails : FailByCounts behind.failed failed marked.faults last.faults
+  pub short : length (body_spelling items) ≤ body_room behind.controls
+
+module _ (tells : Type 0) (group : FormedGroup) (site behind : SiteState) (old marked : PlantState) (ready : MayRecord tells site old) (may : MayLog site group) (told_is : site.told ≡ site.table.rows) (mark : MadeMark tells site behind old marked) where
+  -- A mark's rows are those of its table.
+  pub behind_told : behind.told ≡ behind.table.rows
+  behind_told = ap (λ (s : SiteState). s.told) mark.is ∙ sym (ap (λ (s : SiteState). s.table.rows) mark.is)
+
+  -- Each entry has its row there, too.
+  pub behind_entries : All (IsOfSomeRow behind.table.rows) group.entries
+  behind_entries =
+      subst (λ (s : SiteState). All (IsOfSomeRow s.table.rows) group.entries) (sym mark.is)
+      (marked_entries (hit_now behind.failed site.told) site.time site.told group.entries (subst (λ (rows : List PairRow). All (IsOfSomeRow rows) group.entries) (sym told_is) may.entries))
+
+  pub behind_few : group.controls ≤ behind.controls
+  behind_few = omega (arith, may.controls, ap (λ (s : SiteState). s.controls) mark.is)
+
+  module _ (last : PlantState) (held now : Held) (due was failed : List Bool) (reached : Bool) (hits : Hits) (forms : FormsRecord tells group behind.table.rows marked held now due failed hits) (are : AreHits behind.level group.cut failed reached behind.table.rows hits)
+      (reached_is : reached ≡ are_some (hit_now behind.failed site.told)) where
+    told_forms : FormsRecord tells group behind.told marked held now due failed hits
+    told_forms = subst (λ (rows : List PairRow). FormsRecord tells group rows marked held now due failed hits) (sym behind_told) forms
+
+    told_hits : AreHits behind.level group.cut failed reached behind.told hits
+    told_hits = subst (λ (rows : List PairRow). AreHits behind.level group.cut failed reached rows hits) (sym behind_told) are
+
+    -- the rows behind it
+    pub behind_after : rows_in_states (with_group_and_hits group hits) behind.table.rows ≡ rows_after group site behind failed
+    behind_after =
+        ap (λ (rows : List PairRow). rows_in_states (with_group_and_hits group hits) rows) (sym behind_told)
+        ∙ marked_rows tells group behind marked held now due failed hits told_forms mark.leaves.fits (hit_now behind.failed site.told) site.time site.told reached (ap (λ (s : SiteState). s.told) mark.is) reached_is told_hits
+
+    pub is_behind : site.at.number < 2 ^ 64 - 2 → was ≡ behind.failed → FailByCounts was failed marked.faults last.faults → OnlyReads tells marked last → NoneLent last
+        → WorksOnLent tells (λ device. (d : ℕ) × (device ≡ Volume d) × HasEntryOn behind.table.rows group.entries d) marked last → length group.entries ≤ most_of_control * group.controls → IsBehind tells group site behind old marked last failed now.items
+    is_behind number was_is fails reads home works few = record {
+      idle = ready.idle;
+      late = may.cut;
+      told_is = told_is;
+      stands = ready.fast.stands;
+      number = number;
+      mark = mark;
+      by = marked_formed tells group behind marked held now due failed hits told_forms mark.leaves.fits (hit_now behind.failed site.told) site.time site.told reached (ap (λ (s : SiteState). s.told) mark.is) reached_is told_hits;
+      works = works;
+      reads = reads;
+      home = home;
+      fails = subst (λ (f : List Bool). FailByCounts f failed marked.faults last.faults) was_is fails;
+      short = formed_short behind.controls group.controls group.entries now.items behind_few few forms.short;
+    }
+
+module _ (tells : Type 0) (group : FormedGroup) (site behind : SiteState) (old marked last : PlantState) (failed : List Bool) (items : List Item) (b : IsBehind tells group site behind old marked last failed items) where
+  behind_idle : behind.waiting ≡ []
+  behind_idle = ap (λ (s : SiteState). s.waiting) b.mark.is
+
+  behind_late : behind.time ≤ group.cut.0
+  behind_late = omega (arith, b.late, ap (λ (s : SiteState). s.time) b.mark.is)
+
+  fits_last : FitsPlant (with_failed failed behind) last
+  fits_last = fits_formed tells group behind marked last failed items (rows_after group site behind failed) b.mark.leaves.fits behind_idle behind_late b.by.are b.by.fit b.by.have b.by.told_by b.works b.reads b.home b.fails b.short
+
+  stands_last : tells → (e : Exceptions) → SiteStands e behind marked → SiteStands e (with_failed failed behind) last
+  stands_last = formed_stands tells group behind marked last failed items (rows_after group site behind failed) b.mark.leaves.fits behind_idle behind_late b.by.are b.by.fit b.by.have b.by.told_by b.works b.reads b.home b.fails b.short
+
+  pub last_stands : tells → (e : Exceptions) × SiteStands e (with_failed failed behind) last
+  last_stands told = let at = b.stands told in (none_excepted, stands_last told none_excepted (b.mark.leaves.stands told at.0 at.1))
+
+  pub last_set : behind.at.set < last.journals
+  last_set = fits_last.set
+
+  mark_there : behind.mark.at ≡ behind.at
+  mark_there = ap (λ (s : SiteState). s.mark.at) b.mark.is ∙ sym (ap (λ (s : SiteState). s.at) b.mark.is)
+
+  low_number : behind.at.number < 2 ^ 64 - 2
+  low_number = omega (arith, b.number, ap (λ (s : SiteState). s.at.number) b.mark.is)
+
+  place : HasPlace last MarkedFirst behind.mark.at behind.at items
+  place = record {
+    room = subst (λ (f : Spot). HasRoomBehindSwitch last f behind.at items) (sym mark_there) (room_behind_mark behind.controls last behind.at items fits_last.lengths fits_last.set (omega (arith, low_number)) b.short);
+    number = omega (arith, low_number);
+  }
+
+  pub last_ready : IsReady tells group MarkedFirst (with_failed failed behind) (rows_after group site behind failed) last items
+  last_ready =
+      formed_ready tells group behind marked last failed items (rows_after group site behind failed) b.mark.leaves.fits behind_idle behind_late b.by.are b.by.fit b.by.have b.by.told_by b.works b.reads b.home b.fails b.short
+      MarkedFirst place
+
+  after_logged : rows_after group site behind failed ≡ rows_logged MarkedFirst site group behind.failed failed
+  after_logged =
+      ap (λ (rows : List PairRow). rows_behind_mark behind.level (hit_now behind.failed site.told) group failed rows) (ap (λ (s : SiteState). s.told) b.mark.is)
+      ∙ ap (λ (level : Level). rows_behind_mark level (hit_now behind.failed site.told) group failed (rows_before MarkedFirst site behind.failed)) (ap (λ (s : SiteState). s.level) b.mark.is)
+
+  pub last_put : (new : PlantState) → PutStage tells group MarkedFirst site (with_failed failed behind) (rows_after group site behind failed) old last new items
+  last_put new =
+      marked_stage tells group site behind.failed old marked behind (Ok tt) b.idle b.mark.makes b.mark.works b.mark.fails last new refl b.told_is failed items (rows_after group site behind failed) b.mark.is b.mark.leaves b.mark.quiet b.works b.reads b.fails after_logged last_ready stands_last

@@ -1,0 +1,137 @@
+-- What is known of a group before its record is put, and what follows once it was put or failed.
+use Rattle.std.proofs.Common.{◌≡◌, ◌⊎◌, inl, inr, ℕ, Bool, true, false, List, [], ◌∷◌, Ok, Err, Result, refl, sym, ap, subst, ◌∙◌}
+use Rattle.crash_plant.specs.declared.device.Device.TheVariants.{Volume}
+use Rattle.crash_plant.specs.Calls.{SameSite, WorksOn}
+use Rattle.crash_plant.specs.Choices.{IsChoice}
+use Rattle.crash_plant.specs.Moments.{PlantState}
+use Rattle.applier.specs.Back.{WorksOnLent}
+use Rattle.applier.proofs.Works.{lent_of_works, none_lent_lent, works_lent_more, works_lent_trans}
+use Rattle.pair_table.specs.declared.row.PairRow.{PairRow}
+use Rattle.pending_queue.specs.Groups.{FormedGroup}
+use Rattle.xrc_journal.specs.Items.{Item}
+use Rattle.record_rows.specs.Deeds.Deed.{Logged}
+use Rattle.site_deeds.specs.Doing.{BeginsDeeds, DoesDeeds}
+use Rattle.site_deeds.specs.Exceptions.{Exceptions}
+use Rattle.site_store.specs.declared.store_error.StoreError.{StoreError}
+use Rattle.site_store.specs.declared.way.Way.{Way}
+use Rattle.site_store.specs.Causes.{FailByCounts, HasStoreCause}
+use Rattle.site_store.specs.Logging.{AreItemsOf, FailedBetween, IsOfLog, LogsBy, log_deeds, rows_before, rows_logged}
+use Rattle.site_store.specs.Recording.{ShowsRecord, group_with}
+use Rattle.site_store.specs.Records.{IsJournal, behind_record, behind_way, one_more}
+use Rattle.site_store.specs.Sites.{SiteState, has_failed}
+use Rattle.site_store.specs.Standing.{Leaves, SiteStands}
+use Rattle.site_store.proofs.LogFails.{StoresQuiet, cause_then, fails_still, none_by_journals}
+use Rattle.site_store.proofs.LogPut.{IsReady, fits_logged, logged_site, put_begins, put_does, put_stands}
+use Rattle.site_store.proofs.LogReads.{items_still}
+
+-- A site that stands with some exceptions stands with more.
+pub stands_more : (e f : Exceptions) (site : SiteState) (plant : PlantState) → ((d x : ℕ) → e d x ≡ false → f d x ≡ false) → SiteStands f site plant → SiteStands e site plant
+stands_more e f site plant fewer stands = record {
+  walk = stands.walk;
+  meant = stands.meant;
+  chosen = stands.chosen;
+  at = stands.at;
+  last = stands.last;
+  control = stands.control;
+  state = stands.state;
+  journals = stands.journals;
+  done = stands.done;
+  items = stands.items;
+  applied = λ d lt good x kept. stands.applied d lt good x (fewer d x kept);
+  unwritten = λ d lt not x has. by_case d x (stands.unwritten d lt not x has);
+}
+  where
+    by_flag : (d x : ℕ) (b : Bool) → e d x ≡ b → f d x ≡ true → (has_failed site d ≡ true) ⊎ (e d x ≡ true)
+    by_flag d x true is excepted = inr is
+    by_flag d x false is excepted = let none = fewer d x is in absurd (cc (none, excepted))
+
+    by_case : (d x : ℕ) → (has_failed site d ≡ true) ⊎ (f d x ≡ true) → (has_failed site d ≡ true) ⊎ (e d x ≡ true)
+    by_case d x (inl failed) = inl failed
+    by_case d x (inr excepted) = by_flag d x (e d x) refl excepted
+
+pub site_back : (old new : PlantState) → SameSite old new → SameSite new old
+site_back old new same = record { journals = sym same.journals; volumes = sym same.volumes; lengths = λ d. sym (same.lengths d) }
+
+-- What stands before the record is put, and how its deed goes on from there.
+pub record SeenFrom (group : FormedGroup) (way : Way) (early : List Bool) (site last : SiteState) (after : List PairRow) (old plant new : PlantState) (e : Exceptions) : Type 0 where
+  pub excepted : Exceptions
+  pub stands : SiteStands excepted last plant
+  pub fewer : (d x : ℕ) → e d x ≡ false → excepted d x ≡ false
+  pub begins : BeginsDeeds excepted last.told (Logged group.cut.0 group.entries after ∷ []) plant new → BeginsDeeds e site.told (log_deeds way site group early last.failed) old new
+  pub does : DoesDeeds excepted last.told (Logged group.cut.0 group.entries after ∷ []) plant new → DoesDeeds e site.told (log_deeds way site group early last.failed) old new
+
+-- Before the record is put: `site` is the site at the start, and `last` the one then, behind a mark where one was made first.
+pub record PutStage (tells : Type 0) (group : FormedGroup) (way : Way) (site last : SiteState) (after : List PairRow) (old plant new : PlantState) (items : List Item) : Type 0 where
+  pub ready : IsReady tells group way last after plant items
+  pub early : List Bool
+  pub early_failed : FailedBetween site.failed early last.failed
+  pub before_is : last.told ≡ rows_before way site early
+  pub after_is : after ≡ rows_logged way site group early last.failed
+  pub bytes : tells → (d : ℕ) → plant.bytes (Volume d) ≡ old.bytes (Volume d)
+  pub next_is : (sets : ℕ) → logged_site sets way group.cut.0 items after (one_more last.since) last ≡ record (behind_record sets way group.cut.0 items after last.failed site) { since = one_more (behind_way way site).since; waiting = items }
+  pub seen : tells → (e : Exceptions) → SiteStands e site old → SeenFrom group way early site last after old plant new e
+  pub fails : FailByCounts site.failed last.failed old.faults plant.faults
+  pub quiet : StoresQuiet old.faults plant.faults
+  pub works : WorksOnLent tells (IsOfLog site group) old plant
+
+module _ (tells : Type 0) (group : FormedGroup) (way : Way) (site last : SiteState) (after : List PairRow) (old plant new : PlantState) (items : List Item) (stage : PutStage tells group way site last after old plant new items)
+    (read : tells → IsChoice plant plant.clock plant.bytes) (works : WorksOn tells IsJournal plant new) where
+  begins_by : (result : Result (Unit {0}) StoreError) → ShowsRecord tells way last.mark.at last.at (group_with group.cut.0 items) plant new result → tells → (e : Exceptions) → SiteStands e site old → BeginsDeeds e site.told (log_deeds way site group stage.early last.failed) old new
+  begins_by result shows told e stands =
+      let s = stage.seen told e stands in
+      s.begins (put_begins tells group way last after plant items stage.ready told s.excepted s.stands (read told) new works result shows)
+
+  -- Where it isn't put, the deeds have begun.
+  pub put_fails : (next : SiteState) (error : StoreError) → next.failed ≡ last.failed → ShowsRecord tells way last.mark.at last.at (group_with group.cut.0 items) plant new (Err error) → LogsBy tells group way site next old new (Err error)
+  put_fails next error is shows = record {
+    early = stage.early;
+    early_failed = subst (λ (f : List Bool). FailedBetween site.failed stage.early f) (sym is) stage.early_failed;
+    items = tt;
+    next_is = tt;
+    does = record {
+      begins = λ told e stands. subst (λ (f : List Bool). BeginsDeeds e site.told (log_deeds way site group stage.early f) old new) (sym is) (begins_by (Err error) shows told e stands);
+      does = λ told. tt;
+    };
+  }
+
+  pub put_others : WorksOnLent tells (IsOfLog site group) old new
+  put_others = works_lent_trans tells (IsOfLog site group) old plant new stage.works (works_lent_more tells IsJournal (IsOfLog site group) plant new (λ d is. inl (inl is)) (lent_of_works tells IsJournal plant new works))
+
+  pub put_cause : (result : Result (Unit {0}) StoreError) → HasStoreCause plant.faults new.faults result → HasStoreCause old.faults new.faults result
+  put_cause result cause = cause_then old.faults plant.faults new.faults result stage.quiet cause
+
+  pub put_failed : FailByCounts site.failed last.failed old.faults new.faults
+  put_failed = fails_still site.failed last.failed old.faults plant.faults new.faults stage.fails (none_by_journals tells plant new works)
+
+  -- Once it was put, the group is logged.
+  module _ (shows : ShowsRecord tells way last.mark.at last.at (group_with group.cut.0 items) plant new (Ok tt)) where
+    abbrev next : SiteState
+    next = logged_site plant.journals way group.cut.0 items after (one_more last.since) last
+
+    items_old : AreItemsOf tells group last.failed (rows_before way site stage.early) after old items
+    items_old =
+        subst (λ (rows : List PairRow). AreItemsOf tells group last.failed rows after old items) stage.before_is
+        (items_still tells group last.failed last.told after plant old items (site_back old plant stage.works.site) (λ told d. sym (stage.bytes told d)) stage.ready.items_are)
+
+    pub put_logs : LogsBy tells group way site next old new (Ok tt)
+    put_logs = record {
+      early = stage.early;
+      early_failed = stage.early_failed;
+      items = items_old;
+      next_is =
+          ap (λ (sets : ℕ). logged_site sets way group.cut.0 items after (one_more last.since) last) stage.works.site.journals ∙ stage.next_is old.journals
+          ∙ ap (λ (rows : List PairRow). record (behind_record old.journals way group.cut.0 items rows last.failed site) { since = one_more (behind_way way site).since; waiting = items }) stage.after_is;
+      does = record {
+        begins = begins_by (Ok tt) shows;
+        does = λ told e stands. let s = stage.seen told e stands in s.does (put_does tells group way last after plant items stage.ready told s.excepted s.stands (read told) new works shows);
+      };
+    }
+
+    -- The site goes on behind it.
+    pub put_leaves : Leaves tells (λ e. e) site next old new
+    put_leaves = record {
+      fits = fits_logged tells group way last after plant items stage.ready (one_more last.since) new works.site (none_lent_lent tells IsJournal plant new (lent_of_works tells IsJournal plant new works) stage.ready.fits.home);
+      stands = λ told e stands.
+          let s = stage.seen told e stands in
+          stands_more e s.excepted next new s.fewer (put_stands tells group way last after plant items stage.ready told s.excepted s.stands (read told) new works shows (one_more last.since));
+    }

@@ -1,0 +1,112 @@
+-- The pairs of rows that change their state fit the rows among which they stand, one behind another.
+use Rattle.std.proofs.Common.{◌≡◌, ℕ, suc, ◌+◌, ◌&&◌, ◌||◌, Bool, true, false, cond, not, nat_le, nat_lt, List, [], ◌∷◌, ◌++◌, length, map, Option, Some, None, refl, sym, ap, ◌∙◌, eq-eqb, eqb-true}
+use Rattle.std.specs.List.{list_any}
+use Rattle.std.proofs.lemmas.Option.{same_Some}
+use Rattle.pair_table.specs.declared.row.PairState.{PairState}
+use Rattle.pair_table.specs.declared.row.PairState.TheVariants.{Pending}
+use Rattle.pair_table.specs.declared.row.PairRow.{PairRow}
+use Rattle.pair_table.specs.Tables.{are_below, clashes, in_state, is_of, most_rows, none_clash, row_of, with_row}
+use Rattle.pair_table.proofs.TableLaws.{first_apart}
+use Rattle.state_set.specs.Slots.{are_rows}
+use Rattle.site_means.specs.Walk.{first_unfit}
+use Rattle.xrc_journal.specs.Items.{Item, item_spelling}
+use Rattle.xrc_journal.specs.Items.Item.{Image, Delta, Pair, Gone}
+use Rattle.site_store.specs.Hits.{Next, pair_in, pairs_with_next}
+
+-- ---- rows without their states
+
+abbrev bare : PairRow → PairRow
+bare row = in_state Pending row
+
+abbrev bare_rows : List PairRow → List PairRow
+bare_rows rows = map bare rows
+
+bare_clash : (r : PairRow) (rows : List PairRow) → list_any (clashes (bare r)) (bare_rows rows) ≡ list_any (clashes r) rows
+bare_clash r [] = refl
+bare_clash r (s ∷ rows) = ap (λ (b : Bool). clashes r s || b) (bare_clash r rows)
+
+bare_none : (rows : List PairRow) → none_clash (bare_rows rows) ≡ none_clash rows
+bare_none [] = refl
+bare_none (r ∷ rows) = λ i. not (bare_clash r rows i) && bare_none rows i
+
+bare_below : (volumes : ℕ) (rows : List PairRow) → are_below volumes (bare_rows rows) ≡ are_below volumes rows
+bare_below volumes [] = refl
+bare_below volumes (r ∷ rows) = ap (λ (b : Bool). nat_lt r.device volumes && b) (bare_below volumes rows)
+
+bare_length : (rows : List PairRow) → length (bare_rows rows) ≡ length rows
+bare_length [] = refl
+bare_length (r ∷ rows) = ap (λ (n : ℕ). suc n) (bare_length rows)
+
+-- The rules over several rows don't depend on states.
+bare_are : (volumes : ℕ) (rows : List PairRow) → are_rows volumes (bare_rows rows) ≡ are_rows volumes rows
+bare_are volumes rows = λ i. nat_le (bare_length rows i) most_rows && bare_none rows i && bare_below volumes rows i
+
+-- the row is its device's, but for the state
+abbrev IsAmongBare : List PairRow → PairRow → Type 0
+IsAmongBare rows row = row_of row.device (bare_rows rows) ≡ Some (bare row)
+
+-- A row in the place of its own keeps the others.
+bare_with : (row : PairRow) (rows : List PairRow) → IsAmongBare rows row → bare_rows (with_row row rows) ≡ bare_rows rows
+bare_with row [] among = absurd cc
+bare_with row (r ∷ rows) among = by_device (is_of row.device r) among (bare_with row rows)
+  where
+    by_device : (here : Bool) → cond here (Some (bare r)) (row_of row.device (bare_rows rows)) ≡ Some (bare row) → (IsAmongBare rows row → bare_rows (with_row row rows) ≡ bare_rows rows) → bare_rows (cond here (row ∷ rows) (r ∷ with_row row rows)) ≡ bare_rows (r ∷ rows)
+    by_device true is more = ap (λ (s : PairRow). s ∷ bare_rows rows) (sym (same_Some (bare r) (bare row) is))
+    by_device false is more = ap (λ (l : List PairRow). bare r ∷ l) (more is)
+
+-- ---- pairs of rows that stand among some rows
+
+abbrev ArePairsAmong : List PairRow → List Item → Type 0
+ArePairsAmong rows [] = Unit {0}
+ArePairsAmong rows (Image d x recs ∷ items) = ⊥
+ArePairsAmong rows (Delta d x kind ∷ items) = ⊥
+ArePairsAmong rows (Pair row ∷ items) = IsAmongBare rows row × ArePairsAmong rows items
+ArePairsAmong rows (Gone d ∷ items) = ⊥
+
+pairs_fit : (volumes place : ℕ) (first rows : List PairRow) (items : List Item) → are_rows volumes first ≡ true → ArePairsAmong first items → bare_rows rows ≡ bare_rows first → first_unfit volumes place rows items ≡ None
+pairs_fit volumes place first rows [] are among same = refl
+pairs_fit volumes place first rows (Image d x recs ∷ items) are among same = absurd among
+pairs_fit volumes place first rows (Delta d x kind ∷ items) are among same = absurd among
+pairs_fit volumes place first rows (Gone d ∷ items) are among same = absurd among
+pairs_fit volumes place first rows (Pair row ∷ items) are among same =
+    let still : bare_rows (with_row row rows) ≡ bare_rows first = bare_with row rows (ap (λ (l : List PairRow). row_of row.device l) same ∙ among.0) ∙ same in
+    let fits : are_rows volumes (with_row row rows) ≡ true = sym (bare_are volumes (with_row row rows)) ∙ ap (λ (l : List PairRow). are_rows volumes l) still ∙ bare_are volumes first ∙ are in
+    (λ i. cond (fits i) (first_unfit volumes (place + length (item_spelling (Pair row))) (with_row row rows) items) (Some place))
+    ∙ pairs_fit volumes (place + length (item_spelling (Pair row))) first (with_row row rows) items are among.1 still
+
+-- A device with a row is the device of one.
+row_then_any : (device : ℕ) (rows : List PairRow) (row : PairRow) → row_of device (bare_rows rows) ≡ Some row → list_any (is_of device) rows ≡ true
+row_then_any device [] row is = absurd cc
+row_then_any device (r ∷ rows) row is = by_first (is_of device r) (row_then_any device rows row) is
+  where
+    by_first : (b : Bool) → (row_of device (bare_rows rows) ≡ Some row → list_any (is_of device) rows ≡ true) → cond b (Some (bare r)) (row_of device (bare_rows rows)) ≡ Some row → (b || list_any (is_of device) rows) ≡ true
+    by_first true more e = refl
+    by_first false more e = more e
+
+-- behind a row of another device they are pairs still
+more_among : (r : PairRow) (rows : List PairRow) (items : List Item) → ArePairsAmong rows items → list_any (is_of r.device) rows ≡ false → ArePairsAmong (r ∷ rows) items
+more_among r rows [] among apart = tt
+more_among r rows (Image d x recs ∷ items) among apart = among
+more_among r rows (Delta d x kind ∷ items) among apart = among
+more_among r rows (Gone d ∷ items) among apart = among
+more_among r rows (Pair row ∷ items) among apart = (one (is_of row.device r) refl, more_among r rows items among.1 apart)
+  where
+    one : (b : Bool) → is_of row.device r ≡ b → IsAmongBare (r ∷ rows) row
+    one false differ = (λ i. cond (differ i) (Some (bare r)) (row_of row.device (bare_rows rows))) ∙ among.0
+    one true same =
+        let is : row.device ≡ r.device = eqb-true row.device r.device same in
+        let there : list_any (is_of r.device) rows ≡ true = ap (λ (d : ℕ). list_any (is_of d) rows) (sym is) ∙ row_then_any row.device rows (bare row) among.0 in
+        absurd (cc (there, apart))
+
+pairs_among : (next : Next) (rows : List PairRow) → none_clash rows ≡ true → ArePairsAmong rows (pairs_with_next next rows)
+pairs_among next [] apart = tt
+pairs_among next (r ∷ rows) apart =
+    let first = first_apart r rows apart in
+    by_state (next r) (more_among r rows (pairs_with_next next rows) (pairs_among next rows first.others) first.devices)
+  where
+    by_state : (state : Option PairState) → ArePairsAmong (r ∷ rows) (pairs_with_next next rows) → ArePairsAmong (r ∷ rows) (pair_in r state ++ pairs_with_next next rows)
+    by_state None more = more
+    by_state (Some state) more = ((λ i. cond (eq-eqb r.device r.device refl i) (Some (bare r)) (row_of r.device (bare_rows rows))), more)
+
+pub changed_pairs_fit : (volumes place : ℕ) (next : Next) (rows : List PairRow) → are_rows volumes rows ≡ true → none_clash rows ≡ true → first_unfit volumes place rows (pairs_with_next next rows) ≡ None
+changed_pairs_fit volumes place next rows keep apart = pairs_fit volumes place rows rows (pairs_with_next next rows) keep (pairs_among next rows apart) refl

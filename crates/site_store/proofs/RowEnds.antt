@@ -1,0 +1,89 @@
+-- The answers of calls that log rows: the deeds that they are, and the site behind them, by the record's way.
+use Rattle.std.proofs.Common.{◌≡◌, ◌≢◌, ℕ, Bool, true, List, [], ◌∷◌, Result, Ok, Err, refl, ap}
+use Rattle.std.specs.Prelude.{OnOk}
+use Rattle.crash_plant.specs.Moments.{PlantState}
+use Rattle.pair_table.specs.declared.command.Change.{Change}
+use Rattle.pair_table.specs.declared.row.PairRow.{PairRow}
+use Rattle.record_rows.specs.Deeds.{Deed}
+use Rattle.record_rows.specs.Deeds.Deed.{Changed}
+use Rattle.record_rows.specs.Hits.{hit_now}
+use Rattle.record_rows.specs.Records.{rows_with_hits}
+use Rattle.site_deeds.specs.Doing.{BeginsDeeds}
+use Rattle.site_deeds.specs.Exceptions.{Exceptions}
+use Rattle.site_deeds.proofs.Moments.{have_begun, more_follow}
+use Rattle.site_deeds.proofs.Single.{no_call}
+use Rattle.xrc_journal.specs.Items.{Item}
+use Rattle.site_store.specs.declared.store_error.StoreError.{StoreError}
+use Rattle.site_store.specs.declared.way.Way.{Way}
+use Rattle.site_store.specs.declared.way.Way.TheVariants.{Here, Switched, Marked}
+use Rattle.site_store.specs.Changing.{change_deeds, change_deeds_of, changed_items, suspension_deeds, suspension_deeds_of, with_suspensions}
+use Rattle.site_store.specs.Records.{behind_mark, behind_record}
+use Rattle.site_store.specs.Sites.{SiteState}
+use Rattle.site_store.specs.Standing.{FitsPlant, Leaves, SiteStands}
+use Rattle.site_store.proofs.RowsLogged.{with_logged_rows}
+
+-- ---- what is left behind an answer
+
+pub leaves_ok : (tells : Type 0) (site next : SiteState) (old new : PlantState) (result : Result (Unit {0}) StoreError) → FitsPlant next new → (tells → OnOk result ((e : Exceptions) → SiteStands e site old → SiteStands e next new))
+    → OnOk result (Leaves tells (λ e. e) site next old new)
+leaves_ok tells site next old new (Ok value) fits stands = record { fits = fits; stands = stands }
+leaves_ok tells site next old new (Err error) fits stands = tt
+
+-- Where nothing was called any deeds begin.
+pub begin_here : (plant : PlantState) (e : Exceptions) (rows : List PairRow) (deeds : List Deed) → BeginsDeeds e rows deeds plant plant
+begin_here plant e rows deeds = more_follow plant plant e rows [] deeds (have_begun plant plant e rows [] (no_call plant e rows))
+
+-- ---- the site behind a record
+
+-- Without a mark before it the site is the one before it, but for the record.
+pub plain_behind : (journals : ℕ) (way : Way) (cut : ℕ) (items : List Item) (rows : List PairRow) (site : SiteState) → way ≢ Marked → with_logged_rows journals way cut items rows site ≡ behind_record journals way cut items rows site.failed site
+plain_behind journals Here cut items rows site plain = refl
+plain_behind journals Switched cut items rows site plain = refl
+plain_behind journals Marked cut items rows site plain = absurd (plain refl)
+
+pub plain_suspensions : (journals : ℕ) (way : Way) (cut : ℕ) (items : List Item) (failed : List Bool) (site : SiteState) → way ≢ Marked
+    → behind_record journals way cut items (rows_with_hits site.level cut site.failed site.told) site.failed site ≡ with_suspensions journals way cut items failed site
+plain_suspensions journals Here cut items failed site plain = refl
+plain_suspensions journals Switched cut items failed site plain = refl
+plain_suspensions journals Marked cut items failed site plain = absurd (plain refl)
+
+-- the site behind a mark that told these rows, while a change waits
+abbrev pub with_told_mark : List PairRow → (failed : List Bool) → SiteState → SiteState
+with_told_mark marked failed site = record (behind_mark site.mark.ended marked failed site) { table = site.table; is_ahead = true }
+
+pub marked_behind : (journals cut : ℕ) (items : List Item) (marked rows : List PairRow) (failed : List Bool) (site : SiteState)
+    → with_logged_rows journals Marked cut items rows (with_told_mark marked failed site) ≡ behind_record journals Marked cut items rows failed site
+marked_behind journals cut items marked rows failed site = refl
+
+-- ---- the deeds
+
+module _ (site : SiteState) (cut : ℕ) (failed : List Bool) where
+  pub suspension_is : (way : Way) → hit_now site.failed site.told ≢ [] → suspension_deeds_of way site cut failed ≡ suspension_deeds way site cut failed
+  suspension_is way some = by_hit (hit_now site.failed site.told) some
+    where
+      by_hit : (hit : List ℕ) → hit ≢ [] → elim hit [ [] ↦ [] | d ∷ more ↦ suspension_deeds way site cut failed ] ≡ suspension_deeds way site cut failed
+      by_hit [] some = absurd (some refl)
+      by_hit (d ∷ more) some = refl
+
+  pub suspension_none : (way : Way) → hit_now site.failed site.told ≡ [] → suspension_deeds_of way site cut failed ≡ []
+  suspension_none way none = ap (λ (hit : List ℕ). elim hit [ [] ↦ [] | d ∷ more ↦ suspension_deeds way site cut failed ]) none
+
+  pub suspension_plain : (way : Way) → way ≢ Marked → suspension_deeds way site cut failed ≡ Changed cut (rows_with_hits site.level cut failed site.told) ∷ []
+  suspension_plain Here plain = refl
+  suspension_plain Switched plain = refl
+  suspension_plain Marked plain = absurd (plain refl)
+
+  pub change_is : (change : Change) (way : Way) → changed_items change site.table.rows ≢ [] → change_deeds_of change way site cut failed ≡ change_deeds way site cut failed
+  change_is change way some = by_items (changed_items change site.table.rows) some
+    where
+      by_items : (items : List Item) → items ≢ [] → elim items [ [] ↦ [] | i ∷ more ↦ change_deeds way site cut failed ] ≡ change_deeds way site cut failed
+      by_items [] some = absurd (some refl)
+      by_items (i ∷ more) some = refl
+
+  pub change_none : (change : Change) (way : Way) → changed_items change site.table.rows ≡ [] → change_deeds_of change way site cut failed ≡ []
+  change_none change way none = ap (λ (items : List Item). elim items [ [] ↦ [] | i ∷ more ↦ change_deeds way site cut failed ]) none
+
+  pub change_plain : (way : Way) → way ≢ Marked → change_deeds way site cut failed ≡ Changed cut (rows_with_hits site.level cut failed site.table.rows) ∷ []
+  change_plain Here plain = refl
+  change_plain Switched plain = refl
+  change_plain Marked plain = absurd (plain refl)

@@ -1,0 +1,50 @@
+use Rattle.std.proofs.Common.{◌≡◌, List, Option, Some, None, sym, ap, ◌∙◌}
+use Rattle.std.specs.Prelude.{slice_get}
+use Rattle.std.specs.List.{list_any}
+use Rattle.std.specs.Option.{option_copied}
+use Rattle.pair_table.specs.declared.row.PairRow.{PairRow}
+use Rattle.pair_table.specs.Tables.{Table, is_of, with_rows, with_state}
+use Rattle.site_store.specs.Hits.{with_hits}
+use Rattle.site_store.proofs.HitRows.{row_below}
+use Rattle.site_store.proofs.RowPuts.{taken, taken_at, taken_has, taken_none, taken_some}
+use Rattle.site_store.proofs.hits.take_hits.Goals as goal
+use Rattle.site_store.proofs.hits.take_hits.Goals.{in-Some-next_state, in_default-next_state}
+
+pub set_state-requires : goal.set_state-requires
+set_state-requires c =
+    let next_of = with_hits c.args.hits.now in
+    let rows = c.args.table.now.rows in
+    let i = c.loop-place.place in
+    let are : c.loop-place.table.rows ≡ taken next_of rows i = ap (λ (t : Table). t.rows) c.loop-place.invariant in
+    let there : slice_get c.loop-place.table.rows i ≡ Some c.in-Some.row.now = sym c.row.ensures.row ∙ ap (λ (o : Option _). option_copied o) c.in-Some.is in
+    let at : slice_get rows i ≡ Some c.in-Some.row.now = sym (taken_at next_of rows i) ∙ ap (λ (l : List PairRow). slice_get l i) (sym are) ∙ there in
+    ap (list_any (is_of c.in-Some.row.now.device)) are ∙ taken_has next_of rows i c.in-Some.row.now at
+
+pub loop-place-preserved : goal.loop-place-preserved
+loop-place-preserved c =
+    let next_of = with_hits c.args.hits.now in
+    let rows = c.args.table.now.rows in
+    let i = c.loop-place.place in
+    let row = c.in-Some.row.now in
+    let are : c.loop-place.table.rows ≡ taken next_of rows i = ap (λ (t : Table). t.rows) c.loop-place.invariant in
+    let there : slice_get c.loop-place.table.rows i ≡ Some row = sym c.row.ensures.row ∙ ap (λ (o : Option _). option_copied o) c.in-Some.is in
+    let at : slice_get rows i ≡ Some row = sym (taken_at next_of rows i) ∙ ap (λ (l : List PairRow). slice_get l i) (sym are) ∙ there in
+    elim c.match-next_state.branch [
+      | in-Some-next_state w ↦
+          let state = w.in-Some-next_state.state in
+          let next : next_of row ≡ Some state = sym c.next_state.ensures.state ∙ w.in-Some-next_state.is in
+          w.table-is ∙ w.set_state.ensures ∙ (λ k. with_rows (c.loop-place.invariant k) (with_state row.device state (are k))) ∙ ap (with_rows c.args.table.now) (taken_some next_of rows i row state c.len-place-end.ensures.rules.apart at next)
+      | in_default-next_state w ↦
+          let none : next_of row ≡ None = sym c.next_state.ensures.state ∙ w.in_default-next_state.is in
+          w.table-is ∙ c.loop-place.invariant ∙ ap (with_rows c.args.table.now) (taken_none next_of rows i row at none)
+    ]
+
+pub next_state-requires : goal.next_state-requires
+next_state-requires c =
+    let next_of = with_hits c.args.hits.now in
+    let rows = c.args.table.now.rows in
+    let i = c.loop-place.place in
+    let are : c.loop-place.table.rows ≡ taken next_of rows i = ap (λ (t : Table). t.rows) c.loop-place.invariant in
+    let there : slice_get c.loop-place.table.rows i ≡ Some c.in-Some.row.now = sym c.row.ensures.row ∙ ap (λ (o : Option _). option_copied o) c.in-Some.is in
+    let at : slice_get rows i ≡ Some c.in-Some.row.now = sym (taken_at next_of rows i) ∙ ap (λ (l : List PairRow). slice_get l i) (sym are) ∙ there in
+    row_below 64 rows i c.in-Some.row.now c.requires at

@@ -1,0 +1,268 @@
+use Rattle.std.proofs.Common.{rules, ◌≡◌, false, cond, [], length, map, Ok, Err, Result, refl, sym, ap, subst, ◌∙◌, arith}
+use Rattle.std.specs.Prelude.{slice_index_or}
+use Rattle.std.specs.Vec.{with_items}
+use Rattle.std.proofs.lemmas.List.{length-map, with_items_is}
+use Rattle.std.proofs.lemmas.Result.{err_from_is_err_and}
+use Rattle.tod_stamp.specs.declared.stamp.Stamp.{Stamp}
+use Rattle.crash_plant.specs.declared.device.Device.TheVariants.{Journal}
+use Rattle.pair_table.specs.Tables.{Table, with_rows}
+use Rattle.record_rows.specs.Hits.{hit_now}
+use Rattle.site_store.specs.declared.store_error.StoreError.{StoreError}
+use Rattle.site_store.specs.declared.way.Way.{Way}
+use Rattle.site_store.specs.declared.way.Way.TheVariants.{Marked as MarkedFirst}
+use Rattle.site_store.specs.Causes.{HasStoreCause}
+use Rattle.site_store.specs.Hits.{are_some}
+use Rattle.site_store.specs.Jobs.{are_home_from, has_job_failed}
+use Rattle.site_store.specs.Logging.{LogsBy}
+use Rattle.site_store.specs.Records.{one_more}
+use Rattle.site_store.specs.Sites.{SiteState}
+use Rattle.site_store.proofs.Below.{below_volumes}
+use Rattle.site_store.proofs.LogContent.{read_choice}
+use Rattle.site_store.proofs.LogExits as exits
+use Rattle.site_store.proofs.LogExits.{IsBehind, MadeMark, behind_after, behind_entries, behind_few, is_behind, last_put, last_ready, last_set, last_stands, rows_after}
+use Rattle.site_store.proofs.LogFails.{quiet_ok}
+use Rattle.site_store.proofs.LogForms as forms
+use Rattle.site_store.proofs.LogPut.{logged_site}
+use Rattle.site_store.proofs.LogReads.{with_failed}
+use Rattle.site_store.proofs.LogStart.{one_more_is, room_formed}
+use Rattle.site_store.proofs.site.Site.log_group_behind_mark.Goals as goal
+
+-- ---- the mark fails
+
+pub returns-in_err-reached : goal.returns-in_err-reached
+returns-in_err-reached g c =
+    let tells = g.P.Plant.tells in
+    let site = c.args.self.now in
+    let group = c.args.formed.now in
+    let old = g.P.Plant.state c.args.plant.now in
+    let marked = g.P.Plant.state c.mark_hits.new.plant in
+    let error = c.in_err-reached.field-0.0 in
+    let result = c.from_residual.result in
+    let err_is : Err error ≡ result = search rules in
+    let m = c.mark_hits.ensures in
+    record {
+      logged = subst (λ (r : Result (Unit {0}) StoreError). LogsBy tells group MarkedFirst site c.mark_hits.new.self old marked r) err_is
+          (forms.mark_fails tells group site c.mark_hits.new.self.failed old marked c.mark_hits.new.self (Err error) c.requires.ready.idle c.in_err-reached.ensures.makes m.only m.failed c.mark_hits.new.self error refl refl);
+      leaves = search rules;
+      others = forms.marked_works tells group site c.mark_hits.new.self.failed old marked c.mark_hits.new.self _ c.requires.ready.idle m.makes m.only m.failed;
+      cause = subst (λ (r : Result (Unit {0}) StoreError). HasStoreCause (g.P.Plant.state c.args.plant.now).faults (g.P.Plant.state c.mark_hits.new.plant).faults r) err_is c.in_err-reached.ensures.cause;
+      unspent = search rules;
+      failed = c.mark_hits.ensures.failed;
+    }
+
+-- ---- the record is formed behind it
+
+pub form_record-hits-requires-clause-may : goal.form_record-hits-requires-clause-may
+form_record-hits-requires-clause-may g c κs within =
+    let tells = g.P.Plant.tells in
+    let site = c.args.self.now in
+    let group = c.args.formed.now in
+    let old = g.P.Plant.state c.args.plant.now in
+    let marked = g.P.Plant.state c.mark_hits.new.plant in
+    let s = c.self.inside in
+    let behind : SiteState = record { controls = s.controls; level = s.level; table = s.table; is_ahead = s.ahead; told = cond s.ahead s.told.rows s.table.rows; time = s.time.0; mark = s.mark; at = s.journal.at; since = s.since; waiting = cond s.waits s.body.items []; failed = map has_job_failed s.jobs.items; written = s.written.items } in
+    let m = c.in_ok-reached.ensures in
+    let made_there : MadeMark tells site c.mark_hits.new.self old marked = record { is = m.ok; leaves = m.leaves; makes = m.makes; works = c.mark_hits.ensures.only; quiet = quiet_ok old.faults marked.faults m.cause; fails = c.mark_hits.ensures.failed } in
+    let made : MadeMark tells site behind old marked = subst (λ (x : SiteState). MadeMark tells site x old marked) (sym c.self.view_is) made_there in
+    let reached = c.in_ok-reached.reached in
+    let reached_is : reached ≡ are_some (hit_now behind.failed site.told) = subst (λ (x : SiteState). reached ≡ are_some (hit_now x.failed site.told)) (sym c.self.view_is) m.due in
+    let fits = made.leaves.fits in
+    let was_long : length c.deref_mut.result.now ≡ length s.jobs.items = λ i. length (c.deref_mut.ensures.value i) in
+    record {
+      home = fits.home;
+      volumes = omega (arith, was_long, length-map s.jobs.items has_job_failed, fits.failed);
+      few = fits.lengths.volumes;
+      idle = (λ i. are_home_from 0 (c.deref_mut.ensures.value i)) ∙ c.self.invariant.home;
+      have = fits.rows;
+      entries = behind_entries tells group site behind old marked c.requires.ready c.requires.may c.requires.rows made;
+      flags = omega (arith, ap length c.as_mut_slice-due.ensures.value, was_long, c.self.invariant.flags);
+    }
+
+pub form_record-hits-requires-clause-room : goal.form_record-hits-requires-clause-room
+form_record-hits-requires-clause-room g c κs within =
+    let tells = g.P.Plant.tells in
+    let site = c.args.self.now in
+    let group = c.args.formed.now in
+    let old = g.P.Plant.state c.args.plant.now in
+    let marked = g.P.Plant.state c.mark_hits.new.plant in
+    let s = c.self.inside in
+    let behind : SiteState = record { controls = s.controls; level = s.level; table = s.table; is_ahead = s.ahead; told = cond s.ahead s.told.rows s.table.rows; time = s.time.0; mark = s.mark; at = s.journal.at; since = s.since; waiting = cond s.waits s.body.items []; failed = map has_job_failed s.jobs.items; written = s.written.items } in
+    let m = c.in_ok-reached.ensures in
+    let made_there : MadeMark tells site c.mark_hits.new.self old marked = record { is = m.ok; leaves = m.leaves; makes = m.makes; works = c.mark_hits.ensures.only; quiet = quiet_ok old.faults marked.faults m.cause; fails = c.mark_hits.ensures.failed } in
+    let made : MadeMark tells site behind old marked = subst (λ (x : SiteState). MadeMark tells site x old marked) (sym c.self.view_is) made_there in
+    let reached = c.in_ok-reached.reached in
+    let reached_is : reached ≡ are_some (hit_now behind.failed site.told) = subst (λ (x : SiteState). reached ≡ are_some (hit_now x.failed site.told)) (sym c.self.view_is) m.due in
+    room_formed s.controls group.controls s.body.room group.entries c.self.invariant.room_is (behind_few tells group site behind old marked c.requires.ready c.requires.may c.requires.rows made) c.controls-few.ensures.few
+
+pub put_record-requires-clause-may : goal.put_record-requires-clause-may
+put_record-requires-clause-may g c κs within =
+    let tells = g.P.Plant.tells in
+    let site = c.args.self.now in
+    let group = c.args.formed.now in
+    let old = g.P.Plant.state c.args.plant.now in
+    let marked = g.P.Plant.state c.mark_hits.new.plant in
+    let s = c.self.inside in
+    let behind : SiteState = record { controls = s.controls; level = s.level; table = s.table; is_ahead = s.ahead; told = cond s.ahead s.told.rows s.table.rows; time = s.time.0; mark = s.mark; at = s.journal.at; since = s.since; waiting = cond s.waits s.body.items []; failed = map has_job_failed s.jobs.items; written = s.written.items } in
+    let m = c.in_ok-reached.ensures in
+    let made_there : MadeMark tells site c.mark_hits.new.self old marked = record { is = m.ok; leaves = m.leaves; makes = m.makes; works = c.mark_hits.ensures.only; quiet = quiet_ok old.faults marked.faults m.cause; fails = c.mark_hits.ensures.failed } in
+    let made : MadeMark tells site behind old marked = subst (λ (x : SiteState). MadeMark tells site x old marked) (sym c.self.view_is) made_there in
+    let reached = c.in_ok-reached.reached in
+    let reached_is : reached ≡ are_some (hit_now behind.failed site.told) = subst (λ (x : SiteState). reached ≡ are_some (hit_now x.failed site.told)) (sym c.self.view_is) m.due in
+    let mid = g.P.Plant.state c.form_record-hits.new.plant in
+    let f = c.form_record-hits.ensures in
+    let was_is : map has_job_failed c.deref_mut.result.now ≡ behind.failed = λ i. map has_job_failed (c.deref_mut.ensures.value i) in
+    let failed = map has_job_failed c.form_record-hits.new.jobs in
+    let items = c.form_record-hits.new.body.items in
+    let hits = c.form_record-hits.result in
+    let way : Way = MarkedFirst in
+    let first : IsBehind tells group site behind old marked mid failed items = is_behind tells group site behind old marked c.requires.ready c.requires.may c.requires.rows made mid s.body c.form_record-hits.new.body c.form_record-hits.new.due (map has_job_failed c.deref_mut.result.now) failed reached hits
+    f.forms f.hits reached_is c.requires.next was_is f.fails f.reads f.home f.only c.controls-few.ensures.few in
+    let after = rows_after group site behind failed in
+    let read = λ (told : tells). read_choice mid f.home (λ d there. g.met.P.Plant.read_is_image c.form_record-hits.new.plant d told there) in
+    let size = λ (told : tells). g.met.P.Plant.length_told c.form_record-hits.new.plant (Journal behind.at.set) told (last_set tells group site behind old marked mid failed items first) in
+    exits.end_may tells group way (with_failed failed behind) after mid items (last_ready tells group site behind old marked mid failed items first) (last_stands tells group site behind old marked mid failed items first) read size s.journal.marked c.cut.result.0 c.self.invariant.marked_is (ap (λ (t : Stamp). t.0) c.cut.ensures)
+
+-- ---- it isn't put
+
+pub invariant_of-self : goal.invariant_of-self
+invariant_of-self g c =
+    let s = c.self.inside in
+    let f = c.form_record-hits.ensures in
+    let now_is : (with_items s.jobs c.form_record-hits.new.jobs).items ≡ c.form_record-hits.new.jobs = with_items_is s.jobs c.form_record-hits.new.jobs (omega (arith, c.form_record-hits.auto.jobs, c.deref_mut.ensures.len, s.jobs.ok.0)) in
+    let due_now : (with_items s.due c.form_record-hits.new.due).items ≡ c.form_record-hits.new.due = with_items_is s.due c.form_record-hits.new.due (omega (arith, c.form_record-hits.auto.due, c.as_mut_slice-due.ensures.len, s.due.ok.0)) in
+    let jobs_long : length (with_items s.jobs c.form_record-hits.new.jobs).items ≡ length c.form_record-hits.new.jobs = λ i. length (now_is i) in
+    let was_long : length c.deref_mut.result.now ≡ length s.jobs.items = λ i. length (c.deref_mut.ensures.value i) in
+    record {
+      room_is = f.forms.room ∙ c.self.invariant.room_is;
+      marked_is = c.put_record.ensures.marked ∙ c.self.invariant.marked_is;
+      told_is = c.self.invariant.told_is;
+      home = (λ i. are_home_from 0 (now_is i)) ∙ f.idle;
+      flags = omega (arith, ap length due_now, jobs_long, c.form_record-hits.auto.due, ap length c.as_mut_slice-due.ensures.value, was_long, c.self.invariant.flags, c.form_record-hits.auto.jobs);
+      due_is = λ waits d. (λ i. slice_index_or (due_now i) d false) ∙ f.forms.due_is d;
+    }
+
+pub returns-in_err-put_record : goal.returns-in_err-put_record
+returns-in_err-put_record g c =
+    let tells = g.P.Plant.tells in
+    let site = c.args.self.now in
+    let group = c.args.formed.now in
+    let old = g.P.Plant.state c.args.plant.now in
+    let marked = g.P.Plant.state c.mark_hits.new.plant in
+    let s = c.self.inside in
+    let behind : SiteState = record { controls = s.controls; level = s.level; table = s.table; is_ahead = s.ahead; told = cond s.ahead s.told.rows s.table.rows; time = s.time.0; mark = s.mark; at = s.journal.at; since = s.since; waiting = cond s.waits s.body.items []; failed = map has_job_failed s.jobs.items; written = s.written.items } in
+    let m = c.in_ok-reached.ensures in
+    let made_there : MadeMark tells site c.mark_hits.new.self old marked = record { is = m.ok; leaves = m.leaves; makes = m.makes; works = c.mark_hits.ensures.only; quiet = quiet_ok old.faults marked.faults m.cause; fails = c.mark_hits.ensures.failed } in
+    let made : MadeMark tells site behind old marked = subst (λ (x : SiteState). MadeMark tells site x old marked) (sym c.self.view_is) made_there in
+    let reached = c.in_ok-reached.reached in
+    let reached_is : reached ≡ are_some (hit_now behind.failed site.told) = subst (λ (x : SiteState). reached ≡ are_some (hit_now x.failed site.told)) (sym c.self.view_is) m.due in
+    let mid = g.P.Plant.state c.form_record-hits.new.plant in
+    let f = c.form_record-hits.ensures in
+    let was_is : map has_job_failed c.deref_mut.result.now ≡ behind.failed = λ i. map has_job_failed (c.deref_mut.ensures.value i) in
+    let failed = map has_job_failed c.form_record-hits.new.jobs in
+    let items = c.form_record-hits.new.body.items in
+    let hits = c.form_record-hits.result in
+    let way : Way = MarkedFirst in
+    let first : IsBehind tells group site behind old marked mid failed items = is_behind tells group site behind old marked c.requires.ready c.requires.may c.requires.rows made mid s.body c.form_record-hits.new.body c.form_record-hits.new.due (map has_job_failed c.deref_mut.result.now) failed reached hits
+    f.forms f.hits reached_is c.requires.next was_is f.fails f.reads f.home f.only c.controls-few.ensures.few in
+    let after = rows_after group site behind failed in
+    let read = λ (told : tells). read_choice mid f.home (λ d there. g.met.P.Plant.read_is_image c.form_record-hits.new.plant d told there) in
+    let new = g.P.Plant.state c.put_record.new.plant in
+    let stage = last_put tells group site behind old marked mid failed items first new in
+    let works = c.put_record.ensures.only in
+    let now_is : (with_items s.jobs c.form_record-hits.new.jobs).items ≡ c.form_record-hits.new.jobs = with_items_is s.jobs c.form_record-hits.new.jobs (omega (arith, c.form_record-hits.auto.jobs, c.deref_mut.ensures.len, s.jobs.ok.0)) in
+    let failed_is : map has_job_failed (with_items s.jobs c.form_record-hits.new.jobs).items ≡ failed = λ i. map has_job_failed (now_is i) in
+    let last : SiteState = record { controls = s.controls; level = s.level; table = s.table; is_ahead = s.ahead; told = cond s.ahead s.told.rows s.table.rows; time = s.time.0; mark = s.mark; at = c.put_record.new.journal.at; since = s.since; waiting = cond s.waits items []; failed = map has_job_failed (with_items s.jobs c.form_record-hits.new.jobs).items; written = s.written.items } in
+    let error = c.in_err-put_record.field-0.0 in
+    let result = c.from_residual-in_err-put_record.result in
+    let failing = err_from_is_err_and result c.from_residual-in_err-put_record.ensures.1 in
+    let err_is : Err error ≡ result = cc (failing.1, failing.2) in
+    record {
+      logged = subst (λ (r : Result (Unit {0}) StoreError). LogsBy tells group way site last old new r) err_is (exits.end_fails tells group way site (with_failed failed behind) after old mid new items stage read works site refl s.journal.marked c.cut.result.0 c.self.invariant.marked_is (ap (λ (t : Stamp). t.0) c.cut.ensures) last error failed_is c.in_err-put_record.ensures.shows);
+      leaves = search rules;
+      others = exits.end_others tells group way site (with_failed failed behind) after old mid new items stage read works site refl;
+      cause = exits.end_cause tells group way site (with_failed failed behind) after old mid new items stage read works site refl result (subst (λ (r : Result (Unit {0}) StoreError). HasStoreCause mid.faults new.faults r) err_is c.in_err-put_record.ensures.cause);
+      unspent = search rules;
+      failed = exits.end_failed tells group way site (with_failed failed behind) after old mid new items stage read works site refl last failed_is;
+    }
+
+-- ---- it is put
+
+pub take_changed-requires : goal.take_changed-requires
+take_changed-requires g c =
+    let tells = g.P.Plant.tells in
+    let site = c.args.self.now in
+    let group = c.args.formed.now in
+    let old = g.P.Plant.state c.args.plant.now in
+    let marked = g.P.Plant.state c.mark_hits.new.plant in
+    let s = c.self.inside in
+    let behind : SiteState = record { controls = s.controls; level = s.level; table = s.table; is_ahead = s.ahead; told = cond s.ahead s.told.rows s.table.rows; time = s.time.0; mark = s.mark; at = s.journal.at; since = s.since; waiting = cond s.waits s.body.items []; failed = map has_job_failed s.jobs.items; written = s.written.items } in
+    let m = c.in_ok-reached.ensures in
+    let made_there : MadeMark tells site c.mark_hits.new.self old marked = record { is = m.ok; leaves = m.leaves; makes = m.makes; works = c.mark_hits.ensures.only; quiet = quiet_ok old.faults marked.faults m.cause; fails = c.mark_hits.ensures.failed } in
+    let made : MadeMark tells site behind old marked = subst (λ (x : SiteState). MadeMark tells site x old marked) (sym c.self.view_is) made_there in
+    let reached = c.in_ok-reached.reached in
+    let reached_is : reached ≡ are_some (hit_now behind.failed site.told) = subst (λ (x : SiteState). reached ≡ are_some (hit_now x.failed site.told)) (sym c.self.view_is) m.due in
+    below_volumes marked 64 s.table.rows made.leaves.fits.lengths.volumes made.leaves.fits.rows
+
+pub invariant_of-self-2 : goal.invariant_of-self-2
+invariant_of-self-2 g c =
+    let s = c.self.inside in
+    let f = c.form_record-hits.ensures in
+    let now_is : (with_items s.jobs c.form_record-hits.new.jobs).items ≡ c.form_record-hits.new.jobs = with_items_is s.jobs c.form_record-hits.new.jobs (omega (arith, c.form_record-hits.auto.jobs, c.deref_mut.ensures.len, s.jobs.ok.0)) in
+    let due_now : (with_items s.due c.form_record-hits.new.due).items ≡ c.form_record-hits.new.due = with_items_is s.due c.form_record-hits.new.due (omega (arith, c.form_record-hits.auto.due, c.as_mut_slice-due.ensures.len, s.due.ok.0)) in
+    let jobs_long : length (with_items s.jobs c.form_record-hits.new.jobs).items ≡ length c.form_record-hits.new.jobs = λ i. length (now_is i) in
+    let was_long : length c.deref_mut.result.now ≡ length s.jobs.items = λ i. length (c.deref_mut.ensures.value i) in
+    record {
+      room_is = f.forms.room ∙ c.self.invariant.room_is;
+      marked_is = c.put_record.ensures.marked ∙ c.self.invariant.marked_is;
+      told_is = c.self.invariant.told_is ∙ sym (ap (λ (t : Table). t.session) c.take_changed.ensures);
+      home = (λ i. are_home_from 0 (now_is i)) ∙ f.idle;
+      flags = omega (arith, ap length due_now, jobs_long, c.form_record-hits.auto.due, ap length c.as_mut_slice-due.ensures.value, was_long, c.self.invariant.flags, c.form_record-hits.auto.jobs);
+      due_is = λ waits d. (λ i. slice_index_or (due_now i) d false) ∙ f.forms.due_is d;
+    }
+
+pub returns : goal.returns
+returns g c =
+    let tells = g.P.Plant.tells in
+    let site = c.args.self.now in
+    let group = c.args.formed.now in
+    let old = g.P.Plant.state c.args.plant.now in
+    let marked = g.P.Plant.state c.mark_hits.new.plant in
+    let s = c.self.inside in
+    let behind : SiteState = record { controls = s.controls; level = s.level; table = s.table; is_ahead = s.ahead; told = cond s.ahead s.told.rows s.table.rows; time = s.time.0; mark = s.mark; at = s.journal.at; since = s.since; waiting = cond s.waits s.body.items []; failed = map has_job_failed s.jobs.items; written = s.written.items } in
+    let m = c.in_ok-reached.ensures in
+    let made_there : MadeMark tells site c.mark_hits.new.self old marked = record { is = m.ok; leaves = m.leaves; makes = m.makes; works = c.mark_hits.ensures.only; quiet = quiet_ok old.faults marked.faults m.cause; fails = c.mark_hits.ensures.failed } in
+    let made : MadeMark tells site behind old marked = subst (λ (x : SiteState). MadeMark tells site x old marked) (sym c.self.view_is) made_there in
+    let reached = c.in_ok-reached.reached in
+    let reached_is : reached ≡ are_some (hit_now behind.failed site.told) = subst (λ (x : SiteState). reached ≡ are_some (hit_now x.failed site.told)) (sym c.self.view_is) m.due in
+    let mid = g.P.Plant.state c.form_record-hits.new.plant in
+    let f = c.form_record-hits.ensures in
+    let was_is : map has_job_failed c.deref_mut.result.now ≡ behind.failed = λ i. map has_job_failed (c.deref_mut.ensures.value i) in
+    let failed = map has_job_failed c.form_record-hits.new.jobs in
+    let items = c.form_record-hits.new.body.items in
+    let hits = c.form_record-hits.result in
+    let way : Way = MarkedFirst in
+    let first : IsBehind tells group site behind old marked mid failed items = is_behind tells group site behind old marked c.requires.ready c.requires.may c.requires.rows made mid s.body c.form_record-hits.new.body c.form_record-hits.new.due (map has_job_failed c.deref_mut.result.now) failed reached hits
+    f.forms f.hits reached_is c.requires.next was_is f.fails f.reads f.home f.only c.controls-few.ensures.few in
+    let after = rows_after group site behind failed in
+    let read = λ (told : tells). read_choice mid f.home (λ d there. g.met.P.Plant.read_is_image c.form_record-hits.new.plant d told there) in
+    let new = g.P.Plant.state c.put_record.new.plant in
+    let stage = last_put tells group site behind old marked mid failed items first new in
+    let works = c.put_record.ensures.only in
+    let now_is : (with_items s.jobs c.form_record-hits.new.jobs).items ≡ c.form_record-hits.new.jobs = with_items_is s.jobs c.form_record-hits.new.jobs (omega (arith, c.form_record-hits.auto.jobs, c.deref_mut.ensures.len, s.jobs.ok.0)) in
+    let failed_is : map has_job_failed (with_items s.jobs c.form_record-hits.new.jobs).items ≡ failed = λ i. map has_job_failed (now_is i) in
+    let table_is : c.take_changed.new.table ≡ with_rows s.table after = c.take_changed.ensures ∙ ap (with_rows s.table) (behind_after tells group site behind old marked c.requires.ready c.requires.may c.requires.rows made mid s.body c.form_record-hits.new.body c.form_record-hits.new.due (map has_job_failed c.deref_mut.result.now) failed reached hits f.forms f.hits reached_is) in
+    let ahead_is : s.ahead ≡ false = ap (λ (x : SiteState). x.is_ahead) made.is in
+    let told_now : cond s.ahead s.told.rows c.take_changed.new.table.rows ≡ after = (λ i. cond (ahead_is i) s.told.rows c.take_changed.new.table.rows) ∙ ap (λ (t : Table). t.rows) table_is in
+    let time_is : c.cut-self-inside.result.0 ≡ group.cut.0 = ap (λ (t : Stamp). t.0) c.cut-self-inside.ensures in
+    let since_is : c.saturating_add-self-inside.result ≡ one_more s.since = one_more_is s.since c.saturating_add-self-inside.result (λ last. omega (arith, last, c.saturating_add-self-inside.ensures)) (λ other. omega (arith, other, c.saturating_add-self-inside.ensures)) in
+    let last : SiteState = record { controls = s.controls; level = s.level; table = c.take_changed.new.table; is_ahead = s.ahead; told = cond s.ahead s.told.rows c.take_changed.new.table.rows; time = c.cut-self-inside.result.0; mark = s.mark; at = c.put_record.new.journal.at; since = c.saturating_add-self-inside.result; waiting = items; failed = map has_job_failed (with_items s.jobs c.form_record-hits.new.jobs).items; written = s.written.items } in
+    let last_is : last ≡ logged_site mid.journals way group.cut.0 items after (one_more s.since) (with_failed failed behind) = λ i. record behind { table = table_is i; is_ahead = ahead_is i; told = told_now i; time = time_is i; at = c.in_ok-put_record.ensures.at i; since = since_is i; waiting = items; failed = failed_is i } in
+    let shows = c.in_ok-put_record.ensures.shows in
+    record {
+      logged = exits.end_logs tells group way site (with_failed failed behind) after old mid new items stage read works site refl s.journal.marked c.cut.result.0 c.self.invariant.marked_is (ap (λ (t : Stamp). t.0) c.cut.ensures) last last_is shows;
+      leaves = exits.end_leaves tells group way site (with_failed failed behind) after old mid new items stage read works site refl s.journal.marked c.cut.result.0 c.self.invariant.marked_is (ap (λ (t : Stamp). t.0) c.cut.ensures) last last_is shows;
+      others = exits.end_others tells group way site (with_failed failed behind) after old mid new items stage read works site refl;
+      cause = exits.end_cause tells group way site (with_failed failed behind) after old mid new items stage read works site refl (Ok tt) c.in_ok-put_record.ensures.cause;
+      unspent = λ e. cc e;
+      failed = exits.end_failed tells group way site (with_failed failed behind) after old mid new items stage read works site refl last failed_is;
+    }

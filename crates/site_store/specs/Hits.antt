@@ -1,0 +1,75 @@
+-- What a record changes of rows: what the group makes of them, and behind that the hits of failed volumes.
+use Rattle.std.specs.Prelude.{◌≡◌, ℕ, ◌<◌, ◌&&◌, ◌||◌, List, [], ◌∷◌, Bool, true, false, Option, Some, None, slice_index_or, if◌then◌else◌}
+use Rattle.std.specs.List.{flat_map}
+use Rattle.tod_stamp.specs.declared.stamp.Stamp.{Stamp}
+use Rattle.pair_table.specs.declared.level.Level.{Level}
+use Rattle.pair_table.specs.declared.row.PairRow.{PairRow}
+use Rattle.pair_table.specs.declared.row.PairState.{PairState}
+use Rattle.pair_table.specs.declared.row.PairState.TheVariants.{Suspended}
+use Rattle.pair_table.specs.declared.row.SuspendCause.TheVariants.{Device, Session}
+use Rattle.pair_table.specs.Devices.{is_among}
+use Rattle.pair_table.specs.Rows.{is_suspended}
+use Rattle.pair_table.specs.Tables.{in_state}
+use Rattle.pending_queue.specs.Groups.{FormedGroup}
+use Rattle.record_rows.specs.ChangedRows.{later_state}
+use Rattle.record_rows.specs.GroupRows.{state_with_group}
+use Rattle.record_rows.specs.Hits.{hit_now}
+use Rattle.row_changes.specs.Changes.{is_session_level}
+use Rattle.xrc_journal.specs.Items.{Item}
+use Rattle.xrc_journal.specs.Items.Item.{Pair}
+use Rattle.site_store.specs.declared.hits.Hits.{Hits}
+
+-- ---- rows that change their state
+
+-- what becomes of a row's state, if it changes
+abbrev pub Next : Type 0
+Next = PairRow → Option PairState
+
+abbrev pub pair_in : PairRow → Option PairState → List Item
+pair_in row (Some state) = Pair (in_state state row) ∷ []
+pair_in row None = []
+
+abbrev pub pair_with_next : Next → PairRow → List Item
+pair_with_next next row = pair_in row (next row)
+
+-- the items of the rows that change
+abbrev pub pairs_with_next : Next → List PairRow → List Item
+pairs_with_next next rows = flat_map (pair_with_next next) rows
+
+-- ---- hits
+
+-- A hit suspends a row by its device, whatever its state, and reaches those that aren't suspended.
+abbrev pub state_by_hits : (hit reaches : Bool) → (time : Stamp) → PairState → Option PairState
+state_by_hits true reaches time state = Some (Suspended Device time)
+state_by_hits false true time state = if is_suspended state then None else Some (Suspended Session time)
+state_by_hits false false time state = None
+
+abbrev pub is_hit_by : Hits → (device : ℕ) → Bool
+is_hit_by hits device = slice_index_or hits.devices device false
+
+abbrev pub next_by_hits : Hits → (device : ℕ) → PairState → Option PairState
+next_by_hits hits device state = state_by_hits (is_hit_by hits device) hits.reaches hits.time state
+
+abbrev pub with_hits : Hits → Next
+with_hits hits row = next_by_hits hits row.device row.state
+
+-- there are some
+abbrev pub are_some : List ℕ → Bool
+are_some [] = false
+are_some (d ∷ devices) = true
+
+-- The hits of these rows once these jobs have failed, at a time. Under level SESSION they reach the others, as do those that are due.
+pub record AreHits (level : Level) (time : Stamp) (failed : List Bool) (due : Bool) (rows : List PairRow) (hits : Hits) : Type 0 where
+  pub devices : (d : ℕ) → d < 64 → is_hit_by hits d ≡ is_among d (hit_now failed rows)
+  pub reaches : hits.reaches ≡ (is_session_level level && (due || are_some (hit_now failed rows)))
+  pub time_is : hits.time ≡ time
+
+-- ---- the record of a group
+
+abbrev pub state_or : PairState → Option PairState → PairState
+state_or state (Some next) = next
+state_or state None = state
+
+-- What the group makes of a row, and hits behind it.
+abbrev pub with_group_and_hits : FormedGroup → Hits → Next
+with_group_and_hits group hits row = let grouped = state_with_group group row in later_state (next_by_hits hits row.device (state_or row.state grouped)) grouped

@@ -1,0 +1,15 @@
+pub mod Applying
+pub mod Causes
+pub mod Changing
+pub mod Commands
+pub mod Formats
+pub mod Hits
+pub mod Jobs
+pub mod Logging
+pub mod Marking
+pub mod Recording
+pub mod Records
+pub mod Sites
+pub mod Standing
+pub mod Ways
+pub mod Syncing

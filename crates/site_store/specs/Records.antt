@@ -1,0 +1,77 @@
+-- The site behind a record and behind a mark, and the devices on which these work.
+use Rattle.std.specs.Prelude.{◌≡◌, ◌⊎◌, ℕ, ◌+◌, ◌-◌, ◌^◌, ◌==◌, List, [], length, replicate, Bool, true, false, if◌then◌else◌}
+use Rattle.crash_plant.specs.declared.device.Device.{Device}
+use Rattle.crash_plant.specs.declared.device.Device.TheVariants.{Control, State, Journal, Volume}
+use Rattle.pair_table.specs.declared.row.PairRow.{PairRow}
+use Rattle.pair_table.specs.Tables.{with_rows}
+use Rattle.xrc_journal.specs.Items.{Item}
+use Rattle.site_store.specs.declared.way.Way.{Way}
+use Rattle.site_store.specs.declared.way.Way.TheVariants.{Here, Switched, Marked}
+use Rattle.site_store.specs.Sites.{SiteState, next_mark, is_written}
+use Rattle.site_store.specs.Ways.{spot_behind}
+
+-- one call more, as far as 32 bits count
+abbrev pub one_more : (since : ℕ) → ℕ
+one_more since = if since == 2 ^ 32 - 1 then since else since + 1
+
+-- the site behind a mark with these rows, once these jobs have failed; nothing waits and no volume was written since
+abbrev pub behind_mark : (ended : Bool) → (rows : List PairRow) → (failed : List Bool) → SiteState → SiteState
+behind_mark ended rows failed site = record site {
+  table = with_rows site.table rows;
+  is_ahead = false;
+  told = rows;
+  mark = next_mark site ended;
+  since = 0;
+  waiting = [];
+  failed = failed;
+  written = replicate (length site.written) false;
+}
+
+-- the site behind the mark that is made before a record, where one is
+abbrev pub behind_way : Way → SiteState → SiteState
+behind_way Here site = site
+behind_way Switched site = site
+behind_way Marked site = behind_mark site.mark.ended site.told site.failed site
+
+-- the site behind a record of these items, which came this way and leaves these rows
+abbrev pub behind_record : (journals : ℕ) → Way → (cut : ℕ) → List Item → (rows : List PairRow) → (failed : List Bool) → SiteState → SiteState
+behind_record journals way cut items rows failed site = record (behind_way way site) {
+  table = with_rows site.table rows;
+  is_ahead = false;
+  told = rows;
+  time = cut;
+  at = spot_behind journals way items site.at;
+  failed = failed;
+}
+
+-- ---- devices
+
+-- all but volumes: what a site's calls may answer a fault of
+abbrev pub IsStore : Device → Type 0
+IsStore Control = Unit {0}
+IsStore State = Unit {0}
+IsStore (Journal j) = Unit {0}
+IsStore (Volume v) = ⊥
+
+abbrev pub IsVolume : Device → Type 0
+IsVolume Control = ⊥
+IsVolume State = ⊥
+IsVolume (Journal j) = ⊥
+IsVolume (Volume v) = Unit {0}
+
+-- the devices on which a mark works: control, state, and the volumes that were written since the last one
+abbrev pub IsOfMark : SiteState → Device → Type 0
+IsOfMark site Control = Unit {0}
+IsOfMark site State = Unit {0}
+IsOfMark site (Journal j) = ⊥
+IsOfMark site (Volume v) = is_written site v ≡ true
+
+abbrev pub IsJournal : Device → Type 0
+IsJournal Control = ⊥
+IsJournal State = ⊥
+IsJournal (Journal j) = Unit {0}
+IsJournal (Volume v) = ⊥
+
+-- the devices on which a record works, with the switch and the mark that may come before it
+abbrev pub IsOfRecord : SiteState → Device → Type 0
+IsOfRecord site d = IsJournal d ⊎ IsOfMark site d

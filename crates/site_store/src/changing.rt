@@ -1,0 +1,182 @@
+//! A command's change, logged.
+
+ghost use Rattle.std.specs.Prelude.{◌≡◌, ◌≢◌, ◌≤◌, ◌+◌, ◌*◌, ◌++◌, [], true, false, length, map, OnOk, IsErrOf, IsTrue};
+ghost use Rattle.applier.specs.Back.{WorksOnLent};
+ghost use Rattle.crash_plant.specs.Calls.{Silent, WorksOn};
+ghost use Rattle.xrc_journal.specs.Items.{body_spelling};
+ghost use Rattle.site_store.specs.declared.store_error.StoreError.TheVariants.{Spent};
+ghost use Rattle.site_store.specs.declared.way.Way.TheVariants.{Marked};
+ghost use Rattle.site_store.specs.Causes.{FailByCounts, HasStoreCause};
+ghost use Rattle.site_store.specs.Changing.{DoesChange, DoesRows, FormsChange, IsBehindChange, LogsChange, MayChange, changed_items, gone_of, named_devices, pairs_of};
+ghost use Rattle.pair_table.specs.Tables.{are_below, with_rows};
+ghost use Rattle.record_rows.specs.Records.{rows_with_hits};
+ghost use Rattle.site_store.specs.Jobs.{has_job_failed};
+ghost use Rattle.site_store.specs.Records.{IsOfRecord};
+ghost use Rattle.site_store.specs.Standing.{Leaves};
+ghost use Rattle.site_store.specs.Ways.{is_spent};
+
+use crate::hits::{hits_at, put_hits, take_hits};
+use crate::recording::put_record;
+use crate::way::{Way, record_needs_more, way_from};
+use crate::{Site, StoreError};
+use crash_plant::Plant;
+use pair_table::{Change, Level, PairTable};
+use tod_stamp::Stamp;
+use xrc_journal::{Body, VolumeJob};
+
+/// Puts the rows of devices as they stand in the table.
+fn put_rows(body: &mut Body, table: &PairTable, devices: &[u16])
+    requires { length (body_spelling body.old.items) + length devices.now * 31 ≤ body.old.room }
+    ensures put { body.new ≡ record { items = body.old.items ++ pairs_of devices.now table.now.rows; room = body.old.room } }
+    ensures short { length (body_spelling body.new.items) ≤ length (body_spelling body.old.items) + length devices.now * 31 }
+{
+    // The rows keep their rules by the table's type.
+    let _valid = table.len();
+    for device in devices {
+        if let Some(row) = table.row_of(*device) {
+            body.put_row(row);
+        }
+    }
+}
+
+/// Puts that the rows of devices go.
+fn put_gone(body: &mut Body, devices: &[u16])
+    requires { length (body_spelling body.old.items) + length devices.now * 31 ≤ body.old.room }
+    ensures put { body.new ≡ record { items = body.old.items ++ gone_of devices.now; room = body.old.room } }
+    ensures short { length (body_spelling body.new.items) ≤ length (body_spelling body.old.items) + length devices.now * 31 }
+{
+    for device in devices {
+        body.put_gone(*device);
+    }
+}
+
+/// Takes the items of a change in place of those that were there.
+fn take_change(body: &mut Body, table: &PairTable, change: &Change)
+    requires { named_devices change.now * 31 ≤ body.old.room }
+    ensures put { body.new ≡ record { items = changed_items change.now table.now.rows; room = body.old.room } }
+    ensures short { length (body_spelling body.new.items) ≤ named_devices change.now * 31 }
+{
+    body.clear();
+    match change {
+        Change::Nothing | Change::Started | Change::Ended => {}
+        Change::Added(device) | Change::Resumed(device) => put_rows(body, table, &[*device]),
+        Change::Gone(devices) => put_gone(body, devices.as_slice()),
+        Change::Suspended(devices) => put_rows(body, table, devices.as_slice()),
+    }
+}
+
+/// Forms the record of a change: the rows that it names as they stand in the table, and behind them those that failed jobs
+/// suspend. Of a change that alters no row there is none. Tells whether there is one.
+fn form_change<V>(
+    body: &mut Body,
+    table: &PairTable,
+    jobs: &[VolumeJob<V>],
+    level: Level,
+    cut: Stamp,
+    change: &Change,
+) -> bool
+    requires below { IsTrue (are_below (length jobs.now) table.now.rows) }
+    requires few { length jobs.now ≤ 64 }
+    requires room { named_devices change.now * 31 + 64 * 31 ≤ body.old.room }
+    ensures none { result ≡ false → changed_items change.now table.now.rows ≡ [] }
+    ensures room { body.new.room ≡ body.old.room }
+    ensures some { result ≡ true → changed_items change.now table.now.rows ≢ [] }
+    ensures forms { result ≡ true → FormsChange level cut (map has_job_failed jobs.now) change.now table.now.rows body.old body.new }
+{
+    take_change(body, table, change);
+    if body.bytes().is_empty() {
+        return false;
+    }
+    let hits = hits_at(jobs, table, level, cut, false);
+    put_hits(body, table, &hits);
+    true
+}
+
+impl<V> Site<V> {
+    /// Goes on from a change that was logged.
+    fn take_logged(&mut self, cut: Stamp)
+        requires below { IsTrue (are_below (length self.old.failed) self.old.table.rows) }
+        requires few { length self.old.failed ≤ 64 }
+        ensures { let rows = rows_with_hits self.old.level cut.0 self.old.failed self.old.table.rows in
+            self.new ≡ record self.old { table = with_rows self.old.table rows; is_ahead = false; told = rows; time = cut.0 } }
+    {
+        let hits = hits_at(&self.jobs, &self.table, self.level, cut, false);
+        take_hits(&mut self.table, &hits);
+        self.ahead = false;
+        self.time = cut;
+    }
+
+    /// Makes the mark that comes before a change's record, and logs the change behind it. The record is formed again, with the hits of
+    /// the volumes that have failed by then.
+    fn log_behind_mark<P: Plant<Volume = V>>(
+        &mut self,
+        plant: &mut P,
+        cut: Stamp,
+        change: &Change,
+    ) -> Result<(), StoreError>
+        requires may { MayChange P.tells cut.0 change.now self.old (P.state plant.old) }
+        requires some { changed_items change.now self.old.table.rows ≢ [] }
+        requires numbers { is_spent Marked self.old ≡ false }
+        ensures ok { OnOk result (IsBehindChange cut.0 change.now Marked self.old self.new (P.state plant.old)) }
+        ensures leaves { OnOk result (Leaves P.tells (λ e. e) self.old self.new (P.state plant.old) (P.state plant.new)) }
+        ensures moments { DoesRows P.tells Marked cut.0 self.old self.new (P.state plant.old) (P.state plant.new) result }
+        ensures only { WorksOn P.tells (IsOfRecord self.old) (P.state plant.old) (P.state plant.new) }
+        ensures cause { HasStoreCause (P.state plant.old).faults (P.state plant.new).faults result }
+        ensures unspent { ¬ IsErrOf result Spent }
+        ensures failed { FailByCounts self.old.failed self.new.failed (P.state plant.old).faults (P.state plant.new).faults }
+    {
+        self.mark_told(plant)?;
+        // No item waits behind a mark.
+        self.waits = false;
+        let level = self.level;
+        form_change(&mut self.body, &self.table, &self.jobs, level, cut, change);
+        put_record(&mut self.journal, plant, cut, &self.body, Way::Marked)?;
+        self.take_logged(cut);
+        Ok(())
+    }
+
+    /// Logs a command's change by one record of the rows that it names, as they stand in the table, and of the devices whose rows
+    /// go. The rows of volumes that have failed and aren't told yet are suspended behind them, since the cut, and under level
+    /// SESSION every other row that isn't suspended. For a change that alters no row nothing is called.
+    ///
+    /// Where the record doesn't fit the rest of the data set, a switch comes first. Where the next data set holds the spot of the
+    /// mark that counts, a mark comes before the switch: it syncs the volumes that were written one after another, and its rows are
+    /// those before the command, in which the volumes that have failed by then have their rows suspended since the site's time. The
+    /// rows that these failures reach then come with the record. It takes no memory.
+    ///
+    /// `Spent` comes exactly where a record or a mark would need the number 2^64 - 1; nothing is called then. A `Fault` names a
+    /// journal, the state or the control. After an error the site may not be used again.
+    pub fn log_change<P: Plant<Volume = V>>(
+        &mut self,
+        plant: &mut P,
+        cut: Stamp,
+        change: &Change,
+    ) -> Result<(), StoreError>
+        requires may { MayChange P.tells cut.0 change.now self.old (P.state plant.old) }
+        ensures ok { LogsChange cut.0 change.now self.old self.new (P.state plant.old) plant.old plant.new result }
+        ensures leaves { OnOk result (Leaves P.tells (λ e. e) self.old self.new (P.state plant.old) (P.state plant.new)) }
+        ensures moments { DoesChange P.tells cut.0 change.now self.old self.new (P.state plant.old) (P.state plant.new) result }
+        ensures others { WorksOnLent P.tells (IsOfRecord self.old) (P.state plant.old) (P.state plant.new) }
+        ensures heard_said { P.tells → Silent (P.state plant.old) (P.state plant.new) }
+        ensures cause { HasStoreCause (P.state plant.old).faults (P.state plant.new).faults result }
+        ensures failed { FailByCounts self.old.failed self.new.failed (P.state plant.old).faults (P.state plant.new).faults }
+    {
+        // No item waits by what the call requires.
+        self.waits = false;
+        let level = self.level;
+        if !form_change(&mut self.body, &self.table, &self.jobs, level, cut, change) {
+            self.ahead = false;
+            return Ok(());
+        }
+        let way = way_from(plant, self.journal.at, self.mark.at, &self.body);
+        if record_needs_more(way, self.journal.at.number, self.mark.number) {
+            return Err(StoreError::Spent);
+        }
+        if way == Way::Marked {
+            return self.log_behind_mark(plant, cut, change);
+        }
+        put_record(&mut self.journal, plant, cut, &self.body, way)?;
+        self.take_logged(cut);
+        Ok(())
+    }
+}

@@ -1,0 +1,147 @@
+//! A formed group, logged.
+
+ghost use Rattle.std.specs.Prelude.{◌≡◌, ◌≤◌, ◌<◌, ◌+◌, ◌-◌, ◌*◌, ◌^◌, true, length, map, IsErrOf, OnOk};
+ghost use Rattle.applier.specs.Back.{OnlyReads, WorksOnLent};
+ghost use Rattle.crash_plant.specs.Calls.{NoneLent, Silent};
+ghost use Rattle.site_store.specs.declared.store_error.StoreError.TheVariants.{Spent};
+ghost use Rattle.site_store.specs.declared.way.Way.TheVariants.{Marked};
+ghost use Rattle.site_store.specs.Causes.{FailByCounts, HasStoreCause};
+ghost use Rattle.site_store.specs.Hits.{AreHits};
+ghost use Rattle.site_store.specs.Jobs.{are_home_from, has_job_failed};
+ghost use Rattle.site_store.specs.Logging.{FormsRecord, IsOfEntries, IsOfLog, LogsBy, LogsGroup, MayForm, MayLog};
+ghost use Rattle.site_store.specs.Standing.{MayRecord, Leaves};
+
+use crate::forming::form_group;
+use crate::group_rows::{put_changed, take_changed};
+use crate::hits::{Hits, Reach, hits_at};
+use crate::recording::put_record;
+use crate::way::{Way, record_needs_more, way_from};
+use crate::{Site, StoreError};
+use crash_plant::Plant;
+use pair_table::PairTable;
+use pending_queue::Formed;
+use xrc_journal::{Body, VolumeJob};
+
+/// Forms the record of a group: the images of its tracks, and behind them the rows that change with it. Volumes whose reads
+/// fail are left out, and are hit with the record; so are the rows that they reach, and those that are due since a mark. Tells
+/// for which volumes there are items.
+fn form_record<P: Plant>(
+    plant: &mut P,
+    jobs: &mut [VolumeJob<P::Volume>],
+    table: &PairTable,
+    reach: Reach,
+    formed: &Formed,
+    body: &mut Body,
+    due: &mut [bool],
+) -> Hits
+    requires may { MayForm formed.now table.now.rows jobs.old due.old (P.state plant.old) }
+    requires room { 56670 * length formed.now.entries + 64 * 31 ≤ body.old.room }
+    ensures forms { FormsRecord P.tells formed.now table.now.rows (P.state plant.old) body.old body.new due.new (map has_job_failed jobs.new) result }
+    ensures hits { AreHits reach.level formed.now.cut (map has_job_failed jobs.new) reach.due table.now.rows result }
+    ensures idle { are_home_from 0 jobs.new ≡ true }
+    ensures fails { FailByCounts (map has_job_failed jobs.old) (map has_job_failed jobs.new) (P.state plant.old).faults (P.state plant.new).faults }
+    ensures reads { OnlyReads P.tells (P.state plant.old) (P.state plant.new) }
+    ensures home { NoneLent (P.state plant.new) }
+    ensures only { WorksOnLent P.tells (IsOfEntries table.now.rows formed.now.entries) (P.state plant.old) (P.state plant.new) }
+{
+    form_group(plant, jobs, table, formed, body, due);
+    let hits = hits_at(jobs, table, reach.level, formed.cut(), reach.due);
+    put_changed(body, table, formed, &hits);
+    hits
+}
+
+impl<V> Site<V> {
+    /// Logs a formed group behind a mark that is made first, by a record behind a switch. The mark syncs the volumes that were
+    /// written one after another, and its rows tell the volumes that have failed by then, since the site's time. The rows that
+    /// these failures reach come with the record.
+    fn log_group_behind_mark<P: Plant<Volume = V>>(
+        &mut self,
+        plant: &mut P,
+        formed: &Formed,
+    ) -> Result<(), StoreError>
+        requires ready { MayRecord P.tells self.old (P.state plant.old) }
+        requires may { MayLog self.old formed.now }
+        requires rows { self.old.told ≡ self.old.table.rows }
+        requires mark { self.old.mark.number < 2 ^ 64 - 2 }
+        requires next { self.old.at.number < 2 ^ 64 - 2 }
+        ensures logged { LogsBy P.tells formed.now Marked self.old self.new (P.state plant.old) (P.state plant.new) result }
+        ensures leaves { OnOk result (Leaves P.tells (λ e. e) self.old self.new (P.state plant.old) (P.state plant.new)) }
+        ensures others { WorksOnLent P.tells (IsOfLog self.old formed.now) (P.state plant.old) (P.state plant.new) }
+        ensures cause { HasStoreCause (P.state plant.old).faults (P.state plant.new).faults result }
+        ensures unspent { ¬ IsErrOf result Spent }
+        ensures failed { FailByCounts self.old.failed self.new.failed (P.state plant.old).faults (P.state plant.new).faults }
+    {
+        // A group has few entries by its type.
+        let _few = formed.controls();
+        let reached = self.mark_hits(plant)?;
+        let reach = Reach {
+            level: self.level,
+            due: reached,
+        };
+        let (body, due) = (&mut self.body, self.due.as_mut_slice());
+        let hits = form_record(plant, &mut self.jobs, &self.table, reach, formed, body, due);
+        put_record(
+            &mut self.journal,
+            plant,
+            formed.cut(),
+            &self.body,
+            Way::Marked,
+        )?;
+        take_changed(&mut self.table, formed, &hits);
+        self.time = formed.cut();
+        self.since = self.since.saturating_add(1);
+        self.waits = true;
+        Ok(())
+    }
+
+    /// Logs a formed group by one record: an image of each track that has an entry, as the entries leave it, and the rows that
+    /// change with the group. A row whose control breaks is suspended since the break's time; else one whose plan is done becomes
+    /// duplex, and one that waited is copied. Volumes that have failed by then have no image, and their rows are suspended since
+    /// the cut; under level SESSION every other row that isn't suspended is suspended with them.
+    ///
+    /// Where the record doesn't fit the rest of the data set, a switch comes first. Where the next data set holds the spot of the
+    /// mark that counts, a mark comes before the switch: it syncs the volumes that were written one after another, its rows tell
+    /// the volumes that have failed by then, since the site's time, and the record is formed again behind it. The rows that these
+    /// failures reach then come with the record. It takes no memory.
+    ///
+    /// `Spent` comes exactly where a record or a mark would need the number 2^64 - 1; nothing is written then. A `Fault` names a
+    /// journal, the state or the control. After an error the site may not be used again.
+    pub fn log<P: Plant<Volume = V>>(
+        &mut self,
+        plant: &mut P,
+        formed: &Formed,
+    ) -> Result<(), StoreError>
+        requires ready { MayRecord P.tells self.old (P.state plant.old) }
+        requires may { MayLog self.old formed.now }
+        ensures logged { LogsGroup P.tells formed.now self.old self.new (P.state plant.old) (P.state plant.new) result }
+        ensures leaves { OnOk result (Leaves P.tells (λ e. e) self.old self.new (P.state plant.old) (P.state plant.new)) }
+        ensures others { WorksOnLent P.tells (IsOfLog self.old formed.now) (P.state plant.old) (P.state plant.new) }
+        ensures heard_said { P.tells → Silent (P.state plant.old) (P.state plant.new) }
+        ensures cause { HasStoreCause (P.state plant.old).faults (P.state plant.new).faults result }
+        ensures failed { FailByCounts self.old.failed self.new.failed (P.state plant.old).faults (P.state plant.new).faults }
+    {
+        // A group has few entries by its type, and no item waits by what the call requires.
+        let _few = formed.controls();
+        self.waits = false;
+        let reach = Reach {
+            level: self.level,
+            due: false,
+        };
+        let (body, due) = (&mut self.body, self.due.as_mut_slice());
+        let hits = form_record(plant, &mut self.jobs, &self.table, reach, formed, body, due);
+        let way = way_from(plant, self.journal.at, self.mark.at, &self.body);
+        if record_needs_more(way, self.journal.at.number, self.mark.number) {
+            return Err(StoreError::Spent);
+        }
+        match way {
+            Way::Marked => return self.log_group_behind_mark(plant, formed),
+            Way::Here | Way::Switched => {}
+        }
+        put_record(&mut self.journal, plant, formed.cut(), &self.body, way)?;
+        take_changed(&mut self.table, formed, &hits);
+        self.time = formed.cut();
+        self.since = self.since.saturating_add(1);
+        self.waits = true;
+        Ok(())
+    }
+}

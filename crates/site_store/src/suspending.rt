@@ -1,0 +1,79 @@
+//! The suspensions that failed jobs call for, logged.
+
+ghost use Rattle.std.specs.Prelude.{◌≡◌, ◌≤◌, ◌*◌, length, OnOk, IsTrue};
+ghost use Rattle.pair_table.specs.Tables.{KeepsRows, are_below};
+ghost use Rattle.xrc_journal.specs.Items.{body_spelling};
+ghost use Rattle.applier.specs.Back.{WorksOnLent};
+ghost use Rattle.crash_plant.specs.Calls.{Silent};
+ghost use Rattle.site_store.specs.Causes.{FailByCounts, HasStoreCause};
+ghost use Rattle.site_store.specs.Changing.{DoesSuspend, Suspends};
+ghost use Rattle.site_store.specs.Hits.{pairs_with_next, with_hits};
+ghost use Rattle.site_store.specs.Records.{IsOfRecord};
+ghost use Rattle.site_store.specs.Standing.{MayRecord, Leaves};
+
+use crate::hits::{Hits, hits_at, is_any_hit, put_hits, take_hits};
+use crate::recording::put_record;
+use crate::way::{Way, suspension_needs_more, way_from};
+use crate::{Site, StoreError};
+use crash_plant::Plant;
+use pair_table::PairTable;
+use tod_stamp::Stamp;
+use xrc_journal::Body;
+
+/// Takes the items of the suspensions that failed jobs call for in place of those that were there.
+fn form_hits(body: &mut Body, table: &PairTable, hits: &Hits)
+    requires room { 64 * 31 ≤ body.old.room }
+    requires below { IsTrue (are_below 64 table.now.rows) }
+    ensures put { body.new ≡ record { items = pairs_with_next (with_hits hits.now) table.now.rows; room = body.old.room } }
+    ensures rules { KeepsRows table.now.rows }
+    ensures short { length (body_spelling body.new.items) ≤ 64 * 31 }
+{
+    body.clear();
+    put_hits(body, table, hits);
+}
+
+impl<V> Site<V> {
+    /// Logs the suspensions that failed jobs call for, by one record at a cut: the row of each volume that has failed and isn't told
+    /// yet, and under level SESSION every other row that isn't suspended. Where no job failed anew, nothing is called.
+    ///
+    /// Where the record doesn't fit the rest of the data set, a switch comes first. Where the next data set holds the spot of the
+    /// mark that counts, a mark is made in place of the record: it tells the suspensions, since the site's time, those of its own
+    /// syncs among them. It takes no memory.
+    ///
+    /// `Spent` comes exactly where the record or the mark would need the number 2^64 - 1; nothing is called then. A `Fault` names a
+    /// journal, the state or the control. After an error the site may not be used again.
+    pub fn suspend<P: Plant<Volume = V>>(
+        &mut self,
+        plant: &mut P,
+        cut: Stamp,
+    ) -> Result<(), StoreError>
+        requires ready { MayRecord P.tells self.old (P.state plant.old) }
+        requires cut { self.old.time ≤ cut.0 }
+        ensures ok { Suspends cut.0 self.old self.new (P.state plant.old) plant.old plant.new result }
+        ensures leaves { OnOk result (Leaves P.tells (λ e. e) self.old self.new (P.state plant.old) (P.state plant.new)) }
+        ensures moments { DoesSuspend P.tells cut.0 self.old self.new (P.state plant.old) (P.state plant.new) result }
+        ensures others { WorksOnLent P.tells (IsOfRecord self.old) (P.state plant.old) (P.state plant.new) }
+        ensures heard_said { P.tells → Silent (P.state plant.old) (P.state plant.new) }
+        ensures cause { HasStoreCause (P.state plant.old).faults (P.state plant.new).faults result }
+        ensures failed { FailByCounts self.old.failed self.new.failed (P.state plant.old).faults (P.state plant.new).faults }
+    {
+        if !is_any_hit(&self.jobs, &self.table) {
+            return Ok(());
+        }
+        // No item waits by what the call requires.
+        self.waits = false;
+        let hits = hits_at(&self.jobs, &self.table, self.level, cut, false);
+        form_hits(&mut self.body, &self.table, &hits);
+        let way = way_from(plant, self.journal.at, self.mark.at, &self.body);
+        if suspension_needs_more(way, self.journal.at.number, self.mark.number) {
+            return Err(StoreError::Spent);
+        }
+        if way == Way::Marked {
+            return self.mark_suspensions(plant);
+        }
+        put_record(&mut self.journal, plant, cut, &self.body, way)?;
+        take_hits(&mut self.table, &hits);
+        self.time = cut;
+        Ok(())
+    }
+}
