@@ -115,7 +115,7 @@ pub fn choose<P: Plant>(plant: &mut P) -> Result<Option<Mark>, ChooseError>
     // What a read of the control gives stays, and a crash leaves nothing there that it couldn't leave before; all else is as before.
     ensures same { P.tells → (P.state plant.new).bytes Control ≡ (P.state plant.old).bytes Control }
     ensures moments { P.tells → Follows Same (on (P.state plant.old) Control) (on (P.state plant.new) Control) }
-    ensures only { WorksOn P.tells (λ d. d ≡ Control) (P.state plant.old) (P.state plant.new) }
+    ensures others { WorksOn P.tells (λ d. d ≡ Control) (P.state plant.old) (P.state plant.new) }
 {
     match read_slot(plant, FIRST) {
         Ok(Slot::Damaged) => Err(ChooseError::Damaged(FIRST)),

@@ -49,7 +49,7 @@ pub fn close_gate<P: Plant>(
     ensures shut { P.tells → OnOk result (slice_index ((P.state plant.new).bytes device) place ≢ 1) }
     ensures durable { P.tells → OnOk result (IsDurable (on (P.state plant.new) device)) }
     ensures moments { P.tells → Follows (Shuts place) (on (P.state plant.old) device) (on (P.state plant.new) device) }
-    ensures only { WorksOn P.tells (λ d. d ≡ device) (P.state plant.old) (P.state plant.new) }
+    ensures others { WorksOn P.tells (λ d. d ≡ device) (P.state plant.old) (P.state plant.new) }
     ensures cause { HasCause ((P.state plant.old).faults device) ((P.state plant.new).faults device) result }
 {
     if is_open {
@@ -77,7 +77,7 @@ pub fn put_behind_gate<P: Plant>(
     ensures durable { P.tells → OnOk result (IsDurable (on (P.state plant.new) device)) }
     // At every moment all is as it was, or the gate isn't open, or the whole body stands behind it.
     ensures moments { P.tells → Follows (Gated place body.now) (on (P.state plant.old) device) (on (P.state plant.new) device) }
-    ensures only { WorksOn P.tells (λ d. d ≡ device) (P.state plant.old) (P.state plant.new) }
+    ensures others { WorksOn P.tells (λ d. d ≡ device) (P.state plant.old) (P.state plant.new) }
     ensures cause { HasCause ((P.state plant.old).faults device) ((P.state plant.new).faults device) result }
 {
     close_gate(plant, device, place, is_open)?;

@@ -51,16 +51,18 @@ pub stands_later : (old new : PlantState) (w : Walking) → SameSite old new →
 stands_later old new w site s = record {
   set = omega (arith, s.set, site.journals);
   place = omega (arith, s.place, site.lengths (Journal w.at.set));
+  number = s.number;
   below = ap (λ (n : ℕ). are_below n w.table.rows) site.volumes ∙ s.below;
   long = λ j lt. omega (arith, s.long j (omega (arith, lt, site.journals)), site.lengths (Journal j));
   here = s.here;
 }
 
 -- behind a record
-pub stands_behind : (plant : PlantState) (now next : Walking) (after : Spot) (rows : List PairRow) → WalkStands plant now → StandsBehind after rows next → after.set < plant.journals → after.place < plant.lengths (Journal after.set) → are_below plant.volumes rows ≡ true → WalkStands plant next
-stands_behind plant now next after rows s b set place below = record {
+pub stands_behind : (plant : PlantState) (now next : Walking) (after : Spot) (rows : List PairRow) → WalkStands plant now → StandsBehind after rows next → after.set < plant.journals → after.place < plant.lengths (Journal after.set) → after.number < 2 ^ 64 → are_below plant.volumes rows ≡ true → WalkStands plant next
+stands_behind plant now next after rows s b set place number below = record {
   set = subst (λ (k : Spot). k.set < plant.journals) (sym b.at) set;
   place = subst (λ (k : Spot). k.place < plant.lengths (Journal k.set)) (sym b.at) place;
+  number = subst (λ (k : Spot). k.number < 2 ^ 64) (sym b.at) number;
   below = ap (λ (l : List PairRow). are_below plant.volumes l) b.rows_are ∙ below;
   long = s.long;
   here = ap (λ (k : Spot). has_entered k.set next.entered.items) b.at ∙ b.here;

@@ -1,5 +1,5 @@
 -- What a finished walk says of the meaning.
-use Rattle.std.proofs.Common.{◌≡◌, ℕ, ◌≤◌, ◌<◌, true, List, [], slice_index, Option, Some, None, Result, Ok, Err, sym, ap, subst, ◌∙◌, append-nil, arith}
+use Rattle.std.proofs.Common.{◌≡◌, ℕ, ◌≤◌, ◌<◌, ◌^◌, true, List, [], slice_index, Option, Some, None, Result, Ok, Err, sym, ap, subst, ◌∙◌, append-nil, arith}
 use Rattle.crash_plant.specs.declared.device.Device.{Device}
 use Rattle.crash_plant.specs.declared.device.Device.TheVariants.{Journal}
 use Rattle.crash_plant.specs.declared.spot.Spot.{Spot}
@@ -29,12 +29,13 @@ use Rattle.site_means.specs.Answers.{HasSpot}
 
 -- ---- where a walk begins
 
-pub stands_first : (plant : PlantState) (m : Mark) (table : Table) (w : Walking) → ((j : ℕ) → j < plant.journals → 1 ≤ plant.lengths (Journal j)) → HasSpot plant m.at → are_below plant.volumes table.rows ≡ true → BeginsAt m table w → WalkStands plant w
-stands_first plant m table w long spot below b =
+pub stands_first : (plant : PlantState) (m : Mark) (table : Table) (w : Walking) → ((j : ℕ) → j < plant.journals → 1 ≤ plant.lengths (Journal j)) → HasSpot plant m.at → w.at.number < 2 ^ 64 → are_below plant.volumes table.rows ≡ true → BeginsAt m table w → WalkStands plant w
+stands_first plant m table w long spot number below b =
     let at : w.at ≡ m.at = ap (λ (k : WalkState). k.at) b.standing in
     record {
       set = subst (λ (k : Spot). k.set < plant.journals) (sym at) spot.set;
       place = subst (λ (k : Spot). k.place < plant.lengths (Journal k.set)) (sym at) (omega (arith, spot.room));
+      number = number;
       below = ap (λ (k : WalkState). are_below plant.volumes k.rows) b.standing ∙ below;
       long = long;
       here = ap (λ (k : WalkState). has_entered k.at.set k.entered) b.standing ∙ entered_last m.at.set [];

@@ -60,11 +60,12 @@ pub record BeginsAt (m : Mark) (table : Table) (w : Walking) : Type 0 where
   pub table_is : w.table ≡ table
   pub time : w.time ≡ m.time
 
--- What holds where a walk stands: the spot lies in a journal, the rows name devices of the plant, no journal is empty,
--- and the spot's data set was entered.
+-- What holds where a walk stands. The spot lies in a journal, and its number has 64 bits. The rows name devices of the plant, no
+-- journal is empty, and the spot's data set was entered.
 pub record WalkStands (plant : PlantState) (w : Walking) : Type 0 where
   pub set : w.at.set < plant.journals
   pub place : w.at.place < plant.lengths (Journal w.at.set)
+  pub number : w.at.number < 2 ^ 64
   pub below : are_below plant.volumes w.table.rows ≡ true
   pub long : (j : ℕ) → j < plant.journals → 1 ≤ plant.lengths (Journal j)
   pub here : has_entered w.at.set w.entered.items ≡ true

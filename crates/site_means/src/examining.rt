@@ -43,8 +43,8 @@ pub fn read_mark<P: Plant>(plant: &mut P) -> Result<Mark, SiteError>
     ensures spot { IfOk result (λ mark. HasSpot (P.state plant.old) mark.at) }
     ensures reached { (d : AnyDevice) → IsErrOf result (Fault d) → d ≡ Control }
     ensures short { (d : AnyDevice) (needed : ℕ) → ¬ IsErrOf result (TooSmall d needed) }
-    ensures fails { FaultsAreCounted (P.state plant.old).faults (P.state plant.new).faults result }
-    ensures reads { ReadsAll P.tells (P.state plant.old) (P.state plant.new) }
+    ensures cause { FaultsAreCounted (P.state plant.old).faults (P.state plant.new).faults result }
+    ensures others { ReadsAll P.tells (P.state plant.old) (P.state plant.new) }
 {
     match choose(plant) {
         Ok(Some(mark)) => Ok(mark),
@@ -70,8 +70,8 @@ pub fn read_state<P: Plant>(
     ensures below { IfOk result (λ found. IsTrue (are_below (P.state plant.old).volumes found.1.rows)) }
     ensures reached { (d : AnyDevice) → IsErrOf result (Fault d) → d ≡ State }
     ensures short { (d : AnyDevice) (needed : ℕ) → ¬ IsErrOf result (TooSmall d needed) }
-    ensures fails { FaultsAreCounted (P.state plant.old).faults (P.state plant.new).faults result }
-    ensures reads { ReadsAll P.tells (P.state plant.old) (P.state plant.new) }
+    ensures cause { FaultsAreCounted (P.state plant.old).faults (P.state plant.new).faults result }
+    ensures others { ReadsAll P.tells (P.state plant.old) (P.state plant.new) }
 {
     match get(alloc, plant, mark.state_slot, mark.session) {
         Ok(found) => Ok(found),
@@ -106,8 +106,8 @@ pub fn read_journals<P: Plant>(
         → (d : AnyDevice) → IsErrOf result (Fault d) → IsInTurn (P.state plant.old) d }
     ensures examined { (d : AnyDevice) → IsErrOf result (Fault d) → IsExamined d }
     ensures short { (d : AnyDevice) (needed : ℕ) → ¬ IsErrOf result (TooSmall d needed) }
-    ensures fails { FaultsAreCounted (P.state plant.old).faults (P.state plant.new).faults result }
-    ensures reads { ReadsAll P.tells (P.state plant.old) (P.state plant.new) }
+    ensures cause { FaultsAreCounted (P.state plant.old).faults (P.state plant.new).faults result }
+    ensures others { ReadsAll P.tells (P.state plant.old) (P.state plant.new) }
 {
     let mut buffers = Buffers::make(alloc, longest_body(plant))?;
     let mut walking = Walking::begin(alloc, mark, table)?;
@@ -131,11 +131,11 @@ pub fn examine<P: Plant>(alloc: Global, plant: &mut P) -> Result<Means, SiteErro
     ensures below { IfOk result (λ means. IsTrue (are_below (P.state plant.old).volumes means.table.rows)) }
     ensures from { IfOk result (λ means. HasSpot (P.state plant.old) means.from) }
     // Why it fails, and in which order.
-    ensures fails { FaultsAreCounted (P.state plant.old).faults (P.state plant.new).faults result }
+    ensures cause { FaultsAreCounted (P.state plant.old).faults (P.state plant.new).faults result }
     ensures examined { (d : AnyDevice) → IsErrOf result (Fault d) → IsExamined d }
     ensures reached { P.tells → (d : AnyDevice) → IsErrOf result (Fault d) → IsInTurn (P.state plant.old) d }
     // What reads give stays, and a crash leaves nothing that it couldn't leave before.
-    ensures reads { ReadsAll P.tells (P.state plant.old) (P.state plant.new) }
+    ensures others { ReadsAll P.tells (P.state plant.old) (P.state plant.new) }
 {
     check_lengths(plant)?;
     let mark = read_mark(plant)?;

@@ -1,6 +1,6 @@
 //! The walk over a site's journals.
 
-ghost use Rattle.std.specs.Prelude.{◌≡◌, ◌<◌, ◌^◌, ◌↔◌, ℕ, unwrap_or, IfOk, OnOk, IsErrOf, IsTrue, Ok, Err, None, true};
+ghost use Rattle.std.specs.Prelude.{◌≡◌, ◌<◌, ◌↔◌, ℕ, unwrap_or, IfOk, OnOk, IsErrOf, IsTrue, Ok, Err, None, true};
 ghost use Rattle.crash_plant.specs.declared.device.Device.{Device as AnyDevice};
 ghost use Rattle.crash_plant.specs.declared.device.Device.TheVariants.{Journal};
 ghost use Rattle.crash_plant.specs.Calls.{NoneLent};
@@ -193,7 +193,6 @@ impl Walking {
         requires room { HoldsEveryBody (P.state plant.old) buffers.old.body.room }
         requires stands { WalkStands (P.state plant.old) self.old }
         ensures passes { P.tells → AnswersStep (step (shape_of (P.state plant.old)) (P.state plant.old).bytes (standing_of self.old)) self.old self.new result }
-        ensures number { self.old.at.number < 2 ^ 64 }
         ensures forth { IfOk result (λ more. more ≡ true → self.old.at.number < self.new.at.number) }
         ensures stands { OnOk result (WalkStands (P.state plant.new) self.new) }
         ensures room { buffers.new.body.room ≡ buffers.old.body.room }
@@ -203,8 +202,6 @@ impl Walking {
         ensures reads { ReadsAll P.tells (P.state plant.old) (P.state plant.new) }
     {
         let at = self.at;
-        // The number of a record is one of 64 bits.
-        let _number = self.at.number;
         let volumes = plant.volumes();
         match walk(plant, at, self.last, &mut buffers.body) {
             Ok(Walked::End) => Ok(false),

@@ -97,7 +97,7 @@ pub fn get<P: Plant>(
     // What a read of the state gives stays, and a crash leaves nothing there that it couldn't leave before; all else is as before.
     ensures same { P.tells → (P.state plant.new).bytes State ≡ (P.state plant.old).bytes State }
     ensures moments { P.tells → Follows Same (on (P.state plant.old) State) (on (P.state plant.new) State) }
-    ensures only { WorksOn P.tells (λ d. d ≡ State) (P.state plant.old) (P.state plant.new) }
+    ensures others { WorksOn P.tells (λ d. d ≡ State) (P.state plant.old) (P.state plant.new) }
 {
     let Ok(bytes) = read_slot(plant, slot) else {
         return Err(StateError::Fault);

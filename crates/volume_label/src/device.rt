@@ -50,7 +50,7 @@ pub fn write_label<P: Plant>(plant: &mut P, device: u16, label: &Label) -> Resul
     ensures durable { P.tells → OnOk result (IsDurable (on (P.state plant.new) (Volume device))) }
     // A valid one is read there again.
     ensures stands { P.tells → IsTrue (holds_cylinders ((P.state plant.old).lengths (Volume device)) label.now.cylinders) → OnOk result (label_of ((P.state plant.new).lengths (Volume device)) (take 14 ((P.state plant.new).bytes (Volume device))) ≡ Some label.now) }
-    ensures only { WorksOn P.tells (λ d. d ≡ Volume device) (P.state plant.old) (P.state plant.new) }
+    ensures others { WorksOn P.tells (λ d. d ≡ Volume device) (P.state plant.old) (P.state plant.new) }
     ensures cause { HasCause ((P.state plant.old).faults (Volume device)) ((P.state plant.new).faults (Volume device)) result }
 {
     let place = Device::Volume(device);

@@ -51,24 +51,24 @@ impl Header {
     }
 }
 
-/// Whether one of the volumes has this serial.
-fn has_serial(volumes: &[VolumeHead], serial: Serial) -> bool
-    ensures { result ≡ names (serials_of volumes.now) serial }
+/// Whether one of the volumes has the serial of these bytes.
+fn has_serial(volumes: &[VolumeHead], serial: &[u8]) -> bool
+    ensures { result ≡ names (serials_of volumes.now) serial.now }
 {
     let mut found = false;
     for volume in volumes {
-        if serial == volume.serial {
+        if serial == volume.serial.as_bytes() {
             found = true;
         }
     }
     found
 }
 
-/// Whether a volume has 1 to `MOST_CYLINDERS` cylinders. Its serial is one by its type.
+/// Whether a volume with a serial has 1 to `MOST_CYLINDERS` cylinders.
 fn is_volume(volume: &VolumeHead) -> bool
+    requires { IsTrue (is_serial volume.now.serial) }
     ensures { result ≡ (is_serial volume.now.serial && within 1 MOST_CYLINDERS volume.now.cylinders) }
 {
-    let _valid = volume.serial.as_bytes();
     (1..=MOST_CYLINDERS as u32).contains(&volume.cylinders)
 }
 
@@ -77,7 +77,8 @@ fn are_volumes(volumes: &[VolumeHead]) -> bool
     ensures { result ≡ are_volumes 1 [] volumes.now }
 {
     for (place, volume) in volumes.iter().enumerate() {
-        if has_serial(&volumes[..place], volume.serial) || !is_volume(volume) {
+        let serial = volume.serial.as_bytes();
+        if has_serial(&volumes[..place], serial) || !is_volume(volume) {
             return false;
         }
     }

@@ -227,7 +227,7 @@ impl Journal {
         ensures marked { self.new.marked ≡ self.old.marked }
         ensures err { OnErr result (self.new ≡ self.old) }
         // All else is as before, on all devices and the console.
-        ensures only { WorksOn P.tells (λ d. d ≡ JournalDevice self.old.at.set) (P.state plant.old) (P.state plant.new) }
+        ensures others { WorksOn P.tells (λ d. d ≡ JournalDevice self.old.at.set) (P.state plant.old) (P.state plant.new) }
         // Why it fails.
         ensures cause { GrowCause (λ d. d ≡ JournalDevice self.old.at.set) (P.state plant.old) (P.state plant.new) result }
         ensures no_room { RefusesGroup (P.state plant.old) self.old.at body.now.items result }
@@ -295,7 +295,7 @@ impl Journal {
         ensures marked { self.new.marked ≡ self.old.marked }
         ensures err { OnErr result (self.new ≡ self.old) }
         // All else is as before, on all devices and the console.
-        ensures only { WorksOn P.tells (IsOfSwitch (P.state plant.old).journals self.old.at) (P.state plant.old) (P.state plant.new) }
+        ensures others { WorksOn P.tells (IsOfSwitch (P.state plant.old).journals self.old.at) (P.state plant.old) (P.state plant.new) }
         // Why it fails.
         ensures cause { GrowCause (IsOfSwitch (P.state plant.old).journals self.old.at) (P.state plant.old) (P.state plant.new) result }
         ensures no_room { RefusesSwitch (P.state plant.old) self.old.marked self.old.at result }

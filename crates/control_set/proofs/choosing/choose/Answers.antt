@@ -33,7 +33,7 @@ returns-in-Ok g c =
       damaged_without_fault = λ place is. rest.damaged_without_fault place is ∙ c.in-Ok.ensures.cause.ok;
       same = λ told. rest.same told ∙ c.read_slot.ensures.same told;
       moments = λ told. same_after (on old Control) (on mid Control) (on new Control) Same ((c.read_slot.ensures.only.elapses told).kept Control) (c.read_slot.ensures.moments told) ((rest.only.elapses told).kept Control) (rest.moments told);
-      only = works_on_trans g.P.Plant.tells _ _ _ _ c.read_slot.ensures.only rest.only;
+      others = works_on_trans g.P.Plant.tells _ _ _ _ c.read_slot.ensures.only rest.only;
     }
 
 pub choose_beside-requires-clause-keeps : goal.choose_beside-requires-clause-keeps

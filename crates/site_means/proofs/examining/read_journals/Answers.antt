@@ -1,4 +1,4 @@
-use Rattle.std.proofs.Common.{refl, sym, ap, subst, ◌∙◌, Err}
+use Rattle.std.proofs.Common.{◌<◌, ◌^◌, rules, refl, sym, ap, subst, ◌∙◌, Err}
 use Rattle.state_set.specs.Slots.{Stored}
 use Rattle.site_means.specs.declared.means.Means.{Means}
 use Rattle.site_means.specs.declared.site_error.SiteError.{SiteError}
@@ -39,4 +39,6 @@ returns-clause-reached g c = λ told chosen stored d is.
     (subst (λ (e : SiteError). AnswersWalk (walk_of (shape_of old) old.bytes first) first c.finish.new.self (Err e)) (error_is {Y = Means} c.in-Err.error (Fault d) is) (c.in-Err.ensures.reports told))
 
 pub finish-requires-clause-stands : goal.finish-requires-clause-stands
-finish-requires-clause-stands g c _ _ = stands_first (g.P.Plant.state c.args.plant.now) c.args.mark.now c.args.table c.in_ok-walking.walking c.requires.long c.requires.spot c.requires.below c.in_ok-walking.ensures
+finish-requires-clause-stands g c _ _ =
+    let number : c.in_ok-walking.walking.at.number < 2 ^ 64 = search rules in
+    stands_first (g.P.Plant.state c.args.plant.now) c.args.mark.now c.args.table c.in_ok-walking.walking c.requires.long c.requires.spot number c.requires.below c.in_ok-walking.ensures

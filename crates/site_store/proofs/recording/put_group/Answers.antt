@@ -13,4 +13,4 @@ returns-in-Err-Fault-clause-cause g c =
     let old = g.P.Plant.state c.args.plant.now in
     let new = g.P.Plant.state c.append.new.plant in
     let why = c.in-Err-Fault.ensures.cause.fault c.in-Err-Fault.set (ap (λ (e : AppendError). Err e) c.in-Err-Fault.field-0-is) in
-    one_journal_fault c.args.journal.now.at.set c.in-Err-Fault.set old.faults new.faults why.0 why.1 c.append.ensures.only.others_faults
+    one_journal_fault c.args.journal.now.at.set c.in-Err-Fault.set old.faults new.faults why.0 why.1 c.append.ensures.others.others_faults

@@ -19,8 +19,8 @@ returns-clause-moments g c told =
     (λ t from to x left. let step = c.write.ensures.moments told t from to x left in (step.0, step.1, torn_fourteen (length c.encode_label-bytes.result) step.0 x size step.2))
     ((c.sync.ensures.only.elapses told).kept d) (c.sync.ensures.moments told)
 
-pub returns-clause-only : goal.returns-clause-only
-returns-clause-only g c = works_on_trans g.P.Plant.tells _ _ _ _ c.write.ensures.only c.sync.ensures.only
+pub returns-clause-others : goal.returns-clause-others
+returns-clause-others g c = works_on_trans g.P.Plant.tells _ _ _ _ c.write.ensures.only c.sync.ensures.only
 
 pub returns-clause-begins : goal.returns-clause-begins
 returns-clause-begins g c told =

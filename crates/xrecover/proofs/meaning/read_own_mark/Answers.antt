@@ -8,7 +8,7 @@ use Rattle.site_means.proofs.ReadAll.{reads_one}
 use Rattle.xrecover.proofs.meaning.read_own_mark.Goals as goal
 
 pub returns-in_err-check_session-in-Ok-Some-clause-reads : goal.returns-in_err-check_session-in-Ok-Some-clause-reads
-returns-in_err-check_session-in-Ok-Some-clause-reads g c = reads_one g.P.Plant.tells Control _ _ tt c.choose.ensures.same c.choose.ensures.moments c.choose.ensures.only
+returns-in_err-check_session-in-Ok-Some-clause-reads g c = reads_one g.P.Plant.tells Control _ _ tt c.choose.ensures.same c.choose.ensures.moments c.choose.ensures.others
 
 pub returns-in_ok-check_session-in-Ok-Some-clause-spot : goal.returns-in_ok-check_session-in-Ok-Some-clause-spot
 returns-in_ok-check_session-in-Ok-Some-clause-spot g c =
@@ -16,13 +16,13 @@ returns-in_ok-check_session-in-Ok-Some-clause-spot g c =
     has_spot old c.in-Ok-Some.mark (subst (λ (o : Option Mark). IfSome o (IsMark (lengths_of old))) c.in-Ok-Some.field-0-is c.in-Ok-Some.ensures.keeps)
 
 pub returns-in_ok-check_session-in-Ok-Some-clause-reads : goal.returns-in_ok-check_session-in-Ok-Some-clause-reads
-returns-in_ok-check_session-in-Ok-Some-clause-reads g c = reads_one g.P.Plant.tells Control _ _ tt c.choose.ensures.same c.choose.ensures.moments c.choose.ensures.only
+returns-in_ok-check_session-in-Ok-Some-clause-reads g c = reads_one g.P.Plant.tells Control _ _ tt c.choose.ensures.same c.choose.ensures.moments c.choose.ensures.others
 
 pub returns-in-Ok-None-clause-reads : goal.returns-in-Ok-None-clause-reads
-returns-in-Ok-None-clause-reads g c = reads_one g.P.Plant.tells Control _ _ tt c.choose.ensures.same c.choose.ensures.moments c.choose.ensures.only
+returns-in-Ok-None-clause-reads g c = reads_one g.P.Plant.tells Control _ _ tt c.choose.ensures.same c.choose.ensures.moments c.choose.ensures.others
 
 pub returns-in-Err-Damaged-clause-reads : goal.returns-in-Err-Damaged-clause-reads
-returns-in-Err-Damaged-clause-reads g c = reads_one g.P.Plant.tells Control _ _ tt c.choose.ensures.same c.choose.ensures.moments c.choose.ensures.only
+returns-in-Err-Damaged-clause-reads g c = reads_one g.P.Plant.tells Control _ _ tt c.choose.ensures.same c.choose.ensures.moments c.choose.ensures.others
 
 pub returns-in-Err-Fault-clause-reads : goal.returns-in-Err-Fault-clause-reads
-returns-in-Err-Fault-clause-reads g c = reads_one g.P.Plant.tells Control _ _ tt c.choose.ensures.same c.choose.ensures.moments c.choose.ensures.only
+returns-in-Err-Fault-clause-reads g c = reads_one g.P.Plant.tells Control _ _ tt c.choose.ensures.same c.choose.ensures.moments c.choose.ensures.others

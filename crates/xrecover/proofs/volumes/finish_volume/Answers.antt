@@ -24,14 +24,14 @@ returns-in-Ok-clause-works g c =
     works_trans g.P.Plant.tells (OfOneVolume v step) (OfOneVolume v step) (OfOneVolume v step) _ _ _ (λ d x y z p q. one_then v step step step (λ x y z p q. redoes_then v [] x y z p q) d x y z p q) (λ d x y p. p)
     (works_one g.P.Plant.tells v step _ _ c.sync.ensures.only (λ told. redoes_same v [] _ _ (c.sync.ensures.same told))
     (λ told t from to z left. let start = c.sync.ensures.moments told t from to z left in (start.0, start.1, redoes_same v [] start.0 z start.2)))
-    (works_one g.P.Plant.tells v step _ _ c.write_label.ensures.only (λ told. label_redoes v _ _ (c.write_label.ensures.torn told))
+    (works_one g.P.Plant.tells v step _ _ c.write_label.ensures.others (λ told. label_redoes v _ _ (c.write_label.ensures.torn told))
     (λ told t from to z left. let start = c.write_label.ensures.moments told t from to z left in (start.0, start.1, label_redoes v start.0 z start.2)))
 
 pub returns-in-Err-clause-counts : goal.returns-in-Err-clause-counts
 returns-in-Err-clause-counts g c = λ v differ. c.sync.ensures.only.others_faults (Volume v) (λ is. differ cc)
 
 pub returns-in-Ok-clause-counts : goal.returns-in-Ok-clause-counts
-returns-in-Ok-clause-counts g c = λ v differ. c.write_label.ensures.only.others_faults (Volume v) (λ is. differ cc) ∙ c.sync.ensures.only.others_faults (Volume v) (λ is. differ cc)
+returns-in-Ok-clause-counts g c = λ v differ. c.write_label.ensures.others.others_faults (Volume v) (λ is. differ cc) ∙ c.sync.ensures.only.others_faults (Volume v) (λ is. differ cc)
 
 pub returns-in-Err-clause-lasts : goal.returns-in-Err-clause-lasts
 returns-in-Err-clause-lasts g c = λ told.
@@ -46,7 +46,7 @@ returns-in-Ok-clause-lasts g c = λ told.
     let v = c.args.row.now.device in
     let d = Volume v in
     label_last v (on (g.P.Plant.state c.args.plant.now) d) (on (g.P.Plant.state c.sync.new.self) d) (on (g.P.Plant.state c.write_label.new.plant) d) ((c.sync.ensures.only.elapses told).kept d).later (c.sync.ensures.moments told) (c.sync.ensures.same told)
-    (search rules) ((c.write_label.ensures.only.elapses told).kept d) (c.write_label.ensures.moments told) (c.write_label.ensures.torn told)
+    (search rules) ((c.write_label.ensures.others.elapses told).kept d) (c.write_label.ensures.moments told) (c.write_label.ensures.torn told)
 
 pub returns-in-Err-clause-named : goal.returns-in-Err-clause-named
 returns-in-Err-clause-named g c = λ told quiet. inl (ap (λ (l : List ℕ). take 14 l) (c.sync.ensures.same told))

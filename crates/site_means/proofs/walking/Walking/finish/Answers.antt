@@ -33,7 +33,7 @@ returns-in-Err-clause-reports g c = λ told.
     let now = c.loop-error.self in
     let inv = c.loop-error.invariant.going told in
     let p = passes_as g.P.Plant.tells old mid now c.step.new.self (Err c.in-Err.error) c.loop-error.invariant.reads told (c.in-Err.ensures.passes told) in
-    going_fails (shape_of old) old.bytes c.args.self.now now c.step.new.self c.in-Err.error c.step.ensures.number inv c.loop-error.invariant.stands.here p
+    going_fails (shape_of old) old.bytes c.args.self.now now c.step.new.self c.in-Err.error c.loop-error.invariant.stands.number inv c.loop-error.invariant.stands.here p
 
 pub returns-in-Ok-false-clause-reports : goal.returns-in-Ok-false-clause-reports
 returns-in-Ok-false-clause-reports g c = λ told.
@@ -43,10 +43,10 @@ returns-in-Ok-false-clause-reports g c = λ told.
     let inv = c.loop-error.invariant.going told in
     let passes = c.in-Ok-false.ensures.passes told in
     let p = passes_as g.P.Plant.tells old mid now c.step.new.self (Ok false) c.loop-error.invariant.reads told (subst (λ (b : Bool). AnswersStep (step (shape_of mid) mid.bytes (standing_of now)) now c.step.new.self (Ok b)) c.in-Ok-false.field-0-test passes) in
-    going_ends (shape_of old) old.bytes c.args.self.now now c.step.new.self c.step.ensures.number inv p.0 p.1
+    going_ends (shape_of old) old.bytes c.args.self.now now c.step.new.self c.loop-error.invariant.stands.number inv p.0 p.1
 
 pub loop-error-smaller : goal.loop-error-smaller
-loop-error-smaller g c = omega (arith, c.step.ensures.number, c.in-Ok-true.ensures.forth c.in-Ok-true.field-0-test)
+loop-error-smaller g c = omega (arith, c.loop-error.invariant.stands.number, c.in-Ok-true.ensures.forth c.in-Ok-true.field-0-test)
 
 pub loop-error-preserved : goal.loop-error-preserved
 loop-error-preserved g c =
@@ -61,5 +61,5 @@ loop-error-preserved g c =
       going = λ told.
           let passes = c.in-Ok-true.ensures.passes told in
           let m = passes_as g.P.Plant.tells old mid now c.step.new.self (Ok true) c.loop-error.invariant.reads told (subst (λ (b : Bool). AnswersStep (step (shape_of mid) mid.bytes (standing_of now)) now c.step.new.self (Ok b)) c.in-Ok-true.field-0-test passes) in
-          going_next (shape_of old) old.bytes c.args.self.now now c.step.new.self c.step.ensures.number (c.loop-error.invariant.going told) m;
+          going_next (shape_of old) old.bytes c.args.self.now now c.step.new.self c.loop-error.invariant.stands.number (c.loop-error.invariant.going told) m;
     }

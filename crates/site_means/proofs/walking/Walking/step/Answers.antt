@@ -117,8 +117,9 @@ returns-in-Ok-Group-clause-stands g c =
     let stands = c.requires.stands in
     let set : c.in-Ok-Group.after.set < old.journals = omega (arith, on.0, stands.set) in
     let place : c.in-Ok-Group.after.place < old.lengths (Journal c.in-Ok-Group.after.set) = omega (arith, on.1, ap (λ (k : ℕ). old.lengths (Journal k)) on.0) in
+    let number : c.in-Ok-Group.after.number < 2 ^ 64 = search rules in
     on_ok_two c.pass_group.result
-    (λ behind below. stands_later old new next c.walk.ensures.only.only.site (stands_behind old now next c.in-Ok-Group.after next.table.rows stands behind set place (ap (λ (n : ℕ). are_below n next.table.rows) (sym c.volumes-volumes.ensures) ∙ below)))
+    (λ behind below. stands_later old new next c.walk.ensures.only.only.site (stands_behind old now next c.in-Ok-Group.after next.table.rows stands behind set place number (ap (λ (n : ℕ). are_below n next.table.rows) (sym c.volumes-volumes.ensures) ∙ below)))
     c.pass_group.ensures.behind c.pass_group.ensures.below
 
 pub returns-in-Ok-Switch-clause-stands : goal.returns-in-Ok-Switch-clause-stands
@@ -130,7 +131,8 @@ returns-in-Ok-Switch-clause-stands g c =
     let on = subst (λ (w : Walked). WalkGoesOn old now.at w) c.in-Ok-Switch.field-0-is c.in-Ok-Switch.ensures.goes_on in
     let stands = c.requires.stands in
     let place : c.in-Ok-Switch.after.place < old.lengths (Journal c.in-Ok-Switch.after.set) = omega (arith, on.1, stands.long c.in-Ok-Switch.after.set on.0) in
-    on_ok_weaker c.enter.result (λ behind. stands_later old new next c.walk.ensures.only.only.site (stands_behind old now next c.in-Ok-Switch.after now.table.rows stands behind on.0 place stands.below)) c.enter.ensures.behind
+    let number : c.in-Ok-Switch.after.number < 2 ^ 64 = search rules in
+    on_ok_weaker c.enter.result (λ behind. stands_later old new next c.walk.ensures.only.only.site (stands_behind old now next c.in-Ok-Switch.after now.table.rows stands behind on.0 place number stands.below)) c.enter.ensures.behind
 
 pub returns-in-Ok-End-clause-stands : goal.returns-in-Ok-End-clause-stands
 returns-in-Ok-End-clause-stands g c = stands_later (g.P.Plant.state c.args.plant.now) (g.P.Plant.state c.walk.new.plant) c.args.self.now c.walk.ensures.only.only.site c.requires.stands
