@@ -1,1 +1,2 @@
 mod Singles
+mod Telling

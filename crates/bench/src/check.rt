@@ -1,11 +1,13 @@
 //! Each benchmark once at a small size, so that its numbers can be compared.
 
-use crate::{apply, plant, queue, read, region, sets, trace};
+use crate::{apply, plant, queue, read, region, sets, trace, turns};
 use anyhow::Result;
 use std::alloc::Global;
 use std::fs::File;
 use std::io::{Stdin, Stdout};
 use std::rt::Files;
+use std::sync::Wait;
+use std::thread::Threads;
 use std::time::Clock;
 
 /// Updates that reach each record of each slot.
@@ -23,6 +25,11 @@ const TRACE_UPDATES: u32 = 2_000;
 const TRACE_TRACKS: u32 = 20;
 
 const BLOCKS: u32 = 20;
+
+const CONTROLS: u16 = 16;
+
+/// Times that each seat tells.
+const TURNS: u32 = 1_000;
 
 /// What needs no file.
 fn in_memory<R: Print + Eprint + Clock>(rt: &R, alloc: Global) -> Result<()> {
@@ -43,9 +50,10 @@ fn traces<R: Files<File = File> + Print>(rt: &R, alloc: Global, file: &str) -> R
 /// Runs all. The file is a trace of each kind, and then a volume.
 pub fn run<R>(rt: &R, alloc: Global, file: &str, input: Stdin, output: Stdout) -> Result<()>
 where
-    R: Files<File = File> + Print + Eprint + Clock,
+    R: Files<File = File> + Print + Eprint + Clock + Threads + Wait + Sync,
 {
     in_memory(rt, alloc)?;
+    turns::run(rt, alloc, CONTROLS, TURNS)?;
     traces(rt, alloc, file)?;
     plant::run(rt, alloc, file, BLOCKS, input, output)
 }

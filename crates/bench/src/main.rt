@@ -11,6 +11,7 @@ mod read;
 mod region;
 mod sets;
 mod trace;
+mod turns;
 mod words;
 
 use anyhow::Result;
@@ -19,6 +20,8 @@ use std::fs::File;
 use std::io::{Stdin, Stdout};
 use std::process::ExitCode;
 use std::rt::{Env, Files};
+use std::sync::Wait;
+use std::thread::Threads;
 use std::time::Clock;
 use words::{Asked, USAGE, read_words};
 
@@ -27,7 +30,7 @@ const NOT_KNOWN: u8 = 2;
 
 fn perform<R>(rt: &R, asked: Asked, input: Stdin, output: Stdout) -> Result<()>
 where
-    R: Files<File = File> + Clock + AllocGlobal + Print + Eprint,
+    R: Files<File = File> + Clock + AllocGlobal + Print + Eprint + Threads + Wait + Sync,
 {
     let alloc = rt.alloc();
     match asked {
@@ -39,6 +42,7 @@ where
         Asked::Region => region::run(rt, alloc, region::ROUNDS),
         Asked::Sets { tracks, times } => sets::run(rt, alloc, tracks, times),
         Asked::Spread { file, updates } => trace::write_spread(rt, alloc, file, updates),
+        Asked::Turn { controls, times } => turns::run(rt, alloc, controls, times),
         Asked::Write {
             file,
             updates,
@@ -49,7 +53,7 @@ where
 
 fn run<R>(rt: &R, input: Stdin, output: Stdout) -> Result<ExitCode>
 where
-    R: Files<File = File> + Clock + Env + AllocGlobal + Print + Eprint,
+    R: Files<File = File> + Clock + Env + AllocGlobal + Print + Eprint + Threads + Wait + Sync,
 {
     let words: Vec<String> = env::args(rt)?.skip(1).collect(rt.alloc())?;
     match read_words(&words) {

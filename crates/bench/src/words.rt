@@ -1,7 +1,7 @@
 //! What the words of a command line ask for.
 
 pub const USAGE: &str =
-    "say: apply, queue, region, sets TRACKS TIMES, plant FILE BLOCKS, read FILE, write FILE UPDATES TRACKS, spread FILE UPDATES, or check FILE";
+    "say: apply, queue, region, sets TRACKS TIMES, turn CONTROLS TIMES, plant FILE BLOCKS, read FILE, write FILE UPDATES TRACKS, spread FILE UPDATES, or check FILE";
 
 /// What is to be done. A file is named as the words name it.
 #[derive(Clone, Copy)]
@@ -26,6 +26,10 @@ pub enum Asked<'words> {
     Spread {
         file: &'words str,
         updates: u32,
+    },
+    Turn {
+        controls: u16,
+        times: u32,
     },
     Write {
         file: &'words str,
@@ -65,6 +69,10 @@ fn with_two<'words>(word: &str, first: &'words str, second: &str) -> Option<Aske
         "spread" => Some(Asked::Spread {
             file: first,
             updates: second,
+        }),
+        "turn" => Some(Asked::Turn {
+            controls: first.parse().ok()?,
+            times: second,
         }),
         _ => None,
     }

@@ -118,7 +118,7 @@ known_next s (Forget k v) by = absurd cc
 abbrev size_of : KnownVolume → ℕ × ℕ
 size_of u = (u.number, u.tracks)
 
-abbrev sizes_in : List KnownVolume → List (ℕ × ℕ)
+abbrev pub sizes_in : List KnownVolume → List (ℕ × ℕ)
 sizes_in known = map size_of known
 
 abbrev pub sizes_known : List (List KnownVolume) → List (List (ℕ × ℕ))
@@ -165,7 +165,7 @@ within_by v x (u ∷ volumes) = choose (nat_eq u.number v) (within_by v x volume
     choose true rest = refl
     choose false rest = rest
 
-sizes_at : (first s : Group) (k : ℕ) → HasSizesOf first s → sizes_in (known_of (control_at s k)) ≡ sizes_in (known_of (control_at first k))
+pub sizes_at : (first s : Group) (k : ℕ) → HasSizesOf first s → sizes_in (known_of (control_at s k)) ≡ sizes_in (known_of (control_at first k))
 sizes_at first s k h = sym (at s) ∙ (ap (λ l. get_or l k []) h ∙ at first)
   where
     at : (t : Group) → get_or (sizes_known (volumes_known t)) k [] ≡ sizes_in (known_of (control_at t k))

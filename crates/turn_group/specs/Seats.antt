@@ -1,5 +1,5 @@
 -- What seats are to their callers, when a seat may make a call, and what it is after it.
-use Rattle.std.specs.Prelude.{◌≡◌, ℕ, suc, ◌≤◌, List, [], ◌∷◌, ◌++◌, map, Bool, false, Option, Some, None, IsTrue, slice_index_or}
+use Rattle.std.specs.Prelude.{◌≡◌, ℕ, suc, ◌≤◌, List, [], ◌∷◌, ◌++◌, length, map, Bool, false, Option, Some, None, IsTrue, nat_lt, slice_index_or}
 use Rattle.std.specs.List.{list_all, range_with_len}
 use Rattle.atomic_table.specs.Seated.{TableId}
 use Rattle.atomic_table.specs.declared.shared.Seat.{Seat}
@@ -11,9 +11,10 @@ use Rattle.cut_core.specs.Legal.{are_in}
 use Rattle.pending_queue.specs.Entries.{all_keep_rules}
 use Rattle.turn.specs.declared.view.View.{View}
 use Rattle.turn.specs.Turn.{ticketed, HasCalled}
+use Rattle.group_state.specs.Volumes.{volume_of, passes}
 use Rattle.group_state.specs.Controls.{is_telling}
 use Rattle.group_state.specs.Groups.{Group, new_group, control_at}
-use Rattle.group_state.specs.Sound.{are_within, is_track_within}
+use Rattle.group_state.specs.Sound.{KeepsGroup, are_within, is_track_within}
 use Rattle.group_state.specs.Machine.{Call, Reply}
 use Rattle.turn_group.specs.Notes.{KnownVolume, SeatNote, volumes_known, last_after, known_after, floor_after, note_after}
 use Rattle.group_state.specs.Calls.{telling_after}
@@ -79,6 +80,12 @@ pub record SeatMayCopy (seat : ReaderSeatState) (volume track : ℕ) (at : Stamp
   pub telling : IsTrue seat.telling
   pub floor : at ≡ seat.floor
   pub within : IsTrue (is_track_within (control_at seat.first seat.control).volumes volume track)
+
+-- ---- what a reader copies next
+
+-- whether a control has the volume, and the volume has the track
+abbrev pub is_track_of_control : (first : Group) → (control volume track : ℕ) → Bool
+is_track_of_control first k v x = passes (λ u. nat_lt x (length u.map)) (volume_of v (control_at first k).volumes)
 
 -- ---- after a call
 
@@ -178,10 +185,11 @@ reader_note k notes = ReaderNote k (floor_in (note_in notes)) (telling_in (note_
 abbrev pub mover_note : List SeatNote → SeatNote
 mover_note notes = MoverNote (floor_in (note_in notes)) (known_in (note_in notes))
 
--- What every seat's view keeps: it has one note, the state that the table was made with, and its own calls alone.
+-- What every seat's view keeps: it has one note, the state that the table was made with, which is sound, and its own calls alone.
 pub record KeepsView (note : SeatNote) (is_own : Call → Bool) (v : SeatView) : Type 0 where
   pub noted : v.notes ≡ note ∷ []
   pub begun : v.first ≡ Some (first_or v.first)
+  pub kept : KeepsGroup (first_or v.first)
   pub own : IsTrue (list_all (λ (made : MadeCall). is_own made.event) v.mine)
   pub unjoined : v.joined ≡ []
 

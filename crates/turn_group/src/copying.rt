@@ -2,12 +2,10 @@
 
 ghost use Rattle.std.specs.Prelude.{◌≡◌, ℕ, ◌<◌, IsTrue, IfSome};
 ghost use Rattle.turn.specs.Turn.{IsIdle};
-ghost use Rattle.group_state.specs.Groups.{control_at};
-ghost use Rattle.group_state.specs.Sound.{is_track_within};
 ghost use Rattle.group_state.specs.Machine.Call.{NextWanted, Copied};
 ghost use Rattle.group_state.specs.Machine.Reply.{Wanted};
 ghost use Rattle.group_state.specs.Answers.{copy_reply};
-ghost use Rattle.turn_group.specs.Seats.{IsReaderView, reader_view, CalledAt, SeatMayCopy, first_or};
+ghost use Rattle.turn_group.specs.Seats.{IsReaderView, reader_view, CalledAt, SeatMayCopy, is_track_of_control, first_or};
 
 use crate::machine::{GroupPlace, GroupTable};
 use ckd_track::Slot;
@@ -27,11 +25,9 @@ pub fn next_wanted<W: Wait>(
     requires idle { IsIdle place.old.me }
     requires view { IsReaderView control place.old.me.0 }
     ensures called { CalledAt place.old (NextWanted control) (Wanted result) place.new }
-    ensures within { IfSome result (λ p. IsTrue (is_track_within (control_at (first_or place.old.me.0.first) control).volumes p.0 p.1)) }
+    ensures within { IfSome result (λ p. IsTrue (is_track_of_control (first_or place.old.me.0.first) control p.0 p.1)) }
 {
     let state = table.take_turn(rt, place);
-    // Its contract says what every group state keeps.
-    let _ = state.controls();
     let wanted = state.next_wanted(control);
     table.pass_turn::<Brand, u16, Option<(u16, u32)>>(place, state, &control, &wanted);
     wanted

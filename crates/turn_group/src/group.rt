@@ -4,12 +4,11 @@ ghost use Rattle.std.specs.Prelude.{◌≡◌, ◌+◌, ◌<◌, ◌≤◌, [], 
 ghost use Rattle.ckd_track.specs.declared.write.Batch.{Batch as BatchIs};
 ghost use Rattle.pending_queue.specs.declared.room.Room.{Room};
 ghost use Rattle.group_state.specs.declared.joining.Joining.TheVariants as joining;
-ghost use Rattle.group_state.specs.Groups.{control_at, shown_in};
-ghost use Rattle.group_state.specs.Sound.{is_track_within};
+ghost use Rattle.group_state.specs.Groups.{shown_in};
 ghost use Rattle.group_state.specs.Machine.Call.{Join, NextWanted, Copied, Raise, Break, Form, Drop as Drops};
 ghost use Rattle.group_state.specs.Machine.Reply.{Made, Wanted};
 ghost use Rattle.group_state.specs.Answers.{join_reply, run_reply, copy_reply, form_reply};
-ghost use Rattle.turn_group.specs.Seats.{new_mover, new_readers, SeatMayTell, SeatMayJoin, SeatMayCopy, ReaderCalled, MoverCalled, IsSeated, calls_at, AllFrom, AreAtTheirPlaces, IsOwn};
+ghost use Rattle.turn_group.specs.Seats.{new_mover, new_readers, SeatMayTell, SeatMayJoin, SeatMayCopy, is_track_of_control, ReaderCalled, MoverCalled, IsSeated, calls_at, AllFrom, AreAtTheirPlaces, IsOwn};
 ghost use Rattle.turn.specs.Turn.{IsSameSeat, first_view, lists};
 ghost use Rattle.std.specs.List.{list_all};
 ghost use Rattle.turn_group.specs.Notes.{notes_of, is_of_carried};
@@ -91,12 +90,12 @@ impl TurnGroup {
         join_run(&self.table, rt, &mut seat.seat.place, batch)
     }
 
-    /// The volume and the track that the reader copies next; None where no volume of its control wants a track. The track is below
-    /// those that its volume had when the table was made, as `join_copy` asks.
+    /// The volume and the track that the reader copies next; None where no volume of its control wants a track. The control had
+    /// that track when the table was made, as `join_copy` asks.
     pub fn next_wanted<W: Wait>(&self, rt: &W, seat: &mut ReaderSeat) -> Option<(u16, u32)>
         requires table { seat.old.table ≡ self.now.table }
         ensures called { ReaderCalled seat.old (NextWanted seat.old.control) (Wanted result) seat.new }
-        ensures within { IfSome result (λ p. IsTrue (is_track_within (control_at seat.old.first seat.old.control).volumes p.0 p.1)) }
+        ensures within { IfSome result (λ p. IsTrue (is_track_of_control seat.old.first seat.old.control p.0 p.1)) }
     {
         next_wanted(&self.table, rt, &mut seat.seat.place, seat.control)
     }

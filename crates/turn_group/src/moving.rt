@@ -37,8 +37,6 @@ pub fn form<W: Wait>(
     ensures carried { IsTrue (list_all (is_of_carried (known_at place.old)) out.new.entries) }
 {
     let mut state = table.take_turn(rt, place);
-    // Its contract says what every group state keeps.
-    let _ = state.controls();
     let formed = state.form(limit, out);
     let reply = (formed, &*out);
     table.pass_turn::<Brand, Stamp, (Forming, &Formed)>(place, state, &limit, &reply);

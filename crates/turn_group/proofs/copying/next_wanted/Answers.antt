@@ -3,7 +3,7 @@ use Rattle.group_state.specs.Controls.{new_control}
 use Rattle.group_state.specs.Machine.Call.{NextWanted}
 use Rattle.group_state.specs.Machine.Reply.{Wanted}
 use Rattle.turn_group.proofs.Leaving.{after_next}
-use Rattle.turn_group.proofs.Turning.{may_pass_call, called_by, noted_of, sizes_of_turn}
+use Rattle.turn_group.proofs.Turning.{may_pass_call, called_by, noted_of, sizes_of_turn, kept_of_turn}
 use Rattle.turn_group.specs.Seats.{reader_note, note_in, floor_in, telling_in, first_or}
 use Rattle.group_state.specs.Calls.{is_by_reader}
 use Rattle.turn_group.proofs.Wanting.{next_within}
@@ -27,4 +27,4 @@ returns-clause-within g c =
     let note = reader_note c.args.control c.args.place.now.me.0.notes in
     let own = is_by_reader c.args.control in
     let h = noted_of note own c.requires.view took in
-    next_within (first_or c.args.place.now.me.0.first) x c.args.control (sizes_of_turn note own c.requires.view took) (c.controls.ensures.kept.sound c.args.control (new_control 0 0 0) h.0) c.next_wanted-wanted.result c.next_wanted-wanted.ensures.wanted
+    next_within (first_or c.args.place.now.me.0.first) x c.args.control (sizes_of_turn note own c.requires.view took) ((kept_of_turn note own c.requires.view took).sound c.args.control (new_control 0 0 0) h.0) c.next_wanted-wanted.result c.next_wanted-wanted.ensures.wanted

@@ -3,7 +3,7 @@ use Rattle.group_state.specs.Groups.{shown_in}
 use Rattle.group_state.specs.Machine.Call.{Form}
 use Rattle.group_state.specs.Answers.{form_reply}
 use Rattle.turn_group.proofs.Leaving.{after_form}
-use Rattle.turn_group.proofs.Turning.{may_pass_call, called_by, noted_of, form_may}
+use Rattle.turn_group.proofs.Turning.{may_pass_call, called_by, noted_of, kept_of_turn, form_may}
 use Rattle.turn_group.specs.Seats.{mover_note, note_in, floor_in, known_in}
 use Rattle.group_state.specs.Calls.{is_by_mover}
 use Rattle.turn_group.proofs.Forming.{form_upto, form_from, form_carried}
@@ -25,7 +25,7 @@ returns-clause-from g c =
     let took = c.take_turn-state.ensures.turn in
     let note = mover_note c.args.place.now.me.0.notes in
     let h = noted_of note is_by_mover c.requires.view took in
-    form_from c.take_turn-state.result c.form-formed.new.self c.args.limit (floor_in (note_in c.args.place.now.me.0.notes)) c.form-formed.result c.form-formed.new.out h.0 c.requires.limit c.controls.ensures.kept.told c.form-formed.ensures.step
+    form_from c.take_turn-state.result c.form-formed.new.self c.args.limit (floor_in (note_in c.args.place.now.me.0.notes)) c.form-formed.result c.form-formed.new.out h.0 c.requires.limit (kept_of_turn note is_by_mover c.requires.view took).told c.form-formed.ensures.step
 
 pub returns-clause-upto : goal.returns-clause-upto
 returns-clause-upto g c = form_upto c.take_turn-state.result c.form-formed.new.self c.args.limit c.form-formed.result c.form-formed.new.out c.form-formed.ensures.step
@@ -36,4 +36,4 @@ returns-clause-carried g c =
     let notes = c.args.place.now.me.0.notes in
     let note = mover_note notes in
     let h = noted_of note is_by_mover c.requires.view took in
-    form_carried c.take_turn-state.result c.form-formed.new.self c.args.limit c.form-formed.result c.form-formed.new.out (known_in (note_in notes)) h.1 c.controls.ensures.kept c.form-formed.ensures.step
+    form_carried c.take_turn-state.result c.form-formed.new.self c.args.limit c.form-formed.result c.form-formed.new.out (known_in (note_in notes)) h.1 (kept_of_turn note is_by_mover c.requires.view took) c.form-formed.ensures.step
