@@ -9,3 +9,4 @@ pub mod Bearing
 pub mod Passing
 pub mod Keeping
 pub mod Ending
+pub mod Records

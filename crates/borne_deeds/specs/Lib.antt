@@ -2,3 +2,4 @@ pub mod Points
 pub mod Told
 pub mod Working
 pub mod Laws
+pub mod Records

@@ -1,6 +1,7 @@
 //! The laws of deeds that bear.
 
 ghost use Rattle.borne_deeds.specs.Laws.{SeenDeedsShowPoints, SeenDeedsBear, BegunDeedsBear, BegunDeedsPassPoints, DoneDeedsPassPoints, StandsForRowsAgain};
+ghost use Rattle.borne_deeds.specs.Records.{BehindMarksAreSteps, RecordsAreSteps};
 
 use crash_plant::Plant;
 
@@ -20,4 +21,11 @@ pub fn begun_deeds_bear<P: Plant>(old: &P, new: &P)
 /// Behind the whole work the shared state stands for the rows again, so that the next one may begin.
 pub fn done_deeds_stand<P: Plant>(old: &P, new: &P)
     ensures { StandsForRowsAgain (P.state old.now) (P.state new.now) }
+{}
+
+/// The record of a group that a fed log gave is a step from a point, by itself and behind a mark that was made for it. Its breaks are the breaks
+/// of the traces, at its cut.
+pub fn records_are_steps()
+    ensures plain { RecordsAreSteps }
+    ensures behind_mark { BehindMarksAreSteps }
 {}

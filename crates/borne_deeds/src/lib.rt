@@ -4,4 +4,4 @@
 
 mod laws;
 
-pub use laws::{begun_deeds_bear, done_deeds_stand, seen_deeds_bear};
+pub use laws::{begun_deeds_bear, done_deeds_stand, records_are_steps, seen_deeds_bear};

@@ -9,7 +9,7 @@ use Rattle.copy_plan.specs.Plans.{PlanState, fresh_plan}
 use Rattle.crash_plant.specs.Moments.{PlantState}
 use Rattle.pair_table.specs.declared.row.PairRow.{PairRow}
 use Rattle.pair_table.specs.declared.row.PairState.{PairState}
-use Rattle.group_state.specs.Volumes.{has_volume, is_wanted, owed, passes, volume_of, wants}
+use Rattle.group_state.specs.Volumes.{has_volume, is_wanted, passes, volume_of, wants}
 use Rattle.group_state.specs.Controls.{ControlState, begun_volume}
 use Rattle.group_state.specs.Groups.{control_at, with_control}
 use Rattle.group_state.specs.Machine.Call.{Carry}

@@ -6,7 +6,7 @@ use Rattle.pair_table.specs.declared.row.PairRow.{PairRow}
 use Rattle.pair_table.specs.declared.row.PairState.{PairState}
 use Rattle.pair_table.specs.Tables.{is_of, without_row}
 use Rattle.pair_table.proofs.TableLaws.{apart-filter}
-use Rattle.group_state.specs.Volumes.{owed, passes}
+use Rattle.group_state.specs.Volumes.{passes}
 use Rattle.group_state.specs.Controls.{ControlState, forgotten, new_control}
 use Rattle.group_state.specs.Groups.{control_at, with_control}
 use Rattle.group_state.specs.Machine.Call.{Forget}

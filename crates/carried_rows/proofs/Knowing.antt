@@ -11,8 +11,7 @@ use Rattle.pair_table.specs.declared.row.PairState.{PairState}
 use Rattle.pair_table.specs.declared.row.PairState.TheVariants.{Pending, Copy, Duplex, Suspended}
 use Rattle.pair_table.specs.Tables.{are_below, in_state, with_state}
 use Rattle.group_state.specs.declared.volume.Volume.{Volume}
-use Rattle.group_state.specs.Volumes.{owed, passes, resumed_volume, volume_of, wants}
-use Rattle.group_state.specs.Controls.{dropped, resumed}
+use Rattle.group_state.specs.Volumes.{passes, resumed_volume, volume_of, wants}
 use Rattle.group_state.specs.Groups.{control_at}
 use Rattle.group_state.specs.Sound.{passes_or_none}
 use Rattle.record_rows.specs.Hits.{is_device_suspended}

@@ -8,3 +8,8 @@ pub mod Resuming
 pub mod Forgetting
 pub mod Adding
 pub mod Recording
+pub mod CallRuns
+pub mod KeptRows
+pub mod Walking
+pub mod Changed
+pub mod Commanded

@@ -1,6 +1,7 @@
--- A deed without an entry leaves content, so that the state stands for the rows that it brings.
-use Rattle.std.proofs.Common.{◌≡◌, ℕ, ◌<◌, ◌≤◌, Bool, true, false, ◌&&◌, ◌||◌, List, [], ◌∷◌, length, Option, Some, refl, sym, ap, ◌∙◌}
-use Rattle.std.specs.List.{list_any}
+-- Deeds without an entry leave content, so that the state stands for the rows that they bring.
+use Rattle.std.proofs.Common.{◌≡◌, ℕ, ◌<◌, ◌≤◌, Bool, true, false, List, [], ◌∷◌, length, Option, Some, refl, sym, ap, ◌∙◌, arith}
+use Rattle.std.specs.List.{All, list_any}
+use Rattle.std.proofs.lemmas.List.Elements.{All-cons, All-head, All-tail}
 use Rattle.ckd_track.specs.declared.rec.Rec.{Rec}
 use Rattle.crash_plant.specs.Choices.{Choice, IsChoice}
 use Rattle.crash_plant.specs.Moments.{PlantState}
@@ -14,9 +15,9 @@ use Rattle.record_rows.specs.Hits.{is_device_suspended}
 use Rattle.record_rows.specs.Deeds.{Deed, entries_by_deed, rows_by_deed}
 use Rattle.record_rows.specs.Deeds.Deed.{Logged, Changed, Marked}
 use Rattle.site_means.specs.Sight.{content_of}
-use Rattle.site_deeds.specs.Deeds.{content_by_deed, kinds_of}
+use Rattle.site_deeds.specs.Deeds.{content_behind, content_by_deed, kinds_of}
 use Rattle.site_deeds.specs.Doing.{DoesDeeds}
-use Rattle.site_deeds.specs.Exceptions.{Exceptions, excepted_by_deed, is_kept, is_whole_on}
+use Rattle.site_deeds.specs.Exceptions.{Exceptions, excepted_behind, excepted_by_deed, is_kept, is_whole_on}
 use Rattle.site_deeds.specs.Seeing.{SeesBehind}
 use Rattle.site_deeds.proofs.Seeing.{same_content}
 use Rattle.told_tracks.specs.Told.{AllHold, after_entries, has_no_later_copy, is_queued_up_to, is_settled_in}
@@ -30,25 +31,32 @@ use Rattle.borne_deeds.proofs.Excepting.{excepted_before, none_excepted, unfaile
 use Rattle.borne_deeds.proofs.Held.{held_is}
 use Rattle.borne_deeds.proofs.Pairs.{among_of}
 use Rattle.carried_rows.specs.Between.{Between, StandsBetween}
-use Rattle.carried_rows.specs.Laws.{RecordedRowsStand}
+use Rattle.carried_rows.specs.Laws.{IsWithoutEntries, RecordedRowsStand, RowsStandBehindDeeds}
 
 content_still : (d x : ℕ) (rows : List PairRow) (deed : Deed) → entries_by_deed deed ≡ [] → (t : Option (List Rec)) → content_by_deed d x rows deed t ≡ t
 content_still d x rows (Logged cut entries next) none t = ap (λ (es : List WaitingEntry). changed_through rows d x es (kinds_of es) t) none
 content_still d x rows (Changed time next) none t = refl
 content_still d x rows (Marked spot ended next) none t = refl
 
-module _ (old new : PlantState) (b : Between) (before : List PairRow) (deed : Deed) (st : StandsBetween old b) (does : DoesDeeds b.excepted before (deed ∷ []) old new) (none : entries_by_deed deed ≡ []) (brings : rows_by_deed deed ≡ b.point.rows) where
+contents_still : (d x : ℕ) (rows : List PairRow) (deeds : List Deed) → All IsWithoutEntries deeds → (t : Option (List Rec)) → content_behind d x rows deeds t ≡ t
+contents_still d x rows [] none t = refl
+contents_still d x rows (deed ∷ deeds) none t =
+    contents_still d x (rows_by_deed deed) deeds (All-tail IsWithoutEntries deed deeds none) (content_by_deed d x rows deed t) ∙ content_still d x rows deed (All-head IsWithoutEntries deed deeds none) t
+
+-- What one deed excepts of the rows that it brings is owed.
+owed_by_one : (old : PlantState) (b : Between) (before : List PairRow) (deed : Deed) → StandsBetween old b → rows_by_deed deed ≡ b.point.rows → ExceptedAreOwed b.size (excepted_by_deed before deed b.excepted) b.group b.point.rows
+owed_by_one old b before deed st brings j v has kept x low e =
+    let d = has.row.device in
+    let stays : is_kept d (rows_by_deed deed) ≡ true = ap (is_kept d) brings ∙ unfailed_is_kept j v b.point.rows has in
+    st.rows.owed j v has kept x low (excepted_before (is_kept d (rows_by_deed deed)) (b.excepted d x) (list_any (is_whole_on before d x) (entries_by_deed deed)) stays e).0
+
+module _ (old new : PlantState) (b : Between) (before : List PairRow) (deeds : List Deed) (st : StandsBetween old b) (does : DoesDeeds b.excepted before deeds old new) (none : All IsWithoutEntries deeds)
+    (owed : ExceptedAreOwed b.size (excepted_behind before deeds b.excepted) b.group b.point.rows) where
   abbrev rows : List PairRow
   rows = b.point.rows
 
   abbrev excepted : Exceptions
-  excepted = excepted_by_deed before deed b.excepted
-
-  owed : ExceptedAreOwed b.size excepted b.group rows
-  owed j v has kept x low e =
-      let d = has.row.device in
-      let stays : is_kept d (rows_by_deed deed) ≡ true = ap (is_kept d) brings ∙ unfailed_is_kept j v rows has in
-      st.rows.owed j v has kept x low (excepted_before (is_kept d (rows_by_deed deed)) (b.excepted d x) (list_any (is_whole_on before d x) (entries_by_deed deed)) stays e).0
+  excepted = excepted_behind before deeds b.excepted
 
   -- Each track that is excepted is owed, of whatever row.
   each_owed : (j v : ℕ) (has : HasRowIn IsAny j v rows) → is_volume_kept v (control_at b.group j) ≡ true → (x : ℕ) → x < b.size j v → excepted has.row.device x ≡ true → is_owed v x (control_at b.group j) ≡ true
@@ -58,7 +66,7 @@ module _ (old new : PlantState) (b : Between) (before : List PairRow) (deed : De
       choose false is = owed j v (record { row = has.row; among = has.among; control = has.control; volume = has.volume; state = is }) kept x low e
       choose true is = st.rows.failed j v (record { row = has.row; among = has.among; control = has.control; volume = has.volume; state = is }) kept x low
 
-  module _ (c : Choice) (sees : SeesBehind old b.excepted before (deed ∷ []) c) where
+  module _ (c : Choice) (sees : SeesBehind old b.excepted before deeds c) where
     -- What the choice holds of a track that isn't excepted is what some choice held before.
     held_so : (j v : ℕ) (has : HasRowIn IsAny j v rows) (x : ℕ) → excepted has.row.device x ≡ false → (a : Choice) × IsChoice old old.clock a × (held_by_choice new c rows j v x ≡ held_by_choice old a rows j v x)
     held_so j v has x free =
@@ -67,7 +75,7 @@ module _ (old new : PlantState) (b : Between) (before : List PairRow) (deed : De
         let seen = sees.content d x (below_among old.volumes has.row rows st.rows.below among) free in (
           seen.0,
           seen.1,
-          by_row new c ∙ same_content old new does.site c d x ∙ seen.2 ∙ content_still d x before deed none (content_of old seen.0 d x) ∙ sym (by_row old seen.0),
+          by_row new c ∙ same_content old new does.site c d x ∙ seen.2 ∙ contents_still d x before deeds none (content_of old seen.0 d x) ∙ sym (by_row old seen.0),
         )
       where
         by_row : (plant : PlantState) (a : Choice) → held_by_choice plant a rows j v x ≡ content_of plant a has.row.device x
@@ -131,4 +139,8 @@ module _ (old new : PlantState) (b : Between) (before : List PairRow) (deed : De
   }
 
 pub recorded_rows_stand : (old new : PlantState) → RecordedRowsStand old new
-recorded_rows_stand old new b rows deed st does none brings some = stands_recorded old new b rows deed st does none brings some
+recorded_rows_stand old new b before deed st does none brings some =
+    stands_recorded old new b before (deed ∷ []) st does (All-cons IsWithoutEntries deed [] none (λ i d low. absurd (omega (arith, low)))) (owed_by_one old b before deed st brings) some
+
+pub rows_stand_behind_deeds : (old new : PlantState) → RowsStandBehindDeeds old new
+rows_stand_behind_deeds old new b before deeds st does none owed some = stands_recorded old new b before deeds st does none owed some

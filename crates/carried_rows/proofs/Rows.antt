@@ -1,5 +1,5 @@
 -- Rows of which one is changed, taken out or added, and the rows of other volumes among them.
-use Rattle.std.proofs.Common.{◌≡◌, ◌⊎◌, inl, inr, ℕ, ◌<◌, ◌≤◌, Bool, true, false, cond, not, nat_eq, ◌&&◌, ◌||◌, List, [], ◌∷◌, ◌++◌, map, filter, Option, Some, None, refl, sym, ap, subst, ◌∙◌, true≢false}
+use Rattle.std.proofs.Common.{◌≡◌, ◌⊎◌, inl, inr, ℕ, Bool, true, false, cond, not, nat_eq, ◌&&◌, List, [], ◌∷◌, ◌++◌, map, filter, Option, Some, None, refl, sym, ap, subst, ◌∙◌, true≢false}
 use Rattle.std.specs.Prelude.{find}
 use Rattle.std.proofs.lemmas.Bool.{and_parts, and_from, eq-eqb, eqb-true}
 use Rattle.ckd_track.specs.declared.rec.Rec.{Rec}
@@ -135,8 +135,11 @@ module _ (r : PairRow) (state : PairState) (rows : List PairRow) (apart : none_c
       let itself : m.row ≡ r = one_of_volume r.control r.volume m.row r rows apart m.among there (ap (λ (s : PairRow). s.control) pair ∙ has.control) (ap (λ (s : PairRow). s.volume) pair ∙ has.volume) refl refl in
       sym m.is ∙ ap change itself ∙ changed_itself
 
+  pub stated_among : Among (in_state state r) stated
+  stated_among = subst (λ (s : PairRow). Among s stated) changed_itself (among_changed r rows there)
+
   pub stated_there : HasRowIn IsAny r.control r.volume stated
-  stated_there = record { row = in_state state r; among = contains_of (in_state state r) stated (subst (λ (s : PairRow). Among s stated) changed_itself (among_changed r rows there)); control = refl; volume = refl; state = tt }
+  stated_there = record { row = in_state state r; among = contains_of (in_state state r) stated stated_among; control = refl; volume = refl; state = tt }
 
 -- ---- a row that is taken out
 
@@ -214,11 +217,11 @@ module _ (r : PairRow) (rows : List PairRow) (apart : none_clash rows ≡ true) 
 
 -- ---- a row that is added
 
-among_first : (s : PairRow) (rows more : List PairRow) → Among s rows → Among s (rows ++ more)
+pub among_first : (s : PairRow) (rows more : List PairRow) → Among s rows → Among s (rows ++ more)
 among_first s _ more (Here rows) = Here (rows ++ more)
 among_first s _ more (Later t rows there) = Later t (rows ++ more) (among_first s rows more there)
 
-among_last : (r : PairRow) (rows : List PairRow) → Among r (rows ++ r ∷ [])
+pub among_last : (r : PairRow) (rows : List PairRow) → Among r (rows ++ r ∷ [])
 among_last r [] = Here []
 among_last r (t ∷ rows) = Later t (rows ++ r ∷ []) (among_last r rows)
 

@@ -50,7 +50,7 @@ pub record Changes (start : PlantState) (b : Between) (k v : ℕ) (change : Cont
   pub held : (c : Choice) (x : ℕ) → is_settled_in v x (changed_control b k change) ≡ true → held_by_choice start c next k v x ≡ held_by_choice start c b.point.rows k v x
 
 -- what is so of a volume and of all others is so of each
-at_volume : (k v : ℕ) (P : (j w : ℕ) → Type 0) → P k v → ((j w : ℕ) → IsOther k v j w → P j w) → (j w : ℕ) → P j w
+pub at_volume : (k v : ℕ) (P : (j w : ℕ) → Type 0) → P k v → ((j w : ℕ) → IsOther k v j w → P j w) → (j w : ℕ) → P j w
 at_volume k v P own other j w = elim (cases_Bool (nat_eq k j && nat_eq v w)) [
   | inl same ↦
       let p = and_parts (nat_eq k j) (nat_eq v w) same in

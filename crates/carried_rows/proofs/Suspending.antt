@@ -8,7 +8,7 @@ use Rattle.pair_table.specs.Rows.{is_suspended}
 use Rattle.pair_table.specs.Tables.{in_state, with_state}
 use Rattle.pair_table.proofs.PutLaws.{number_sym}
 use Rattle.pending_queue.specs.Entries.{entry_tracks}
-use Rattle.group_state.specs.Volumes.{dropped_volume, owed, passes, volume_of}
+use Rattle.group_state.specs.Volumes.{dropped_volume, passes, volume_of}
 use Rattle.group_state.specs.Controls.{ControlState, dropped}
 use Rattle.group_state.specs.Groups.{control_at, with_control}
 use Rattle.group_state.specs.Machine.Call.{Drop}

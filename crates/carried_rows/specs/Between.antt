@@ -59,13 +59,11 @@ between_after call rows done b = record b { group = group_after b.group call; po
 
 -- ---- a row is suspended
 
--- A row is suspended, and its volume is dropped: with all of its tracks, where its device failed or its plan isn't known to be done. A row that
--- its device suspends stays so.
+-- A row is suspended, and its volume is dropped: with all of its tracks, where its device failed or its plan isn't known to be done.
 pub record MaySuspend (b : Between) (r : PairRow) (state : PairState) (all : Bool) : Type 0 where
   pub among : Contains b.point.rows r
   pub suspends : is_suspended state ≡ true
   pub failed : is_device_suspended state ≡ true → all ≡ true
-  pub stays : is_device_suspended r.state ≡ true → is_device_suspended state ≡ true
   pub known : all ≡ false → IsTrue (b.done r.control r.volume)
   pub may : May b.group (Drop r.control r.volume all)
 

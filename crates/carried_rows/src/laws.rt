@@ -1,6 +1,7 @@
 //! The laws of rows between two epochs.
 
-ghost use Rattle.carried_rows.specs.Laws.{AddedRowsStand, FirstRowsStand, ForgottenRowsStand, RecordedRowsStand, ResumedRowsStand, SuspendedRowsStand};
+ghost use Rattle.carried_rows.specs.Laws.{AddedRowsStand, FirstRowsStand, ForgottenRowsStand, RecordedRowsStand, ResumedRowsStand};
+ghost use Rattle.carried_rows.specs.Laws.{CommandsMayBeTaken, RowsStandBehindDeeds, StandingRowsAreKept, SuspendedRowsStand, TakenRowsStand};
 
 use crash_plant::Plant;
 
@@ -14,7 +15,20 @@ pub fn rows_stand_again<P: Plant>(start: &P)
     ensures added { AddedRowsStand (P.state start.now) }
 {}
 
-/// A record of rows, and a mark, leave that the shared state stands for the rows that they bring.
+/// A record of rows, and a mark, leave that the shared state stands for the rows that they bring, also one after the other.
 pub fn recorded_rows_stand<P: Plant>(old: &P, new: &P)
-    ensures { RecordedRowsStand (P.state old.now) (P.state new.now) }
+    ensures one { RecordedRowsStand (P.state old.now) (P.state new.now) }
+    ensures several { RowsStandBehindDeeds (P.state old.now) (P.state new.now) }
+{}
+
+/// A command's change that is taken over, with the suspensions behind it, leaves that the state stands for the rows after it. Before it
+/// the state keeps for the rows what the change asks, if their volumes are carried as they are live.
+pub fn taken_rows_stand<P: Plant>(start: &P)
+    ensures kept { StandingRowsAreKept (P.state start.now) }
+    ensures stand { TakenRowsStand (P.state start.now) }
+{}
+
+/// What commands and the hits behind them make of rows may be taken over.
+pub fn commands_may_be_taken()
+    ensures { CommandsMayBeTaken }
 {}

@@ -2,5 +2,7 @@
 #![tactic(auto)]
 
 mod laws;
+mod taking;
 
-pub use laws::{recorded_rows_stand, rows_stand_again};
+pub use laws::{commands_may_be_taken, recorded_rows_stand, rows_stand_again, taken_rows_stand};
+pub use taking::take_change;

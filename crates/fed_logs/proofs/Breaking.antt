@@ -51,10 +51,10 @@ awaits_with s j k b change here h =
     record { low = omega (arith, h.low, same_count s j change); counted = now.counted; up_to = now.up_to; broken = now.broken }
 
 -- a reader tells up to its control's break time, and its break is at it
-told_up_to : (t : Trace) (b time : ℕ) → break_time t ≡ Some b → has_broken t time ≡ false → time ≤ b
+pub told_up_to : (t : Trace) (b time : ℕ) → break_time t ≡ Some b → has_broken t time ≡ false → time ≤ b
 told_up_to t b time is none = ltb-false b time (ap (λ (o : Option ℕ). is_below o time) (sym is) ∙ none)
 
-broke_at : (t : Trace) (b : ℕ) (upto : Stamp) (cause : Cause) → break_time t ≡ Some b → break_of t ≡ Some (record { cause = cause; upto = upto.0 }) → upto.0 ≡ b
+pub broke_at : (t : Trace) (b : ℕ) (upto : Stamp) (cause : Cause) → break_time t ≡ Some b → break_of t ≡ Some (record { cause = cause; upto = upto.0 }) → upto.0 ≡ b
 broke_at t b upto cause is broken = same_Some upto.0 b (sym (ap (option_map (λ r. r.upto)) broken) ∙ is)
 
 awaits_read : (s next : Group) (call : Call) (reply : Reply) (k b : ℕ) (t : Trace) → break_time t ≡ Some b → May s call → WentRead s call reply next → (is_by_reader k call ≡ true → has_changed reply ≡ true → IsFedBy t (floor_of s k) call) → AwaitsBreak s k b → AwaitsBreak next k b

@@ -6,3 +6,5 @@ pub mod Reading
 pub mod Bearing
 pub mod Rising
 pub mod Breaking
+pub mod ShownBreaks
+pub mod BreaksToCome

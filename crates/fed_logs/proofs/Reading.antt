@@ -142,7 +142,7 @@ own_of s (Resume k v) reads may = absurd cc
 own_of s (Forget k v) reads may = absurd cc
 
 -- a trace that some control has, at its place
-some_trace : (traces : List Trace) (k : ℕ) → k < length traces → (t : Trace) × (slice_get traces k ≡ Some t)
+pub some_trace : (traces : List Trace) (k : ℕ) → k < length traces → (t : Trace) × (slice_get traces k ≡ Some t)
 some_trace (t ∷ traces) k low = (get_or (t ∷ traces) k t, slice_get-get_or (t ∷ traces) k t low)
 some_trace [] k low = absurd (omega (arith, low))
 

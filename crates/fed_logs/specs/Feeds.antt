@@ -1,5 +1,5 @@
 -- Calls of readers that are fed by their controls' traces.
-use Rattle.std.specs.Prelude.{◌≡◌, ℕ, ◌==◌, ◌&&◌, List, [], ◌∷◌, filter, slice_get, Bool, true, false, Some, nat_lt, nat_le, MatchBool}
+use Rattle.std.specs.Prelude.{◌≡◌, ℕ, ◌&&◌, List, [], ◌∷◌, filter, slice_get, Bool, true, false, Some, nat_lt, nat_le, MatchBool}
 use Rattle.ckd_track.specs.declared.write.Write.{Write}
 use Rattle.write_trace.specs.declared.trace.Trace.{Trace}
 use Rattle.write_trace.specs.Writes.{writes_of}

@@ -3,3 +3,4 @@ pub mod Feeds
 pub mod Moves
 pub mod Logs
 pub mod Laws
+pub mod ShownBreaks

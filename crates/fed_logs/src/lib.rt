@@ -3,4 +3,6 @@
 
 mod laws;
 
-pub use laws::{breaks_come, logs_bear, times_rise};
+pub use laws::{
+    breaks_come, later_breaks_are_to_come, logs_bear, shown_breaks_are_the_traces, times_rise,
+};
