@@ -1,5 +1,5 @@
 -- The start of a trace: nothing was read of what a source's bytes are.
-use Rattle.std.proofs.Common.{◌≡◌, ◌≤◌, ◌<◌, ◌+◌, ◌-◌, ℕ, zero, suc, Bool, true, false, cond, nat_eq, nat_le, ◌&&◌, List, [], ◌∷◌, ◌++◌, length, Option, Some, None, Result, Ok, Err, refl, sym, ap, subst, ◌∙◌}
+use Rattle.std.proofs.Common.{◌≡◌, ◌≤◌, ◌+◌, ℕ, zero, suc, Bool, true, false, cond, nat_eq, nat_le, ◌&&◌, List, [], ◌∷◌, length, Option, Some, None, Result, Ok, Err, refl, sym, ap, subst, ◌∙◌}
 use Rattle.std.specs.Int.{w8, w64}
 use Rattle.std.proofs.lemmas.Bool.{and_parts, and_from, leb-true, le-leb, eqb-true}
 use Rattle.tod_stamp.specs.Fields.{◌>>=◌, Left, Bad, number_at, within, after}
@@ -15,7 +15,7 @@ use Rattle.write_trace.specs.declared.trace.TraceEnd.TheVariants as ends
 use Rattle.write_trace.specs.Headers.{place_at, header_at, is_header_of, are_volumes, are_bases}
 use Rattle.write_trace.specs.Entries.{stamp_of, entry_at, write_at, kind_at}
 use Rattle.write_trace.specs.Good.{entries_from, after_header, trace_of, whole_trace}
-use Rattle.write_trace.specs.Unread.{unread, seen}
+use Rattle.write_trace.specs.Unread.{seen}
 use Rattle.write_trace.specs.Answers.{ReaderState}
 use Rattle.sidefile.specs.Ahead.{ahead, entries_ahead}
 use Rattle.sidefile.proofs.Turns.{no_turn, turn_err, turn_ok}

@@ -5,10 +5,11 @@ use Rattle.write_trace.specs.declared.trace.Trace.{Trace}
 use Rattle.sidefile.specs.declared.hand.Halt.{Halt}
 use Rattle.sidefile.specs.declared.hand.Halt.TheVariants as halts
 use Rattle.sidefile.specs.Ahead.{IsAhead}
+use Rattle.group_state.specs.Calls.{telling_after}
 use Rattle.group_state.specs.Runs.{Answer}
 use Rattle.told_tracks.specs.Told.{has_changed}
 use Rattle.fed_logs.specs.Feeds.{AreFedBy, IsFedBy, floor_behind}
-use Rattle.lane_feed.specs.Feeds.{FeedState, floor_behind_calls}
+use Rattle.lane_feed.specs.Feeds.{FeedState, floor_behind_calls, telling_behind_calls}
 use Rattle.lane_feed.specs.Reads.{Outlook, HasRead, AreLeft, StandsSo, MayTurnOutOf, IsToFailIn, IsStillToCome, ReadsOn}
 use Rattle.lane_feed.specs.Reads.Outlook.{Whole, Failing}
 use Rattle.lane_feed.specs.Laws.{NoCallReadsNothing, CallsReadInTurn}
@@ -16,6 +17,10 @@ use Rattle.lane_feed.specs.Laws.{NoCallReadsNothing, CallsReadInTurn}
 floors_then : (floor : ℕ) (a b : List Answer) → floor_behind_calls floor (a ++ b) ≡ floor_behind_calls (floor_behind_calls floor a) b
 floors_then floor [] b = refl
 floors_then floor (x ∷ a) b = floors_then (cond (has_changed x.reply) (floor_behind floor x.call) floor) a b
+
+telling_then : (telling : Bool) (a b : List Answer) → telling_behind_calls telling (a ++ b) ≡ telling_behind_calls (telling_behind_calls telling a) b
+telling_then telling [] b = refl
+telling_then telling (x ∷ a) b = telling_then (telling_after x.call telling) a b
 
 fed_then : (t : Trace) (floor : ℕ) (a b : List Answer) → AreFedBy t floor a → AreFedBy t (floor_behind_calls floor a) b → AreFedBy t floor (a ++ b)
 fed_then t floor [] b h k = k
@@ -33,6 +38,7 @@ pub reads_nothing : NoCallReadsNothing
 reads_nothing told feed = record {
   stays = λ halt is. (refl, refl, refl);
   floor = λ not. refl;
+  telling = λ goes. refl;
   reads = λ goes bytes there. record {
     used = [];
     rest = bytes;
@@ -62,6 +68,7 @@ reads_in_turn before mid now a b c first then h k = choose b.halted refl
         record {
           stays = λ halt was. absurd (no_halt b.halted halt is (ap (λ (f : FeedState). f.halted) (h.stays halt was).0 ∙ was));
           floor = λ not. floors_then a.primary.time first then ∙ ap (λ (n : ℕ). floor_behind_calls n then) floor ∙ k.floor not;
+          telling = λ goes. telling_then true first then ∙ ap (λ t. telling_behind_calls t then) (h.telling is) ∙ k.telling goes;
           reads = λ goes bytes there.
               let r = h.reads goes bytes there in
               let left : IsAhead b.side.reader mid r.rest = subst (λ (x : Option Halt). AreLeft mid x b.side.reader r.rest) is r.left in

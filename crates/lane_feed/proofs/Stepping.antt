@@ -387,6 +387,7 @@ pub steps_read_on : StepsReadOn
 steps_read_on before now limit _ _ _ (Hands old side batch idle h) = record {
   stays = goes_from before now old (record old { side = side; held = Some batch }) [] idle.goes_on;
   floor = λ not. refl;
+  telling = λ goes. refl;
   reads = λ goes bytes there.
       let l = (h.due bytes there).1 in
       hands_on before now limit.0 old (record old { side = side; held = Some batch }) [] (hands.Batch batch) idle.goes_on idle.goes_on bytes l
@@ -395,12 +396,14 @@ steps_read_on before now limit _ _ _ (Hands old side batch idle h) = record {
 steps_read_on before now limit _ _ _ (Joins old batch primary goes held same takes) = record {
   stays = goes_from before now old (record old { primary = primary; held = None }) (joined_answer batch ∷ []) goes;
   floor = λ not. sym takes.time;
+  telling = λ goes. refl;
   reads = λ still. still_reads before now old (record old { primary = primary; held = None }) (joined_answer batch ∷ []) goes same goes refl
       (λ o t later read. (joined_fed o later t old batch held read, joined_read o later t old batch held read primary takes));
 }
 steps_read_on before now limit _ _ _ (Lacks old batch primary goes held same) = record {
   stays = goes_from before now old (record old { primary = primary; held = None; halted = Some halts.NoMemory }) (joined_answer batch ∷ []) goes;
   floor = λ not. absurd (not refl);
+  telling = λ goes. absurd cc;
   reads = λ still bytes there. record {
     used = [];
     rest = bytes;
@@ -414,11 +417,13 @@ steps_read_on before now limit _ _ _ (Lacks old batch primary goes held same) = 
 steps_read_on before now limit _ _ _ (Holds old batch room goes held same) = record {
   stays = goes_from before now old old (held_answer batch room ∷ []) goes;
   floor = λ not. refl;
+  telling = λ goes. refl;
   reads = λ still. still_reads before now old old (held_answer batch room ∷ []) goes same goes refl (λ o t later read. (tt, read));
 }
 steps_read_on before now limit _ _ _ (Passes old side idle h low) = record {
   stays = goes_from before now old (record old { side = side; primary = primary_at limit.0 old.primary }) (raised_answer old.side.control limit ∷ []) idle.goes_on;
   floor = λ not. refl;
+  telling = λ goes. refl;
   reads = λ goes bytes there.
       let l = (h.due bytes there).1 in
       hands_on before now limit.0 old (record old { side = side; primary = primary_at limit.0 old.primary }) (raised_answer old.side.control limit ∷ []) hands.AtLimit idle.goes_on idle.goes_on bytes l
@@ -427,11 +432,13 @@ steps_read_on before now limit _ _ _ (Passes old side idle h low) = record {
 steps_read_on before now limit _ _ _ (Breaks old side cause upto idle h) = record {
   stays = goes_from before now old (record old { side = side; primary = primary_at upto.0 old.primary; halted = Some (halts.Broken cause upto) }) (broken_answer old.side.control upto cause ∷ []) idle.goes_on;
   floor = λ not. refl;
+  telling = λ goes. absurd cc;
   reads = λ goes. broken_bytes before now limit.0 old side idle old.side.control cause upto h;
 }
 steps_read_on before now limit _ _ _ (Wants old side idle h) = record {
   stays = goes_from before now old (record old { side = side; halted = Some halts.NoMemory }) [] idle.goes_on;
   floor = λ not. refl;
+  telling = λ goes. absurd cc;
   reads = λ goes bytes there. record {
     used = bytes;
     rest = [];
@@ -445,11 +452,13 @@ steps_read_on before now limit _ _ _ (Wants old side idle h) = record {
 steps_read_on before now limit _ _ _ (Asks old k found goes same) = record {
   stays = goes_from before now old old (wanted_answer k found ∷ []) goes;
   floor = λ not. refl;
+  telling = λ goes. refl;
   reads = λ still. still_reads before now old old (wanted_answer k found ∷ []) goes same goes refl (λ o t later read. (tt, read));
 }
 steps_read_on before now limit _ _ _ (Copies old k v x at slot reply goes same is) = record {
   stays = goes_from before now old old (copied_answer k v x at slot reply ∷ []) goes;
   floor = λ not. cond_same (has_changed reply) old.primary.time;
+  telling = λ goes. refl;
   reads = λ still. still_reads before now old old (copied_answer k v x at slot reply ∷ []) goes same goes refl
       (λ o t later read. (
         match_both (has_changed reply) _ (Unit {0}) (is ∙ tracks_at o later t old read v x, tt) tt,

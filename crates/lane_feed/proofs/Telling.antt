@@ -16,7 +16,7 @@ use Rattle.sidefile.specs.declared.hand.Halt.TheVariants as halts
 use Rattle.sidefile.specs.Exact.{IsDue}
 use Rattle.sidefile.specs.Halts.{reached}
 use Rattle.sidefile.specs.States.{SidefileState, HoldsRun, front_of}
-use Rattle.group_state.specs.Machine.{Reply}
+use Rattle.group_state.specs.Machine.{Call, Reply}
 use Rattle.group_state.specs.Machine.Call.{Join, NextWanted, Copied, Raise, Break}
 use Rattle.group_state.specs.Machine.Reply.{Made, Joined, Held, Wanted}
 use Rattle.group_state.specs.Runs.{Answer}
@@ -25,12 +25,18 @@ use Rattle.lane_feed.specs.Steps.{IsIdle, primary_at, joined_answer, held_answer
 use Rattle.lane_feed.specs.Steps.FeedStep.{Hands, Joins, Lacks, Holds, Passes, Breaks, Wants, Asks, Copies}
 use Rattle.lane_feed.specs.declared.reading.Reading.{Reading}
 use Rattle.lane_feed.specs.declared.reading.Reading.TheVariants as readings
-use Rattle.lane_feed.specs.Tellers.{TellerState, teller_after, HoldsBatch, HasFaultBy, IsRefusedBy, StepsOn, TellsOn, WasRefused}
+use Rattle.lane_feed.specs.Tellers.{TellerState, teller_after, HoldsBatch, HasFaultBy, IsRefusedBy, IsSameTeller, StepsOn, TellsOn, WasRefused}
 use Rattle.lane_feed.proofs.InTurn.{reads_nothing, reads_in_turn}
 use Rattle.lane_feed.proofs.Stepping.{steps_read_on}
 
 abbrev pub feed_of : SidefileState → PrimaryState → Option Batch → Option Halt → FeedState
 feed_of side primary held halted = record { side = side; primary = primary; held = held; halted = halted }
+
+same_teller : (told : TellerState) → IsSameTeller told told
+same_teller told = record { control = refl; volumes = refl }
+
+called_teller : (told then : TellerState) (call : Call) (reply : Reply) → then ≡ teller_after call reply told → IsSameTeller told then
+called_teller told then call reply called = record { control = ap (λ (s : TellerState). s.control) called; volumes = ap (λ (s : TellerState). s.volumes) called }
 
 module _ (old : FeedState) (side : SidefileState) (primary : PrimaryState) (held : Option Batch) (halted : Option Halt) (is : feed_of side primary held halted ≡ old) where
   abbrev was : FeedState
@@ -63,19 +69,19 @@ module _ (old : FeedState) (side : SidefileState) (primary : PrimaryState) (held
     joined_step next after none called tracks time =
         subst (λ (f : FeedState). StepsOn left left limit f (feed_of side next after halted) told then) is
         (subst (λ (h : Option Batch). StepsOn left left limit was (feed_of side next h halted) told then) (sym none)
-        (record { gained = joined_answer batch ∷ []; answers = ap (λ (s : TellerState). s.answers) called; step = Joins was batch next (goes_inside goes) has refl (record { tracks = tracks; time = time }) }))
+        (record { same = called_teller told then (Join batch) Joined called; gained = joined_answer batch ∷ []; answers = ap (λ (s : TellerState). s.answers) called; step = Joins was batch next (goes_inside goes) has refl (record { tracks = tracks; time = time }) }))
 
     pub lacking_step : (next : PrimaryState) (after : Option Batch) → after ≡ None → then ≡ teller_after (Join batch) Joined told → StepsOn left left limit old (feed_of side next after (Some halts.NoMemory)) told then
     lacking_step next after none called =
         subst (λ (f : FeedState). StepsOn left left limit f (feed_of side next after (Some halts.NoMemory)) told then) is
         (subst (λ (h : Option Batch). StepsOn left left limit was (feed_of side next h (Some halts.NoMemory)) told then) (sym none)
-        (record { gained = joined_answer batch ∷ []; answers = ap (λ (s : TellerState). s.answers) called; step = Lacks was batch next (goes_inside goes) has refl }))
+        (record { same = called_teller told then (Join batch) Joined called; gained = joined_answer batch ∷ []; answers = ap (λ (s : TellerState). s.answers) called; step = Lacks was batch next (goes_inside goes) has refl }))
 
     pub held_step : (room : Room) → then ≡ teller_after (Join batch) (Held room) told → StepsOn left left limit old (feed_of side primary (Some batch) halted) told then
     held_step room called =
         subst (λ (f : FeedState). StepsOn left left limit f (feed_of side primary (Some batch) halted) told then) is
         (subst (λ (h : Option Batch). StepsOn left left limit was (feed_of side primary h halted) told then) has
-        (record { gained = held_answer batch room ∷ []; answers = ap (λ (s : TellerState). s.answers) called; step = Holds was batch room (goes_inside goes) has refl }))
+        (record { same = called_teller told then (Join batch) (Held room) called; gained = held_answer batch room ∷ []; answers = ap (λ (s : TellerState). s.answers) called; step = Holds was batch room (goes_inside goes) has refl }))
 
   -- ---- a handover
 
@@ -84,7 +90,7 @@ module _ (old : FeedState) (side : SidefileState) (primary : PrimaryState) (held
         → next.upto ≡ reached side.upto limit.0 (hands.Batch batch) → StepsOn before now limit old (feed_of next primary (Some batch) halted) told told
     handed_step batch due run upto =
         subst (λ (f : FeedState). StepsOn before now limit f (feed_of next primary (Some batch) halted) told told) is
-        (record { gained = []; answers = sym (append-nil told.answers); step = Hands was next batch (idle_inside idle) (record { due = due; run = run; upto = upto }) })
+        (record { same = same_teller told; gained = []; answers = sym (append-nil told.answers); step = Hands was next batch (idle_inside idle) (record { due = due; run = run; upto = upto }) })
 
     pub passed_step : (passed : PrimaryState) → passed ≡ primary_at limit.0 primary → old.side.upto ≤ limit.0 → told.control ≡ old.side.control → then ≡ teller_after (Raise told.control limit) Made told
         → IsDue side.control limit.0 before now (front_of side) (front_of next) hands.AtLimit → next.upto ≡ reached side.upto limit.0 hands.AtLimit → StepsOn before now limit old (feed_of next passed held halted) told then
@@ -93,6 +99,7 @@ module _ (old : FeedState) (side : SidefileState) (primary : PrimaryState) (held
         subst (λ (f : FeedState). StepsOn before now limit f (feed_of next passed held halted) told then) is
         (subst (λ (p : PrimaryState). StepsOn before now limit was (feed_of next p held halted) told then) (sym stands)
         (record {
+          same = called_teller told then (Raise told.control limit) Made called;
           gained = raised_answer side.control limit ∷ [];
           answers = ap (λ (s : TellerState). s.answers) called ∙ ap (λ (k : ℕ). told.answers ++ raised_answer k limit ∷ []) own;
           step = Passes was next (idle_inside idle) (record { due = due; run = tt; upto = upto }) (subst (λ (f : FeedState). f.side.upto ≤ limit.0) (sym is) low);
@@ -106,6 +113,7 @@ module _ (old : FeedState) (side : SidefileState) (primary : PrimaryState) (held
         subst (λ (f : FeedState). StepsOn before now limit f (feed_of next passed held (Some (halts.Broken cause upto))) told then) is
         (subst (λ (p : PrimaryState). StepsOn before now limit was (feed_of next p held (Some (halts.Broken cause upto))) told then) (sym stands)
         (record {
+          same = called_teller told then (Break told.control upto cause) Made called;
           gained = broken_answer side.control upto cause ∷ [];
           answers = ap (λ (s : TellerState). s.answers) called ∙ ap (λ (k : ℕ). told.answers ++ broken_answer k upto cause ∷ []) own;
           step = Breaks was next cause upto (idle_inside idle) (record { due = due; run = tt; upto = at });
@@ -114,16 +122,17 @@ module _ (old : FeedState) (side : SidefileState) (primary : PrimaryState) (held
     pub wanting_step : next.upto ≡ reached side.upto limit.0 hands.NoMemory → StepsOn before now limit old (feed_of next primary held (Some halts.NoMemory)) told told
     wanting_step upto =
         subst (λ (f : FeedState). StepsOn before now limit f (feed_of next primary held (Some halts.NoMemory)) told told) is
-        (record { gained = []; answers = sym (append-nil told.answers); step = Wants was next (idle_inside idle) (record { due = tt; run = tt; upto = upto }) })
+        (record { same = same_teller told; gained = []; answers = sym (append-nil told.answers); step = Wants was next (idle_inside idle) (record { due = tt; run = tt; upto = upto }) })
 
 -- ---- a copied track
 
 pub asked_step : (left : Option (List ℕ)) (limit : Stamp) (feed : FeedState) (told then : TellerState) (found : Option (ℕ × ℕ)) → feed.halted ≡ None → then ≡ teller_after (NextWanted told.control) (Wanted found) told → StepsOn left left limit feed feed told then
-asked_step left limit feed told then found goes called = record { gained = wanted_answer told.control found ∷ []; answers = ap (λ (s : TellerState). s.answers) called; step = Asks feed told.control found goes refl }
+asked_step left limit feed told then found goes called = record { same = called_teller told then (NextWanted told.control) (Wanted found) called; gained = wanted_answer told.control found ∷ []; answers = ap (λ (s : TellerState). s.answers) called; step = Asks feed told.control found goes refl }
 
 pub copied_step : (left : Option (List ℕ)) (limit : Stamp) (feed : FeedState) (told then : TellerState) (v x : ℕ) (at : Stamp) (slot : List Rec) (reply : Reply) → feed.halted ≡ None → slot ≡ track_of feed.primary v x
     → then ≡ teller_after (Copied told.control v x at slot) reply told → StepsOn left left limit feed feed told then
 copied_step left limit feed told then v x at slot reply goes is called = record {
+  same = called_teller told then (Copied told.control v x at slot) reply called;
   gained = copied_answer told.control v x at slot reply ∷ [];
   answers = ap (λ (s : TellerState). s.answers) called;
   step = Copies feed told.control v x at slot reply goes refl is;
@@ -132,13 +141,14 @@ copied_step left limit feed told then v x at slot reply goes is called = record 
 -- ---- calls one after another
 
 pub tells_nothing : (left : Option (List ℕ)) (feed : FeedState) (told : TellerState) → TellsOn left left feed feed told told
-tells_nothing left feed told = record { gained = []; answers = sym (append-nil told.answers); reads_on = reads_nothing left feed }
+tells_nothing left feed told = record { same = same_teller told; gained = []; answers = sym (append-nil told.answers); reads_on = reads_nothing left feed }
 
 pub tells_step : (before now : Option (List ℕ)) (limit : Stamp) (old new : FeedState) (told after : TellerState) → StepsOn before now limit old new told after → TellsOn before now old new told after
-tells_step before now limit old new told after s = record { gained = s.gained; answers = s.answers; reads_on = steps_read_on before now limit old new s.gained s.step }
+tells_step before now limit old new told after s = record { same = s.same; gained = s.gained; answers = s.answers; reads_on = steps_read_on before now limit old new s.gained s.step }
 
 pub tells_in_turn : (before mid now : Option (List ℕ)) (a b c : FeedState) (told next after : TellerState) → TellsOn before mid a b told next → TellsOn mid now b c next after → TellsOn before now a c told after
 tells_in_turn before mid now a b c told next after h k = record {
+  same = record { control = k.same.control ∙ h.same.control; volumes = k.same.volumes ∙ h.same.volumes };
   gained = h.gained ++ k.gained;
   answers = k.answers ∙ ap (λ (l : List Answer). l ++ k.gained) h.answers ∙ append_assoc told.answers h.gained k.gained;
   reads_on = reads_in_turn before mid now a b c h.gained k.gained h.reads_on k.reads_on;

@@ -1,9 +1,10 @@
 -- A lane's feed, and what it keeps.
-use Rattle.std.specs.Prelude.{◌≡◌, ℕ, List, [], ◌∷◌, Option, Some, None, if◌then◌else◌}
+use Rattle.std.specs.Prelude.{◌≡◌, ℕ, List, [], ◌∷◌, Bool, Option, Some, None, if◌then◌else◌}
 use Rattle.ckd_track.specs.declared.write.Batch.{Batch}
 use Rattle.primary_ctl.specs.States.{PrimaryState}
 use Rattle.sidefile.specs.declared.hand.Halt.{Halt}
 use Rattle.sidefile.specs.States.{SidefileState, IsRunOf}
+use Rattle.group_state.specs.Calls.{telling_after}
 use Rattle.group_state.specs.Runs.{Answer}
 use Rattle.told_tracks.specs.Told.{has_changed}
 use Rattle.fed_logs.specs.Feeds.{floor_behind}
@@ -37,3 +38,8 @@ KeepsFeed (Some halt) side primary held = Unit {0}
 abbrev pub floor_behind_calls : (floor : ℕ) → List Answer → ℕ
 floor_behind_calls floor [] = floor
 floor_behind_calls floor (answer ∷ run) = floor_behind_calls (if has_changed answer.reply then floor_behind floor answer.call else floor) run
+
+-- whether a control still tells behind answered calls of its reader
+abbrev pub telling_behind_calls : (telling : Bool) → List Answer → Bool
+telling_behind_calls telling [] = telling
+telling_behind_calls telling (answer ∷ run) = telling_behind_calls (telling_after answer.call telling) run

@@ -1,18 +1,24 @@
 -- The laws of feeds. Each is the contract of a public function without parameters.
-use Rattle.std.specs.Prelude.{◌≡◌, ℕ, ◌+◌, ◌-◌, List, [], ◌++◌, length, take, true, false, Option, Some, None, Ok, IsTrue}
+use Rattle.std.specs.Prelude.{◌≡◌, ℕ, ◌<◌, ◌-◌, List, [], ◌++◌, length, take, true, false, Option, Some, None, Ok, IsTrue}
 use Rattle.tod_stamp.specs.declared.stamp.Stamp.{Stamp}
 use Rattle.write_trace.specs.declared.header.Header.{Header}
 use Rattle.write_trace.specs.declared.trace.Trace.{Trace}
 use Rattle.write_trace.specs.Answers.{ReaderState}
 use Rattle.write_trace.specs.Good.{trace_of}
 use Rattle.write_trace.specs.Starts.{ReadsHeader}
+use Rattle.group_state.specs.declared.joining.CopyJoin.{CopyJoin}
 use Rattle.primary_ctl.specs.States.{track_of, base_in}
 use Rattle.sidefile.specs.Ahead.{IsAhead, IsFault, entries_ahead}
-use Rattle.group_state.specs.Runs.{Answer}
-use Rattle.lane_feed.specs.Feeds.{FeedState}
+use Rattle.group_state.specs.Controls.{is_telling}
+use Rattle.group_state.specs.Groups.{Group, control_at}
+use Rattle.group_state.specs.Runs.{Answer, Runs}
+use Rattle.told_tracks.specs.Told.{floor_of}
+use Rattle.fed_logs.specs.Feeds.{part_of_reader}
+use Rattle.lane_feed.specs.Feeds.{FeedState, floor_behind_calls, telling_behind_calls}
 use Rattle.lane_feed.specs.Reads.{Outlook, EndsAsAhead, HasRead, HasTracksAt, ReadsOn, do_rise}
 use Rattle.lane_feed.specs.Reads.Outlook.{Whole, Failing}
 use Rattle.lane_feed.specs.Steps.{FeedStep}
+use Rattle.lane_feed.specs.Tellers.{TellerState, TellsOn, BreaksBelow, IsCopiedBy}
 
 -- Without a call nothing is read.
 abbrev pub NoCallReadsNothing : Type 0
@@ -26,6 +32,28 @@ CallsReadInTurn = (before mid now : Option (List ℕ)) (old next new : FeedState
 -- Each step of a reader reads on.
 abbrev pub StepsReadOn : Type 0
 StepsReadOn = (before now : Option (List ℕ)) (limit : Stamp) (old new : FeedState) (gained : List Answer) → FeedStep before now limit old new gained → ReadsOn before now old new gained
+
+-- Without a call no break is told.
+abbrev pub NoCallBreaks : Type 0
+NoCallBreaks = (limit : ℕ) (left : Option (List ℕ)) (feed : FeedState) (told : TellerState) → BreaksBelow limit left feed feed told told
+
+-- Calls one after another break below a limit if each does.
+abbrev pub CallsBreakBelowInTurn : Type 0
+CallsBreakBelowInTurn = (limit : ℕ) (before mid now : Option (List ℕ)) (old next new : FeedState) (told between after : TellerState) → TellsOn before mid old next told between → BreaksBelow limit before old next told between
+    → TellsOn mid now next new between after → BreaksBelow limit mid next new between after → BreaksBelow limit before old new told after
+
+-- A step of a reader that copies tells no break.
+abbrev pub CopiesTellNoBreak : Type 0
+CopiesTellNoBreak = (limit : ℕ) (left : Option (List ℕ)) (joined : Option CopyJoin) (feed : FeedState) (told after : TellerState) → feed.halted ≡ None → IsCopiedBy joined feed told after → BreaksBelow limit left feed feed told after
+
+-- Behind a run each control's floor is the one that the calls of its reader tell.
+abbrev pub FloorsAreToldByCalls : Type 0
+FloorsAreToldByCalls = (s : Group) (run : List Answer) (end : Group) → Runs s run end → (k : ℕ) → k < length s.controls → floor_of end k ≡ floor_behind_calls (floor_of s k) (part_of_reader k run)
+
+-- Behind a run a control still tells exactly if it did before, and no call of its reader is a break.
+abbrev pub TellingIsToldByCalls : Type 0
+TellingIsToldByCalls = (s : Group) (run : List Answer) (end : Group) → Runs s run end → (k : ℕ) → k < length s.controls
+    → is_telling (control_at end k).phase ≡ telling_behind_calls (is_telling (control_at s k).phase) (part_of_reader k run)
 
 -- What a feed has read makes of its primary what the trace makes of it at the primary's time.
 abbrev pub ReadTracksAreThePrimary : Type 0

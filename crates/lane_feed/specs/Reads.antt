@@ -20,7 +20,7 @@ use Rattle.sidefile.specs.declared.hand.Halt.TheVariants as halts
 use Rattle.group_state.specs.Runs.{Answer}
 use Rattle.told_tracks.specs.Told.{is_write_up_to}
 use Rattle.fed_logs.specs.Feeds.{AreFedBy, is_between}
-use Rattle.lane_feed.specs.Feeds.{FeedState, floor_behind_calls}
+use Rattle.lane_feed.specs.Feeds.{FeedState, floor_behind_calls, telling_behind_calls}
 
 -- How the trace of a source turns out: all bytes that the source holds, or those that it gives before it fails.
 pub data Outlook : Type 0 where
@@ -139,7 +139,9 @@ pub record ReadsBytes (now : Option (List ℕ)) (old new : FeedState) (gained : 
 -- Calls on a feed read on.
 --   stays: a feed that reads no further makes no call and asks its source for nothing
 --   floor: the primary stands at the floor that the calls tell
+--   telling: while the feed reads on no call told a break
 pub record ReadsOn (before now : Option (List ℕ)) (old new : FeedState) (gained : List Answer) : Type 0 where
   pub stays : (halt : Halt) → old.halted ≡ Some halt → (new ≡ old) × (gained ≡ []) × (now ≡ before)
   pub floor : (new.halted ≡ Some halts.NoMemory → ⊥) → floor_behind_calls old.primary.time gained ≡ new.primary.time
+  pub telling : new.halted ≡ None → IsTrue (telling_behind_calls true gained)
   pub reads : old.halted ≡ None → (bytes : List ℕ) → IsAhead old.side.reader before bytes → ReadsBytes now old new gained bytes

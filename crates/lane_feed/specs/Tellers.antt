@@ -1,5 +1,6 @@
 -- What a reader tells of its control, and how its feed stands to it.
-use Rattle.std.specs.Prelude.{◌≡◌, ℕ, List, [], ◌∷◌, ◌++◌, Bool, Option, Some, None, if◌then◌else◌, IsTrue}
+use Rattle.std.specs.Prelude.{◌≡◌, ◌<◌, ℕ, max, List, [], ◌∷◌, ◌++◌, Bool, Option, Some, None, if◌then◌else◌, IsTrue}
+use Rattle.std.specs.List.{list_all}
 use Rattle.tod_stamp.specs.declared.stamp.Stamp.{Stamp}
 use Rattle.ckd_track.specs.declared.write.Batch.{Batch}
 use Rattle.ckd_track.specs.declared.write.Cause.{Cause}
@@ -7,6 +8,7 @@ use Rattle.ckd_track.specs.declared.write.Cause.TheVariants.{ReadFault}
 use Rattle.xrc_edge.specs.Causes.{Rose}
 use Rattle.pending_queue.specs.declared.room.Room.{Room}
 use Rattle.write_trace.specs.declared.header.VolumeHead.{VolumeHead}
+use Rattle.sidefile.specs.Ahead.{IsAhead}
 use Rattle.sidefile.specs.declared.hand.Halt.{Halt}
 use Rattle.sidefile.specs.declared.hand.Halt.TheVariants as halts
 use Rattle.primary_ctl.specs.States.{PrimaryState, track_of}
@@ -19,6 +21,7 @@ use Rattle.lane_feed.specs.declared.reading.Reading.{Reading}
 use Rattle.lane_feed.specs.declared.reading.Reading.TheVariants as readings
 use Rattle.told_tracks.specs.Told.{has_changed}
 use Rattle.fed_logs.specs.Feeds.{floor_behind}
+use Rattle.fed_logs.specs.ShownBreaks.{is_break_below}
 use Rattle.lane_feed.specs.Feeds.{FeedState}
 use Rattle.lane_feed.specs.Reads.{ReadsOn}
 use Rattle.lane_feed.specs.Steps.{FeedStep, held_answer, wanted_answer, copied_answer}
@@ -73,17 +76,46 @@ HasFaultBy faults risen (Some halts.NoMemory) = risen ≡ faults
 
 -- ---- what was told
 
+-- A teller stays one of its control and of its trace's volumes.
+pub record IsSameTeller (told after : TellerState) : Type 0 where
+  pub control : after.control ≡ told.control
+  pub volumes : after.volumes ≡ told.volumes
+
 -- One step of a reader, and what it told.
 pub record StepsOn (before now : Option (List ℕ)) (limit : Stamp) (old new : FeedState) (told after : TellerState) : Type 0 where
+  pub same : IsSameTeller told after
   pub gained : List Answer
   pub answers : after.answers ≡ told.answers ++ gained
   pub step : FeedStep before now limit old new gained
 
 -- Calls of a reader read on, and were told.
 pub record TellsOn (before now : Option (List ℕ)) (old new : FeedState) (told after : TellerState) : Type 0 where
+  pub same : IsSameTeller told after
   pub gained : List Answer
   pub answers : after.answers ≡ told.answers ++ gained
   pub reads_on : ReadsOn before now old new gained
+
+-- ---- breaks below a limit
+
+-- A break that is told up to a limit lies below this time: the limit, or 1 at the limit 0. A trace that is bad before its first entry breaks at 0,
+-- also at the limit 0.
+abbrev pub break_bound : (limit : ℕ) → ℕ
+break_bound limit = max 1 limit
+
+-- A feed that has broken did so below this time.
+abbrev pub IsHaltBelow : (limit : ℕ) → Option Halt → Type 0
+IsHaltBelow limit None = Unit {0}
+IsHaltBelow limit (Some (halts.Broken cause upto)) = upto.0 < break_bound limit
+IsHaltBelow limit (Some halts.NoMemory) = Unit {0}
+
+-- The breaks that calls on a feed told are below a limit, if bytes are ahead of the feed.
+--   told_so: each answer that the teller gained, where it is of a break
+--   halts: the break after which the feed reads no further
+pub record BreaksBelow (limit : ℕ) (before : Option (List ℕ)) (old new : FeedState) (told after : TellerState) : Type 0 where
+  pub told_so : (bytes : List ℕ) → IsAhead old.side.reader before bytes → (gained : List Answer) → after.answers ≡ told.answers ++ gained → IsTrue (list_all (is_break_below (break_bound limit)) gained)
+  pub halts : old.halted ≡ None → (bytes : List ℕ) → IsAhead old.side.reader before bytes → IsHaltBelow limit new.halted
+
+-- ---- what was refused
 
 -- The batch that is held was told, and refused for this room. That is all that was told.
 pub record WasRefused (room : Room) (feed : FeedState) (told after : TellerState) : Type 0 where

@@ -5,10 +5,11 @@ ghost use Rattle.write_trace.specs.Headers.{is_track_of};
 ghost use Rattle.primary_ctl.specs.States.{track_of};
 ghost use Rattle.sidefile.specs.Halts.{broken_in};
 ghost use Rattle.sidefile.specs.declared.hand.Halt.{Halt as HaltIs};
+ghost use Rattle.sidefile.specs.declared.hand.Halt.TheVariants as halts;
 ghost use Rattle.lane_feed.specs.declared.reading.Reading.TheVariants as readings;
 ghost use Rattle.lane_feed.specs.Steps.{IsIdle};
 ghost use Rattle.pending_queue.specs.declared.room.Room.{Room as RoomIs};
-ghost use Rattle.lane_feed.specs.Tellers.{IsToldBy, HoldsBatch, IsRefusedBy, StandsAs, StandsAsOrHolds, HasFaultBy, StepsOn, TellsOn, IsCopiedBy};
+ghost use Rattle.lane_feed.specs.Tellers.{IsToldBy, HoldsBatch, IsRefusedBy, StandsAs, StandsAsOrHolds, HasFaultBy, StepsOn, TellsOn, BreaksBelow, IsCopiedBy};
 
 use crate::reading::Reading;
 use crate::teller::Teller;
@@ -42,18 +43,22 @@ impl Model for Feed {
 }
 
 impl Feed {
-    /// The feed of a sidefile and of the primary that has taken over what the sidefile handed over.
+    /// The feed of a sidefile and of the primary that has taken over what the sidefile handed over. The sidefile may have broken; it
+    /// didn't want memory.
     pub fn make(side: Sidefile, primary: Primary) -> Feed
-        requires goes_on { side.halted ≡ None }
+        requires usable { side.halted ≡ Some halts.NoMemory → ⊥ }
         requires volumes { primary.volumes ≡ side.reader.volumes }
         requires even { primary.time ≡ side.upto }
-        ensures { result ≡ record { side = side; primary = primary; held = None; halted = None } }
+        ensures { result ≡ record { side = side; primary = primary; held = None; halted = side.halted } }
     {
+        let halted = side
+            .broken()
+            .map(|(upto, cause)| Halt::Broken { cause, upto });
         Feed {
             side,
             primary,
             held: None,
-            halted: None,
+            halted,
         }
     }
 
@@ -163,10 +168,12 @@ impl Feed {
         requires told { IsToldBy self.old (T.state teller.old) }
         requires limit { self.old.side.upto ≤ limit.0 }
         ensures reads { TellsOn (S.left source.old) (S.left source.new) self.old self.new (T.state teller.old) (T.state teller.new) }
+        ensures below { BreaksBelow limit.0 (S.left source.old) self.old self.new (T.state teller.old) (T.state teller.new) }
         ensures told { IsToldBy self.new (T.state teller.new) }
         ensures within { self.new.side.upto ≤ limit.0 }
         ensures stands { StandsAs result limit.0 self.new }
         ensures fault { self.old.halted ≡ None → HasFaultBy (S.faults source.old) (S.faults source.new) self.new.halted }
+        ensures unasked { (halt : HaltIs) → self.old.halted ≡ Some halt → source.new ≡ source.old }
         // A batch that is held was told in this step.
         ensures refused { IsRefusedBy result self.new (T.state teller.old) (T.state teller.new) }
         ensures rises { result ≡ readings.Joined → self.old.primary.time < self.new.primary.time }
@@ -182,8 +189,9 @@ impl Feed {
             None => self.join_held(alloc, teller),
         }
     }
+
     /// One step of a reader that copies: it asks which track is wanted next, and tells that track as the primary has it at the floor. None
-    /// where no track is wanted. `slot` is left with the track.
+    /// where no track is wanted. `slot` is the buffer for the track.
     pub fn copy_once<T: Teller>(&self, teller: &mut T, slot: &mut Slot) -> Option<CopyJoin>
         requires goes_on { self.now.halted ≡ None }
         requires told { IsToldBy self.now (T.state teller.old) }

@@ -1,6 +1,6 @@
 //! The laws of feeds.
 
-ghost use Rattle.lane_feed.specs.Laws.{NoCallReadsNothing, CallsReadInTurn, StepsReadOn, ReadTracksAreThePrimary, NothingIsReadFirst, HeadersBeginTraces};
+ghost use Rattle.lane_feed.specs.Laws.{NoCallReadsNothing, CallsReadInTurn, StepsReadOn, NoCallBreaks, CallsBreakBelowInTurn, CopiesTellNoBreak, FloorsAreToldByCalls, TellingIsToldByCalls, ReadTracksAreThePrimary, NothingIsReadFirst, HeadersBeginTraces};
 
 /// Calls on a feed one after another read on.
 pub fn calls_read_in_turn()
@@ -11,6 +11,19 @@ pub fn calls_read_in_turn()
 /// Each step of a reader reads on, however its trace turns out.
 pub fn steps_read_on()
     ensures { StepsReadOn }
+{}
+
+/// Calls on a feed one after another tell breaks below a limit if each does. Where none is made, and where a track is copied, none is told.
+pub fn calls_break_below()
+    ensures none { NoCallBreaks }
+    ensures then { CallsBreakBelowInTurn }
+    ensures copied { CopiesTellNoBreak }
+{}
+
+/// Behind a run the calls of a control's reader tell the control's floor, and whether the control still tells.
+pub fn calls_tell_controls()
+    ensures floors { FloorsAreToldByCalls }
+    ensures telling { TellingIsToldByCalls }
 {}
 
 /// A primary has the tracks of the trace at its time.

@@ -37,7 +37,8 @@ use Rattle.site_store.specs.Sites.{SiteState, meant_for}
 use Rattle.site_store.specs.Standing.{FitsPlant, Leaves, SiteStands, none_excepted}
 use Rattle.site_store.specs.Ways.{is_spent, way_of}
 use Rattle.site_store.proofs.Below.{below_volumes}
-use Rattle.site_store.proofs.ChangeFirst.{ComesFirst, change_begins, change_done, change_stands, mark_begins, mark_first, nothing_first}
+use Rattle.site_store.proofs.ChangeFirst.{ComesFirst, change_begins, change_done, change_stands, mark_first, nothing_first}
+use Rattle.site_store.proofs.MarkFirst.{mark_begins}
 use Rattle.site_store.proofs.HitsLead.{change_leads, near_leads, near_marked}
 use Rattle.site_store.proofs.MeantRows.{meant_apart}
 use Rattle.site_store.proofs.Numbers.{record_enough}
@@ -289,7 +290,7 @@ mark_fails tells cut site next old new error idle makes =
     let marked = rows_marked site.time (hit_now next.failed site.told) site.told in
     record {
       begins = λ told e stands. more_follow old new e site.told (MarkedDeed site.at site.mark.ended marked ∷ []) (Changed cut (rows_with_hits site.level cut next.failed site.table.rows) ∷ [])
-          (mark_begins tells site next old new site.mark.ended marked idle (Err error) makes told e stands);
+          (mark_begins tells site.mark.ended marked site next old new (Err error) makes idle told e stands);
       does = λ told. tt;
     }
 

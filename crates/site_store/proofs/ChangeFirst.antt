@@ -1,7 +1,6 @@
 -- A change of rows behind what comes first, nothing or a mark: the deeds and the site behind both, over plain states.
-use Rattle.std.proofs.Common.{◌≡◌, inl, inr, ℕ, ◌^◌, ◌<◌, ◌++◌, ◌||◌, Bool, false, List, [], ◌∷◌, Result, Ok, Err, refl, sym, subst, ◌∙◌, arith}
+use Rattle.std.proofs.Common.{◌≡◌, inl, inr, ℕ, ◌^◌, ◌<◌, ◌++◌, Bool, false, List, [], ◌∷◌, Result, Ok, Err, refl, sym, subst, ◌∙◌, arith}
 use Rattle.std.specs.Prelude.{OnOk, slice_index_or}
-use Rattle.std.specs.List.{list_any}
 use Rattle.xrc_edge.specs.Causes.{Rose}
 use Rattle.crash_plant.specs.declared.device.Device.{Device}
 use Rattle.crash_plant.specs.declared.device.Device.TheVariants.{Volume}
@@ -15,18 +14,17 @@ use Rattle.site_deeds.specs.Doing.{BeginsDeeds, DoesDeeds}
 use Rattle.site_deeds.specs.Exceptions.{Exceptions, excepted_behind}
 use Rattle.site_deeds.proofs.Composing.{begin_behind, go_on}
 use Rattle.site_deeds.proofs.Single.{no_call}
-use Rattle.site_deeds.proofs.Widening.{begins_still, does_still}
-use Rattle.xrc_journal.specs.Contents.{is_of_track}
 use Rattle.xrc_journal.specs.Items.{Item}
 use Rattle.xrc_journal.specs.Jobs.{FailsByCount}
 use Rattle.site_store.specs.declared.store_error.StoreError.{StoreError}
 use Rattle.site_store.specs.declared.way.Way.{Way}
 use Rattle.site_store.specs.Causes.{FailByCounts, HasStoreCause}
-use Rattle.site_store.specs.Marking.{MakesMark, excepted_with_waiting}
+use Rattle.site_store.specs.Marking.{MakesMark}
 use Rattle.site_store.specs.Recording.{ShowsRecord, group_with}
 use Rattle.site_store.specs.Records.{IsJournal, IsOfMark, IsOfRecord, IsStore}
 use Rattle.site_store.specs.Sites.{SiteState}
 use Rattle.site_store.specs.Standing.{Leaves, SiteStands, none_excepted}
+use Rattle.site_store.proofs.MarkFirst.{mark_does}
 use Rattle.site_store.proofs.RecordPuts.{on_ok}
 use Rattle.site_store.proofs.RowsLogged.{AreRowsLogged, rows_begin, rows_done, rows_stand, stands_more, with_logged_rows}
 
@@ -48,34 +46,26 @@ nothing_first tells site plant = record {
   rows = refl;
 }
 
--- No track is excepted for a waiting item.
-none_waits : (site : SiteState) → site.waiting ≡ [] → (e : Exceptions) (d x : ℕ) → e d x ≡ false → excepted_with_waiting site e d x ≡ false
-none_waits site idle e d x not = (λ i. not i || list_any (is_of_track d x) (idle i))
+-- What is so of each answer is so of all.
+pub all_ok : (result : Result (Unit {0}) StoreError) (site : SiteState) (plant : PlantState) (P : Exceptions → Type 0) → ((e : Exceptions) → SiteStands e site plant → OnOk result (P e)) → OnOk result ((e : Exceptions) → SiteStands e site plant → P e)
+all_ok (Ok value) site plant P each = each
+all_ok (Err error) site plant P each = tt
 
 module _ (tells : Type 0) (site here : SiteState) (old mid : PlantState) (ended : Bool) (rows : List PairRow) (idle : site.waiting ≡ []) where
   -- a mark, which is made
   pub mark_first : MakesMark tells ended rows site here old mid (Ok tt) → Leaves tells (λ e. none_excepted) site here old mid → here.told ≡ rows → ComesFirst tells (MarkedDeed site.at ended rows ∷ []) site here old mid
   mark_first makes leaves told_is = record {
-    does = λ told e stands. does_still old mid (excepted_with_waiting site e) e site.told (none_waits site idle e) (MarkedDeed site.at ended rows ∷ []) (makes.does told e stands);
+    does = λ told e stands. mark_does tells ended rows site here old mid (Ok tt) makes idle told e stands;
     stands = λ told e stands. stands_more e here mid (leaves.stands told e stands);
     behind = λ told e stands. stands_more (excepted_behind site.told (MarkedDeed site.at ended rows ∷ []) e) here mid (leaves.stands told e stands);
     rows = sym told_is;
   }
 
-  -- a mark, as far as it comes
-  pub mark_begins : (result : Result (Unit {0}) StoreError) → MakesMark tells ended rows site here old mid result → tells → (e : Exceptions) → SiteStands e site old → BeginsDeeds e site.told (MarkedDeed site.at ended rows ∷ []) old mid
-  mark_begins result makes told e stands = begins_still old mid (excepted_with_waiting site e) e site.told (none_waits site idle e) (MarkedDeed site.at ended rows ∷ []) (makes.begins told e stands)
-
+  -- the same of each answer
   pub mark_done : (result : Result (Unit {0}) StoreError) → MakesMark tells ended rows site here old mid result → tells → OnOk result ((e : Exceptions) → SiteStands e site old → DoesDeeds e site.told (MarkedDeed site.at ended rows ∷ []) old mid)
-  mark_done result makes told = on_ok result (λ (does : (e : Exceptions) → SiteStands e site old → DoesDeeds (excepted_with_waiting site e) site.told (MarkedDeed site.at ended rows ∷ []) old mid) e stands.
-      does_still old mid (excepted_with_waiting site e) e site.told (none_waits site idle e) (MarkedDeed site.at ended rows ∷ []) (does e stands)) (makes.does told)
+  mark_done result makes told = all_ok result site old (λ e. DoesDeeds e site.told (MarkedDeed site.at ended rows ∷ []) old mid) (λ e stands. mark_does tells ended rows site here old mid result makes idle told e stands)
 
 -- ---- the change behind it
-
--- What is so of each answer is so of all.
-pub all_ok : (result : Result (Unit {0}) StoreError) (site : SiteState) (plant : PlantState) (P : Exceptions → Type 0) → ((e : Exceptions) → SiteStands e site plant → OnOk result (P e)) → OnOk result ((e : Exceptions) → SiteStands e site plant → P e)
-all_ok (Ok value) site plant P each = each
-all_ok (Err error) site plant P each = tt
 
 module _ (tells : Type 0) (first : List Deed) (site here : SiteState) (old mid new : PlantState) (before : ComesFirst tells first site here old mid) (way : Way) (cut : ℕ) (items : List Item) (rows : List PairRow)
     (logged : tells → (e : Exceptions) → SiteStands e site old → AreRowsLogged here mid cut items rows) (low : here.mark.at.number < 2 ^ 64) (works : WorksOn tells IsJournal mid new) (result : Result (Unit {0}) StoreError)

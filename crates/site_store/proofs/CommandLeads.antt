@@ -30,7 +30,7 @@ use Rattle.site_store.specs.Changing.{Lead, changed_items, gone_of, named_device
 use Rattle.site_store.specs.Commands.{alters}
 use Rattle.site_store.specs.Hits.{Next, pair_in, pairs_with_next}
 use Rattle.site_store.proofs.FormedItems.{pairs_lead}
-use Rattle.site_store.proofs.PairsFit.{changed_pairs_fit}
+use Rattle.site_store.proofs.RecordPairsFit.{next_pairs_fit}
 
 -- ---- how many devices, and whether a row changes
 
@@ -298,7 +298,7 @@ module _ (volumes : ℕ) (names : Naming) (time : ℕ) (rows : List PairRow) (be
   suspend_leads test state keeps =
       subst (λ (l : List Item). Lead volumes l rows (map (λ r. cond (test r) (in_state state r) r) rows)) (sym (pairs_where test state rows keeps.apart)) (record {
         leads = pairs_lead (next_where test state) rows keeps.apart ∙ rows_where test state rows;
-        fit = changed_pairs_fit volumes 0 (next_where test state) rows (are_by volumes rows keeps.few keeps.apart below) keeps.apart;
+        fit = next_pairs_fit (next_where test state) volumes 0 rows (are_by volumes rows keeps.few keeps.apart below) keeps.apart;
       })
 
   -- The items of the change lead to the rows behind the command.

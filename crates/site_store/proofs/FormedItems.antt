@@ -12,14 +12,15 @@ use Rattle.record_rows.proofs.Changed.{changed_make}
 use Rattle.record_rows.proofs.Devices.{apart_of}
 use Rattle.site_means.specs.Walk.{rows_through}
 use Rattle.pending_queue.specs.Entries.{WaitingEntry}
-use Rattle.xrc_journal.specs.Items.{AreItems, Earlier, Form, Item, anywhere, are_items_behind, behind, form_of, is_item, is_within, none_earlier}
+use Rattle.xrc_journal.specs.Items.{AreItems, Earlier, Form, Item, are_items_behind, behind, form_of, is_item, is_within, none_earlier}
 use Rattle.xrc_journal.specs.Items.Item.{Pair}
 use Rattle.xrc_journal.specs.Contents.{HasItem}
 use Rattle.image_former.specs.Entries.{HasEntry, is_device, is_entry_on, row_device}
 use Rattle.image_former.specs.Forms.{AreItemsWhereAllowed}
-use Rattle.site_store.specs.Hits.{Next, pair_in, pairs_with_next}
+use Rattle.site_store.specs.Hits.{Next, is_row_in, pair_in, pairs_with_next, stays_row}
 use Rattle.site_store.specs.Logging.{IsOfSomeRow, is_entry_of_device, is_pair_item}
 use Rattle.site_store.specs.Standing.{row_has_volume}
+use Rattle.site_store.proofs.HitItems.{keep_both}
 use Rattle.site_store.proofs.LentJobs.{found_any, row_of_entry, slot_reach}
 
 -- ---- pairs
@@ -46,27 +47,18 @@ pairs_lead next rows apart = pairs_put next rows rows ∙ changed_make next rows
 
 -- ---- the rules on one record
 
--- Pairs keep them whatever tracks a form allows.
-pairs_keep : (form : Form) (next : Next) (earlier : Earlier) (rows : List PairRow) → are_items_behind anywhere earlier (pairs_with_next next rows) ≡ true → are_items_behind form earlier (pairs_with_next next rows) ≡ true
-pairs_keep form next earlier [] keep = refl
-pairs_keep form next earlier (r ∷ rows) keep = by_state (next r) (λ e more. pairs_keep form next e rows more) keep
+-- Pairs of rows keep them whatever tracks a form allows.
+pairs_keep : (form : Form) (next : Next) (rows : List PairRow) → list_all (stays_row next) rows ≡ true → (earlier : Earlier) → are_items_behind form earlier (pairs_with_next next rows) ≡ true
+pairs_keep form next [] are earlier = refl
+pairs_keep form next (r ∷ rows) are earlier =
+    let parts = and_parts (stays_row next r) (list_all (stays_row next) rows) are in
+    by_state (next r) parts.0 (pairs_keep form next rows parts.1)
   where
-    by_state : (state : Option PairState) → ((e : Earlier) → are_items_behind anywhere e (pairs_with_next next rows) ≡ true → are_items_behind form e (pairs_with_next next rows) ≡ true)
-        → are_items_behind anywhere earlier (pair_in r state ++ pairs_with_next next rows) ≡ true → are_items_behind form earlier (pair_in r state ++ pairs_with_next next rows) ≡ true
-    by_state None more keep = more earlier keep
-    by_state (Some state) more keep =
+    by_state : (state : Option PairState) → is_row_in r state ≡ true → ((e : Earlier) → are_items_behind form e (pairs_with_next next rows) ≡ true) → are_items_behind form earlier (pair_in r state ++ pairs_with_next next rows) ≡ true
+    by_state None is more = more earlier
+    by_state (Some state) is more =
         let item : Item = Pair (in_state state r) in
-        let parts = and_parts (is_item anywhere earlier item) (are_items_behind anywhere (behind item earlier) (pairs_with_next next rows)) keep in
-        and_from (is_item form earlier item) (are_items_behind form (behind item earlier) (pairs_with_next next rows)) parts.0 (more (behind item earlier) parts.1)
-
--- So do images with pairs behind them.
-items_keep : (form : Form) (next : Next) (earlier : Earlier) (images : List Item) (rows : List PairRow) → are_items_behind form earlier images ≡ true → are_items_behind anywhere earlier (images ++ pairs_with_next next rows) ≡ true
-    → are_items_behind form earlier (images ++ pairs_with_next next rows) ≡ true
-items_keep form next earlier [] rows first all = pairs_keep form next earlier rows all
-items_keep form next earlier (i ∷ images) rows first all =
-    let here = and_parts (is_item form earlier i) (are_items_behind form (behind i earlier) images) first in
-    let there = and_parts (is_item anywhere earlier i) (are_items_behind anywhere (behind i earlier) (images ++ pairs_with_next next rows)) all in
-    and_from (is_item form earlier i) (are_items_behind form (behind i earlier) (images ++ pairs_with_next next rows)) here.0 (items_keep form next (behind i earlier) images rows here.1 there.1)
+        and_from (is_item form earlier item) (are_items_behind form (behind item earlier) (pairs_with_next next rows)) is (more (behind item earlier))
 
 -- The slot of a track with an entry is one of the plant's.
 pub slot_there : (start : PlantState) (rows : List PairRow) (entries : List WaitingEntry) → list_all (row_has_volume start) rows ≡ true → All (IsOfSomeRow rows) entries → (device x : ℕ) → HasEntry rows device x entries → (form_of start).has_slot device x ≡ true
@@ -80,7 +72,8 @@ slot_there start rows entries below live device x has =
 
 -- The items of a formed record keep the rules on one record.
 pub formed_keep : (start : PlantState) (rows : List PairRow) (entries : List WaitingEntry) (next : Next) (images items : List Item) → list_all (row_has_volume start) rows ≡ true → All (IsOfSomeRow rows) entries → AreItemsWhereAllowed images
-    → ((d x : ℕ) → HasItem d x images → HasEntry rows d x entries) → items ≡ images ++ pairs_with_next next rows → AreItems anywhere items → AreItems (form_of start) items
-formed_keep start rows entries next images items below live allowed on is keep =
-    let first : AreItems (form_of start) images = allowed (form_of start) (λ d x has. slot_there start rows entries below live d x (on d x has)) in
-    subst (AreItems (form_of start)) (sym is) (items_keep (form_of start) next none_earlier images rows first (subst (AreItems anywhere) is keep))
+    → ((d x : ℕ) → HasItem d x images → HasEntry rows d x entries) → items ≡ images ++ pairs_with_next next rows → list_all (stays_row next) rows ≡ true → AreItems (form_of start) items
+formed_keep start rows entries next images items below live allowed on is are =
+    let form = form_of start in
+    let first : AreItems form images = allowed form (λ d x has. slot_there start rows entries below live d x (on d x has)) in
+    subst (AreItems form) (sym is) (keep_both form none_earlier images (pairs_with_next next rows) first (pairs_keep form next rows are))

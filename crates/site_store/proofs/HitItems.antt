@@ -8,7 +8,7 @@ use Rattle.pair_table.specs.declared.row.SuspendCause.TheVariants.{Device, Sessi
 use Rattle.pair_table.specs.declared.row.PairRow.{PairRow}
 use Rattle.pair_table.specs.Rows.{is_row, is_state, is_suspended}
 use Rattle.pair_table.specs.Tables.{in_state}
-use Rattle.xrc_journal.specs.Items.{Earlier, Item, anywhere, are_items_behind, behind, is_item}
+use Rattle.xrc_journal.specs.Items.{Earlier, Form, Item, anywhere, are_items_behind, behind, is_item}
 use Rattle.xrc_journal.specs.Items.Item.{Pair}
 use Rattle.site_store.specs.declared.hits.Hits.{Hits}
 use Rattle.site_store.specs.Hits.{is_hit_by, pair_in, pairs_with_next, state_by_hits, with_hits}
@@ -36,8 +36,8 @@ module _ (hits : Hits) (time : hits.time.0 < 2 ^ 64) where
       by_hits (is_hit_by hits r.device) hits.reaches r (pairs_with_next (with_hits hits) rows) parts.0 (hits_keep rows parts.1) earlier
 
 -- Items that keep them behind whatever items keep them behind these.
-pub keep_both : (earlier : Earlier) (xs ys : List Item) → are_items_behind anywhere earlier xs ≡ true → ((e : Earlier) → are_items_behind anywhere e ys ≡ true) → are_items_behind anywhere earlier (xs ++ ys) ≡ true
-keep_both earlier [] ys first last = last earlier
-keep_both earlier (x ∷ xs) ys first last =
-    let parts = and_parts (is_item anywhere earlier x) (are_items_behind anywhere (behind x earlier) xs) first in
-    and_from (is_item anywhere earlier x) (are_items_behind anywhere (behind x earlier) (xs ++ ys)) parts.0 (keep_both (behind x earlier) xs ys parts.1 last)
+pub keep_both : (form : Form) (earlier : Earlier) (xs ys : List Item) → are_items_behind form earlier xs ≡ true → ((e : Earlier) → are_items_behind form e ys ≡ true) → are_items_behind form earlier (xs ++ ys) ≡ true
+keep_both form earlier [] ys first last = last earlier
+keep_both form earlier (x ∷ xs) ys first last =
+    let parts = and_parts (is_item form earlier x) (are_items_behind form (behind x earlier) xs) first in
+    and_from (is_item form earlier x) (are_items_behind form (behind x earlier) (xs ++ ys)) parts.0 (keep_both form (behind x earlier) xs ys parts.1 last)

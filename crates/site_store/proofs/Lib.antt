@@ -40,7 +40,6 @@ pub mod CommandRows
 pub mod CopiedRows
 pub mod ItemTracks
 pub mod LentSides
-pub mod PairsFit
 pub mod CommandLeads
 pub mod Commanded
 pub mod RowItems
@@ -59,3 +58,5 @@ pub mod ChangeEnds
 pub mod Views
 pub mod Fresh
 pub mod Shutting
+pub mod VolumesStaying
+pub mod Between

@@ -35,7 +35,7 @@ use Rattle.site_store.specs.Sites.{SiteState}
 use Rattle.site_store.specs.Standing.{FitsPlant, Leaves, MayRecord, SiteStands, none_excepted}
 use Rattle.site_store.specs.Ways.{is_spent, record_needs_more, way_from}
 use Rattle.site_store.proofs.LogFails.{StoresQuiet, cause_then, fails_trans, quiet_reads, spent_cause}
-use Rattle.site_store.proofs.LogForms.{FirstForm, HasPlace, fits_formed, formed_ready, formed_stands, forms_first, logs_before, logs_spent, marked_entries, marked_stage, plain_place, plain_stage}
+use Rattle.site_store.proofs.LogForms.{FirstForm, HasPlace, fits_formed, formed_ready, formed_stands, forms_first, group_behind_mark, logs_spent, marked_entries, marked_stage, plain_place, plain_stage}
 use Rattle.site_store.proofs.LogPut.{IsReady, logged_site, may_put}
 use Rattle.site_store.proofs.LogReads.{with_failed}
 use Rattle.site_store.proofs.LogStage.{PutStage, put_cause, put_failed, put_fails, put_leaves, put_logs, put_others}
@@ -174,12 +174,10 @@ module _ (tells : Type 0) (group : FormedGroup) (site : SiteState) (old mid : Pl
 
   module _ (start next now : SiteState) (new : PlantState) (result : Result (Unit {0}) StoreError) (is : site ≡ start) (now_is : now ≡ with_failed failed site) where
     pub behind_logged : way ≡ MarkedFirst → is_spent way site ≡ false → LogsBy tells group MarkedFirst now next mid new result → FailByCounts now.failed next.failed mid.faults new.faults → ¬ IsErrOf result Spent → LogsGroup tells group start next old new result
-    behind_logged way_is enough logs fails unspent = subst (λ (s : SiteState). LogsGroup tells group s next old new result) is (record {
-      way = way;
-      first = forms_first tells group way site next old mid new failed items result first_form enough unspent first.fails (subst (λ (s : SiteState). FailByCounts s.failed next.failed mid.faults new.faults) now_is fails) (λ other. absurd (other way_is));
-      logs = subst (λ (w : Way). LogsBy tells group w site next old new result) (sym way_is)
-          (logs_before tells group site next old mid failed first.works first.reads first.fails new result stands_then (subst (λ (s : SiteState). LogsBy tells group MarkedFirst s next mid new result) now_is logs) (subst (λ (s : SiteState). FailByCounts s.failed next.failed mid.faults new.faults) now_is fails));
-    })
+    behind_logged way_is enough logs fails unspent =
+        subst (λ (s : SiteState). LogsGroup tells group s next old new result) is
+        (group_behind_mark tells group site next old mid failed first.works first.reads first.fails new result stands_then (subst (λ (s : SiteState). LogsBy tells group MarkedFirst s next mid new result) now_is logs)
+        (subst (λ (s : SiteState). FailByCounts s.failed next.failed mid.faults new.faults) now_is fails) items (subst (λ (w : Way). FirstForm tells group site old w failed items) way_is first_form) (subst (λ (w : Way). is_spent w site ≡ false) way_is enough) unspent)
 
     leaves_then : Leaves tells (λ e. e) now next mid new → Leaves tells (λ e. e) start next old new
     leaves_then leaves =
@@ -227,7 +225,7 @@ module _ (tells : Type 0) (group : FormedGroup) (site : SiteState) (old mid : Pl
     pub plain_group : (start next : SiteState) (new : PlantState) (result : Result (Unit {0}) StoreError) → site ≡ start → ¬ IsErrOf result Spent → FailByCounts failed next.failed mid.faults new.faults → (way ≢ MarkedFirst → OnOk result (next.waiting ≡ items))
         → LogsBy tells group way start next old new result → LogsGroup tells group start next old new result
     plain_group start next new result is unspent fails here logs = subst (λ (s : SiteState). LogsBy tells group way s next old new result → LogsGroup tells group s next old new result) is
-        (λ by. record { way = way; first = forms_first tells group way site next old mid new failed items result first_form enough unspent first.fails fails here; logs = by }) logs
+        (λ by. record { way = way; first = forms_first tells group way site next old mid new failed items result first_form enough unspent first.fails fails here; logs = by; early_has = λ marked. absurd (plain marked) }) logs
 
 -- ---- behind a mark that was made first
 

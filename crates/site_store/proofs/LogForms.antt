@@ -291,7 +291,7 @@ module _ (tells : Type 0) (group : FormedGroup) (site : SiteState) (early : List
         early_failed = fails_between site.failed early failed_last old.faults marked.faults last.faults fails_mark fails_last;
         before_is = told_marked;
         after_is = after_is;
-        bytes = λ told d. reads_last.bytes told (Volume d) ∙ makes.volumes told d;
+        bytes = λ told d. reads_last.bytes told (Volume d) ∙ makes.volumes.bytes told d;
         next_is = λ sets. ap (λ (s : SiteState). logged_site sets MarkedFirst group.cut.0 items_last after (one_more s.since) (with_failed failed_last s)) is;
         seen = marked_seen;
         fails = fails_trans site.failed early failed_last old.faults marked.faults last.faults fails_mark fails_last;
@@ -335,6 +335,7 @@ module _ (tells : Type 0) (group : FormedGroup) (site next : SiteState) (old mid
         does = λ told. tt;
       };
     };
+    early_has = λ marked d down. down;
   }
     where
       between : FailedBetween site.failed failed next.failed
@@ -365,4 +366,14 @@ module _ (tells : Type 0) (group : FormedGroup) (site next : SiteState) (old mid
         does = λ told. on_ok result (λ (does : (x : Exceptions) → SiteStands x (with_failed failed site) mid → DoesDeeds x site.told (log_deeds MarkedFirst site group logs.early next.failed) mid new) e stood.
             does_behind_none old mid new e site.told (log_deeds MarkedFirst site group logs.early next.failed) (reads_do tells _ old mid works reads told e site.told) (does e (stands told e stood))) (logs.does.does told);
       };
+    }
+
+    -- So its numbers and the record as it was formed first say.
+    pub group_behind_mark : (items : List Item) → FirstForm tells group site old MarkedFirst failed items → is_spent MarkedFirst site ≡ false → ¬ IsErrOf result Spent → LogsGroup tells group site next old new result
+    unfolding forms_first logs_before
+    group_behind_mark items first enough unspent = record {
+      way = MarkedFirst;
+      first = forms_first tells group MarkedFirst site next old mid new failed items result first enough unspent fails later (λ other. absurd (other refl));
+      logs = logs_before;
+      early_has = λ marked d down. logs.early_failed.before d down;
     }

@@ -6,8 +6,8 @@ use Rattle.crash_plant.specs.declared.device.Device.{Device}
 use Rattle.crash_plant.specs.declared.device.Device.TheVariants.{Volume}
 use Rattle.crash_plant.specs.Calls.{WorksOn}
 use Rattle.crash_plant.specs.Choices.{IsChoice}
-use Rattle.crash_plant.specs.Moments.{PlantState, Same, on}
-use Rattle.crash_plant.proofs.Steps.{follows_here, none_lent_then}
+use Rattle.crash_plant.specs.Moments.{PlantState}
+use Rattle.crash_plant.proofs.Steps.{none_lent_then}
 use Rattle.control_set.specs.Slots.{IsNext}
 use Rattle.control_set.specs.declared.value.Mark.{Mark}
 use Rattle.pair_table.specs.declared.level.Level.{Level}
@@ -32,6 +32,7 @@ use Rattle.site_store.proofs.MarkSeen.{IsReady}
 use Rattle.site_store.proofs.MarkStands.{mark_begins, mark_does, mark_stands}
 use Rattle.site_store.proofs.RecordPuts.{on_ok}
 use Rattle.site_store.proofs.StandsEnd.{from_low}
+use Rattle.site_store.proofs.VolumesStaying.{stay_apart, stay_here}
 
 -- ---- results, and what is put by other names
 
@@ -79,8 +80,7 @@ module _ (tells : Type 0) (site : SiteState) (ended : Bool) (old : PlantState) (
     makes next result same put = record {
       begins = λ told e stands. mark_begins e site ended rows old new stands slot_low (from_lt told e stands) (ready told) tells told works (puts told);
       does = λ told. on_ok result (λ is e stands. mark_does e site ended rows old new stands slot_low (from_lt told e stands) (ready told) tells told works (puts told) is) (put told);
-      volumes = λ told d. (works.others told (Volume d) (λ no. no)).bytes;
-      images = λ told d. (works.others told (Volume d) (λ no. no)).images;
+      volumes = stay_apart tells IsMarked old new (λ d no. no) works;
       durable = λ told. on_ok result (λ is d was good. durable_still tells told IsMarked old new (Volume d) works (λ no. no) (may.synced told d was (ap (λ (f : List Bool). slice_index_or f d false) (sym same) ∙ good))) (put told);
     }
 
@@ -114,7 +114,6 @@ makes_none tells ended rows site plant = record {
       let excepted = excepted_with_waiting site e in
       more_follow plant plant excepted site.told [] (Marked site.at ended rows ∷ []) (have_begun plant plant excepted site.told [] (no_call plant excepted site.told));
   does = λ told. tt;
-  volumes = λ told d. refl;
-  images = λ told d. follows_here (on plant (Volume d)) Same (λ b here. refl);
+  volumes = stay_here tells plant;
   durable = λ told. tt;
 }

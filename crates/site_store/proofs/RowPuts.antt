@@ -2,8 +2,9 @@
 use Rattle.std.proofs.Common.{◌≡◌, ℕ, zero, suc, eq-eqb, ◌==◌, ◌+◌, ◌*◌, ◌≤◌, ◌||◌, Bool, true, false, cond, List, [], ◌∷◌, ◌++◌, length, take, drop, get_or, Option, Some, None, refl, sym, ap, ◌∙◌, arith, length-append, append-nil}
 use Rattle.std.specs.Prelude.{slice_get}
 use Rattle.std.specs.List.{list_any, list_all}
-use Rattle.std.proofs.lemmas.Bool.{and_parts}
+use Rattle.std.proofs.lemmas.Bool.{and_from, and_parts}
 use Rattle.std.proofs.lemmas.List.{take_all, take_more, flat_map_more}
+use Rattle.std.proofs.lemmas.List.Folds.{list_all_more}
 use Rattle.std.proofs.lemmas.Option.{slice_get_within, get_or_from_slice_get}
 use Rattle.pair_table.specs.declared.row.PairState.{PairState}
 use Rattle.pair_table.specs.declared.row.PairRow.{PairRow}
@@ -19,7 +20,7 @@ use Rattle.xrc_journal.proofs.Fields.{spelled_length}
 use Rattle.record_rows.specs.ChangedRows.{rows_in_states}
 use Rattle.record_rows.specs.GroupRows.{row_in}
 use Rattle.site_store.proofs.Breaks.{eqb_sym_false}
-use Rattle.site_store.specs.Hits.{Next, pair_in, pair_with_next, pairs_with_next}
+use Rattle.site_store.specs.Hits.{Next, is_row_in, pair_in, pair_with_next, pairs_with_next, stays_row}
 
 -- A row in another state is one.
 pub changed_is_row : (state : PairState) (row : PairRow) → is_state state ≡ true → is_row row ≡ true → is_row (in_state state row) ≡ true
@@ -43,9 +44,10 @@ pub record Puts (next : Next) (held now : Held) (rows : List PairRow) (i : ℕ) 
   pub items_are : now.items ≡ held.items ++ pairs_with_next next (take i rows)
   pub room : now.room ≡ held.room
   pub long : length (body_spelling now.items) ≤ length (body_spelling held.items) + i * 31
+  pub are_rows : list_all (stays_row next) (take i rows) ≡ true
 
 pub puts_first : (next : Next) (held : Held) (rows : List PairRow) → Puts next held held rows 0
-puts_first next held rows = record { items_are = sym (append-nil held.items); room = refl; long = omega arith }
+puts_first next held rows = record { items_are = sym (append-nil held.items); room = refl; long = omega arith; are_rows = refl }
 
 module _ (next : Next) (held now : Held) (rows : List PairRow) (i : ℕ) (row : PairRow) (is : slice_get rows i ≡ Some row) (puts : Puts next held now rows i) where
   more : held.items ++ pairs_with_next next (take (i + 1) rows) ≡ now.items ++ pair_with_next next row
@@ -56,18 +58,25 @@ module _ (next : Next) (held now : Held) (rows : List PairRow) (i : ℕ) (row : 
       ∙ ap (λ (r : PairRow). (held.items ++ pairs_with_next next (take i rows)) ++ pair_with_next next r) (get_or_from_slice_get rows i row row is)
       ∙ ap (λ (l : List Item). l ++ pair_with_next next row) (sym puts.items_are)
 
+  rows_more : stays_row next row ≡ true → list_all (stays_row next) (take (i + 1) rows) ≡ true
+  rows_more here =
+      list_all_more (stays_row next) rows i row (slice_get_within rows i row is)
+      ∙ and_from (list_all (stays_row next) (take i rows)) (stays_row next (get_or rows i row)) puts.are_rows (ap (stays_row next) (get_or_from_slice_get rows i row row is) ∙ here)
+
   pub puts_none : next row ≡ None → Puts next held now rows (i + 1)
   puts_none none = record {
     items_are = sym (more ∙ ap (λ (l : List Item). now.items ++ l) (ap (pair_in row) none) ∙ append-nil now.items);
     room = puts.room;
     long = omega (arith, puts.long);
+    are_rows = rows_more (ap (is_row_in row) none);
   }
 
-  pub puts_one : (state : PairState) (after : Held) → next row ≡ Some state → length (item_spelling (Pair (in_state state row))) ≡ 31 → after ≡ with_item (Pair (in_state state row)) now → Puts next held after rows (i + 1)
-  puts_one state after some long after_is = record {
+  pub puts_one : (state : PairState) (after : Held) → next row ≡ Some state → is_row (in_state state row) ≡ true → after ≡ with_item (Pair (in_state state row)) now → Puts next held after rows (i + 1)
+  puts_one state after some is_one after_is = record {
     items_are = ap (λ (h : Held). h.items) after_is ∙ sym (more ∙ ap (λ (l : List Item). now.items ++ l) (ap (pair_in row) some));
     room = ap (λ (h : Held). h.room) after_is ∙ puts.room;
-    long = omega (arith, puts.long, long, ap (λ (h : Held). length (body_spelling h.items)) after_is, ap length (body_push now.items (Pair (in_state state row))), length-append (body_spelling now.items) (item_spelling (Pair (in_state state row))));
+    long = omega (arith, puts.long, spelled_length (in_state state row) is_one, ap (λ (h : Held). length (body_spelling h.items)) after_is, ap length (body_push now.items (Pair (in_state state row))), length-append (body_spelling now.items) (item_spelling (Pair (in_state state row))));
+    are_rows = rows_more (ap (is_row_in row) some ∙ is_one);
   }
 
 -- All were put.
@@ -76,6 +85,10 @@ puts_all next held now rows i whole puts =
     let all : take i rows ≡ rows = ap (λ (n : ℕ). take n rows) whole ∙ take_all (length rows) rows (omega arith) in
     let are : now.items ≡ held.items ++ pairs_with_next next rows = puts.items_are ∙ ap (λ (l : List PairRow). held.items ++ pairs_with_next next l) all in
     (λ n. record { items = are n; room = puts.room n })
+
+-- Those that change are rows still.
+pub puts_kept : (next : Next) (held now : Held) (rows : List PairRow) (i : ℕ) → length rows ≤ i → Puts next held now rows i → list_all (stays_row next) rows ≡ true
+puts_kept next held now rows i past puts = ap (list_all (stays_row next)) (sym (take_all i rows past)) ∙ puts.are_rows
 
 -- ---- a table
 

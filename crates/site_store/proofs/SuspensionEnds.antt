@@ -34,8 +34,9 @@ use Rattle.site_store.specs.Sites.{SiteState}
 use Rattle.site_store.specs.Standing.{FitsPlant, Leaves, MayRecord, SiteStands, none_excepted}
 use Rattle.site_store.specs.Ways.{is_suspension_spent, way_of}
 use Rattle.site_store.proofs.Below.{below_volumes}
-use Rattle.site_store.proofs.ChangeFirst.{change_begins, change_done, change_stands, mark_begins, mark_done, nothing_first}
+use Rattle.site_store.proofs.ChangeFirst.{change_begins, change_done, change_stands, mark_done, nothing_first}
 use Rattle.site_store.proofs.HitItems.{hits_keep}
+use Rattle.site_store.proofs.MarkFirst.{mark_begins}
 use Rattle.site_store.proofs.HitsLead.{change_leads}
 use Rattle.site_store.proofs.Numbers.{suspension_enough}
 use Rattle.site_store.proofs.RecordPuts.{on_ok}
@@ -241,7 +242,7 @@ module _ (tells : Type 0) (cut : Stamp) (site : SiteState) (old : PlantState) (h
         way = Marked;
         items = items;
         is_way = hit_way Marked (sym marked ∙ way_is);
-        begins = λ told e stands. subst (λ (deeds : List Deed). BeginsDeeds e site.told deeds old new) deeds_are (mark_begins tells site then old new site.mark.ended told_rows ready.idle result makes told e stands);
+        begins = λ told e stands. subst (λ (deeds : List Deed). BeginsDeeds e site.told deeds old new) deeds_are (mark_begins tells site.mark.ended told_rows site then old new result makes ready.idle told e stands);
         does = λ told. subst (λ (deeds : List Deed). OnOk result ((e : Exceptions) → SiteStands e site old → DoesDeeds e site.told deeds old new)) deeds_are (mark_done tells site then old new site.mark.ended told_rows ready.idle result makes told);
       }
 

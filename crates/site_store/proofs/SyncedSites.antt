@@ -8,7 +8,7 @@ use Rattle.crash_plant.specs.Calls.{NoneLent, WorksOn}
 use Rattle.crash_plant.specs.Choices.{Choice, IsChoice}
 use Rattle.crash_plant.specs.Moments.{Follows, IsDurable, PlantState, Same, on}
 use Rattle.crash_plant.proofs.Choices.{part_still}
-use Rattle.crash_plant.proofs.Steps.{follows_then, works_on_more, works_on_trans}
+use Rattle.crash_plant.proofs.Steps.{works_on_more, works_on_trans}
 use Rattle.applier.specs.Back.{OnlyReads, WorksOnLent}
 use Rattle.applier.proofs.Works.{lent_of_works, works_lent_more, works_lent_trans}
 use Rattle.pair_table.specs.declared.row.PairRow.{PairRow}
@@ -34,6 +34,7 @@ use Rattle.site_store.specs.Standing.{AreApplied, Leaves, SiteStands, StandsFast
 use Rattle.site_store.proofs.Calls.{durable_same}
 use Rattle.site_store.proofs.MarkFits.{site_fits}
 use Rattle.site_store.proofs.RecordPuts.{on_ok}
+use Rattle.site_store.proofs.VolumesStaying.{stay_then}
 
 -- Volumes that were written were synced, some jobs failed by this, and nothing else was done.
 pub record IsSynced (tells : Type 0) (site : SiteState) (failed : List Bool) (old mid : PlantState) : Type 0 where
@@ -118,10 +119,7 @@ module _ (tells : Type 0) (site : SiteState) (failed : List Bool) (old mid : Pla
     makes_behind result marks makes = record {
       begins = λ told e stands. begin_behind old mid new (excepted_with_waiting site e) site.told [] (Marked site.at ended rows ∷ []) (no_deed told (excepted_with_waiting site e) site.told) (makes.begins told e (synced_stands told e stands));
       does = λ told. on_ok result (λ does e stands. go_on old mid new (excepted_with_waiting site e) site.told [] (Marked site.at ended rows ∷ []) (no_deed told (excepted_with_waiting site e) site.told) (does e (synced_stands told e stands))) (makes.does told);
-      volumes = λ told d. makes.volumes told d ∙ synced.bytes told (Volume d);
-      images = λ told d.
-          follows_then (on old (Volume d)) (on mid (Volume d)) (on new (Volume d)) Same Same Same (later told) (synced.moments told (Volume d)) ((marks.elapses told).kept (Volume d)) (makes.images told d)
-          (λ p q here e. e) (λ p q r here there e more. more ∙ e);
+      volumes = stay_then tells old mid new synced.works.elapses marks.elapses (record { bytes = λ told d. synced.bytes told (Volume d); images = λ told d. synced.moments told (Volume d) }) makes.volumes;
       durable = makes.durable;
     }
 

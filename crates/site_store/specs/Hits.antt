@@ -8,7 +8,7 @@ use Rattle.pair_table.specs.declared.row.PairState.{PairState}
 use Rattle.pair_table.specs.declared.row.PairState.TheVariants.{Suspended}
 use Rattle.pair_table.specs.declared.row.SuspendCause.TheVariants.{Device, Session}
 use Rattle.pair_table.specs.Devices.{is_among}
-use Rattle.pair_table.specs.Rows.{is_suspended}
+use Rattle.pair_table.specs.Rows.{is_row, is_suspended}
 use Rattle.pair_table.specs.Tables.{in_state}
 use Rattle.pending_queue.specs.Groups.{FormedGroup}
 use Rattle.record_rows.specs.ChangedRows.{later_state}
@@ -31,6 +31,14 @@ pair_in row None = []
 
 abbrev pub pair_with_next : Next → PairRow → List Item
 pair_with_next next row = pair_in row (next row)
+
+-- A row is one in its new state too.
+abbrev pub is_row_in : PairRow → Option PairState → Bool
+is_row_in row (Some state) = is_row (in_state state row)
+is_row_in row None = true
+
+abbrev pub stays_row : Next → PairRow → Bool
+stays_row next row = is_row_in row (next row)
 
 -- the items of the rows that change
 abbrev pub pairs_with_next : Next → List PairRow → List Item

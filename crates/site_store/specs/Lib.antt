@@ -1,4 +1,5 @@
 pub mod Applying
+pub mod Between
 pub mod Causes
 pub mod Changing
 pub mod Commands

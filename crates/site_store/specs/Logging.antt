@@ -209,3 +209,5 @@ pub record LogsGroup (tells : Type 0) (group : FormedGroup) (site next : SiteSta
   pub way : Way
   pub first : FormsFirst tells group site next old way result
   pub logs : LogsBy tells group way site next old new result
+  -- A mark that is made first tells the jobs that had failed when the record was formed first.
+  pub early_has : way ≡ MarkedFirst → (d : ℕ) → IsTrue (is_down first.failed d) → IsTrue (is_down logs.early d)

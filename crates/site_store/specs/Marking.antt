@@ -23,7 +23,7 @@ use Rattle.site_store.specs.Standing.{SiteStands, StandsFast}
 use Rattle.site_deeds.specs.Doing.{BeginsDeeds, DoesDeeds}
 use Rattle.site_deeds.specs.Exceptions.{Exceptions}
 use Rattle.record_rows.specs.Deeds.Deed.{Marked}
-use Rattle.site_store.specs.Records.{behind_mark}
+use Rattle.site_store.specs.Records.{VolumesStay, behind_mark}
 use Rattle.record_rows.specs.Hits.{hit_now, rows_marked}
 use Rattle.record_rows.specs.Records.{rows_with_hits}
 use Rattle.site_store.specs.Ways.{is_mark_spent}
@@ -57,8 +57,7 @@ pub record MakesMark (tells : Type 0) (ended : Bool) (rows : List PairRow) (site
   pub does : tells
       → OnOk result ((e : Exceptions) → SiteStands e site old → DoesDeeds (excepted_with_waiting site e) site.told (Marked site.at ended rows ∷ []) old new)
   -- The volumes stay as they are, and those that were written and whose job hasn't failed are synced.
-  pub volumes : tells → (d : ℕ) → new.bytes (Volume d) ≡ old.bytes (Volume d)
-  pub images : tells → (d : ℕ) → Follows Same (on old (Volume d)) (on new (Volume d))
+  pub volumes : VolumesStay tells old new
   pub durable : tells → OnOk result ((d : ℕ) → is_written site d ≡ true → has_failed next d ≡ false → IsDurable (on new (Volume d)))
 
 -- The mark's rows tell the hits of all jobs that have failed by then.

@@ -2,6 +2,7 @@
 use Rattle.std.specs.Prelude.{◌≡◌, ◌⊎◌, ℕ, ◌+◌, ◌-◌, ◌^◌, ◌==◌, List, [], length, replicate, Bool, true, false, if◌then◌else◌}
 use Rattle.crash_plant.specs.declared.device.Device.{Device}
 use Rattle.crash_plant.specs.declared.device.Device.TheVariants.{Control, State, Journal, Volume}
+use Rattle.crash_plant.specs.Moments.{Follows, PlantState, Same, on}
 use Rattle.pair_table.specs.declared.row.PairRow.{PairRow}
 use Rattle.pair_table.specs.Tables.{with_rows}
 use Rattle.xrc_journal.specs.Items.{Item}
@@ -75,3 +76,8 @@ IsJournal (Volume v) = ⊥
 -- the devices on which a record works, with the switch and the mark that may come before it
 abbrev pub IsOfRecord : SiteState → Device → Type 0
 IsOfRecord site d = IsJournal d ⊎ IsOfMark site d
+
+-- Each volume holds what it held, and at every moment a crash leaves on it what it could leave before.
+pub record VolumesStay (tells : Type 0) (old new : PlantState) : Type 0 where
+  pub bytes : tells → (d : ℕ) → new.bytes (Volume d) ≡ old.bytes (Volume d)
+  pub images : tells → (d : ℕ) → Follows Same (on old (Volume d)) (on new (Volume d))

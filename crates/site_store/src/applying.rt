@@ -63,8 +63,8 @@ fn note_written<V>(written: &mut [bool], due: &[bool], jobs: &[VolumeJob<V>])
 }
 
 impl<V> Site<V> {
-    /// Applies the last group, where its items wait: the volumes of which it has one are lent at once, written side by side, and
-    /// given back in order of their numbers. A job whose volume fails is marked failed, and `suspend` tells it. It takes no memory.
+    /// Applies the last group, where its items wait, to each volume of which it has one and whose job hasn't failed. A job whose
+    /// volume fails is marked failed, and `suspend` tells it. It takes no memory.
     pub fn apply<R: Threads + Sync, P: Plant<Volume = V>>(&mut self, rt: &R, plant: &mut P)
         requires fast { StandsFast P.tells self.old (P.state plant.old) }
         ensures ok { Applies P.tells self.old self.new (P.state plant.old) (P.state plant.new) }

@@ -8,10 +8,10 @@ ghost use Rattle.site_store.specs.declared.store_error.StoreError.TheVariants.{S
 ghost use Rattle.site_store.specs.declared.way.Way.TheVariants.{Marked};
 ghost use Rattle.site_store.specs.Causes.{FailByCounts, HasStoreCause};
 ghost use Rattle.site_store.specs.Changing.{DoesChange, DoesRows, FormsChange, IsBehindChange, LogsChange, MayChange, changed_items, gone_of, named_devices, pairs_of};
-ghost use Rattle.pair_table.specs.Tables.{are_below, with_rows};
+ghost use Rattle.pair_table.specs.Tables.{KeepsRows, are_below, with_rows};
 ghost use Rattle.record_rows.specs.Records.{rows_with_hits};
 ghost use Rattle.site_store.specs.Jobs.{has_job_failed};
-ghost use Rattle.site_store.specs.Records.{IsOfRecord};
+ghost use Rattle.site_store.specs.Records.{IsOfRecord, VolumesStay};
 ghost use Rattle.site_store.specs.Standing.{Leaves};
 ghost use Rattle.site_store.specs.Ways.{is_spent};
 
@@ -26,12 +26,11 @@ use xrc_journal::{Body, VolumeJob};
 
 /// Puts the rows of devices as they stand in the table.
 fn put_rows(body: &mut Body, table: &PairTable, devices: &[u16])
-    requires { length (body_spelling body.old.items) + length devices.now * 31 ≤ body.old.room }
+    requires room { length (body_spelling body.old.items) + length devices.now * 31 ≤ body.old.room }
+    requires rules { KeepsRows table.now.rows }
     ensures put { body.new ≡ record { items = body.old.items ++ pairs_of devices.now table.now.rows; room = body.old.room } }
     ensures short { length (body_spelling body.new.items) ≤ length (body_spelling body.old.items) + length devices.now * 31 }
 {
-    // The rows keep their rules by the table's type.
-    let _valid = table.len();
     for device in devices {
         if let Some(row) = table.row_of(*device) {
             body.put_row(row);
@@ -52,7 +51,8 @@ fn put_gone(body: &mut Body, devices: &[u16])
 
 /// Takes the items of a change in place of those that were there.
 fn take_change(body: &mut Body, table: &PairTable, change: &Change)
-    requires { named_devices change.now * 31 ≤ body.old.room }
+    requires room { named_devices change.now * 31 ≤ body.old.room }
+    requires rules { KeepsRows table.now.rows }
     ensures put { body.new ≡ record { items = changed_items change.now table.now.rows; room = body.old.room } }
     ensures short { length (body_spelling body.new.items) ≤ named_devices change.now * 31 }
 {
@@ -83,11 +83,11 @@ fn form_change<V>(
     ensures some { result ≡ true → changed_items change.now table.now.rows ≢ [] }
     ensures forms { result ≡ true → FormsChange level cut (map has_job_failed jobs.now) change.now table.now.rows body.old body.new }
 {
+    let hits = hits_at(jobs, table, level, cut, false);
     take_change(body, table, change);
     if body.bytes().is_empty() {
         return false;
     }
-    let hits = hits_at(jobs, table, level, cut, false);
     put_hits(body, table, &hits);
     true
 }
@@ -123,6 +123,7 @@ impl<V> Site<V> {
         ensures only { WorksOn P.tells (IsOfRecord self.old) (P.state plant.old) (P.state plant.new) }
         ensures cause { HasStoreCause (P.state plant.old).faults (P.state plant.new).faults result }
         ensures unspent { ¬ IsErrOf result Spent }
+        ensures volumes { VolumesStay P.tells (P.state plant.old) (P.state plant.new) }
         ensures failed { FailByCounts self.old.failed self.new.failed (P.state plant.old).faults (P.state plant.new).faults }
     {
         self.mark_told(plant)?;
@@ -157,6 +158,8 @@ impl<V> Site<V> {
         ensures leaves { OnOk result (Leaves P.tells (λ e. e) self.old self.new (P.state plant.old) (P.state plant.new)) }
         ensures moments { DoesChange P.tells cut.0 change.now self.old self.new (P.state plant.old) (P.state plant.new) result }
         ensures others { WorksOnLent P.tells (IsOfRecord self.old) (P.state plant.old) (P.state plant.new) }
+        ensures volumes { VolumesStay P.tells (P.state plant.old) (P.state plant.new) }
+        ensures uncalled { IsErrOf result Spent → plant.new ≡ plant.old }
         ensures heard_said { P.tells → Silent (P.state plant.old) (P.state plant.new) }
         ensures cause { HasStoreCause (P.state plant.old).faults (P.state plant.new).faults result }
         ensures failed { FailByCounts self.old.failed self.new.failed (P.state plant.old).faults (P.state plant.new).faults }

@@ -1,9 +1,10 @@
 //! The rows that the record of a formed group changes.
 
 ghost use Rattle.std.specs.Prelude.{◌≡◌, ◌<◌, ◌≤◌, ◌+◌, ◌*◌, length, IfSome, IsTrue};
+ghost use Rattle.std.specs.List.{list_all};
 ghost use Rattle.pair_table.specs.Tables.{KeepsRows, are_below, with_rows};
-ghost use Rattle.xrc_journal.specs.Items.{AreItems, anywhere, body_spelling};
-ghost use Rattle.site_store.specs.Hits.{with_group_and_hits};
+ghost use Rattle.xrc_journal.specs.Items.{body_spelling};
+ghost use Rattle.site_store.specs.Hits.{stays_row, with_group_and_hits};
 ghost use Rattle.site_store.specs.Logging.{with_pairs};
 ghost use Rattle.pair_table.specs.Rows.{is_state};
 ghost use Rattle.record_rows.specs.ChangedRows.{rows_in_states};
@@ -55,7 +56,6 @@ fn broken_state(since: Stamp, state: PairState) -> Option<PairState>
     ensures state { result ≡ broken_state since state }
     ensures valid { IfSome result (λ after. IsTrue (is_state after)) }
 {
-    let _valid = since.0;
     match state {
         PairState::Suspended { .. } => None,
         _ => Some(PairState::Suspended {
@@ -92,7 +92,7 @@ pub(crate) fn put_changed(body: &mut Body, table: &PairTable, formed: &Formed, h
     requires room { length (body_spelling body.old.items) + 64 * 31 ≤ body.old.room }
     requires below { IsTrue (are_below 64 table.now.rows) }
     ensures put { body.new ≡ with_pairs (with_group_and_hits formed.now hits.now) table.now.rows body.old }
-    ensures keep { AreItems anywhere body.new.items }
+    ensures keep { IsTrue (list_all (stays_row (with_group_and_hits formed.now hits.now)) table.now.rows) }
     ensures rules { KeepsRows table.now.rows }
     ensures short { length (body_spelling body.new.items) ≤ length (body_spelling body.old.items) + 64 * 31 }
 {
@@ -106,8 +106,6 @@ pub(crate) fn put_changed(body: &mut Body, table: &PairTable, formed: &Formed, h
             body.put_row(&changed);
         }
     }
-    // The items keep the rules on one record by the body's type.
-    let _valid = body.bytes();
 }
 
 /// Gives the rows that a record changes their states after it.

@@ -88,7 +88,8 @@ pub(crate) fn either(one: bool, other: bool) -> bool
 fn hit_devices<V>(jobs: &[VolumeJob<V>], table: &PairTable) -> [bool; MOST_VOLUMES]
     requires below { IsTrue (are_below (length jobs.now) table.now.rows) }
     requires few { length jobs.now ≤ 64 }
-    ensures { (d : ℕ) → d < 64 → slice_index_or result d false ≡ is_among d (hit_now (map has_job_failed jobs.now) table.now.rows) }
+    ensures hit { (d : ℕ) → d < 64 → slice_index_or result d false ≡ is_among d (hit_now (map has_job_failed jobs.now) table.now.rows) }
+    ensures rules { KeepsRows table.now.rows }
 {
     let mut devices = [false; MOST_VOLUMES];
     for place in 0..table.len() {
@@ -122,7 +123,8 @@ pub(crate) fn hits_at<V>(
 ) -> Hits
     requires below { IsTrue (are_below (length jobs.now) table.now.rows) }
     requires few { length jobs.now ≤ 64 }
-    ensures { AreHits level time (map has_job_failed jobs.now) due table.now.rows result }
+    ensures hits { AreHits level time (map has_job_failed jobs.now) due table.now.rows result }
+    ensures rules { KeepsRows table.now.rows }
 {
     let any = is_any_hit(jobs, table);
     Hits {

@@ -9,6 +9,7 @@ ghost use Rattle.site_store.specs.Causes.{FailByCounts, HasStoreCause};
 ghost use Rattle.site_store.specs.Hits.{AreHits};
 ghost use Rattle.site_store.specs.Jobs.{are_home_from, has_job_failed};
 ghost use Rattle.site_store.specs.Logging.{FormsRecord, IsOfEntries, IsOfLog, LogsBy, LogsGroup, MayForm, MayLog};
+ghost use Rattle.site_store.specs.Records.{VolumesStay};
 ghost use Rattle.site_store.specs.Standing.{MayRecord, Leaves};
 
 use crate::forming::form_group;
@@ -64,15 +65,16 @@ impl<V> Site<V> {
         requires rows { self.old.told ≡ self.old.table.rows }
         requires mark { self.old.mark.number < 2 ^ 64 - 2 }
         requires next { self.old.at.number < 2 ^ 64 - 2 }
-        ensures logged { LogsBy P.tells formed.now Marked self.old self.new (P.state plant.old) (P.state plant.new) result }
+        ensures ok { LogsBy P.tells formed.now Marked self.old self.new (P.state plant.old) (P.state plant.new) result }
         ensures leaves { OnOk result (Leaves P.tells (λ e. e) self.old self.new (P.state plant.old) (P.state plant.new)) }
         ensures others { WorksOnLent P.tells (IsOfLog self.old formed.now) (P.state plant.old) (P.state plant.new) }
         ensures cause { HasStoreCause (P.state plant.old).faults (P.state plant.new).faults result }
         ensures unspent { ¬ IsErrOf result Spent }
+        ensures volumes { VolumesStay P.tells (P.state plant.old) (P.state plant.new) }
         ensures failed { FailByCounts self.old.failed self.new.failed (P.state plant.old).faults (P.state plant.new).faults }
     {
-        // A group has few entries by its type.
-        let _few = formed.controls();
+        // The body has room for groups of so many controls.
+        prove!(formed.controls() <= self.controls);
         let reached = self.mark_hits(plant)?;
         let reach = Reach {
             level: self.level,
@@ -113,15 +115,18 @@ impl<V> Site<V> {
     ) -> Result<(), StoreError>
         requires ready { MayRecord P.tells self.old (P.state plant.old) }
         requires may { MayLog self.old formed.now }
-        ensures logged { LogsGroup P.tells formed.now self.old self.new (P.state plant.old) (P.state plant.new) result }
+        ensures ok { LogsGroup P.tells formed.now self.old self.new (P.state plant.old) (P.state plant.new) result }
         ensures leaves { OnOk result (Leaves P.tells (λ e. e) self.old self.new (P.state plant.old) (P.state plant.new)) }
         ensures others { WorksOnLent P.tells (IsOfLog self.old formed.now) (P.state plant.old) (P.state plant.new) }
+        ensures volumes { VolumesStay P.tells (P.state plant.old) (P.state plant.new) }
+        ensures unwritten { IsErrOf result Spent → OnlyReads P.tells (P.state plant.old) (P.state plant.new) }
         ensures heard_said { P.tells → Silent (P.state plant.old) (P.state plant.new) }
         ensures cause { HasStoreCause (P.state plant.old).faults (P.state plant.new).faults result }
         ensures failed { FailByCounts self.old.failed self.new.failed (P.state plant.old).faults (P.state plant.new).faults }
     {
-        // A group has few entries by its type, and no item waits by what the call requires.
-        let _few = formed.controls();
+        // The body has room for groups of so many controls.
+        prove!(formed.controls() <= self.controls);
+        // No item waits by what the call requires.
         self.waits = false;
         let reach = Reach {
             level: self.level,

@@ -1,14 +1,15 @@
 //! The suspensions that failed jobs call for, logged.
 
-ghost use Rattle.std.specs.Prelude.{◌≡◌, ◌≤◌, ◌*◌, length, OnOk, IsTrue};
+ghost use Rattle.std.specs.Prelude.{◌≡◌, ◌≤◌, ◌*◌, length, OnOk, IsErrOf, IsTrue};
 ghost use Rattle.pair_table.specs.Tables.{KeepsRows, are_below};
 ghost use Rattle.xrc_journal.specs.Items.{body_spelling};
 ghost use Rattle.applier.specs.Back.{WorksOnLent};
 ghost use Rattle.crash_plant.specs.Calls.{Silent};
+ghost use Rattle.site_store.specs.declared.store_error.StoreError.TheVariants.{Spent};
 ghost use Rattle.site_store.specs.Causes.{FailByCounts, HasStoreCause};
 ghost use Rattle.site_store.specs.Changing.{DoesSuspend, Suspends};
 ghost use Rattle.site_store.specs.Hits.{pairs_with_next, with_hits};
-ghost use Rattle.site_store.specs.Records.{IsOfRecord};
+ghost use Rattle.site_store.specs.Records.{IsOfRecord, VolumesStay};
 ghost use Rattle.site_store.specs.Standing.{MayRecord, Leaves};
 
 use crate::hits::{Hits, hits_at, is_any_hit, put_hits, take_hits};
@@ -53,6 +54,8 @@ impl<V> Site<V> {
         ensures leaves { OnOk result (Leaves P.tells (λ e. e) self.old self.new (P.state plant.old) (P.state plant.new)) }
         ensures moments { DoesSuspend P.tells cut.0 self.old self.new (P.state plant.old) (P.state plant.new) result }
         ensures others { WorksOnLent P.tells (IsOfRecord self.old) (P.state plant.old) (P.state plant.new) }
+        ensures volumes { VolumesStay P.tells (P.state plant.old) (P.state plant.new) }
+        ensures uncalled { IsErrOf result Spent → plant.new ≡ plant.old }
         ensures heard_said { P.tells → Silent (P.state plant.old) (P.state plant.new) }
         ensures cause { HasStoreCause (P.state plant.old).faults (P.state plant.new).faults result }
         ensures failed { FailByCounts self.old.failed self.new.failed (P.state plant.old).faults (P.state plant.new).faults }

@@ -37,12 +37,12 @@ returns-clause-forms g c e =
     let pairs = pairs_with_next (with_hits hits) rows in
     let put : items ≡ changed_items c.args.change.now rows = ap (λ (h : Held). h.items) c.take_change.ensures.put in
     let stamp : c.args.cut.0 < 2 ^ 64 = omega arith in
-    let time : hits.time.0 < 2 ^ 64 = subst (λ (t : Stamp). t.0 < 2 ^ 64) (sym c.hits_at-hits.ensures.time_is) stamp in
+    let time : hits.time.0 < 2 ^ 64 = subst (λ (t : Stamp). t.0 < 2 ^ 64) (sym c.hits_at-hits.ensures.hits.time_is) stamp in
     record {
       hits = hits;
-      are = c.hits_at-hits.ensures;
+      are = c.hits_at-hits.ensures.hits;
       now_is = c.put_hits.ensures.put ∙ (λ i. record { items = put i ++ pairs; room = (c.take_change.ensures.put i).room });
       rules = c.put_hits.ensures.rules;
-      keep = subst (AreItems anywhere) (sym (ap (λ (h : Held). h.items) c.put_hits.ensures.put)) (keep_both none_earlier items pairs c.bytes.ensures.keep (hits_keep hits time rows c.put_hits.ensures.rules.each));
+      keep = subst (AreItems anywhere) (sym (ap (λ (h : Held). h.items) c.put_hits.ensures.put)) (keep_both anywhere none_earlier items pairs c.bytes.ensures.keep (hits_keep hits time rows c.put_hits.ensures.rules.each));
       short = omega (arith, c.put_hits.ensures.short, c.take_change.ensures.short);
     }

@@ -60,8 +60,8 @@ loop-place-preserved g c =
           ∙ sym (any_more (hits_device failed d) rows i row there);
     }
 
-pub returns : goal.returns
-returns g c d lt =
+pub returns-clause-hit : goal.returns-clause-hit
+returns-clause-hit g c d lt =
     let rows = c.args.table.now.rows in
     let failed = map has_job_failed c.args.jobs.now in
     let all : take c.loop-place.place rows ≡ rows = take_all c.loop-place.place rows (omega (arith, c.loop-place-test.false, c.len-place-end.ensures.count)) in

@@ -4,7 +4,7 @@ use Rattle.std.specs.Option.{option_copied}
 use Rattle.xrc_journal.specs.Bodies.{Held}
 use Rattle.site_store.specs.Hits.{with_hits}
 use Rattle.site_store.proofs.HitRows.{row_below}
-use Rattle.site_store.proofs.RowPuts.{Puts, changed_length, puts_none, puts_one, row_at_is}
+use Rattle.site_store.proofs.RowPuts.{Puts, changed_is_row, changed_length, puts_none, puts_one, row_at_is}
 use Rattle.site_store.proofs.hits.put_hits.Goals as goal
 use Rattle.site_store.proofs.hits.put_hits.Goals.{in-Some-next_state, in_default-next_state}
 
@@ -27,8 +27,8 @@ loop-place-preserved c =
       | in-Some-next_state w ↦
           let state = w.in-Some-next_state.state in
           let next : next_of row ≡ Some state = sym c.next_state.ensures.state ∙ w.in-Some-next_state.is in
-          let long = changed_length state row w.in-Some-next_state.ensures.valid (row_at_is rows i row c.len-place-end.ensures.rules.each there) in
-          puts_one next_of c.args.body.now c.loop-place.body rows i row there c.loop-place.invariant state c.match-next_state.body next long (w.body-is ∙ w.put_row.ensures)
+          let is_one = changed_is_row state row w.in-Some-next_state.ensures.valid (row_at_is rows i row c.len-place-end.ensures.rules.each there) in
+          puts_one next_of c.args.body.now c.loop-place.body rows i row there c.loop-place.invariant state c.match-next_state.body next is_one (w.body-is ∙ w.put_row.ensures)
       | in_default-next_state w ↦
           let none : next_of row ≡ None = sym c.next_state.ensures.state ∙ w.in_default-next_state.is in
           subst (λ (h : Held). Puts next_of c.args.body.now h rows (i + 1)) (sym w.body-is) (puts_none next_of c.args.body.now c.loop-place.body rows i row there c.loop-place.invariant none)

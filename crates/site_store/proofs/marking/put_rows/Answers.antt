@@ -20,5 +20,5 @@ pub returns-clause-rows : goal.returns-clause-rows
 returns-clause-rows g c =
     let rows = c.args.table.now.rows in
     let below = below_more (g.P.Plant.state c.args.plant.now).volumes 64 rows c.requires.jobs.1 c.requires.may.devices in
-    let made = hits_make_rows c.args.levels.1 c.args.mark.now.time (map has_job_failed c.args.jobs.now) rows c.hits_at-hits.result c.hits_at-hits.ensures below in
+    let made = hits_make_rows c.args.levels.1 c.args.mark.now.time (map has_job_failed c.args.jobs.now) rows c.hits_at-hits.result c.hits_at-hits.ensures.hits below in
     c.take_hits.ensures ∙ ap (with_rows c.args.table.now) made

@@ -2,6 +2,7 @@ use Rattle.std.proofs.Common.{◌∙◌, sym, ap, Some}
 use Rattle.std.specs.Option.{is_some}
 use Rattle.lane_feed.specs.Feeds.{FeedState}
 use Rattle.lane_feed.specs.declared.reading.Reading.{Reading}
+use Rattle.lane_feed.proofs.Below.{nothing_breaks, step_below, below_in_turn}
 use Rattle.lane_feed.proofs.Telling.{tells_nothing, tells_step, tells_in_turn, holds_batch, fault_behind, refused_behind}
 use Rattle.lane_feed.proofs.feed.Feed.read_once.Goals as goal
 
@@ -38,3 +39,18 @@ returns-in-Some-hand_over-clause-refused g c = λ room held. absurd (c.hand_over
 pub returns-in-None-clause-refused : goal.returns-in-None-clause-refused
 returns-in-None-clause-refused g c =
     refused_behind _ _ (g.T.Teller.state c.args.teller.now) (g.T.Teller.state c.hand_over.new.teller) _ (ap (λ t. g.T.Teller.state t) (c.hand_over.ensures.untold c.in-None.is)) c.join_held-in-None.ensures.refused
+
+pub returns-in-Some-clause-below : goal.returns-in-Some-clause-below
+returns-in-Some-clause-below g c = nothing_breaks _ _ _ _
+
+pub returns-then-is_some-clause-below : goal.returns-then-is_some-clause-below
+returns-then-is_some-clause-below g c = step_below _ _ c.args.limit _ _ _ _ (c.join_held.ensures.steps (g.S.Source.left c.args.source.now) c.args.limit)
+
+pub returns-in-Some-hand_over-clause-below : goal.returns-in-Some-hand_over-clause-below
+returns-in-Some-hand_over-clause-below g c = step_below _ _ c.args.limit _ _ _ _ c.hand_over.ensures.steps
+
+pub returns-in-None-clause-below : goal.returns-in-None-clause-below
+returns-in-None-clause-below g c =
+    let first = c.hand_over.ensures.steps in
+    let then = c.join_held-in-None.ensures.steps (g.S.Source.left c.hand_over.new.source) c.args.limit in
+    below_in_turn c.args.limit.0 _ _ _ _ _ _ _ _ _ (tells_step _ _ c.args.limit _ _ _ _ first) (step_below _ _ c.args.limit _ _ _ _ first) (tells_step _ _ c.args.limit _ _ _ _ then) (step_below _ _ c.args.limit _ _ _ _ then)

@@ -13,7 +13,7 @@ use Rattle.site_store.specs.declared.way.Way.{Way}
 use Rattle.site_store.specs.declared.way.Way.TheVariants.{Marked as MarkedFirst}
 use Rattle.site_store.specs.Causes.{FailByCounts, HasStoreCause}
 use Rattle.site_store.specs.Jobs.{are_home_from, has_job_failed}
-use Rattle.site_store.specs.Logging.{LogsGroup, MayLog}
+use Rattle.site_store.specs.Logging.{IsOfEntries, LogsGroup, MayLog}
 use Rattle.site_store.specs.Records.{one_more}
 use Rattle.site_store.specs.Sites.{SiteState}
 use Rattle.site_store.specs.Standing.{MayRecord}
@@ -26,6 +26,7 @@ use Rattle.site_store.proofs.LogFails.{none_by_journals, none_fails}
 use Rattle.site_store.proofs.LogPut.{logged_site}
 use Rattle.site_store.proofs.LogReads.{with_failed}
 use Rattle.site_store.proofs.LogStart.{one_more_is, room_formed}
+use Rattle.site_store.proofs.VolumesStaying.{stay_logged, stay_read, stay_then}
 use Rattle.site_store.proofs.site.Site.log.Goals as goal
 
 -- ---- the record is formed
@@ -52,7 +53,7 @@ form_record-hits-requires-clause-may g c κs within =
 pub form_record-hits-requires-clause-room : goal.form_record-hits-requires-clause-room
 form_record-hits-requires-clause-room g c κs within =
     let may : MayLog _ c.args.formed.now = subst (λ (x : SiteState). MayLog x c.args.formed.now) (sym c.self.view_is) c.requires.may in
-    room_formed c.self.inside.controls c.args.formed.now.controls c.self.inside.body.room c.args.formed.now.entries c.self.invariant.room_is may.controls c.controls-few.ensures.few
+    room_formed c.self.inside.controls c.args.formed.now.controls c.self.inside.body.room c.args.formed.now.entries c.self.invariant.room_is may.controls c.controls.ensures.few
 
 pub way_from-way-requires-clause-room : goal.way_from-way-requires-clause-room
 way_from-way-requires-clause-room g c κs within =
@@ -74,7 +75,7 @@ way_from-way-requires-clause-room g c κs within =
     let hits = c.form_record-hits.result in
     let way : Way = way_from mid site.at site.mark.at items in
     let first : IsFirst tells group site old mid failed items way = is_first tells group site old mid s.body c.form_record-hits.new.body c.form_record-hits.new.due (map has_job_failed c.deref_mut.result.now) failed hits ready told_is f.forms f.hits
-    way may was_is f.fails f.reads f.home f.only c.controls-few.ensures.few refl in
+    way may was_is f.fails f.reads f.home f.only c.controls.ensures.few refl in
     room_there tells group site old mid failed items way first
 
 -- ---- the numbers don't suffice
@@ -116,16 +117,18 @@ returns-then-record_needs_more g c =
     let hits = c.form_record-hits.result in
     let way : Way = c.way_from-way.result in
     let first : IsFirst tells group site old mid failed items way = is_first tells group site old mid s.body c.form_record-hits.new.body c.form_record-hits.new.due (map has_job_failed c.deref_mut.result.now) failed hits ready told_is f.forms f.hits
-    way may was_is f.fails f.reads f.home f.only c.controls-few.ensures.few c.way_from-way.ensures in
+    way may was_is f.fails f.reads f.home f.only c.controls.ensures.few c.way_from-way.ensures in
     let now_is : (with_items s.jobs c.form_record-hits.new.jobs).items ≡ c.form_record-hits.new.jobs = with_items_is s.jobs c.form_record-hits.new.jobs (omega (arith, c.form_record-hits.auto.jobs, c.deref_mut.ensures.len, s.jobs.ok.0)) in
     let failed_is : map has_job_failed (with_items s.jobs c.form_record-hits.new.jobs).items ≡ failed = λ i. map has_job_failed (now_is i) in
     let last : SiteState = record { controls = s.controls; level = s.level; table = s.table; is_ahead = s.ahead; told = cond s.ahead s.told.rows s.table.rows; time = s.time.0; mark = s.mark; at = s.journal.at; since = s.since; waiting = []; failed = map has_job_failed (with_items s.jobs c.form_record-hits.new.jobs).items; written = s.written.items } in
     let last_is : last ≡ with_failed failed site = λ i. record site { waiting = sym ready.idle i; failed = failed_is i } in
     let spent : is_spent way site ≡ true = sym c.record_needs_more.ensures ∙ c.if-record_needs_more.true in
     record {
-      logged = exits.spent_logged tells group site old mid failed items way first start last is failed_is spent;
+      ok = exits.spent_logged tells group site old mid failed items way first start last is failed_is spent;
       leaves = tt;
       others = exits.spent_others tells group site old mid failed items way first start is;
+      volumes = stay_read tells old mid f.reads;
+      unwritten = λ spent. f.reads;
       heard_said = λ told. (exits.spent_others tells group site old mid failed items way first start is).silent told;
       cause = exits.spent_causes tells group site old mid failed items way first;
       failed = exits.spent_failed tells group site old mid failed items way first start last is failed_is;
@@ -170,7 +173,7 @@ log_group_behind_mark-requires-clause-ready g c κs within =
     let hits = c.form_record-hits.result in
     let way : Way = c.way_from-way.result in
     let first : IsFirst tells group site old mid failed items way = is_first tells group site old mid s.body c.form_record-hits.new.body c.form_record-hits.new.due (map has_job_failed c.deref_mut.result.now) failed hits ready told_is f.forms f.hits
-    way may was_is f.fails f.reads f.home f.only c.controls-few.ensures.few c.way_from-way.ensures in
+    way may was_is f.fails f.reads f.home f.only c.controls.ensures.few c.way_from-way.ensures in
     let now_is : (with_items s.jobs c.form_record-hits.new.jobs).items ≡ c.form_record-hits.new.jobs = with_items_is s.jobs c.form_record-hits.new.jobs (omega (arith, c.form_record-hits.auto.jobs, c.deref_mut.ensures.len, s.jobs.ok.0)) in
     let failed_is : map has_job_failed (with_items s.jobs c.form_record-hits.new.jobs).items ≡ failed = λ i. map has_job_failed (now_is i) in
     let last : SiteState = record { controls = s.controls; level = s.level; table = s.table; is_ahead = s.ahead; told = cond s.ahead s.told.rows s.table.rows; time = s.time.0; mark = s.mark; at = s.journal.at; since = s.since; waiting = []; failed = map has_job_failed (with_items s.jobs c.form_record-hits.new.jobs).items; written = s.written.items } in
@@ -197,7 +200,7 @@ log_group_behind_mark-requires-clause-may g c κs within =
     let hits = c.form_record-hits.result in
     let way : Way = c.way_from-way.result in
     let first : IsFirst tells group site old mid failed items way = is_first tells group site old mid s.body c.form_record-hits.new.body c.form_record-hits.new.due (map has_job_failed c.deref_mut.result.now) failed hits ready told_is f.forms f.hits
-    way may was_is f.fails f.reads f.home f.only c.controls-few.ensures.few c.way_from-way.ensures in
+    way may was_is f.fails f.reads f.home f.only c.controls.ensures.few c.way_from-way.ensures in
     let now_is : (with_items s.jobs c.form_record-hits.new.jobs).items ≡ c.form_record-hits.new.jobs = with_items_is s.jobs c.form_record-hits.new.jobs (omega (arith, c.form_record-hits.auto.jobs, c.deref_mut.ensures.len, s.jobs.ok.0)) in
     let failed_is : map has_job_failed (with_items s.jobs c.form_record-hits.new.jobs).items ≡ failed = λ i. map has_job_failed (now_is i) in
     let last : SiteState = record { controls = s.controls; level = s.level; table = s.table; is_ahead = s.ahead; told = cond s.ahead s.told.rows s.table.rows; time = s.time.0; mark = s.mark; at = s.journal.at; since = s.since; waiting = []; failed = map has_job_failed (with_items s.jobs c.form_record-hits.new.jobs).items; written = s.written.items } in
@@ -224,7 +227,7 @@ log_group_behind_mark-requires-clause-rows g c κs within =
     let hits = c.form_record-hits.result in
     let way : Way = c.way_from-way.result in
     let first : IsFirst tells group site old mid failed items way = is_first tells group site old mid s.body c.form_record-hits.new.body c.form_record-hits.new.due (map has_job_failed c.deref_mut.result.now) failed hits ready told_is f.forms f.hits
-    way may was_is f.fails f.reads f.home f.only c.controls-few.ensures.few c.way_from-way.ensures in
+    way may was_is f.fails f.reads f.home f.only c.controls.ensures.few c.way_from-way.ensures in
     let now_is : (with_items s.jobs c.form_record-hits.new.jobs).items ≡ c.form_record-hits.new.jobs = with_items_is s.jobs c.form_record-hits.new.jobs (omega (arith, c.form_record-hits.auto.jobs, c.deref_mut.ensures.len, s.jobs.ok.0)) in
     let failed_is : map has_job_failed (with_items s.jobs c.form_record-hits.new.jobs).items ≡ failed = λ i. map has_job_failed (now_is i) in
     let last : SiteState = record { controls = s.controls; level = s.level; table = s.table; is_ahead = s.ahead; told = cond s.ahead s.told.rows s.table.rows; time = s.time.0; mark = s.mark; at = s.journal.at; since = s.since; waiting = []; failed = map has_job_failed (with_items s.jobs c.form_record-hits.new.jobs).items; written = s.written.items } in
@@ -251,7 +254,7 @@ log_group_behind_mark-requires-clause-mark g c κs within =
     let hits = c.form_record-hits.result in
     let way : Way = c.way_from-way.result in
     let first : IsFirst tells group site old mid failed items way = is_first tells group site old mid s.body c.form_record-hits.new.body c.form_record-hits.new.due (map has_job_failed c.deref_mut.result.now) failed hits ready told_is f.forms f.hits
-    way may was_is f.fails f.reads f.home f.only c.controls-few.ensures.few c.way_from-way.ensures in
+    way may was_is f.fails f.reads f.home f.only c.controls.ensures.few c.way_from-way.ensures in
     let enough : is_spent way site ≡ false = sym c.record_needs_more.ensures ∙ c.if-record_needs_more.false in
     let marked : way ≡ MarkedFirst = c.in-Marked.is in
     mark_number tells group site old mid failed items way first marked enough
@@ -276,7 +279,7 @@ log_group_behind_mark-requires-clause-next g c κs within =
     let hits = c.form_record-hits.result in
     let way : Way = c.way_from-way.result in
     let first : IsFirst tells group site old mid failed items way = is_first tells group site old mid s.body c.form_record-hits.new.body c.form_record-hits.new.due (map has_job_failed c.deref_mut.result.now) failed hits ready told_is f.forms f.hits
-    way may was_is f.fails f.reads f.home f.only c.controls-few.ensures.few c.way_from-way.ensures in
+    way may was_is f.fails f.reads f.home f.only c.controls.ensures.few c.way_from-way.ensures in
     let enough : is_spent way site ≡ false = sym c.record_needs_more.ensures ∙ c.if-record_needs_more.false in
     let marked : way ≡ MarkedFirst = c.in-Marked.is in
     next_number tells group site old mid failed items way first marked enough
@@ -301,7 +304,7 @@ returns-in-Marked g c =
     let hits = c.form_record-hits.result in
     let way : Way = c.way_from-way.result in
     let first : IsFirst tells group site old mid failed items way = is_first tells group site old mid s.body c.form_record-hits.new.body c.form_record-hits.new.due (map has_job_failed c.deref_mut.result.now) failed hits ready told_is f.forms f.hits
-    way may was_is f.fails f.reads f.home f.only c.controls-few.ensures.few c.way_from-way.ensures in
+    way may was_is f.fails f.reads f.home f.only c.controls.ensures.few c.way_from-way.ensures in
     let now_is : (with_items s.jobs c.form_record-hits.new.jobs).items ≡ c.form_record-hits.new.jobs = with_items_is s.jobs c.form_record-hits.new.jobs (omega (arith, c.form_record-hits.auto.jobs, c.deref_mut.ensures.len, s.jobs.ok.0)) in
     let failed_is : map has_job_failed (with_items s.jobs c.form_record-hits.new.jobs).items ≡ failed = λ i. map has_job_failed (now_is i) in
     let last : SiteState = record { controls = s.controls; level = s.level; table = s.table; is_ahead = s.ahead; told = cond s.ahead s.told.rows s.table.rows; time = s.time.0; mark = s.mark; at = s.journal.at; since = s.since; waiting = []; failed = map has_job_failed (with_items s.jobs c.form_record-hits.new.jobs).items; written = s.written.items } in
@@ -312,9 +315,11 @@ returns-in-Marked g c =
     let enough : is_spent way site ≡ false = sym c.record_needs_more.ensures ∙ c.if-record_needs_more.false in
     let marked : way ≡ MarkedFirst = c.in-Marked.is in
     record {
-      logged = exits.behind_logged tells group site old mid failed items way first start next last new c.log_group_behind_mark.result is last_is marked enough k.logged k.failed k.unspent;
+      ok = exits.behind_logged tells group site old mid failed items way first start next last new c.log_group_behind_mark.result is last_is marked enough k.ok k.failed k.unspent;
       leaves = exits.behind_leaves tells group site old mid failed items way first start next last new c.log_group_behind_mark.result is last_is k.leaves;
       others = exits.behind_others tells group site old mid failed items way first start next last new c.log_group_behind_mark.result is last_is k.others;
+      volumes = stay_then tells old mid new f.only.elapses k.others.elapses (stay_read tells old mid f.reads) k.volumes;
+      unwritten = λ spent. absurd (k.unspent spent);
       heard_said = λ told. (exits.behind_others tells group site old mid failed items way first start next last new c.log_group_behind_mark.result is last_is k.others).silent told;
       cause = exits.behind_cause tells group site old mid failed items way first start next last new c.log_group_behind_mark.result is last_is k.cause;
       failed = exits.behind_failed tells group site old mid failed items way first start next last new c.log_group_behind_mark.result is last_is k.failed;
@@ -342,7 +347,7 @@ put_record-requires-clause-may g c κs within =
     let hits = c.form_record-hits.result in
     let way : Way = c.way_from-way.result in
     let first : IsFirst tells group site old mid failed items way = is_first tells group site old mid s.body c.form_record-hits.new.body c.form_record-hits.new.due (map has_job_failed c.deref_mut.result.now) failed hits ready told_is f.forms f.hits
-    way may was_is f.fails f.reads f.home f.only c.controls-few.ensures.few c.way_from-way.ensures in
+    way may was_is f.fails f.reads f.home f.only c.controls.ensures.few c.way_from-way.ensures in
     let enough : is_spent way site ≡ false = sym c.record_needs_more.ensures ∙ c.if-record_needs_more.false in
     let plain : way ≢ MarkedFirst = λ marked. elim c.in-Here.is [ inl here ↦ cc (here, marked) | inr switched ↦ cc (switched, marked) ] in
     let read = λ (told : tells). read_choice mid f.home (λ d there. g.met.P.Plant.read_is_image c.form_record-hits.new.plant d told there) in
@@ -369,7 +374,7 @@ returns-in_err-put_record g c =
     let hits = c.form_record-hits.result in
     let way : Way = c.way_from-way.result in
     let first : IsFirst tells group site old mid failed items way = is_first tells group site old mid s.body c.form_record-hits.new.body c.form_record-hits.new.due (map has_job_failed c.deref_mut.result.now) failed hits ready told_is f.forms f.hits
-    way may was_is f.fails f.reads f.home f.only c.controls-few.ensures.few c.way_from-way.ensures in
+    way may was_is f.fails f.reads f.home f.only c.controls.ensures.few c.way_from-way.ensures in
     let enough : is_spent way site ≡ false = sym c.record_needs_more.ensures ∙ c.if-record_needs_more.false in
     let plain : way ≢ MarkedFirst = λ marked. elim c.in-Here.is [ inl here ↦ cc (here, marked) | inr switched ↦ cc (switched, marked) ] in
     let read = λ (told : tells). read_choice mid f.home (λ d there. g.met.P.Plant.read_is_image c.form_record-hits.new.plant d told there) in
@@ -388,10 +393,12 @@ returns-in_err-put_record g c =
     let unspent : ¬ IsErrOf {T = Unit {0}} (Err error) Spent = c.in_err-put_record.ensures.unspent in
     let fails : FailByCounts failed last.failed mid.faults new.faults = subst (λ (l : List Bool). FailByCounts failed l mid.faults new.faults) (sym failed_is) (none_fails failed mid.faults new.faults (none_by_journals tells mid new works)) in
     record {
-      logged = subst (λ (r : Result (Unit {0}) StoreError). LogsGroup tells group start last old new r) err_is
+      ok = subst (λ (r : Result (Unit {0}) StoreError). LogsGroup tells group start last old new r) err_is
           (plain_group tells group site old mid failed items way first plain enough start last new (Err error) is unspent fails (λ other. tt) (exits.end_fails tells group way site (with_failed failed site) after old mid new items stage read works start is s.journal.marked c.cut.result.0 c.self.invariant.marked_is (ap (λ (t : Stamp). t.0) c.cut.ensures) last error failed_is shows));
       leaves = search rules;
       others = exits.end_others tells group way site (with_failed failed site) after old mid new items stage read works start is;
+      volumes = stay_logged tells (IsOfEntries site.table.rows group.entries) old mid new f.reads f.only works;
+      unwritten = λ spent. absurd (subst (λ (r : Result (Unit {0}) StoreError). ¬ IsErrOf r Spent) err_is unspent spent);
       heard_said = λ told. (exits.end_others tells group way site (with_failed failed site) after old mid new items stage read works start is).silent told;
       cause = exits.end_cause tells group way site (with_failed failed site) after old mid new items stage read works start is result (subst (λ (r : Result (Unit {0}) StoreError). HasStoreCause mid.faults new.faults r) err_is c.in_err-put_record.ensures.cause);
       failed = exits.end_failed tells group way site (with_failed failed site) after old mid new items stage read works start is last failed_is;
@@ -456,7 +463,7 @@ returns g c =
     let hits = c.form_record-hits.result in
     let way : Way = c.way_from-way.result in
     let first : IsFirst tells group site old mid failed items way = is_first tells group site old mid s.body c.form_record-hits.new.body c.form_record-hits.new.due (map has_job_failed c.deref_mut.result.now) failed hits ready told_is f.forms f.hits
-    way may was_is f.fails f.reads f.home f.only c.controls-few.ensures.few c.way_from-way.ensures in
+    way may was_is f.fails f.reads f.home f.only c.controls.ensures.few c.way_from-way.ensures in
     let enough : is_spent way site ≡ false = sym c.record_needs_more.ensures ∙ c.if-record_needs_more.false in
     let plain : way ≢ MarkedFirst = λ marked. elim c.in-Here.is [ inl here ↦ cc (here, marked) | inr switched ↦ cc (switched, marked) ] in
     let read = λ (told : tells). read_choice mid f.home (λ d there. g.met.P.Plant.read_is_image c.form_record-hits.new.plant d told there) in
@@ -476,9 +483,11 @@ returns g c =
     let shows = c.in_ok-put_record.ensures.shows in
     let fails : FailByCounts failed last.failed mid.faults new.faults = subst (λ (l : List Bool). FailByCounts failed l mid.faults new.faults) (sym failed_is) (none_fails failed mid.faults new.faults (none_by_journals tells mid new works)) in
     record {
-      logged = plain_group tells group site old mid failed items way first plain enough start last new (Ok tt) is (λ e. cc e) fails (λ other. refl) (exits.end_logs tells group way site (with_failed failed site) after old mid new items stage read works start is s.journal.marked c.cut.result.0 c.self.invariant.marked_is (ap (λ (t : Stamp). t.0) c.cut.ensures) last last_is shows);
+      ok = plain_group tells group site old mid failed items way first plain enough start last new (Ok tt) is (λ e. cc e) fails (λ other. refl) (exits.end_logs tells group way site (with_failed failed site) after old mid new items stage read works start is s.journal.marked c.cut.result.0 c.self.invariant.marked_is (ap (λ (t : Stamp). t.0) c.cut.ensures) last last_is shows);
       leaves = exits.end_leaves tells group way site (with_failed failed site) after old mid new items stage read works start is s.journal.marked c.cut.result.0 c.self.invariant.marked_is (ap (λ (t : Stamp). t.0) c.cut.ensures) last last_is shows;
       others = exits.end_others tells group way site (with_failed failed site) after old mid new items stage read works start is;
+      volumes = stay_logged tells (IsOfEntries site.table.rows group.entries) old mid new f.reads f.only works;
+      unwritten = λ spent. cc spent;
       heard_said = λ told. (exits.end_others tells group way site (with_failed failed site) after old mid new items stage read works start is).silent told;
       cause = exits.end_cause tells group way site (with_failed failed site) after old mid new items stage read works start is (Ok tt) c.in_ok-put_record.ensures.cause;
       failed = exits.end_failed tells group way site (with_failed failed site) after old mid new items stage read works start is last failed_is;

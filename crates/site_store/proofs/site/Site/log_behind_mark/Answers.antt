@@ -16,6 +16,7 @@ use Rattle.site_store.proofs.ChangeFirst.{fail_first, record_works}
 use Rattle.site_store.proofs.RowEnds.{with_told_mark}
 use Rattle.site_store.proofs.RowRoom.{reads_choice, some_choice}
 use Rattle.site_store.proofs.Views.{at_error, ends_there, flags_below, jobs_below, keeps_still, may_put_there, second_of, shows_there, taken_view}
+use Rattle.site_store.proofs.VolumesStaying.{stay_put, stay_then}
 use Rattle.site_store.proofs.site.Site.log_behind_mark.Given as given
 use Rattle.site_store.proofs.site.Site.log_behind_mark.Goals as goal
 use Rattle.site_store.proofs.site.Site.log_behind_mark.Goals.{After-form_change}
@@ -227,3 +228,22 @@ returns-clause-failed g c =
     let new = (g.P.Plant.state c.put_record.new.plant).faults in
     subst (λ (now : List Bool). FailByCounts failed now was new) (sym (ap (λ (x : SiteState). x.failed) c.take_logged.ensures ∙ ap (λ (x : SiteState). x.failed) c.self.view_is))
     (fail_first failed c.mark_told.new.self.failed was (g.P.Plant.state c.mark_told.new.plant).faults new c.put_record.ensures.only.others_faults c.mark_told.ensures.failed)
+
+-- ---- the volumes stay
+
+pub returns-in_err-mark_told-clause-volumes : goal.returns-in_err-mark_told-clause-volumes
+returns-in_err-mark_told-clause-volumes g c = c.mark_told.ensures.makes.volumes
+
+pub returns-in_err-put_record-clause-volumes : goal.returns-in_err-put_record-clause-volumes
+returns-in_err-put_record-clause-volumes g c =
+    let tells = g.P.Plant.tells in
+    let mid = g.P.Plant.state c.mark_told.new.plant in
+    let new = g.P.Plant.state c.put_record.new.plant in
+    stay_then tells (g.P.Plant.state c.args.plant.now) mid new c.mark_told.ensures.only.elapses c.put_record.ensures.only.elapses c.mark_told.ensures.makes.volumes (stay_put tells mid new c.put_record.ensures.only)
+
+pub returns-clause-volumes : goal.returns-clause-volumes
+returns-clause-volumes g c =
+    let tells = g.P.Plant.tells in
+    let mid = g.P.Plant.state c.mark_told.new.plant in
+    let new = g.P.Plant.state c.put_record.new.plant in
+    stay_then tells (g.P.Plant.state c.args.plant.now) mid new c.mark_told.ensures.only.elapses c.put_record.ensures.only.elapses c.mark_told.ensures.makes.volumes (stay_put tells mid new c.put_record.ensures.only)

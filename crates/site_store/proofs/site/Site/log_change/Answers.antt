@@ -22,6 +22,7 @@ use Rattle.site_store.proofs.ChangeFirst.{fail_first, none_fail}
 use Rattle.site_store.proofs.RowEnds.{plain_behind}
 use Rattle.site_store.proofs.RowRoom.{reads_choice}
 use Rattle.site_store.proofs.Views.{at_error, ends_there, flags_below, idle_site, jobs_below, keeps_still, last_way, may_put_there, rows_taken, shows_there, taken_view}
+use Rattle.site_store.proofs.VolumesStaying.{stay_here, stay_put}
 use Rattle.site_store.proofs.site.Site.log_change.Given as given
 use Rattle.site_store.proofs.site.Site.log_change.Goals as goal
 use Rattle.site_store.proofs.site.Site.log_change.Goals.{After-way_from-way}
@@ -322,3 +323,17 @@ returns-clause-failed g c =
     let new = (g.P.Plant.state c.put_record.new.plant).faults in
     subst (λ (now : List Bool). FailByCounts failed now was new) (sym (ap (λ (x : SiteState). x.failed) c.take_logged.ensures ∙ ap (λ (x : SiteState). x.failed) c.self.view_is))
     (fail_first failed failed was was new c.put_record.ensures.only.others_faults (none_fail failed was))
+
+-- ---- the volumes stay
+
+pub returns-then-not-form_change-clause-volumes : goal.returns-then-not-form_change-clause-volumes
+returns-then-not-form_change-clause-volumes g c = stay_here g.P.Plant.tells (g.P.Plant.state c.args.plant.now)
+
+pub returns-then-record_needs_more-clause-volumes : goal.returns-then-record_needs_more-clause-volumes
+returns-then-record_needs_more-clause-volumes g c = stay_here g.P.Plant.tells (g.P.Plant.state c.args.plant.now)
+
+pub returns-in_err-put_record-clause-volumes : goal.returns-in_err-put_record-clause-volumes
+returns-in_err-put_record-clause-volumes g c = stay_put g.P.Plant.tells (g.P.Plant.state c.args.plant.now) (g.P.Plant.state c.put_record.new.plant) c.put_record.ensures.only
+
+pub returns-clause-volumes : goal.returns-clause-volumes
+returns-clause-volumes g c = stay_put g.P.Plant.tells (g.P.Plant.state c.args.plant.now) (g.P.Plant.state c.put_record.new.plant) c.put_record.ensures.only

@@ -13,8 +13,8 @@ use Rattle.site_store.specs.declared.way.Way.TheVariants.{Marked as MarkedFirst}
 use Rattle.site_store.specs.Causes.{HasStoreCause}
 use Rattle.site_store.specs.Hits.{are_some}
 use Rattle.site_store.specs.Jobs.{are_home_from, has_job_failed}
-use Rattle.site_store.specs.Logging.{LogsBy}
-use Rattle.site_store.specs.Records.{one_more}
+use Rattle.site_store.specs.Logging.{IsOfEntries, LogsBy}
+use Rattle.site_store.specs.Records.{IsOfMark, one_more}
 use Rattle.site_store.specs.Sites.{SiteState}
 use Rattle.site_store.proofs.Below.{below_volumes}
 use Rattle.site_store.proofs.LogContent.{read_choice}
@@ -25,6 +25,7 @@ use Rattle.site_store.proofs.LogForms as forms
 use Rattle.site_store.proofs.LogPut.{logged_site}
 use Rattle.site_store.proofs.LogReads.{with_failed}
 use Rattle.site_store.proofs.LogStart.{one_more_is, room_formed}
+use Rattle.site_store.proofs.VolumesStaying.{stay_behind}
 use Rattle.site_store.proofs.site.Site.log_group_behind_mark.Goals as goal
 
 -- ---- the mark fails
@@ -41,12 +42,13 @@ returns-in_err-reached g c =
     let err_is : Err error ≡ result = search rules in
     let m = c.mark_hits.ensures in
     record {
-      logged = subst (λ (r : Result (Unit {0}) StoreError). LogsBy tells group MarkedFirst site c.mark_hits.new.self old marked r) err_is
+      ok = subst (λ (r : Result (Unit {0}) StoreError). LogsBy tells group MarkedFirst site c.mark_hits.new.self old marked r) err_is
           (forms.mark_fails tells group site c.mark_hits.new.self.failed old marked c.mark_hits.new.self (Err error) c.requires.ready.idle c.in_err-reached.ensures.makes m.only m.failed c.mark_hits.new.self error refl refl);
       leaves = search rules;
       others = forms.marked_works tells group site c.mark_hits.new.self.failed old marked c.mark_hits.new.self _ c.requires.ready.idle m.makes m.only m.failed;
       cause = subst (λ (r : Result (Unit {0}) StoreError). HasStoreCause (g.P.Plant.state c.args.plant.now).faults (g.P.Plant.state c.mark_hits.new.plant).faults r) err_is c.in_err-reached.ensures.cause;
       unspent = search rules;
+      volumes = m.makes.volumes;
       failed = c.mark_hits.ensures.failed;
     }
 
@@ -59,23 +61,23 @@ form_record-hits-requires-clause-may g c κs within =
     let group = c.args.formed.now in
     let old = g.P.Plant.state c.args.plant.now in
     let marked = g.P.Plant.state c.mark_hits.new.plant in
-    let s = c.self.inside in
+    let s = c.self-2.inside in
     let behind : SiteState = record { controls = s.controls; level = s.level; table = s.table; is_ahead = s.ahead; told = cond s.ahead s.told.rows s.table.rows; time = s.time.0; mark = s.mark; at = s.journal.at; since = s.since; waiting = cond s.waits s.body.items []; failed = map has_job_failed s.jobs.items; written = s.written.items } in
     let m = c.in_ok-reached.ensures in
     let made_there : MadeMark tells site c.mark_hits.new.self old marked = record { is = m.ok; leaves = m.leaves; makes = m.makes; works = c.mark_hits.ensures.only; quiet = quiet_ok old.faults marked.faults m.cause; fails = c.mark_hits.ensures.failed } in
-    let made : MadeMark tells site behind old marked = subst (λ (x : SiteState). MadeMark tells site x old marked) (sym c.self.view_is) made_there in
+    let made : MadeMark tells site behind old marked = subst (λ (x : SiteState). MadeMark tells site x old marked) (sym c.self-2.view_is) made_there in
     let reached = c.in_ok-reached.reached in
-    let reached_is : reached ≡ are_some (hit_now behind.failed site.told) = subst (λ (x : SiteState). reached ≡ are_some (hit_now x.failed site.told)) (sym c.self.view_is) m.due in
+    let reached_is : reached ≡ are_some (hit_now behind.failed site.told) = subst (λ (x : SiteState). reached ≡ are_some (hit_now x.failed site.told)) (sym c.self-2.view_is) m.due in
     let fits = made.leaves.fits in
     let was_long : length c.deref_mut.result.now ≡ length s.jobs.items = λ i. length (c.deref_mut.ensures.value i) in
     record {
       home = fits.home;
       volumes = omega (arith, was_long, length-map s.jobs.items has_job_failed, fits.failed);
       few = fits.lengths.volumes;
-      idle = (λ i. are_home_from 0 (c.deref_mut.ensures.value i)) ∙ c.self.invariant.home;
+      idle = (λ i. are_home_from 0 (c.deref_mut.ensures.value i)) ∙ c.self-2.invariant.home;
       have = fits.rows;
       entries = behind_entries tells group site behind old marked c.requires.ready c.requires.may c.requires.rows made;
-      flags = omega (arith, ap length c.as_mut_slice-due.ensures.value, was_long, c.self.invariant.flags);
+      flags = omega (arith, ap length c.as_mut_slice-due.ensures.value, was_long, c.self-2.invariant.flags);
     }
 
 pub form_record-hits-requires-clause-room : goal.form_record-hits-requires-clause-room
@@ -85,14 +87,14 @@ form_record-hits-requires-clause-room g c κs within =
     let group = c.args.formed.now in
     let old = g.P.Plant.state c.args.plant.now in
     let marked = g.P.Plant.state c.mark_hits.new.plant in
-    let s = c.self.inside in
+    let s = c.self-2.inside in
     let behind : SiteState = record { controls = s.controls; level = s.level; table = s.table; is_ahead = s.ahead; told = cond s.ahead s.told.rows s.table.rows; time = s.time.0; mark = s.mark; at = s.journal.at; since = s.since; waiting = cond s.waits s.body.items []; failed = map has_job_failed s.jobs.items; written = s.written.items } in
     let m = c.in_ok-reached.ensures in
     let made_there : MadeMark tells site c.mark_hits.new.self old marked = record { is = m.ok; leaves = m.leaves; makes = m.makes; works = c.mark_hits.ensures.only; quiet = quiet_ok old.faults marked.faults m.cause; fails = c.mark_hits.ensures.failed } in
-    let made : MadeMark tells site behind old marked = subst (λ (x : SiteState). MadeMark tells site x old marked) (sym c.self.view_is) made_there in
+    let made : MadeMark tells site behind old marked = subst (λ (x : SiteState). MadeMark tells site x old marked) (sym c.self-2.view_is) made_there in
     let reached = c.in_ok-reached.reached in
-    let reached_is : reached ≡ are_some (hit_now behind.failed site.told) = subst (λ (x : SiteState). reached ≡ are_some (hit_now x.failed site.told)) (sym c.self.view_is) m.due in
-    room_formed s.controls group.controls s.body.room group.entries c.self.invariant.room_is (behind_few tells group site behind old marked c.requires.ready c.requires.may c.requires.rows made) c.controls-few.ensures.few
+    let reached_is : reached ≡ are_some (hit_now behind.failed site.told) = subst (λ (x : SiteState). reached ≡ are_some (hit_now x.failed site.told)) (sym c.self-2.view_is) m.due in
+    room_formed s.controls group.controls s.body.room group.entries c.self-2.invariant.room_is (behind_few tells group site behind old marked c.requires.ready c.requires.may c.requires.rows made) c.controls.ensures.few
 
 pub put_record-requires-clause-may : goal.put_record-requires-clause-may
 put_record-requires-clause-may g c κs within =
@@ -101,13 +103,13 @@ put_record-requires-clause-may g c κs within =
     let group = c.args.formed.now in
     let old = g.P.Plant.state c.args.plant.now in
     let marked = g.P.Plant.state c.mark_hits.new.plant in
-    let s = c.self.inside in
+    let s = c.self-2.inside in
     let behind : SiteState = record { controls = s.controls; level = s.level; table = s.table; is_ahead = s.ahead; told = cond s.ahead s.told.rows s.table.rows; time = s.time.0; mark = s.mark; at = s.journal.at; since = s.since; waiting = cond s.waits s.body.items []; failed = map has_job_failed s.jobs.items; written = s.written.items } in
     let m = c.in_ok-reached.ensures in
     let made_there : MadeMark tells site c.mark_hits.new.self old marked = record { is = m.ok; leaves = m.leaves; makes = m.makes; works = c.mark_hits.ensures.only; quiet = quiet_ok old.faults marked.faults m.cause; fails = c.mark_hits.ensures.failed } in
-    let made : MadeMark tells site behind old marked = subst (λ (x : SiteState). MadeMark tells site x old marked) (sym c.self.view_is) made_there in
+    let made : MadeMark tells site behind old marked = subst (λ (x : SiteState). MadeMark tells site x old marked) (sym c.self-2.view_is) made_there in
     let reached = c.in_ok-reached.reached in
-    let reached_is : reached ≡ are_some (hit_now behind.failed site.told) = subst (λ (x : SiteState). reached ≡ are_some (hit_now x.failed site.told)) (sym c.self.view_is) m.due in
+    let reached_is : reached ≡ are_some (hit_now behind.failed site.told) = subst (λ (x : SiteState). reached ≡ are_some (hit_now x.failed site.told)) (sym c.self-2.view_is) m.due in
     let mid = g.P.Plant.state c.form_record-hits.new.plant in
     let f = c.form_record-hits.ensures in
     let was_is : map has_job_failed c.deref_mut.result.now ≡ behind.failed = λ i. map has_job_failed (c.deref_mut.ensures.value i) in
@@ -116,28 +118,28 @@ put_record-requires-clause-may g c κs within =
     let hits = c.form_record-hits.result in
     let way : Way = MarkedFirst in
     let first : IsBehind tells group site behind old marked mid failed items = is_behind tells group site behind old marked c.requires.ready c.requires.may c.requires.rows made mid s.body c.form_record-hits.new.body c.form_record-hits.new.due (map has_job_failed c.deref_mut.result.now) failed reached hits
-    f.forms f.hits reached_is c.requires.next was_is f.fails f.reads f.home f.only c.controls-few.ensures.few in
+    f.forms f.hits reached_is c.requires.next was_is f.fails f.reads f.home f.only c.controls.ensures.few in
     let after = rows_after group site behind failed in
     let read = λ (told : tells). read_choice mid f.home (λ d there. g.met.P.Plant.read_is_image c.form_record-hits.new.plant d told there) in
     let size = λ (told : tells). g.met.P.Plant.length_told c.form_record-hits.new.plant (Journal behind.at.set) told (last_set tells group site behind old marked mid failed items first) in
-    exits.end_may tells group way (with_failed failed behind) after mid items (last_ready tells group site behind old marked mid failed items first) (last_stands tells group site behind old marked mid failed items first) read size s.journal.marked c.cut.result.0 c.self.invariant.marked_is (ap (λ (t : Stamp). t.0) c.cut.ensures)
+    exits.end_may tells group way (with_failed failed behind) after mid items (last_ready tells group site behind old marked mid failed items first) (last_stands tells group site behind old marked mid failed items first) read size s.journal.marked c.cut.result.0 c.self-2.invariant.marked_is (ap (λ (t : Stamp). t.0) c.cut.ensures)
 
 -- ---- it isn't put
 
 pub invariant_of-self : goal.invariant_of-self
 invariant_of-self g c =
-    let s = c.self.inside in
+    let s = c.self-2.inside in
     let f = c.form_record-hits.ensures in
     let now_is : (with_items s.jobs c.form_record-hits.new.jobs).items ≡ c.form_record-hits.new.jobs = with_items_is s.jobs c.form_record-hits.new.jobs (omega (arith, c.form_record-hits.auto.jobs, c.deref_mut.ensures.len, s.jobs.ok.0)) in
     let due_now : (with_items s.due c.form_record-hits.new.due).items ≡ c.form_record-hits.new.due = with_items_is s.due c.form_record-hits.new.due (omega (arith, c.form_record-hits.auto.due, c.as_mut_slice-due.ensures.len, s.due.ok.0)) in
     let jobs_long : length (with_items s.jobs c.form_record-hits.new.jobs).items ≡ length c.form_record-hits.new.jobs = λ i. length (now_is i) in
     let was_long : length c.deref_mut.result.now ≡ length s.jobs.items = λ i. length (c.deref_mut.ensures.value i) in
     record {
-      room_is = f.forms.room ∙ c.self.invariant.room_is;
-      marked_is = c.put_record.ensures.marked ∙ c.self.invariant.marked_is;
-      told_is = c.self.invariant.told_is;
+      room_is = f.forms.room ∙ c.self-2.invariant.room_is;
+      marked_is = c.put_record.ensures.marked ∙ c.self-2.invariant.marked_is;
+      told_is = c.self-2.invariant.told_is;
       home = (λ i. are_home_from 0 (now_is i)) ∙ f.idle;
-      flags = omega (arith, ap length due_now, jobs_long, c.form_record-hits.auto.due, ap length c.as_mut_slice-due.ensures.value, was_long, c.self.invariant.flags, c.form_record-hits.auto.jobs);
+      flags = omega (arith, ap length due_now, jobs_long, c.form_record-hits.auto.due, ap length c.as_mut_slice-due.ensures.value, was_long, c.self-2.invariant.flags, c.form_record-hits.auto.jobs);
       due_is = λ waits d. (λ i. slice_index_or (due_now i) d false) ∙ f.forms.due_is d;
     }
 
@@ -148,13 +150,13 @@ returns-in_err-put_record g c =
     let group = c.args.formed.now in
     let old = g.P.Plant.state c.args.plant.now in
     let marked = g.P.Plant.state c.mark_hits.new.plant in
-    let s = c.self.inside in
+    let s = c.self-2.inside in
     let behind : SiteState = record { controls = s.controls; level = s.level; table = s.table; is_ahead = s.ahead; told = cond s.ahead s.told.rows s.table.rows; time = s.time.0; mark = s.mark; at = s.journal.at; since = s.since; waiting = cond s.waits s.body.items []; failed = map has_job_failed s.jobs.items; written = s.written.items } in
     let m = c.in_ok-reached.ensures in
     let made_there : MadeMark tells site c.mark_hits.new.self old marked = record { is = m.ok; leaves = m.leaves; makes = m.makes; works = c.mark_hits.ensures.only; quiet = quiet_ok old.faults marked.faults m.cause; fails = c.mark_hits.ensures.failed } in
-    let made : MadeMark tells site behind old marked = subst (λ (x : SiteState). MadeMark tells site x old marked) (sym c.self.view_is) made_there in
+    let made : MadeMark tells site behind old marked = subst (λ (x : SiteState). MadeMark tells site x old marked) (sym c.self-2.view_is) made_there in
     let reached = c.in_ok-reached.reached in
-    let reached_is : reached ≡ are_some (hit_now behind.failed site.told) = subst (λ (x : SiteState). reached ≡ are_some (hit_now x.failed site.told)) (sym c.self.view_is) m.due in
+    let reached_is : reached ≡ are_some (hit_now behind.failed site.told) = subst (λ (x : SiteState). reached ≡ are_some (hit_now x.failed site.told)) (sym c.self-2.view_is) m.due in
     let mid = g.P.Plant.state c.form_record-hits.new.plant in
     let f = c.form_record-hits.ensures in
     let was_is : map has_job_failed c.deref_mut.result.now ≡ behind.failed = λ i. map has_job_failed (c.deref_mut.ensures.value i) in
@@ -163,7 +165,7 @@ returns-in_err-put_record g c =
     let hits = c.form_record-hits.result in
     let way : Way = MarkedFirst in
     let first : IsBehind tells group site behind old marked mid failed items = is_behind tells group site behind old marked c.requires.ready c.requires.may c.requires.rows made mid s.body c.form_record-hits.new.body c.form_record-hits.new.due (map has_job_failed c.deref_mut.result.now) failed reached hits
-    f.forms f.hits reached_is c.requires.next was_is f.fails f.reads f.home f.only c.controls-few.ensures.few in
+    f.forms f.hits reached_is c.requires.next was_is f.fails f.reads f.home f.only c.controls.ensures.few in
     let after = rows_after group site behind failed in
     let read = λ (told : tells). read_choice mid f.home (λ d there. g.met.P.Plant.read_is_image c.form_record-hits.new.plant d told there) in
     let new = g.P.Plant.state c.put_record.new.plant in
@@ -177,11 +179,12 @@ returns-in_err-put_record g c =
     let failing = err_from_is_err_and result c.from_residual-in_err-put_record.ensures.1 in
     let err_is : Err error ≡ result = cc (failing.1, failing.2) in
     record {
-      logged = subst (λ (r : Result (Unit {0}) StoreError). LogsBy tells group way site last old new r) err_is (exits.end_fails tells group way site (with_failed failed behind) after old mid new items stage read works site refl s.journal.marked c.cut.result.0 c.self.invariant.marked_is (ap (λ (t : Stamp). t.0) c.cut.ensures) last error failed_is c.in_err-put_record.ensures.shows);
+      ok = subst (λ (r : Result (Unit {0}) StoreError). LogsBy tells group way site last old new r) err_is (exits.end_fails tells group way site (with_failed failed behind) after old mid new items stage read works site refl s.journal.marked c.cut.result.0 c.self-2.invariant.marked_is (ap (λ (t : Stamp). t.0) c.cut.ensures) last error failed_is c.in_err-put_record.ensures.shows);
       leaves = search rules;
       others = exits.end_others tells group way site (with_failed failed behind) after old mid new items stage read works site refl;
       cause = exits.end_cause tells group way site (with_failed failed behind) after old mid new items stage read works site refl result (subst (λ (r : Result (Unit {0}) StoreError). HasStoreCause mid.faults new.faults r) err_is c.in_err-put_record.ensures.cause);
       unspent = search rules;
+      volumes = stay_behind tells (IsOfMark site) (IsOfEntries behind.table.rows group.entries) old marked mid new m.makes.volumes c.mark_hits.ensures.only f.reads f.only works;
       failed = exits.end_failed tells group way site (with_failed failed behind) after old mid new items stage read works site refl last failed_is;
     }
 
@@ -194,29 +197,29 @@ take_changed-requires g c =
     let group = c.args.formed.now in
     let old = g.P.Plant.state c.args.plant.now in
     let marked = g.P.Plant.state c.mark_hits.new.plant in
-    let s = c.self.inside in
+    let s = c.self-2.inside in
     let behind : SiteState = record { controls = s.controls; level = s.level; table = s.table; is_ahead = s.ahead; told = cond s.ahead s.told.rows s.table.rows; time = s.time.0; mark = s.mark; at = s.journal.at; since = s.since; waiting = cond s.waits s.body.items []; failed = map has_job_failed s.jobs.items; written = s.written.items } in
     let m = c.in_ok-reached.ensures in
     let made_there : MadeMark tells site c.mark_hits.new.self old marked = record { is = m.ok; leaves = m.leaves; makes = m.makes; works = c.mark_hits.ensures.only; quiet = quiet_ok old.faults marked.faults m.cause; fails = c.mark_hits.ensures.failed } in
-    let made : MadeMark tells site behind old marked = subst (λ (x : SiteState). MadeMark tells site x old marked) (sym c.self.view_is) made_there in
+    let made : MadeMark tells site behind old marked = subst (λ (x : SiteState). MadeMark tells site x old marked) (sym c.self-2.view_is) made_there in
     let reached = c.in_ok-reached.reached in
-    let reached_is : reached ≡ are_some (hit_now behind.failed site.told) = subst (λ (x : SiteState). reached ≡ are_some (hit_now x.failed site.told)) (sym c.self.view_is) m.due in
+    let reached_is : reached ≡ are_some (hit_now behind.failed site.told) = subst (λ (x : SiteState). reached ≡ are_some (hit_now x.failed site.told)) (sym c.self-2.view_is) m.due in
     below_volumes marked 64 s.table.rows made.leaves.fits.lengths.volumes made.leaves.fits.rows
 
 pub invariant_of-self-2 : goal.invariant_of-self-2
 invariant_of-self-2 g c =
-    let s = c.self.inside in
+    let s = c.self-2.inside in
     let f = c.form_record-hits.ensures in
     let now_is : (with_items s.jobs c.form_record-hits.new.jobs).items ≡ c.form_record-hits.new.jobs = with_items_is s.jobs c.form_record-hits.new.jobs (omega (arith, c.form_record-hits.auto.jobs, c.deref_mut.ensures.len, s.jobs.ok.0)) in
     let due_now : (with_items s.due c.form_record-hits.new.due).items ≡ c.form_record-hits.new.due = with_items_is s.due c.form_record-hits.new.due (omega (arith, c.form_record-hits.auto.due, c.as_mut_slice-due.ensures.len, s.due.ok.0)) in
     let jobs_long : length (with_items s.jobs c.form_record-hits.new.jobs).items ≡ length c.form_record-hits.new.jobs = λ i. length (now_is i) in
     let was_long : length c.deref_mut.result.now ≡ length s.jobs.items = λ i. length (c.deref_mut.ensures.value i) in
     record {
-      room_is = f.forms.room ∙ c.self.invariant.room_is;
-      marked_is = c.put_record.ensures.marked ∙ c.self.invariant.marked_is;
-      told_is = c.self.invariant.told_is ∙ sym (ap (λ (t : Table). t.session) c.take_changed.ensures);
+      room_is = f.forms.room ∙ c.self-2.invariant.room_is;
+      marked_is = c.put_record.ensures.marked ∙ c.self-2.invariant.marked_is;
+      told_is = c.self-2.invariant.told_is ∙ sym (ap (λ (t : Table). t.session) c.take_changed.ensures);
       home = (λ i. are_home_from 0 (now_is i)) ∙ f.idle;
-      flags = omega (arith, ap length due_now, jobs_long, c.form_record-hits.auto.due, ap length c.as_mut_slice-due.ensures.value, was_long, c.self.invariant.flags, c.form_record-hits.auto.jobs);
+      flags = omega (arith, ap length due_now, jobs_long, c.form_record-hits.auto.due, ap length c.as_mut_slice-due.ensures.value, was_long, c.self-2.invariant.flags, c.form_record-hits.auto.jobs);
       due_is = λ waits d. (λ i. slice_index_or (due_now i) d false) ∙ f.forms.due_is d;
     }
 
@@ -227,13 +230,13 @@ returns g c =
     let group = c.args.formed.now in
     let old = g.P.Plant.state c.args.plant.now in
     let marked = g.P.Plant.state c.mark_hits.new.plant in
-    let s = c.self.inside in
+    let s = c.self-2.inside in
     let behind : SiteState = record { controls = s.controls; level = s.level; table = s.table; is_ahead = s.ahead; told = cond s.ahead s.told.rows s.table.rows; time = s.time.0; mark = s.mark; at = s.journal.at; since = s.since; waiting = cond s.waits s.body.items []; failed = map has_job_failed s.jobs.items; written = s.written.items } in
     let m = c.in_ok-reached.ensures in
     let made_there : MadeMark tells site c.mark_hits.new.self old marked = record { is = m.ok; leaves = m.leaves; makes = m.makes; works = c.mark_hits.ensures.only; quiet = quiet_ok old.faults marked.faults m.cause; fails = c.mark_hits.ensures.failed } in
-    let made : MadeMark tells site behind old marked = subst (λ (x : SiteState). MadeMark tells site x old marked) (sym c.self.view_is) made_there in
+    let made : MadeMark tells site behind old marked = subst (λ (x : SiteState). MadeMark tells site x old marked) (sym c.self-2.view_is) made_there in
     let reached = c.in_ok-reached.reached in
-    let reached_is : reached ≡ are_some (hit_now behind.failed site.told) = subst (λ (x : SiteState). reached ≡ are_some (hit_now x.failed site.told)) (sym c.self.view_is) m.due in
+    let reached_is : reached ≡ are_some (hit_now behind.failed site.told) = subst (λ (x : SiteState). reached ≡ are_some (hit_now x.failed site.told)) (sym c.self-2.view_is) m.due in
     let mid = g.P.Plant.state c.form_record-hits.new.plant in
     let f = c.form_record-hits.ensures in
     let was_is : map has_job_failed c.deref_mut.result.now ≡ behind.failed = λ i. map has_job_failed (c.deref_mut.ensures.value i) in
@@ -242,7 +245,7 @@ returns g c =
     let hits = c.form_record-hits.result in
     let way : Way = MarkedFirst in
     let first : IsBehind tells group site behind old marked mid failed items = is_behind tells group site behind old marked c.requires.ready c.requires.may c.requires.rows made mid s.body c.form_record-hits.new.body c.form_record-hits.new.due (map has_job_failed c.deref_mut.result.now) failed reached hits
-    f.forms f.hits reached_is c.requires.next was_is f.fails f.reads f.home f.only c.controls-few.ensures.few in
+    f.forms f.hits reached_is c.requires.next was_is f.fails f.reads f.home f.only c.controls.ensures.few in
     let after = rows_after group site behind failed in
     let read = λ (told : tells). read_choice mid f.home (λ d there. g.met.P.Plant.read_is_image c.form_record-hits.new.plant d told there) in
     let new = g.P.Plant.state c.put_record.new.plant in
@@ -259,10 +262,11 @@ returns g c =
     let last_is : last ≡ logged_site mid.journals way group.cut.0 items after (one_more s.since) (with_failed failed behind) = λ i. record behind { table = table_is i; is_ahead = ahead_is i; told = told_now i; time = time_is i; at = c.in_ok-put_record.ensures.at i; since = since_is i; waiting = items; failed = failed_is i } in
     let shows = c.in_ok-put_record.ensures.shows in
     record {
-      logged = exits.end_logs tells group way site (with_failed failed behind) after old mid new items stage read works site refl s.journal.marked c.cut.result.0 c.self.invariant.marked_is (ap (λ (t : Stamp). t.0) c.cut.ensures) last last_is shows;
-      leaves = exits.end_leaves tells group way site (with_failed failed behind) after old mid new items stage read works site refl s.journal.marked c.cut.result.0 c.self.invariant.marked_is (ap (λ (t : Stamp). t.0) c.cut.ensures) last last_is shows;
+      ok = exits.end_logs tells group way site (with_failed failed behind) after old mid new items stage read works site refl s.journal.marked c.cut.result.0 c.self-2.invariant.marked_is (ap (λ (t : Stamp). t.0) c.cut.ensures) last last_is shows;
+      leaves = exits.end_leaves tells group way site (with_failed failed behind) after old mid new items stage read works site refl s.journal.marked c.cut.result.0 c.self-2.invariant.marked_is (ap (λ (t : Stamp). t.0) c.cut.ensures) last last_is shows;
       others = exits.end_others tells group way site (with_failed failed behind) after old mid new items stage read works site refl;
       cause = exits.end_cause tells group way site (with_failed failed behind) after old mid new items stage read works site refl (Ok tt) c.in_ok-put_record.ensures.cause;
       unspent = λ e. cc e;
+      volumes = stay_behind tells (IsOfMark site) (IsOfEntries behind.table.rows group.entries) old marked mid new m.makes.volumes c.mark_hits.ensures.only f.reads f.only works;
       failed = exits.end_failed tells group way site (with_failed failed behind) after old mid new items stage read works site refl last failed_is;
     }

@@ -25,6 +25,7 @@ use Rattle.site_store.proofs.RowEnds.{plain_behind}
 use Rattle.site_store.proofs.RowRoom.{reads_choice}
 use Rattle.site_store.proofs.SuspensionEnds.{AreFormed, are_formed, mark_does, mark_leaves, mark_suspends, may_put, none_does, none_hit, none_suspends, record_does, record_leaves, record_suspends, spent_does, spent_suspends}
 use Rattle.site_store.proofs.Views.{at_error, ends_there, idle_site, jobs_below, keeps_still, last_way, logged_view, may_put_there, rows_below, shows_there, told_there}
+use Rattle.site_store.proofs.VolumesStaying.{stay_here, stay_put}
 use Rattle.site_store.proofs.site.Site.suspend.Given as given
 use Rattle.site_store.proofs.site.Site.suspend.Goals as goal
 use Rattle.site_store.proofs.site.Site.suspend.Goals.{After-way_from-way}
@@ -86,7 +87,7 @@ returns-then-not-is_any_hit-clause-moments g c =
 formed : (g : given.Over) (c : After-way_from-way g) → AreFormed g.P.Plant.tells c.args.cut c.args.self.now (g.P.Plant.state c.args.plant.now) c.hits_at-hits.result
 formed g c =
     are_formed g.P.Plant.tells c.args.cut _ c.args.self.now c.self.inside.told.rows (g.P.Plant.state c.args.plant.now) c.self.inside.jobs.items c.deref.result.now c.deref-2.result.now c.hits_at-hits.result c.form_hits.new.body c.self.inside.body.room c.self.view_is refl refl
-    c.requires.ready c.requires.cut c.deref.ensures.value c.deref-2.ensures.value (sym c.if-not-is_any_hit.false ∙ c.is_any_hit.ensures) c.hits_at-hits.ensures c.form_hits.ensures.rules c.form_hits.ensures.put c.form_hits.ensures.short
+    c.requires.ready c.requires.cut c.deref.ensures.value c.deref-2.ensures.value (sym c.if-not-is_any_hit.false ∙ c.is_any_hit.ensures) c.hits_at-hits.ensures.hits c.form_hits.ensures.rules c.form_hits.ensures.put c.form_hits.ensures.short
 
 rows_are : (g : given.Over) (c : After-way_from-way g) → c.self.inside.table.rows ≡ c.args.self.now.told
 rows_are g c = told_there _ c.args.self.now c.self.inside.told.rows c.self.view_is refl c.requires.ready.level
@@ -288,3 +289,20 @@ returns-clause-failed g c =
     let was = (g.P.Plant.state c.args.plant.now).faults in
     let is = (g.P.Plant.state c.put_record.new.plant).faults in
     subst (λ (now : List Bool). FailByCounts failed now was is) (sym (ap (λ (x : SiteState). x.failed) c.self.view_is)) (fail_first failed failed was was is c.put_record.ensures.only.others_faults (none_fail failed was))
+
+-- ---- the volumes stay
+
+pub returns-then-not-is_any_hit-clause-volumes : goal.returns-then-not-is_any_hit-clause-volumes
+returns-then-not-is_any_hit-clause-volumes g c = stay_here g.P.Plant.tells (g.P.Plant.state c.args.plant.now)
+
+pub returns-then-suspension_needs_more-clause-volumes : goal.returns-then-suspension_needs_more-clause-volumes
+returns-then-suspension_needs_more-clause-volumes g c = stay_here g.P.Plant.tells (g.P.Plant.state c.args.plant.now)
+
+pub returns-then-eq-clause-volumes : goal.returns-then-eq-clause-volumes
+returns-then-eq-clause-volumes g c = c.mark_suspensions.ensures.makes.volumes
+
+pub returns-in_err-put_record-clause-volumes : goal.returns-in_err-put_record-clause-volumes
+returns-in_err-put_record-clause-volumes g c = stay_put g.P.Plant.tells (g.P.Plant.state c.args.plant.now) (g.P.Plant.state c.put_record.new.plant) c.put_record.ensures.only
+
+pub returns-clause-volumes : goal.returns-clause-volumes
+returns-clause-volumes g c = stay_put g.P.Plant.tells (g.P.Plant.state c.args.plant.now) (g.P.Plant.state c.put_record.new.plant) c.put_record.ensures.only
