@@ -1,6 +1,7 @@
 //! How long turns take at the shared state. The seats of controls tell one time after the other, each time in a turn of its own.
 
 ghost use Rattle.std.specs.Prelude.{◌≡◌, ◌+◌, ◌≤◌, length, All, IfOk};
+ghost use Rattle.tod_stamp.specs.declared.limits.TheConstants.{MOST_CONTROLS};
 ghost use Rattle.group_state.specs.Groups.{new_group};
 ghost use Rattle.bench.specs.Telling.{HasTold, NoneHasTold};
 
@@ -18,7 +19,7 @@ use turn_group::{MoverSeat, ReaderSeat, SeatList, TurnGroup};
 /// A state of so many controls that have told nothing.
 fn new_state(alloc: Global, controls: u16) -> Result<GroupState>
     requires some { 1 ≤ controls }
-    requires few { controls ≤ 16 }
+    requires few { controls ≤ MOST_CONTROLS }
     ensures { IfOk result (λ state. state ≡ new_group controls 1 1) }
 {
     match GroupState::make(alloc, controls, 1, 1) {

@@ -1,20 +1,21 @@
 -- Each step keeps the rule of the table.
-use Rattle.std.proofs.Common.{◌≡◌, ◌≢◌, ℕ, zero, suc, ◌+◌, ◌-◌, ◌%◌, ◌^◌, ◌<◌, ◌≤◌, List, [], ◌∷◌, ◌++◌, length, get_or, set, sym, refl, ap, ◌∙◌, subst, ⊎_elim, inl, inr, arith, Option, Some, length-append}
+use Rattle.std.proofs.Common.{◌≡◌, ◌≢◌, ℕ, Bool, true, false, eqb, zero, suc, ◌+◌, ◌-◌, ◌%◌, ◌^◌, ◌<◌, ◌≤◌, List, [], ◌∷◌, ◌++◌, length, get_or, set, sym, refl, ap, ◌∙◌, subst, ⊎_elim, inl, inr, arith, Option, Some, length-append}
 use Rattle.std.specs.Prelude.{IsSome}
 use Rattle.std.proofs.Math.Nat.{mod-add-mod}
-use Rattle.std.proofs.lemmas.Bool.Decides.{nat_tests}
+use Rattle.std.proofs.lemmas.Bool.Decides.{nat_tests, eqb_tells}
 use mathlib.Core.Logic.{dite}
 use mathlib.Core.Option.{some, none, some-ne-none, some-injective}
 use mathlib.Core.Option as maybe
 use native.Mathlib.Decide.{ℕ_discrete}
 use lib.ListN.{get_elem?}
+use prog.Atomic.{either}
 use Rattle.atomic_table.specs.Table.{State, keeps, takes, gives, rest, put_back, stepped, Allows, Splits, Joins, opening, Seen, Final}
 use Rattle.atomic_table.proofs.Lists.{at_set, set_here, set_else, set_again, at_longer, at_snoc, one_turn}
 use Rattle.turn.specs.declared.view.Ticketed.{Ticketed}
 use Rattle.turn.specs.declared.view.Stage.{Stage}
 use Rattle.turn.specs.declared.view.Stage.TheVariants.{Spent, Idle, Waits, InTurn}
 use Rattle.turn.specs.declared.view.View.{View}
-use Rattle.turn.specs.Turn.{total, same, once_below, ticketed, notes_about, without_second, second_alone, AllTrue, about, times, times_in, OneRun, lives, waits, pending, live, busy, lists, times_held, StageFits, IsViewAt, Placed, Turns, Seated, first_view, new_view, spent_view, with_one_more, joined_view, staged, with_ticketed, at_draw, at_look, at_pass}
+use Rattle.turn.specs.Turn.{total, same, once_below, ticketed, notes_about, without_second, second_alone, AllTrue, about, times, times_in, OneRun, lives, waits, pending, live, busy, lists, times_held, StageFits, IsViewAt, Placed, Turns, Seated, first_view, new_view, spent_view, with_one_more, joined_view, staged, with_ticketed, at_draw, at_draw_if, at_look, at_pass}
 use Rattle.turn.proofs.Totals.{total_set, parts_append, parts_given, true_kept, true_given, true_append, true_after, total_one, total_two, total_push, total_append, total_le, total_only, same_self, once_more, once_le, all_in_longer, in_pushed, all_appended, runs_on}
 
 -- a place that has an item is below the length
@@ -162,6 +163,30 @@ module _ {X E R N : Type 0} (steps : X → E → R → X → Type 0) (part : N �
         },
         (r.next, ap (λ ws. get_or ws 0 0) r.words, refl),
       )
+
+  -- a ticket is drawn where it is the next one
+  pub draws_if : (slots id : ℕ) (me : Seated X E R N) (ticket : ℕ) → me.0.stage ≡ Idle → Allows Rule slots id me 0 (λ n. either (eqb n ticket) ((ticket + 1) % 2 ^ 64) n) (at_draw_if ticket me)
+  draws_if slots id me ticket idle s r many at small =
+      let v : View X E R N = me.0 in
+      let n : ℕ = get_or s.words 0 0 in
+      let f : Bool → ℕ = λ t. either t ((ticket + 1) % 2 ^ 64) n in
+      let drawn = draws slots id me idle s r many at small in
+      ⊎_elim
+      (λ (t : (eqb n ticket ≡ true) × (n ≡ ticket)). (
+        drawn.0,
+        drawn.1,
+        drawn.2,
+        subst (λ k. Rule (stepped s 0 k id me.1 drawn.0 drawn.1)) (sym (ap f t.0 ∙ ap (λ k. (k + 1) % 2 ^ 64) (sym t.1))) drawn.3,
+        ((λ _. drawn.4), (λ no. absurd (no t.1))),
+      ))
+      (λ (t : (eqb n ticket ≡ false) × (n ≢ ticket)). (
+        v,
+        keeps,
+        tt,
+        subst Rule (λ i. record { words = sym (ap (λ k. set s.words 0 k) (ap f t.0) ∙ (ap (λ ws. set ws 0 (get_or ws 0 0)) r.words ∙ sym r.words)) i; homes = s.homes; views = sym (set_again s.views id v at) i }) r,
+        ((λ e. absurd (t.1 e)), (λ _. refl)),
+      ))
+      (eqb_tells n ticket)
 
   -- where the ticket is served, the slot is at home
   home_is : (s : State (Option X) (View X E R N)) (r : Rule s) (id : ℕ) (v : View X E R N) (t : ℕ) → get_elem? s.views id ≡ some v → v.stage ≡ Waits t → length r.log ≡ t → s.homes ≡ some (Some r.due) ∷ []

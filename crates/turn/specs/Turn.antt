@@ -183,6 +183,10 @@ module _ {X E R N : Type 0} where
   abbrev pub at_draw : Seated X E R N → ℕ → Seated X E R N → Type 0
   at_draw m n m' = (t : ℕ) × (n ≡ t % 2 ^ 64) × (m' ≡ (staged m.0 (Waits t), m.1))
 
+  -- the ticket is drawn where it is the next one
+  abbrev pub at_draw_if : (ticket : ℕ) → Seated X E R N → ℕ → Seated X E R N → Type 0
+  at_draw_if ticket m n m' = (n ≡ ticket → at_draw m n m') × (¬ (n ≡ ticket) → m' ≡ m)
+
   abbrev pub at_look : (X → E → R → X → Type 0) → (X → N → Type 0) → Seated X E R N → ℕ → Seated X E R N → Type 0
   at_look steps says m n m' = (t : ℕ) → m.0.stage ≡ Waits t
       → (n ≡ t % 2 ^ 64 → (x : X) × (m' ≡ (staged m.0 (InTurn t x), (0, Some x) ∷ m.1)) × AllTrue says x m.0.notes × IsReached steps m.0.first x) × (¬ (n ≡ t % 2 ^ 64) → m' ≡ m)

@@ -1,5 +1,5 @@
 //! What each step on the table tells.
-ghost use Rattle.turn.specs.Turn.{at_draw, at_look, at_pass, joined_view, new_view, with_one_more, spent_view};
+ghost use Rattle.turn.specs.Turn.{at_draw_if, at_look, at_pass, joined_view, new_view, with_one_more, spent_view};
 
 use crate::rule::Machine;
 use crate::view::View;
@@ -15,10 +15,10 @@ pub trait Call<E, R, N> {
     ghost note: { N };
 }
 
-pub(crate) struct Draw;
+pub(crate) struct DrawIfNext;
 
-impl<X, E, R, N> Play<Option<X>, View<X, E, R, N>> for Draw {
-    ghost then = { λ _. at_draw };
+impl<X, E, R, N> Play<Option<X>, View<X, E, R, N>> for DrawIfNext {
+    ghost then = { λ step. at_draw_if step.first };
 }
 
 pub(crate) struct Look<M> {

@@ -1,10 +1,10 @@
 //! The table, and what a seat does in its turn.
 
-ghost use Rattle.std.specs.Prelude.{◌≡◌, ℕ, ◌+◌, ◌%◌, ◌^◌, ◌<◌, ◌≤◌, [], ◌∷◌, IfOk};
+ghost use Rattle.std.specs.Prelude.{◌≡◌, ℕ, ◌+◌, ◌%◌, ◌^◌, ◌<◌, ◌≤◌, [], ◌∷◌, IfOk, true, false};
 ghost use Rattle.turn.specs.Turn.{staged, AllTrue, notes_about, IsIdle, IsSameSeat, OneRun, IsServed, Took, MayPass, HasPassed, with_one_more, new_view, first_view, joined_view, lists};
 ghost use Rattle.turn.specs.declared.view.Stage.TheVariants.{Idle, Waits};
 
-use crate::plays::{Call, Draw, Look, Pass, SplitOff, TakeIn};
+use crate::plays::{Call, DrawIfNext, Look, Pass, SplitOff, TakeIn};
 use crate::rule::{Machine, TakingTurns};
 use crate::seats::{MoverSeat, Place, ReaderSeat};
 use crate::view::View;
@@ -71,14 +71,14 @@ impl<X: Drop, E, R, N, M: Machine<X, E, R, N>> TurnTable<X, E, R, N, M> {
         }
     }
 
-    /// Draws a ticket, waits for its turn, and takes the state.
+    /// Draws a ticket once nobody has a turn, waits until it is served, and takes the state.
     pub fn take_turn<W: Wait>(&self, rt: &W, place: &mut Place<X, E, R, N>) -> X
         requires table { place.old.table_id ≡ self.now.board.shared.table_id }
         requires idle { IsIdle place.old.me }
         ensures same { IsSameSeat place.old place.new }
         ensures turn { Took M.steps M.says place.old result place.new }
     {
-        let ticket = self.draw(place);
+        let ticket = self.draw(rt, place);
         self.wait(rt, place, ticket);
         self.board.shared.exchange(place, 0, None).unwrap()
     }
@@ -100,13 +100,38 @@ impl<X: Drop, E, R, N, M: Machine<X, E, R, N>> TurnTable<X, E, R, N, M> {
         self.board.shared.fetch_add::<Pass<C>>(place, 1, 1);
     }
 
-    fn draw(&self, place: &mut Place<X, E, R, N>) -> u64
+    /// Draws the next ticket where it is the one that is served, so that no other seat waits behind it for a thread that does not run.
+    /// A seat that has passed its turn may so take the next one, too.
+    fn draw<W: Wait>(&self, rt: &W, place: &mut Place<X, E, R, N>) -> u64
         requires table { place.old.table_id ≡ self.now.board.shared.table_id }
         requires idle { place.old.me.0.stage ≡ Idle }
         ensures same { IsSameSeat place.old place.new }
         ensures drew { (t : ℕ) × (result ≡ t % 2 ^ 64) × (place.new.me ≡ (staged place.old.me.0 (Waits t), place.old.me.1)) }
     {
-        self.board.shared.fetch_add::<Draw>(place, 0, 1)
+        let mut tries = 0;
+        for _ in rt.forever() {
+            let served = self.board.shared.peek(1);
+            if self.board.shared.peek(0) == served && self.try_draw(place, served) {
+                return served;
+            }
+            pause(&mut tries);
+        }
+        unreachable!()
+    }
+
+    /// Draws this ticket, if it is the next one.
+    fn try_draw(&self, place: &mut Place<X, E, R, N>, ticket: u64) -> bool
+        requires table { place.old.table_id ≡ self.now.board.shared.table_id }
+        requires idle { place.old.me.0.stage ≡ Idle }
+        ensures same { IsSameSeat place.old place.new }
+        ensures drew { result ≡ true → (t : ℕ) × (ticket ≡ t % 2 ^ 64) × (place.new.me ≡ (staged place.old.me.0 (Waits t), place.old.me.1)) }
+        ensures left { result ≡ false → place.new.me ≡ place.old.me }
+    {
+        let next = ticket.wrapping_add(1);
+        self.board
+            .shared
+            .compare_exchange::<DrawIfNext>(place, 0, ticket, next)
+            == ticket
     }
 
     /// Waits until the ticket is served. Then the slot is out with the seat. A seat yields the processor after some tries, since

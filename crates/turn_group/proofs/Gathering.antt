@@ -4,7 +4,10 @@ use Rattle.std.specs.Prelude.{All}
 use Rattle.std.proofs.lemmas.List.{length-map}
 use mathlib.Core.List.{map-append}
 use lib.ListN.{get_or-append}
+use Rattle.group_state.specs.Groups.{Group}
+use Rattle.turn.specs.Turn.{AllTrue}
 use Rattle.turn_group.specs.Calls.{MadeCall}
+use Rattle.turn_group.specs.Notes.{SeatNote, says}
 use Rattle.turn_group.specs.Seats.{ReaderSeatState, calls_at, AllFrom, IsOwn, IsAtPlace}
 use Rattle.turn_group.proofs.Places.{push_place, last_place}
 
@@ -21,3 +24,8 @@ pub own_pushed : (rest : List (Option ReaderSeatState)) (seat : ReaderSeatState)
 own_pushed rest seat places own all =
     let at : seat.control ≡ length (map calls_at rest) = last_place IsAtPlace rest (Some seat) places ∙ sym (length-map rest calls_at) in
     subst (λ l. AllFrom IsOwn 0 l) (sym (map-append calls_at rest (Some seat ∷ []))) (push_place IsOwn (map calls_at rest) seat.calls all (subst (λ k. IsOwn k seat.calls) at own))
+
+-- of the notes of both seats those of the first are true
+pub true_front : (s : Group) (ns ms : List SeatNote) → AllTrue says s (ns ++ ms) → AllTrue says s ns
+true_front s [] ms are = tt
+true_front s (n ∷ ns) ms are = (are.0, true_front s ns ms are.1)

@@ -5,6 +5,7 @@ use Rattle.std.specs.List.{list_any}
 use Rattle.pending_queue.specs.Entries.{WaitingEntry}
 use Rattle.group_state.specs.declared.volume.Volume.{Volume}
 use Rattle.group_state.specs.Controls.{ControlState, is_telling}
+use Rattle.turn.specs.Turn.{AllTrue}
 use Rattle.group_state.specs.Groups.{Group, Shown, control_at}
 use Rattle.group_state.specs.Machine.{Call, Reply}
 use Rattle.group_state.specs.Calls.{telling_after}
@@ -51,6 +52,10 @@ IsToldAs floor telling c = (c.floor ≡ floor) × (is_telling c.phase ≡ tellin
 abbrev pub says : Group → SeatNote → Type 0
 says s (MoverNote last known) = (s.last ≡ last) × (volumes_known s ≡ known)
 says s (ReaderNote k floor telling) = (k < length s.controls) × IsToldAs floor telling (control_at s k)
+
+-- What is true of these notes was true of those before, whatever the state.
+abbrev pub KeepsNotes : (before now : List SeatNote) → Type 0
+KeepsNotes before now = (s : Group) → AllTrue says s now → AllTrue says s before
 
 -- ---- the notes at the start
 

@@ -185,7 +185,7 @@ reader_note k notes = ReaderNote k (floor_in (note_in notes)) (telling_in (note_
 abbrev pub mover_note : List SeatNote → SeatNote
 mover_note notes = MoverNote (floor_in (note_in notes)) (known_in (note_in notes))
 
--- What every seat's view keeps: it has one note, the state that the table was made with, which is sound, and its own calls alone.
+-- What every seat's view keeps: one note, its own calls alone, and the state that the table was made with, which keeps what every group state keeps.
 pub record KeepsView (note : SeatNote) (is_own : Call → Bool) (v : SeatView) : Type 0 where
   pub noted : v.notes ≡ note ∷ []
   pub begun : v.first ≡ Some (first_or v.first)

@@ -11,7 +11,9 @@ ghost use Rattle.group_state.specs.Answers.{join_reply, run_reply, copy_reply, f
 ghost use Rattle.turn_group.specs.Seats.{new_mover, new_readers, SeatMayTell, SeatMayJoin, SeatMayCopy, is_track_of_control, ReaderCalled, MoverCalled, IsSeated, calls_at, AllFrom, AreAtTheirPlaces, IsOwn};
 ghost use Rattle.turn.specs.Turn.{IsSameSeat, first_view, lists};
 ghost use Rattle.std.specs.List.{list_all};
-ghost use Rattle.turn_group.specs.Notes.{notes_of, is_of_carried};
+ghost use Rattle.group_state.specs.Sound.{KeepsGroup};
+ghost use Rattle.turn_group.specs.Notes.{KeepsNotes, notes_of, is_of_carried, says};
+ghost use Rattle.turn_group.specs.Notes.SeatNote.{MoverNote};
 ghost use Rattle.turn_group.specs.Histories.{OneHistory};
 
 use crate::copying::{join_copy, next_wanted};
@@ -53,6 +55,7 @@ impl TurnGroup {
         ensures group { IfOk result (λ t. t.0.first ≡ state) }
         ensures mover { IfOk result (λ t. t.1 ≡ new_mover t.0.table state (length state.controls + 1)) }
         ensures seats { IfOk result (λ t. t.2 ≡ new_readers t.0.table state (length state.controls)) }
+        ensures kept { IfOk result (λ t. KeepsGroup t.0.first) }
     {
         let controls = state.controls();
         let mut places = Vec::with_capacity(alloc, controls as usize)?;
@@ -189,12 +192,14 @@ impl TurnGroup {
         drop_volume(&self.table, rt, &mut seat.seat.place, control, volume, all);
     }
 
-    /// Gives the state back, once all seats of this group are handed in. The calls of the seats are one history of the state.
+    /// Gives the state back, once all seats of this group are handed in. The calls of the seats are one history of the state. The
+    /// last cut and the volumes are those that the mover's seat knows.
     pub fn close(self, mover: MoverSeat, readers: SeatList) -> GroupState
         requires mover { mover.table ≡ self.table }
         requires readers { All (IsSeated self.table) readers }
         requires all { mover.seats ≡ length readers + 1 }
-        ensures { OneHistory self.first mover.calls (map calls_at readers) result }
+        ensures history { OneHistory self.first mover.calls (map calls_at readers) result }
+        ensures known { says result (MoverNote mover.last mover.known) }
     {
         let TurnGroup { table } = self;
         let MoverSeat { seat } = mover;
@@ -228,6 +233,7 @@ fn gather(
     ensures alone { result.place.me.0.seats ≡ 1 }
     ensures lists { lists result.place.me.0 ≡ mover.place.me.0.mine ∷ map calls_at places.items }
     ensures own { AllFrom IsOwn 0 (map calls_at places.items) }
+    ensures noted { KeepsNotes mover.place.me.0.notes result.place.me.0.notes }
 {
     while let Some(place) = places.pop() {
         if let Some(reader) = place {

@@ -1,8 +1,10 @@
 use Rattle.std.proofs.Common.{arith, ◌≡◌, ◌∷◌, ◌++◌, [], List, length, map, Option, Some, sym, ap, ◌∙◌, subst, length-append}
 use Rattle.std.specs.Prelude.{All}
+use Rattle.turn.specs.Turn.{AllTrue}
+use Rattle.turn_group.specs.Notes.{says}
 use Rattle.turn_group.specs.Seats.{SeatView, ReaderSeatState, IsSeated, IsAtPlace, calls_at, AllFrom, IsOwn}
 use Rattle.turn_group.proofs.Places.{from_front}
-use Rattle.turn_group.proofs.Gathering.{shifted, all_front, own_pushed}
+use Rattle.turn_group.proofs.Gathering.{shifted, all_front, own_pushed, true_front}
 use Rattle.turn_group.proofs.group.gather.Goals as goal
 
 pub loop-place-preserved-in-Some-place : goal.loop-place-preserved-in-Some-place
@@ -25,5 +27,6 @@ loop-place-preserved-in-Some-place c =
       places = from_front IsAtPlace 0 rest (Some reader ∷ []) places;
       own = (λ all. was.own
           (subst (λ (l : List (Option ReaderSeatState)). AllFrom IsOwn 0 (map calls_at l)) (sym items) (own_pushed rest reader places (subst (λ (s : ReaderSeatState). IsOwn s.control s.calls) c.reader.view_is c.reader.invariant.own) all)));
+      noted = λ s true_now. was.noted s (true_front s old.notes view.notes (subst (AllTrue says s) (ap (λ (v : SeatView). v.notes) did) true_now));
       seats = (let less = ap (λ (v : SeatView). v.seats) did in let before = was.seats in let longer = ap length items ∙ length-append rest (Some reader ∷ []) in omega arith);
     }

@@ -1,6 +1,7 @@
 use Rattle.std.proofs.Common.{◌≡◌, ◌+◌, ◌++◌, length, map}
 use Rattle.std.specs.Prelude.{All}
 use Rattle.turn.specs.Turn.{IsSameSeat}
+use Rattle.turn_group.specs.Notes.{KeepsNotes}
 use Rattle.turn_group.specs.Seats.{IsSeated, calls_at, AreAtTheirPlaces, AllFrom, IsOwn}
 use Rattle.turn_group.proofs.group.gather.Given as goal
 
@@ -13,6 +14,7 @@ invariant-loop-place l = record {
   places : AreAtTheirPlaces l.places.items;
   own : AllFrom IsOwn 0 (map calls_at l.places.items) → AllFrom IsOwn 0 (map calls_at l.initial.places.items);
   seats : l.mover.place.me.0.seats ≡ length l.places.items + 1;
+  noted : KeepsNotes l.initial.mover.place.me.0.notes l.mover.place.me.0.notes;
 }
 
 abbrev pub decreases-loop-place : goal.decreases-loop-place
