@@ -1,5 +1,5 @@
 -- Behind the whole work the shared state stands for the rows again.
-use Rattle.std.proofs.Common.{◌≡◌, ◌⊎◌, inl, inr, ℕ, ◌<◌, ◌≤◌, Bool, true, false, cond, not, nat_lt, nat_le, ◌&&◌, ◌||◌, List, [], ◌∷◌, map, length, take, Option, Some, None, refl, sym, ap, subst, ◌∙◌, arith, true≢false}
+use Rattle.std.proofs.Common.{◌≡◌, inl, inr, ℕ, ◌<◌, ◌≤◌, Bool, true, false, cond, not, nat_lt, nat_le, ◌&&◌, ◌||◌, List, [], ◌∷◌, length, take, Option, Some, None, refl, sym, ap, subst, ◌∙◌, arith, true≢false}
 use Rattle.std.specs.List.{Contains, list_any}
 use Rattle.std.proofs.lemmas.Bool.{and_parts, and_from, eqb-true, ltb-true, or_cases}
 use Rattle.std.proofs.lemmas.List.{take_all}
@@ -39,7 +39,7 @@ use Rattle.session_points.specs.Bearing.{ShowsPoint}
 use Rattle.session_points.specs.Leads.{Point}
 use Rattle.borne_deeds.specs.Laws.{DoesWork, StandsForRowsAgain}
 use Rattle.borne_deeds.specs.Points.{point_behind}
-use Rattle.borne_deeds.specs.Told.{ExceptedAreOwed, FailedAreOwed, IsAny, held_by_choice, is_copied_to, is_mapped, is_owed, is_volume_kept}
+use Rattle.borne_deeds.specs.Told.{CarriedAsLive, ExceptedAreOwed, FailedAreOwed, IsAny, held_by_choice, is_copied_to, is_mapped, is_owed, is_volume_kept}
 use Rattle.borne_deeds.specs.Working.{IsKeptToEnd, StandsForRows, Work, WorkBegins}
 use Rattle.borne_deeds.proofs.Bearing.{below_among, shown}
 use Rattle.borne_deeds.proofs.Excepting.{none_excepted, owes_at_end}
@@ -111,7 +111,8 @@ below_pairs n (r ∷ rows) = ap (λ (b : Bool). nat_lt r.device n && b) (below_p
 
 -- ---- the end of the work
 
-module _ (old new : PlantState) (k : Work) (time : ℕ) (last : List PairRow) (known : Plans) (w : WorkBegins old k) (does : DoesWork old new k) (whole : IsKeptToEnd k time last known) (failed : FailedAreOwed k.size k.ended last) where
+module _ (old new : PlantState) (k : Work) (time : ℕ) (last : List PairRow) (known : Plans) (w : WorkBegins old k) (does : DoesWork old new k) (whole : IsKeptToEnd k time last known) (failed : FailedAreOwed k.size k.ended last)
+    (carried : CarriedAsLive k.ended last) where
   abbrev p : Point
   p = k.leg.point
 
@@ -159,6 +160,9 @@ module _ (old new : PlantState) (k : Work) (time : ℕ) (last : List PairRow) (k
 
   failed_there : (a : Choice) → IsChoice old old.clock a → FailedAreOwed k.size k.ended q.rows
   failed_there a was = subst (FailedAreOwed k.size k.ended) (last_is a was) failed
+
+  carried_there : (a : Choice) → IsChoice old old.clock a → CarriedAsLive k.ended q.rows
+  carried_there a was = subst (CarriedAsLive k.ended) (last_is a was) carried
 
   -- Each volume that is kept has a row.
   rowed : (j v : ℕ) → is_volume_kept v (control_at k.ended j) ≡ true → HasRowIn IsAny j v q.rows
@@ -267,6 +271,7 @@ module _ (old new : PlantState) (k : Work) (time : ℕ) (last : List PairRow) (k
     rowed = rowed;
     owed = owed some.0 some.1;
     failed = failed_there some.0 some.1;
+    carried = carried_there some.0 some.1;
   }
 
   -- Each choice shows the point behind all deeds.
@@ -280,5 +285,5 @@ module _ (old new : PlantState) (k : Work) (time : ℕ) (last : List PairRow) (k
       (shown old k w n (omega arith) c (subst (λ (ds : List Deed). SeesBehind old k.excepted p.rows ds c) (sym done) (does.now c has))))
 
 pub stands_for_rows_again : (old new : PlantState) → StandsForRowsAgain old new
-stands_for_rows_again old new k time last known w does whole failed some =
-    (stands_again old new k time last known w does whole failed some, λ c has. shows_last old new k time last known w does whole failed c has)
+stands_for_rows_again old new k time last known w does whole failed carried some =
+    (stands_again old new k time last known w does whole failed carried some, λ c has. shows_last old new k time last known w does whole failed carried c has)

@@ -12,7 +12,7 @@ use Rattle.session_points.specs.Bearing.{ShowsPoint}
 use Rattle.session_points.specs.Leads.{Point}
 use Rattle.session_points.specs.Ways.{IsAtWork}
 use Rattle.borne_deeds.specs.Points.{point_behind}
-use Rattle.borne_deeds.specs.Told.{FailedAreOwed}
+use Rattle.borne_deeds.specs.Told.{CarriedAsLive, FailedAreOwed}
 use Rattle.borne_deeds.specs.Working.{Asked, IsKeptToEnd, PassesPoints, SeesFirst, StandsForRows, Work, WorkBegins}
 use Rattle.borne_deeds.specs.Working.{excepted_last, last_point_of, point_then, time_then}
 
@@ -60,10 +60,10 @@ DoneDeedsPassPoints old new = (work : Work) (asked : Asked) → WorkBegins old w
 
 -- Where all of the mover's calls were kept and all deeds are done, the shared state stands for the rows again, at the point that is meant then,
 -- which whatever a crash leaves shows. There is some choice at the start. Rows that their devices suspended on the way have had their volumes
--- dropped with all tracks by then.
+-- dropped with all tracks by then, and volumes are carried as their rows are live.
 abbrev pub StandsForRowsAgain : (old new : PlantState) → Type 0
 StandsForRowsAgain old new = (work : Work) (time : ℕ) (rows : List PairRow) (known : Plans)
     → WorkBegins old work → DoesWork old new work → IsKeptToEnd work time rows known
-    → FailedAreOwed work.size work.ended rows → (some : (c : Choice) × IsChoice old old.clock c)
+    → FailedAreOwed work.size work.ended rows → CarriedAsLive work.ended rows → (some : (c : Choice) × IsChoice old old.clock c)
     → StandsForRows work.run work.size new (excepted_last work) work.ended (last_point_of work) known
     × AtNow (ShowsPoint work.run (shape_of new) (last_point_of work)) new

@@ -1,21 +1,24 @@
--- What a choice holds of rows' tracks, and which tracks are owed by the shared state.
+-- What a choice holds of rows' tracks, which tracks are owed by the shared state, and how it carries rows' volumes.
 use Rattle.std.specs.Prelude.{◌≡◌, ℕ, ◌<◌, ◌==◌, ◌&&◌, ◌||◌, not, List, find, Bool, true, false, Option, Some, None, IsTrue}
-use Rattle.std.specs.List.{list_any}
+use Rattle.std.specs.List.{Contains, list_any}
 use Rattle.ckd_track.specs.declared.rec.Rec.{Rec}
 use Rattle.crash_plant.specs.Choices.{Choice}
 use Rattle.crash_plant.specs.Moments.{PlantState}
 use Rattle.change_map.specs.Sets.{has_track}
 use Rattle.pair_table.specs.declared.row.PairRow.{PairRow}
 use Rattle.pair_table.specs.declared.row.PairState.{PairState}
+use Rattle.pair_table.specs.Rows.{is_suspended}
 use Rattle.pending_queue.specs.Entries.{WaitingEntry, is_queued_on, is_whole}
 use Rattle.group_state.specs.declared.volume.Volume.{Volume}
 use Rattle.group_state.specs.Controls.{ControlState}
 use Rattle.group_state.specs.Groups.{Group, control_at}
 use Rattle.group_state.specs.Volumes.{is_wanted, passes, volume_of}
+use Rattle.group_state.specs.Sound.{is_dropped}
 use Rattle.record_rows.specs.Hits.{is_device_suspended}
+use Rattle.consistency.specs.Bears.{tracks_of_row}
 use Rattle.site_means.specs.Sight.{content_of}
 use Rattle.told_tracks.specs.Told.{HeldTracks}
-use Rattle.fed_logs.specs.Logs.{Sizes}
+use Rattle.fed_logs.specs.Logs.{Sizes, is_of_size}
 use Rattle.fed_logs.specs.Moves.{HasRowIn}
 use Rattle.site_deeds.specs.Exceptions.{Exceptions}
 
@@ -78,3 +81,14 @@ FailedAreOwed size s rows = (k v : ℕ) → HasRowIn IsFailed k v rows → IsTru
 -- Each volume that is kept has a row.
 abbrev pub KeptHaveRows : Group → List PairRow → Type 0
 KeptHaveRows s rows = (k v : ℕ) → IsTrue (is_volume_kept v (control_at s k)) → HasRowIn IsAny k v rows
+
+-- ---- what is carried
+
+-- A row's volume has the row's tracks. It is carried if the row isn't suspended, else dropped.
+pub record IsCarriedAsLive (s : Group) (r : PairRow) : Type 0 where
+  pub sized : IsTrue (passes (is_of_size (tracks_of_row r)) (volume_of r.volume (control_at s r.control).volumes))
+  pub carried : is_suspended r.state ≡ false → IsTrue (passes (λ u. u.carried) (volume_of r.volume (control_at s r.control).volumes))
+  pub dropped : is_suspended r.state ≡ true → IsTrue (is_dropped r.volume (control_at s r.control).volumes)
+
+abbrev pub CarriedAsLive : Group → List PairRow → Type 0
+CarriedAsLive s rows = (r : PairRow) → Contains rows r → IsCarriedAsLive s r

@@ -24,7 +24,7 @@ use Rattle.session_points.specs.Bearing.{GoesThroughPoints, MayBeMeant, ShowsPoi
 use Rattle.session_points.specs.Leads.{Point, may_rest}
 use Rattle.session_points.specs.Ways.{ComesNext, HasCountedHits, IsLegOf, Leg, PassedPoint, leg_after, leg_to}
 use Rattle.borne_deeds.specs.Points.{AreSteps, point_behind, points_by}
-use Rattle.borne_deeds.specs.Told.{ExceptedAreOwed, FailedAreOwed, KeptHaveRows, held_by_choice}
+use Rattle.borne_deeds.specs.Told.{CarriedAsLive, ExceptedAreOwed, FailedAreOwed, KeptHaveRows, held_by_choice}
 
 -- The work for a line's time, from a leg of a run's stage on.
 --   size: how many tracks each volume has
@@ -75,6 +75,7 @@ SeesFirst start work n c = SeesBehind start work.excepted work.leg.point.rows (f
 --   holds: whatever a crash leaves now, what it holds is what was told, up to the time that is meant
 --   rowed: each volume that is kept has a row
 --   owed, failed: tracks of which no content is told are owed, and so are all of a row that its device suspends
+--   carried: the volumes of rows are carried as the rows are live
 pub record StandsForRows (run : Run) (size : Sizes) (start : PlantState) (excepted : Exceptions) (s : Group) (p : Point) (done : Plans) : Type 0 where
   pub apart : IsTrue (none_clash p.rows)
   pub below : IsTrue (are_below start.volumes p.rows)
@@ -83,6 +84,7 @@ pub record StandsForRows (run : Run) (size : Sizes) (start : PlantState) (except
   pub rowed : KeptHaveRows s p.rows
   pub owed : ExceptedAreOwed size excepted s p.rows
   pub failed : FailedAreOwed size s p.rows
+  pub carried : CarriedAsLive s p.rows
 
 -- ---- its log
 

@@ -22,13 +22,14 @@ use Rattle.told_tracks.proofs.Keeping.{steps_keep}
 use Rattle.fed_logs.specs.Feeds.{truth_of}
 use Rattle.fed_logs.specs.Logs.{is_of_size}
 use Rattle.fed_logs.specs.Moves.{HasRowIn, IsDuplex}
-use Rattle.borne_deeds.specs.Told.{held_by_choice, is_copied_to, is_mapped, is_owed, is_to_be_copied}
+use Rattle.borne_deeds.specs.Told.{CarriedAsLive, held_by_choice, is_copied_to, is_mapped, is_owed, is_to_be_copied}
 use Rattle.borne_deeds.proofs.Pairs.{among_of, contains_of}
 use Rattle.carried_rows.specs.Between.{Between, MayAdd, StandsBetween}
 use Rattle.carried_rows.specs.Laws.{AddedRowsStand}
 use Rattle.carried_rows.proofs.Calls.{begin_itself, begin_other, keeps_begin}
 use Rattle.carried_rows.proofs.Rows.{added_others, added_own, added_there, among_either}
 use Rattle.carried_rows.proofs.Standing.{Changes, stands_there}
+use Rattle.carried_rows.proofs.KeptRows.{kept_added_row, standing_rows_are_kept}
 use Rattle.carried_rows.proofs.Knowing.{base, is_duplex, is_other, same}
 
 module _ (start : PlantState) (b : Between) (r : PairRow) (st : StandsBetween start b) (may : MayAdd start b r) where
@@ -88,8 +89,12 @@ module _ (start : PlantState) (b : Between) (r : PairRow) (st : StandsBetween st
   sized_more : (s : PairRow) → Contains more s → tracks_of_row s ≤ b.size s.control s.volume
   sized_more s has = elim (among_either s r rows (among_of more s has)) [
     | inl before ↦ st.rows.sized s (contains_of s rows before)
-    | inr same ↦ subst (λ (t : PairRow). tracks_of_row t ≤ b.size t.control t.volume) same may.sized
+    | inr same ↦ subst (λ (t : PairRow). tracks_of_row t ≤ b.size t.control t.volume) same (let sized = may.sized in omega (arith, sized))
   ]
+
+  carried_begun : CarriedAsLive (with_control k (begun_volume v plan) b.group) more
+  carried_begun = subst (λ (m : ℕ). CarriedAsLive (with_control k (begun_volume v (fresh_plan (every_track m))) b.group) more) (sym may.sized)
+      (λ s has. ((kept_added_row b.group rows r (standing_rows_are_kept start b st) may.may.0 may.counted may.pending may.apart).each s has).own)
 
   adds : Changes start b k v (begun_volume v plan) more b.done
   adds = record {
@@ -111,6 +116,7 @@ module _ (start : PlantState) (b : Between) (r : PairRow) (st : StandsBetween st
     rowed = λ kept. added_there r rows may.apart;
     owed = λ has kept x low e. owed_begun x low;
     failed = λ has kept x low. owed_begun x low;
+    carried = carried_begun;
     held = λ a x settled. absurd (unsettled x settled);
   }
 

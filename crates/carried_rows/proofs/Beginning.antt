@@ -64,6 +64,7 @@ module _ (start : PlantState) (b : Between) (may : MayBegin start b) where
       rowed = λ k v kept. absurd (none_kept k v kept);
       owed = λ k v has kept x low e. absurd (no_row IsUnfailed k v has);
       failed = λ k v has kept x low. absurd (no_row IsFailed k v has);
+      carried = λ r has. absurd (none_among r (among_of b.point.rows r has));
     };
     keeps = may.keeps;
     some = may.some;

@@ -1,5 +1,5 @@
 -- A command's change that is taken over: what is kept for rows behind it, and what stands.
-use Rattle.std.proofs.Common.{ℕ, false, nat_lt, List, [], ◌∷◌, ◌++◌, Option, Some, None, refl, sym, subst, arith}
+use Rattle.std.proofs.Common.{ℕ, false, nat_lt, List, [], ◌∷◌, ◌++◌, Option, Some, None, refl, sym, subst}
 use Rattle.std.specs.Prelude.{IfSome}
 use Rattle.change_map.specs.Sets.{every_track}
 use Rattle.copy_plan.specs.Plans.{fresh_plan}
@@ -11,20 +11,17 @@ use Rattle.pair_table.specs.declared.row.PairState.TheVariants.{Pending}
 use Rattle.pair_table.specs.Tables.{in_state, row_of}
 use Rattle.pair_table.proofs.FindLaws.{all-snoc}
 use Rattle.group_state.specs.Groups.{Group, control_at}
-use Rattle.group_state.specs.Volumes.{volume_of}
 use Rattle.group_state.specs.Machine.{group_after}
 use Rattle.group_state.specs.Machine.Call.{Carry}
 use Rattle.group_state.specs.Sound.{MayCarry}
-use Rattle.consistency.specs.Bears.{tracks_of_row}
 use Rattle.fed_logs.specs.Moves.{Plans}
-use Rattle.borne_deeds.proofs.Copying.{kept_within}
 use Rattle.carried_rows.specs.Between.{Between, StandsBetween}
-use Rattle.carried_rows.specs.Laws.{FitsOn, StandingRowsAreKept, TakenRowsStand}
+use Rattle.carried_rows.specs.Laws.{FitsOn, TakenRowsStand}
 use Rattle.carried_rows.specs.Taking.{IfAdds, KeepsForRows, MayTake, calls_of_change}
 use Rattle.carried_rows.proofs.Adding.{added_rows_stand}
 use Rattle.carried_rows.proofs.Forgetting.{forgotten_rows_stand}
 use Rattle.carried_rows.proofs.Knowing.{base}
-use Rattle.carried_rows.proofs.KeptRows.{kept_added_row, kept_dropped_row, kept_forgotten_row, kept_resumed_row, may_carry_row, sized_there}
+use Rattle.carried_rows.proofs.KeptRows.{kept_added_row, kept_dropped_row, kept_forgotten_row, kept_resumed_row, may_carry_row}
 use Rattle.carried_rows.proofs.Resuming.{resumed_rows_stand}
 use Rattle.carried_rows.proofs.Suspending.{suspended_rows_stand}
 use Rattle.carried_rows.proofs.Walking.{Steps, Walked, change_walk}
@@ -102,7 +99,7 @@ module _ (start : PlantState) (b : Between) where
           (added_rows_stand start (at s rows done) r j.1 (record {
             apart = apart;
             below = all-snoc (λ (x : PairRow). nat_lt x.device start.volumes) rows r j.1.rows.below fit.below;
-            sized = (let same = fit.sized in omega (arith, same));
+            sized = fit.sized;
             pending = pending;
             counted = counted;
             may = (low, subst (λ (n : ℕ). MayCarry (control_at s r.control) r.volume (fresh_plan (every_track n))) (sym fit.sized) (may_carry_row s rows r j.0 low counted pending apart));
@@ -126,20 +123,3 @@ taken_rows_stand start b change after st kept may fit =
     fitting (Gone devices) fit = fit
     fitting (SuspendedRows devices) fit = fit
     fitting Ended fit = fit
-
--- Where the state stands for rows whose volumes are carried as they are live, it keeps what it does for them.
-pub standing_rows_are_kept : (start : PlantState) → StandingRowsAreKept start
-standing_rows_are_kept start b st carried = record {
-  keeps = st.keeps;
-  apart = st.rows.apart;
-  each = λ r among.
-      let own = carried r among in
-      let stand = (base start b st).stand in
-      record {
-        low = kept_within b.group r.control r.volume (sized_there (tracks_of_row r) (volume_of r.volume (control_at b.group r.control).volumes) own.sized);
-        own = own;
-        counted = λ live. (stand.live r.control r.volume (record { row = r; among = among; control = refl; volume = refl; state = live })).1;
-        done = λ is. (stand.plans r.control r.volume (stand.duplex r.control r.volume (record { row = r; among = among; control = refl; volume = refl; state = is }))).1;
-      };
-  rowed = st.rows.rowed;
-}

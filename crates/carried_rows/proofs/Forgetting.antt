@@ -25,6 +25,7 @@ use Rattle.carried_rows.specs.Laws.{ForgottenRowsStand}
 use Rattle.carried_rows.proofs.Calls.{forget_itself, forget_other, keeps_forget}
 use Rattle.carried_rows.proofs.Rows.{among_kept, without_others, without_own}
 use Rattle.carried_rows.proofs.Standing.{Changes, stands_there}
+use Rattle.carried_rows.proofs.KeptRows.{dropped_suspended, kept_forgotten_row, standing_rows_are_kept}
 use Rattle.carried_rows.proofs.Knowing.{is_other, none_known}
 
 module _ (start : PlantState) (b : Between) (r : PairRow) (st : StandsBetween start b) (may : MayForget b r) where
@@ -71,6 +72,7 @@ module _ (start : PlantState) (b : Between) (r : PairRow) (st : StandsBetween st
     rowed = λ kept. absurd (true≢false (sym kept ∙ ap (passes (λ u. true)) (forget_itself v c distinct)));
     owed = λ has kept x low e. absurd (gone IsUnfailed has);
     failed = λ has kept x low. absurd (gone IsFailed has);
+    carried = λ s has. ((kept_forgotten_row b.group rows r (standing_rows_are_kept start b st) may.among (dropped_suspended start b r st may.among may.may.1)).each s has).own;
     held = λ a x settled. absurd (true≢false (sym settled ∙ ap (passes (is_track_settled x)) (forget_itself v c distinct)));
   }
 

@@ -7,6 +7,7 @@ use Rattle.std.proofs.lemmas.List.{length-replicate}
 use Rattle.std.proofs.lemmas.List.Elements.{All-get_or}
 use Rattle.change_map.specs.Sets.{every_track}
 use Rattle.copy_plan.specs.Plans.{PlanState, fresh_plan}
+use Rattle.crash_plant.specs.Moments.{PlantState}
 use Rattle.pair_table.specs.declared.row.PairRow.{PairRow}
 use Rattle.pair_table.specs.declared.row.PairState.{PairState}
 use Rattle.pair_table.specs.declared.row.PairState.TheVariants.{Duplex, Pending}
@@ -31,9 +32,11 @@ use Rattle.borne_deeds.specs.Told.{IsAny, is_volume_kept}
 use Rattle.borne_deeds.proofs.Copying.{kept_within}
 use Rattle.borne_deeds.proofs.Pairs.{Among, Apart, among_of, apart_among, apart_still}
 use Rattle.borne_deeds.proofs.Pairs.Among.{Here, Later}
+use Rattle.carried_rows.specs.Between.{Between, StandsBetween}
+use Rattle.carried_rows.specs.Laws.{StandingRowsAreKept}
 use Rattle.carried_rows.specs.Taking.{KeepsForRow, KeepsForRows}
 use Rattle.carried_rows.proofs.Calls.{KeepsOther, begin_itself, begin_other, drop_itself, drop_other, forget_itself, forget_other, kept_other, keeps_begin, keeps_drop, keeps_forget, keeps_resume, other_at, own_is, plan_other, resume_itself, resume_other}
-use Rattle.carried_rows.proofs.Knowing.{is_duplex, passes_map}
+use Rattle.carried_rows.proofs.Knowing.{base, is_duplex, never_both, passes_map}
 use Rattle.carried_rows.proofs.Rows.{IsOther, OthersSame, added_others, added_own, added_there, among_last, not_itself, stated_others, stated_own, stated_pairs, stated_there, without_others, without_own}
 use Rattle.carried_rows.proofs.Standing.{at_volume}
 
@@ -233,3 +236,29 @@ module _ (s : Group) (rows : List PairRow) (r : PairRow) (kept : KeepsForRows s 
       kept_behind s r.control r.volume (begun_volume r.volume plan) rows (rows ++ r ∷ []) (added_others r rows apart) (λ u other. begin_other r.volume u plan (control_at s r.control) may_carry_row.unknown other) (λ d. refl) kept low
       apart (keeps_begin s r.control r.volume plan low may_carry_row kept.keeps)
       (λ has. subst (KeepsForRow end_there) (sym (added_own r rows apart IsAny has)) itself) (λ is. added_there r rows apart)
+
+-- ---- a state that stands
+
+-- Where the state stands for rows, it keeps what it does for them.
+pub standing_rows_are_kept : (start : PlantState) → StandingRowsAreKept start
+standing_rows_are_kept start b st = record {
+  keeps = st.keeps;
+  apart = st.rows.apart;
+  each = λ r among.
+      let own = st.rows.carried r among in
+      let stand = (base start b st).stand in
+      record {
+        low = kept_within b.group r.control r.volume (sized_there (tracks_of_row r) (volume_of r.volume (control_at b.group r.control).volumes) own.sized);
+        own = own;
+        counted = λ live. (stand.live r.control r.volume (record { row = r; among = among; control = refl; volume = refl; state = live })).1;
+        done = λ is. (stand.plans r.control r.volume (stand.duplex r.control r.volume (record { row = r; among = among; control = refl; volume = refl; state = is }))).1;
+      };
+  rowed = st.rows.rowed;
+}
+
+-- A row whose volume is dropped is suspended.
+pub dropped_suspended : (start : PlantState) (b : Between) (r : PairRow) → StandsBetween start b → Contains b.point.rows r → passes (λ u. not u.carried) (volume_of r.volume (control_at b.group r.control).volumes) ≡ true → is_suspended r.state ≡ true
+dropped_suspended start b r st among gone = elim (cases_Bool (is_suspended r.state)) [
+  | inl is ↦ is
+  | inr live ↦ absurd (never_both (volume_of r.volume (control_at b.group r.control).volumes) ((st.rows.carried r among).carried live) gone)
+]

@@ -133,6 +133,7 @@ module _ (old new : PlantState) (b : Between) (before : List PairRow) (deeds : L
       rowed = st.rows.rowed;
       owed = owed;
       failed = st.rows.failed;
+      carried = st.rows.carried;
     };
     keeps = st.keeps;
     some = some;

@@ -25,6 +25,7 @@ use Rattle.carried_rows.specs.Laws.{ResumedRowsStand}
 use Rattle.carried_rows.proofs.Calls.{keeps_resume, resume_itself, resume_other}
 use Rattle.carried_rows.proofs.Rows.{stated_held, stated_others, stated_there}
 use Rattle.carried_rows.proofs.Standing.{Changes, stands_there}
+use Rattle.carried_rows.proofs.KeptRows.{dropped_suspended, kept_resumed_row, standing_rows_are_kept}
 use Rattle.carried_rows.proofs.Knowing.{base, below_stated, dropped_kept, is_duplex, is_other, none_known, owed_before, own_state, resumed_owes, resumed_size, same, sized_stated}
 
 module _ (start : PlantState) (b : Between) (r : PairRow) (st : StandsBetween start b) (may : MayResume b r) where
@@ -74,6 +75,7 @@ module _ (start : PlantState) (b : Between) (r : PairRow) (st : StandsBetween st
     rowed = λ kept. stated_there r Pending rows st.rows.apart there;
     owed = owed_resumed;
     failed = λ has kept x low. absurd (true≢false (sym has.state ∙ ap (λ (s : PairRow). is_device_suspended s.state) (is_pending IsFailed has)));
+    carried = λ s has. ((kept_resumed_row b.group rows r (standing_rows_are_kept start b st) may.among (dropped_suspended start b r st may.among may.may.1) may.counted).each s has).own;
     held = λ a x settled. stated_held r Pending rows st.rows.apart there start a x;
   }
 

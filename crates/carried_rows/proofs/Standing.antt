@@ -16,7 +16,7 @@ use Rattle.fed_logs.specs.Feeds.{truth_of}
 use Rattle.fed_logs.specs.Logs.{BeginsLog, is_of_size}
 use Rattle.fed_logs.specs.Moves.{HasRowIn, IsDuplex, IsLive, Plans}
 use Rattle.fed_logs.proofs.Standing.{at_with, same_count}
-use Rattle.borne_deeds.specs.Told.{IsAny, IsFailed, IsUnfailed, held_by_choice, is_owed, is_volume_kept}
+use Rattle.borne_deeds.specs.Told.{CarriedAsLive, IsAny, IsFailed, IsUnfailed, held_by_choice, is_owed, is_volume_kept}
 use Rattle.borne_deeds.proofs.Copying.{kept_within}
 use Rattle.carried_rows.specs.Between.{Between, StandsBetween}
 use Rattle.carried_rows.proofs.Calls.{KeepsOther, kept_other, other_at, owed_other, own_is, plan_other}
@@ -47,6 +47,7 @@ pub record Changes (start : PlantState) (b : Between) (k v : ℕ) (change : Cont
   pub rowed : is_volume_kept v (changed_control b k change) ≡ true → HasRowIn IsAny k v next
   pub owed : (has : HasRowIn IsUnfailed k v next) → is_volume_kept v (changed_control b k change) ≡ true → (x : ℕ) → x < b.size k v → b.excepted has.row.device x ≡ true → is_owed v x (changed_control b k change) ≡ true
   pub failed : HasRowIn IsFailed k v next → is_volume_kept v (changed_control b k change) ≡ true → (x : ℕ) → x < b.size k v → is_owed v x (changed_control b k change) ≡ true
+  pub carried : CarriedAsLive (with_control k change b.group) next
   pub held : (c : Choice) (x : ℕ) → is_settled_in v x (changed_control b k change) ≡ true → held_by_choice start c next k v x ≡ held_by_choice start c b.point.rows k v x
 
 -- what is so of a volume and of all others is so of each
@@ -167,6 +168,7 @@ module _ (start : PlantState) (b : Between) (k v : ℕ) (change : ControlState �
       rowed = rowed_there;
       owed = owed_there;
       failed = failed_there;
+      carried = h.carried;
     };
     keeps = h.keeps;
     some = st.some;

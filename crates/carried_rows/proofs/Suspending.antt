@@ -28,6 +28,7 @@ use Rattle.carried_rows.specs.Laws.{SuspendedRowsStand}
 use Rattle.carried_rows.proofs.Calls.{drop_itself, drop_other, keeps_drop, own_is}
 use Rattle.carried_rows.proofs.Rows.{IsOther, stated_held, stated_others, stated_there}
 use Rattle.carried_rows.proofs.Standing.{Changes, stands_there}
+use Rattle.carried_rows.proofs.KeptRows.{kept_dropped_row, standing_rows_are_kept}
 use Rattle.carried_rows.proofs.Knowing.{base, below_stated, not_true, owed_before, own_state, passes_map, same, sized_stated}
 
 module _ (start : PlantState) (b : Between) (r : PairRow) (state : PairState) (all : Bool) (st : StandsBetween start b) (may : MaySuspend b r state all) where
@@ -107,6 +108,7 @@ module _ (start : PlantState) (b : Between) (r : PairRow) (state : PairState) (a
     failed = λ has kept x low.
         let is : is_device_suspended state ≡ true = ap (λ (s : PairRow). is_device_suspended s.state) (sym (is_state IsFailed has)) ∙ has.state in
         all_tracks all refl (may.failed is) x low (kept_before kept);
+    carried = λ s has. ((kept_dropped_row b.group rows r (standing_rows_are_kept start b st) may.among state all may.suspends).each s has).own;
     held = λ a x settled. stated_held r state rows st.rows.apart there start a x;
   }
 

@@ -84,11 +84,11 @@ pub record MayForget (b : Between) (r : PairRow) : Type 0 where
 
 -- ---- a row is added
 
--- A pending row of a control that counts is added, and all tracks of its volume are wanted.
+-- A pending row of a control that counts is added. All tracks of its volume, which has the row's, are wanted.
 pub record MayAdd (start : PlantState) (b : Between) (r : PairRow) : Type 0 where
   pub apart : IsTrue (none_clash (b.point.rows ++ r ∷ []))
   pub below : IsTrue (are_below start.volumes (b.point.rows ++ r ∷ []))
-  pub sized : tracks_of_row r ≤ b.size r.control r.volume
+  pub sized : b.size r.control r.volume ≡ tracks_of_row r
   pub pending : r.state ≡ Pending
   pub counted : IsTrue (counts (control_at b.group r.control).phase)
   pub may : May b.group (Carry r.control r.volume (fresh_plan (every_track (b.size r.control r.volume))))

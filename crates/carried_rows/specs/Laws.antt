@@ -26,7 +26,7 @@ use Rattle.site_deeds.specs.Doing.{DoesDeeds}
 use Rattle.borne_deeds.specs.Told.{ExceptedAreOwed}
 use Rattle.site_deeds.specs.Exceptions.{excepted_behind, excepted_by_deed}
 use Rattle.carried_rows.specs.Between.{Between, MayAdd, MayBegin, MayForget, MayResume, MaySuspend, StandsBetween, between_after}
-use Rattle.carried_rows.specs.Taking.{CarriedAsLive, IfAdds, KeepsForRows, MayTake, after_calls, calls_of_change, is_begun, plans_after_calls}
+use Rattle.carried_rows.specs.Taking.{IfAdds, KeepsForRows, MayTake, after_calls, calls_of_change, is_begun, plans_after_calls}
 
 -- Without a row and without a volume the state stands for the rows.
 abbrev pub FirstRowsStand : PlantState → Type 0
@@ -82,9 +82,9 @@ between_taken change after b =
     let calls = calls_of_change change b.point.rows after in
     record b { group = after_calls calls b.group; point = record b.point { rows = after }; done = plans_after_calls calls b.done }
 
--- If the state stands for rows, and their volumes are carried as the rows are live, it keeps for them what a change asks.
+-- If the state stands for rows, it keeps for them what a change asks.
 abbrev pub StandingRowsAreKept : PlantState → Type 0
-StandingRowsAreKept start = (b : Between) → StandsBetween start b → CarriedAsLive b.group b.point.rows → KeepsForRows b.group b.point.rows
+StandingRowsAreKept start = (b : Between) → StandsBetween start b → KeepsForRows b.group b.point.rows
 
 -- A command's change that is taken over, with suspensions behind it, leaves that the state stands for the rows after it.
 abbrev pub TakenRowsStand : PlantState → Type 0

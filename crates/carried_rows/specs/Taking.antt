@@ -11,30 +11,21 @@ use Rattle.pair_table.specs.declared.row.PairState.TheVariants.{Pending, Copy, D
 use Rattle.pair_table.specs.Devices.{is_among}
 use Rattle.pair_table.specs.Rows.{is_suspended}
 use Rattle.pair_table.specs.Tables.{in_state, none_clash, row_of, with_state}
-use Rattle.group_state.specs.Volumes.{owed, passes, volume_of}
+use Rattle.group_state.specs.Volumes.{owed}
 use Rattle.group_state.specs.Controls.{counts}
 use Rattle.group_state.specs.Groups.{Group, control_at}
 use Rattle.group_state.specs.Machine.{Call, group_after}
 use Rattle.group_state.specs.Machine.Call.{Carry, Drop, Forget, Resume}
 use Rattle.group_state.specs.Runs.{May}
-use Rattle.group_state.specs.Sound.{KeepsGroup, is_dropped}
+use Rattle.group_state.specs.Sound.{KeepsGroup}
 use Rattle.record_rows.specs.Hits.{is_by_device}
 use Rattle.record_rows.specs.Told.{InPlaces}
 use Rattle.consistency.specs.Bears.{tracks_of_row}
-use Rattle.fed_logs.specs.Logs.{IsPlanDone, is_of_size}
+use Rattle.fed_logs.specs.Logs.{IsPlanDone}
 use Rattle.fed_logs.specs.Moves.{Plans, plans_without}
-use Rattle.borne_deeds.specs.Told.{KeptHaveRows}
+use Rattle.borne_deeds.specs.Told.{IsCarriedAsLive, KeptHaveRows}
 
 -- ---- what is kept for rows
-
--- A row's volume has the row's tracks. It is carried if the row isn't suspended, else dropped.
-pub record IsCarriedAsLive (s : Group) (r : PairRow) : Type 0 where
-  pub sized : IsTrue (passes (is_of_size (tracks_of_row r)) (volume_of r.volume (control_at s r.control).volumes))
-  pub carried : is_suspended r.state ≡ false → IsTrue (passes (λ u. u.carried) (volume_of r.volume (control_at s r.control).volumes))
-  pub dropped : is_suspended r.state ≡ true → IsTrue (is_dropped r.volume (control_at s r.control).volumes)
-
-abbrev pub CarriedAsLive : Group → List PairRow → Type 0
-CarriedAsLive s rows = (r : PairRow) → Contains rows r → IsCarriedAsLive s r
 
 -- What the state keeps for a row: its volume, a control that counts if the row isn't suspended, and a plan that is done if it is duplex.
 pub record KeepsForRow (s : Group) (r : PairRow) : Type 0 where

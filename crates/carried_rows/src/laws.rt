@@ -22,7 +22,7 @@ pub fn recorded_rows_stand<P: Plant>(old: &P, new: &P)
 {}
 
 /// A command's change that is taken over, with the suspensions behind it, leaves that the state stands for the rows after it. Before it
-/// the state keeps for the rows what the change asks, if their volumes are carried as they are live.
+/// the state keeps for the rows what the change asks.
 pub fn taken_rows_stand<P: Plant>(start: &P)
     ensures kept { StandingRowsAreKept (P.state start.now) }
     ensures stand { TakenRowsStand (P.state start.now) }

@@ -5,3 +5,4 @@ pub mod Ready
 pub mod Tried
 pub mod Turns
 pub mod LogVectors
+pub mod Changes

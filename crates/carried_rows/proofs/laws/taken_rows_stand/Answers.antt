@@ -1,4 +1,5 @@
-use Rattle.carried_rows.proofs.Changed.{standing_rows_are_kept, taken_rows_stand}
+use Rattle.carried_rows.proofs.Changed.{taken_rows_stand}
+use Rattle.carried_rows.proofs.KeptRows.{standing_rows_are_kept}
 use Rattle.carried_rows.proofs.laws.taken_rows_stand.Goals as goal
 
 pub returns-clause-kept : goal.returns-clause-kept
