@@ -60,3 +60,5 @@ pub mod Fresh
 pub mod Shutting
 pub mod VolumesStaying
 pub mod Between
+mod WaitingVolumes
+pub mod ByWays

@@ -14,3 +14,4 @@ pub mod Sites
 pub mod Standing
 pub mod Ways
 pub mod Syncing
+pub mod Waiting

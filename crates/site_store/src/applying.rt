@@ -7,8 +7,8 @@ ghost use Rattle.xrc_journal.specs.Items.{AreItems, form_of};
 ghost use Rattle.site_store.specs.Applying.{Applies, AppliesToJobs, AreNoted, DoesApply, excepted_by_apply};
 ghost use Rattle.site_store.specs.Jobs.{are_home_from, has_device};
 ghost use Rattle.site_store.specs.Marking.{IsAmong};
-ghost use Rattle.site_store.specs.Records.{IsVolume};
 ghost use Rattle.site_store.specs.Standing.{Leaves, StandsFast};
+ghost use Rattle.site_store.specs.Waiting.{IsOfWaiting};
 
 use crate::Site;
 use crate::hits::either;
@@ -70,7 +70,7 @@ impl<V> Site<V> {
         ensures ok { Applies P.tells self.old self.new (P.state plant.old) (P.state plant.new) }
         ensures leaves { Leaves P.tells (excepted_by_apply self.old) self.old self.new (P.state plant.old) (P.state plant.new) }
         ensures moments { P.tells → DoesApply self.old (P.state plant.old) (P.state plant.new) }
-        ensures others { WorksOnLent P.tells IsVolume (P.state plant.old) (P.state plant.new) }
+        ensures others { WorksOnLent P.tells (IsOfWaiting self.old) (P.state plant.old) (P.state plant.new) }
         ensures heard_said { P.tells → Silent (P.state plant.old) (P.state plant.new) }
     {
         if !self.waits {

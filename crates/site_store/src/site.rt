@@ -1,6 +1,6 @@
 //! A site, and what it tells.
 
-ghost use Rattle.std.specs.Prelude.{◌≡◌};
+ghost use Rattle.std.specs.Prelude.{◌≡◌, false};
 
 use control_set::Mark;
 use pair_table::{Level, PairTable};
@@ -63,9 +63,10 @@ impl<V> Model for Site<V> {
 }
 
 impl<V> Site<V> {
-    /// The pairs of the session.
+    /// The pairs of the session. The devices tell their rows, unless a change waits to be logged.
     pub fn table(&self) -> &PairTable
-        ensures { result.now ≡ self.now.table }
+        ensures table { result.now ≡ self.now.table }
+        ensures told { self.now.is_ahead ≡ false → self.now.told ≡ self.now.table.rows }
     {
         &self.table
     }

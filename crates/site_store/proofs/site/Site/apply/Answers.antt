@@ -5,10 +5,11 @@ use Rattle.crash_plant.specs.declared.device.Device.TheVariants.{Volume}
 use Rattle.xrc_journal.specs.declared.job.VolumeJob.{VolumeJob}
 use Rattle.site_deeds.proofs.Single.{no_call}
 use Rattle.site_store.specs.Applying.{Applies, AppliesToVolume, excepted_by_apply, with_applied}
-use Rattle.site_store.specs.Jobs.{are_home_from, has_job_failed}
+use Rattle.site_store.specs.Jobs.{are_home_from, has_device, has_job_failed}
 use Rattle.site_store.specs.Sites.{SiteState}
 use Rattle.site_store.specs.Standing.{Leaves, none_excepted}
 use Rattle.site_store.proofs.Applied.{applies_nothing, applies_to, does_apply, does_nothing, fits_applied, leaves_nothing, stands_applied, volumes_alone}
+use Rattle.site_store.proofs.WaitingVolumes.{waiting_alone}
 use Rattle.site_store.proofs.site.Site.apply.Goals as goal
 
 -- ---- nothing waits
@@ -139,4 +140,9 @@ returns-clause-moments g c told =
     does_apply g.P.Plant.tells told site (with_applied failed written site) old new works each c.requires.fast.fits.items sizes (c.requires.fast.stands told).0 (c.requires.fast.stands told).1
 
 pub returns-clause-others : goal.returns-clause-others
-returns-clause-others g c = volumes_alone g.P.Plant.tells c.deref-3.result.now (g.P.Plant.state c.args.plant.now) (g.P.Plant.state c.apply_jobs.new.plant) c.apply_jobs.ensures.only
+returns-clause-others g c =
+    let site = c.args.self.now in
+    let items_are : c.self.inside.body.items ≡ site.waiting = ap (λ (b : Bool). cond b c.self.inside.body.items []) (sym c.if-not-self.false) ∙ ap (λ (s : SiteState). s.waiting) c.self.view_is in
+    let due : c.deref-3.result.now ≡ c.self.inside.due.items = cc (c.deref-3.ensures.value) in
+    waiting_alone g.P.Plant.tells site c.deref-3.result.now (g.P.Plant.state c.args.plant.now) (g.P.Plant.state c.apply_jobs.new.plant) (λ d. ap (λ (l : List Bool). get_or l d false) due ∙ c.self.invariant.due_is c.if-not-self.false d ∙ ap (has_device d) items_are)
+    c.apply_jobs.ensures.only

@@ -1,0 +1,210 @@
+-- A reader's part of a round, put together.
+use Rattle.std.proofs.Common.{◌≡◌, ◌≤◌, ℕ, true, false, List, [], ◌∷◌, ◌++◌, map, Option, Some, None, inl, inr, refl, sym, ap, ◌∙◌, subst, append-nil, append_assoc}
+use Rattle.std.specs.Option.{is_some}
+use Rattle.write_trace.specs.declared.header.VolumeHead.{VolumeHead}
+use Rattle.sidefile.specs.declared.hand.Halt.{Halt}
+use Rattle.sidefile.specs.declared.hand.Halt.TheVariants as halts
+use Rattle.sidefile.specs.Halts.{broken_in}
+use Rattle.pending_queue.specs.declared.room.Room.{Room}
+use Rattle.group_state.specs.declared.joining.CopyJoin.{CopyJoin}
+use Rattle.group_state.specs.declared.joining.CopyJoin.TheVariants as copyings
+use Rattle.group_state.specs.Runs.{Answer}
+use Rattle.lane_feed.specs.declared.reading.Reading.{Reading}
+use Rattle.lane_feed.specs.declared.reading.Reading.TheVariants as readings
+use Rattle.lane_feed.specs.Feeds.{FeedState}
+use Rattle.lane_feed.specs.Steps.{held_answer, wanted_answer}
+use Rattle.lane_feed.specs.Tellers.{IsToldBy, StandsAs, HasFaultBy, IsHaltBelow, IsCopiedBy, WasRefused, copying_answers}
+use Rattle.lane_feed.proofs.Below.{nothing_breaks, below_in_turn, copies_tell_no_break}
+use Rattle.lane_feed.proofs.InTurn.{reads_nothing}
+use Rattle.lane_feed.proofs.Telling.{tells_nothing, tells_in_turn}
+use Rattle.turn_group.specs.Calls.{as_answer}
+use Rattle.turn_group.specs.Seats.{ReaderSeatState, TurnState, calls_at}
+use Rattle.mover.specs.Readers.{LaneReaderState, SitsAt, teller_of}
+use Rattle.mover.specs.Lanes.{AreLastCopies, AreLastOf, DidPart, EndsIn, HasFaultFrom, IsRefusal, MayGoOn, MayRead, ReadsInRound, SeatBreaks, SeatCopies, SeatTells, Sits, TellsFor, answers_at, answers_of}
+
+-- ---- breaks
+
+pub is_unbroken : (halted : Option Halt) → broken_in halted ≡ None → ¬ (halted ≡ Some halts.NoMemory) → halted ≡ None
+is_unbroken None none goes = refl
+is_unbroken (Some (halts.Broken cause upto)) none goes = absurd cc
+is_unbroken (Some halts.NoMemory) none goes = absurd (goes refl)
+
+pub stands_broken : (limit : ℕ) (feed : FeedState) → is_some (broken_in feed.halted) ≡ true → StandsAs readings.Broken limit feed
+stands_broken limit feed some = of feed.halted refl some
+  where
+    of : (halted : Option Halt) → feed.halted ≡ halted → is_some (broken_in halted) ≡ true → StandsAs readings.Broken limit feed
+    of None e s = absurd cc
+    of (Some (halts.Broken cause upto)) e s = (cause, upto, e)
+    of (Some halts.NoMemory) e s = absurd cc
+
+pub no_fault : (halted : Option Halt) (n : ℕ) → HasFaultFrom halted n n halted
+no_fault None n = refl
+no_fault (Some halt) n = refl
+
+pub fault_from : (old now : Option Halt) (faults risen : ℕ) → old ≡ None → HasFaultBy faults risen now → HasFaultFrom old faults risen now
+fault_from old now faults risen none by = subst (λ (h : Option Halt). HasFaultFrom h faults risen now) (sym none) by
+
+-- A feed that reads on has met no fault.
+pub no_fault_yet : (faults risen : ℕ) (halted : Option Halt) → halted ≡ None → HasFaultBy faults risen halted → risen ≡ faults
+no_fault_yet faults risen halted goes by = subst (λ (h : Option Halt). HasFaultBy faults risen h) goes by
+
+-- What is counted behind it is counted from before.
+pub fault_then : (faults mid risen : ℕ) (halted : Option Halt) → mid ≡ faults → HasFaultBy mid risen halted → HasFaultBy faults risen halted
+fault_then faults mid risen halted same by = subst (λ (n : ℕ). HasFaultBy n risen halted) same by
+
+-- ---- what seats tell
+
+pub tells_none : (heads : List VolumeHead) (left : Option (List ℕ)) (feed : FeedState) (seat : ReaderSeatState) → SeatTells heads left left feed feed seat seat
+tells_none heads left feed seat = tells_nothing left feed (teller_of heads seat)
+
+pub tells_then : (heads : List VolumeHead) (before mid now : Option (List ℕ)) (a b c : FeedState) (s t u : ReaderSeatState) → SeatTells heads before mid a b s t → SeatTells heads mid now b c t u → SeatTells heads before now a c s u
+tells_then heads before mid now a b c s t u h k = tells_in_turn before mid now a b c (teller_of heads s) (teller_of heads t) (teller_of heads u) h k
+
+pub breaks_none : (heads : List VolumeHead) (limit : ℕ) (left : Option (List ℕ)) (feed : FeedState) (seat : ReaderSeatState) → SeatBreaks heads limit left feed feed seat seat
+breaks_none heads limit left feed seat = nothing_breaks limit left feed (teller_of heads seat)
+
+pub breaks_then : (heads : List VolumeHead) (limit : ℕ) (before mid now : Option (List ℕ)) (a b c : FeedState) (s t u : ReaderSeatState) → SeatTells heads before mid a b s t → SeatBreaks heads limit before a b s t → SeatTells heads mid now b c t u → SeatBreaks heads limit mid b c t u
+    → SeatBreaks heads limit before a c s u
+breaks_then heads limit before mid now a b c s t u h low k then = below_in_turn limit before mid now a b c (teller_of heads s) (teller_of heads t) (teller_of heads u) h low k then
+
+pub copies_none : (heads : List VolumeHead) (feed : FeedState) (seat : ReaderSeatState) → SeatCopies heads feed seat seat
+copies_none heads feed seat = record { reads = λ left. tells_none heads left feed seat; below = λ limit left. breaks_none heads limit left feed seat }
+
+pub copies_then : (heads : List VolumeHead) (feed : FeedState) (s t u : ReaderSeatState) → SeatCopies heads feed s t → SeatCopies heads feed t u → SeatCopies heads feed s u
+copies_then heads feed s t u h k = record {
+  reads = λ left. tells_then heads left left left feed feed feed s t u (h.reads left) (k.reads left);
+  below = λ limit left. breaks_then heads limit left left left feed feed feed s t u (h.reads left) (h.below limit left) (k.reads left) (k.below limit left);
+}
+
+-- One step that copies.
+pub copies_one : (heads : List VolumeHead) (feed : FeedState) (s t : ReaderSeatState) (joined : Option CopyJoin) → feed.halted ≡ None → ((left : Option (List ℕ)) → SeatTells heads left left feed feed s t) → IsCopiedBy joined feed (teller_of heads s) (teller_of heads t)
+    → SeatCopies heads feed s t
+copies_one heads feed s t joined goes reads copied = record { reads = reads; below = λ limit left. copies_tell_no_break limit left joined feed (teller_of heads s) (teller_of heads t) goes copied }
+
+pub reads_and_copies : (heads : List VolumeHead) (before now : Option (List ℕ)) (old feed : FeedState) (s t u : ReaderSeatState) → SeatTells heads before now old feed s t → SeatCopies heads feed t u → SeatTells heads before now old feed s u
+reads_and_copies heads before now old feed s t u h k = tells_then heads before now now old feed feed s t u h (k.reads now)
+
+pub breaks_and_copies : (heads : List VolumeHead) (limit : ℕ) (before now : Option (List ℕ)) (old feed : FeedState) (s t u : ReaderSeatState) → SeatTells heads before now old feed s t → SeatBreaks heads limit before old feed s t → SeatCopies heads feed t u
+    → SeatBreaks heads limit before old feed s u
+breaks_and_copies heads limit before now old feed s t u h low k = breaks_then heads limit before now now old feed feed s t u h low (k.reads now) (k.below limit now)
+
+-- ---- how calls end
+
+pub ends_here : (Is : List Answer → Type 0) (before last after : List Answer) → after ≡ before ++ last → Is last → EndsIn Is before after
+ends_here Is before last after same so = record { earlier = []; last = last; answers = same ∙ ap (λ (l : List Answer). l ++ last) (sym (append-nil before)); so = so }
+
+-- What ends calls ends all calls from before on.
+pub ends_behind : (Is : List Answer → Type 0) (before gained mid after : List Answer) → mid ≡ before ++ gained → EndsIn Is mid after → EndsIn Is before after
+ends_behind Is before gained mid after same h = record {
+  earlier = gained ++ h.earlier;
+  last = h.last;
+  answers = h.answers ∙ ap (λ (l : List Answer). (l ++ h.earlier) ++ h.last) same ∙ ap (λ (l : List Answer). l ++ h.last) (append_assoc before gained h.earlier);
+  so = h.so;
+}
+
+pub ends_so : (Is So : List Answer → Type 0) (before after : List Answer) → ((last : List Answer) → Is last → So last) → EndsIn Is before after → EndsIn So before after
+ends_so Is So before after more h = record { earlier = h.earlier; last = h.last; answers = h.answers; so = more h.last h.so }
+
+-- The batch that is held was refused.
+pub ends_refused : (room : Room) (feed : FeedState) (heads : List VolumeHead) (told after : ReaderSeatState) → WasRefused room feed (teller_of heads told) (teller_of heads after) → EndsIn (IsRefusal room feed) (answers_at told) (answers_at after)
+ends_refused room feed heads told after was = ends_here (IsRefusal room feed) (answers_at told) (held_answer was.batch room ∷ []) (answers_at after) was.answers (was.batch, was.holds, refl)
+
+-- No track was wanted.
+pub ends_unwanted : (heads : List VolumeHead) (feed : FeedState) (told after : ReaderSeatState) → told.control ≡ feed.side.control → IsCopiedBy None feed (teller_of heads told) (teller_of heads after) → EndsIn (AreLastCopies feed.side.control feed) (answers_at told) (answers_at after)
+ends_unwanted heads feed told after own copied =
+    ends_here (AreLastCopies feed.side.control feed) (answers_at told) (wanted_answer feed.side.control None ∷ []) (answers_at after) (copied ∙ ap (λ (k : ℕ). answers_at told ++ wanted_answer k None ∷ []) own) (inl refl)
+
+-- There was no room for the track that was wanted.
+pub ends_full : (heads : List VolumeHead) (feed : FeedState) (told after : ReaderSeatState) (room : Room) → told.control ≡ feed.side.control → IsCopiedBy (Some (copyings.Held room)) feed (teller_of heads told) (teller_of heads after)
+    → EndsIn (AreLastCopies feed.side.control feed) (answers_at told) (answers_at after)
+ends_full heads feed told after room own copied =
+    ends_here (AreLastCopies feed.side.control feed) (answers_at told) (copying_answers feed.side.control feed.primary copied.volume copied.track copied.at (copyings.Held room)) (answers_at after)
+    (copied.answers ∙ ap (λ (k : ℕ). answers_at told ++ copying_answers k feed.primary copied.volume copied.track copied.at (copyings.Held room)) own) (inr (copied.volume, copied.track, copied.at, room, refl))
+
+-- A reader that is not at the limit ends where it read on to.
+pub ends_reading : (reading : Reading) (k : ℕ) (feed : FeedState) (before gained after : List Answer) → after ≡ before ++ gained → (reading ≡ readings.Joined → ⊥) → (reading ≡ readings.AtLimit → ⊥)
+    → ((room : Room) → reading ≡ readings.Held room → EndsIn (IsRefusal room feed) before after) → EndsIn (AreLastOf reading k feed) before after
+ends_reading readings.Joined k feed before gained after same joins at held = absurd (joins refl)
+ends_reading (readings.Held room) k feed before gained after same joins at held = held room refl
+ends_reading readings.AtLimit k feed before gained after same joins at held = absurd (at refl)
+ends_reading readings.Broken k feed before gained after same joins at held = ends_here (AreLastOf readings.Broken k feed) before gained after same tt
+ends_reading readings.NoMemory k feed before gained after same joins at held = ends_here (AreLastOf readings.NoMemory k feed) before gained after same tt
+
+-- ---- a reader
+
+abbrev seat_or : ReaderSeatState → Option ReaderSeatState → ReaderSeatState
+seat_or seat None = seat
+seat_or seat (Some other) = other
+
+abbrev reader_with : FeedState → Option ReaderSeatState → Option Reading → LaneReaderState
+reader_with feed seat last = record { feed = feed; seat = seat; last = last }
+
+-- What is told with the volumes that the feed had before is told with those that it has.
+pub tells_behind : (at : TurnState) (heads : List VolumeHead) (feed : FeedState) (seat : ReaderSeatState) → SitsAt at heads seat → IsToldBy feed (teller_of heads seat) → TellsFor at feed seat
+tells_behind at heads feed seat sits told = record {
+  sits = subst (λ (h : List VolumeHead). SitsAt at h seat) told.volumes sits;
+  told = subst (λ (h : List VolumeHead). IsToldBy feed (teller_of h seat)) told.volumes told;
+}
+
+module _ (at : TurnState) (limit : ℕ) (old : LaneReaderState) (may : MayRead at limit old) where
+  -- The seat that a reader has tells for its feed.
+  pub tells_of : (seat : ReaderSeatState) → old.seat ≡ Some seat → TellsFor at old.feed seat
+  tells_of seat is = subst (λ (s : ReaderSeatState). TellsFor at old.feed s) (ap (seat_or seat) (sym may.0.has ∙ is)) may.0.tells_for
+
+  -- A reader that has broken stays as it is.
+  pub stays_broken : is_some (broken_in old.feed.halted) ≡ true → Sits at limit (reader_with old.feed old.seat (Some readings.Broken))
+  stays_broken some = record { seat = may.0.seat; has = may.0.has; tells_for = may.0.tells_for; within = may.0.within; stands = stands_broken limit old.feed some }
+
+-- A reader that read in turns of its seat sits again.
+pub sits_again : (at : TurnState) (heads : List VolumeHead) (limit : ℕ) (feed : FeedState) (seat : ReaderSeatState) (reading : Reading) → SitsAt at heads seat → IsToldBy feed (teller_of heads seat) → feed.side.upto ≤ limit → StandsAs reading limit feed
+    → Sits at limit (reader_with feed (Some seat) (Some reading))
+sits_again at heads limit feed seat reading sits told within stands = record { seat = seat; has = refl; tells_for = tells_behind at heads feed seat sits told; within = within; stands = stands }
+
+pub reads_none : (limit : ℕ) (left : Option (List ℕ)) (n : ℕ) (old : LaneReaderState) (feed : FeedState) (seat : Option ReaderSeatState) (was last : Option Reading) → reader_with feed seat was ≡ old → ReadsInRound limit left left n n old (reader_with feed seat last)
+reads_none limit left n old feed seat was last is = subst (λ (r : LaneReaderState). ReadsInRound limit left left n n r (reader_with feed seat last)) is (record {
+  gained = [];
+  answers = sym (append-nil (answers_of (reader_with feed seat last)));
+  same = record { control = refl; heads = refl };
+  reads_on = reads_nothing left feed;
+  below = record { told = λ bytes there. refl; halts = λ goes bytes there. subst (IsHaltBelow limit) (sym goes) tt };
+  fault = no_fault feed.halted n;
+})
+
+-- A reader that has broken does no more in its part.
+pub did_nothing : (old : LaneReaderState) (feed : FeedState) (seat : Option ReaderSeatState) (was : Option Reading) → reader_with feed seat was ≡ old → DidPart old (reader_with feed seat (Some readings.Broken))
+did_nothing old feed seat was is =
+    let next = reader_with feed seat (Some readings.Broken) in
+    subst (λ (r : LaneReaderState). DidPart r next) is (record {
+      reading = readings.Broken;
+      is = refl;
+      ends = ends_here (AreLastOf readings.Broken feed.side.control feed) (answers_of next) [] (answers_of next) (sym (append-nil (answers_of next))) tt;
+    })
+
+-- A feed that hasn't broken, and may be used, reads on.
+pub goes_on : (feed : FeedState) → is_some (broken_in feed.halted) ≡ false → MayGoOn feed → feed.halted ≡ None
+goes_on feed unbroken goes = is_unbroken feed.halted (none_of (broken_in feed.halted) unbroken) goes
+  where
+    none_of : {A : Type 0} → (a : Option A) → is_some a ≡ false → a ≡ None
+    none_of None is = refl
+    none_of (Some x) is = absurd cc
+
+-- Reading and copying in turns of a seat.
+pub reads_part : (limit : ℕ) (before now : Option (List ℕ)) (faults risen : ℕ) (old : LaneReaderState) (seat next : ReaderSeatState) (feed : FeedState) (heads : List VolumeHead) (last : Option Reading) → old.seat ≡ Some seat → old.feed.halted ≡ None
+    → IsToldBy old.feed (teller_of heads seat) → IsToldBy feed (teller_of heads next) → SeatTells heads before now old.feed feed seat next → SeatBreaks heads limit before old.feed feed seat next → HasFaultBy faults risen feed.halted
+    → ReadsInRound limit before now faults risen old (reader_with feed (Some next) last)
+reads_part limit before now faults risen old seat next feed heads last is goes was told reads low by = record {
+  gained = reads.gained;
+  answers = reads.answers ∙ ap (λ (s : Option ReaderSeatState). map as_answer (calls_at s) ++ reads.gained) (sym is);
+  same = record { control = sym told.control ∙ reads.same.control ∙ was.control; heads = sym told.volumes ∙ was.volumes };
+  reads_on = reads.reads_on;
+  below = record { told = λ bytes there. low.told_so bytes there reads.gained reads.answers; halts = low.halts };
+  fault = fault_from old.feed.halted feed.halted faults risen goes by;
+}
+
+pub did_part : (old : LaneReaderState) (seat next : ReaderSeatState) (feed : FeedState) (reading : Reading) → old.seat ≡ Some seat → EndsIn (AreLastOf reading feed.side.control feed) (answers_at seat) (answers_at next)
+    → DidPart old (reader_with feed (Some next) (Some reading))
+did_part old seat next feed reading is ends = record {
+  reading = reading;
+  is = refl;
+  ends = subst (λ (l : List Answer). EndsIn (AreLastOf reading feed.side.control feed) l (answers_at next)) (sym (ap (λ (s : Option ReaderSeatState). map as_answer (calls_at s)) is)) ends;
+}

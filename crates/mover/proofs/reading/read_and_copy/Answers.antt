@@ -1,0 +1,27 @@
+use Rattle.mover.proofs.Parts.{reads_and_copies, breaks_and_copies, ends_reading}
+use Rattle.mover.specs.Lanes.{answers_at}
+use Rattle.mover.proofs.reading.read_and_copy.Goals as goal
+
+pub returns-in-AtLimit-clause-reads : goal.returns-in-AtLimit-clause-reads
+returns-in-AtLimit-clause-reads g c =
+    let call = c.read_on-reading in
+    reads_and_copies g.B.Sitting.volumes _ _ _ _ c.args.teller.now.seat call.new.teller.seat c.copy_all.new.teller.seat call.ensures.reads c.copy_all.ensures.copies
+
+pub returns-in-AtLimit-clause-below : goal.returns-in-AtLimit-clause-below
+returns-in-AtLimit-clause-below g c =
+    let call = c.read_on-reading in
+    breaks_and_copies g.B.Sitting.volumes c.args.limit.0 _ (g.S.Source.left call.new.source) _ _ c.args.teller.now.seat call.new.teller.seat c.copy_all.new.teller.seat call.ensures.reads call.ensures.below c.copy_all.ensures.copies
+
+pub returns-in_default : goal.returns-in_default
+returns-in_default g c =
+    let call = c.read_on-reading.ensures in
+    let feed = c.read_on-reading.new.feed in
+    record {
+      reads = call.reads;
+      below = call.below;
+      told = call.told;
+      within = call.within;
+      stands = call.stands;
+      fault = call.fault;
+      ends = ends_reading c.read_on-reading.result feed.side.control feed (answers_at c.args.teller.now.seat) call.reads.gained (answers_at c.read_on-reading.new.teller.seat) call.reads.answers call.ends c.in_default.not-AtLimit call.refused;
+    }

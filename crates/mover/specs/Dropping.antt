@@ -1,0 +1,102 @@
+-- Volumes that are dropped because their rows were suspended, or were hit.
+use Rattle.std.specs.Prelude.{◌≡◌, ◌⊎◌, ℕ, suc, ◌<◌, not, if◌then◌else◌, List, [], ◌∷◌, ◌++◌, map, Bool, true, false, Option, Some, None, IsTrue, slice_get, slice_index_or}
+use Rattle.std.specs.List.{Contains}
+use Rattle.pair_table.specs.declared.row.PairRow.{PairRow}
+use Rattle.pair_table.specs.declared.row.PairState.{PairState}
+use Rattle.pair_table.specs.declared.row.PairState.TheVariants.{Pending, Copy, Duplex, Suspended}
+use Rattle.pair_table.specs.Rows.{is_suspended}
+use Rattle.record_rows.specs.Hits.{is_by_device, is_device_suspended}
+use Rattle.group_state.specs.Machine.{Call}
+use Rattle.group_state.specs.Machine.Call.{Drop}
+use Rattle.group_state.specs.Machine.Reply.{Made}
+use Rattle.group_state.specs.Runs.{Answer}
+use Rattle.fed_logs.specs.Moves.{HasRowIn}
+use Rattle.turn_group.specs.Calls.{MadeCall, as_answer}
+use Rattle.turn_group.specs.Notes.{KnownVolume, known_after}
+use Rattle.turn_group.specs.Seats.{MoverSeatState}
+
+-- the states of rows by their places
+abbrev pub are_states_of : List PairRow → (states : List (Option PairState)) → Type 0
+are_states_of rows states = (place : ℕ) (r : PairRow) → slice_get rows place ≡ Some r → slice_index_or states place None ≡ Some r.state
+
+abbrev pub is_duplex_state : PairState → Bool
+is_duplex_state Pending = false
+is_duplex_state Copy = false
+is_duplex_state Duplex = true
+is_duplex_state (Suspended cause since) = false
+
+-- ---- what a volume owes
+
+-- A row that its own device suspends owes all its tracks, also if it was suspended before for another reason.
+abbrev pub owes_hit : (was : PairState) → Option Bool
+owes_hit was = if is_device_suspended was then None else Some true
+
+-- A row that is suspended for another reason owes all its tracks unless it was duplex. A duplex one owes those that change from then on.
+abbrev pub owes_suspended : (was : PairState) → Option Bool
+owes_suspended was = if is_suspended was then None else Some (not (is_duplex_state was))
+
+-- Whether the volume of a row that goes to a state is dropped; and if it is, whether it owes all its tracks.
+abbrev pub owes_by : (was is : PairState) → Option Bool
+owes_by was Pending = None
+owes_by was Copy = None
+owes_by was Duplex = None
+owes_by was (Suspended cause since) = if is_by_device cause then owes_hit was else owes_suspended was
+
+abbrev pub owes_since : Option PairState → PairState → Option Bool
+owes_since None is = None
+owes_since (Some was) is = owes_by was is
+
+-- ---- the calls
+
+-- a volume to be dropped, and whether it owes all its tracks
+pub record VolumeDrop : Type 0 where
+  pub control : ℕ
+  pub volume : ℕ
+  pub all : Bool
+
+abbrev pub call_of_drop : VolumeDrop → Call
+call_of_drop d = Drop d.control d.volume d.all
+
+abbrev pub answer_of_drop : VolumeDrop → Answer
+answer_of_drop d = record { call = call_of_drop d; reply = Made }
+
+-- a row's volume, if it is dropped
+abbrev pub drop_of : PairRow → Option Bool → List VolumeDrop
+drop_of r None = []
+drop_of r (Some all) = record { control = r.control; volume = r.volume; all = all } ∷ []
+
+-- the volumes of rows from a place on, which had these states before
+abbrev pub drops_from : (place : ℕ) → (was : List (Option PairState)) → List PairRow → List VolumeDrop
+drops_from place was [] = []
+drops_from place was (r ∷ rows) = drop_of r (owes_since (slice_index_or was place None) r.state) ++ drops_from (suc place) was rows
+
+abbrev pub known_behind : List VolumeDrop → List (List KnownVolume) → List (List KnownVolume)
+known_behind [] known = known
+known_behind (d ∷ drops) known = known_behind drops (known_after (call_of_drop d) known)
+
+-- The mover's seat dropped these volumes, and did nothing else.
+pub record MakesDrops (drops : List VolumeDrop) (old new : MoverSeatState) : Type 0 where
+  pub gained : List MadeCall
+  pub calls_are : new.calls ≡ old.calls ++ gained
+  pub are : map as_answer gained ≡ map answer_of_drop drops
+  pub last : new.last ≡ old.last
+  pub known : new.known ≡ known_behind drops old.known
+
+-- It dropped the volumes of the rows that are to be dropped, in order.
+abbrev pub Drops : (was : List (Option PairState)) → List PairRow → (old new : MoverSeatState) → Type 0
+Drops was rows = MakesDrops (drops_from 0 was rows)
+
+-- The rows are of the first controls.
+abbrev pub AreOfControls : (controls : ℕ) → List PairRow → Type 0
+AreOfControls n rows = (r : PairRow) → Contains rows r → r.control < n
+
+-- ---- what is owed behind calls
+
+abbrev pub IsDeviceSuspended : PairState → Type 0
+IsDeviceSuspended state = IsTrue (is_device_suspended state)
+
+-- Each row that its device suspends was so before, or a call dropped its volume with all its tracks.
+abbrev pub OwesFailed : (rows next : List PairRow) → List Answer → Type 0
+OwesFailed rows next answers =
+    (k v : ℕ) → HasRowIn IsDeviceSuspended k v next
+    → HasRowIn IsDeviceSuspended k v rows ⊎ Contains answers (answer_of_drop (record { control = k; volume = v; all = true }))

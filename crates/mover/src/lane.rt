@@ -1,0 +1,72 @@
+//! A control's lane.
+
+use crate::reader::Reader;
+use ckd_track::{Cause, Slot};
+use lane_feed::{Feed, Reading};
+use primary_ctl::Primary;
+use sidefile::Sidefile;
+use std::alloc::Global;
+use tod_stamp::Stamp;
+use xrc_edge::NoMemory;
+
+/// A control's source, and the reader of its trace once that was started.
+#[derive(Drop)]
+pub struct Lane<S> {
+    pub source: S,
+    pub(crate) reader: Option<Reader>,
+}
+
+impl<S> Lane<S> {
+    ghost use Rattle.std.specs.Prelude.{◌≡◌, None, Some, OnOk, OnErr};
+    ghost use Rattle.sidefile.specs.declared.hand.Halt.TheVariants as halts;
+    ghost use Rattle.mover.specs.Lanes.{broken_by, first_reader, last_of};
+
+    /// A lane that has no reader yet.
+    pub fn new(source: S) -> Lane<S>
+        ensures { result ≡ record { source = source; reader = None } }
+    {
+        Lane {
+            source,
+            reader: None,
+        }
+    }
+
+    /// Gives the lane its reader. The sidefile's reader was started on the lane's source, and the primary was made from the header
+    /// that came with it. The sidefile may have broken; it didn't want memory.
+    pub fn open(&mut self, alloc: Global, side: Sidefile, primary: Primary) -> Result<(), NoMemory>
+        requires usable { side.halted ≡ Some halts.NoMemory → ⊥ }
+        requires volumes { primary.volumes ≡ side.reader.volumes }
+        requires even { primary.time ≡ side.upto }
+        ensures ok { OnOk result (self.new ≡ record self.old { reader = Some (first_reader side primary) }) }
+        ensures err { OnErr result (self.new ≡ self.old) }
+    {
+        let slot = Slot::make(alloc)?;
+        self.reader = Some(Reader {
+            feed: Feed::make(side, primary),
+            slot,
+            seat: None,
+            last: None,
+        });
+        Ok(())
+    }
+
+    /// The `upto` and the cause of the break that the lane's reader was answered; None exactly where no handover was answered so.
+    pub fn broken(&self) -> Option<(Stamp, Cause)>
+        ensures { result ≡ broken_by self.now.reader }
+    {
+        match &self.reader {
+            Some(reader) => reader.broken(),
+            None => None,
+        }
+    }
+
+    /// What became of its reader's part of the last round; None before the first one of an epoch.
+    pub(crate) fn last(&self) -> Option<Reading>
+        ensures { result ≡ last_of self.now.reader }
+    {
+        match &self.reader {
+            Some(reader) => reader.last,
+            None => None,
+        }
+    }
+}

@@ -1,0 +1,172 @@
+//! The second half of the mover's part of a round: the last group is applied, failures are told, a mark is made if it is due, and the
+//! volumes of pairs that are suspended or hit now are dropped.
+
+ghost use Rattle.std.specs.Prelude.{◌≡◌, ◌<◌, ℕ, nat_le, [], false, length, OnOk, IsTrue};
+ghost use Rattle.pair_table.specs.Rows.{is_suspended};
+ghost use Rattle.pair_table.specs.Tables.{KeepsRows, none_clash};
+ghost use Rattle.record_rows.specs.Hits.{hit_now, is_device_suspended};
+ghost use Rattle.site_store.specs.Standing.{MayRecord, StandsFast};
+ghost use Rattle.mover.specs.Dropping.{AreOfControls, Drops, MakesDrops, are_states_of, drop_of, owes_by, owes_since};
+ghost use Rattle.mover.specs.Moves.{IsStillAt, KeepsLimit, MaySettle, Moved, MoverWorks, SettlesFor, SiteMoved};
+
+use crash_plant::Plant;
+use pair_table::{PairRow, PairState, PairTable, SuspendCause};
+use site_store::{Site, StoreError};
+use std::sync::Wait;
+use std::thread::Threads;
+use turn_group::{MoverSeat, TurnGroup};
+
+/// The most rows of a table.
+const MOST_ROWS: usize = 64;
+
+/// How many groups are logged between two marks.
+const GROUPS_OF_MARK: u32 = 1;
+
+/// The states of a table's rows, by their places.
+pub(crate) fn states_of(table: &PairTable) -> [Option<PairState>; MOST_ROWS]
+    ensures states { are_states_of table.now.rows result }
+    ensures rules { KeepsRows table.now.rows }
+{
+    let mut states = [None; MOST_ROWS];
+    for place in 0..table.len() {
+        let Some(row) = table.row(place) else {
+            unreachable!()
+        };
+        states[usize::from(place)] = Some(row.state);
+    }
+    states
+}
+
+fn is_suspended(state: PairState) -> bool
+    ensures { result ≡ is_suspended state }
+{
+    matches!(state, PairState::Suspended { .. })
+}
+
+/// Whether its own device suspends a pair.
+fn is_device_suspended(state: PairState) -> bool
+    ensures { result ≡ is_device_suspended state }
+{
+    matches!(
+        state,
+        PairState::Suspended {
+            cause: SuspendCause::Device,
+            ..
+        }
+    )
+}
+
+/// Whether the volume of a pair that went from one state to another is dropped, and if it is, whether it owes all its tracks: it owes
+/// only those that change from now on where it was duplex and its own device hasn't failed. A pair that was suspended already owes
+/// all of them once its device fails.
+fn owes_by(was: PairState, is: PairState) -> Option<bool>
+    ensures { result ≡ owes_by was is }
+{
+    if is_device_suspended(is) {
+        return if is_device_suspended(was) {
+            None
+        } else {
+            Some(true)
+        };
+    }
+    if !is_suspended(is) || is_suspended(was) {
+        return None;
+    }
+    Some(was != PairState::Duplex)
+}
+
+/// Drops the volume of a row that was suspended or hit.
+fn drop_row<W: Wait>(
+    rt: &W,
+    group: &TurnGroup,
+    seat: &mut MoverSeat,
+    was: Option<PairState>,
+    row: &PairRow,
+)
+    requires table { seat.old.table ≡ group.now.table }
+    requires control { row.now.control < length seat.old.known }
+    ensures drops { MakesDrops (drop_of row.now (owes_since was row.now.state)) seat.old seat.new }
+    ensures seat { IsStillAt seat.old seat.new }
+{
+    let Some(was) = was else {
+        return;
+    };
+    if let Some(all) = owes_by(was, row.state) {
+        group.drop_volume(rt, seat, row.control, row.volume, all);
+    }
+}
+
+/// Drops the volumes of the rows that were suspended or hit since they had these states.
+pub(crate) fn drop_suspended<W: Wait>(
+    rt: &W,
+    group: &TurnGroup,
+    seat: &mut MoverSeat,
+    was: &[Option<PairState>; MOST_ROWS],
+    table: &PairTable,
+)
+    requires table { seat.old.table ≡ group.now.table }
+    requires controls { AreOfControls (length seat.old.known) table.now.rows }
+    ensures drops { Drops was.now table.now.rows seat.old seat.new }
+    ensures seat { IsStillAt seat.old seat.new }
+{
+    for place in 0..table.len() {
+        let Some(row) = table.row(place) else {
+            unreachable!()
+        };
+        drop_row(rt, group, seat, was[usize::from(place)], row);
+    }
+}
+
+/// Whether a mark is due.
+fn is_mark_due<V>(site: &Site<V>) -> bool
+    ensures { result ≡ nat_le 1 site.now.since }
+{
+    site.since() >= GROUPS_OF_MARK
+}
+
+/// Applies the last group, tells which volumes failed, and marks if a mark is due.
+fn keep<R: Threads + Sync, P: Plant>(
+    rt: &R,
+    site: &mut Site<P::Volume>,
+    plant: &mut P,
+) -> Result<(), StoreError>
+    requires fast { StandsFast P.tells site.old (P.state plant.old) }
+    requires level { site.old.is_ahead ≡ false }
+    requires apart { IsTrue (none_clash site.old.told) }
+    requires told { hit_now site.old.failed site.old.told ≡ [] }
+    ensures told { OnOk result (hit_now site.new.failed site.new.told ≡ []) }
+    ensures rests { OnOk result (MayRecord P.tells site.new (P.state plant.new)) }
+    ensures moved { SiteMoved P.tells site.old site.new (P.state plant.old) (P.state plant.new) result }
+    ensures works { MoverWorks P.tells site.old site.new (P.state plant.old) (P.state plant.new) result }
+{
+    site.apply(rt, plant);
+    let time = site.time();
+    site.suspend(plant, time)?;
+    if !is_mark_due(site) {
+        return Ok(());
+    }
+    site.mark(rt, plant, false)
+}
+
+/// Brings the site to rest behind its last group. Volumes whose pairs are suspended by it are dropped.
+pub(crate) fn settle<R: Threads + Wait + Sync, P: Plant>(
+    rt: &R,
+    group: &TurnGroup,
+    seat: &mut MoverSeat,
+    site: &mut Site<P::Volume>,
+    plant: &mut P,
+) -> Result<(), StoreError>
+    requires table { seat.old.table ≡ group.now.table }
+    requires may { (limit : ℕ) × MaySettle P.tells limit seat.old site.old (P.state plant.old) }
+    ensures may { SettlesFor P.tells seat.old seat.new site.old site.new (P.state plant.old) (P.state plant.new) result }
+    ensures moved { Moved P.tells seat.old seat.new site.old site.new (P.state plant.old) (P.state plant.new) result }
+    ensures last { seat.new.last ≡ seat.old.last }
+    ensures limited { (limit : ℕ) → KeepsLimit limit seat.old seat.new }
+    ensures seat { IsStillAt seat.old seat.new }
+    ensures works { MoverWorks P.tells site.old site.new (P.state plant.old) (P.state plant.new) result }
+{
+    let was = states_of(site.table());
+    keep(rt, site, plant)?;
+    drop_suspended(rt, group, seat, &was, site.table());
+    Ok(())
+}

@@ -1,0 +1,5 @@
+use Rattle.site_store.specs.Between.{IsSiteIdle}
+use Rattle.store_tests.proofs.changes.fill_and_change.Given as goal
+
+abbrev pub invariant-loop-formed : goal.invariant-loop-formed
+invariant-loop-formed g l = IsSiteIdle g.P.Plant.tells l.site (g.P.Plant.state l.plant)
