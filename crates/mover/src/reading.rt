@@ -19,12 +19,9 @@ use std::marker::{Brand, PhantomData};
 use std::sync::Wait;
 use std::thread;
 use std::thread::Threads;
-use tod_stamp::Stamp;
+use tod_stamp::{MOST_CONTROLS, Stamp};
 use turn_group::{ReaderSeat, TurnGroup};
 use xrc_edge::Source;
-
-/// The most controls, and so the most readers.
-const MOST_READERS: usize = 16;
 
 /// Reads on until the feed has nothing to join up to the limit: the batch that is held is joined first.
 fn read_on<W: Wait, S: Source, B: Sitting>(
@@ -216,7 +213,7 @@ pub(crate) fn read_all<W: Threads + Wait + Sync, S: Source + Send, G: Gate + Syn
     thread::for_each_mut(
         rt,
         lanes,
-        MOST_READERS,
+        MOST_CONTROLS,
         &|_, lane| { read_lane(rt, alloc, gate, group, lane, limit) },
     );
 }

@@ -10,14 +10,11 @@ ghost use Rattle.mover.specs.Dropping.{AreOfControls, Drops, MakesDrops, are_sta
 ghost use Rattle.mover.specs.Moves.{IsStillAt, KeepsLimit, MaySettle, Moved, MoverWorks, SettlesFor, SiteMoved};
 
 use crash_plant::Plant;
-use pair_table::{PairRow, PairState, PairTable, SuspendCause};
+use pair_table::{MOST_ROWS, PairRow, PairState, PairTable, SuspendCause};
 use site_store::{Site, StoreError};
 use std::sync::Wait;
 use std::thread::Threads;
 use turn_group::{MoverSeat, TurnGroup};
-
-/// The most rows of a table.
-const MOST_ROWS: usize = 64;
 
 /// How many groups are logged between two marks.
 const GROUPS_OF_MARK: u32 = 1;
