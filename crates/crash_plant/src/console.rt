@@ -1,5 +1,6 @@
-ghost use Rattle.std.specs.Prelude.{◌≡◌, ◌≤◌, ◌+◌, vec_len, IfOk};
+ghost use Rattle.std.specs.Prelude.{◌≡◌, ◌≤◌, ◌+◌, true, false, vec_len, Ok, OnOk, OnErr, IfOk};
 ghost use Rattle.xrc_edge.specs.Causes.{HasCause};
+ghost use Rattle.crash_plant.specs.declared.device.Heard.TheVariants.{End};
 
 use crate::Heard;
 use std::alloc::Global;
@@ -11,7 +12,8 @@ const ROOM: usize = 65536;
 // How often a read that a signal interrupts is made again.
 const TRIES: u32 = 1000;
 
-/// A script that is heard byte by byte, through a buffer of its own, and an output to which replies are said at once.
+/// A script that is heard byte by byte, through a buffer of its own, and an output to which replies are said at once. Once the
+/// script has ended, the input is not read again, so that nobody has to end it twice at a terminal.
 #[derive(Drop)]
 pub(crate) struct Console<R: Read + Drop, W: Write + Drop> {
     input: R,
@@ -19,6 +21,7 @@ pub(crate) struct Console<R: Read + Drop, W: Write + Drop> {
     buffer: Vec<u8>,
     next: usize,
     filled: usize,
+    has_ended: bool,
     faults: u64,
     ghost within: { (next ≤ filled) × (filled ≤ vec_len buffer) },
 }
@@ -34,17 +37,25 @@ impl<R: Read + Drop, W: Write + Drop> Console<R, W> {
             buffer,
             next: 0,
             filled: 0,
+            has_ended: false,
             faults: 0,
         })
     }
 
+    // Gives the next byte, or the end. Behind the end there is nothing to read.
     pub(crate) fn hear(&mut self) -> Result<Heard, Failed>
-        ensures { HasCause self.old.faults self.new.faults result }
+        ensures ended { result ≡ Ok End → self.new.has_ended ≡ true }
+        ensures still { self.old.has_ended ≡ true → result ≡ Ok End × self.new ≡ self.old }
+        ensures cause { HasCause self.old.faults self.new.faults result }
     {
+        if self.has_ended {
+            return Ok(Heard::End);
+        }
         if self.next == self.filled {
             self.refill()?;
         }
         if self.next == self.filled {
+            self.has_ended = true;
             return Ok(Heard::End);
         }
         let byte = self.buffer[self.next];

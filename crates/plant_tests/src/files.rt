@@ -128,3 +128,24 @@ fn a_console_alone_is_a_plant(rt: HostRuntime) -> io::Result<()> {
     fs::remove_file(&rt, "script")?;
     fs::remove_file(&rt, "said")
 }
+
+/// A script that has ended is at its end, even if its file grows later.
+#[test]
+fn a_script_ends_once(rt: HostRuntime) -> io::Result<()> {
+    let outcome = FilePlant::new(
+        rt.alloc(),
+        FileDisk::absent(),
+        FileDisk::absent(),
+        Vec::new(rt.alloc()),
+        Vec::new(rt.alloc()),
+        open(&rt, "script", b"")?,
+        open(&rt, "said", b"")?,
+    );
+    let mut plant = outcome.expect(&rt, "memory");
+    assert_same(&rt, &plant.hear(), &Ok(Heard::End), &"the end");
+    let mut script = OpenOptions::new().append(true).open(&rt, "script")?;
+    script.write_all(b"h")?;
+    assert_same(&rt, &plant.hear(), &Ok(Heard::End), &"the end again");
+    fs::remove_file(&rt, "script")?;
+    fs::remove_file(&rt, "said")
+}
