@@ -221,9 +221,9 @@ impl PairTable {
         ensures ok { OnOk result (self.new ≡ with_rows self.old (with_row row self.old.rows)) }
         ensures err { OnErr result (self.new ≡ self.old) }
     {
-        // The two names are serials by their type, which says so where their bytes are read.
-        let _primary = row.primary.as_bytes();
-        let _secondary = row.secondary.as_bytes();
+        // No serial is empty.
+        prove!(!row.primary.as_bytes().is_empty());
+        prove!(!row.secondary.as_bytes().is_empty());
         self.rows.insert(row.device, row)?;
         Ok(())
     }

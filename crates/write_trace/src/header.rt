@@ -107,7 +107,8 @@ fn is_from(low_volume: u16, low_track: u64, listed: &BaseTrack) -> bool
     ensures { result ≡ (is_from (low_volume, low_track) (listed.now.0, listed.now.1) && is_track listed.now.2) }
 {
     let (volume, track, content) = listed;
-    let _valid = content.recs();
+    // Numbers of records rise, and each is a byte.
+    prove!(content.recs().len() <= 255);
     low_volume < *volume || (low_volume == *volume && low_track <= u64::from(*track))
 }
 

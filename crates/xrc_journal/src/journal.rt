@@ -119,8 +119,9 @@ fn put_switch<P: Plant>(plant: &mut P, at: Spot, cut: Stamp, set: u16) -> Result
     ensures cause { HasCause ((P.state plant.old).faults (JournalDevice at.set)) ((P.state plant.new).faults (JournalDevice at.set)) result }
 {
     let device = Device::Journal(at.set);
-    // A length is a number of 64 bits, and so is each place up to it.
-    let _length = plant.length(device);
+    let length = plant.length(device);
+    // The spot lies in its data set.
+    prove!(at.place < length);
     let behind = switch_bytes(at.number, cut, set);
     put_down(plant, device, at.place + 1, &behind)?;
     put_down(plant, device, at.place, &[1])

@@ -16,7 +16,7 @@ invariant_of-self-2 c =
     let is = put_is old c.insert.new.self.entries row c.self.invariant c.in_ok-insert.ensures.entries in
     let device : nat_lt row.device (2 ^ 16) ≡ true = search rules in
     let state : is_state row.state ≡ true = search rules in
-    let valid = is_row_by row c.as_bytes-primary.ensures.valid c.as_bytes-secondary.ensures.valid c.requires.rules device state in
+    let valid = is_row_by row c.as_bytes.ensures.valid c.as_bytes-2.ensures.valid c.requires.rules device state in
     let apart = subst (λ (t : Table). none_clash (with_row row t.rows) ≡ true) (sym c.self.view_is) c.requires.apart in
     let few = subst (λ (t : Table). length (with_row row t.rows) ≤ most_rows) (sym c.self.view_is) c.requires.few in
     keeps_map c.insert.new.self.entries (with_row row rows) is (keeps_with_row row rows valid c.self.invariant.rows apart few)
