@@ -25,9 +25,10 @@ use Rattle.image_former.specs.Entries.{HasEntry}
 use Rattle.image_former.specs.Forms.{StandFor}
 use Rattle.image_former.specs.Jobs.{HasNoEntry, OnVolumes, is_failed_of}
 use Rattle.site_store.specs.Causes.{FailByCounts}
-use Rattle.site_store.specs.Logging.{HasEntryOn, is_entry_of_device}
+use Rattle.site_store.specs.Logging.{FailByEntries, HasEntryOn, is_entry_of_device}
 use Rattle.site_store.specs.Jobs.{are_home_from, has_job_failed}
 use Rattle.site_store.proofs.LentJobs.{Home, home_at, home_from, on_device}
+use Rattle.site_store.proofs.LogFails.{flag_low}
 
 -- What is said of lent volumes is said of disks.
 on_disks : {D : Type 0} (state : D → Standing) (holds : Standing → Standing → Type 0) (o n : Option D) → OnVolume state holds o n → OnDisks (λ was is. holds (state was) (state is)) o n
@@ -211,6 +212,21 @@ module _ {D : Type 0} (tells own : Type 0) (state : D → Standing) (rows : List
         never : (b : Bool) → (b && false) ≡ false
         never true = refl
         never false = refl
+
+    -- A job whose volume has no entry isn't worked on.
+    pub by_entries : FailByEntries rows entries (map has_job_failed old) (map has_job_failed (map without_disk given))
+    by_entries i down =
+        let less : i < length lent = omega (arith, flag_low (map has_job_failed (map without_disk given)) i down, length-map (map without_disk given) has_job_failed, length-map given without_disk, size) in
+        elim (cases_Bool (list_any (is_entry_of_device rows i) entries)) [
+          | inl has ↦ inr has
+          | inr none ↦ inl (was less none)
+        ]
+      where
+        was : i < length lent → list_any (is_entry_of_device rows i) entries ≡ false → get_or (map has_job_failed old) i false ≡ true
+        was less none =
+            let d = some_at lent i less in
+            let apart : HasNoEntry rows entries (get_or lent i d).device = λ x has. absurd (cc (on_device rows entries i x (subst (λ (v : ℕ). HasEntry rows v x entries) (device_at i d less) has), none)) in
+            failed_at i d less ∙ sym (ap (λ (j : VolumeJob D). j.failed) (AllZip-get_or _ lent given i d d not_called less apart)) ∙ sym (failed_then i d less) ∙ down
 
     -- ---- what the items do
 

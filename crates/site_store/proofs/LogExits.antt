@@ -27,7 +27,7 @@ use Rattle.site_store.specs.declared.way.Way.TheVariants.{Marked as MarkedFirst}
 use Rattle.site_store.specs.Causes.{FailByCounts, HasStoreCause}
 use Rattle.site_store.specs.Hits.{AreHits, are_some, with_group_and_hits}
 use Rattle.site_store.specs.Jobs.{body_room}
-use Rattle.site_store.specs.Logging.{FormsRecord, HasEntryOn, IsOfLog, IsOfSomeRow, LogsBy, LogsGroup, MayLog, rows_before, rows_logged}
+use Rattle.site_store.specs.Logging.{FailByEntries, FormsRecord, HasEntryOn, IsOfLog, IsOfSomeRow, LogsBy, LogsGroup, MayLog, rows_before, rows_logged}
 use Rattle.site_store.specs.Marking.{MakesMark}
 use Rattle.site_store.specs.Recording.{HasRoomBehindSwitch, MayPutRecord, ShowsRecord, group_with}
 use Rattle.site_store.specs.Records.{IsJournal, IsOfMark, behind_mark, one_more}
@@ -93,6 +93,7 @@ pub record IsFirst (tells : Type 0) (group : FormedGroup) (site : SiteState) (ol
   pub reads : OnlyReads tells old mid
   pub home : NoneLent mid
   pub fails : FailByCounts site.failed failed old.faults mid.faults
+  pub by_entries : FailByEntries site.table.rows group.entries site.failed failed
   pub short : length (body_spelling items) ≤ body_room site.controls
   pub way_is : way ≡ way_from mid site.at site.mark.at items
 
@@ -108,9 +109,9 @@ module _ (tells : Type 0) (group : FormedGroup) (site : SiteState) (old mid : Pl
   pub first_after : rows_in_states (with_group_and_hits group hits) site.table.rows ≡ rows_with_record site.level group failed site.told
   first_after = ap (λ (rows : List PairRow). rows_in_states (with_group_and_hits group hits) rows) (sym told_is) ∙ first_rows tells group site old held now due failed hits forms_told ready.fast.fits hits_told
 
-  pub is_first : (way : Way) → MayLog site group → was ≡ site.failed → FailByCounts was failed old.faults mid.faults → OnlyReads tells old mid → NoneLent mid → WorksOnLent tells (λ device. (d : ℕ) × (device ≡ Volume d) × HasEntryOn site.table.rows group.entries d) old mid
+  pub is_first : (way : Way) → MayLog site group → was ≡ site.failed → FailByCounts was failed old.faults mid.faults → FailByEntries site.table.rows group.entries was failed → OnlyReads tells old mid → NoneLent mid → WorksOnLent tells (λ device. (d : ℕ) × (device ≡ Volume d) × HasEntryOn site.table.rows group.entries d) old mid
       → length group.entries ≤ most_of_control * group.controls → way ≡ way_from mid site.at site.mark.at now.items → IsFirst tells group site old mid failed now.items way
-  is_first way may was_is fails reads home works few way_is = record {
+  is_first way may was_is fails enters reads home works few way_is = record {
     ready = ready;
     may = may;
     told_is = told_is;
@@ -119,13 +120,14 @@ module _ (tells : Type 0) (group : FormedGroup) (site : SiteState) (old mid : Pl
     reads = reads;
     home = home;
     fails = subst (λ (f : List Bool). FailByCounts f failed old.faults mid.faults) was_is fails;
+    by_entries = subst (λ (f : List Bool). FailByEntries site.table.rows group.entries f failed) was_is enters;
     short = formed_short site.controls group.controls group.entries now.items may.controls few forms.short;
     way_is = way_is;
   }
 
 module _ (tells : Type 0) (group : FormedGroup) (site : SiteState) (old mid : PlantState) (failed : List Bool) (items : List Item) (way : Way) (first : IsFirst tells group site old mid failed items way) where
   first_form : FirstForm tells group site old way failed items
-  first_form = record { are = first.by.are; way_is = first.way_is ∙ way_still old mid site.at site.mark.at items first.works.site }
+  first_form = record { are = first.by.are; by_entries = first.by_entries; way_is = first.way_is ∙ way_still old mid site.at site.mark.at items first.works.site }
 
   fits_then : FitsPlant (with_failed failed site) mid
   fits_then =
@@ -219,7 +221,7 @@ module _ (tells : Type 0) (group : FormedGroup) (site : SiteState) (old mid : Pl
         way (plain_place site.controls site.mark.number mid site.at site.mark.at items way fits_then.lengths fits_then.set first.short first.way_is plain enough)
 
     pub plain_put : (new : PlantState) → PutStage tells group way site (with_failed failed site) (rows_with_record site.level group failed site.told) old mid new items
-    plain_put new = plain_stage tells group way site old mid new failed items plain first.works first.reads first.fails plain_ready stands_then
+    plain_put new = plain_stage tells group way site old mid new failed items plain first.works first.reads first.fails first.by_entries plain_ready stands_then
 
     -- The group is logged as the parts say.
     pub plain_group : (start next : SiteState) (new : PlantState) (result : Result (Unit {0}) StoreError) → site ≡ start → ¬ IsErrOf result Spent → FailByCounts failed next.failed mid.faults new.faults → (way ≢ MarkedFirst → OnOk result (next.waiting ≡ items))
@@ -255,6 +257,7 @@ pub record IsBehind (tells : Type 0) (group : FormedGroup) (site behind : SiteSt
   pub reads : OnlyReads tells marked last
   pub home : NoneLent last
   pub fails : FailByCounts behind.failed failed marked.faults last.faults
+  pub by_entries : FailByEntries behind.table.rows group.entries behind.failed failed
   pub short : length (body_spelling items) ≤ body_room behind.controls
 
 module _ (tells : Type 0) (group : FormedGroup) (site behind : SiteState) (old marked : PlantState) (ready : MayRecord tells site old) (may : MayLog site group) (told_is : site.told ≡ site.table.rows) (mark : MadeMark tells site behind old marked) where
@@ -285,9 +288,9 @@ module _ (tells : Type 0) (group : FormedGroup) (site behind : SiteState) (old m
         ap (λ (rows : List PairRow). rows_in_states (with_group_and_hits group hits) rows) (sym behind_told)
         ∙ marked_rows tells group behind marked held now due failed hits told_forms mark.leaves.fits (hit_now behind.failed site.told) site.time site.told reached (ap (λ (s : SiteState). s.told) mark.is) reached_is told_hits
 
-    pub is_behind : site.at.number < 2 ^ 64 - 2 → was ≡ behind.failed → FailByCounts was failed marked.faults last.faults → OnlyReads tells marked last → NoneLent last
+    pub is_behind : site.at.number < 2 ^ 64 - 2 → was ≡ behind.failed → FailByCounts was failed marked.faults last.faults → FailByEntries behind.table.rows group.entries was failed → OnlyReads tells marked last → NoneLent last
         → WorksOnLent tells (λ device. (d : ℕ) × (device ≡ Volume d) × HasEntryOn behind.table.rows group.entries d) marked last → length group.entries ≤ most_of_control * group.controls → IsBehind tells group site behind old marked last failed now.items
-    is_behind number was_is fails reads home works few = record {
+    is_behind number was_is fails enters reads home works few = record {
       idle = ready.idle;
       late = may.cut;
       told_is = told_is;
@@ -299,6 +302,7 @@ module _ (tells : Type 0) (group : FormedGroup) (site behind : SiteState) (old m
       reads = reads;
       home = home;
       fails = subst (λ (f : List Bool). FailByCounts f failed marked.faults last.faults) was_is fails;
+      by_entries = subst (λ (f : List Bool). FailByEntries behind.table.rows group.entries f failed) was_is enters;
       short = formed_short behind.controls group.controls group.entries now.items behind_few few forms.short;
     }
 
@@ -345,4 +349,4 @@ module _ (tells : Type 0) (group : FormedGroup) (site behind : SiteState) (old m
 
   pub last_put : (new : PlantState) → PutStage tells group MarkedFirst site (with_failed failed behind) (rows_after group site behind failed) old last new items
   last_put new =
-      marked_stage tells group site behind.failed old marked behind (Ok tt) b.idle b.mark.makes b.mark.works b.mark.fails last new refl b.told_is failed items (rows_after group site behind failed) b.mark.is b.mark.leaves b.mark.quiet b.works b.reads b.fails after_logged last_ready stands_last
+      marked_stage tells group site behind.failed old marked behind (Ok tt) b.idle b.mark.makes b.mark.works b.mark.fails last new refl b.told_is failed items (rows_after group site behind failed) b.mark.is b.mark.leaves b.mark.quiet b.works b.reads b.fails b.by_entries after_logged last_ready stands_last

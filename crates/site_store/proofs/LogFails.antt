@@ -15,7 +15,8 @@ use Rattle.site_store.specs.Records.{IsJournal, IsStore}
 
 -- ---- jobs
 
-flag_low : (flags : List Bool) (d : ℕ) → get_or flags d false ≡ true → d < length flags
+-- A flag that is up has its place.
+pub flag_low : (flags : List Bool) (d : ℕ) → get_or flags d false ≡ true → d < length flags
 flag_low [] d flag = absurd cc
 flag_low (f ∷ flags) zero flag = omega arith
 flag_low (f ∷ flags) (suc d) flag = let lt = flag_low flags d flag in omega (arith, lt)

@@ -36,7 +36,7 @@ use Rattle.site_store.specs.declared.way.Way.{Way}
 use Rattle.site_store.specs.declared.way.Way.TheVariants.{Here, Switched, Marked as MarkedFirst}
 use Rattle.site_store.specs.Causes.{FailByCounts}
 use Rattle.site_store.specs.Jobs.{body_room}
-use Rattle.site_store.specs.Logging.{AreItemsOf, FailedBetween, HasEntryOn, FormsFirst, IsOfLog, IsOfSomeRow, LogsBy, LogsGroup, is_entry_of_device, log_deeds, rows_before, rows_logged}
+use Rattle.site_store.specs.Logging.{AreItemsOf, FailByEntries, FailedBetween, HasEntryOn, FormsFirst, IsOfLog, IsOfSomeRow, LogsBy, LogsGroup, is_entry_of_device, failed_before, log_deeds, rows_before, rows_logged}
 use Rattle.site_store.specs.Marking.{MakesMark}
 use Rattle.site_store.specs.Recording.{HasRoomBy}
 use Rattle.site_store.specs.Records.{IsOfMark, behind_mark, behind_record, behind_way, one_more}
@@ -138,6 +138,11 @@ plain_deeds Here site group early failed plain = refl
 plain_deeds Switched site group early failed plain = refl
 plain_deeds MarkedFirst site group early failed plain = absurd (plain refl)
 
+plain_failed : (way : Way) (site : SiteState) (early : List Bool) → way ≢ MarkedFirst → site.failed ≡ failed_before way site early
+plain_failed Here site early plain = refl
+plain_failed Switched site early plain = refl
+plain_failed MarkedFirst site early plain = absurd (plain refl)
+
 plain_next : (way : Way) (sets cut : ℕ) (site : SiteState) (items : List Item) (after : List PairRow) (failed : List Bool) → way ≢ MarkedFirst
     → logged_site sets way cut items after (one_more site.since) (with_failed failed site) ≡ record (behind_record sets way cut items after failed site) { since = one_more (behind_way way site).since; waiting = items }
 plain_next Here sets cut site items after failed plain = refl
@@ -146,7 +151,7 @@ plain_next MarkedFirst sets cut site items after failed plain = absurd (plain re
 
 module _ (tells : Type 0) (group : FormedGroup) (way : Way) (site : SiteState) (old mid new : PlantState) (failed : List Bool) (items : List Item) (plain : way ≢ MarkedFirst)
     (works : WorksOnLent tells (λ device. (d : ℕ) × (device ≡ Volume d) × HasEntryOn site.table.rows group.entries d) old mid) (reads : OnlyReads tells old mid) (fails : FailByCounts site.failed failed old.faults mid.faults)
-    (ready : IsReady tells group way (with_failed failed site) (rows_with_record site.level group failed site.told) mid items)
+    (enters : FailByEntries site.table.rows group.entries site.failed failed) (ready : IsReady tells group way (with_failed failed site) (rows_with_record site.level group failed site.told) mid items)
     (stands : tells → (e : Exceptions) → SiteStands e site old → SiteStands e (with_failed failed site) mid) where
   plain_seen : tells → (e : Exceptions) → SiteStands e site old → SeenFrom group way failed site (with_failed failed site) (rows_with_record site.level group failed site.told) old mid new e
   plain_seen told e stood = record {
@@ -166,6 +171,7 @@ module _ (tells : Type 0) (group : FormedGroup) (way : Way) (site : SiteState) (
     ready = ready;
     early = failed;
     early_failed = record { before = stays_failed site.failed failed old.faults mid.faults fails; behind = λ d is. is };
+    by_entries = subst (λ (f : List Bool). FailByEntries site.table.rows group.entries f failed) (plain_failed way site failed plain) enters;
     before_is = plain_before way site failed plain;
     after_is = plain_after way site group failed failed plain;
     bytes = λ told d. reads.bytes told (Volume d);
@@ -241,6 +247,7 @@ module _ (tells : Type 0) (group : FormedGroup) (site : SiteState) (early : List
         before = stays_failed site.failed early old.faults marked.faults fails_mark;
         behind = λ d down. subst (λ (f : List Bool). is_down f d ≡ true) (sym is) down;
       };
+      by_entries = λ d down. inl (subst (λ (f : List Bool). is_down f d ≡ true) is down);
       items = tt;
       next_is = tt;
       does = record {
@@ -253,6 +260,7 @@ module _ (tells : Type 0) (group : FormedGroup) (site : SiteState) (early : List
     module _ (last new : PlantState) (made : result ≡ Ok tt) (told_is : site.told ≡ site.table.rows) (failed_last : List Bool) (items_last : List Item) (after : List PairRow)
         (is : behind ≡ behind_mark site.mark.ended mark_rows early site) (leaves : Leaves tells (λ e. none_excepted) site behind old marked) (quiet_mark : StoresQuiet old.faults marked.faults)
         (works_last : WorksOnLent tells (λ device. (d : ℕ) × (device ≡ Volume d) × HasEntryOn behind.table.rows group.entries d) marked last) (reads_last : OnlyReads tells marked last) (fails_last : FailByCounts early failed_last marked.faults last.faults)
+        (enters_last : FailByEntries behind.table.rows group.entries early failed_last)
         (after_is : after ≡ rows_logged MarkedFirst site group early failed_last) (ready : IsReady tells group MarkedFirst (with_failed failed_last behind) after last items_last)
         (stands_last : tells → (e : Exceptions) → SiteStands e behind marked → SiteStands e (with_failed failed_last behind) last) where
       abbrev deed : Deed
@@ -289,6 +297,10 @@ module _ (tells : Type 0) (group : FormedGroup) (site : SiteState) (early : List
         ready = ready;
         early = early;
         early_failed = fails_between site.failed early failed_last old.faults marked.faults last.faults fails_mark fails_last;
+        by_entries = λ d down. elim (enters_last d down) [
+          | inl was ↦ inl was
+          | inr has ↦ inr (has_entry d has)
+        ];
         before_is = told_marked;
         after_is = after_is;
         bytes = λ told d. reads_last.bytes told (Volume d) ∙ makes.volumes.bytes told d;
@@ -303,6 +315,7 @@ module _ (tells : Type 0) (group : FormedGroup) (site : SiteState) (early : List
 
 pub record FirstForm (tells : Type 0) (group : FormedGroup) (site : SiteState) (old : PlantState) (way : Way) (failed : List Bool) (items : List Item) : Type 0 where
   pub are : AreItemsOf tells group failed site.told (rows_with_record site.level group failed site.told) old items
+  pub by_entries : FailByEntries site.table.rows group.entries site.failed failed
   pub way_is : way ≡ way_of old site items
 
 -- It decides the way, and whether the group is logged at all.
@@ -311,6 +324,7 @@ pub forms_first : (tells : Type 0) (group : FormedGroup) (way : Way) (site next 
 forms_first tells group way site next old mid new failed items result first enough unspent one two here = record {
   failed = failed;
   failed_by_then = fails_between site.failed failed next.failed old.faults mid.faults new.faults one two;
+  by_entries = first.by_entries;
   items = items;
   are = first.are;
   way_is = first.way_is;
@@ -324,10 +338,11 @@ module _ (tells : Type 0) (group : FormedGroup) (site next : SiteState) (old mid
   pub logs_spent : (way : Way) (items : List Item) → is_spent way site ≡ true → FirstForm tells group site old way failed items → next.failed ≡ failed → LogsGroup tells group site next old mid (Err Spent)
   logs_spent way items spent first is = record {
     way = way;
-    first = record { failed = failed; failed_by_then = between; items = items; are = first.are; way_is = first.way_is; spent = (λ e. spent, λ e. refl); here = λ other. tt };
+    first = record { failed = failed; failed_by_then = between; by_entries = first.by_entries; items = items; are = first.are; way_is = first.way_is; spent = (λ e. spent, λ e. refl); here = λ other. tt };
     logs = record {
       early = failed;
       early_failed = between;
+      by_entries = subst (λ (f : List Bool). FailByEntries site.table.rows group.entries (failed_before way site failed) f) (sym is) (by_way way first.by_entries);
       items = tt;
       next_is = tt;
       does = record {
@@ -340,6 +355,11 @@ module _ (tells : Type 0) (group : FormedGroup) (site next : SiteState) (old mid
     where
       between : FailedBetween site.failed failed next.failed
       between = record { before = stays_failed site.failed failed old.faults mid.faults fails; behind = λ d down. subst (λ (f : List Bool). is_down f d ≡ true) (sym is) down }
+
+      by_way : (w : Way) → FailByEntries site.table.rows group.entries site.failed failed → FailByEntries site.table.rows group.entries (failed_before w site failed) failed
+      by_way Here enters = enters
+      by_way Switched enters = enters
+      by_way MarkedFirst enters = λ d down. inl down
 
   -- What is logged behind a mark from there on is logged from the start.
   module _ (new : PlantState) (result : Result (Unit {0}) StoreError) (stands : tells → (e : Exceptions) → SiteStands e site old → SiteStands e (with_failed failed site) mid) (logs : LogsBy tells group MarkedFirst (with_failed failed site) next mid new result)
@@ -359,6 +379,7 @@ module _ (tells : Type 0) (group : FormedGroup) (site next : SiteState) (old mid
     logs_before = record {
       early = logs.early;
       early_failed = record { before = before_mark; behind = logs.early_failed.behind };
+      by_entries = logs.by_entries;
       items = items_before result logs.items;
       next_is = next_before result logs.next_is;
       does = record {

@@ -15,7 +15,7 @@ use Rattle.site_deeds.specs.Exceptions.{Exceptions}
 use Rattle.site_store.specs.declared.store_error.StoreError.{StoreError}
 use Rattle.site_store.specs.declared.way.Way.{Way}
 use Rattle.site_store.specs.Causes.{FailByCounts, HasStoreCause}
-use Rattle.site_store.specs.Logging.{AreItemsOf, FailedBetween, IsOfLog, LogsBy, log_deeds, rows_before, rows_logged}
+use Rattle.site_store.specs.Logging.{AreItemsOf, FailByEntries, FailedBetween, IsOfLog, LogsBy, failed_before, log_deeds, rows_before, rows_logged}
 use Rattle.site_store.specs.Recording.{ShowsRecord, group_with}
 use Rattle.site_store.specs.Records.{IsJournal, behind_record, behind_way, one_more}
 use Rattle.site_store.specs.Sites.{SiteState, has_failed}
@@ -65,6 +65,7 @@ pub record PutStage (tells : Type 0) (group : FormedGroup) (way : Way) (site las
   pub ready : IsReady tells group way last after plant items
   pub early : List Bool
   pub early_failed : FailedBetween site.failed early last.failed
+  pub by_entries : FailByEntries site.table.rows group.entries (failed_before way site early) last.failed
   pub before_is : last.told ≡ rows_before way site early
   pub after_is : after ≡ rows_logged way site group early last.failed
   pub bytes : tells → (d : ℕ) → plant.bytes (Volume d) ≡ old.bytes (Volume d)
@@ -86,6 +87,7 @@ module _ (tells : Type 0) (group : FormedGroup) (way : Way) (site last : SiteSta
   put_fails next error is shows = record {
     early = stage.early;
     early_failed = subst (λ (f : List Bool). FailedBetween site.failed stage.early f) (sym is) stage.early_failed;
+    by_entries = subst (λ (f : List Bool). FailByEntries site.table.rows group.entries (failed_before way site stage.early) f) (sym is) stage.by_entries;
     items = tt;
     next_is = tt;
     does = record {
@@ -117,6 +119,7 @@ module _ (tells : Type 0) (group : FormedGroup) (way : Way) (site last : SiteSta
     put_logs = record {
       early = stage.early;
       early_failed = stage.early_failed;
+      by_entries = stage.by_entries;
       items = items_old;
       next_is =
           ap (λ (sets : ℕ). logged_site sets way group.cut.0 items after (one_more last.since) last) stage.works.site.journals ∙ stage.next_is old.journals

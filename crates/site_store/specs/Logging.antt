@@ -63,6 +63,10 @@ HasEntryOn rows entries device = IsTrue (list_any (is_entry_of_device rows devic
 abbrev pub IsOfEntries : List PairRow → List WaitingEntry → Device → Type 0
 IsOfEntries rows entries device = (v : ℕ) × (device ≡ Volume v) × HasEntryOn rows entries v
 
+-- A job fails only if its volume has an entry.
+abbrev pub FailByEntries : List PairRow → List WaitingEntry → (old new : List Bool) → Type 0
+FailByEntries rows entries old new = (d : ℕ) → IsTrue (is_down new d) → IsTrue (is_down old d) ⊎ HasEntryOn rows entries d
+
 -- the devices on which logging works: those of a record, and the volumes with entries
 abbrev pub IsOfLog : SiteState → FormedGroup → Device → Type 0
 IsOfLog site group device = IsOfRecord site device ⊎ IsOfEntries site.table.rows group.entries device
@@ -160,6 +164,12 @@ rows_logged Here site group early failed = rows_with_record site.level group fai
 rows_logged Switched site group early failed = rows_with_record site.level group failed site.told
 rows_logged MarkedFirst site group early failed = rows_behind_mark site.level (hit_now early site.told) group failed (rows_before MarkedFirst site early)
 
+-- The jobs that had failed before the record that is logged was formed: those of the site, or those at the mark that was made first.
+abbrev pub failed_before : Way → SiteState → (early : List Bool) → List Bool
+failed_before Here site early = site.failed
+failed_before Switched site early = site.failed
+failed_before MarkedFirst site early = early
+
 -- ---- what was done
 
 -- The record as it was formed first decides its way. Its numbers decide whether it is logged at all.
@@ -167,6 +177,8 @@ pub record FormsFirst (tells : Type 0) (group : FormedGroup) (site next : SiteSt
     (result : Result (Unit {0}) StoreError) : Type 0 where
   pub failed : List Bool
   pub failed_by_then : FailedBetween site.failed failed next.failed
+  -- Volumes without an entry aren't read.
+  pub by_entries : FailByEntries site.table.rows group.entries site.failed failed
   pub items : List Item
   pub are : AreItemsOf tells group failed site.told (rows_with_record site.level group failed site.told) plant items
   pub way_is : way ≡ way_of plant site items
@@ -199,6 +211,8 @@ pub record LogsBy (tells : Type 0) (group : FormedGroup) (way : Way) (site next 
   -- the jobs that had failed by the mark that was made first
   pub early : List Bool
   pub early_failed : FailedBetween site.failed early next.failed
+  -- Behind the mark, too, volumes without an entry aren't read.
+  pub by_entries : FailByEntries site.table.rows group.entries (failed_before way site early) next.failed
   pub items : OnOk result (AreItemsOf tells group next.failed (rows_before way site early) next.told old next.waiting)
   pub next_is : OnOk result (next ≡ behind_group old.journals way group next.waiting early next.failed site)
   pub does : DoesLog tells group way early site next old new result

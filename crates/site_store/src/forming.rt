@@ -10,7 +10,7 @@ ghost use Rattle.image_former.specs.Jobs.{HasFailed};
 ghost use Rattle.pending_queue.specs.Entries.{IsOfWrite};
 ghost use Rattle.site_store.specs.Causes.{FailByCounts};
 ghost use Rattle.site_store.specs.Jobs.{are_home_from, has_job_failed};
-ghost use Rattle.site_store.specs.Logging.{DrawEntries, HoldsImages, IsOfEntries, MayForm, is_entry_of_device, is_formed, is_wanted_live};
+ghost use Rattle.site_store.specs.Logging.{DrawEntries, FailByEntries, HoldsImages, IsOfEntries, MayForm, is_entry_of_device, is_formed, is_wanted_live};
 
 use crate::hits::MOST_VOLUMES;
 use applier::{give_back_all, lend_all};
@@ -52,8 +52,8 @@ fn wanted_volumes(table: &PairTable, formed: &Formed) -> [bool; MOST_VOLUMES]
     let mut wanted = [false; MOST_VOLUMES];
     for place in 0..formed.count() {
         wanted[device_of(table, formed.head(place)) as usize] = true;
-        // Each entry is of a write by the group's type.
-        let _written = formed.entry(place);
+        // Each entry is of a write, so its form has bytes.
+        prove!(!formed.entry(place).is_empty());
     }
     wanted
 }
@@ -92,6 +92,7 @@ pub(crate) fn form_group<P: Plant>(
     ensures images { HoldsImages formed.now.entries body.old body.new }
     ensures content { DrawEntries P.tells table.now.rows formed.now.entries (map has_job_failed jobs.new) body.new.items (P.state plant.old) }
     ensures fails { FailByCounts (map has_job_failed jobs.old) (map has_job_failed jobs.new) (P.state plant.old).faults (P.state plant.new).faults }
+    ensures by_entries { FailByEntries table.now.rows formed.now.entries (map has_job_failed jobs.old) (map has_job_failed jobs.new) }
     ensures reads { OnlyReads P.tells (P.state plant.old) (P.state plant.new) }
     ensures home { NoneLent (P.state plant.new) }
     ensures only { WorksOnLent P.tells (IsOfEntries table.now.rows formed.now.entries) (P.state plant.old) (P.state plant.new) }

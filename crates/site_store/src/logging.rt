@@ -8,7 +8,7 @@ ghost use Rattle.site_store.specs.declared.way.Way.TheVariants.{Marked};
 ghost use Rattle.site_store.specs.Causes.{FailByCounts, HasStoreCause};
 ghost use Rattle.site_store.specs.Hits.{AreHits};
 ghost use Rattle.site_store.specs.Jobs.{are_home_from, has_job_failed};
-ghost use Rattle.site_store.specs.Logging.{FormsRecord, IsOfEntries, IsOfLog, LogsBy, LogsGroup, MayForm, MayLog};
+ghost use Rattle.site_store.specs.Logging.{FailByEntries, FormsRecord, IsOfEntries, IsOfLog, LogsBy, LogsGroup, MayForm, MayLog};
 ghost use Rattle.site_store.specs.Records.{VolumesStay};
 ghost use Rattle.site_store.specs.Standing.{MayRecord, Leaves};
 
@@ -41,6 +41,7 @@ fn form_record<P: Plant>(
     ensures hits { AreHits reach.level formed.now.cut (map has_job_failed jobs.new) reach.due table.now.rows result }
     ensures idle { are_home_from 0 jobs.new ≡ true }
     ensures fails { FailByCounts (map has_job_failed jobs.old) (map has_job_failed jobs.new) (P.state plant.old).faults (P.state plant.new).faults }
+    ensures by_entries { FailByEntries table.now.rows formed.now.entries (map has_job_failed jobs.old) (map has_job_failed jobs.new) }
     ensures reads { OnlyReads P.tells (P.state plant.old) (P.state plant.new) }
     ensures home { NoneLent (P.state plant.new) }
     ensures only { WorksOnLent P.tells (IsOfEntries table.now.rows formed.now.entries) (P.state plant.old) (P.state plant.new) }

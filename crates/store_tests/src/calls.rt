@@ -122,7 +122,7 @@ pub(crate) fn suspend<P: Plant>(
 }
 
 /// Makes a mark.
-#[tactic(auto, using(crate::proofs::Between::may_mark))]
+#[tactic(auto, using(site_store::proofs::Between::may_mark))]
 pub(crate) fn mark<R: Threads + Sync, P: Plant>(
     rt: &R,
     plant: &mut P,

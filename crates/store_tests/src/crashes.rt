@@ -2,11 +2,14 @@
 
 ghost use Rattle.std.specs.Prelude.{◌≡◌};
 ghost use Rattle.crash_plant.specs.Calls.{NoneLent};
+ghost use Rattle.crash_plant.specs.MemoryPlant.{memory_state};
 
 use crate::calls::{apply, log, log_applied, mark};
 use crate::entries::{add, update, whole};
-use crate::fixtures::{CHOICES, DUPLEX, Left, assert_same, group, paired, plant, recovered_with};
-use crash_plant::{Device, Plant};
+use crate::fixtures::{
+    CHOICES, DUPLEX, Left, assert_same, group, paired, plant, recovered_with, slots_left,
+};
+use crash_plant::{Device, MemoryPlant, Plant};
 use pair_table::Level;
 use pending_queue::Formed;
 use site_store::StoreError;
@@ -110,6 +113,14 @@ fn apply_part<R: Threads + Sync + Abort, P: Plant>(rt: &R, alloc: Global, plant:
     apply(rt, plant, &mut site);
 }
 
+/// Each volume was stopped in the write of its slot, which a crash leaves open.
+fn assert_torn(rt: &impl Abort, alloc: Global, plant: &MemoryPlant)
+    requires { NoneLent (memory_state plant.now) }
+{
+    let slots = slots_left(rt, alloc, plant, &[0xFF], TRACK);
+    assert!(rt; slots == [[0xFF; 8], [0xFF; 8], [0; 8]]);
+}
+
 /// Both rows are duplex at the group's time, and both volumes hold their images.
 fn assert_both(rt: &impl Abort, left: &Left) {
     let image = [0, 1, 1, 0, 0, 2, b'A', b'B'];
@@ -129,6 +140,7 @@ fn a_crash_among_appliers_leaves_both_images(rt: HostRuntime) {
     ];
     let mut plant = plant(&rt, alloc, 2, 1, &fails);
     apply_part(&rt, alloc, &mut plant);
+    assert_torn(&rt, alloc, &plant);
     for choice in CHOICES {
         let left = recovered_with(&rt, alloc, &plant, choice, TRACK).expect(&rt, "a session");
         assert_both(&rt, &left);

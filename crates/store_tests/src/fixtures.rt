@@ -212,6 +212,20 @@ fn slots_of<P: Plant>(plant: &mut P, track: u32) -> [[u8; 8]; 3]
     slots
 }
 
+/// The same of what a crash leaves now, with open ranges filled by this choice.
+pub(crate) fn slots_left(
+    rt: &impl Abort,
+    alloc: Global,
+    plant: &MemoryPlant,
+    choice: &[u8],
+    track: u32,
+) -> [[u8; 8]; 3]
+    requires { NoneLent (memory_state plant.now) }
+{
+    let mut left = plant.crash(alloc, choice).expect(rt, "memory");
+    slots_of(&mut left, track)
+}
+
 /// What is recovered from the plant that a crash left, with the slots of a track; none where no session is there.
 #[tactic(auto, using(crate::proofs::Between::works_home))]
 fn recovered_of<R: Threads + Sync + Abort, P: Plant>(

@@ -12,6 +12,7 @@ use Rattle.image_former.specs.Jobs.{is_failed_of}
 use Rattle.site_store.specs.Causes.{FailByCounts}
 use Rattle.site_store.specs.Jobs.{are_home_from, has_job_failed}
 use Rattle.site_deeds.specs.Deeds.{kinds_of}
+use Rattle.site_store.specs.Logging.{FailByEntries}
 use Rattle.site_store.proofs.DueItems.{spelled_by_kinds}
 use Rattle.site_store.proofs.LentJobs.{home_at, low_devices, one_job, slots}
 use Rattle.site_store.proofs.FormedBack as back
@@ -75,6 +76,7 @@ returns g c =
     let is : c.give_back_all.new.jobs ≡ map without_disk given = c.give_back_all.ensures.jobs in
     let home = back.home_again tells own state rows entries lent given f.devices f.left_alone f.cause f.length f.past start mid end old wanted c.requires.may.idle c.requires.may.volumes c.requires.may.few c.wanted_volumes-wanted.ensures.wanted c.lend_all.ensures.same lends c.lend_all.ensures.out were f.not_called in
     let fails = back.fails tells own state rows entries lent given f.devices f.left_alone f.cause f.length f.past start mid end old wanted c.requires.may.idle c.requires.may.volumes c.requires.may.few c.wanted_volumes-wanted.ensures.wanted c.lend_all.ensures.same lends c.lend_all.ensures.out were f.not_called in
+    let entered = back.by_entries tells own state rows entries lent given f.devices f.left_alone f.cause f.length f.past start mid end old wanted c.requires.may.idle c.requires.may.volumes c.requires.may.few c.wanted_volumes-wanted.ensures.wanted c.lend_all.ensures.same lends c.lend_all.ensures.out were f.not_called in
     let only = back.only_entries tells own state rows entries lent given f.devices f.left_alone f.cause f.length f.past start mid end old wanted c.requires.may.idle c.requires.may.volumes c.requires.may.few c.wanted_volumes-wanted.ensures.wanted c.lend_all.ensures.same lends c.lend_all.ensures.out were f.not_called in
     let read = back.are_read tells own state rows entries lent given f.devices f.left_alone f.cause f.length f.past f.moments f.bytes in
     record {
@@ -84,6 +86,7 @@ returns g c =
       content = λ told d x within fine has. back.content tells own state rows entries lent given f.devices f.left_alone f.cause f.length f.past start mid end old wanted c.requires.may.idle c.requires.may.volumes c.requires.may.few c.wanted_volumes-wanted.ensures.wanted c.lend_all.ensures.same lends c.lend_all.ensures.out were f.not_called
           told c.form_body.new.body.items f.content d x within (sym (ap (λ (l : List (VolumeJob _)). get_or (map has_job_failed l) d false) is) ∙ fine) has (kinds_of entries) (spelled_by_kinds entries c.wanted_volumes-wanted.ensures.written);
       fails = subst (λ (l : List (VolumeJob _)). FailByCounts (map has_job_failed old) (map has_job_failed l) start.faults end.faults) (sym is) fails;
+      by_entries = subst (λ (l : List (VolumeJob _)). FailByEntries rows entries (map has_job_failed old) (map has_job_failed l)) (sym is) entered;
       reads = c.give_back_all.ensures.read c.args.plant.now lent out read;
       home = c.give_back_all.ensures.home;
       only = only;

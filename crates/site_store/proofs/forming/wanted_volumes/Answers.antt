@@ -29,7 +29,7 @@ loop-place-preserved c =
     record {
       long = length-set c.loop-place.wanted c.device_of.result true ∙ c.loop-place.invariant.long;
       are = λ d lt. wanted_more rows entries c.loop-place.wanted c.loop-place.place c.device_of.result c.head.result c.head.ensures c.device_of.ensures (omega (arith, low, c.loop-place.invariant.long)) d (c.loop-place.invariant.are d lt);
-      written = written_more entries c.loop-place.place (omega (arith, c.loop-place-test.true, c.count-place-end.ensures)) c.entry-written.ensures.write c.loop-place.invariant.written;
+      written = written_more entries c.loop-place.place (omega (arith, c.loop-place-test.true, c.count-place-end.ensures)) c.entry.ensures.write c.loop-place.invariant.written;
     }
 
 pub returns-clause-wanted : goal.returns-clause-wanted

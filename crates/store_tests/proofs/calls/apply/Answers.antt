@@ -1,5 +1,5 @@
 use Rattle.site_store.specs.Applying.{excepted_by_apply}
-use Rattle.store_tests.proofs.Between.{applied_idle}
+use Rattle.site_store.proofs.Between.{applied_idle}
 use Rattle.store_tests.proofs.calls.apply.Goals as goal
 
 pub returns : goal.returns

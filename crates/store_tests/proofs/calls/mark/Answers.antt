@@ -2,7 +2,7 @@ use Rattle.std.proofs.Common.{false}
 use Rattle.applier.proofs.Works.{none_lent_lent}
 use Rattle.site_store.specs.Standing.{none_excepted}
 use Rattle.site_store.proofs.Shutting.{on_ok_both}
-use Rattle.store_tests.proofs.Between.{marked_idle}
+use Rattle.site_store.proofs.Between.{marked_idle}
 use Rattle.store_tests.proofs.calls.mark.Goals as goal
 
 pub returns-clause-home : goal.returns-clause-home

@@ -1,7 +1,8 @@
 use Rattle.std.proofs.Common.{rules, ◌≡◌, ◌+◌, ◌*◌, ◌≤◌, ◌<◌, Ok, arith}
 use Rattle.crash_plant.specs.declared.device.Device.TheVariants.{Volume}
 use Rattle.site_store.specs.Commands.{behind_put}
-use Rattle.store_tests.proofs.Between.{put_may, then_ok}
+use Rattle.site_store.proofs.Between.{put_may}
+use Rattle.store_tests.proofs.Between.{then_ok}
 use Rattle.store_tests.proofs.calls.put.Goals as goal
 
 pub returns : goal.returns

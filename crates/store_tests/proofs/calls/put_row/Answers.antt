@@ -1,6 +1,6 @@
 use Rattle.applier.proofs.Works.{none_lent_lent}
 use Rattle.pair_table.specs.declared.command.Change.TheVariants.{Added}
-use Rattle.store_tests.proofs.Between.{changed_idle}
+use Rattle.site_store.proofs.Between.{changed_idle}
 use Rattle.store_tests.proofs.calls.put_row.Goals as goal
 
 pub returns-clause-home : goal.returns-clause-home

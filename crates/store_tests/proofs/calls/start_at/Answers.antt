@@ -1,5 +1,5 @@
 use Rattle.crash_plant.proofs.Steps.{none_lent_then}
-use Rattle.store_tests.proofs.Between.{starts_idle}
+use Rattle.site_store.proofs.Between.{starts_idle}
 use Rattle.store_tests.proofs.calls.start_at.Goals as goal
 
 pub returns-clause-home : goal.returns-clause-home

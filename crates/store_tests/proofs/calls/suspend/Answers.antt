@@ -1,5 +1,5 @@
 use Rattle.applier.proofs.Works.{none_lent_lent}
-use Rattle.store_tests.proofs.Between.{suspended_idle}
+use Rattle.site_store.proofs.Between.{suspended_idle}
 use Rattle.store_tests.proofs.calls.suspend.Goals as goal
 
 pub returns-clause-home : goal.returns-clause-home

@@ -75,7 +75,7 @@ way_from-way-requires-clause-room g c κs within =
     let hits = c.form_record-hits.result in
     let way : Way = way_from mid site.at site.mark.at items in
     let first : IsFirst tells group site old mid failed items way = is_first tells group site old mid s.body c.form_record-hits.new.body c.form_record-hits.new.due (map has_job_failed c.deref_mut.result.now) failed hits ready told_is f.forms f.hits
-    way may was_is f.fails f.reads f.home f.only c.controls.ensures.few refl in
+    way may was_is f.fails f.by_entries f.reads f.home f.only c.controls.ensures.few refl in
     room_there tells group site old mid failed items way first
 
 -- ---- the numbers don't suffice
@@ -117,7 +117,7 @@ returns-then-record_needs_more g c =
     let hits = c.form_record-hits.result in
     let way : Way = c.way_from-way.result in
     let first : IsFirst tells group site old mid failed items way = is_first tells group site old mid s.body c.form_record-hits.new.body c.form_record-hits.new.due (map has_job_failed c.deref_mut.result.now) failed hits ready told_is f.forms f.hits
-    way may was_is f.fails f.reads f.home f.only c.controls.ensures.few c.way_from-way.ensures in
+    way may was_is f.fails f.by_entries f.reads f.home f.only c.controls.ensures.few c.way_from-way.ensures in
     let now_is : (with_items s.jobs c.form_record-hits.new.jobs).items ≡ c.form_record-hits.new.jobs = with_items_is s.jobs c.form_record-hits.new.jobs (omega (arith, c.form_record-hits.auto.jobs, c.deref_mut.ensures.len, s.jobs.ok.0)) in
     let failed_is : map has_job_failed (with_items s.jobs c.form_record-hits.new.jobs).items ≡ failed = λ i. map has_job_failed (now_is i) in
     let last : SiteState = record { controls = s.controls; level = s.level; table = s.table; is_ahead = s.ahead; told = cond s.ahead s.told.rows s.table.rows; time = s.time.0; mark = s.mark; at = s.journal.at; since = s.since; waiting = []; failed = map has_job_failed (with_items s.jobs c.form_record-hits.new.jobs).items; written = s.written.items } in
@@ -173,7 +173,7 @@ log_group_behind_mark-requires-clause-ready g c κs within =
     let hits = c.form_record-hits.result in
     let way : Way = c.way_from-way.result in
     let first : IsFirst tells group site old mid failed items way = is_first tells group site old mid s.body c.form_record-hits.new.body c.form_record-hits.new.due (map has_job_failed c.deref_mut.result.now) failed hits ready told_is f.forms f.hits
-    way may was_is f.fails f.reads f.home f.only c.controls.ensures.few c.way_from-way.ensures in
+    way may was_is f.fails f.by_entries f.reads f.home f.only c.controls.ensures.few c.way_from-way.ensures in
     let now_is : (with_items s.jobs c.form_record-hits.new.jobs).items ≡ c.form_record-hits.new.jobs = with_items_is s.jobs c.form_record-hits.new.jobs (omega (arith, c.form_record-hits.auto.jobs, c.deref_mut.ensures.len, s.jobs.ok.0)) in
     let failed_is : map has_job_failed (with_items s.jobs c.form_record-hits.new.jobs).items ≡ failed = λ i. map has_job_failed (now_is i) in
     let last : SiteState = record { controls = s.controls; level = s.level; table = s.table; is_ahead = s.ahead; told = cond s.ahead s.told.rows s.table.rows; time = s.time.0; mark = s.mark; at = s.journal.at; since = s.since; waiting = []; failed = map has_job_failed (with_items s.jobs c.form_record-hits.new.jobs).items; written = s.written.items } in
@@ -200,7 +200,7 @@ log_group_behind_mark-requires-clause-may g c κs within =
     let hits = c.form_record-hits.result in
     let way : Way = c.way_from-way.result in
     let first : IsFirst tells group site old mid failed items way = is_first tells group site old mid s.body c.form_record-hits.new.body c.form_record-hits.new.due (map has_job_failed c.deref_mut.result.now) failed hits ready told_is f.forms f.hits
-    way may was_is f.fails f.reads f.home f.only c.controls.ensures.few c.way_from-way.ensures in
+    way may was_is f.fails f.by_entries f.reads f.home f.only c.controls.ensures.few c.way_from-way.ensures in
     let now_is : (with_items s.jobs c.form_record-hits.new.jobs).items ≡ c.form_record-hits.new.jobs = with_items_is s.jobs c.form_record-hits.new.jobs (omega (arith, c.form_record-hits.auto.jobs, c.deref_mut.ensures.len, s.jobs.ok.0)) in
     let failed_is : map has_job_failed (with_items s.jobs c.form_record-hits.new.jobs).items ≡ failed = λ i. map has_job_failed (now_is i) in
     let last : SiteState = record { controls = s.controls; level = s.level; table = s.table; is_ahead = s.ahead; told = cond s.ahead s.told.rows s.table.rows; time = s.time.0; mark = s.mark; at = s.journal.at; since = s.since; waiting = []; failed = map has_job_failed (with_items s.jobs c.form_record-hits.new.jobs).items; written = s.written.items } in
@@ -227,7 +227,7 @@ log_group_behind_mark-requires-clause-rows g c κs within =
     let hits = c.form_record-hits.result in
     let way : Way = c.way_from-way.result in
     let first : IsFirst tells group site old mid failed items way = is_first tells group site old mid s.body c.form_record-hits.new.body c.form_record-hits.new.due (map has_job_failed c.deref_mut.result.now) failed hits ready told_is f.forms f.hits
-    way may was_is f.fails f.reads f.home f.only c.controls.ensures.few c.way_from-way.ensures in
+    way may was_is f.fails f.by_entries f.reads f.home f.only c.controls.ensures.few c.way_from-way.ensures in
     let now_is : (with_items s.jobs c.form_record-hits.new.jobs).items ≡ c.form_record-hits.new.jobs = with_items_is s.jobs c.form_record-hits.new.jobs (omega (arith, c.form_record-hits.auto.jobs, c.deref_mut.ensures.len, s.jobs.ok.0)) in
     let failed_is : map has_job_failed (with_items s.jobs c.form_record-hits.new.jobs).items ≡ failed = λ i. map has_job_failed (now_is i) in
     let last : SiteState = record { controls = s.controls; level = s.level; table = s.table; is_ahead = s.ahead; told = cond s.ahead s.told.rows s.table.rows; time = s.time.0; mark = s.mark; at = s.journal.at; since = s.since; waiting = []; failed = map has_job_failed (with_items s.jobs c.form_record-hits.new.jobs).items; written = s.written.items } in
@@ -254,7 +254,7 @@ log_group_behind_mark-requires-clause-mark g c κs within =
     let hits = c.form_record-hits.result in
     let way : Way = c.way_from-way.result in
     let first : IsFirst tells group site old mid failed items way = is_first tells group site old mid s.body c.form_record-hits.new.body c.form_record-hits.new.due (map has_job_failed c.deref_mut.result.now) failed hits ready told_is f.forms f.hits
-    way may was_is f.fails f.reads f.home f.only c.controls.ensures.few c.way_from-way.ensures in
+    way may was_is f.fails f.by_entries f.reads f.home f.only c.controls.ensures.few c.way_from-way.ensures in
     let enough : is_spent way site ≡ false = sym c.record_needs_more.ensures ∙ c.if-record_needs_more.false in
     let marked : way ≡ MarkedFirst = c.in-Marked.is in
     mark_number tells group site old mid failed items way first marked enough
@@ -279,7 +279,7 @@ log_group_behind_mark-requires-clause-next g c κs within =
     let hits = c.form_record-hits.result in
     let way : Way = c.way_from-way.result in
     let first : IsFirst tells group site old mid failed items way = is_first tells group site old mid s.body c.form_record-hits.new.body c.form_record-hits.new.due (map has_job_failed c.deref_mut.result.now) failed hits ready told_is f.forms f.hits
-    way may was_is f.fails f.reads f.home f.only c.controls.ensures.few c.way_from-way.ensures in
+    way may was_is f.fails f.by_entries f.reads f.home f.only c.controls.ensures.few c.way_from-way.ensures in
     let enough : is_spent way site ≡ false = sym c.record_needs_more.ensures ∙ c.if-record_needs_more.false in
     let marked : way ≡ MarkedFirst = c.in-Marked.is in
     next_number tells group site old mid failed items way first marked enough
@@ -304,7 +304,7 @@ returns-in-Marked g c =
     let hits = c.form_record-hits.result in
     let way : Way = c.way_from-way.result in
     let first : IsFirst tells group site old mid failed items way = is_first tells group site old mid s.body c.form_record-hits.new.body c.form_record-hits.new.due (map has_job_failed c.deref_mut.result.now) failed hits ready told_is f.forms f.hits
-    way may was_is f.fails f.reads f.home f.only c.controls.ensures.few c.way_from-way.ensures in
+    way may was_is f.fails f.by_entries f.reads f.home f.only c.controls.ensures.few c.way_from-way.ensures in
     let now_is : (with_items s.jobs c.form_record-hits.new.jobs).items ≡ c.form_record-hits.new.jobs = with_items_is s.jobs c.form_record-hits.new.jobs (omega (arith, c.form_record-hits.auto.jobs, c.deref_mut.ensures.len, s.jobs.ok.0)) in
     let failed_is : map has_job_failed (with_items s.jobs c.form_record-hits.new.jobs).items ≡ failed = λ i. map has_job_failed (now_is i) in
     let last : SiteState = record { controls = s.controls; level = s.level; table = s.table; is_ahead = s.ahead; told = cond s.ahead s.told.rows s.table.rows; time = s.time.0; mark = s.mark; at = s.journal.at; since = s.since; waiting = []; failed = map has_job_failed (with_items s.jobs c.form_record-hits.new.jobs).items; written = s.written.items } in
@@ -347,7 +347,7 @@ put_record-requires-clause-may g c κs within =
     let hits = c.form_record-hits.result in
     let way : Way = c.way_from-way.result in
     let first : IsFirst tells group site old mid failed items way = is_first tells group site old mid s.body c.form_record-hits.new.body c.form_record-hits.new.due (map has_job_failed c.deref_mut.result.now) failed hits ready told_is f.forms f.hits
-    way may was_is f.fails f.reads f.home f.only c.controls.ensures.few c.way_from-way.ensures in
+    way may was_is f.fails f.by_entries f.reads f.home f.only c.controls.ensures.few c.way_from-way.ensures in
     let enough : is_spent way site ≡ false = sym c.record_needs_more.ensures ∙ c.if-record_needs_more.false in
     let plain : way ≢ MarkedFirst = λ marked. elim c.in-Here.is [ inl here ↦ cc (here, marked) | inr switched ↦ cc (switched, marked) ] in
     let read = λ (told : tells). read_choice mid f.home (λ d there. g.met.P.Plant.read_is_image c.form_record-hits.new.plant d told there) in
@@ -374,7 +374,7 @@ returns-in_err-put_record g c =
     let hits = c.form_record-hits.result in
     let way : Way = c.way_from-way.result in
     let first : IsFirst tells group site old mid failed items way = is_first tells group site old mid s.body c.form_record-hits.new.body c.form_record-hits.new.due (map has_job_failed c.deref_mut.result.now) failed hits ready told_is f.forms f.hits
-    way may was_is f.fails f.reads f.home f.only c.controls.ensures.few c.way_from-way.ensures in
+    way may was_is f.fails f.by_entries f.reads f.home f.only c.controls.ensures.few c.way_from-way.ensures in
     let enough : is_spent way site ≡ false = sym c.record_needs_more.ensures ∙ c.if-record_needs_more.false in
     let plain : way ≢ MarkedFirst = λ marked. elim c.in-Here.is [ inl here ↦ cc (here, marked) | inr switched ↦ cc (switched, marked) ] in
     let read = λ (told : tells). read_choice mid f.home (λ d there. g.met.P.Plant.read_is_image c.form_record-hits.new.plant d told there) in
@@ -463,7 +463,7 @@ returns g c =
     let hits = c.form_record-hits.result in
     let way : Way = c.way_from-way.result in
     let first : IsFirst tells group site old mid failed items way = is_first tells group site old mid s.body c.form_record-hits.new.body c.form_record-hits.new.due (map has_job_failed c.deref_mut.result.now) failed hits ready told_is f.forms f.hits
-    way may was_is f.fails f.reads f.home f.only c.controls.ensures.few c.way_from-way.ensures in
+    way may was_is f.fails f.by_entries f.reads f.home f.only c.controls.ensures.few c.way_from-way.ensures in
     let enough : is_spent way site ≡ false = sym c.record_needs_more.ensures ∙ c.if-record_needs_more.false in
     let plain : way ≢ MarkedFirst = λ marked. elim c.in-Here.is [ inl here ↦ cc (here, marked) | inr switched ↦ cc (switched, marked) ] in
     let read = λ (told : tells). read_choice mid f.home (λ d there. g.met.P.Plant.read_is_image c.form_record-hits.new.plant d told there) in

@@ -118,7 +118,7 @@ put_record-requires-clause-may g c κs within =
     let hits = c.form_record-hits.result in
     let way : Way = MarkedFirst in
     let first : IsBehind tells group site behind old marked mid failed items = is_behind tells group site behind old marked c.requires.ready c.requires.may c.requires.rows made mid s.body c.form_record-hits.new.body c.form_record-hits.new.due (map has_job_failed c.deref_mut.result.now) failed reached hits
-    f.forms f.hits reached_is c.requires.next was_is f.fails f.reads f.home f.only c.controls.ensures.few in
+    f.forms f.hits reached_is c.requires.next was_is f.fails f.by_entries f.reads f.home f.only c.controls.ensures.few in
     let after = rows_after group site behind failed in
     let read = λ (told : tells). read_choice mid f.home (λ d there. g.met.P.Plant.read_is_image c.form_record-hits.new.plant d told there) in
     let size = λ (told : tells). g.met.P.Plant.length_told c.form_record-hits.new.plant (Journal behind.at.set) told (last_set tells group site behind old marked mid failed items first) in
@@ -165,7 +165,7 @@ returns-in_err-put_record g c =
     let hits = c.form_record-hits.result in
     let way : Way = MarkedFirst in
     let first : IsBehind tells group site behind old marked mid failed items = is_behind tells group site behind old marked c.requires.ready c.requires.may c.requires.rows made mid s.body c.form_record-hits.new.body c.form_record-hits.new.due (map has_job_failed c.deref_mut.result.now) failed reached hits
-    f.forms f.hits reached_is c.requires.next was_is f.fails f.reads f.home f.only c.controls.ensures.few in
+    f.forms f.hits reached_is c.requires.next was_is f.fails f.by_entries f.reads f.home f.only c.controls.ensures.few in
     let after = rows_after group site behind failed in
     let read = λ (told : tells). read_choice mid f.home (λ d there. g.met.P.Plant.read_is_image c.form_record-hits.new.plant d told there) in
     let new = g.P.Plant.state c.put_record.new.plant in
@@ -245,7 +245,7 @@ returns g c =
     let hits = c.form_record-hits.result in
     let way : Way = MarkedFirst in
     let first : IsBehind tells group site behind old marked mid failed items = is_behind tells group site behind old marked c.requires.ready c.requires.may c.requires.rows made mid s.body c.form_record-hits.new.body c.form_record-hits.new.due (map has_job_failed c.deref_mut.result.now) failed reached hits
-    f.forms f.hits reached_is c.requires.next was_is f.fails f.reads f.home f.only c.controls.ensures.few in
+    f.forms f.hits reached_is c.requires.next was_is f.fails f.by_entries f.reads f.home f.only c.controls.ensures.few in
     let after = rows_after group site behind failed in
     let read = λ (told : tells). read_choice mid f.home (λ d there. g.met.P.Plant.read_is_image c.form_record-hits.new.plant d told there) in
     let new = g.P.Plant.state c.put_record.new.plant in
