@@ -45,7 +45,8 @@ use Rattle.borne_deeds.specs.Laws.{SeenDeedsBear, SeenDeedsShowPoints}
 use Rattle.borne_deeds.specs.Points.{AreSteps, LeavesSo, point_behind, point_by}
 use Rattle.borne_deeds.specs.Told.{held_by_choice}
 use Rattle.borne_deeds.specs.Working.{Work, WorkBegins}
-use Rattle.borne_deeds.proofs.Breaking.{all_are, all_between, all_silent, one_between, report_is_named}
+use Rattle.borne_deeds.specs.Silent.{all_silent}
+use Rattle.borne_deeds.proofs.Breaking.{all_are, all_between, one_between, report_is_named}
 use Rattle.borne_deeds.proofs.Excepting.{excepts_none}
 use Rattle.borne_deeds.proofs.Held.{KeepPairs, content_behind_is, pairs_behind}
 use Rattle.borne_deeds.proofs.Leading.{count_deeds, fewer_hits, first_deeds, first_steps, flag_there, lead_there, rests_there, rows_there, silent_points, silent_steps, steps_keep_failed, steps_keep_pairs, time_there, trace_of_break}

@@ -21,39 +21,10 @@ use Rattle.record_rows.proofs.Composing.{changes_in_a_row}
 use Rattle.site_deeds.specs.Changing.{DeedOfChanges, changes_of, deeds_of}
 use Rattle.session_points.specs.Leads.{Comes}
 use Rattle.session_points.specs.Ways.{are_at_time}
+use Rattle.borne_deeds.specs.Silent.{all_silent, breaking_at, has_none_live, silent_at, silent_from, silent_of, with_silent}
 use Rattle.fed_logs.specs.Laws.{ReportsBreak}
 use Rattle.fed_logs.specs.Laws.ReportsBreak.{Now, Later}
 use Rattle.fed_logs.specs.Moves.{HasRowIn, IsLive, MayFollow, is_break_of_control}
-
--- ---- breaks without a live row
-
--- whether no live row is a control's
-abbrev pub has_none_live : (control : ℕ) → List PairRow → Bool
-has_none_live k rows = list_all (λ r. not (nat_eq r.control k) || is_suspended r.state) rows
-
-abbrev breaking_at : (time control : ℕ) → Timed
-breaking_at time k = record { time = time; change = Break k }
-
--- the break of a control at its time below a limit, where no live row is the control's
-abbrev silent_at : (limit time control : ℕ) → Option ℕ → List PairRow → List Timed
-silent_at limit time k b rows = cond (is_at time b && (nat_lt time limit && has_none_live k rows)) (breaking_at time k ∷ []) []
-
--- the same of each control, from one on
-abbrev pub silent_from : (limit time control : ℕ) → (breaks : List (Option ℕ)) → List PairRow → List Timed
-silent_from limit time k [] rows = []
-silent_from limit time k (b ∷ breaks) rows = silent_at limit time k b rows ++ silent_from limit time (suc k) breaks rows
-
-abbrev pub silent_of : (limit : ℕ) → (breaks : List (Option ℕ)) → Deed → List Timed
-silent_of limit breaks (Logged cut entries rows) = silent_from limit cut 0 breaks rows
-silent_of limit breaks (Changed time rows) = []
-silent_of limit breaks (Marked spot ended rows) = []
-
--- a step that names the silent breaks too
-abbrev pub with_silent : (limit : ℕ) → (breaks : List (Option ℕ)) → DeedOfChanges → DeedOfChanges
-with_silent limit breaks step = record { deed = step.deed; changes = step.changes ++ silent_of limit breaks step.deed }
-
-abbrev pub all_silent : (limit : ℕ) → (breaks : List (Option ℕ)) → List DeedOfChanges → List DeedOfChanges
-all_silent limit breaks steps = map (with_silent limit breaks) steps
 
 pub same_deeds : (limit : ℕ) (breaks : List (Option ℕ)) (steps : List DeedOfChanges) → deeds_of (all_silent limit breaks steps) ≡ deeds_of steps
 same_deeds limit breaks [] = refl

@@ -17,7 +17,8 @@ use Rattle.session_points.specs.Leads.{Comes, Leads, Point, may_rest}
 use Rattle.session_points.specs.Ways.{are_at_time}
 use Rattle.session_points.proofs.Leading.{leads_itself, leads_on}
 use Rattle.borne_deeds.specs.Points.{AreSteps, IsStep, LeavesSo, point_behind, point_by}
-use Rattle.borne_deeds.proofs.Breaking.{all_are, all_silent, silent_comes, silent_due, silent_from, silent_hits, silent_leaves, silent_of, silent_together, with_silent}
+use Rattle.borne_deeds.specs.Silent.{all_silent, silent_from, silent_of, with_silent}
+use Rattle.borne_deeds.proofs.Breaking.{all_are, silent_comes, silent_due, silent_hits, silent_leaves, silent_together}
 use Rattle.borne_deeds.proofs.Held.{KeepPairs}
 use Rattle.borne_deeds.specs.Told.{IsUnfailed}
 use Rattle.borne_deeds.proofs.Excepting.{KeepFailed}

@@ -30,11 +30,12 @@ use Rattle.session_points.specs.Leads.{Point}
 use Rattle.session_points.specs.Ways.{ComesNext, HasCountedHits, IsAtWork, Leg, PassedPoint, Way, is_ending, last_answered, leg_after, leg_to}
 use Rattle.session_points.specs.Ways.Way.{OnTheWay}
 use Rattle.session_points.proofs.Legs.{ends_alike}
-use Rattle.borne_deeds.specs.Laws.{BegunDeedsBear, BegunDeedsPassPoints, DoneDeedsPassPoints}
+use Rattle.borne_deeds.specs.Laws.{BegunDeedsBear, BegunDeedsPassPoints, DoneDeedsPassPoints, next_point}
 use Rattle.borne_deeds.specs.Points.{AreSteps, point_behind, point_by, points_by}
 use Rattle.borne_deeds.specs.Working.{Work, WorkBegins}
 use Rattle.borne_deeds.proofs.Bearing.{bears, broken, counted, may_be_meant, shown}
-use Rattle.borne_deeds.proofs.Breaking.{all_silent, same_deeds, with_silent}
+use Rattle.borne_deeds.specs.Silent.{all_silent, with_silent}
+use Rattle.borne_deeds.proofs.Breaking.{same_deeds}
 use Rattle.borne_deeds.proofs.Leading.{behind_both, count_deeds, first_deeds, first_steps, flag_there, same_point, silent_points, silent_step, steps_behind, take_silent}
 
 module _ (old : PlantState) (k : Work) (w : WorkBegins old k) where
@@ -280,27 +281,20 @@ begun_deeds_bear old new k w up begins t from to c has =
 pub begun_deeds_pass_points : (old new : PlantState) → BegunDeedsPassPoints old new
 begun_deeds_pass_points old new k asked w work up begins =
     let n = suc (length begins.moments) in
-    let silent = all_silent k.line.time (breaks_of k.run) k.steps in
-    let next = Some (point_behind k.run.level k.leg.point (take n silent)) in (
-      silent,
-      record {
-        same = same_deeds k.line.time (breaks_of k.run) k.steps;
-        goes = goes old k w new begins.site begins.moments [] k.steps refl old.clock new.clock (Some (with_next (length begins.moments) (deeds_of k.steps))) next
-            (next_tells old k w new begins.site n) (begins.goes up);
-        linked = links_all old k w asked work begins.moments;
-        may = may_all old k w begins.moments [] k.steps refl;
-        may_next = next_may old k w n;
-      },
-    )
+    record {
+      same = same_deeds k.line.time (breaks_of k.run) k.steps;
+      goes = goes old k w new begins.site begins.moments [] k.steps refl old.clock new.clock (Some (with_next (length begins.moments) (deeds_of k.steps))) (next_point k begins.moments)
+          (next_tells old k w new begins.site n) (begins.goes up);
+      linked = links_all old k w asked work begins.moments;
+      may = may_all old k w begins.moments [] k.steps refl;
+      may_next = next_may old k w n;
+    }
 
 pub done_deeds_pass_points : (old new : PlantState) → DoneDeedsPassPoints old new
-done_deeds_pass_points old new k asked w work up does = (
-  all_silent k.line.time (breaks_of k.run) k.steps,
-  record {
-    same = same_deeds k.line.time (breaks_of k.run) k.steps;
-    goes = goes old k w new does.site does.moments [] k.steps refl old.clock new.clock None None tt (does.goes up);
-    linked = links_all old k w asked work does.moments;
-    may = may_all old k w does.moments [] k.steps refl;
-    may_next = tt;
-  },
-)
+done_deeds_pass_points old new k asked w work up does = record {
+  same = same_deeds k.line.time (breaks_of k.run) k.steps;
+  goes = goes old k w new does.site does.moments [] k.steps refl old.clock new.clock None None tt (does.goes up);
+  linked = links_all old k w asked work does.moments;
+  may = may_all old k w does.moments [] k.steps refl;
+  may_next = tt;
+}

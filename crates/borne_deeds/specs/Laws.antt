@@ -3,7 +3,7 @@ use Rattle.std.specs.Prelude.{ℕ, suc, ◌<◌, ◌≤◌, List, length, take, 
 use Rattle.crash_plant.specs.Choices.{AtEveryMoment, AtNow, Choice, IsChoice}
 use Rattle.crash_plant.specs.Moments.{PlantState}
 use Rattle.site_means.specs.Images.{shape_of}
-use Rattle.site_deeds.specs.Changing.{DeedOfChanges, deeds_of}
+use Rattle.site_deeds.specs.Changing.{deeds_of}
 use Rattle.site_deeds.specs.Doing.{BeginsDeeds, DoesDeeds}
 use Rattle.consistency.specs.Bears.{Bears}
 use Rattle.pair_table.specs.declared.row.PairRow.{PairRow}
@@ -14,7 +14,7 @@ use Rattle.session_points.specs.Ways.{IsAtWork}
 use Rattle.borne_deeds.specs.Points.{point_behind}
 use Rattle.borne_deeds.specs.Told.{CarriedAsLive, FailedAreOwed}
 use Rattle.borne_deeds.specs.Working.{Asked, IsKeptToEnd, PassesPoints, SeesFirst, StandsForRows, Work, WorkBegins}
-use Rattle.borne_deeds.specs.Working.{excepted_last, last_point_of, point_then, time_then}
+use Rattle.borne_deeds.specs.Working.{excepted_last, last_point_of, named_steps, point_then, time_then}
 
 -- ---- what is seen
 
@@ -43,18 +43,17 @@ BegunDeedsBear old new = (work : Work) → WorkBegins old work → 0 < old.clock
     → AtEveryMoment (λ c. (time : ℕ) × Bears work.run work.stage (shape_of new) c time) old new
 
 -- the point behind one deed more than there are moments
-abbrev pub next_point : Work → (moments : List ℕ) → (named : List DeedOfChanges) → Option Point
-next_point work moments named = Some (point_behind work.run.level work.leg.point (take (suc (length moments)) named))
+abbrev pub next_point : Work → (moments : List ℕ) → Option Point
+next_point work moments = Some (point_behind work.run.level work.leg.point (take (suc (length moments)) (named_steps work)))
 
 -- Calls that begin the deeds pass their points, and the next one is on its way. Calls that do them all pass all.
 abbrev pub BegunDeedsPassPoints : (old new : PlantState) → Type 0
 BegunDeedsPassPoints old new = (work : Work) (asked : Asked) → WorkBegins old work → IsAtWork work.run asked work.leg → 0 < old.clock
-    → (begins : Begins old new work)
-    → (named : List DeedOfChanges) × PassesPoints old new work asked begins.moments named (next_point work begins.moments named)
+    → (begins : Begins old new work) → PassesPoints old new work asked begins.moments (named_steps work) (next_point work begins.moments)
 
 abbrev pub DoneDeedsPassPoints : (old new : PlantState) → Type 0
 DoneDeedsPassPoints old new = (work : Work) (asked : Asked) → WorkBegins old work → IsAtWork work.run asked work.leg → 0 < old.clock
-    → (does : DoesWork old new work) → (named : List DeedOfChanges) × PassesPoints old new work asked does.moments named None
+    → (does : DoesWork old new work) → PassesPoints old new work asked does.moments (named_steps work) None
 
 -- ---- at the end
 

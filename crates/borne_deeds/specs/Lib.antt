@@ -1,4 +1,5 @@
 pub mod Points
+pub mod Silent
 pub mod Told
 pub mod Working
 pub mod Laws

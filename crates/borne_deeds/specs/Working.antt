@@ -24,6 +24,7 @@ use Rattle.session_points.specs.Bearing.{GoesThroughPoints, MayBeMeant, ShowsPoi
 use Rattle.session_points.specs.Leads.{Point, may_rest}
 use Rattle.session_points.specs.Ways.{ComesNext, HasCountedHits, IsLegOf, Leg, PassedPoint, leg_after, leg_to}
 use Rattle.borne_deeds.specs.Points.{AreSteps, point_behind, points_by}
+use Rattle.borne_deeds.specs.Silent.{all_silent}
 use Rattle.borne_deeds.specs.Told.{CarriedAsLive, ExceptedAreOwed, FailedAreOwed, KeptHaveRows, held_by_choice}
 
 -- The work for a line's time, from a leg of a run's stage on.
@@ -124,6 +125,10 @@ IsKeptToEnd work time rows known =
 -- the line with a number, if it was heard whole
 abbrev pub Asked : Type 0
 Asked = (number : ℕ) → Option TimedCommand
+
+-- the work's deeds with the changes by which points come: those of its steps, and the silent breaks below the line's time
+abbrev pub named_steps : Work → List DeedOfChanges
+named_steps work = all_silent work.line.time (breaks_of work.run) work.steps
 
 -- the points of the first deeds at moments, where deeds come by these changes
 abbrev pub points_in : Work → (moments : List ℕ) → (named : List DeedOfChanges) → List PassedPoint

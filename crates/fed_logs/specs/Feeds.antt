@@ -1,8 +1,11 @@
 -- Calls of readers that are fed by their controls' traces.
-use Rattle.std.specs.Prelude.{◌≡◌, ℕ, ◌&&◌, List, [], ◌∷◌, filter, slice_get, Bool, true, false, Some, nat_lt, nat_le, MatchBool}
-use Rattle.ckd_track.specs.declared.write.Write.{Write}
+use Rattle.std.specs.Prelude.{◌≡◌, ◌≤◌, ℕ, ◌&&◌, List, [], ◌∷◌, length, filter, slice_get, Bool, true, false, Some, nat_lt, nat_le, MatchBool}
+use Rattle.ckd_track.specs.declared.write.Batch.{Batch}
+use Rattle.write_trace.specs.declared.entry.Entry.{Entry}
 use Rattle.write_trace.specs.declared.trace.Trace.{Trace}
+use Rattle.write_trace.specs.Entries.{stamp_of}
 use Rattle.write_trace.specs.Writes.{writes_of}
+use Rattle.sidefile.specs.Runs.{quota, runs}
 use Rattle.sidefile.specs.Breaks.{break_of, has_broken}
 use Rattle.primary_ctl.specs.States.{base_in, after_writes}
 use Rattle.primary_ctl.specs.Primaries.{primary}
@@ -17,13 +20,19 @@ use Rattle.told_tracks.specs.Told.{Truth, floor_of, has_changed, is_write_up_to}
 abbrev pub truth_of : List Trace → Truth
 truth_of traces = λ k v x t. primary traces t k v x
 
--- a write behind one time, up to another
-abbrev pub is_between : (from to : ℕ) → Write → Bool
-is_between from to w = nat_lt from w.stamp.0 && nat_le w.stamp.0 to
+-- an entry behind one time, up to another
+abbrev pub is_between : (from to : ℕ) → Entry → Bool
+is_between from to e = nat_lt from (stamp_of e) && nat_le (stamp_of e) to
 
--- the writes of a trace behind one time, up to another
-abbrev pub writes_between : Trace → (from to : ℕ) → List Write
-writes_between t from to = filter (is_between from to) (writes_of t.entries)
+-- the good entries of a trace behind one time, up to another
+abbrev pub entries_between : Trace → (from to : ℕ) → List Entry
+entries_between t from to = filter (is_between from to) t.entries
+
+-- A batch has the writes of these entries, which are exactly one run.
+pub record IsBatchOf (run : List Entry) (b : Batch) : Type 0 where
+  pub one : length (runs run) ≡ 1
+  pub writes : b.writes ≡ writes_of run
+  pub room : length b.writes ≤ quota
 
 -- the control's floor after a call of its reader that changed the state
 abbrev pub floor_behind : (floor : ℕ) → Call → ℕ
@@ -38,15 +47,15 @@ floor_behind floor (Drop k v all) = floor
 floor_behind floor (Resume k v) = floor
 floor_behind floor (Forget k v) = floor
 
--- A call of a control's reader is fed by its trace, from the control's floor on. A batch has the trace's writes behind the floor up to
--- its own time; a raise and a break have none there. A batch and a raise come up to the trace's break time at most, and a break is the
--- trace's. A copied track is the primary's at the floor.
+-- A call of a control's reader is fed by its trace, from the control's floor on. A batch is the trace's next run: the entries behind the floor
+-- up to the batch's time. A raise and a break have no entry there. A batch and a raise come up to the trace's break time at most, and a break is
+-- the trace's. A copied track is the primary's at the floor.
 abbrev pub IsFedBy : Trace → (floor : ℕ) → Call → Type 0
-IsFedBy t floor (Join b) = (b.writes ≡ writes_between t floor b.upto.0) × (has_broken t b.upto.0 ≡ false)
+IsFedBy t floor (Join b) = IsBatchOf (entries_between t floor b.upto.0) b × (has_broken t b.upto.0 ≡ false)
 IsFedBy t floor (NextWanted k) = Unit {0}
 IsFedBy t floor (Copied k v x at slot) = slot ≡ after_writes (base_in t.header.base v x) (filter (is_write_up_to v x floor) (writes_of t.entries))
-IsFedBy t floor (Raise k upto) = (writes_between t floor upto.0 ≡ []) × (has_broken t upto.0 ≡ false)
-IsFedBy t floor (Break k upto cause) = (writes_between t floor upto.0 ≡ []) × (break_of t ≡ Some (record { cause = cause; upto = upto.0 }))
+IsFedBy t floor (Raise k upto) = (entries_between t floor upto.0 ≡ []) × (has_broken t upto.0 ≡ false)
+IsFedBy t floor (Break k upto cause) = (entries_between t floor upto.0 ≡ []) × (break_of t ≡ Some (record { cause = cause; upto = upto.0 }))
 IsFedBy t floor (Form limit) = Unit {0}
 IsFedBy t floor (Carry k v plan) = Unit {0}
 IsFedBy t floor (Drop k v all) = Unit {0}

@@ -1,10 +1,11 @@
 -- What the mover kept of its calls: the deeds that it did between them and by them.
-use Rattle.std.specs.Prelude.{◌≡◌, ◌⊎◌, ℕ, ◌<◌, ◌≤◌, ◌==◌, ◌&&◌, ◌||◌, not, List, [], ◌∷◌, ◌++◌, Bool, false, Option, Some, None, IsTrue}
-use Rattle.std.specs.List.{list_any, Contains}
+use Rattle.std.specs.Prelude.{◌≡◌, ◌⊎◌, ℕ, ◌<◌, ◌≤◌, ◌==◌, ◌&&◌, ◌||◌, not, List, [], ◌∷◌, ◌++◌, Bool, true, false, Option, Some, None, IsTrue}
+use Rattle.std.specs.List.{All, list_any, Contains}
 use Rattle.pair_table.specs.declared.row.PairRow.{PairRow}
 use Rattle.pair_table.specs.declared.row.PairState.{PairState}
 use Rattle.pair_table.specs.declared.row.PairState.TheVariants.{Duplex}
 use Rattle.pair_table.specs.Rows.{is_suspended}
+use Rattle.pending_queue.specs.Entries.{WaitingEntry}
 use Rattle.cut_core.specs.Shares.{names_volume}
 use Rattle.group_state.specs.Groups.{Shown}
 use Rattle.group_state.specs.HistoryLaws.{is_named}
@@ -29,6 +30,10 @@ IsLive state = is_suspended state ≡ false
 
 abbrev pub IsDuplex : PairState → Type 0
 IsDuplex state = state ≡ Duplex
+
+-- An entry is of a volume whose row is live.
+abbrev pub IsOfLiveRow : List PairRow → WaitingEntry → Type 0
+IsOfLiveRow rows entry = HasRowIn IsLive entry.head.control entry.head.volume rows
 
 -- Rows are live or duplex only where rows before were.
 pub record AreFewer (rows next : List PairRow) : Type 0 where
@@ -66,6 +71,14 @@ AreQuiet time rows (Logged cut entries fewer ∷ deeds) next = ⊥
 AreQuiet time rows (Changed at fewer ∷ deeds) next = (at ≡ time) × AreFewer rows fewer × AreQuiet time fewer deeds next
 AreQuiet time rows (Marked spot ended fewer ∷ deeds) next = AreFewer rows fewer × AreQuiet time fewer deeds next
 
+-- whether deeds are none, or one mark
+abbrev pub is_mark_at_most : List Deed → Bool
+is_mark_at_most [] = true
+is_mark_at_most (Logged cut entries rows ∷ deeds) = false
+is_mark_at_most (Changed time rows ∷ deeds) = false
+is_mark_at_most (Marked spot ended rows ∷ []) = true
+is_mark_at_most (Marked spot ended rows ∷ deed ∷ deeds) = false
+
 -- ---- plans
 
 -- the volumes whose plans are known to be done, of those that aren't dropped
@@ -84,14 +97,16 @@ plans_without k v done = λ j w. done j w && not (names_volume j w k v)
 abbrev pub Following : Type 1
 Following = ℕ → List PairRow → Plans → List Deed → Type 0
 
--- A form is logged as what it showed, at a cut that isn't below the time that is meant. Rows may be suspended by a mark before its
--- record.
+-- A form is logged as what it showed, at a cut that isn't below the time that is meant. Its entries are of volumes whose rows are live. A mark
+-- before its record may suspend rows.
 pub record IsLogged (time : ℕ) (rows : List PairRow) (done : Plans) (shown : Shown) (deeds : List Deed) (rest : Following) : Type 0 where
   pub quiet : List Deed
   pub mid : List PairRow
   pub next : List PairRow
   pub later : List Deed
   pub are : deeds ≡ quiet ++ Logged shown.cut.0 shown.entries next ∷ later
+  pub live : All (IsOfLiveRow rows) shown.entries
+  pub marks : IsTrue (is_mark_at_most quiet)
   pub suspends : AreQuiet time rows quiet mid
   pub up : time ≤ shown.cut.0
   pub follow : MayFollow shown mid next

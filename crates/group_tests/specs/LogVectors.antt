@@ -1,5 +1,5 @@
 -- Worked logs with their deeds: of one control or two, whose first carries its volume 0, of two tracks.
-use Rattle.std.specs.Prelude.{ℕ, List, [], ◌∷◌, ◌++◌, None, false}
+use Rattle.std.specs.Prelude.{ℕ, List, [], ◌∷◌, None, false, take}
 use Rattle.ckd_track.specs.declared.layout.TheConstants.{BLOCKS_OF_QUEUE, WRITES_OF_RUN}
 use Rattle.pair_table.specs.declared.row.PairRow.{PairRow}
 use Rattle.group_state.specs.Groups.{Group, Shown, new_group, cut_of, shown_at}
@@ -9,7 +9,7 @@ use Rattle.group_state.specs.Runs.{Answer}
 use Rattle.told_tracks.specs.Told.{HeldTracks}
 use Rattle.record_rows.specs.Deeds.{Deed}
 use Rattle.record_rows.specs.Deeds.Deed.{Logged, Changed}
-use Rattle.fed_logs.specs.Moves.{HasRowIn, IsDuplex, AreFewer, MayFollow, Plans}
+use Rattle.fed_logs.specs.Moves.{HasRowIn, IsDuplex, IsLive, AreFewer, Plans}
 use Rattle.group_tests.specs.CutVectors.{whole_on}
 use Rattle.group_tests.specs.HistoryVectors.{answers_to}
 use Rattle.group_tests.specs.StateVectors.{after_all, batch, raise, none_wanted, both_wanted, copy, state_of_two}
@@ -53,24 +53,34 @@ before_drop = Carry 0 0 none_wanted ∷ Join (batch 0 (whole_on 1 0x64 ∷ []) 0
 abbrev pub followed : Group
 followed = after_all one_control before_drop
 
--- Writes of 110 and 120 come while it is dropped. It is resumed, and its one owed track is copied.
+-- Its volume is dropped then. Writes of 110 and 120 come while it is. It is resumed, and its one owed track is copied.
 abbrev pub until_copied : List Call
 until_copied = form_to 0x6D ∷ Drop 0 0 false ∷ Join (batch 0 (whole_on 1 0x110 ∷ whole_on 1 0x120 ∷ []) 0x1FF) ∷ Resume 0 0 ∷ copy 1 0x1FF ∷ []
 
 abbrev pub copied_again : Group
 copied_again = after_all followed until_copied
 
-abbrev pub deeds_of_resume : (rows fewer next : List PairRow) → List Deed
-deeds_of_resume rows fewer next = logged_of (shown_of followed 0x6D) rows ∷ Changed 0x6D fewer ∷ logged_of (shown_of copied_again 0x1FF) next ∷ []
+abbrev pub log_of_drop : List Answer
+log_of_drop = answers_to followed (take 2 until_copied)
 
-abbrev pub log_of_resume : List Answer
-log_of_resume = answers_to followed (until_copied ++ form_to 0x1FF ∷ [])
+abbrev pub deeds_of_drop : (rows fewer : List PairRow) → List Deed
+deeds_of_drop rows fewer = logged_of (shown_of followed 0x6D) rows ∷ Changed 0x6D fewer ∷ []
 
--- The pair is suspended before its volume is dropped, and follows again by the group that shows its plan done.
-pub record FollowAgain (rows fewer next : List PairRow) : Type 0 where
+-- A row of the first control's volume 0 is live.
+abbrev pub HasLiveRow : List PairRow → Type 0
+HasLiveRow rows = HasRowIn IsLive 0 0 rows
+
+-- A live pair is suspended before its volume is dropped.
+pub record IsSuspendedFirst (rows fewer : List PairRow) : Type 0 where
+  pub live : HasLiveRow rows
   pub less : AreFewer rows fewer
   pub gone : HasRowIn IsDuplex 0 0 fewer → ⊥
-  pub follow : MayFollow (shown_of copied_again 0x1FF) fewer next
+
+abbrev pub log_of_resume : List Answer
+log_of_resume = answers_to copied_again (form_to 0x1FF ∷ [])
+
+abbrev pub deeds_of_resume : (next : List PairRow) → List Deed
+deeds_of_resume next = logged_of (shown_of copied_again 0x1FF) next ∷ []
 
 -- ---- a crash while copying
 

@@ -9,13 +9,13 @@ ghost use Rattle.fed_logs.specs.Moves.{HasRowIn, IsDuplex, MayFollow, MakesDeeds
 ghost use Rattle.group_state.specs.Machine.{reply_to};
 ghost use Rattle.group_state.specs.Machine.Call.{Resume};
 ghost use Rattle.group_state.specs.Machine.Reply.{Owed};
-ghost use Rattle.group_tests.specs.LogVectors.{none_held, none_known, shown_of, log_of_cut, deeds_of_cut, followed, until_copied, copied_again, log_of_resume, deeds_of_resume, FollowAgain, copying, log_of_copy, deeds_of_copy};
+ghost use Rattle.group_tests.specs.LogVectors.{none_held, none_known, shown_of, HasLiveRow, log_of_cut, deeds_of_cut, followed, until_copied, copied_again, log_of_drop, deeds_of_drop, IsSuspendedFirst, log_of_resume, deeds_of_resume, copying, log_of_copy, deeds_of_copy};
 ghost use Rattle.group_tests.specs.StateVectors.{after_all, state_of_two, tracks_shown};
 
 /// Of writes of 10 and 20 the group at 15 has the first alone, since the second control has told no further.
 pub fn a_row_on_the_cut()
     ensures shown { tracks_shown (shown_of state_of_two 0x40) ≡ (0, 0) ∷ [] }
-    ensures deeds { (rows : List PairRow) → MakesDeeds 9 rows none_known (part_of_mover log_of_cut) (deeds_of_cut rows) }
+    ensures deeds { (rows : List PairRow) → HasLiveRow rows → MakesDeeds 9 rows none_known (part_of_mover log_of_cut) (deeds_of_cut rows) }
     ensures time { (rows : List PairRow) → time_meant_behind (deeds_of_cut rows) 9 ≡ 0x15 }
     ensures held { (rows : List PairRow) → held_behind (deeds_of_cut rows) none_held 0 0 0 ≡ Some [] }
     ensures later { (rows : List PairRow) → held_behind (deeds_of_cut rows) none_held 0 0 1 ≡ None }
@@ -28,9 +28,11 @@ pub fn a_pair_follows_again()
     ensures owed { reply_to (after_all followed (take 3 until_copied)) (Resume 0 0) ≡ Owed 1 }
     ensures shown { tracks_shown (shown_of copied_again 0x1FF) ≡ (0, 1) ∷ [] }
     ensures done_again { (shown_of copied_again 0x1FF).done ≡ (0, 0) ∷ [] }
-    ensures deeds { (rows fewer next : List PairRow) → FollowAgain rows fewer next
-        → MakesDeeds 0 rows none_known (part_of_mover log_of_resume) (deeds_of_resume rows fewer next) }
-    ensures times { (rows fewer next : List PairRow) → time_meant_behind (take 2 (deeds_of_resume rows fewer next)) 0 ≡ 0x6D }
+    ensures dropped { (rows fewer : List PairRow) → IsSuspendedFirst rows fewer
+        → MakesDeeds 0 rows none_known (part_of_mover log_of_drop) (deeds_of_drop rows fewer) }
+    ensures times { (rows fewer : List PairRow) → time_meant_behind (deeds_of_drop rows fewer) 0 ≡ 0x6D }
+    ensures again { (rows next : List PairRow) → HasLiveRow rows → MayFollow (shown_of copied_again 0x1FF) rows next
+        → MakesDeeds 0x6D rows none_known (part_of_mover log_of_resume) (deeds_of_resume next) }
 {}
 
 /// A group of the tracks that were copied up to its limit shows no plan done, so no row becomes duplex behind it.
@@ -40,6 +42,6 @@ pub fn a_copy_is_cut_short()
     ensures held { (rows : List PairRow) → held_behind (deeds_of_copy rows) none_held 0 0 1 ≡ None }
     ensures copies { (rows next : List PairRow) → MayFollow (shown_of copying 0x60) rows next
         → HasRowIn IsDuplex 0 0 next → HasRowIn IsDuplex 0 0 rows }
-    ensures deeds { (rows next : List PairRow) → MayFollow (shown_of copying 0x60) rows next
+    ensures deeds { (rows next : List PairRow) → HasLiveRow rows → MayFollow (shown_of copying 0x60) rows next
         → MakesDeeds 0 rows none_known (part_of_mover log_of_copy) (deeds_of_copy next) }
 {}

@@ -1,6 +1,7 @@
 -- What a hand leaves ahead, however the trace turns out.
-use Rattle.std.proofs.Common.{◌≡◌, ◌≤◌, ◌+◌, ◌-◌, ℕ, true, false, nat_le, List, [], ◌∷◌, ◌++◌, Option, Some, None, refl, sym, ap, subst, ◌∙◌, arith}
-use Rattle.std.proofs.lemmas.Bool.{and_parts, and_from, leb-true, le-leb}
+use Rattle.std.proofs.Common.{◌≡◌, ◌≤◌, ◌+◌, ◌-◌, ℕ, true, false, nat_le, List, [], ◌∷◌, ◌++◌, length, Option, Some, None, refl, sym, ap, subst, ◌∙◌, arith}
+use Rattle.std.specs.List.{list_all}
+use Rattle.std.proofs.lemmas.Bool.{and_parts, and_from, leb-true, le-leb, ltb-false}
 use Rattle.tod_stamp.specs.declared.stamp.Stamp.{Stamp}
 use Rattle.ckd_track.specs.declared.write.Batch.{Batch}
 use Rattle.ckd_track.specs.declared.write.Cause.{Cause}
@@ -10,7 +11,7 @@ use Rattle.write_trace.specs.Entries.{stamp_of}
 use Rattle.write_trace.specs.Writes.{writes_of}
 use Rattle.sidefile.specs.declared.hand.Hand.{Hand}
 use Rattle.sidefile.specs.declared.hand.Hand.TheVariants as hands
-use Rattle.sidefile.specs.Runs.{runs, is_crowded}
+use Rattle.sidefile.specs.Runs.{quota, run_stamp, runs, is_crowded}
 use Rattle.sidefile.specs.Breaks.{break_in, cause_of, stamp}
 use Rattle.sidefile.specs.Ahead.{ahead, cause_ahead}
 use Rattle.sidefile.specs.Exact.{IsHand, LeavesRuns}
@@ -19,9 +20,10 @@ use Rattle.sidefile.specs.States.{SidefileState, front_of}
 use Rattle.sidefile.proofs.HandLaws.{Step, step, GoesTo, IsAbove, first_stamp}
 use Rattle.sidefile.proofs.HandLaws.Step.{Takes, Waits, Breaks}
 use Rattle.sidefile.proofs.RunLaws.{begins}
+use Rattle.fed_logs.specs.Feeds.{IsBatchOf, is_between}
 use Rattle.lane_feed.specs.Reads.{Outlook, EndsAsAhead, IsStillToCome, MayTurnOut, do_rise}
 use Rattle.lane_feed.specs.Reads.Outlook.{Whole, Failing}
-use Rattle.lane_feed.proofs.Entries.{begin_with_run}
+use Rattle.lane_feed.proofs.Entries.{begin_with_run, first_run, stamp_between}
 
 -- ---- however the trace turns out
 
@@ -54,14 +56,22 @@ could_turn_out Failing control limit now old new bytes later given l turn = l.we
 
 -- ---- a batch
 
--- A batch has the writes of the first run that was ahead. What is left is behind the batch's time, and so is the break.
-pub record TakesRun (cause : Option Cause) (old new : List Entry) (batch : Batch) : Type 0 where
+-- A batch is that of the first run that was ahead, which is behind a time, up to the batch's. What is left is behind the batch's time, and so is
+-- the break.
+pub record TakesRun (low : ℕ) (cause : Option Cause) (old new : List Entry) (batch : Batch) : Type 0 where
   pub run : List Entry
   pub split : old ≡ run ++ new
-  pub writes : batch.writes ≡ writes_of run
+  pub is : IsBatchOf run batch
+  pub later : low ≤ batch.upto.0
+  pub within : list_all (is_between low batch.upto.0) run ≡ true
   pub above : IsAbove batch.upto.0 (runs new)
   pub clean : runs new ≡ [] → cause ≡ None
   pub same : break_in cause (runs new) ≡ break_in cause (runs old)
+
+-- A batch goes up to its run's stamp at least, and not up to the next one.
+goes_up : (limit upto stamp : ℕ) (more : List (List Entry)) → stamp ≤ limit → IsAbove stamp more → GoesTo limit upto more → stamp ≤ upto
+goes_up limit upto stamp [] there above goes = omega (arith, there, goes)
+goes_up limit upto stamp (next ∷ more) there above goes = omega (arith, there, above, goes)
 
 goes_above : (limit upto : ℕ) (more : List (List Entry)) → 1 ≤ upto → GoesTo limit upto more → IsAbove upto more
 goes_above limit upto [] some goes = tt
@@ -71,19 +81,25 @@ break_left : (cause : Option Cause) (run : List Entry) (more : List (List Entry)
 break_left cause run [] crowded clean = rw (clean refl, crowded) refl
 break_left cause run (next ∷ more) crowded clean = rw crowded refl
 
-pub takes_run : (control limit : ℕ) (cause : Option Cause) (old new : List Entry) (batch : Batch) → 1 ≤ batch.upto.0 → hands.Batch batch ≡ hand control cause limit (runs old) → runs new ≡ left_after (hands.Batch batch) (runs old) → TakesRun cause old new batch
-takes_run control limit cause old new batch some is left = choose (step control cause limit (runs old))
+pub takes_run : (control limit low : ℕ) (cause : Option Cause) (old new : List Entry) (batch : Batch) → do_rise (low + 1) old ≡ true → hands.Batch batch ≡ hand control cause limit (runs old) → runs new ≡ left_after (hands.Batch batch) (runs old) → TakesRun low cause old new batch
+takes_run control limit low cause old new batch rise is left = choose (step control cause limit (runs old))
   where
-    choose : Step control cause limit (runs old) → TakesRun cause old new batch
+    choose : Step control cause limit (runs old) → TakesRun low cause old new batch
     choose (Takes run more upto first h there goes crowded clean) =
         let same : batch ≡ batch_of control run upto = (let b : hands.Batch batch ≡ hands.Batch (batch_of control run upto) = is ∙ h in cc b) in
         let behind : runs new ≡ more = left ∙ ap (left_after (hands.Batch batch)) first in
         let up : batch.upto.0 ≡ upto = ap (λ (b : Batch). b.upto.0) same in
+        let writes : batch.writes ≡ writes_of run = ap (λ (b : Batch). b.writes) same in
+        let f = first_run low old run more rise first in
+        let low_is = f.above in
+        let high : run_stamp run ≤ upto = goes_up limit upto (run_stamp run) more there f.later goes in
         record {
           run = run;
           split = begin_with_run old new run more first behind;
-          writes = ap (λ (b : Batch). b.writes) same;
-          above = subst (λ (n : ℕ). IsAbove n (runs new)) (sym up) (subst (IsAbove upto) (sym behind) (goes_above limit upto more (omega (arith, some, up)) goes));
+          is = record { one = ap length f.one; writes = writes; room = (let few = ltb-false quota (length (writes_of run)) crowded in omega (arith, few, ap length writes)) };
+          later = omega (arith, low_is, high, up);
+          within = stamp_between low batch.upto.0 (run_stamp run) run low_is (omega (arith, high, up)) f.stamps;
+          above = subst (λ (n : ℕ). IsAbove n (runs new)) (sym up) (subst (IsAbove upto) (sym behind) (goes_above limit upto more (omega (arith, low_is, high)) goes));
           clean = λ none. clean (sym behind ∙ none);
           same = ap (break_in cause) behind ∙ break_left cause run more crowded clean ∙ ap (break_in cause) (sym first);
         }

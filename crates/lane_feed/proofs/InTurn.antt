@@ -1,6 +1,8 @@
 -- Calls one after another read on.
 use Rattle.std.proofs.Common.{◌≡◌, ℕ, Bool, true, false, cond, List, [], ◌∷◌, ◌++◌, Option, Some, None, refl, sym, ap, subst, ◌∙◌, append-nil, append_assoc}
 use Rattle.std.specs.Prelude.{MatchBool}
+use Rattle.tod_stamp.specs.declared.stamp.Stamp.{Stamp}
+use Rattle.ckd_track.specs.declared.write.Cause.{Cause}
 use Rattle.write_trace.specs.declared.trace.Trace.{Trace}
 use Rattle.sidefile.specs.declared.hand.Halt.{Halt}
 use Rattle.sidefile.specs.declared.hand.Halt.TheVariants as halts
@@ -34,11 +36,16 @@ fed_then t floor (x ∷ a) b h k = choose (has_changed x.reply) (λ n. fed_then 
 pub no_halt : (halted : Option Halt) (halt : Halt) → halted ≡ None → halted ≡ Some halt → ⊥
 no_halt halted halt none some = let e : None ≡ Some halt = sym none ∙ some in cc e
 
+-- A feed that reads on hasn't broken.
+pub unbroken : (halted : Option Halt) (gained : List Answer) → halted ≡ None → (cause : Cause) (upto : Stamp) → halted ≡ Some (halts.Broken cause upto) → telling_behind_calls true gained ≡ false
+unbroken halted gained goes cause upto broke = absurd (no_halt halted (halts.Broken cause upto) goes broke)
+
 pub reads_nothing : NoCallReadsNothing
 reads_nothing told feed = record {
   stays = λ halt is. (refl, refl, refl);
   floor = λ not. refl;
   telling = λ goes. refl;
+  told = unbroken feed.halted [];
   reads = λ goes bytes there. record {
     used = [];
     rest = bytes;
@@ -69,6 +76,7 @@ reads_in_turn before mid now a b c first then h k = choose b.halted refl
           stays = λ halt was. absurd (no_halt b.halted halt is (ap (λ (f : FeedState). f.halted) (h.stays halt was).0 ∙ was));
           floor = λ not. floors_then a.primary.time first then ∙ ap (λ (n : ℕ). floor_behind_calls n then) floor ∙ k.floor not;
           telling = λ goes. telling_then true first then ∙ ap (λ t. telling_behind_calls t then) (h.telling is) ∙ k.telling goes;
+          told = λ goes cause upto broke. telling_then true first then ∙ ap (λ t. telling_behind_calls t then) (h.telling is) ∙ k.told is cause upto broke;
           reads = λ goes bytes there.
               let r = h.reads goes bytes there in
               let left : IsAhead b.side.reader mid r.rest = subst (λ (x : Option Halt). AreLeft mid x b.side.reader r.rest) is r.left in

@@ -1,9 +1,9 @@
 -- Each step of a reader reads on.
-use Rattle.std.proofs.Common.{◌≡◌, ◌≤◌, ◌<◌, ◌+◌, ℕ, Bool, true, false, cond, nat_lt, nat_le, List, [], ◌∷◌, ◌++◌, Option, Some, None, refl, sym, ap, subst, ◌∙◌, arith, append-nil, append_assoc}
-use Rattle.std.specs.Prelude.{filter, All, MatchBool, option_map}
+use Rattle.std.proofs.Common.{◌≡◌, ◌≤◌, ◌+◌, ℕ, Bool, true, false, cond, nat_lt, nat_le, List, [], ◌∷◌, ◌++◌, Option, Some, None, refl, sym, ap, subst, ◌∙◌, arith, append-nil, append_assoc}
+use Rattle.std.specs.Prelude.{filter, MatchBool, option_map}
 use Rattle.std.specs.List.{list_all}
-use Rattle.std.proofs.lemmas.Bool.{and_parts, and_from, leb-true, le-leb, lt-ltb, le-ltb, ltb-false}
-use Rattle.std.proofs.lemmas.List.Elements.{filter-append, All-head, All-tail}
+use Rattle.std.proofs.lemmas.Bool.{and_parts, leb-true, le-leb, le-ltb, ltb-false}
+use Rattle.std.proofs.lemmas.List.Elements.{filter-append}
 use Rattle.tod_stamp.specs.declared.stamp.Stamp.{Stamp}
 use Rattle.ckd_track.specs.declared.rec.Rec.{Rec}
 use Rattle.ckd_track.specs.declared.write.Batch.{Batch}
@@ -14,6 +14,7 @@ use Rattle.write_trace.specs.declared.entry.Entry.{Entry}
 use Rattle.write_trace.specs.declared.next.Stopped.{Stopped}
 use Rattle.write_trace.specs.declared.trace.Trace.{Trace}
 use Rattle.write_trace.specs.Answers.{ReaderState}
+use Rattle.write_trace.specs.Entries.{stamp_of}
 use Rattle.write_trace.specs.Writes.{writes_of}
 use Rattle.primary_ctl.specs.States.{PrimaryState, track_of, base_in, is_on, after_writes}
 use Rattle.sidefile.specs.declared.hand.Hand.{Hand}
@@ -28,16 +29,16 @@ use Rattle.sidefile.specs.Hands.{hand}
 use Rattle.sidefile.specs.States.{SidefileState, front_of}
 use Rattle.group_state.specs.Runs.{Answer}
 use Rattle.told_tracks.specs.Told.{has_changed, is_write_up_to}
-use Rattle.fed_logs.specs.Feeds.{AreFedBy, is_between, writes_between}
+use Rattle.fed_logs.specs.Feeds.{AreFedBy, IsBatchOf, entries_between, is_between}
 use Rattle.lane_feed.specs.Feeds.{FeedState}
-use Rattle.lane_feed.specs.Reads.{Outlook, IsHeldRun, HasRead, HasTracksAt, HasBroken, MayTurnOut, IsToFail, IsStillToCome, StandsSo, Went, AreLeft, ReadsBytes, do_rise}
+use Rattle.lane_feed.specs.Reads.{Outlook, IsHeldRun, HasRead, HasTracksAt, HasBroken, MayTurnOut, IsToFail, IsStillToCome, StandsSo, Went, AreLeft, ReadsBytes, do_rise, is_up_to}
 use Rattle.lane_feed.specs.Reads.Outlook.{Whole, Failing}
 use Rattle.lane_feed.specs.Steps.{HandsOver, TakesBatch, IsIdle, primary_at, joined_answer, held_answer, raised_answer, broken_answer, wanted_answer, copied_answer}
 use Rattle.lane_feed.specs.Steps.FeedStep.{Hands, Joins, Lacks, Holds, Passes, Breaks, Wants, Asks, Copies}
 use Rattle.lane_feed.specs.Laws.{StepsReadOn, ReadTracksAreThePrimary, NothingIsReadFirst}
-use Rattle.lane_feed.proofs.Entries.{all_more, all_append, after_then, writes_then, rise_lower, rise_behind, held_between, up_to_time, none_between, up_to_later, above_rises, above_unbroken, same_runs}
+use Rattle.lane_feed.proofs.Entries.{all_more, all_append, after_then, writes_then, rise_lower, rise_behind, held_between, up_to_time, up_to_more, none_between, up_to_later, above_rises, above_unbroken, same_runs}
 use Rattle.lane_feed.proofs.Hands.{leaves, could_turn_out, takes_run, waits_above, gives_up}
-use Rattle.lane_feed.proofs.InTurn.{no_halt}
+use Rattle.lane_feed.proofs.InTurn.{no_halt, unbroken}
 
 -- ---- outlooks
 
@@ -69,12 +70,12 @@ module _ (o : Outlook) (rest : List ℕ) (t : Trace) (feed : FeedState) (read : 
   all_read held = ap (λ (run : List Entry). (read.before ++ run) ++ entries) (sym (with_none held).0) ∙ read.all
 
   -- what the held run has
-  within : (h : Option Batch) → IsHeldRun h read.run feed.primary.time feed.side.upto → (feed.primary.time ≤ feed.side.upto) × (list_all (is_between feed.primary.time feed.side.upto) (writes_of read.run) ≡ true)
+  within : (h : Option Batch) → IsHeldRun h read.run feed.primary.time feed.side.upto → (feed.primary.time ≤ feed.side.upto) × (list_all (is_between feed.primary.time feed.side.upto) read.run ≡ true)
   within None h = (
     let e = h.1 in omega (arith, e),
-    ap (λ (run : List Entry). list_all (is_between feed.primary.time feed.side.upto) (writes_of run)) h.0,
+    ap (λ (run : List Entry). list_all (is_between feed.primary.time feed.side.upto) run) h.0,
   )
-  within (Some batch) h = (h.2, subst (λ (ws : List Write). list_all (is_between feed.primary.time feed.side.upto) ws ≡ true) h.0 h.3)
+  within (Some batch) h = (h.2, h.3)
 
   tracks_at : HasTracksAt t feed.primary.time feed.primary
   tracks_at v x =
@@ -95,11 +96,9 @@ module _ (o : Outlook) (later : List ℕ) (t : Trace) (old : FeedState) (batch :
       let upto = old.side.upto in
       let h = with_batch o later t old read batch held in
       let w = within o later t old read old.held read.is_held in
-      let is : batch.writes ≡ writes_between t time batch.upto.0 =
-      h.0 ∙ sym (held_between time upto read.before read.run (ahead old.side.waiting old.side.reader later) read.reported w.1 read.later)
-      ∙ ap (λ (es : List Entry). filter (is_between time upto) (writes_of es)) read.all
-      ∙ ap (λ (n : ℕ). filter (is_between time n) (writes_of t.entries)) (sym h.1) in (
-        (is, ap (has_broken t) h.1 ∙ read.unbroken),
+      let run_is : entries_between t time batch.upto.0 ≡ read.run =
+      ap (entries_between t time) h.1 ∙ ap (filter (is_between time upto)) (sym read.all) ∙ held_between time upto read.before read.run (ahead old.side.waiting old.side.reader later) read.reported w.1 read.later in (
+        (subst (λ (es : List Entry). IsBatchOf es batch) (sym run_is) h.0, ap (has_broken t) h.1 ∙ read.unbroken),
         tt,
       )
 
@@ -108,18 +107,15 @@ module _ (o : Outlook) (later : List ℕ) (t : Trace) (old : FeedState) (batch :
       let h = with_batch o later t old read batch held in
       let w = within o later t old read old.held read.is_held in
       let time : primary.time ≡ old.side.upto = takes.time ∙ h.1 in
-      let early : Write → Bool = λ w. nat_le w.stamp.0 primary.time in
       record {
         rise = read.rise;
         before = read.before ++ read.run;
         run = [];
         all = ap (λ (es : List Entry). es ++ ahead old.side.waiting old.side.reader later) (append-nil (read.before ++ read.run)) ∙ read.all;
         is_held = (refl, time);
-        reported = subst (λ (ws : List Write). list_all early ws ≡ true) (sym (writes_then read.before read.run))
-            (all_append early (writes_of read.before) (writes_of read.run)
-            (all_more (λ w. nat_le w.stamp.0 old.primary.time) early (writes_of read.before) (λ x le. le-leb x.stamp.0 primary.time (let l = leb-true x.stamp.0 old.primary.time le in let low = w.0 in omega (arith, l, low, time))) read.reported)
-            (all_more (is_between old.primary.time old.side.upto) early (writes_of read.run)
-            (λ x e. le-leb x.stamp.0 primary.time (let l = leb-true x.stamp.0 old.side.upto (and_parts (nat_lt old.primary.time x.stamp.0) (nat_le x.stamp.0 old.side.upto) e).1 in omega (arith, l, time))) w.1));
+        reported = all_append (is_up_to primary.time) read.before read.run (up_to_more old.primary.time primary.time read.before (let low = w.0 in omega (arith, low, time)) read.reported)
+            (all_more (is_between old.primary.time old.side.upto) (is_up_to primary.time) read.run
+            (λ e is. le-leb (stamp_of e) primary.time (let l = leb-true (stamp_of e) old.side.upto (and_parts (nat_lt old.primary.time (stamp_of e)) (nat_le (stamp_of e) old.side.upto) is).1 in omega (arith, l, time))) w.1);
         later = read.later;
         tracks = λ v x.
             let base = base_in t.header.base v x in
@@ -127,7 +123,7 @@ module _ (o : Outlook) (later : List ℕ) (t : Trace) (old : FeedState) (batch :
             takes.tracks v x
             ∙ ap (λ (recs : List Rec). after_writes recs (filter on batch.writes)) (read.tracks v x)
             ∙ sym (after_then base (filter on (writes_of read.before)) (filter on batch.writes))
-            ∙ ap (λ (ws : List Write). after_writes base (filter on (writes_of read.before) ++ filter on ws)) h.0
+            ∙ ap (λ (ws : List Write). after_writes base (filter on (writes_of read.before) ++ filter on ws)) h.0.writes
             ∙ ap (after_writes base) (sym (filter-append on (writes_of read.before) (writes_of read.run)))
             ∙ ap (λ (ws : List Write). after_writes base (filter on ws)) (sym (writes_then read.before read.run));
         ends_so = read.ends_so;
@@ -136,15 +132,6 @@ module _ (o : Outlook) (later : List ℕ) (t : Trace) (old : FeedState) (batch :
       }
 
 -- ---- a batch is handed over
-
-all_within : (from to stamp : ℕ) (writes : List Write) → from < stamp → stamp ≤ to → All (λ w. w.stamp.0 ≡ stamp) writes → list_all (is_between from to) writes ≡ true
-all_within from to stamp [] low high all = refl
-all_within from to stamp (w ∷ writes) low high all =
-    let P : Write → Type 0 = λ w. w.stamp.0 ≡ stamp in
-    let is = All-head P w writes all in
-    and_from (is_between from to w) (list_all (is_between from to) writes)
-    (and_from (nat_lt from w.stamp.0) (nat_le w.stamp.0 to) (lt-ltb from w.stamp.0 (omega (arith, is, low))) (le-leb w.stamp.0 to (omega (arith, is, high))))
-    (all_within from to stamp writes low high (All-tail P w writes all))
 
 module _ (before now : Option (List ℕ)) (limit : ℕ) (old : FeedState) (side : SidefileState) (idle : IsIdle old) where
   module _ (batch : Batch) (h : HandsOver before now limit old.side side (hands.Batch batch)) (bytes : List ℕ) (there : IsAhead old.side.reader before bytes) where
@@ -157,10 +144,7 @@ module _ (before now : Option (List ℕ)) (limit : ℕ) (old : FeedState) (side 
         let v = leaves o t old.side.control limit now old.side side bytes later (hands.Batch batch) d.0 d.1 come turn read.ends_so in
         let entries = ahead old.side.waiting old.side.reader was in
         let next = ahead side.waiting side.reader later in
-        let run = h.run in
-        let low = run.above in
-        let high = run.there in
-        let r = takes_run old.side.control limit cause entries next batch (omega (arith, low, high)) v.hand_is v.runs_left in
+        let r = takes_run old.side.control limit old.side.upto cause entries next batch read.later v.hand_is v.runs_left in
         let rises : do_rise 0 next ≡ true = rise_behind 0 r.run next (subst (λ (es : List Entry). do_rise 0 es ≡ true) r.split (rising o was t old read)) in
         let behind : do_rise (batch.upto.0 + 1) next ≡ true = above_rises batch.upto.0 next rises r.above in
         let even : old.primary.time ≡ old.side.upto = (with_none o was t old read idle.none).1 in
@@ -171,7 +155,12 @@ module _ (before now : Option (List ℕ)) (limit : ℕ) (old : FeedState) (side 
           before = read.before;
           run = r.run;
           all = append_assoc read.before r.run next ∙ ap (λ (es : List Entry). read.before ++ es) (sym r.split) ∙ ap (λ (es : List Entry). es ++ entries) (sym (append-nil read.before)) ∙ all_read o was t old read idle.none;
-          is_held = (r.writes, sym upto, omega (arith, even, upto, low, high), all_within old.primary.time side.upto run.stamp batch.writes (omega (arith, even, low)) (omega (arith, upto, high)) run.stamps);
+          is_held = (
+            r.is,
+            sym upto,
+            let low = r.later in omega (arith, even, upto, low),
+            subst (λ (n : ℕ). list_all (is_between n side.upto) r.run ≡ true) (sym even) (subst (λ (n : ℕ). list_all (is_between old.side.upto n) r.run ≡ true) (sym upto) r.within),
+          );
           reported = read.reported;
           later = subst (λ (n : ℕ). do_rise (n + 1) next ≡ true) (sym upto) behind;
           tracks = read.tracks;
@@ -199,10 +188,9 @@ module _ (before now : Option (List ℕ)) (limit : ℕ) (old : FeedState) (side 
         let upto = h.upto in
         let all = all_read o was t old read idle.none in
         let unbroken : has_broken t limit ≡ false = ap (λ (b : Option Break). is_below (option_map (λ x. x.upto) b) limit) (sym read.break_ahead) ∙ above_unbroken limit cause entries behind w.clean in
-        let none : writes_between t old.primary.time limit ≡ [] =
-        ap (λ (es : List Entry). filter (is_between old.primary.time limit) (writes_of es)) (sym all) ∙ none_between old.primary.time limit read.before entries read.reported behind in (
+        let none : entries_between t old.primary.time limit ≡ [] = ap (filter (is_between old.primary.time limit)) (sym all) ∙ none_between old.primary.time limit read.before entries read.reported behind in (
           (
-            (subst (λ (n : ℕ). writes_between t old.primary.time n ≡ []) (sym is) none, subst (λ (n : ℕ). has_broken t n ≡ false) (sym is) unbroken),
+            (subst (λ (n : ℕ). entries_between t old.primary.time n ≡ []) (sym is) none, subst (λ (n : ℕ). has_broken t n ≡ false) (sym is) unbroken),
             tt,
           ),
           record {
@@ -211,8 +199,7 @@ module _ (before now : Option (List ℕ)) (limit : ℕ) (old : FeedState) (side 
             run = [];
             all = ap (λ (es : List Entry). (read.before ++ []) ++ es) same ∙ all;
             is_held = subst (λ (b : Option Batch). IsHeldRun b [] limit side.upto) (sym idle.none) (refl, sym upto);
-            reported = all_more (λ w. nat_le w.stamp.0 old.primary.time) (λ w. nat_le w.stamp.0 limit) (writes_of read.before)
-                (λ x le. le-leb x.stamp.0 limit (let l = leb-true x.stamp.0 old.primary.time le in omega (arith, l, even, low))) read.reported;
+            reported = up_to_more old.primary.time limit read.before (omega (arith, even, low)) read.reported;
             later = subst (λ (n : ℕ). do_rise (n + 1) next ≡ true) (sym upto) (subst (λ (es : List Entry). do_rise (limit + 1) es ≡ true) (sym same) behind);
             tracks = read.tracks;
             ends_so = v.ends_so;
@@ -234,8 +221,7 @@ module _ (before now : Option (List ℕ)) (limit : ℕ) (old : FeedState) (side 
       let below : nat_lt upto.0 old.side.upto ≡ false = ap (λ (b : Option Break). is_below (option_map (λ x. x.upto) b) old.side.upto) (sym break_is) ∙ read.unbroken in
       let low : old.primary.time ≤ upto.0 = (let l = ltb-false upto.0 old.side.upto below in omega (arith, l, even)) in
       let all = all_read o bytes t old read idle.none in
-      let none : writes_between t old.primary.time upto.0 ≡ [] =
-      ap (λ (es : List Entry). filter (is_between old.primary.time upto.0) (writes_of es)) (sym all) ∙ none_between old.primary.time upto.0 read.before entries read.reported g.later in (
+      let none : entries_between t old.primary.time upto.0 ≡ [] = ap (filter (is_between old.primary.time upto.0)) (sym all) ∙ none_between old.primary.time upto.0 read.before entries read.reported g.later in (
         ((none, break_is), tt),
         record {
           time = ap (λ (p : PrimaryState). p.time) primary;
@@ -388,6 +374,7 @@ steps_read_on before now limit _ _ _ (Hands old side batch idle h) = record {
   stays = goes_from before now old (record old { side = side; held = Some batch }) [] idle.goes_on;
   floor = λ not. refl;
   telling = λ goes. refl;
+  told = unbroken old.halted [];
   reads = λ goes bytes there.
       let l = (h.due bytes there).1 in
       hands_on before now limit.0 old (record old { side = side; held = Some batch }) [] (hands.Batch batch) idle.goes_on idle.goes_on bytes l
@@ -397,6 +384,7 @@ steps_read_on before now limit _ _ _ (Joins old batch primary goes held same tak
   stays = goes_from before now old (record old { primary = primary; held = None }) (joined_answer batch ∷ []) goes;
   floor = λ not. sym takes.time;
   telling = λ goes. refl;
+  told = unbroken old.halted (joined_answer batch ∷ []);
   reads = λ still. still_reads before now old (record old { primary = primary; held = None }) (joined_answer batch ∷ []) goes same goes refl
       (λ o t later read. (joined_fed o later t old batch held read, joined_read o later t old batch held read primary takes));
 }
@@ -404,6 +392,7 @@ steps_read_on before now limit _ _ _ (Lacks old batch primary goes held same) = 
   stays = goes_from before now old (record old { primary = primary; held = None; halted = Some halts.NoMemory }) (joined_answer batch ∷ []) goes;
   floor = λ not. absurd (not refl);
   telling = λ goes. absurd cc;
+  told = λ goes cause upto broke. absurd (cc broke);
   reads = λ still bytes there. record {
     used = [];
     rest = bytes;
@@ -418,12 +407,14 @@ steps_read_on before now limit _ _ _ (Holds old batch room goes held same) = rec
   stays = goes_from before now old old (held_answer batch room ∷ []) goes;
   floor = λ not. refl;
   telling = λ goes. refl;
+  told = unbroken old.halted (held_answer batch room ∷ []);
   reads = λ still. still_reads before now old old (held_answer batch room ∷ []) goes same goes refl (λ o t later read. (tt, read));
 }
 steps_read_on before now limit _ _ _ (Passes old side idle h low) = record {
   stays = goes_from before now old (record old { side = side; primary = primary_at limit.0 old.primary }) (raised_answer old.side.control limit ∷ []) idle.goes_on;
   floor = λ not. refl;
   telling = λ goes. refl;
+  told = unbroken old.halted (raised_answer old.side.control limit ∷ []);
   reads = λ goes bytes there.
       let l = (h.due bytes there).1 in
       hands_on before now limit.0 old (record old { side = side; primary = primary_at limit.0 old.primary }) (raised_answer old.side.control limit ∷ []) hands.AtLimit idle.goes_on idle.goes_on bytes l
@@ -433,12 +424,14 @@ steps_read_on before now limit _ _ _ (Breaks old side cause upto idle h) = recor
   stays = goes_from before now old (record old { side = side; primary = primary_at upto.0 old.primary; halted = Some (halts.Broken cause upto) }) (broken_answer old.side.control upto cause ∷ []) idle.goes_on;
   floor = λ not. refl;
   telling = λ goes. absurd cc;
+  told = λ goes why at broke. refl;
   reads = λ goes. broken_bytes before now limit.0 old side idle old.side.control cause upto h;
 }
 steps_read_on before now limit _ _ _ (Wants old side idle h) = record {
   stays = goes_from before now old (record old { side = side; halted = Some halts.NoMemory }) [] idle.goes_on;
   floor = λ not. refl;
   telling = λ goes. absurd cc;
+  told = λ goes cause upto broke. absurd (cc broke);
   reads = λ goes bytes there. record {
     used = bytes;
     rest = [];
@@ -453,12 +446,14 @@ steps_read_on before now limit _ _ _ (Asks old k found goes same) = record {
   stays = goes_from before now old old (wanted_answer k found ∷ []) goes;
   floor = λ not. refl;
   telling = λ goes. refl;
+  told = unbroken old.halted (wanted_answer k found ∷ []);
   reads = λ still. still_reads before now old old (wanted_answer k found ∷ []) goes same goes refl (λ o t later read. (tt, read));
 }
 steps_read_on before now limit _ _ _ (Copies old k v x at slot reply goes same is) = record {
   stays = goes_from before now old old (copied_answer k v x at slot reply ∷ []) goes;
   floor = λ not. cond_same (has_changed reply) old.primary.time;
   telling = λ goes. refl;
+  told = unbroken old.halted (copied_answer k v x at slot reply ∷ []);
   reads = λ still. still_reads before now old old (copied_answer k v x at slot reply ∷ []) goes same goes refl
       (λ o t later read. (
         match_both (has_changed reply) _ (Unit {0}) (is ∙ tracks_at o later t old read v x, tt) tt,

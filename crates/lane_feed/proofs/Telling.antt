@@ -15,7 +15,7 @@ use Rattle.sidefile.specs.declared.hand.Halt.{Halt}
 use Rattle.sidefile.specs.declared.hand.Halt.TheVariants as halts
 use Rattle.sidefile.specs.Exact.{IsDue}
 use Rattle.sidefile.specs.Halts.{reached}
-use Rattle.sidefile.specs.States.{SidefileState, HoldsRun, front_of}
+use Rattle.sidefile.specs.States.{SidefileState, front_of}
 use Rattle.group_state.specs.Machine.{Call, Reply}
 use Rattle.group_state.specs.Machine.Call.{Join, NextWanted, Copied, Raise, Break}
 use Rattle.group_state.specs.Machine.Reply.{Made, Joined, Held, Wanted}
@@ -86,11 +86,10 @@ module _ (old : FeedState) (side : SidefileState) (primary : PrimaryState) (held
   -- ---- a handover
 
   module _ (before now : Option (List ℕ)) (limit : Stamp) (next : SidefileState) (told then : TellerState) (idle : IsIdle old) where
-    pub handed_step : (batch : Batch) → IsDue side.control limit.0 before now (front_of side) (front_of next) (hands.Batch batch) → HoldsRun side.reader.volumes side.control side.upto limit.0 (hands.Batch batch)
-        → next.upto ≡ reached side.upto limit.0 (hands.Batch batch) → StepsOn before now limit old (feed_of next primary (Some batch) halted) told told
-    handed_step batch due run upto =
+    pub handed_step : (batch : Batch) → IsDue side.control limit.0 before now (front_of side) (front_of next) (hands.Batch batch) → next.upto ≡ reached side.upto limit.0 (hands.Batch batch) → StepsOn before now limit old (feed_of next primary (Some batch) halted) told told
+    handed_step batch due upto =
         subst (λ (f : FeedState). StepsOn before now limit f (feed_of next primary (Some batch) halted) told told) is
-        (record { same = same_teller told; gained = []; answers = sym (append-nil told.answers); step = Hands was next batch (idle_inside idle) (record { due = due; run = run; upto = upto }) })
+        (record { same = same_teller told; gained = []; answers = sym (append-nil told.answers); step = Hands was next batch (idle_inside idle) (record { due = due; upto = upto }) })
 
     pub passed_step : (passed : PrimaryState) → passed ≡ primary_at limit.0 primary → old.side.upto ≤ limit.0 → told.control ≡ old.side.control → then ≡ teller_after (Raise told.control limit) Made told
         → IsDue side.control limit.0 before now (front_of side) (front_of next) hands.AtLimit → next.upto ≡ reached side.upto limit.0 hands.AtLimit → StepsOn before now limit old (feed_of next passed held halted) told then
@@ -102,7 +101,7 @@ module _ (old : FeedState) (side : SidefileState) (primary : PrimaryState) (held
           same = called_teller told then (Raise told.control limit) Made called;
           gained = raised_answer side.control limit ∷ [];
           answers = ap (λ (s : TellerState). s.answers) called ∙ ap (λ (k : ℕ). told.answers ++ raised_answer k limit ∷ []) own;
-          step = Passes was next (idle_inside idle) (record { due = due; run = tt; upto = upto }) (subst (λ (f : FeedState). f.side.upto ≤ limit.0) (sym is) low);
+          step = Passes was next (idle_inside idle) (record { due = due; upto = upto }) (subst (λ (f : FeedState). f.side.upto ≤ limit.0) (sym is) low);
         }))
 
     pub broken_step : (cause : Cause) (upto : Stamp) (passed : PrimaryState) → passed ≡ primary_at upto.0 primary → told.control ≡ old.side.control → then ≡ teller_after (Break told.control upto cause) Made told
@@ -116,13 +115,13 @@ module _ (old : FeedState) (side : SidefileState) (primary : PrimaryState) (held
           same = called_teller told then (Break told.control upto cause) Made called;
           gained = broken_answer side.control upto cause ∷ [];
           answers = ap (λ (s : TellerState). s.answers) called ∙ ap (λ (k : ℕ). told.answers ++ broken_answer k upto cause ∷ []) own;
-          step = Breaks was next cause upto (idle_inside idle) (record { due = due; run = tt; upto = at });
+          step = Breaks was next cause upto (idle_inside idle) (record { due = due; upto = at });
         }))
 
     pub wanting_step : next.upto ≡ reached side.upto limit.0 hands.NoMemory → StepsOn before now limit old (feed_of next primary held (Some halts.NoMemory)) told told
     wanting_step upto =
         subst (λ (f : FeedState). StepsOn before now limit f (feed_of next primary held (Some halts.NoMemory)) told told) is
-        (record { same = same_teller told; gained = []; answers = sym (append-nil told.answers); step = Wants was next (idle_inside idle) (record { due = tt; run = tt; upto = upto }) })
+        (record { same = same_teller told; gained = []; answers = sym (append-nil told.answers); step = Wants was next (idle_inside idle) (record { due = tt; upto = upto }) })
 
 -- ---- a copied track
 

@@ -1,6 +1,7 @@
 -- What a feed has read of its trace, and what its calls are, for every way in which the trace may turn out.
 use Rattle.std.specs.Prelude.{◌≡◌, ◌≤◌, ◌&&◌, ℕ, ◌+◌, List, [], ◌∷◌, ◌++◌, filter, Bool, true, false, nat_le, Option, Some, None, IsTrue}
 use Rattle.std.specs.List.{list_all}
+use Rattle.tod_stamp.specs.declared.stamp.Stamp.{Stamp}
 use Rattle.ckd_track.specs.declared.write.Batch.{Batch}
 use Rattle.ckd_track.specs.declared.write.Cause.{Cause}
 use Rattle.ckd_track.specs.declared.write.Cause.TheVariants.{ReadFault}
@@ -19,7 +20,7 @@ use Rattle.sidefile.specs.declared.hand.Halt.{Halt}
 use Rattle.sidefile.specs.declared.hand.Halt.TheVariants as halts
 use Rattle.group_state.specs.Runs.{Answer}
 use Rattle.told_tracks.specs.Told.{is_write_up_to}
-use Rattle.fed_logs.specs.Feeds.{AreFedBy, is_between}
+use Rattle.fed_logs.specs.Feeds.{AreFedBy, IsBatchOf, is_between}
 use Rattle.lane_feed.specs.Feeds.{FeedState, floor_behind_calls, telling_behind_calls}
 
 -- How the trace of a source turns out: all bytes that the source holds, or those that it gives before it fails.
@@ -34,20 +35,23 @@ abbrev pub do_rise : (last : ℕ) → List Entry → Bool
 do_rise last [] = true
 do_rise last (e ∷ entries) = nat_le last (stamp_of e) && do_rise (stamp_of e) entries
 
+abbrev pub is_up_to : (time : ℕ) → Entry → Bool
+is_up_to time e = nat_le (stamp_of e) time
+
 -- The trace ends as what is ahead does, or by a fault.
 abbrev pub EndsAsAhead : Outlook → Trace → ReaderState → (rest : List ℕ) → Type 0
 EndsAsAhead Whole t reader rest = cause_ahead reader rest ≡ cause_of t.end
 EndsAsAhead Failing t reader rest = t.end ≡ ends.ReadFault
 
--- The held batch has the writes of this run, which are behind the primary's time, up to the time that the sidefile has reported. Where
--- none is held these times are one.
+-- The held batch is that of this run, which is behind the primary's time, up to the time that the sidefile has reported. Where none is held
+-- these times are one.
 abbrev pub IsHeldRun : Option Batch → (run : List Entry) → (time upto : ℕ) → Type 0
 IsHeldRun None run time upto = (run ≡ []) × (time ≡ upto)
-IsHeldRun (Some batch) run time upto = (batch.writes ≡ writes_of run) × (batch.upto.0 ≡ upto) × (time ≤ upto) × IsTrue (list_all (is_between time upto) batch.writes)
+IsHeldRun (Some batch) run time upto = IsBatchOf run batch × (batch.upto.0 ≡ upto) × (time ≤ upto) × IsTrue (list_all (is_between time upto) run)
 
 -- A feed that reads on has read so much of a trace of which these bytes are still ahead of its reader.
 --   all: the trace's good entries are those whose writes the primary has, then the run that is held, then those ahead
---   reported, later: the primary's are up to its time, and those ahead are behind the time that the sidefile has reported
+--   reported, later: the first are up to the primary's time, and those ahead are behind the time that the sidefile has reported
 --   break_ahead: the break is still ahead, if there is one
 pub record HasRead (o : Outlook) (rest : List ℕ) (t : Trace) (feed : FeedState) : Type 0 where
   pub rise : IsTrue (do_rise 0 t.entries)
@@ -55,7 +59,7 @@ pub record HasRead (o : Outlook) (rest : List ℕ) (t : Trace) (feed : FeedState
   pub run : List Entry
   pub all : (before ++ run) ++ ahead feed.side.waiting feed.side.reader rest ≡ t.entries
   pub is_held : IsHeldRun feed.held run feed.primary.time feed.side.upto
-  pub reported : IsTrue (list_all (λ w. nat_le w.stamp.0 feed.primary.time) (writes_of before))
+  pub reported : IsTrue (list_all (is_up_to feed.primary.time) before)
   pub later : IsTrue (do_rise (feed.side.upto + 1) (ahead feed.side.waiting feed.side.reader rest))
   pub tracks : (v x : ℕ) → track_of feed.primary v x ≡ after_writes (base_in t.header.base v x) (filter (is_on v x) (writes_of before))
   pub ends_so : EndsAsAhead o t feed.side.reader rest
@@ -139,9 +143,10 @@ pub record ReadsBytes (now : Option (List ℕ)) (old new : FeedState) (gained : 
 -- Calls on a feed read on.
 --   stays: a feed that reads no further makes no call and asks its source for nothing
 --   floor: the primary stands at the floor that the calls tell
---   telling: while the feed reads on no call told a break
+--   telling, told: while the feed reads on no call told a break, and if it broke one did
 pub record ReadsOn (before now : Option (List ℕ)) (old new : FeedState) (gained : List Answer) : Type 0 where
   pub stays : (halt : Halt) → old.halted ≡ Some halt → (new ≡ old) × (gained ≡ []) × (now ≡ before)
   pub floor : (new.halted ≡ Some halts.NoMemory → ⊥) → floor_behind_calls old.primary.time gained ≡ new.primary.time
   pub telling : new.halted ≡ None → IsTrue (telling_behind_calls true gained)
+  pub told : old.halted ≡ None → (cause : Cause) (upto : Stamp) → new.halted ≡ Some (halts.Broken cause upto) → telling_behind_calls true gained ≡ false
   pub reads : old.halted ≡ None → (bytes : List ℕ) → IsAhead old.side.reader before bytes → ReadsBytes now old new gained bytes

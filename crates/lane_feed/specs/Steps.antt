@@ -10,7 +10,7 @@ use Rattle.sidefile.specs.declared.hand.Hand.{Hand}
 use Rattle.sidefile.specs.declared.hand.Hand.TheVariants as hands
 use Rattle.sidefile.specs.declared.hand.Halt.TheVariants as halts
 use Rattle.sidefile.specs.Exact.{IsDue}
-use Rattle.sidefile.specs.States.{SidefileState, HoldsRun, front_of}
+use Rattle.sidefile.specs.States.{SidefileState, front_of}
 use Rattle.sidefile.specs.Halts.{reached}
 use Rattle.group_state.specs.Machine.{Reply}
 use Rattle.group_state.specs.Machine.Call.{Join, NextWanted, Copied, Raise, Break}
@@ -43,7 +43,6 @@ copied_answer k v x at slot reply = record { call = Copied k v x at slot; reply 
 -- A sidefile hands over what is due.
 pub record HandsOver (before now : Option (List ℕ)) (limit : ℕ) (old new : SidefileState) (given : Hand) : Type 0 where
   pub due : IsDue old.control limit before now (front_of old) (front_of new) given
-  pub run : HoldsRun old.reader.volumes old.control old.upto limit given
   pub upto : new.upto ≡ reached old.upto limit given
 
 -- A primary takes a batch over.

@@ -19,7 +19,7 @@ use Rattle.consistency.specs.Bears.{Run}
 use Rattle.pair_table.specs.declared.level.Level.{Level}
 use Rattle.pair_table.specs.Tables.{none_clash}
 use Rattle.row_changes.specs.Changes.Due.{NoneDue}
-use Rattle.fed_logs.specs.Laws.{is_limited}
+use Rattle.mover.specs.Groups.{is_at_limit}
 use Rattle.fed_logs.specs.Logs.{IsFedLog, is_call_of_seat}
 use Rattle.fed_logs.specs.Moves.{MakesDeeds, Plans}
 use Rattle.fed_logs.proofs.Bearing.{logs_bear}
@@ -35,20 +35,22 @@ use Rattle.mover.specs.declared.ends.EpochEnd.{EpochEnd}
 use Rattle.mover.specs.declared.ends.EpochEnd.TheVariants as ends
 use Rattle.mover.specs.declared.lane.Lane.{Lane}
 use Rattle.mover.specs.Readers.{LaneReaderState}
-use Rattle.mover.specs.Dropping.{OwesFailed}
+use Rattle.mover.specs.Dropping.{OwesExactly}
 use Rattle.mover.specs.Lanes.{HasFaultFrom}
 use Rattle.mover.specs.Moves.{DidAll, KeepsAll, KnowsDuplex, MakesAll, Moved, are_shown_at_cuts}
+use Rattle.mover.specs.Numbers.{UsesNumbers, UsesNumbersOf}
 use Rattle.mover.specs.Steps.{AreMade}
 use Rattle.mover.specs.Rounds.{AllRead, AreLanesOf, Read, SeatsAreBack}
 use Rattle.mover.specs.Epochs.{AllTurnOut, AreStepsOf, BearsBehind, EpochGoes, EpochRun, IfReached, LaneWent, Shows, end_result}
 use Rattle.mover.proofs.CutBreaks.{mover_shows_at_cuts}
 use Rattle.mover.proofs.LaneFeeds.{log_is_fed}
 use Rattle.mover.proofs.StepsMade.{made_are_steps}
-use Rattle.mover.proofs.LogParts.{contains_filtered, limited_all, log_of, mover_part, reader_part, seats_alone}
+use Rattle.mover.proofs.LogParts.{contains_filtered, limited_all, log_of, mover_part, reader_part, seats_alone, up_to_limit}
 use Rattle.mover.proofs.MovedOn.{on_ok}
+use Rattle.mover.proofs.Numbers.{numbers_of}
 
 -- Where no item waits, the same tracks are excepted once what waits is applied.
-none_waits : (site : SiteState) (e : Exceptions) (d x : ℕ) → site.waiting ≡ [] → excepted_by_apply site e d x ≡ e d x
+pub none_waits : (site : SiteState) (e : Exceptions) (d x : ℕ) → site.waiting ≡ [] → excepted_by_apply site e d x ≡ e d x
 none_waits site e d x idle = ap (λ (items : List Item). e d x && not (have_image items d x)) idle ∙ still (e d x)
   where
     still : (b : Bool) → (b && true) ≡ b
@@ -63,7 +65,7 @@ did_so site after deeds was is ends.NoMemory did = tt
 
 module _ {S : Type 0} (tells : Type 0) (left : S → Option (List ℕ)) (faults : S → ℕ) (limit : ℕ) (at : TurnState) (old new : List (Lane S)) (seat next : MoverSeatState) (seats : List (Option ReaderSeatState)) (end : Group) (site after : SiteState) (was is : PlantState) (result : EpochEnd)
     (none : seat.calls ≡ []) (lanes : AreLanesOf at.first limit old) (idle : site.waiting ≡ []) (low : site.time ≤ limit) (read : AllRead left faults limit seats old new) (moved : Moved tells seat next site after was is (end_result result)) (back : SeatsAreBack at next seats)
-    (limited : list_all (is_limited limit) (map as_answer next.calls) ≡ true) (history : OneHistory at.first next.calls (map calls_at seats) end) (ended : IfReached result (λ g. g ≡ end)) where
+    (limited : list_all (is_at_limit limit) (map as_answer next.calls) ≡ true) (history : OneHistory at.first next.calls (map calls_at seats) end) (ended : IfReached result (λ g. g ≡ end)) where
   abbrev log : List Answer
   log = log_of at.first end next.calls seats history
 
@@ -99,27 +101,30 @@ module _ {S : Type 0} (tells : Type 0) (left : S → Option (List ℕ)) (faults 
   pub changes_so : AreByChanges site.level site.time site.told moved.steps
   changes_so = moved.changes (subst (λ (l : List Answer). are_shown_at_cuts l ≡ true) (sym gained) (mover_shows_at_cuts at.first log end history.runs))
 
-  pub owed_so : OnOk (end_result result) (OwesFailed site.told after.told (part_of_mover log))
-  owed_so = on_ok (end_result result) (λ (o : OwesFailed site.told after.told (map as_answer moved.gained)). subst (OwesFailed site.told after.told) gained o) moved.owed
+  pub owed_so : OnOk (end_result result) (OwesExactly site.told after.told (part_of_mover log) (deeds_of moved.steps))
+  owed_so = on_ok (end_result result)
+      (λ (o : OwesExactly site.told after.told (map as_answer moved.gained) (deeds_of moved.steps)). subst (λ (l : List Answer). OwesExactly site.told after.told l (deeds_of moved.steps)) gained o) moved.owed
 
-  pub epoch_ran : EpochRun left faults limit at.first old new site after was is result
-  epoch_ran = record {
+  pub epoch_ran : UsesNumbers seat next site after (end_result result) → EpochRun left faults limit at.first old new site after was is result
+  epoch_ran numbers = record {
     log = log;
     end = end;
     runs = history.runs;
     seats = seats_are;
-    limited = limited_all limit log (subst (λ (l : List Answer). list_all (is_limited limit) l ≡ true) (sym (mover_part at.first end next.calls seats history)) limited);
+    limited = limited_all limit log (subst (λ (l : List Answer). list_all (is_at_limit limit) l ≡ true) (sym (mover_part at.first end next.calls seats history)) limited);
     ended = ended;
     lanes = lane_went;
     steps = moved.steps;
     changes = changes_so;
     made = λ goes_on. made_so goes_on;
+    pairs = moved.pairs;
     counted = moved.counted;
     makes = makes_so;
     all = on_ok (end_result result)
         (λ (all : MakesAll site after (map as_answer moved.gained) (deeds_of moved.steps)). λ done knows. subst (λ (l : List Answer). KeepsAll site after done l (deeds_of moved.steps)) gained (all done knows)) moved.all;
     behind = moved.behind;
     owed = owed_so;
+    numbers = subst (λ (l : List Answer). UsesNumbersOf l site after (end_result result)) (sym (mover_part at.first end next.calls seats history)) (numbers_of seat next site after (end_result result) none numbers);
   }
 
   pub epoch_shows : tells → Shows site after moved.steps was is result
@@ -151,10 +156,10 @@ module _ {S : Type 0} (tells : Type 0) (left : S → Option (List ℕ)) (faults 
         breaks_come traces at.first end log site.time site.told any_done (deeds_of moved.steps) k b t (fed_so traces keeps turns) (makes_so any_done (λ k v has. refl)) there breaks awaits low n few early;
     times = λ n m nm few.
         times_rise site.time limit at.first end log site.told any_done (deeds_of moved.steps) n m history.runs (makes_so any_done (λ k v has. refl)) low
-        (limited_all limit log (subst (λ (l : List Answer). list_all (is_limited limit) l ≡ true) (sym (mover_part at.first end next.calls seats history)) limited)) nm few;
+        (up_to_limit limit log (limited_all limit log (subst (λ (l : List Answer). list_all (is_at_limit limit) l ≡ true) (sym (mover_part at.first end next.calls seats history)) limited))) nm few;
     each = steps_so;
   }
 
-  pub epoch_goes : EpochGoes tells left faults limit at.first old new site after was is result
+  pub epoch_goes : UsesNumbers seat next site after (end_result result) → EpochGoes tells left faults limit at.first old new site after was is result
   unfolding epoch_ran
-  epoch_goes = record { ran = epoch_ran; shows = epoch_shows; bears = epoch_bears }
+  epoch_goes numbers = record { ran = epoch_ran numbers; shows = epoch_shows; bears = epoch_bears }

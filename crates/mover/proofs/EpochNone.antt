@@ -1,5 +1,5 @@
 -- An epoch for whose table there is no memory: no call is made, and nothing is done.
-use Rattle.std.proofs.Common.{◌≡◌, ◌<◌, ◌≤◌, ℕ, zero, suc, List, [], length, Option, Some, None, refl, sym, subst, arith, inl}
+use Rattle.std.proofs.Common.{◌≡◌, ◌<◌, ◌≤◌, ℕ, zero, suc, List, [], length, Option, Some, None, refl, sym, subst, arith}
 use Rattle.std.specs.Prelude.{IsSomeAnd, slice_index_or, take}
 use Rattle.crash_plant.specs.Moments.{PlantState}
 use Rattle.write_trace.specs.declared.trace.Trace.{Trace}
@@ -19,6 +19,8 @@ use Rattle.mover.specs.Lanes.{HasFaultFrom, IsReaderOf}
 use Rattle.mover.specs.Rounds.{AreLanesOf}
 use Rattle.mover.specs.Epochs.{AllTurnOut, BearsBehind, EpochGoes, EpochRun, HoldsBehind, LaneWent, Shows}
 use Rattle.mover.proofs.LaneFeeds.{log_is_fed}
+use Rattle.mover.proofs.Numbers.{none_used}
+use Rattle.mover.proofs.OwedExactly.{owed_none}
 use Rattle.mover.proofs.Parts.{no_fault}
 
 module _ {S : Type 0} (tells : Type 0) (left : S → Option (List ℕ)) (faults : S → ℕ) (limit : ℕ) (first : Group) (lanes : List (Lane S)) (site : SiteState) (plant : PlantState) (are : AreLanesOf first limit lanes) (low : site.time ≤ limit) where
@@ -44,11 +46,13 @@ module _ {S : Type 0} (tells : Type 0) (left : S → Option (List ℕ)) (faults 
     steps = [];
     changes = tt;
     made = λ goes_on. refl;
+    pairs = tt;
     counted = λ d fewer. omega arith;
     makes = λ done knows. (site.told, refl);
     all = λ done knows. record { known = done; makes = (refl, refl, refl); knows = knows };
-    behind = record { level = refl; controls = refl; rows = refl; time = refl };
-    owed = λ k v has. inl has;
+    behind = record { level = refl; controls = refl; table = refl; rows = refl; time = refl };
+    owed = owed_none site.told [] [] (λ k v. refl);
+    numbers = none_used site;
   }
 
   none_shows : Shows site site [] plant plant ends.NoMemory

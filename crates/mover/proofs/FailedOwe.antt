@@ -1,14 +1,11 @@
 -- Behind a log a row that its device suspends owes all its tracks: it did so before, or its volume was dropped with all of them.
-use Rattle.std.proofs.Common.{◌≡◌, ◌⊎◌, inl, inr, ◌<◌, ℕ, zero, suc, nat_eq, nat_lt, Bool, true, false, cond, not, ◌&&◌, ◌||◌, List, [], ◌∷◌, length, get_or, map, Option, Some, None, refl, sym, ap, ◌∙◌, subst, arith, true≢false, get_or-set_same, get_or-set_other}
+use Rattle.std.proofs.Common.{◌≡◌, ◌⊎◌, inl, inr, ◌<◌, ℕ, nat_eq, nat_lt, Bool, true, false, cond, not, ◌&&◌, ◌||◌, List, [], ◌∷◌, length, get_or, map, Option, Some, None, refl, sym, ap, ◌∙◌, subst, arith, true≢false, get_or-set_same, get_or-set_other, slice_get}
 use Rattle.std.specs.Prelude.{filter, find, slice_set}
-use Rattle.std.specs.List.{Contains, list_all, list_any}
-use Rattle.std.proofs.lemmas.Bool.{and_from, and_parts, cases_Bool, eq-eqb, eqb-false, eqb-true, lt-ltb, or_cases, or_left, or_right}
+use Rattle.std.specs.List.{list_all, list_any}
+use Rattle.std.proofs.lemmas.Bool.{and_from, and_parts, cases_Bool, eqb-false, eqb-true, lt-ltb, or_cases, or_left, or_right}
 use Rattle.tod_stamp.specs.declared.stamp.Stamp.{Stamp}
 use Rattle.ckd_track.specs.declared.write.Write.{Write}
 use Rattle.pair_table.specs.declared.row.PairRow.{PairRow}
-use Rattle.pair_table.specs.declared.row.PairState.{PairState}
-use Rattle.pair_table.specs.declared.row.PairState.TheVariants.{Pending, Copy, Duplex, Suspended}
-use Rattle.pair_table.specs.Rows.{is_suspended}
 use Rattle.change_map.specs.Sets.{has_track, with_track}
 use Rattle.change_map.proofs.InSets.{had_within, has_every}
 use Rattle.pending_queue.specs.Entries.{WaitingEntry, copies, due, entry_tracks, is_queued_on, is_whole}
@@ -23,7 +20,9 @@ use Rattle.group_state.specs.Runs.{Answer, Runs}
 use Rattle.group_state.specs.Sound.{KeepsGroup, Sound, is_dropped, is_entry_of, may_wait, passes_or_none}
 use Rattle.group_state.specs.Volumes.{copied_track, dropped_map, dropped_volume, formed_track, is_wanted, noted_write, passes, volume_of, wants, with_formed_copies, with_formed_copy, with_write, with_writes}
 use Rattle.group_state.proofs.VolumeLaws.{Keeps, passes_with}
+use Rattle.record_rows.specs.Deeds.{Deed}
 use Rattle.record_rows.specs.Hits.{is_device_suspended}
+use Rattle.record_rows.specs.Told.{InPlaces}
 use Rattle.told_tracks.proofs.Keeping.{at_map}
 use Rattle.told_tracks.proofs.Tracks.{tested_with}
 use Rattle.fed_logs.specs.Feeds.{is_answer_of_mover, is_call_of_reader, part_of_mover}
@@ -36,9 +35,12 @@ use Rattle.turn_group.specs.Notes.{known_volume}
 use Rattle.turn_group.proofs.Known.{HasSizesOf, sizes_at, sizes_in, sizes_last}
 use Rattle.borne_deeds.specs.Told.{CarriedAsLive, FailedAreOwed, is_copied_to, is_mapped, is_owed, is_to_be_copied, is_volume_kept}
 use Rattle.borne_deeds.proofs.Copying.{dropped_mapped, kept_within}
-use Rattle.mover.specs.Dropping.{IsDeviceSuspended, OwesFailed, answer_of_drop}
+use Rattle.mover.specs.Dropping.{IsDeviceSuspended, OwesExactly, owed_by_call, owed_by_calls, stood_duplex}
+use Rattle.mover.specs.Epochs.{IsSamePair}
 use Rattle.mover.proofs.LanesAgain.{count_stays, sizes_stay}
 use Rattle.mover.proofs.LogParts.{by_seat}
+use Rattle.mover.proofs.OwedExactly.{device_owes, whole_among}
+use Rattle.mover.proofs.SamePairs.{Before, at_of, before, contains_at, suspended_by_device}
 
 -- ---- a track that is mapped stays so
 
@@ -164,11 +166,6 @@ is_whole_drop k v a = elim a.call [
   | Forget j w ↦ false
 ]
 
-any_at : {A : Type 0} (test : A → Bool) (items : List A) (k : ℕ) (x : A) → k < length items → get_or items k x ≡ x → test x ≡ true → list_any test items ≡ true
-any_at test [] k x low is pass = absurd (omega (arith, low))
-any_at test (y ∷ items) zero x low is pass = or_left (test y) (list_any test items) (ap test is ∙ pass)
-any_at test (y ∷ items) (suc k) x low is pass = or_right (test y) (list_any test items) (any_at test items k x (omega (arith, low)) is pass)
-
 any_filtered : {A : Type 0} (test keep : A → Bool) (items : List A) → list_any test (filter keep items) ≡ true → list_any test items ≡ true
 any_filtered test keep [] some = some
 any_filtered {A} test keep (y ∷ items) some = choose (any_filtered test keep items) (keep y) some
@@ -180,10 +177,26 @@ any_filtered {A} test keep (y ∷ items) some = choose (any_filtered test keep i
     ]
     choose others false some = or_right (test y) (list_any test items) (others some)
 
-drop_found : (k v : ℕ) (run : List Answer) → Contains (part_of_mover run) (answer_of_drop (record { control = k; volume = v; all = true })) → list_any (is_whole_drop k v) run ≡ true
-drop_found k v run has =
-    any_filtered (is_whole_drop k v) is_answer_of_mover run
-    (any_at (is_whole_drop k v) (part_of_mover run) has.0 (answer_of_drop (record { control = k; volume = v; all = true })) has.1 has.2 (and_from (nat_eq k k) (nat_eq v v && true) (eq-eqb k k refl) (and_from (nat_eq v v) true (eq-eqb v v refl) refl)))
+call_whole : (k v : ℕ) (a : Answer) → owed_by_call k v a.call ≡ Some true → is_whole_drop k v a ≡ true
+call_whole k v a is = of a.call is
+  where
+    named : (j w all : Bool) → cond (j && w) (Some all) None ≡ Some true → (j && (w && all)) ≡ true
+    named true true true e = refl
+    named true true false e = absurd cc
+    named true false all e = absurd cc
+    named false w all e = absurd cc
+
+    of : (call : Call) → owed_by_call k v call ≡ Some true → is_whole_drop k v (record { call = call; reply = a.reply }) ≡ true
+    of (Join b) e = absurd cc
+    of (NextWanted j) e = absurd cc
+    of (Copied j w x at slot) e = absurd cc
+    of (Raise j upto) e = absurd cc
+    of (Break j upto cause) e = absurd cc
+    of (Form limit) e = absurd cc
+    of (Carry j w plan) e = absurd cc
+    of (Drop j w all) e = named (nat_eq j k) (nat_eq w v) all e
+    of (Resume j w) e = absurd cc
+    of (Forget j w) e = absurd cc
 
 -- ---- behind a log
 
@@ -288,13 +301,8 @@ owed_is_mapped v x c sound dropped owed = elim (or_cases (is_to_be_copied v x c)
   ]
 ]
 
-suspended_by_device : (state : PairState) → is_device_suspended state ≡ true → is_suspended state ≡ true
-suspended_by_device Pending e = absurd cc
-suspended_by_device Copy e = absurd cc
-suspended_by_device Duplex e = absurd cc
-suspended_by_device (Suspended cause since) e = refl
-
-module _ (size : Sizes) (first end : Group) (log : List Answer) (rows next : List PairRow) (keeps : KeepsGroup first) (are_sized : AreSized size first) (runs : Runs first log end) (seats : list_all is_call_of_seat log ≡ true) (failed : FailedAreOwed size first rows) (carried : CarriedAsLive first rows) (owed : OwesFailed rows next (part_of_mover log)) where
+module _ (size : Sizes) (first end : Group) (log : List Answer) (rows next : List PairRow) (deeds : List Deed) (keeps : KeepsGroup first) (are_sized : AreSized size first) (runs : Runs first log end) (seats : list_all is_call_of_seat log ≡ true) (failed : FailedAreOwed size first rows) (carried : CarriedAsLive first rows)
+    (pairs : InPlaces IsSamePair rows next) (owed : OwesExactly rows next (part_of_mover log) deeds) where
   sizes : HasSizesOf first end
   sizes = sizes_stay first first log end runs seats refl
 
@@ -304,12 +312,29 @@ module _ (size : Sizes) (first end : Group) (log : List Answer) (rows next : Lis
       let here = subst (λ (i : ℕ). is_dropped v (control_at first i).volumes ≡ true) has.control (subst (λ (i : ℕ). is_dropped i (control_at first has.row.control).volumes ≡ true) has.volume gone) in
       owed_is_mapped v x (control_at first k) (keeps.sound k (new_control 0 0 0) low) here (failed k v has kept x below)
 
+  -- A row that its device suspends was so before, or a drop has all its tracks.
+  hit_or_dropped : (k v : ℕ) → HasRowIn IsDeviceSuspended k v next → HasRowIn IsDeviceSuspended k v rows ⊎ (list_any (is_whole_drop k v) log ≡ true)
+  hit_or_dropped k v has = by (is_device_suspended b.row.state) refl
+    where
+      at : (i : ℕ) × (slice_get next i ≡ Some has.row)
+      at = at_of next has.row has.among
+
+      b : Before IsSamePair rows at.0 has.row
+      b = before IsSamePair rows next at.0 has.row pairs at.1
+
+      by : (t : Bool) → is_device_suspended b.row.state ≡ t → HasRowIn IsDeviceSuspended k v rows ⊎ (list_any (is_whole_drop k v) log ≡ true)
+      by true e = inl (record { row = b.row; among = contains_at rows at.0 b.row b.at; control = ap (λ (x : PairRow). x.control) (sym b.is) ∙ has.control; volume = ap (λ (x : PairRow). x.volume) (sym b.is) ∙ has.volume; state = e })
+      by false e =
+          let all : owed_by_calls has.row.control has.row.volume (part_of_mover log) ≡ Some true = owed at.0 b.row has.row b.at at.1 ∙ device_owes b.row.state has.row.state (stood_duplex at.0 rows deeds) has.state ∙ (λ i. cond (e i) None (Some true)) in
+          let named = subst (λ (j : ℕ). owed_by_calls j v (part_of_mover log) ≡ Some true) has.control (subst (λ (w : ℕ). owed_by_calls has.row.control w (part_of_mover log) ≡ Some true) has.volume all) in
+          inr (any_filtered (is_whole_drop k v) is_answer_of_mover log (whole_among (is_whole_drop k v) k v (call_whole k v) (part_of_mover log) named))
+
   pub failed_owe : FailedAreOwed size end next
   failed_owe k v has kept x below =
       let was = sym (kept_still first end k v sizes) ∙ kept in
       let low = kept_within first k v was in
-      let to_map : IsToMap k v x first log = elim (owed k v has) [
-        | inl before ↦ inl (at_start k v x low below was before)
-        | inr dropped ↦ inr (drop_found k v log dropped)
+      let to_map : IsToMap k v x first log = elim (hit_or_dropped k v has) [
+        | inl had ↦ inl (at_start k v x low below was had)
+        | inr dropped ↦ inr dropped
       ] in
       or_right (is_to_be_copied v x (control_at end k)) (passes (is_mapped x) (volume_of v (control_at end k).volumes)) (map_behind first k v x (size k v) below (are_sized k v low) was first log end runs seats refl low to_map)

@@ -16,6 +16,7 @@ use Rattle.mover.proofs.DropMade.{stays_self, stays_then}
 use Rattle.mover.proofs.LanesOn.{all_none, all_then}
 use Rattle.mover.proofs.MovedOn.{moved_then}
 use Rattle.mover.proofs.MoverCalls.{nothing_done}
+use Rattle.mover.proofs.Numbers.{numbers_none, numbers_then}
 use Rattle.mover.proofs.WorkedOn.{no_work, works_then}
 
 module _ {S : Type 0} (tells : Type 0) (left : S → Option (List ℕ)) (faults : S → ℕ) (at : TurnState) (limit : ℕ) where
@@ -26,6 +27,7 @@ module _ {S : Type 0} (tells : Type 0) (left : S → Option (List ℕ)) (faults 
     limited = λ before. before;
     still = stays_self seat;
     works = no_work tells site plant (Ok tt) (lent_of_works tells (IsOfMover site) plant plant (works_on_here tells (IsOfMover site) plant)) refl;
+    numbers = numbers_none seat site;
   }
 
   pub rounds_then : (lanes between after : List (Lane S)) (seat turn next : MoverSeatState) (site mid then : SiteState) (old now new : PlantState) (result : Result (Unit {0}) StoreError) → DoesRounds tells left faults at limit lanes between seat turn site mid old now (Ok tt)
@@ -36,4 +38,5 @@ module _ {S : Type 0} (tells : Type 0) (left : S → Option (List ℕ)) (faults 
     limited = λ before. more.limited (first.limited before);
     still = stays_then seat turn next first.still more.still;
     works = works_then tells site mid then old now new result first.works more.works;
+    numbers = numbers_then seat turn next site mid then result first.numbers more.numbers;
   }

@@ -19,7 +19,7 @@ use Rattle.record_rows.specs.Deeds.{Deed}
 use Rattle.record_rows.specs.Deeds.Deed.{Logged, Changed, Marked}
 use Rattle.record_rows.specs.Hits.{is_by_device, is_device_suspended}
 use Rattle.fed_logs.specs.Moves.{AreQuiet, HasRowIn, IsDuplex, Plans, plans_with_shown, plans_without, Following, KeepsShown, KeepsCall, MakesDeeds, MakesAllDeeds}
-use Rattle.mover.specs.Dropping.{VolumeDrop, are_states_of, answer_of_drop, drop_of, drops_from, owes_hit, owes_since, owes_suspended}
+use Rattle.mover.specs.Dropping.{VolumeDrop, are_states_of, answer_of_drop, drop_of, drops_from, is_duplex_state, owes_hit, owes_since, owes_suspended}
 use Rattle.mover.specs.Moves.{KeepPairs, KeepsPair, KnowsDuplex}
 use Rattle.mover.proofs.SamePairs.{Before, at_of, before, clash_by_names, contains_at, none_there, one_row}
 use Rattle.mover.proofs.DropKnown.{dropped_by, is_dropped, names_drop, owes_gone}
@@ -71,6 +71,8 @@ module _ (rest then : Following) (more : List Deed) (on : (t : ℕ) (r : List Pa
     are = ap (λ (l : List Deed). l ++ more) logged.are ∙ append_assoc logged.quiet (Logged shown.cut.0 shown.entries logged.next ∷ logged.later) more;
     suspends = logged.suspends;
     up = logged.up;
+    live = logged.live;
+    marks = logged.marks;
     follow = logged.follow;
     goes_on = on shown.cut.0 logged.next (plans_with_shown shown done) logged.later logged.goes_on;
   })
@@ -161,13 +163,13 @@ was_duplex (Some was) (Suspended cause since) e = choose (is_by_device cause) e
     hit true e = absurd cc
     hit false e = absurd cc
 
-    other : (state : PairState) → owes_suspended state ≡ Some false → (let a : Option PairState = Some state in let b : Option PairState = Some Duplex in a ≡ b)
+    other : (state : PairState) → owes_suspended state (is_duplex_state state) ≡ Some false → (let a : Option PairState = Some state in let b : Option PairState = Some Duplex in a ≡ b)
     other Pending e = absurd cc
     other Copy e = absurd cc
     other Duplex e = refl
     other (Suspended by at) e = absurd cc
 
-    choose : (b : Bool) → cond b (owes_hit was) (owes_suspended was) ≡ Some false → (let a : Option PairState = Some was in let b : Option PairState = Some Duplex in a ≡ b)
+    choose : (b : Bool) → cond b (owes_hit was) (owes_suspended was (is_duplex_state was)) ≡ Some false → (let a : Option PairState = Some was in let b : Option PairState = Some Duplex in a ≡ b)
     choose true e = hit (is_device_suspended was) e
     choose false e = other was e
 

@@ -1,19 +1,23 @@
 -- Behind an epoch that reached its limit each lane is again its control's.
-use Rattle.std.proofs.Common.{◌≡◌, ◌<◌, ◌≤◌, ◌*◌, ◌==◌, ◌&&◌, ◌||◌, ℕ, nat_lt, Bool, true, List, [], ◌∷◌, length, map, Option, Some, None, refl, sym, ap, ◌∙◌, subst, ◌⊎◌, inl, inr}
+use Rattle.std.proofs.Common.{◌≡◌, ◌<◌, ◌≤◌, ◌*◌, ◌==◌, ◌&&◌, ◌||◌, ℕ, nat_lt, Bool, true, false, List, [], ◌∷◌, length, map, Option, Some, None, refl, sym, ap, ◌∙◌, subst, ◌⊎◌, inl, inr}
 use Rattle.std.specs.List.{list_all}
 use Rattle.std.proofs.lemmas.Bool.{and_parts}
 use Rattle.std.proofs.lemmas.List.{length-map}
 use Rattle.tod_stamp.specs.declared.limits.TheConstants.{TRACKS_OF_CYLINDER}
+use Rattle.tod_stamp.specs.declared.stamp.Stamp.{Stamp}
+use Rattle.ckd_track.specs.declared.write.Cause.{Cause}
 use Rattle.write_trace.specs.declared.header.VolumeHead.{VolumeHead}
 use Rattle.write_trace.specs.Headers.{cylinders_of}
 use Rattle.sidefile.specs.declared.hand.Halt.{Halt}
 use Rattle.sidefile.specs.declared.hand.Halt.TheVariants as halts
 use Rattle.group_state.specs.declared.volume.Volume.{Volume}
+use Rattle.group_state.specs.Calls.{is_by_mover, telling_after}
 use Rattle.group_state.specs.Controls.{is_telling}
 use Rattle.group_state.specs.Groups.{Group, control_at}
+use Rattle.group_state.specs.Machine.{Call}
+use Rattle.group_state.specs.Machine.Call.{Join, NextWanted, Copied, Raise, Break, Form, Carry, Drop, Resume, Forget}
 use Rattle.group_state.specs.Runs.{Answer, Runs}
 use Rattle.fed_logs.specs.Feeds.{is_call_of_reader, part_of_reader}
-use Rattle.group_state.specs.Calls.{is_by_mover}
 use Rattle.fed_logs.specs.Logs.{is_call_of_seat}
 use Rattle.lane_feed.specs.declared.reading.Reading.{Reading}
 use Rattle.lane_feed.specs.declared.reading.Reading.TheVariants as readings
@@ -93,6 +97,25 @@ done_at_limit limit r done stands goes = of (stands_done limit r done stands)
     of (inl at) = (at.1, at.2)
     of (inr (cause, upto, is)) = absurd (no_halt r.feed.halted (halts.Broken cause upto) goes is)
 
+-- ---- a control that doesn't tell
+
+-- It tells no more behind further calls.
+pub tells_no_more : (run : List Answer) → telling_behind_calls false run ≡ false
+tells_no_more [] = refl
+tells_no_more (a ∷ run) = ap (λ (t : Bool). telling_behind_calls t run) (still a.call) ∙ tells_no_more run
+  where
+    still : (call : Call) → telling_after call false ≡ false
+    still (Join b) = refl
+    still (NextWanted k) = refl
+    still (Copied k v x at slot) = refl
+    still (Raise k upto) = refl
+    still (Break k upto cause) = refl
+    still (Form limit) = refl
+    still (Carry k v plan) = refl
+    still (Drop k v all) = refl
+    still (Resume k v) = refl
+    still (Forget k v) = refl
+
 -- ---- a lane's reader behind the epoch
 
 module _ (first end : Group) (log : List Answer) (runs : Runs first log end) (seats : list_all is_call_of_seat log ≡ true) (k limit : ℕ) (low : k < length first.controls) (before now : Option (List ℕ)) (was is : LaneReaderState) (reader : IsReaderOf first k limit was) (same : IsSameLane was.feed is.feed)
@@ -107,12 +130,23 @@ module _ (first end : Group) (log : List Answer) (runs : Runs first log end) (se
       let was_on = went_on before now was.feed is.feed (part_of_reader k log) reads on in
       telling_is_told first log end runs k low ∙ ap (λ b. telling_behind_calls b (part_of_reader k log)) (reader.telling was_on) ∙ reads.telling on
 
+  -- A reader that has broken told its break, now or before.
+  silent_again : (cause : Cause) (upto : Stamp) → is.feed.halted ≡ Some (halts.Broken cause upto) → is_telling (control_at end k).phase ≡ false
+  silent_again cause upto broken = telling_is_told first log end runs k low ∙ of was.feed.halted refl
+    where
+      of : (halted : Option Halt) → was.feed.halted ≡ halted → telling_behind_calls (is_telling (control_at first k).phase) (part_of_reader k log) ≡ false
+      of None on = ap (λ b. telling_behind_calls b (part_of_reader k log)) (reader.telling on) ∙ reads.told on cause upto broken
+      of (Some halt) stopped =
+          let still = reader.broken cause upto (ap (λ (f : FeedState). f.halted) (sym (reads.stays halt stopped).0) ∙ broken) in
+          ap (λ b. telling_behind_calls b (part_of_reader k log)) still ∙ tells_no_more (part_of_reader k log)
+
   pub reader_again : IsReaderOf end k limit is
   reader_again = record {
     control = same.control ∙ reader.control;
     sized = subst (λ (h : List VolumeHead). IsOfHeader h (control_at end k)) (sym same.heads) (sized_still first end k (heads_of was.feed) (sizes_stay first first log end runs seats refl) reader.sized);
     floor = floor_again;
     telling = telling_again;
+    broken = silent_again;
     within = within;
     goes = goes;
   }

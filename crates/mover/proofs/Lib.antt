@@ -1,8 +1,11 @@
 pub mod SamePairs
+pub mod DeedPairs
+pub mod OwedExactly
 pub mod DropKnown
 pub mod KeptCalls
 pub mod Making
 pub mod MovedOn
+pub mod InSlots
 pub mod WorkedOn
 pub mod ToldHits
 pub mod SiteCalls
@@ -10,6 +13,7 @@ pub mod LogSteps
 pub mod LogMoves
 pub mod MoverCalls
 pub mod Limits
+pub mod Numbers
 pub mod Resting
 pub mod DropMade
 pub mod Sitting
@@ -33,3 +37,7 @@ pub mod EpochGoing
 pub mod EpochNone
 pub mod EpochReached
 pub mod EpochEnds
+pub mod EpochWork
+pub mod EarlyBreaks
+pub mod EpochStands
+pub mod TurningOut

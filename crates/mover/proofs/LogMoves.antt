@@ -23,49 +23,85 @@ use Rattle.xrc_journal.specs.Items.Item.{Image, Delta, Pair, Gone}
 use Rattle.record_rows.specs.Hits.{hit_now, is_device_suspended, is_down}
 use Rattle.record_rows.proofs.Telling.{none_hit_again}
 use Rattle.site_deeds.specs.Exceptions.{Exceptions, excepted_behind, is_kept, is_whole_on}
+use Rattle.fed_logs.specs.Moves.{HasRowIn, IsLive}
 use Rattle.turn_group.specs.Notes.{KnownVolume, is_of_carried}
 use Rattle.site_store.specs.declared.store_error.StoreError.{StoreError}
 use Rattle.site_store.specs.Applying.{excepted_by_apply}
 use Rattle.site_store.specs.Causes.{FailByCounts, HasStoreCause}
 use Rattle.site_store.specs.Jobs.{has_device, is_of_device}
 use Rattle.site_store.specs.Logging.{AreItemsOf, HasEntryOn, IsOfLog, IsOfSomeRow, behind_group, is_entry_of_device, is_pair_item, log_deeds, rows_before, rows_logged}
-use Rattle.site_store.specs.Records.{IsOfRecord, behind_way}
+use Rattle.site_store.specs.Records.{IsOfRecord, VolumesStay, behind_way}
 use Rattle.site_store.specs.Sites.{SiteState, is_written}
 use Rattle.site_store.proofs.ByWays.{RecordWay, by_ways, way_here, way_marked, way_switched}
-use Rattle.mover.specs.Moves.{IsOfLive, IsOfMover, KeepPairs, KeepsPair, KnowsRows, MoverWorks, is_device_of_row, is_worked_on, known_at_control, row_of_volume}
-use Rattle.mover.proofs.LogSteps.{LogSteps, told_keeps}
-use Rattle.mover.proofs.SamePairs.{at_of, contains_at, each_more, still_then}
+use Rattle.mover.specs.Moves.{IsOfLive, IsOfMover, KeepPairs, KnowsRows, MoverWorks, is_device_of_row, is_row_of_number, is_worked_on, known_at_control, row_of_volume}
+use Rattle.mover.specs.Slots.{is_track_of_mover}
+use Rattle.mover.proofs.InSlots.{slots_stay}
+use Rattle.mover.proofs.LogSteps.{LogSteps}
+use Rattle.mover.proofs.SamePairs.{at_of, contains_at, still_then}
 use Rattle.mover.proofs.SiteCalls.{devices_still, none_waits, none_written, works_less, worked_rows, worked_written}
 use Rattle.mover.proofs.ToldHits.{hit_at}
 
 -- ---- entries have rows
 
--- An entry of a volume that is carried is of a row that isn't suspended.
-pub entry_of_row : (known : List (List KnownVolume)) (rows : List PairRow) (e : WaitingEntry) → KnowsRows known rows → is_of_carried known e ≡ true → IsOfSomeRow rows e
-entry_of_row known rows e knows is = by (known_at_control e.head.control known) (λ u has. knows.live e.head.control u has) is
-  where
-    row : (o : Option PairRow) → (u : KnownVolume) → e.head.track < u.tracks → IsSomeAnd o (IsOfLive e.head.control u) → IsSomeAnd o (λ (r : PairRow). e.head.track < r.cylinders * 15)
-    row None u low is = absurd is
-    row (Some r) u low is = let size : u.tracks ≡ 15 * r.cylinders = is.1 in omega (arith, low, size)
+-- The row of an entry's volume, which is carried.
+record CarriedRow (rows : List PairRow) (e : WaitingEntry) : Type 0 where
+  known : KnownVolume
+  low : e.head.track < known.tracks
+  row : IsSomeAnd (row_of_volume e.head.control e.head.volume rows) (IsOfLive e.head.control known)
 
-    here : (u : KnownVolume) → (u.carried ≡ true → IsSomeAnd (row_of_volume e.head.control u.number rows) (IsOfLive e.head.control u)) → (u.number == e.head.volume && (u.carried && nat_lt e.head.track u.tracks)) ≡ true → IsOfSomeRow rows e
+carried_row : (known : List (List KnownVolume)) (rows : List PairRow) (e : WaitingEntry) → KnowsRows known rows → is_of_carried known e ≡ true → CarriedRow rows e
+carried_row known rows e knows is = by (known_at_control e.head.control known) (λ u has. knows.live e.head.control u has) is
+  where
+    here : (u : KnownVolume) → (u.carried ≡ true → IsSomeAnd (row_of_volume e.head.control u.number rows) (IsOfLive e.head.control u)) → (u.number == e.head.volume && (u.carried && nat_lt e.head.track u.tracks)) ≡ true → CarriedRow rows e
     here u live is =
         let parts = and_parts (u.number == e.head.volume) (u.carried && nat_lt e.head.track u.tracks) is in
         let more = and_parts u.carried (nat_lt e.head.track u.tracks) parts.1 in
-        row (entry_row rows e) u (ltb-true e.head.track u.tracks more.1) (subst (λ (v : ℕ). IsSomeAnd (row_of_volume e.head.control v rows) (IsOfLive e.head.control u)) (eqb-true u.number e.head.volume parts.0) (live more.0))
+        record {
+          known = u;
+          low = ltb-true e.head.track u.tracks more.1;
+          row = subst (λ (v : ℕ). IsSomeAnd (row_of_volume e.head.control v rows) (IsOfLive e.head.control u)) (eqb-true u.number e.head.volume parts.0) (live more.0);
+        }
 
-    by : (volumes : List KnownVolume) → ((u : KnownVolume) → Contains volumes u → u.carried ≡ true → IsSomeAnd (row_of_volume e.head.control u.number rows) (IsOfLive e.head.control u)) → list_any (λ (u : KnownVolume). u.number == e.head.volume && (u.carried && nat_lt e.head.track u.tracks)) volumes ≡ true → IsOfSomeRow rows e
+    by : (volumes : List KnownVolume) → ((u : KnownVolume) → Contains volumes u → u.carried ≡ true → IsSomeAnd (row_of_volume e.head.control u.number rows) (IsOfLive e.head.control u)) → list_any (λ (u : KnownVolume). u.number == e.head.volume && (u.carried && nat_lt e.head.track u.tracks)) volumes ≡ true → CarriedRow rows e
     by [] live is = absurd cc
     by (u ∷ volumes) live is = elim (or_cases (u.number == e.head.volume && (u.carried && nat_lt e.head.track u.tracks)) (list_any (λ (u : KnownVolume). u.number == e.head.volume && (u.carried && nat_lt e.head.track u.tracks)) volumes) is) [
       | inl this ↦ here u (live u (0, omega arith, refl)) this
       | inr later ↦ by volumes (λ w has. let at = at_of volumes w has in live w (contains_at (u ∷ volumes) (suc at.0) w at.1)) later
     ]
 
-pub entries_of_rows : (known : List (List KnownVolume)) (rows : List PairRow) (entries : List WaitingEntry) → KnowsRows known rows → list_all (is_of_carried known) entries ≡ true → All (IsOfSomeRow rows) entries
-entries_of_rows known rows [] knows are = All-nil (IsOfSomeRow rows)
-entries_of_rows known rows (e ∷ entries) knows are =
+-- An entry of a volume that is carried is of a row that isn't suspended.
+pub entry_of_row : (known : List (List KnownVolume)) (rows : List PairRow) (e : WaitingEntry) → KnowsRows known rows → is_of_carried known e ≡ true → IsOfSomeRow rows e
+entry_of_row known rows e knows is = let c = carried_row known rows e knows is in row (entry_row rows e) c.known c.low c.row
+  where
+    row : (o : Option PairRow) → (u : KnownVolume) → e.head.track < u.tracks → IsSomeAnd o (IsOfLive e.head.control u) → IsSomeAnd o (λ (r : PairRow). e.head.track < r.cylinders * 15)
+    row None u low is = absurd is
+    row (Some r) u low is = let size : u.tracks ≡ 15 * r.cylinders = is.1 in omega (arith, low, size)
+
+live_there : (k v : ℕ) (u : KnownVolume) (rows : List PairRow) → IsSomeAnd (row_of_volume k v rows) (IsOfLive k u) → HasRowIn IsLive k v rows
+live_there k v u [] is = absurd is
+live_there k v u (r ∷ rows) is = choose (λ more. live_there k v u rows more) (is_row_of_number k v r) refl is
+  where
+    choose : (IsSomeAnd (row_of_volume k v rows) (IsOfLive k u) → HasRowIn IsLive k v rows) → (b : Bool) → is_row_of_number k v r ≡ b → IsSomeAnd (cond b (Some r) (row_of_volume k v rows)) (IsOfLive k u) → HasRowIn IsLive k v (r ∷ rows)
+    choose others true names is = let parts = and_parts (r.control == k) (r.volume == v) names in record { row = r; among = (0, omega arith, refl); control = eqb-true r.control k parts.0; volume = eqb-true r.volume v parts.1; state = is.0 }
+    choose others false names is =
+        let has = others is in
+        let at = at_of rows has.row has.among in
+        record { row = has.row; among = contains_at (r ∷ rows) (suc at.0) has.row at.1; control = has.control; volume = has.volume; state = has.state }
+
+-- So are all.
+all_of_carried : (known : List (List KnownVolume)) (P : WaitingEntry → Type 0) → ((e : WaitingEntry) → is_of_carried known e ≡ true → P e) → (entries : List WaitingEntry) → list_all (is_of_carried known) entries ≡ true → All P entries
+all_of_carried known P each [] are = All-nil P
+all_of_carried known P each (e ∷ entries) are =
     let parts = and_parts (is_of_carried known e) (list_all (is_of_carried known) entries) are in
-    All-cons (IsOfSomeRow rows) e entries (entry_of_row known rows e knows parts.0) (entries_of_rows known rows entries knows parts.1)
+    All-cons P e entries (each e parts.0) (all_of_carried known P each entries parts.1)
+
+pub entries_of_rows : (known : List (List KnownVolume)) (rows : List PairRow) (entries : List WaitingEntry) → KnowsRows known rows → list_all (is_of_carried known) entries ≡ true → All (IsOfSomeRow rows) entries
+entries_of_rows known rows entries knows are = all_of_carried known (IsOfSomeRow rows) (λ e is. entry_of_row known rows e knows is) entries are
+
+pub entries_of_live : (known : List (List KnownVolume)) (rows : List PairRow) (entries : List WaitingEntry) → KnowsRows known rows → list_all (is_of_carried known) entries ≡ true
+    → All (λ (e : WaitingEntry). HasRowIn IsLive e.head.control e.head.volume rows) entries
+entries_of_live known rows entries knows are =
+    all_of_carried known (λ (e : WaitingEntry). HasRowIn IsLive e.head.control e.head.volume rows) (λ e is. let c = carried_row known rows e knows is in live_there e.head.control e.head.volume c.known rows c.row) entries are
 
 -- Without rows there is no entry.
 pub no_entries : (known : List (List KnownVolume)) (rows : List PairRow) (entries : List WaitingEntry) → rows ≡ [] → KnowsRows known rows → list_all (is_of_carried known) entries ≡ true → entries ≡ []
@@ -240,7 +276,7 @@ module _ (tells : Type 0) (group : FormedGroup) (site next : SiteState) (way : R
 
   pub logged_still : KeepPairs site.told next.told
   logged_still = subst (λ (l : List PairRow). KeepPairs site.told l) (sym rows_are)
-      (still_then site.told (rows_before way site early) (rows_logged way site group early next.failed) s.still (each_more _ KeepsPair (told_keeps next.failed group.cut.0) (rows_before way site early) (rows_logged way site group early next.failed) s.told))
+      (still_then site.told (rows_before way site early) (rows_logged way site group early next.failed) s.still s.kept)
 
   pub logged_rest : (v : ℕ) → is_worked_on next v ≡ true → is_worked_on site v ≡ true
   logged_rest = works_less site next logged_still (λ v is. worked_written site v (written way v (ap (λ (s : SiteState). is_written s v) (sym is_next) ∙ is))) waits
@@ -260,12 +296,14 @@ module _ (tells : Type 0) (group : FormedGroup) (site next : SiteState) (way : R
 -- ---- the devices of a log
 
 pub log_works : (tells : Type 0) (group : FormedGroup) (site next : SiteState) (old new : PlantState) (result : Result (Unit {0}) StoreError) → site.told ≡ site.table.rows → WorksOnLent tells (IsOfLog site group) old new → HasStoreCause old.faults new.faults result
-    → FailByCounts site.failed next.failed old.faults new.faults → OnOk result ((v : ℕ) → is_worked_on next v ≡ true → is_worked_on site v ≡ true) → MoverWorks tells site next old new result
-log_works tells group site next old new result same works cause fails rest = record {
+    → FailByCounts site.failed next.failed old.faults new.faults → OnOk result ((v : ℕ) → is_worked_on next v ≡ true → is_worked_on site v ≡ true)
+    → VolumesStay tells old new → OnOk result ((v x : ℕ) → is_track_of_mover next v x ≡ true → is_track_of_mover site v x ≡ true) → MoverWorks tells site next old new result
+log_works tells group site next old new result same works cause fails rest stay slots = record {
   others = works_lent_more tells (IsOfLog site group) (IsOfMover site) old new among works;
   cause = cause;
   failed = fails;
   rest = rest;
+  slots = slots_stay tells site next old new result stay slots;
 }
   where
     record_device : (d : Device) → IsOfRecord site d → IsOfMover site d

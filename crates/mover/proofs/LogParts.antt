@@ -2,14 +2,15 @@
 use Rattle.std.proofs.Common.{◌≡◌, ◌⊎◌, inl, inr, ◌<◌, ℕ, zero, suc, Bool, true, false, cond, ◌||◌, List, [], ◌∷◌, length, map, Option, Some, None, refl, ap, ◌∙◌, arith}
 use Rattle.std.specs.Prelude.{filter, slice_get, slice_index_or}
 use Rattle.std.specs.List.{Contains, list_all}
-use Rattle.std.proofs.lemmas.Bool.{and_from, and_parts}
+use Rattle.std.proofs.lemmas.Bool.{and_from, and_parts, eqb-true, le-leb}
 use Rattle.group_state.specs.Calls.{is_by_mover, is_by_reader, is_by_seat}
 use Rattle.group_state.specs.Groups.{Group}
 use Rattle.group_state.specs.Machine.{Call}
 use Rattle.group_state.specs.Machine.Call.{Join, NextWanted, Copied, Raise, Break, Form, Carry, Drop, Resume, Forget}
 use Rattle.group_state.specs.Runs.{Answer}
 use Rattle.fed_logs.specs.Feeds.{is_call_of_reader, part_of_mover, part_of_reader}
-use Rattle.fed_logs.specs.Laws.{is_limited}
+use Rattle.fed_logs.specs.Laws.{is_limit_up_to, is_limited}
+use Rattle.mover.specs.Groups.{is_at_limit, takes_limit}
 use Rattle.fed_logs.specs.Logs.{is_call_of_seat}
 use Rattle.turn_group.specs.Calls.{MadeCall, as_answer}
 use Rattle.turn_group.specs.Histories.{OneHistory}
@@ -92,11 +93,11 @@ seats_alone (m ∷ log) all =
 
 -- ---- limits
 
--- Only the mover forms. So the log is limited if the mover's part of it is.
-limited_reader : (limit : ℕ) (a : Answer) → is_by_mover a.call ≡ false → is_limited limit a ≡ true
+-- Only the mover forms. So each form of the log takes a limit if each of the mover's part does.
+limited_reader : (limit : ℕ) (a : Answer) → is_by_mover a.call ≡ false → is_at_limit limit a ≡ true
 limited_reader limit a none = of a.call none
   where
-    of : (call : Call) → is_by_mover call ≡ false → is_limited limit (record { call = call; reply = a.reply }) ≡ true
+    of : (call : Call) → is_by_mover call ≡ false → is_at_limit limit (record { call = call; reply = a.reply }) ≡ true
     of (Join b) none = refl
     of (NextWanted k) none = refl
     of (Copied k v x at slot) none = refl
@@ -108,16 +109,16 @@ limited_reader limit a none = of a.call none
     of (Resume k v) none = refl
     of (Forget k v) none = refl
 
-pub limited_all : (limit : ℕ) (log : List Answer) → list_all (is_limited limit) (part_of_mover log) ≡ true → list_all (is_limited limit) log ≡ true
+pub limited_all : (limit : ℕ) (log : List Answer) → list_all (is_at_limit limit) (part_of_mover log) ≡ true → list_all (is_at_limit limit) log ≡ true
 limited_all limit [] all = refl
 limited_all limit (a ∷ log) all = choose (limited_all limit log) (is_by_mover a.call) refl all
   where
-    choose : (list_all (is_limited limit) (part_of_mover log) ≡ true → list_all (is_limited limit) log ≡ true) → (t : Bool) → is_by_mover a.call ≡ t → list_all (is_limited limit) (cond t (a ∷ part_of_mover log) (part_of_mover log)) ≡ true
-        → list_all (is_limited limit) (a ∷ log) ≡ true
+    choose : (list_all (is_at_limit limit) (part_of_mover log) ≡ true → list_all (is_at_limit limit) log ≡ true) → (t : Bool) → is_by_mover a.call ≡ t → list_all (is_at_limit limit) (cond t (a ∷ part_of_mover log) (part_of_mover log)) ≡ true
+        → list_all (is_at_limit limit) (a ∷ log) ≡ true
     choose others true is all =
-        let parts = and_parts (is_limited limit a) (list_all (is_limited limit) (part_of_mover log)) all in
-        and_from (is_limited limit a) (list_all (is_limited limit) log) parts.0 (others parts.1)
-    choose others false is all = and_from (is_limited limit a) (list_all (is_limited limit) log) (limited_reader limit a is) (others all)
+        let parts = and_parts (is_at_limit limit a) (list_all (is_at_limit limit) (part_of_mover log)) all in
+        and_from (is_at_limit limit a) (list_all (is_at_limit limit) log) parts.0 (others parts.1)
+    choose others false is all = and_from (is_at_limit limit a) (list_all (is_at_limit limit) log) (limited_reader limit a is) (others all)
 
 -- ---- the parts
 
@@ -136,3 +137,22 @@ module _ (first end : Group) (mover : List MadeCall) (seats : List (Option Reade
 
   pub reader_part : (k : ℕ) → k < length seats → part_of_reader k log_of ≡ map as_answer (calls_at (seat_at seats k))
   reader_part k low = filter_answers (is_by_reader k) h.log ∙ ap (map as_answer) (h.each k (calls_at (seat_at seats k)) (slice_mapped calls_at seats k None low))
+
+-- A form that takes a limit is up to it.
+pub up_to_limit : (limit : ℕ) (log : List Answer) → list_all (is_at_limit limit) log ≡ true → list_all (is_limited limit) log ≡ true
+up_to_limit limit [] all = refl
+up_to_limit limit (a ∷ log) all =
+    let parts = and_parts (is_at_limit limit a) (list_all (is_at_limit limit) log) all in
+    and_from (is_limited limit a) (list_all (is_limited limit) log) (of a.call parts.0) (up_to_limit limit log parts.1)
+  where
+    of : (call : Call) → takes_limit limit call ≡ true → is_limit_up_to limit call ≡ true
+    of (Join b) is = refl
+    of (NextWanted k) is = refl
+    of (Copied k v x at slot) is = refl
+    of (Raise k upto) is = refl
+    of (Break k upto cause) is = refl
+    of (Form given) is = let e = eqb-true given.0 limit is in le-leb given.0 limit (omega (arith, e))
+    of (Carry k v plan) is = refl
+    of (Drop k v all) is = refl
+    of (Resume k v) is = refl
+    of (Forget k v) is = refl

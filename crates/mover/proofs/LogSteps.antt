@@ -7,8 +7,12 @@ use Rattle.tod_stamp.specs.declared.stamp.Stamp.{Stamp}
 use Rattle.ckd_track.specs.declared.write.Cause.{Cause}
 use Rattle.pair_table.specs.declared.level.Level.{Level}
 use Rattle.pair_table.specs.declared.row.PairRow.{PairRow}
+use Rattle.pair_table.specs.declared.row.PairState.{PairState}
+use Rattle.pair_table.specs.declared.row.PairState.TheVariants.{Pending, Copy, Duplex, Suspended}
+use Rattle.pair_table.specs.declared.row.SuspendCause.TheVariants.{Control}
 use Rattle.pair_table.specs.Devices.{is_among}
-use Rattle.pair_table.specs.Tables.{none_clash}
+use Rattle.pair_table.specs.Rows.{is_suspended}
+use Rattle.pair_table.specs.Tables.{in_state, none_clash}
 use Rattle.pending_queue.specs.Groups.{FormedGroup}
 use Rattle.group_state.specs.Groups.{shown_in}
 use Rattle.group_state.specs.Runs.{Answer}
@@ -17,7 +21,7 @@ use Rattle.row_changes.specs.Changes.Due.{NoneDue}
 use Rattle.row_changes.specs.Toward.{hit_count}
 use Rattle.record_rows.specs.Deeds.{Deed}
 use Rattle.record_rows.specs.Deeds.Deed.{Logged, Marked}
-use Rattle.record_rows.specs.GroupRows.{are_breaks_at_cut, is_break_at, shown_break}
+use Rattle.record_rows.specs.GroupRows.{are_breaks_at_cut, is_break_at, is_shown_done, row_in, row_with_group, rows_with_group, shown_break, state_by_group}
 use Rattle.record_rows.specs.Hits.{due_behind_mark, hit_now, marked_changes, rows_marked}
 use Rattle.record_rows.specs.Records.{changes_behind_mark, record_changes, rows_behind_mark, rows_with_record}
 use Rattle.record_rows.specs.Told.{AreGrouped, AreTold, InPlaces, IsGrouped, IsTold}
@@ -29,15 +33,16 @@ use Rattle.record_rows.proofs.HitRows.{marks_are_changes}
 use Rattle.record_rows.proofs.Telling.{behind_marks_tell, marks_tell, only_failed, records_tell}
 use Rattle.site_deeds.specs.Changing.{AreByChanges, DeedOfChanges, changes_of, deeds_of}
 use Rattle.fed_logs.specs.Laws.{WasShown}
-use Rattle.fed_logs.specs.Moves.{AreQuiet, MayFollow, is_plan_shown_done}
+use Rattle.fed_logs.specs.Moves.{AreQuiet, MayFollow, is_mark_at_most, is_plan_shown_done}
 use Rattle.site_store.specs.Logging.{FailedBetween, log_deeds, rows_before, rows_logged}
 use Rattle.site_store.specs.Sites.{SiteState}
 use Rattle.site_store.proofs.ByWays.{RecordWay, by_ways, way_here, way_marked, way_switched}
-use Rattle.mover.specs.Moves.{KeepPairs, KeepsPair, is_broken_at}
+use Rattle.mover.specs.Groups.{is_to_log}
+use Rattle.mover.specs.Moves.{Fades, InPlacesByDeeds, KeepPairs, KeepsPair, is_broken_at}
 use Rattle.mover.specs.Steps.{AreMade}
 use Rattle.mover.proofs.Making.{behind_mark_made, record_made}
-use Rattle.mover.proofs.SamePairs.{Fades, apart_still, at_of, before, contains_at, each_more, fade_pair, fewer_of, still_self}
-use Rattle.mover.proofs.SiteCalls.{fades_marked}
+use Rattle.mover.proofs.SamePairs.{apart_still, at_of, before, contains_at, each_mapped, each_more, fade_pair, fewer_of, pair_self, still_self, still_then}
+use Rattle.mover.proofs.SiteCalls.{fades_hit, fades_marked, fades_told}
 use Rattle.mover.proofs.ToldHits.{hit_before, hit_by_others}
 
 -- ---- breaks at the cut
@@ -83,9 +88,6 @@ each_both R S [] (s ∷ next) a b = a
 each_both R S (r ∷ rows) [] a b = a
 each_both R S (r ∷ rows) (s ∷ next) a b = ((a.0, b.0), each_both R S rows next a.1 b.1)
 
-pub told_keeps : (failed : List Bool) (time : ℕ) (r s : PairRow) → IsTold failed time r s → KeepsPair r s
-told_keeps failed time r s told = record { same = told.same; live = told.live }
-
 shown_none : (k : ℕ) (breaks : List (ℕ × Stamp × Cause)) → shown_break k breaks ≡ None → list_any (λ (b : ℕ × Stamp × Cause). b.0 == k) breaks ≡ false
 shown_none k [] none = refl
 shown_none k (f ∷ breaks) none = choose (λ e. shown_none k breaks e) (nat_eq f.0 k) none
@@ -122,6 +124,39 @@ module _ (group : FormedGroup) (failed : List Bool) (mid next : List PairRow) (t
         ];
   }
 
+-- ---- pairs
+
+-- A row that isn't suspended keeps its pair in another state, if it was duplex only where it is still or is suspended.
+keeps_into : (r : PairRow) (state : PairState) → is_suspended r.state ≡ false → (r.state ≡ Duplex → is_suspended state ≡ false → state ≡ Duplex) → KeepsPair r (in_state state r)
+keeps_into r state live duplex = record { same = refl; live = λ is. live; gone = λ is. absurd (true≢false (sym is ∙ live)); duplex = duplex }
+
+group_keeps : (group : FormedGroup) (r : PairRow) → KeepsPair r (row_with_group group r)
+group_keeps group r = by (shown_break r.control group.breaks) (is_shown_done group r) r.state refl
+  where
+    breaks : (since : Stamp) → is_suspended r.state ≡ false → KeepsPair r (in_state (Suspended Control since) r)
+    breaks since live = keeps_into r (Suspended Control since) live (λ is gone. absurd (true≢false gone))
+
+    matures : is_suspended r.state ≡ false → KeepsPair r (in_state Duplex r)
+    matures live = keeps_into r Duplex live (λ is up. refl)
+
+    by : (o : Option Stamp) (done : Bool) (state : PairState) → r.state ≡ state → KeepsPair r (row_in r (state_by_group o done state))
+    by (Some since) done Pending e = breaks since (ap is_suspended e)
+    by (Some since) done Copy e = breaks since (ap is_suspended e)
+    by (Some since) done Duplex e = breaks since (ap is_suspended e)
+    by (Some since) done (Suspended cause at) e = pair_self r
+    by None true Pending e = matures (ap is_suspended e)
+    by None false Pending e = keeps_into r Copy (ap is_suspended e) (λ is up. absurd (cc (e, is)))
+    by None true Copy e = matures (ap is_suspended e)
+    by None false Copy e = pair_self r
+    by None done Duplex e = pair_self r
+    by None done (Suspended cause at) e = pair_self r
+
+groups_keep : (group : FormedGroup) (rows : List PairRow) → KeepPairs rows (rows_with_group group rows)
+groups_keep group rows = each_mapped KeepsPair (row_with_group group) (group_keeps group) rows
+
+fades_keep : (group : FormedGroup) (rows next : List PairRow) → InPlaces Fades (rows_with_group group rows) next → KeepPairs rows next
+fades_keep group rows next fade = still_then rows (rows_with_group group rows) next (groups_keep group rows) (each_more Fades KeepsPair fade_pair (rows_with_group group rows) next fade)
+
 -- ---- the steps
 
 -- The deeds of a log with their changes: quiet ones first, then the record.
@@ -131,10 +166,14 @@ pub record LogSteps (group : FormedGroup) (site : SiteState) (way : RecordWay) (
   pub deeds_are : deeds_of steps ≡ log_deeds way site group early failed
   pub are : log_deeds way site group early failed ≡ quiet ++ Logged group.cut.0 group.entries (rows_logged way site group early failed) ∷ []
   pub suspends : AreQuiet site.time site.told quiet (rows_before way site early)
+  pub marks : is_mark_at_most quiet ≡ true
   pub changes : list_all (is_broken_at group.cut.0) group.breaks ≡ true → site.time ≤ group.cut.0 → AreByChanges site.level site.time site.told steps
-  pub made : (answers : List Answer) → WasShown answers (shown_in group) → site.time ≤ group.cut.0 → site.mark.ended ≡ false → AreMade site.level false answers site.time site.told NoneDue steps NoneDue
+  pub made : (answers : List Answer) → WasShown answers (shown_in group) → site.time ≤ group.cut.0 → is_to_log group site.time site.told ≡ true → site.mark.ended ≡ false → AreMade site.level false answers site.time site.told NoneDue steps NoneDue
   pub hit : (d : ℕ) → hit_count d (changes_of steps) ≤ once (is_among d (hit_now failed site.told))
   pub still : KeepPairs site.told (rows_before way site early)
+  pub fades : InPlacesByDeeds Fades site.told quiet
+  pub pairs : InPlacesByDeeds KeepsPair site.told (deeds_of steps)
+  pub kept : KeepPairs (rows_before way site early) (rows_logged way site group early failed)
   pub told : AreTold failed group.cut.0 (rows_before way site early) (rows_logged way site group early failed)
   pub grouped : AreGrouped group (rows_before way site early) (rows_logged way site group early failed)
 
@@ -164,6 +203,9 @@ module _ (group : FormedGroup) (site : SiteState) (early failed : List Bool) (ap
     tt,
   )
 
+  plain_kept : KeepPairs site.told next
+  plain_kept = fades_keep group site.told next (fades_hit site.level group.cut.0 (hit_now failed site.told) (rows_with_group group site.told))
+
   plain_hit : (d : ℕ) → hit_count d (record_changes group failed site.told ++ []) ≤ once (is_among d (hit_now failed site.told))
   plain_hit d = let e = ap (hit_count d) (append-nil (record_changes group failed site.told)) ∙ records_count d group failed site.told in omega (arith, e)
 
@@ -174,10 +216,14 @@ module _ (group : FormedGroup) (site : SiteState) (early failed : List Bool) (ap
     deeds_are = refl;
     are = refl;
     suspends = refl;
+    marks = refl;
     changes = plain_changes;
-    made = λ answers shown up going. record_made site.level answers group site.time site.told failed shown up;
+    made = λ answers shown up to_log going. record_made site.level answers group site.time site.told failed shown up to_log;
     hit = plain_hit;
     still = still_self site.told;
+    fades = tt;
+    pairs = (plain_kept, tt);
+    kept = plain_kept;
     told = records_tell site.level group failed site.told (apart_of site.told apart);
     grouped = records_group site.level group failed site.told;
   }
@@ -189,10 +235,14 @@ module _ (group : FormedGroup) (site : SiteState) (early failed : List Bool) (ap
     deeds_are = refl;
     are = refl;
     suspends = refl;
+    marks = refl;
     changes = plain_changes;
-    made = λ answers shown up going. record_made site.level answers group site.time site.told failed shown up;
+    made = λ answers shown up to_log going. record_made site.level answers group site.time site.told failed shown up to_log;
     hit = plain_hit;
     still = still_self site.told;
+    fades = tt;
+    pairs = (plain_kept, tt);
+    kept = plain_kept;
     told = records_tell site.level group failed site.told (apart_of site.told apart);
     grouped = records_group site.level group failed site.told;
   }
@@ -209,6 +259,9 @@ module _ (group : FormedGroup) (site : SiteState) (early failed : List Bool) (ap
 
   mid_still : KeepPairs site.told mid
   mid_still = each_more Fades KeepsPair fade_pair site.told mid mid_fades
+
+  mid_kept : KeepPairs mid (rows_behind_mark site.level early_hits group failed mid)
+  mid_kept = fades_keep group mid (rows_behind_mark site.level early_hits group failed mid) (fades_told site.level group.cut.0 early_hits (hit_now failed mid) (rows_with_group group mid))
 
   abbrev behind : List Timed
   behind = changes_behind_mark site.level early_hits group failed mid
@@ -238,6 +291,7 @@ module _ (group : FormedGroup) (site : SiteState) (early failed : List Bool) (ap
     deeds_are = refl;
     are = refl;
     suspends = (fewer_of site.told mid mid_fades, refl);
+    marks = refl;
     changes = λ is up. (
       record { rows_are = marks_are_changes site.level site.time early_hits site.told; in_time = marked_in_time site.time early_hits },
       (
@@ -248,9 +302,12 @@ module _ (group : FormedGroup) (site : SiteState) (early failed : List Bool) (ap
         tt,
       ),
     );
-    made = λ answers shown up going. behind_mark_made site.level answers site.at site.mark.ended going group site.time site.told early failed shown up;
+    made = λ answers shown up to_log going. behind_mark_made site.level answers site.at site.mark.ended going group site.time site.told early failed shown up to_log;
     hit = marked_hit between;
     still = mid_still;
+    fades = (mid_fades, tt);
+    pairs = (mid_still, (mid_kept, tt));
+    kept = mid_kept;
     told = behind_marks_tell site.level early_hits group failed mid mid_apart;
     grouped = behind_marks_group site.level early_hits group failed mid;
   }

@@ -1,5 +1,6 @@
 -- Deeds of the mover's work, each as it is made, one behind the other.
-use Rattle.std.proofs.Common.{◌≡◌, ℕ, ◌≤◌, Bool, false, List, [], ◌∷◌, ◌++◌, map, Option, Some, None, refl, sym, ap, subst, ◌∙◌}
+use Rattle.std.proofs.Common.{◌≡◌, ◌≢◌, ℕ, ◌≤◌, Bool, false, List, [], ◌∷◌, ◌++◌, map, Option, Some, None, refl, sym, ap, subst, ◌∙◌}
+use Rattle.std.specs.Prelude.{IsTrue}
 use Rattle.std.specs.List.{Contains, flat_map}
 use Rattle.tod_stamp.specs.declared.stamp.Stamp.{Stamp}
 use Rattle.ckd_track.specs.declared.write.Cause.{Cause}
@@ -17,11 +18,12 @@ use Rattle.record_rows.specs.Deeds.{rows_behind, rows_by_deed, time_by_deed, tim
 use Rattle.record_rows.specs.Deeds.Deed.{Changed, Logged, Marked}
 use Rattle.record_rows.specs.GroupRows.{breaking, group_changes, matured_with_group, maturing, maturing_of}
 use Rattle.record_rows.specs.Hits.{due_behind_mark, hit_changes, hit_now, marked_changes, rows_marked, told_changes}
-use Rattle.record_rows.specs.Records.{changes_behind_mark, record_changes, rows_behind_mark, rows_with_hits, rows_with_record}
+use Rattle.record_rows.specs.Records.{changes_behind_mark, record_changes, rows_with_hits, rows_with_record}
 use Rattle.record_rows.specs.Told.{due_after_changes}
 use Rattle.site_deeds.specs.Changing.{DeedOfChanges, deeds_of}
 use Rattle.fed_logs.specs.Laws.{WasShown}
-use Rattle.mover.specs.Steps.{AreMade, IsDeedMade}
+use Rattle.mover.specs.Groups.{is_to_log}
+use Rattle.mover.specs.Steps.{AreMade, IsDeedMade, record_behind_mark}
 use Rattle.mover.specs.Steps.IsDeedMade.{Suspends, Marks, MarksFirst, Records, RecordsBehind}
 
 -- ---- what changes leave due
@@ -79,9 +81,9 @@ behind_leaves level time marked group failed rows =
 
 -- ---- deeds as they are made
 
-pub hits_made : (level : Level) (answers : List Answer) (time : ℕ) (rows : List PairRow) (failed : List Bool)
+pub hits_made : (level : Level) (answers : List Answer) (time : ℕ) (rows : List PairRow) (failed : List Bool) → hit_now failed rows ≢ []
     → AreMade level false answers time rows NoneDue (record { deed = Changed time (rows_with_hits level time failed rows); changes = hit_changes time (hit_now failed rows) } ∷ []) NoneDue
-hits_made level answers time rows failed = (Suspends time rows failed, hits_leave level time (hit_now failed rows))
+hits_made level answers time rows failed some = (Suspends time rows failed some, hits_leave level time (hit_now failed rows))
 
 pub mark_made : (level : Level) (answers : List Answer) (spot : Spot) (ended : Bool) (goes_on : ended ≡ false) (time : ℕ) (rows : List PairRow) (failed : List Bool)
     → AreMade level false answers time rows NoneDue (record { deed = Marked spot ended (rows_with_hits level time failed rows); changes = hit_changes time (hit_now failed rows) } ∷ []) NoneDue
@@ -91,8 +93,8 @@ mark_made level answers spot ended goes_on time rows failed = (
 )
 
 pub record_made : (level : Level) (answers : List Answer) (group : FormedGroup) (time : ℕ) (rows : List PairRow) (failed : List Bool) → WasShown answers (shown_in group) → time ≤ group.cut.0
-    → AreMade level false answers time rows NoneDue (record { deed = Logged group.cut.0 group.entries (rows_with_record level group failed rows); changes = record_changes group failed rows } ∷ []) NoneDue
-record_made level answers group time rows failed shown up = (Records time rows group failed shown up, record_leaves level group failed rows)
+    → IsTrue (is_to_log group time rows) → AreMade level false answers time rows NoneDue (record { deed = Logged group.cut.0 group.entries (rows_with_record level group failed rows); changes = record_changes group failed rows } ∷ []) NoneDue
+record_made level answers group time rows failed shown up to_log = (Records time rows group failed shown up to_log, record_leaves level group failed rows)
 
 -- a record behind a mark that was made first
 module _ (level : Level) (answers : List Answer) (spot : Spot) (ended : Bool) (goes_on : ended ≡ false) (group : FormedGroup) (time : ℕ) (rows : List PairRow) (early failed : List Bool) where
@@ -103,13 +105,13 @@ module _ (level : Level) (answers : List Answer) (spot : Spot) (ended : Bool) (g
   marked = rows_marked time hits rows
 
   abbrev behind : DeedOfChanges
-  behind = record { deed = Logged group.cut.0 group.entries (rows_behind_mark level hits group failed marked); changes = changes_behind_mark level hits group failed marked }
+  behind = record_behind_mark level hits group failed marked
 
-  pub behind_mark_made : WasShown answers (shown_in group) → time ≤ group.cut.0 → AreMade level false answers time rows NoneDue (record { deed = Marked spot ended marked; changes = marked_changes time hits } ∷ behind ∷ []) NoneDue
-  behind_mark_made shown up = (
+  pub behind_mark_made : WasShown answers (shown_in group) → time ≤ group.cut.0 → IsTrue (is_to_log group time rows) → AreMade level false answers time rows NoneDue (record { deed = Marked spot ended marked; changes = marked_changes time hits } ∷ behind ∷ []) NoneDue
+  behind_mark_made shown up to_log = (
     subst (λ (flag : Bool). IsDeedMade level false answers time rows NoneDue (record { deed = Marked spot flag marked; changes = marked_changes time hits })) (sym goes_on) (MarksFirst time rows early spot),
     (
-      subst (λ (due : Due). IsDeedMade level false answers time marked due behind) (sym (mark_leaves level time hits)) (RecordsBehind time marked group failed time hits shown up),
+      subst (λ (due : Due). IsDeedMade level false answers time marked due behind) (sym (mark_leaves level time hits)) (RecordsBehind time rows group failed hits shown up to_log),
       ap (λ (due : Due). due_after_changes level due behind.changes) (mark_leaves level time hits) ∙ behind_leaves level time hits group failed marked,
     ),
   )
@@ -129,11 +131,11 @@ module _ (level : Level) (flag : Bool) (answers more : List Answer) (among : (a 
   shown_more shown was = record { answer = was.answer; among = among was.answer was.among; shows = was.shows }
 
   one_more : (time : ℕ) (rows : List PairRow) (due : Due) (step : DeedOfChanges) → IsDeedMade level flag answers time rows due step → IsDeedMade level flag more time rows due step
-  one_more _ _ _ _ (Suspends time rows failed) = Suspends time rows failed
+  one_more _ _ _ _ (Suspends time rows failed some) = Suspends time rows failed some
   one_more _ _ _ _ (Marks time rows failed spot) = Marks time rows failed spot
   one_more _ _ _ _ (MarksFirst time rows failed spot) = MarksFirst time rows failed spot
-  one_more _ _ _ _ (Records time rows group failed shown up) = Records time rows group failed (shown_more (shown_in group) shown) up
-  one_more _ _ _ _ (RecordsBehind time rows group failed at marked shown up) = RecordsBehind time rows group failed at marked (shown_more (shown_in group) shown) up
+  one_more _ _ _ _ (Records time rows group failed shown up to_log) = Records time rows group failed (shown_more (shown_in group) shown) up to_log
+  one_more _ _ _ _ (RecordsBehind time was group failed marked shown up to_log) = RecordsBehind time was group failed marked (shown_more (shown_in group) shown) up to_log
 
   pub made_more : (time : ℕ) (rows : List PairRow) (due : Due) (steps : List DeedOfChanges) (last : Due) → AreMade level flag answers time rows due steps last → AreMade level flag more time rows due steps last
   made_more time rows due [] last made = made

@@ -1,5 +1,5 @@
 -- What the mover and its site did, one after another.
-use Rattle.std.proofs.Common.{◌≡◌, inl, inr, ℕ, ◌+◌, ◌≤◌, Bool, true, false, not, ◌&&◌, ◌||◌, List, [], ◌∷◌, ◌++◌, map, Result, Ok, Err, refl, sym, ap, subst, ◌∙◌, arith, append_assoc, OnOk}
+use Rattle.std.proofs.Common.{◌≡◌, ℕ, ◌+◌, ◌≤◌, Bool, true, false, not, ◌&&◌, ◌||◌, List, [], ◌∷◌, ◌++◌, map, Result, Ok, Err, refl, sym, ap, subst, ◌∙◌, arith, append_assoc, OnOk}
 use Rattle.std.specs.List.{list_any}
 use Rattle.std.proofs.lemmas.Bool.{and_from, and_parts}
 use Rattle.std.proofs.lemmas.List.Elements.{Contains-append_left, Contains-append_right}
@@ -7,6 +7,7 @@ use Rattle.crash_plant.specs.declared.device.Device.TheVariants.{Volume}
 use Rattle.crash_plant.specs.Moments.{PlantState}
 use Rattle.pair_table.specs.declared.level.Level.{Level}
 use Rattle.pair_table.specs.declared.row.PairRow.{PairRow}
+use Rattle.pair_table.specs.Tables.{Table, with_rows}
 use Rattle.group_state.specs.Runs.{Answer}
 use Rattle.row_changes.specs.Changes.{Timed}
 use Rattle.row_changes.specs.Changes.Due.{NoneDue}
@@ -25,11 +26,13 @@ use Rattle.turn_group.specs.Seats.{MoverSeatState}
 use Rattle.site_store.specs.declared.store_error.StoreError.{StoreError}
 use Rattle.site_store.specs.Applying.{excepted_by_apply}
 use Rattle.site_store.specs.Sites.{SiteState}
-use Rattle.mover.specs.Dropping.{OwesFailed}
-use Rattle.mover.specs.Moves.{SessionGoesOn, AreHitsToldBy, BeginsAll, DidAll, IsLeftBehind, IsQuiet, MakesAll, Moved, SiteMoved, are_shown_at_cuts, is_shown_at_cut, none_untold, untold_hits}
+use Rattle.mover.specs.Dropping.{OwesExactly}
+use Rattle.mover.specs.Moves.{Fades, InPlacesByDeeds, KeepsPair, SessionGoesOn, AreHitsToldBy, BeginsAll, DidAll, IsLeftBehind, IsQuiet, MakesAll, Moved, SiteMoved, are_shown_at_cuts, is_shown_at_cut, none_untold, untold_hits}
 use Rattle.mover.specs.Steps.{AreMade}
 use Rattle.mover.proofs.KeptCalls.{all_then, all_then_all, quiet_then}
 use Rattle.mover.proofs.Making.{made_more, made_then}
+use Rattle.mover.proofs.DeedPairs.{by_deeds_then}
+use Rattle.mover.proofs.OwedExactly.{owed_then}
 use Rattle.mover.proofs.SamePairs.{still_then}
 
 -- ---- deeds with their changes
@@ -41,6 +44,11 @@ deeds_append (s ∷ a) b = λ i. s.deed ∷ deeds_append a b i
 pub changes_append : (a b : List DeedOfChanges) → changes_of (a ++ b) ≡ changes_of a ++ changes_of b
 changes_append [] b = refl
 changes_append (s ∷ a) b = ap (λ (l : List Timed). s.changes ++ l) (changes_append a b) ∙ sym (append_assoc s.changes (changes_of a) (changes_of b))
+
+-- What each deed keeps is kept by both parts' deeds.
+by_deeds_on : (R : PairRow → PairRow → Type 0) (site mid : SiteState) (a b : List DeedOfChanges) → mid.told ≡ rows_behind (deeds_of a) site.told → InPlacesByDeeds R site.told (deeds_of a) → InPlacesByDeeds R mid.told (deeds_of b) → InPlacesByDeeds R site.told (deeds_of (a ++ b))
+by_deeds_on R site mid a b rows first then =
+    subst (InPlacesByDeeds R site.told) (sym (deeds_append a b)) (by_deeds_then R (deeds_of a) (deeds_of b) site.told first (subst (λ (l : List PairRow). InPlacesByDeeds R l (deeds_of b)) rows then))
 
 pub by_changes_then : (level : Level) (time : ℕ) (rows : List PairRow) (a b : List DeedOfChanges) → AreByChanges level time rows a → AreByChanges level (time_meant_behind (deeds_of a) time) (rows_behind (deeds_of a) rows) b → AreByChanges level time rows (a ++ b)
 by_changes_then level time rows [] b are then = then
@@ -65,6 +73,10 @@ fewer_behind rows (deed ∷ deeds) excepted more fewer d x is =
 
 -- ---- a site's deeds in turn
 
+-- A table with other rows is so with its own.
+pub in_rows_alone : (table next : Table) (rows : List PairRow) → next ≡ with_rows table rows → next ≡ with_rows table next.rows
+in_rows_alone table next rows is = is ∙ ap (λ (t : Table). with_rows table t.rows) (sym is)
+
 -- what is meant of a site behind calls in turn
 pub behind_then : (site mid next : SiteState) (a b : List Deed) → IsLeftBehind site mid a → IsLeftBehind mid next b → IsLeftBehind site next (a ++ b)
 behind_then site mid next a b first then =
@@ -72,6 +84,7 @@ behind_then site mid next a b first then =
     record {
       level = then.level ∙ first.level;
       controls = then.controls ∙ first.controls;
+      table = then.table ∙ ap (λ (t : Table). with_rows t next.table.rows) first.table;
       rows = then.rows ∙ ap (rows_behind b) first.rows ∙ sym turn.rows_are;
       time = then.time ∙ ap (time_meant_behind b) first.time ∙ sym (turn.time site.time);
     }
@@ -129,6 +142,7 @@ module _ (tells : Type 0) (site mid after : SiteState) (old between new : PlantS
         (subst (λ (t : ℕ). AreMade mid.level false answers t (rows_behind a site.told) NoneDue then.steps NoneDue) first.behind.time
         (subst (λ (r : List PairRow). AreMade mid.level false answers mid.time r NoneDue then.steps NoneDue) first.behind.rows (then.made (first.going going) answers))));
     going = on_ok result (λ (goes_on : SessionGoesOn mid after). λ going. goes_on (first.going going)) then.going;
+    fades = by_deeds_on Fades site mid first.steps then.steps first.behind.rows first.fades then.fades;
     later = λ d. omega (arith, first.later d, then.later d);
     counted = counts_then none_untold first.steps then.steps then.later first.counted_all then.counted;
     counted_all = on_ok result (λ (c : AreHitsToldBy mid then.steps (untold_hits after) between new). counts_then (untold_hits after) first.steps then.steps then.later first.counted_all c) then.counted_all;
@@ -154,7 +168,7 @@ module _ (tells : Type 0) (site mid after : SiteState) (old between new : PlantS
 
 -- ---- the mover's calls in turn
 
-answers_append : (a b : List MadeCall) → map as_answer (a ++ b) ≡ map as_answer a ++ map as_answer b
+pub answers_append : (a b : List MadeCall) → map as_answer (a ++ b) ≡ map as_answer a ++ map as_answer b
 answers_append [] b = refl
 answers_append (c ∷ a) b = λ i. as_answer c ∷ answers_append a b i
 
@@ -164,15 +178,6 @@ shown_parts (x ∷ a) b is =
     let first = and_parts (is_shown_at_cut x) (are_shown_at_cuts (a ++ b)) is in
     let rest = shown_parts a b first.1 in
     (and_from (is_shown_at_cut x) (are_shown_at_cuts a) first.0 rest.0, rest.1)
-
-owed_then : (rows mid next : List PairRow) (a b : List Answer) → OwesFailed rows mid a → OwesFailed mid next b → OwesFailed rows next (a ++ b)
-owed_then rows mid next a b first then k v has = elim (then k v has) [
-  | inl had ↦ elim (first k v had) [
-    | inl was ↦ inl was
-    | inr dropped ↦ inr (Contains-append_left a b _ dropped)
-  ]
-  | inr dropped ↦ inr (Contains-append_right a b _ dropped)
-]
 
 module _ (tells : Type 0) (seat turn next : MoverSeatState) (site mid after : SiteState) (old between new : PlantState) (result : Result (Unit {0}) StoreError) where
   pub moved_then : Moved tells seat turn site mid old between (Ok tt) → Moved tells turn next mid after between new result → Moved tells seat next site after old new result
@@ -198,6 +203,7 @@ module _ (tells : Type 0) (seat turn next : MoverSeatState) (site mid after : Si
         (subst (λ (t : ℕ). AreMade mid.level false all t (rows_behind a site.told) NoneDue then.steps NoneDue) first.behind.time
         (subst (λ (r : List PairRow). AreMade mid.level false all mid.time r NoneDue then.steps NoneDue) first.behind.rows later)));
     going = on_ok result (λ (goes_on : SessionGoesOn mid after). λ going. goes_on (first.going going)) then.going;
+    pairs = by_deeds_on KeepsPair site mid first.steps then.steps first.behind.rows first.pairs then.pairs;
     counted = λ d low.
         let two = then.counted d low in
         let one = first.counted d (omega (arith, low, two)) in
@@ -219,7 +225,10 @@ module _ (tells : Type 0) (seat turn next : MoverSeatState) (site mid after : Si
           knows = last.knows;
         }) then.all;
     behind = on_ok result (λ (q : IsLeftBehind mid after b). subst (IsLeftBehind site after) (sym both) (behind_then site mid after a b first.behind q)) then.behind;
-    owed = on_ok result (λ (o : OwesFailed mid.told after.told more). subst (OwesFailed site.told after.told) (sym answers) (owed_then site.told mid.told after.told run more first.owed o)) then.owed;
+    owed = on_both result (λ (o : OwesExactly mid.told after.told more b) (q : IsLeftBehind mid after b).
+        subst (OwesExactly site.told after.told (map as_answer (first.gained ++ then.gained))) (sym both)
+        (subst (λ (l : List Answer). OwesExactly site.told after.told l (a ++ b)) (sym answers)
+        (owed_then site.told mid.told after.told run more a b first.pairs then.pairs first.behind.rows q.rows first.owed o))) then.owed then.behind;
     begins = λ told. subst (λ (l : List Deed). BeginsAll site l old new) (sym both) (begins_then site mid old between new a b first.behind (first.did told) (then.begins told));
     did = λ told. on_ok result (λ (d : DidAll mid after b between new). subst (λ (l : List Deed). DidAll site after l old new) (sym both) (did_then site mid old between new a b first.behind after (first.did told) d)) (then.did told);
   }

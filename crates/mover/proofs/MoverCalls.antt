@@ -1,16 +1,13 @@
 -- The mover's calls with the deeds of its site: a form, with the group's log or without, and the drops behind it.
-use Rattle.std.proofs.Common.{◌≡◌, ◌⊎◌, inl, inr, ℕ, zero, suc, ◌+◌, ◌≤◌, ◌<◌, Bool, true, false, not, cond, nat_eq, nat_lt, ◌==◌, ◌&&◌, ◌||◌, List, [], ◌∷◌, ◌++◌, length, get_or, map, Option, Some, None, Result, Ok, Err, refl, sym, ap, subst, ◌∙◌, arith, true≢false, slice_get, append-nil, append_assoc, OnOk}
-use Rattle.std.specs.List.{Contains, list_all, list_any}
+use Rattle.std.proofs.Common.{◌≡◌, ◌⊎◌, inl, inr, ℕ, ◌≤◌, ◌<◌, Bool, true, false, not, cond, nat_eq, nat_lt, ◌==◌, ◌&&◌, ◌||◌, List, [], ◌∷◌, ◌++◌, length, map, Option, Some, Result, Ok, Err, refl, sym, ap, subst, ◌∙◌, arith, true≢false, slice_get, append-nil, append_assoc, OnOk}
+use Rattle.std.specs.List.{list_all, list_any}
 use Rattle.std.proofs.lemmas.Bool.{and_parts, eqb-false, eqb-true, ltb-false, ltb-true, or_left, or_right}
-use Rattle.std.proofs.lemmas.List.Elements.{Contains-append_right}
-use Rattle.std.proofs.lemmas.Option.{same_Some}
 use Rattle.tod_stamp.specs.declared.stamp.Stamp.{Stamp}
 use Rattle.ckd_track.specs.declared.write.Cause.{Cause}
 use Rattle.crash_plant.specs.declared.device.Device.TheVariants.{Volume}
 use Rattle.crash_plant.specs.Moments.{PlantState}
 use Rattle.pair_table.specs.declared.row.PairRow.{PairRow}
 use Rattle.pair_table.specs.declared.row.PairState.{PairState}
-use Rattle.pair_table.specs.declared.row.PairState.TheVariants.{Pending, Copy, Duplex, Suspended}
 use Rattle.pair_table.specs.Devices.{is_among}
 use Rattle.pair_table.specs.Tables.{Table, none_clash}
 use Rattle.pending_queue.specs.Groups.{FormedGroup}
@@ -23,7 +20,7 @@ use Rattle.group_state.specs.Machine.Call.{Form}
 use Rattle.group_state.specs.Runs.{Answer, shown_by}
 use Rattle.record_rows.specs.Deeds.{Deed, rows_behind, time_meant_behind}
 use Rattle.record_rows.specs.Deeds.Deed.{Logged, Changed, Marked}
-use Rattle.record_rows.specs.Hits.{hit_now, is_device_suspended}
+use Rattle.record_rows.specs.Hits.{hit_now}
 use Rattle.record_rows.proofs.Counting.{once}
 use Rattle.site_deeds.specs.Changing.{AreByChanges, deeds_of}
 use Rattle.site_deeds.specs.Doing.{BeginsDeeds, DoesDeeds}
@@ -47,13 +44,19 @@ use Rattle.site_store.specs.Records.{behind_way}
 use Rattle.site_store.specs.Sites.{SiteState}
 use Rattle.site_store.specs.Standing.{Leaves, StandsFast}
 use Rattle.site_store.proofs.ByWays.{RecordWay, by_ways}
-use Rattle.mover.specs.Dropping.{AreOfControls, Drops, IsDeviceSuspended, OwesFailed, VolumeDrop, are_states_of, answer_of_drop, drops_from, known_behind, owes_by, owes_hit, owes_suspended, owes_since}
-use Rattle.mover.specs.Moves.{AreHitsCounted, BeginsAll, DidAll, IsLeftBehind, IsInStep, IsStillAt, KeepPairs, KeepsAll, KeepsPair, KnowsDuplex, KnowsRows, KnowsSite, MaySettle, Moved, SiteMoved, are_none, are_shown_at_cuts, is_broken_at, is_shown_at_cut, is_to_log, is_worked_on, matures, untold_hits}
-use Rattle.mover.proofs.DropKnown.{knows_behind, owed_is_dropped, same_controls}
+use Rattle.mover.specs.Dropping.{AreOfControls, Drops, OwesExactly, VolumeDrop, are_states_of, answer_of_drop, drops_from, known_behind, stood_duplex}
+use Rattle.mover.specs.Groups.{are_none, is_to_log, matures}
+use Rattle.mover.specs.Moves.{Fades, AreHitsCounted, BeginsAll, DidAll, IsLeftBehind, IsInStep, IsStillAt, KeepPairs, KeepsAll, KeepsPair, KnowsDuplex, KnowsRows, KnowsSite, MaySettle, Moved, SiteMoved, are_shown_at_cuts, is_broken_at, is_shown_at_cut, is_worked_on, untold_hits}
+use Rattle.mover.specs.Slots.{is_track_of_mover}
+use Rattle.mover.proofs.DeedPairs.{by_deeds_more}
+use Rattle.mover.proofs.DropKnown.{knows_behind, same_controls}
+use Rattle.mover.proofs.InSlots.{slots_logged}
 use Rattle.mover.proofs.KeptCalls.{all_then, drops_kept, knows_still, plans_behind, quiet_before_all}
-use Rattle.mover.proofs.LogMoves.{logged_fewer, logged_rest, logged_still, logged_told, no_entries}
+use Rattle.mover.proofs.LogMoves.{entries_of_live, logged_fewer, logged_rest, logged_still, logged_told, no_entries}
 use Rattle.mover.proofs.LogSteps.{LogSteps, follow_of, log_steps}
-use Rattle.mover.proofs.SamePairs.{Before, apart_still, at_of, before, contains_at}
+use Rattle.mover.proofs.MovedOn.{in_rows_alone}
+use Rattle.mover.proofs.OwedExactly.{owed_none, owed_once, stood_faded, stood_logged}
+use Rattle.mover.proofs.SamePairs.{apart_still, at_of, before, contains_at, fade_pair}
 use Rattle.mover.proofs.SiteCalls.{fast_then, none_waits}
 use Rattle.mover.proofs.ToldHits.{hits_rise}
 
@@ -96,43 +99,6 @@ pub makes_of_all : (run : List Answer) (time : ℕ) (rows : List PairRow) (done 
 makes_of_all run time rows done deeds end last known all =
     subst (λ (l : List Deed). MakesDeeds time rows done run l) (append-nil deeds) (subst (λ (l : List Answer). MakesDeeds time rows done l (deeds ++ [])) (append-nil run) (all_then end last known [] [] (last, refl) run time rows done deeds all))
 
--- ---- rows that were hit owe all
-
-hit_owes : (was is : PairState) → is_device_suspended is ≡ true → is_device_suspended was ≡ false → owes_by was is ≡ Some true
-hit_owes was Pending hit up = absurd cc
-hit_owes was Copy hit up = absurd cc
-hit_owes was Duplex hit up = absurd cc
-hit_owes was (Suspended cause since) hit up = (λ i. cond (hit i) (owes_hit was) (owes_suspended was)) ∙ (λ i. cond (up i) None (Some true))
-
-contains_answer : (drops : List VolumeDrop) (d : VolumeDrop) → Contains drops d → Contains (map answer_of_drop drops) (answer_of_drop d)
-contains_answer drops d has = let at = at_of drops d has in contains_at (map answer_of_drop drops) at.0 (answer_of_drop d) (there drops at.0 at.1)
-  where
-    answered : VolumeDrop → Option Answer
-    answered x = Some (answer_of_drop x)
-
-    there : (drops : List VolumeDrop) (i : ℕ) → slice_get drops i ≡ Some d → slice_get (map answer_of_drop drops) i ≡ Some (answer_of_drop d)
-    there [] i at = absurd cc
-    there (e ∷ drops) zero at = ap answered (same_Some e d at)
-    there (e ∷ drops) (suc i) at = there drops i at
-
-pub owed_of : (was : List (Option PairState)) (rows next : List PairRow) → are_states_of rows was → KeepPairs rows next → OwesFailed rows next (map answer_of_drop (drops_from 0 was next))
-owed_of was rows next states still k v has = by (is_device_suspended b.row.state) refl
-  where
-    at : (i : ℕ) × (slice_get next i ≡ Some has.row)
-    at = at_of next has.row has.among
-
-    b : Before KeepsPair rows at.0 has.row
-    b = before KeepsPair rows next at.0 has.row still at.1
-
-    by : (t : Bool) → is_device_suspended b.row.state ≡ t → HasRowIn IsDeviceSuspended k v rows ⊎ Contains (map answer_of_drop (drops_from 0 was next)) (answer_of_drop (record { control = k; volume = v; all = true }))
-    by true e = inl (record { row = b.row; among = contains_at rows at.0 b.row b.at; control = ap (λ (x : PairRow). x.control) (sym b.is.same) ∙ has.control; volume = ap (λ (x : PairRow). x.volume) (sym b.is.same) ∙ has.volume; state = e })
-    by false e =
-        let same : at.0 + 0 ≡ at.0 = omega arith in
-        let owes : owes_since (get_or was (at.0 + 0) None) has.row.state ≡ Some true = ap (λ (n : ℕ). owes_since (get_or was n None) has.row.state) same ∙ ap (λ (o : Option PairState). owes_since o has.row.state) (states at.0 b.row b.at) ∙ hit_owes b.row.state has.row.state has.state e in
-        inr (subst (λ (j : ℕ). Contains (map answer_of_drop (drops_from 0 was next)) (answer_of_drop (record { control = j; volume = v; all = true }))) has.control
-        (subst (λ (w : ℕ). Contains (map answer_of_drop (drops_from 0 was next)) (answer_of_drop (record { control = has.row.control; volume = w; all = true }))) has.volume
-        (contains_answer (drops_from 0 was next) (record { control = has.row.control; volume = has.row.volume; all = true }) (owed_is_dropped was 0 next at.0 has.row true at.1 owes))))
-
 -- No drop shows a break.
 drops_show : (drops : List VolumeDrop) → are_shown_at_cuts (map answer_of_drop drops) ≡ true
 drops_show [] = refl
@@ -162,6 +128,7 @@ module _ (tells : Type 0) (seat : MoverSeatState) (site after : SiteState) (old 
     changes = λ shown. moved.changes;
     made = λ going. moved.made going [];
     going = tt;
+    pairs = by_deeds_more Fades KeepsPair fade_pair site.told (deeds_of moved.steps) moved.fades;
     counted = counted_of (Err error) moved;
     makes = λ done knows. moved.quiet;
     all = tt;
@@ -200,12 +167,14 @@ module _ (tells : Type 0) (seat : MoverSeatState) (site after : SiteState) (old 
       changes = λ shown. moved.changes;
       made = λ going. moved.made going (map as_answer drops.gained);
       going = moved.going;
+      pairs = by_deeds_more Fades KeepsPair fade_pair site.told (deeds_of moved.steps) moved.fades;
       counted = counted_of (Ok tt) moved;
       makes = λ done knows. subst (λ (l : List Answer). MakesDeeds site.time site.told done l (deeds_of moved.steps)) (sym drops.are)
           (let k = keeps done knows in makes_of_all (map answer_of_drop dropped) site.time site.told done (deeds_of moved.steps) after.time after.told k.known k.makes);
       all = λ done knows. subst (λ (l : List Answer). KeepsAll site after done l (deeds_of moved.steps)) (sym drops.are) (keeps done knows);
       behind = moved.behind;
-      owed = subst (OwesFailed site.told after.told) (sym drops.are) (owed_of was site.told after.told states moved.all.still);
+      owed = subst (λ (l : List Answer). OwesExactly site.told after.told l (deeds_of moved.steps)) (sym drops.are)
+          (owed_once was site.told after.told (deeds_of moved.steps) states apart_then (λ place r s at there gone. stood_faded place site.told (deeds_of moved.steps) r moved.fades at));
       begins = moved.begins;
       did = moved.did;
     }
@@ -305,11 +274,12 @@ module _ (tells : Type 0) (limit : Stamp) (r : forming.Forming) (group : FormedG
     changes = λ shown. tt;
     made = λ going. refl;
     going = λ going. going;
+    pairs = tt;
     counted = λ d low. omega arith;
     makes = λ done known. subst (λ (l : List Answer). MakesDeeds site.time site.told done l []) (sym gained_is) (let k = keeps_nothing done known in makes_of_all (form_answer limit r group ∷ []) site.time site.told done [] site.time site.told k.known k.makes);
     all = λ done known. subst (λ (l : List Answer). KeepsAll site site done l []) (sym gained_is) (keeps_nothing done known);
-    behind = record { level = refl; controls = refl; rows = refl; time = refl };
-    owed = λ k v has. inl has;
+    behind = record { level = refl; controls = refl; table = refl; rows = refl; time = refl };
+    owed = subst (λ (l : List Answer). OwesExactly site.told site.told l []) (sym gained_is) (owed_none site.told (form_answer limit r group ∷ []) [] (λ k v. refl));
     begins = λ told e stands. have_begun plant plant (excepted_by_apply site e) site.told [] (no_call plant (excepted_by_apply site e) site.told);
     did = λ told e stands. record { does = no_call plant (excepted_by_apply site e) site.told; still = e; stands = stands; fewer = λ d x is. is };
   }
@@ -337,7 +307,7 @@ logged_up group site is = by (nat_eq group.cut.0 site.time) refl is
     by false e is = let up = ltb-true site.time group.cut.0 is in omega (arith, up)
 
 module _ (tells : Type 0) (limit : Stamp) (r : forming.Forming) (group : FormedGroup) (seat turn : MoverSeatState) (site next : SiteState) (old new : PlantState) (result : Result (Unit {0}) StoreError) (f : FormsGroup limit r group seat turn) (knows : KnowsSite limit.0 seat site) (apart : none_clash site.told ≡ true) (idle : site.waiting ≡ [])
-    (is_logged : is_to_log group site.time site.told ≡ true) (logs : LogsGroup tells group site next old new result) (leaves : OnOk result (Leaves tells (λ e. e) site next old new)) (fails : FailByCounts site.failed next.failed old.faults new.faults) (later : (d : ℕ) → old.faults (Volume d) ≤ new.faults (Volume d)) where
+    (is_logged : is_to_log group site.time site.told ≡ true) (carried : list_all (is_of_carried seat.known) group.entries ≡ true) (logs : LogsGroup tells group site next old new result) (leaves : OnOk result (Leaves tells (λ e. e) site next old new)) (fails : FailByCounts site.failed next.failed old.faults new.faults) (later : (d : ℕ) → old.faults (Volume d) ≤ new.faults (Volume d)) where
   abbrev way : RecordWay
   way = logs.way
 
@@ -387,6 +357,8 @@ module _ (tells : Type 0) (limit : Stamp) (r : forming.Forming) (group : FormedG
     are = steps.deeds_are ∙ steps.are;
     suspends = steps.suspends;
     up = up;
+    live = entries_of_live seat.known site.told group.entries knows.rows carried;
+    marks = steps.marks;
     follow = follow_of group next.failed (rows_before way site early) rows steps.told steps.grouped;
     goes_on = goes_on;
   }))
@@ -409,8 +381,9 @@ module _ (tells : Type 0) (limit : Stamp) (r : forming.Forming) (group : FormedG
     calls = f.calls;
     steps = steps.steps;
     changes = λ shown_at. changes [] (ap are_shown_at_cuts (sym (made_is [])) ∙ shown_at);
-    made = λ going. steps.made (map as_answer (f.made ∷ [])) (was_shown []) up going;
+    made = λ going. steps.made (map as_answer (f.made ∷ [])) (was_shown []) up is_logged going;
     going = tt;
+    pairs = steps.pairs;
     counted = counted;
     makes = λ done known. subst (λ (l : List Answer). MakesDeeds site.time site.told done l (deeds_of steps.steps)) (sym (made_is [])) (record {
       quiet = [];
@@ -456,6 +429,9 @@ module _ (tells : Type 0) (limit : Stamp) (r : forming.Forming) (group : FormedG
     pub log_rest : (v : ℕ) → is_worked_on next v ≡ true → is_worked_on site v ≡ true
     log_rest = logged_rest tells group site next way early old idle steps items is_next
 
+    pub log_slots : (v x : ℕ) → is_track_of_mover next v x ≡ true → is_track_of_mover site v x ≡ true
+    log_slots = slots_logged tells group next.failed seat.known site next (rows_before way site early) old knows.rows carried steps.still log_still items
+
     module _ (end : MoverSeatState) (was : List (Option PairState)) (states : are_states_of site.told was) (drops : Drops was next.told turn end) where
       abbrev dropped_next : List VolumeDrop
       dropped_next = drops_from 0 was next.told
@@ -499,6 +475,7 @@ module _ (tells : Type 0) (limit : Stamp) (r : forming.Forming) (group : FormedG
       behind = record {
         level = ap (λ (s : SiteState). s.level) is_next ∙ level_of way;
         controls = ap (λ (s : SiteState). s.controls) is_next ∙ controls_of way;
+        table = in_rows_alone site.table next.table rows (ap (λ (s : SiteState). s.table) is_next);
         rows = told_is ∙ sym turn_by.rows_are ∙ ap (λ (l : List Deed). rows_behind l site.told) (sym all_deeds);
         time = time_is ∙ sym (turn_by.time site.time) ∙ ap (λ (l : List Deed). time_meant_behind l site.time) (sym all_deeds);
       }
@@ -527,22 +504,25 @@ module _ (tells : Type 0) (limit : Stamp) (r : forming.Forming) (group : FormedG
         fewer = λ d x is. logged_fewer tells group site next way early old idle steps items is_next e d x (ap (λ (l : List Deed). excepted_behind site.told l (excepted_by_apply site e) d x) (sym steps.deeds_are) ∙ is);
       }
 
+      owed_run : OwesExactly site.told next.told run (deeds_of steps.steps)
+      owed_run = owed_once was site.told next.told (deeds_of steps.steps) states apart_next (λ place r s at there gone.
+          ap (stood_duplex place site.told) (steps.deeds_are ∙ steps.are)
+          ∙ stood_logged place site.told steps.quiet (Logged group.cut.0 group.entries rows) r s steps.fades at (ap (λ (l : List PairRow). slice_get l place) (sym told_is) ∙ there) gone)
+
       pub log_moved : Moved tells seat end site next old new (Ok tt)
       log_moved = record {
         gained = gained;
         calls = drops.calls_are ∙ ap (λ (l : List MadeCall). l ++ drops.gained) f.calls ∙ append_assoc seat.calls (f.made ∷ []) drops.gained;
         steps = steps.steps;
         changes = λ shown_at. changes (map answer_of_drop dropped_next) (ap are_shown_at_cuts (sym run_is) ∙ shown_at);
-        made = λ going. steps.made (map as_answer gained) (was_shown drops.gained) up going;
+        made = λ going. steps.made (map as_answer gained) (was_shown drops.gained) up is_logged going;
         going = λ going. ap (λ (s : SiteState). s.mark.ended) is_next ∙ by_ways (λ (w : RecordWay). (behind_way w site).mark.ended ≡ site.mark.ended) refl refl refl way ∙ going;
+        pairs = steps.pairs;
         counted = counted;
         makes = λ done known. subst (λ (l : List Answer). MakesDeeds site.time site.told done l (deeds_of steps.steps)) (sym run_is) (let k = keeps_logged done known in makes_of_all run site.time site.told done (deeds_of steps.steps) next.time next.told k.known k.makes);
         all = λ done known. subst (λ (l : List Answer). KeepsAll site next done l (deeds_of steps.steps)) (sym run_is) (keeps_logged done known);
         behind = behind;
-        owed = subst (OwesFailed site.told next.told) (sym run_is) (λ k v has. elim (owed_of was site.told next.told states log_still k v has) [
-          | inl had ↦ inl had
-          | inr dropped_now ↦ inr (Contains-append_right (form_answer limit r group ∷ []) (map answer_of_drop dropped_next) _ dropped_now)
-        ]);
+        owed = subst (λ (l : List Answer). OwesExactly site.told next.told l (deeds_of steps.steps)) (sym run_is) owed_run;
         begins = begins;
         did = did;
       }
@@ -576,11 +556,12 @@ nothing_done tells seat site plant = record {
   changes = λ shown. tt;
   made = λ going. refl;
   going = λ going. going;
+  pairs = tt;
   counted = λ d low. omega arith;
   makes = λ done known. (site.told, refl);
   all = λ done known. record { known = done; makes = (refl, refl, refl); knows = known };
-  behind = record { level = refl; controls = refl; rows = refl; time = refl };
-  owed = λ k v has. inl has;
+  behind = record { level = refl; controls = refl; table = refl; rows = refl; time = refl };
+  owed = owed_none site.told [] [] (λ k v. refl);
   begins = λ told e stands. have_begun plant plant (excepted_by_apply site e) site.told [] (no_call plant (excepted_by_apply site e) site.told);
   did = λ told e stands. record { does = no_call plant (excepted_by_apply site e) site.told; still = e; stands = stands; fewer = λ d x is. is };
 }

@@ -9,7 +9,7 @@ use Rattle.site_store.specs.Applying.{Applies, DoesApply, excepted_by_apply}
 use Rattle.site_store.specs.Causes.{FailByCounts, HasStoreCause}
 use Rattle.site_store.specs.Changing.{DoesSuspend, Suspends}
 use Rattle.site_store.specs.Marking.{DoesMark, Marks}
-use Rattle.site_store.specs.Records.{IsOfMark, IsOfRecord}
+use Rattle.site_store.specs.Records.{IsOfMark, IsOfRecord, VolumesStay}
 use Rattle.site_store.specs.Sites.{SiteState}
 use Rattle.site_store.specs.Standing.{Leaves, MayRecord, StandsFast, none_excepted}
 use Rattle.site_store.specs.Waiting.{IsOfWaiting}
@@ -56,7 +56,7 @@ module _ (tells : Type 0) {P : Type 0} (state : P → PlantState) (site mid : Si
 
   module _ (cut : ℕ) (now : cut ≡ mid.time) (next : SiteState) (last : P) (result : Result (Unit {0}) StoreError) (says : Suspends cut mid next (state then) then last result) (leaves_next : OnOk result (Leaves tells (λ e. e) mid next (state then) (state last)))
       (moments_next : DoesSuspend tells cut mid next (state then) (state last) result) (works_next : WorksOnLent tells (IsOfRecord mid) (state then) (state last)) (cause : HasStoreCause (state then).faults (state last).faults result)
-      (fails : FailByCounts mid.failed next.failed (state then).faults (state last).faults) where
+      (fails : FailByCounts mid.failed next.failed (state then).faults (state last).faults) (stay : VolumesStay tells (state then) (state last)) where
     says_now : Suspends mid.time mid next (state then) then last result
     says_now = subst (λ (t : ℕ). Suspends t mid next (state then) then last result) now says
 
@@ -69,7 +69,7 @@ module _ (tells : Type 0) {P : Type 0} (state : P → PlantState) (site mid : Si
     pub told_by_record : RestsBy tells site next (state first) (state last) result
     told_by_record = record {
       moved = site_then tells site mid next (state first) (state then) (state last) result applied (suspend_moved tells state mid next then last result apart_mid idle_mid level_mid says_now leaves_next moments_now works_next fails);
-      works = works_then tells site mid next (state first) (state then) (state last) result applied_works (suspend_works tells state mid next then last result apart_mid idle_mid level_mid says_now leaves_next moments_now works_next fails cause);
+      works = works_then tells site mid next (state first) (state then) (state last) result applied_works (suspend_works tells state mid next then last result apart_mid idle_mid level_mid says_now leaves_next moments_now works_next fails cause stay);
       rests = on_both result (λ (t : Tells mid next) (l : Leaves tells (λ e. e) mid next (state then) (state last)). record {
         may = record { fast = fast_then tells (λ e. e) mid next (state then) (state last) may_tell.fast l; level = t.level_is; idle = t.idle };
         told = none_untold_then mid next apart_mid t;

@@ -4,12 +4,15 @@ use Rattle.std.specs.List.{Contains, list_all, list_any}
 use Rattle.std.proofs.lemmas.Bool.{and_from, and_left, and_parts, and_right, eq-eqb, eqb-true, or_left, or_parts, or_right}
 use Rattle.std.proofs.lemmas.Option.{same_Some, slice_get-get_or, slice_get_within, get_or_from_slice_get}
 use Rattle.pair_table.specs.declared.row.PairRow.{PairRow}
+use Rattle.pair_table.specs.declared.row.PairState.{PairState}
+use Rattle.pair_table.specs.declared.row.PairState.TheVariants.{Pending, Copy, Duplex, Suspended}
 use Rattle.pair_table.specs.Rows.{is_suspended}
 use Rattle.pair_table.specs.Tables.{clashes, in_state, none_clash}
 use Rattle.pair_table.proofs.TableLaws.{first_apart}
+use Rattle.record_rows.specs.Hits.{is_device_suspended}
 use Rattle.record_rows.specs.Told.{InPlaces}
 use Rattle.fed_logs.specs.Moves.{AreFewer}
-use Rattle.mover.specs.Moves.{KeepPairs, KeepsPair, is_row_of_number, row_of_volume}
+use Rattle.mover.specs.Moves.{Fades, KeepPairs, KeepsPair, is_row_of_number, row_of_volume}
 
 -- ---- places
 
@@ -94,22 +97,47 @@ module _ (R S T : PairRow → PairRow → Type 0) (then : (r s t : PairRow) → 
 
 -- ---- rows of the same pairs
 
--- The pair stays, and its state too, unless it is suspended.
-pub record Fades (r s : PairRow) : Type 0 where
-  pub same : s ≡ in_state s.state r
-  pub fades : (s.state ≡ r.state) ⊎ (is_suspended s.state ≡ true)
+pub suspended_by_device : (state : PairState) → is_device_suspended state ≡ true → is_suspended state ≡ true
+suspended_by_device Pending e = absurd cc
+suspended_by_device Copy e = absurd cc
+suspended_by_device Duplex e = absurd cc
+suspended_by_device (Suspended cause since) e = refl
+
+-- A suspended row stays as it is unless its own device suspends it.
+abbrev pub StaysGone : (was is : PairState) → Type 0
+StaysGone was is = is_suspended was ≡ true → (is ≡ was) ⊎ (is_device_suspended is ≡ true)
+
+pub device_still : (was is : PairState) → StaysGone was is → is_device_suspended was ≡ true → is_device_suspended is ≡ true
+device_still was is gone hit = elim (gone (suspended_by_device was hit)) [
+  | inl same ↦ ap is_device_suspended same ∙ hit
+  | inr again ↦ again
+]
+
+pub gone_then : (was mid is : PairState) → StaysGone was mid → StaysGone mid is → StaysGone was is
+gone_then was mid is first then gone = elim (first gone) [
+  | inl same ↦ elim (then (ap is_suspended same ∙ gone)) [
+    | inl still ↦ inl (still ∙ same)
+    | inr hit ↦ inr hit
+  ]
+  | inr hit ↦ inr (device_still mid is then hit)
+]
 
 pub same_pair : (r s t : PairRow) → s ≡ in_state s.state r → t ≡ in_state t.state s → t ≡ in_state t.state r
 same_pair r s t a b = b ∙ ap (λ (x : PairRow). in_state t.state x) a
 
 pub pair_self : (r : PairRow) → KeepsPair r r
-pair_self r = record { same = refl; live = λ is. is }
+pair_self r = record { same = refl; live = λ is. is; gone = λ is. inl refl; duplex = λ is live. is }
 
 pub pair_then : (r s t : PairRow) → KeepsPair r s → KeepsPair s t → KeepsPair r t
-pair_then r s t a b = record { same = same_pair r s t a.same b.same; live = λ is. a.live (b.live is) }
+pair_then r s t a b = record {
+  same = same_pair r s t a.same b.same;
+  live = λ is. a.live (b.live is);
+  gone = gone_then r.state s.state t.state a.gone b.gone;
+  duplex = λ is live. b.duplex (a.duplex is (b.live live)) live;
+}
 
 pub fade_self : (r : PairRow) → Fades r r
-fade_self r = record { same = refl; fades = inl refl }
+fade_self r = record { same = refl; fades = inl refl; gone = λ is. inl refl }
 
 pub live_before : (r s : PairRow) → Fades r s → is_suspended s.state ≡ false → s.state ≡ r.state
 live_before r s f is = elim f.fades [
@@ -118,7 +146,12 @@ live_before r s f is = elim f.fades [
 ]
 
 pub fade_pair : (r s : PairRow) → Fades r s → KeepsPair r s
-fade_pair r s f = record { same = f.same; live = λ is. ap is_suspended (sym (live_before r s f is)) ∙ is }
+fade_pair r s f = record {
+  same = f.same;
+  live = λ is. ap is_suspended (sym (live_before r s f is)) ∙ is;
+  gone = f.gone;
+  duplex = λ is live. live_before r s f live ∙ is;
+}
 
 pub still_self : (rows : List PairRow) → KeepPairs rows rows
 still_self = each_self KeepsPair pair_self

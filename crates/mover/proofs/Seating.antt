@@ -7,7 +7,7 @@ use Rattle.std.proofs.lemmas.List.FromFn.{get_or-map-range_with_len, length-map-
 use Rattle.tod_stamp.specs.declared.limits.TheConstants.{MOST_CONTROLS}
 use Rattle.group_state.specs.Groups.{Group}
 use Rattle.group_state.specs.Runs.{Answer}
-use Rattle.fed_logs.specs.Laws.{is_limited}
+use Rattle.mover.specs.Groups.{is_at_limit}
 use Rattle.lane_feed.specs.Reads.{ReadsOn}
 use Rattle.turn_group.specs.Calls.{as_answer}
 use Rattle.turn_group.specs.Notes.{known_of}
@@ -140,8 +140,8 @@ module _ {S : Type 0} (left : S → Option (List ℕ)) (faults : S → ℕ) (at 
   at_table = ap (λ (s : MoverSeatState). s.table) new.mover_is
 
   -- The mover has made no call yet.
-  pub none_limited : list_all (is_limited limit) (map as_answer mover.calls) ≡ true
-  none_limited = ap (λ (s : MoverSeatState). list_all (is_limited limit) (map as_answer s.calls)) new.mover_is
+  pub none_limited : list_all (is_at_limit limit) (map as_answer mover.calls) ≡ true
+  none_limited = ap (λ (s : MoverSeatState). list_all (is_at_limit limit) (map as_answer s.calls)) new.mover_is
 
   pub as_many : length seats ≡ length first
   as_many = ap length new.readers_are ∙ seats_many at (length at.first.controls) ∙ sym are.many

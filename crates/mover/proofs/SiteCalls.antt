@@ -20,13 +20,13 @@ use Rattle.pair_table.specs.declared.row.PairRow.{PairRow}
 use Rattle.pair_table.specs.declared.row.SuspendCause.TheVariants.{Device as OfDevice, Session as OfSession}
 use Rattle.pair_table.specs.Devices.{is_among}
 use Rattle.pair_table.specs.Rows.{is_suspended}
-use Rattle.pair_table.specs.Tables.{in_state, none_clash}
+use Rattle.pair_table.specs.Tables.{in_state, none_clash, with_rows}
 use Rattle.row_changes.specs.Changes.{Timed, hit_row, reached_row, since}
 use Rattle.row_changes.specs.Changes.Due.{NoneDue}
 use Rattle.row_changes.specs.Toward.{hit_count}
 use Rattle.record_rows.specs.Deeds.{Deed, entries_by_deed, rows_by_deed, time_by_deed}
 use Rattle.record_rows.specs.Deeds.Deed.{Changed, Marked}
-use Rattle.record_rows.specs.Hits.{hit_changes, hit_now, rows_hit, rows_marked}
+use Rattle.record_rows.specs.Hits.{hit_changes, hit_now, rows_hit, rows_marked, rows_told}
 use Rattle.record_rows.specs.Records.{rows_with_hits}
 use Rattle.record_rows.specs.Told.{InPlaces}
 use Rattle.record_rows.proofs.Counting.{hits_count, once}
@@ -45,17 +45,18 @@ use Rattle.site_store.specs.Causes.{FailByCounts, HasStoreCause}
 use Rattle.site_store.specs.Changing.{DoesSuspend, Suspends, suspension_deeds, suspension_deeds_of, with_suspensions}
 use Rattle.site_store.specs.Jobs.{has_device}
 use Rattle.site_store.specs.Marking.{DoesMark, Marks, MayMark, excepted_with_waiting, rows_at_mark}
-use Rattle.site_store.specs.Records.{IsOfMark, IsOfRecord, IsStore, behind_mark}
+use Rattle.site_store.specs.Records.{IsOfMark, IsOfRecord, IsStore, VolumesStay, behind_mark}
 use Rattle.site_store.specs.Sites.{SiteState, has_failed, is_written}
 use Rattle.site_store.specs.Standing.{FitsPlant, Leaves, SiteStands, StandsFast, none_excepted}
 use Rattle.site_store.specs.Waiting.{IsOfWaiting}
 use Rattle.site_store.proofs.ByWays.{RecordWay, by_ways, way_here, way_marked, way_switched}
 use Rattle.mover.specs.Steps.{AreMade}
-use Rattle.mover.specs.Moves.{SessionGoesOn, IsOfMover, KeepPairs, KeepsPair, MoverWorks, SiteMoved, is_device_of_row, is_worked_on, most_faults, untold_hits}
-use Rattle.mover.proofs.SamePairs.{Fades, apart_still, each_mapped, each_more, each_self, fade_pair, fade_self, fewer_of, same_pair, still_self}
+use Rattle.mover.specs.Moves.{Fades, SessionGoesOn, IsOfMover, KeepPairs, KeepsPair, MoverWorks, SiteMoved, is_device_of_row, is_worked_on, most_faults, untold_hits}
+use Rattle.mover.proofs.InSlots.{slots_applied, slots_at_rest, slots_stay}
+use Rattle.mover.proofs.SamePairs.{apart_still, each_mapped, each_more, each_self, fade_pair, fade_self, fewer_of, gone_then, same_pair, still_self}
 use Rattle.mover.proofs.Making.{hits_made, mark_made}
-use Rattle.mover.proofs.MovedOn.{on_both, on_ok}
-use Rattle.mover.proofs.ToldHits.{flag_low, hits_rise}
+use Rattle.mover.proofs.MovedOn.{in_rows_alone, on_both, on_ok}
+use Rattle.mover.proofs.ToldHits.{flag_low, hits_rise, still_hit}
 
 -- ---- flags
 
@@ -155,6 +156,7 @@ module _ (tells : Type 0) (site next : SiteState) (old new : PlantState) (fits :
     changes = tt;
     made = λ going answers. refl;
     going = λ going. ap (λ (s : SiteState). s.mark.ended) applies.next_is ∙ going;
+    fades = tt;
     later = λ d. works.faults (Volume d);
     counted = λ d low. let up = works.faults (Volume d) in omega (arith, up);
     counted_all = λ d low.
@@ -163,7 +165,13 @@ module _ (tells : Type 0) (site next : SiteState) (old new : PlantState) (fits :
         omega (arith, rise, is);
     quiet = (site.told, refl);
     all = record { suspends = told_is; time = ap (λ (s : SiteState). s.time) applies.next_is; still = subst (λ (rows : List PairRow). KeepPairs site.told rows) (sym told_is) (still_self site.told) };
-    behind = record { level = ap (λ (s : SiteState). s.level) applies.next_is; controls = ap (λ (s : SiteState). s.controls) applies.next_is; rows = told_is; time = ap (λ (s : SiteState). s.time) applies.next_is };
+    behind = record {
+      level = ap (λ (s : SiteState). s.level) applies.next_is;
+      controls = ap (λ (s : SiteState). s.controls) applies.next_is;
+      table = in_rows_alone site.table next.table site.table.rows (ap (λ (s : SiteState). s.table) applies.next_is);
+      rows = told_is;
+      time = ap (λ (s : SiteState). s.time) applies.next_is;
+    };
     begins = λ told e stands. have_begun old new (excepted_by_apply site e) site.told [] (does told e);
     did = λ told e stands. record {
       does = does told e;
@@ -182,6 +190,7 @@ module _ (tells : Type 0) (site next : SiteState) (old new : PlantState) (fits :
     cause = record { counts = record { fault = λ d none. cc none; others = λ d store none. works.others_faults d (not_waiting d store) }; memory = λ none. cc none };
     failed = apply_fails;
     rest = works_less site next (subst (λ (rows : List PairRow). KeepPairs site.told rows) (sym told_is) (still_self site.told)) written (λ v is. absurd (none_there v is));
+    slots = slots_applied tells site next old new applies;
   }
     where
       among : (d : Device) → IsOfWaiting site d → IsOfMover site d
@@ -220,17 +229,17 @@ fade_hit : (devices : List ℕ) (time : ℕ) (r : PairRow) → Fades r (hit_row 
 fade_hit devices time r = by (is_among r.device devices)
   where
     by : (b : Bool) → Fades r (cond b (in_state (since OfDevice time) r) r)
-    by true = record { same = refl; fades = inr refl }
+    by true = record { same = refl; fades = inr refl; gone = λ is. inr refl }
     by false = fade_self r
 
-fade_reached : (level : Level) (devices : List ℕ) (time : ℕ) (r : PairRow) → Fades r (reached_row level devices time r)
+pub fade_reached : (level : Level) (devices : List ℕ) (time : ℕ) (r : PairRow) → Fades r (reached_row level devices time r)
 fade_reached VolumeLevel devices time r = fade_self r
-fade_reached SessionLevel devices time r = by (is_among r.device devices) (is_suspended r.state)
+fade_reached SessionLevel devices time r = by (is_among r.device devices) (is_suspended r.state) refl
   where
-    by : (b c : Bool) → Fades r (cond b r (cond c r (in_state (since OfSession time) r)))
-    by true c = fade_self r
-    by false true = fade_self r
-    by false false = record { same = refl; fades = inr refl }
+    by : (b c : Bool) → is_suspended r.state ≡ c → Fades r (cond b r (cond c r (in_state (since OfSession time) r)))
+    by true c e = fade_self r
+    by false true e = fade_self r
+    by false false e = record { same = refl; fades = inr refl; gone = λ is. absurd (true≢false (sym is ∙ e)) }
 
 fade_then : (r s t : PairRow) → Fades r s → Fades s t → Fades r t
 fade_then r s t a b = record {
@@ -242,12 +251,18 @@ fade_then r s t a b = record {
     ]
     | inr gone ↦ inr gone
   ];
+  gone = gone_then r.state s.state t.state a.gone b.gone;
 }
 
 pub fades_hit : (level : Level) (time : ℕ) (hit : List ℕ) (rows : List PairRow) → InPlaces Fades rows (rows_hit level time hit rows)
 fades_hit level time [] rows = each_self Fades fade_self rows
 fades_hit level time (d ∷ hit) rows =
     each_mapped Fades (λ r. reached_row level (d ∷ hit) time (hit_row (d ∷ hit) time r)) (λ r. fade_then r (hit_row (d ∷ hit) time r) (reached_row level (d ∷ hit) time (hit_row (d ∷ hit) time r)) (fade_hit (d ∷ hit) time r) (fade_reached level (d ∷ hit) time (hit_row (d ∷ hit) time r))) rows
+
+pub fades_told : (level : Level) (time : ℕ) (marked hit : List ℕ) (rows : List PairRow) → InPlaces Fades rows (rows_told level time marked hit rows)
+fades_told level time [] [] rows = each_self Fades fade_self rows
+fades_told level time (d ∷ marked) [] rows = each_mapped Fades (reached_row level (d ∷ marked) time) (fade_reached level (d ∷ marked) time) rows
+fades_told level time marked (d ∷ hit) rows = fades_hit level time (d ∷ hit) rows
 
 pub fades_marked : (time : ℕ) (hit : List ℕ) (rows : List PairRow) → InPlaces Fades rows (rows_marked time hit rows)
 fades_marked time hit rows = each_mapped Fades (hit_row hit time) (fade_hit hit time) rows
@@ -264,6 +279,7 @@ told_rows site failed = rows_with_hits site.level site.time failed site.told
 pub record Tells (site next : SiteState) : Type 0 where
   pub level : next.level ≡ site.level
   pub controls : next.controls ≡ site.controls
+  pub table : next.table ≡ with_rows site.table next.table.rows
   pub rows : next.told ≡ told_rows site next.failed
   pub time : next.time ≡ site.time
   pub level_is : next.is_ahead ≡ false
@@ -320,12 +336,13 @@ module _ (tells : Type 0) (site next : SiteState) (old new : PlantState) (result
     );
     made = made;
     going = on_ok result (λ (t : Tells site next). t.going) tell;
+    fades = (subst (λ (l : List PairRow). InPlaces Fades site.told l) (sym rows_are) (told_fades site next.failed), tt);
     later = later;
     counted = λ d low. counts 0 d refl low;
     counted_all = on_ok result (λ (t : Tells site next). λ d low. counts (untold_hits next d) d (ap (λ (hit : List ℕ). once (is_among d hit)) (none_untold_then site next apart t)) low) tell;
     quiet = (next_rows, quiet);
     all = on_ok result (λ (t : Tells site next). record { suspends = subst (λ (l : List PairRow). AreQuiet site.time site.told (deed ∷ []) l) (sym t.rows) quiet; time = t.time; still = subst (λ (l : List PairRow). KeepPairs site.told l) (sym t.rows) (told_still site next.failed) }) tell;
-    behind = on_ok result (λ (t : Tells site next). record { level = t.level; controls = t.controls; rows = t.rows ∙ sym rows_are; time = t.time ∙ sym time_is }) tell;
+    behind = on_ok result (λ (t : Tells site next). record { level = t.level; controls = t.controls; table = t.table; rows = t.rows ∙ sym rows_are; time = t.time ∙ sym time_is }) tell;
     begins = λ told e stands. begins_still old new e (excepted_by_apply site e) site.told (same e) (deed ∷ []) (begins told e stands);
     did = λ told. on_both result (λ (d : (e : Exceptions) → SiteStands e site old → DoesDeeds e site.told (deed ∷ []) old new) (l : StandsFewer site next old new).
         λ e stands. let s = l e stands in record {
@@ -354,12 +371,13 @@ nothing_moved tells site plant value = record {
   changes = tt;
   made = λ going answers. refl;
   going = λ going. going;
+  fades = tt;
   later = λ d. omega arith;
   counted = λ d low. omega arith;
   counted_all = λ d low. omega arith;
   quiet = (site.told, refl);
   all = record { suspends = refl; time = refl; still = still_self site.told };
-  behind = record { level = refl; controls = refl; rows = refl; time = refl };
+  behind = record { level = refl; controls = refl; table = refl; rows = refl; time = refl };
   begins = λ told e stands. have_begun plant plant (excepted_by_apply site e) site.told [] (no_call plant (excepted_by_apply site e) site.told);
   did = λ told e stands. record { does = no_call plant (excepted_by_apply site e) site.told; still = e; stands = stands; fewer = λ d x is. is };
 }
@@ -383,6 +401,7 @@ module _ (tells : Type 0) {P : Type 0} (state : P → PlantState) (site next : S
       none_told same none = record {
         level = ap (λ (s : SiteState). s.level) same;
         controls = ap (λ (s : SiteState). s.controls) same;
+        table = in_rows_alone site.table next.table site.table.rows (ap (λ (s : SiteState). s.table) same);
         rows = ap (λ (s : SiteState). s.told) same ∙ ap (λ (hit : List ℕ). rows_hit site.level site.time hit site.told) (sym none) ∙ ap (λ (s : SiteState). told_rows site s.failed) (sym same);
         time = ap (λ (s : SiteState). s.time) same;
         level_is = ap (λ (s : SiteState). s.is_ahead) same ∙ level;
@@ -398,6 +417,7 @@ module _ (tells : Type 0) {P : Type 0} (state : P → PlantState) (site next : S
       here_left e = record {
         level = ap (λ (s : SiteState). s.level) e;
         controls = ap (λ (s : SiteState). s.controls) e;
+        table = in_rows_alone site.table next.table (told_rows site site.failed) (ap (λ (s : SiteState). s.table) e);
         rows = ap (λ (s : SiteState). s.told) e ∙ ap (λ (s : SiteState). told_rows site s.failed) (sym e);
         time = ap (λ (s : SiteState). s.time) e;
         level_is = ap (λ (s : SiteState). s.is_ahead) e;
@@ -410,6 +430,7 @@ module _ (tells : Type 0) {P : Type 0} (state : P → PlantState) (site next : S
       switched_left e = record {
         level = ap (λ (s : SiteState). s.level) e;
         controls = ap (λ (s : SiteState). s.controls) e;
+        table = in_rows_alone site.table next.table (told_rows site site.failed) (ap (λ (s : SiteState). s.table) e);
         rows = ap (λ (s : SiteState). s.told) e ∙ ap (λ (s : SiteState). told_rows site s.failed) (sym e);
         time = ap (λ (s : SiteState). s.time) e;
         level_is = ap (λ (s : SiteState). s.is_ahead) e;
@@ -422,6 +443,7 @@ module _ (tells : Type 0) {P : Type 0} (state : P → PlantState) (site next : S
       marked_left e = record {
         level = ap (λ (s : SiteState). s.level) e;
         controls = ap (λ (s : SiteState). s.controls) e;
+        table = in_rows_alone site.table next.table (told_rows site next.failed) (ap (λ (s : SiteState). s.table) e);
         rows = ap (λ (s : SiteState). s.told) e;
         time = ap (λ (s : SiteState). s.time) e;
         level_is = ap (λ (s : SiteState). s.is_ahead) e;
@@ -460,8 +482,8 @@ module _ (tells : Type 0) {P : Type 0} (state : P → PlantState) (site next : S
       Goes : RecordWay → Type 0
       Goes way = Begin (suspension_deeds way site site.time next.failed) → Do (suspension_deeds way site site.time next.failed) → SiteMoved tells site next (state was) (state is) result
 
-      by_record : Begin (Changed site.time (told_rows site next.failed) ∷ []) → Do (Changed site.time (told_rows site next.failed) ∷ []) → SiteMoved tells site next (state was) (state is) result
-      by_record begins does = tell_moved tells site next (state was) (state is) result apart idle fails later fewer_stand (Changed site.time (told_rows site next.failed)) refl refl refl (refl, told_fewer site next.failed, refl) (λ going answers. hits_made site.level answers site.time site.told next.failed) suspend_tells begins does
+      by_record : hit_now site.failed site.told ≢ [] → Begin (Changed site.time (told_rows site next.failed) ∷ []) → Do (Changed site.time (told_rows site next.failed) ∷ []) → SiteMoved tells site next (state was) (state is) result
+      by_record there begins does = tell_moved tells site next (state was) (state is) result apart idle fails later fewer_stand (Changed site.time (told_rows site next.failed)) refl refl refl (refl, told_fewer site next.failed, refl) (λ going answers. hits_made site.level answers site.time site.told next.failed (still_hit site.failed next.failed (state was).faults (state is).faults site.told fails there)) suspend_tells begins does
 
       by_mark : Begin (Marked site.at site.mark.ended (told_rows site next.failed) ∷ []) → Do (Marked site.at site.mark.ended (told_rows site next.failed) ∷ []) → SiteMoved tells site next (state was) (state is) result
       by_mark begins does = tell_moved tells site next (state was) (state is) result apart idle fails later fewer_stand (Marked site.at site.mark.ended (told_rows site next.failed)) refl refl refl (told_fewer site next.failed, refl) (λ going answers. mark_made site.level answers site.at site.mark.ended going site.time site.told next.failed) suspend_tells begins does
@@ -477,14 +499,15 @@ module _ (tells : Type 0) {P : Type 0} (state : P → PlantState) (site next : S
       by [] none = let n = ok.nothing none in stays result n.0 n.1 n.2
       by (d ∷ hits) some =
           let there : hit_now site.failed site.told ≢ [] = λ none. let clash : d ∷ hits ≡ [] = sym some ∙ none in cc clash in
-          by_ways Goes by_record by_record by_mark moments.way (subst Begin (some_deeds there) moments.begins) (subst Do (some_deeds there) moments.does)
+          by_ways Goes (by_record there) (by_record there) by_mark moments.way (subst Begin (some_deeds there) moments.begins) (subst Do (some_deeds there) moments.does)
 
-  pub suspend_works : HasStoreCause (state was).faults (state is).faults result → MoverWorks tells site next (state was) (state is) result
-  suspend_works cause = record {
+  pub suspend_works : HasStoreCause (state was).faults (state is).faults result → VolumesStay tells (state was) (state is) → MoverWorks tells site next (state was) (state is) result
+  suspend_works cause stay = record {
     others = works_lent_more tells (IsOfRecord site) (IsOfMover site) (state was) (state is) among works;
     cause = cause;
     failed = fails;
     rest = on_ok result (λ (t : Tells site next). works_less site next (tells_still t) (λ v is. worked_written site v (t.written v is)) (λ v is. absurd (true≢false (sym is ∙ ap (has_device v) t.idle)))) suspend_tells;
+    slots = slots_stay tells site next (state was) (state is) result stay (on_ok result (λ (t : Tells site next). slots_at_rest site next (tells_still t) t.idle) suspend_tells);
   }
     where
       among : (d : Device) → IsOfRecord site d → IsOfMover site d
@@ -506,6 +529,7 @@ module _ (tells : Type 0) {P : Type 0} (state : P → PlantState) (site next : S
   mark_tells = on_ok result (λ (e : next ≡ behind_mark ended (rows_at_mark site.level site next.failed) next.failed site). record {
     level = ap (λ (s : SiteState). s.level) e;
     controls = ap (λ (s : SiteState). s.controls) e;
+    table = in_rows_alone site.table next.table (told_rows site next.failed) (ap (λ (s : SiteState). s.table) e);
     rows = ap (λ (s : SiteState). s.told) e;
     time = ap (λ (s : SiteState). s.time) e;
     level_is = ap (λ (s : SiteState). s.is_ahead) e;
@@ -538,6 +562,7 @@ module _ (tells : Type 0) {P : Type 0} (state : P → PlantState) (site next : S
     cause = cause;
     failed = fails;
     rest = on_ok result (λ (t : Tells site next). works_less site next (tells_still t) (λ v is. worked_written site v (t.written v is)) (λ v is. absurd (true≢false (sym is ∙ ap (has_device v) t.idle)))) mark_tells;
+    slots = slots_stay tells site next (state was) (state is) result moments.volumes (on_ok result (λ (t : Tells site next). slots_at_rest site next (tells_still t) t.idle) mark_tells);
   }
     where
       among : (d : Device) → IsOfMark site d → IsOfMover site d

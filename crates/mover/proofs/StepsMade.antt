@@ -98,7 +98,7 @@ module _ (run : Run) (begun ended : Group) (log answers : List Answer) (fed : Is
   }
 
   made_step : (time : ℕ) (rows : List PairRow) (due : Due) (step : DeedOfChanges) → none_clash rows ≡ true → IsDeedMade run.level flag answers time rows due step → IsStep run.level (breaks_of run) (point_at flag time rows due) step
-  made_step _ _ _ _ apart (Suspends time rows failed) =
+  made_step _ _ _ _ apart (Suspends time rows failed some) =
       step_now run.level (breaks_of run) false (point_at flag time rows NoneDue) (Changed time (rows_with_hits run.level time failed rows)) (hit_changes time (hit_now failed rows)) refl (hits_are_changes run.level time (hit_now failed rows) rows)
       (hits_may_come run.level (breaks_of run) failed time time rows (omega arith)).0 (hits_now time (hit_now failed rows)) (hits_leave run.level time (hit_now failed rows))
   made_step _ _ _ _ apart (Marks time rows failed spot) =
@@ -107,10 +107,11 @@ module _ (run : Run) (begun ended : Group) (log answers : List Answer) (fed : Is
   made_step _ _ _ _ apart (MarksFirst time rows failed spot) =
       step_now run.level (breaks_of run) true (point_at flag time rows NoneDue) (Marked spot flag (rows_marked time (hit_now failed rows) rows)) (marked_changes time (hit_now failed rows)) refl (marks_are_changes run.level time (hit_now failed rows) rows)
       (marks_may_come run.level (breaks_of run) failed time time rows (omega arith)).0 (marks_now time (hit_now failed rows)) refl
-  made_step _ _ _ _ apart (Records time rows group failed shown up) = records_are_steps run (point_at flag time rows NoneDue) group failed (group_of time rows NoneDue group shown up) apart refl
-  made_step _ _ _ _ apart (RecordsBehind time rows group failed at marked shown up) =
-      let due = due_behind_mark run.level at marked in
-      behind_marks_are_steps run (point_at flag time rows due) marked at group failed (group_of time rows due group shown up) apart refl
+  made_step _ _ _ _ apart (Records time rows group failed shown up to_log) = records_are_steps run (point_at flag time rows NoneDue) group failed (group_of time rows NoneDue group shown up) apart refl
+  made_step _ _ _ _ apart (RecordsBehind time was group failed marked shown up to_log) =
+      let due = due_behind_mark run.level time marked in
+      let rows = rows_marked time marked was in
+      behind_marks_are_steps run (point_at flag time rows due) marked time group failed (group_of time rows due group shown up) apart refl
 
   -- So are all, and this is due at the end.
   pub made_are_steps : (time : ℕ) (rows : List PairRow) (due : Due) (steps : List DeedOfChanges) (last : Due) → none_clash rows ≡ true → AreMade run.level flag answers time rows due steps last

@@ -1,5 +1,5 @@
 -- Hits, and the counts that rose for them.
-use Rattle.std.proofs.Common.{◌≡◌, inl, inr, ℕ, zero, suc, ◌+◌, ◌≤◌, ◌<◌, Bool, true, false, not, cond, nat_eq, List, [], ◌∷◌, length, get_or, map, filter, Some, refl, sym, ap, subst, ◌∙◌, arith, true≢false, slice_get}
+use Rattle.std.proofs.Common.{◌≡◌, ◌≢◌, inl, inr, ℕ, zero, suc, ◌+◌, ◌≤◌, ◌<◌, Bool, true, false, not, cond, nat_eq, List, [], ◌∷◌, length, get_or, map, filter, Some, refl, sym, ap, subst, ◌∙◌, arith, true≢false, slice_get}
 use Rattle.std.proofs.lemmas.Bool.{and_from, and_parts, eq-eqb, eqb-true, or_cases, or_left, or_right}
 use Rattle.std.proofs.lemmas.Option.{same_Some}
 use Rattle.crash_plant.specs.declared.device.Device.{Device}
@@ -10,6 +10,7 @@ use Rattle.pair_table.specs.Devices.{is_among}
 use Rattle.record_rows.specs.Hits.{hit_now, is_device_suspended, is_down, is_hit_now}
 use Rattle.record_rows.specs.Told.{AreTold, IsTold}
 use Rattle.record_rows.proofs.Counting.{once}
+use Rattle.record_rows.proofs.Telling.{only_failed}
 use Rattle.site_store.specs.Causes.{FailByCounts}
 use Rattle.mover.specs.Moves.{most_faults}
 use Rattle.mover.proofs.SamePairs.{before}
@@ -78,6 +79,20 @@ pub flag_low : (flags : List Bool) (d : ℕ) → get_or flags d false ≡ true �
 flag_low [] d flag = absurd cc
 flag_low (f ∷ flags) zero flag = omega arith
 flag_low (f ∷ flags) (suc d) flag = let lt = flag_low flags d flag in omega (arith, lt)
+
+-- Jobs that failed stay failed.
+pub still_down : (a b : List Bool) (first last : Device → ℕ) → FailByCounts a b first last → (d : ℕ) → is_down a d ≡ true → is_down b d ≡ true
+still_down a b first last fails d down = (fails.alone d (flag_low a d down) down).0
+
+-- So rows that they hit are hit still.
+pub still_hit : (a b : List Bool) (first last : Device → ℕ) (rows : List PairRow) → FailByCounts a b first last → hit_now a rows ≢ [] → hit_now b rows ≢ []
+still_hit a b first last rows fails some none = by (hit_now a rows) refl
+  where
+    by : (hit : List ℕ) → hit_now a rows ≡ hit → ⊥
+    by [] e = some e
+    by (d ∷ hit) e =
+        let among : is_among d (hit_now a rows) ≡ true = ap (is_among d) e ∙ or_left (nat_eq d d) (is_among d hit) (eq-eqb d d refl) in
+        true≢false (sym (hit_by_others a b d rows among (still_down a b first last fails d (only_failed d a rows among))) ∙ ap (is_among d) none)
 
 -- Jobs that failed between two moments: each device that is hit by those that have failed then was hit before, or its count rose.
 module _ (a b : List Bool) (first last : Device → ℕ) (fails : FailByCounts a b first last) where

@@ -12,6 +12,7 @@ use Rattle.site_store.specs.Records.{IsStore}
 use Rattle.site_store.specs.Sites.{SiteState}
 use Rattle.site_store.proofs.LogFails.{fails_trans, none_fails}
 use Rattle.mover.specs.Moves.{IsOfMover, MoverWorks, is_worked_on}
+use Rattle.mover.proofs.InSlots.{slots_here, slots_then}
 use Rattle.mover.proofs.MovedOn.{on_ok}
 
 -- A cause behind a call that ended well is the cause of both.
@@ -34,6 +35,7 @@ module _ (tells : Type 0) (site mid after : SiteState) (old between new : PlantS
     cause = cause_then old.faults between.faults new.faults result first.cause then.cause;
     failed = fails_trans site.failed mid.failed after.failed old.faults between.faults new.faults first.failed then.failed;
     rest = on_ok result (λ (rest : (v : ℕ) → IsTrue (is_worked_on after v) → IsTrue (is_worked_on mid v)). λ v is. first.rest v (rest v is)) then.rest;
+    slots = slots_then tells site after old new result mid between first.others.site.volumes first.others.elapses then.others.elapses first.slots then.slots;
   }
     where
       wider : (d : Device) → IsOfMover mid d → IsOfMover site d
@@ -47,4 +49,5 @@ no_work tells site plant result works is = subst (λ (r : Result (Unit {0}) Stor
   cause = record { counts = record { fault = λ d none. cc none; others = λ d store none. refl }; memory = λ none. cc none };
   failed = none_fails site.failed plant.faults plant.faults (λ d. refl);
   rest = λ v is. is;
+  slots = slots_here tells site plant;
 })

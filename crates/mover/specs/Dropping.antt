@@ -1,16 +1,16 @@
 -- Volumes that are dropped because their rows were suspended, or were hit.
-use Rattle.std.specs.Prelude.{◌≡◌, ◌⊎◌, ℕ, suc, ◌<◌, not, if◌then◌else◌, List, [], ◌∷◌, ◌++◌, map, Bool, true, false, Option, Some, None, IsTrue, slice_get, slice_index_or}
+use Rattle.std.specs.Prelude.{◌≡◌, ℕ, suc, ◌<◌, ◌==◌, ◌&&◌, ◌||◌, not, if◌then◌else◌, List, [], ◌∷◌, ◌++◌, map, Bool, true, false, Option, Some, None, IsTrue, slice_get, slice_index_or}
 use Rattle.std.specs.List.{Contains}
 use Rattle.pair_table.specs.declared.row.PairRow.{PairRow}
 use Rattle.pair_table.specs.declared.row.PairState.{PairState}
 use Rattle.pair_table.specs.declared.row.PairState.TheVariants.{Pending, Copy, Duplex, Suspended}
 use Rattle.pair_table.specs.Rows.{is_suspended}
+use Rattle.record_rows.specs.Deeds.{Deed, rows_by_deed}
 use Rattle.record_rows.specs.Hits.{is_by_device, is_device_suspended}
 use Rattle.group_state.specs.Machine.{Call}
 use Rattle.group_state.specs.Machine.Call.{Drop}
 use Rattle.group_state.specs.Machine.Reply.{Made}
 use Rattle.group_state.specs.Runs.{Answer}
-use Rattle.fed_logs.specs.Moves.{HasRowIn}
 use Rattle.turn_group.specs.Calls.{MadeCall, as_answer}
 use Rattle.turn_group.specs.Notes.{KnownVolume, known_after}
 use Rattle.turn_group.specs.Seats.{MoverSeatState}
@@ -31,16 +31,22 @@ is_duplex_state (Suspended cause since) = false
 abbrev pub owes_hit : (was : PairState) → Option Bool
 owes_hit was = if is_device_suspended was then None else Some true
 
--- A row that is suspended for another reason owes all its tracks unless it was duplex. A duplex one owes those that change from then on.
-abbrev pub owes_suspended : (was : PairState) → Option Bool
-owes_suspended was = if is_suspended was then None else Some (not (is_duplex_state was))
+-- A row that is suspended for another reason owes only the tracks that change from then on if it stood duplex, and else all its tracks. One that
+-- was suspended before owes no more than it did.
+abbrev pub owes_suspended : (was : PairState) → (stood : Bool) → Option Bool
+owes_suspended was stood = if is_suspended was then None else Some (not stood)
+
+-- Whether the volume of a row that went from one state to another owes more than it did; and if it does, whether all its tracks. A row that isn't
+-- suspended owes no more.
+abbrev pub owes_through : (was is : PairState) → (stood : Bool) → Option Bool
+owes_through was Pending stood = None
+owes_through was Copy stood = None
+owes_through was Duplex stood = None
+owes_through was (Suspended cause since) stood = if is_by_device cause then owes_hit was else owes_suspended was stood
 
 -- Whether the volume of a row that goes to a state is dropped; and if it is, whether it owes all its tracks.
 abbrev pub owes_by : (was is : PairState) → Option Bool
-owes_by was Pending = None
-owes_by was Copy = None
-owes_by was Duplex = None
-owes_by was (Suspended cause since) = if is_by_device cause then owes_hit was else owes_suspended was
+owes_by was is = owes_through was is (is_duplex_state was)
 
 abbrev pub owes_since : Option PairState → PairState → Option Bool
 owes_since None is = None
@@ -90,13 +96,39 @@ Drops was rows = MakesDrops (drops_from 0 was rows)
 abbrev pub AreOfControls : (controls : ℕ) → List PairRow → Type 0
 AreOfControls n rows = (r : PairRow) → Contains rows r → r.control < n
 
--- ---- what is owed behind calls
+-- ---- what is owed behind calls and deeds
 
 abbrev pub IsDeviceSuspended : PairState → Type 0
 IsDeviceSuspended state = IsTrue (is_device_suspended state)
 
--- Each row that its device suspends was so before, or a call dropped its volume with all its tracks.
-abbrev pub OwesFailed : (rows next : List PairRow) → List Answer → Type 0
-OwesFailed rows next answers =
-    (k v : ℕ) → HasRowIn IsDeviceSuspended k v next
-    → HasRowIn IsDeviceSuspended k v rows ⊎ Contains answers (answer_of_drop (record { control = k; volume = v; all = true }))
+-- whether a call drops a volume; and if it does, whether with all its tracks
+abbrev pub owed_by_call : (control volume : ℕ) → Call → Option Bool
+owed_by_call k v (Drop j w all) = if j == k && w == v then Some all else None
+owed_by_call k v other = None
+
+-- All tracks are owed that one of two drops owes.
+abbrev pub owed_in_turn : (first later : Option Bool) → Option Bool
+owed_in_turn None later = later
+owed_in_turn (Some all) None = Some all
+owed_in_turn (Some all) (Some every) = Some (all || every)
+
+-- whether calls drop a volume; and if they do, whether one of them with all its tracks
+abbrev pub owed_by_calls : (control volume : ℕ) → List Answer → Option Bool
+owed_by_calls k v [] = None
+owed_by_calls k v (a ∷ answers) = owed_in_turn (owed_by_call k v a.call) (owed_by_calls k v answers)
+
+abbrev pub is_duplex_row : Option PairRow → Bool
+is_duplex_row None = false
+is_duplex_row (Some r) = is_duplex_state r.state
+
+-- whether the row in a place stood duplex: at first, or behind one of the deeds
+abbrev pub stood_duplex : (place : ℕ) → List PairRow → List Deed → Bool
+stood_duplex place rows [] = is_duplex_row (slice_get rows place)
+stood_duplex place rows (deed ∷ deeds) = is_duplex_row (slice_get rows place) || stood_duplex place (rows_by_deed deed) deeds
+
+-- By place, the drops of each row's volume are exactly those of what it owes more. A row that its own device suspends owes all its tracks. Another
+-- suspended row owes only the tracks that change from its suspension on if it stood duplex before, and else all its tracks.
+abbrev pub OwesExactly : (rows next : List PairRow) → List Answer → List Deed → Type 0
+OwesExactly rows next answers deeds =
+    (place : ℕ) (r s : PairRow) → slice_get rows place ≡ Some r → slice_get next place ≡ Some s
+    → owed_by_calls s.control s.volume answers ≡ owes_through r.state s.state (stood_duplex place rows deeds)

@@ -19,7 +19,7 @@ use Rattle.site_deeds.specs.Doing.{BeginsDeeds}
 use Rattle.site_deeds.specs.Exceptions.{Exceptions}
 use Rattle.fed_logs.specs.Deeds.{held_behind}
 use Rattle.fed_logs.specs.Feeds.{part_of_mover, part_of_reader, truth_of}
-use Rattle.fed_logs.specs.Laws.{ReportsBreak, is_limited}
+use Rattle.fed_logs.specs.Laws.{ReportsBreak}
 use Rattle.fed_logs.specs.Logs.{AreSized, AwaitsBreak, BeginsLog, HoldTruth, IsFedLog, Sizes, is_call_of_seat}
 use Rattle.fed_logs.specs.Moves.{MakesDeeds, Plans}
 use Rattle.fed_logs.specs.ShownBreaks.{BreaksAreToCome, BrokeAsTraces}
@@ -35,15 +35,17 @@ use Rattle.mover.specs.declared.ends.EpochEnd.{EpochEnd}
 use Rattle.mover.specs.declared.ends.EpochEnd.TheVariants as ends
 use Rattle.mover.specs.declared.lane.Lane.{Lane}
 use Rattle.mover.specs.Readers.{LaneReaderState, no_table}
-use Rattle.mover.specs.Dropping.{OwesFailed}
-use Rattle.mover.specs.Moves.{AreHitsCounted, Did, IsLeftBehind, KeepsAll, KnowsDuplex, MayMove, SessionGoesOn}
+use Rattle.mover.specs.Dropping.{OwesExactly}
+use Rattle.mover.specs.Moves.{AreHitsCounted, Did, InPlacesByDeeds, IsLeftBehind, KeepsAll, KeepsPair, KnowsDuplex, MayMove, SessionGoesOn}
+use Rattle.mover.specs.Groups.{is_at_limit}
+use Rattle.mover.specs.Numbers.{UsesNumbersOf}
 use Rattle.mover.specs.Steps.{AreMade}
 use Rattle.consistency.specs.Bears.{Run, breaks_of}
 use Rattle.session_points.specs.Leads.{Point}
 use Rattle.row_changes.specs.Changes.Due.{NoneDue}
 use Rattle.borne_deeds.specs.Points.{AreSteps, point_behind}
 use Rattle.borne_deeds.specs.Told.{CarriedAsLive, FailedAreOwed}
-use Rattle.mover.specs.Lanes.{HadBroken, HasFaultFrom, broken_by}
+use Rattle.mover.specs.Lanes.{HadBroken, HasFaultFrom, IsSameLane, broken_by}
 use Rattle.mover.specs.Rounds.{AreLanesOf}
 
 -- ---- before
@@ -97,25 +99,29 @@ LaneWent left faults run old new =
     IsSomeAnd old.reader (λ was. IsSomeAnd new.reader (λ is. ReadsOn (left old.source) (left new.source) was.feed is.feed run × HasFaultFrom was.feed.halted (faults old.source) (faults new.source) is.feed.halted))
 
 -- The calls of an epoch, in the order of their turns, are one run of the shared state, and the site's deeds are what was kept of the mover's.
---   limited: each form is up to the limit
+--   limited: each form takes the limit
 --   made: each deed is a record or a mark that tells failures, or the record of a group that a form showed, and at the end nothing is due
---   behind: after Ok the site is what the deeds leave
+--   pairs: each deed keeps each row's pair
+--   behind, owed: after Ok the site is what the deeds leave, and the volume of each row was dropped exactly for what it owes more
+--   numbers: numbers of records and of marks are used up by the forms of the run alone, and Spent comes only where they are near their end
 pub record EpochRun {S : Type 0} (left : S → Option (List ℕ)) (faults : S → ℕ) (limit : ℕ) (group : Group) (old new : List (Lane S)) (site after : SiteState) (was is : PlantState) (result : EpochEnd) : Type 0 where
   pub log : List Answer
   pub end : Group
   pub runs : Runs group log end
   pub seats : IsTrue (list_all is_call_of_seat log)
-  pub limited : IsTrue (list_all (is_limited limit) log)
+  pub limited : IsTrue (list_all (is_at_limit limit) log)
   pub ended : IfReached result (λ next. next ≡ end)
   pub lanes : (k : ℕ) (d : Lane S) → k < length old → LaneWent left faults (part_of_reader k log) (slice_index_or old k d) (slice_index_or new k d)
   pub steps : List DeedOfChanges
   pub changes : AreByChanges site.level site.time site.told steps
   pub made : site.mark.ended ≡ false → AreMade site.level false (part_of_mover log) site.time site.told NoneDue steps NoneDue
+  pub pairs : InPlacesByDeeds KeepsPair site.told (deeds_of steps)
   pub counted : AreHitsCounted steps was is
   pub makes : (done : Plans) → KnowsDuplex site.told done → MakesDeeds site.time site.told done (part_of_mover log) (deeds_of steps)
   pub all : OnOk (end_result result) ((done : Plans) → KnowsDuplex site.told done → KeepsAll site after done (part_of_mover log) (deeds_of steps))
   pub behind : OnOk (end_result result) (IsLeftBehind site after (deeds_of steps))
-  pub owed : OnOk (end_result result) (OwesFailed site.told after.told (part_of_mover log))
+  pub owed : OnOk (end_result result) (OwesExactly site.told after.told (part_of_mover log) (deeds_of steps))
+  pub numbers : UsesNumbersOf (part_of_mover log) site after (end_result result)
 
 -- At every moment the first of its deeds are seen, and at the limit all of them are done.
 pub record Shows (site after : SiteState) (steps : List DeedOfChanges) (was is : PlantState) (result : EpochEnd) : Type 0 where
@@ -192,6 +198,11 @@ pub record IsAtTime (limit : ℕ) (site after : SiteState) : Type 0 where
   pub pairs : InPlaces IsSamePair site.told after.told
   pub going : SessionGoesOn site after
 
+-- Each lane's reader stays one of its control and of its trace's volumes.
+pub record AreSameLanes {S : Type 0} (old new : List (Lane S)) : Type 0 where
+  pub many : length new ≡ length old
+  pub each : (k : ℕ) (d : Lane S) → k < length old → IsSomeAnd (slice_index_or old k d).reader (λ was. IsSomeAnd (slice_index_or new k d).reader (λ is. IsSameLane was.feed is.feed))
+
 -- The last cut and the site's time are the limit, and no row is pending or copying. What the next epoch asks holds.
 --   at_limit: all that the traces have up to the limit was joined
 --   broken: the lanes break as their traces do, if they did so up to an earlier limit. A line's time is at least 1
@@ -202,6 +213,7 @@ pub record ReachedBy {S : Type 0} (tells : Type 0) (left : S → Option (List �
   pub time : IsAtTime limit site after
   pub settled : IsTrue (list_all (λ r. is_settled r.state) after.told)
   pub lanes : AreLanesOf next limit new
+  pub same : AreSameLanes old new
   pub at_limit : (k : ℕ) (d : Lane S) → k < length new → IsSomeAnd (slice_index_or new k d).reader (IsAtLimit limit)
   pub begins : MayBeginEpoch tells limit next after is
   pub broken : (traces : List Trace) (before : ℕ) → 0 < limit → before ≤ limit → AllTurnOut left traces old new → LanesBrokeAs before traces old → LanesBrokeAs limit traces new

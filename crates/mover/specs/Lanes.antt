@@ -1,5 +1,5 @@
 -- Lanes: what a reader is while it sits at a table, and what its part of a round does.
-use Rattle.std.specs.Prelude.{◌≡◌, ◌⊎◌, ◌<◌, ◌≤◌, ℕ, List, [], ◌∷◌, ◌++◌, length, map, Option, Some, None, IsSomeAnd, IsTrue, is_some, slice_get, slice_set, slice_index_or}
+use Rattle.std.specs.Prelude.{◌≡◌, ◌⊎◌, ◌<◌, ◌≤◌, ℕ, List, [], ◌∷◌, ◌++◌, length, map, Option, Some, None, false, IsSomeAnd, IsTrue, is_some, slice_get, slice_set, slice_index_or}
 use Rattle.std.specs.List.{list_all}
 use Rattle.write_trace.specs.declared.header.VolumeHead.{VolumeHead}
 use Rattle.sidefile.specs.declared.hand.Halt.{Halt}
@@ -190,12 +190,13 @@ pub record DidAllParts {S : Type 0} (old new : List (Lane S)) : Type 0 where
 -- ---- before a table is made
 
 -- What an epoch needs of the reader of a control: it stands as the control does in the shared state, whose volumes have the tracks that
--- the header of its trace gives them.
+-- the header of its trace gives them. The control tells exactly if the reader hasn't broken.
 pub record IsReaderOf (first : Group) (k limit : ℕ) (r : LaneReaderState) : Type 0 where
   pub control : r.feed.side.control ≡ k
   pub sized : IsOfHeader (heads_of r.feed) (control_at first k)
   pub floor : r.feed.halted ≡ None → (control_at first k).floor.0 ≡ r.feed.primary.time
   pub telling : r.feed.halted ≡ None → IsTrue (is_telling (control_at first k).phase)
+  pub broken : (cause : Cause) (upto : Stamp) → r.feed.halted ≡ Some (halts.Broken cause upto) → is_telling (control_at first k).phase ≡ false
   pub within : r.feed.side.upto ≤ limit
   pub goes : MayGoOn r.feed
 

@@ -1,7 +1,12 @@
+pub mod Groups
+pub mod Numbers
 pub mod Steps
+pub mod Slots
 pub mod Moves
 pub mod Dropping
 pub mod Readers
 pub mod Lanes
 pub mod Rounds
 pub mod Epochs
+pub mod Bearing
+pub mod TurningOut

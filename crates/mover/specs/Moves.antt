@@ -1,5 +1,5 @@
 -- What the mover does: the deeds of its site, kept of its calls, and what it knows of rows.
-use Rattle.std.specs.Prelude.{◌≡◌, ◌⊎◌, ℕ, ◌+◌, ◌-◌, ◌*◌, ◌^◌, ◌<◌, ◌≤◌, ◌==◌, ◌&&◌, ◌||◌, not, nat_lt, if◌then◌else◌, List, [], ◌∷◌, ◌++◌, length, map, Bool, true, false, find, slice_index_or, Option, Some, None, Result, OnOk, IsSomeAnd, IsTrue}
+use Rattle.std.specs.Prelude.{◌≡◌, ◌⊎◌, ℕ, ◌+◌, ◌-◌, ◌*◌, ◌^◌, ◌<◌, ◌≤◌, ◌==◌, ◌&&◌, ◌||◌, not, if◌then◌else◌, List, [], ◌∷◌, ◌++◌, length, map, Bool, true, false, find, slice_index_or, Option, Some, None, Result, OnOk, IsSomeAnd, IsTrue}
 use Rattle.std.specs.List.{Contains, list_all, list_any}
 use Rattle.tod_stamp.specs.declared.limits.TheConstants.{TRACKS_OF_CYLINDER}
 use Rattle.tod_stamp.specs.declared.stamp.Stamp.{Stamp}
@@ -8,22 +8,20 @@ use Rattle.crash_plant.specs.declared.device.Device.{Device}
 use Rattle.crash_plant.specs.declared.device.Device.TheVariants.{Volume}
 use Rattle.crash_plant.specs.Moments.{PlantState}
 use Rattle.pair_table.specs.declared.row.PairRow.{PairRow}
+use Rattle.pair_table.specs.declared.row.PairState.TheVariants.{Duplex}
 use Rattle.pair_table.specs.Devices.{is_among}
 use Rattle.pair_table.specs.Rows.{is_suspended}
-use Rattle.pair_table.specs.Tables.{in_state}
-use Rattle.pending_queue.specs.Groups.{FormedGroup}
-use Rattle.record_rows.specs.GroupRows.{is_shown_done}
+use Rattle.pair_table.specs.Tables.{in_state, with_rows}
 use Rattle.group_state.specs.Groups.{Shown}
 use Rattle.group_state.specs.Runs.{Answer, shown_by}
-use Rattle.record_rows.specs.Deeds.{Deed, rows_behind, time_meant_behind}
-use Rattle.record_rows.specs.Hits.{hit_now}
+use Rattle.record_rows.specs.Deeds.{Deed, rows_behind, rows_by_deed, time_meant_behind}
+use Rattle.record_rows.specs.Hits.{hit_now, is_device_suspended}
 use Rattle.record_rows.specs.Told.{InPlaces}
 use Rattle.row_changes.specs.Changes.Due.{NoneDue}
-use Rattle.row_changes.specs.Toward.{hit_count, is_settled}
+use Rattle.row_changes.specs.Toward.{hit_count}
 use Rattle.site_deeds.specs.Changing.{AreByChanges, DeedOfChanges, changes_of, deeds_of}
 use Rattle.site_deeds.specs.Doing.{BeginsDeeds, DoesDeeds}
 use Rattle.site_deeds.specs.Exceptions.{Exceptions, excepted_behind}
-use Rattle.fed_logs.specs.Laws.{is_limited}
 use Rattle.fed_logs.specs.Moves.{AreQuiet, HasRowIn, IsDuplex, Plans, MakesDeeds, MakesAllDeeds}
 use Rattle.turn_group.specs.Calls.{MadeCall, as_answer}
 use Rattle.turn_group.specs.Notes.{KnownVolume}
@@ -36,7 +34,9 @@ use Rattle.site_store.specs.Jobs.{has_device}
 use Rattle.site_store.specs.Records.{IsStore}
 use Rattle.site_store.specs.Sites.{SiteState, is_written}
 use Rattle.site_store.specs.Standing.{MayRecord, SiteStands, StandsFast}
-use Rattle.mover.specs.Dropping.{AreOfControls, OwesFailed}
+use Rattle.mover.specs.Dropping.{AreOfControls, OwesExactly}
+use Rattle.mover.specs.Groups.{is_at_limit}
+use Rattle.mover.specs.Slots.{WritesSlots}
 use Rattle.mover.specs.Steps.{AreMade}
 
 -- ---- rows and volumes
@@ -52,14 +52,27 @@ row_of_volume k v rows = find (is_row_of_number k v) rows
 abbrev pub IsOfLive : (control : ℕ) → KnownVolume → PairRow → Type 0
 IsOfLive k u r = (is_suspended r.state ≡ false) × (u.tracks ≡ TRACKS_OF_CYLINDER * r.cylinders)
 
--- The pair of a row stays, and it isn't suspended only where it wasn't before.
+-- The pair of a row stays. A suspended row stays as it is unless its own device suspends it. A duplex row stays duplex unless it is suspended.
 pub record KeepsPair (r s : PairRow) : Type 0 where
   pub same : s ≡ in_state s.state r
   pub live : is_suspended s.state ≡ false → is_suspended r.state ≡ false
+  pub gone : IsTrue (is_suspended r.state) → (s.state ≡ r.state) ⊎ IsTrue (is_device_suspended s.state)
+  pub duplex : r.state ≡ Duplex → is_suspended s.state ≡ false → s.state ≡ Duplex
 
 -- So it is of the row in each place.
 abbrev pub KeepPairs : (rows next : List PairRow) → Type 0
 KeepPairs = InPlaces KeepsPair
+
+-- The pair of a row stays, and its state too unless the row is suspended: by its own device, if it was suspended before.
+pub record Fades (r s : PairRow) : Type 0 where
+  pub same : s ≡ in_state s.state r
+  pub fades : (s.state ≡ r.state) ⊎ IsTrue (is_suspended s.state)
+  pub gone : IsTrue (is_suspended r.state) → (s.state ≡ r.state) ⊎ IsTrue (is_device_suspended s.state)
+
+-- A relation holds between each row before a deed and the one in its place behind it, for each of these deeds.
+abbrev pub InPlacesByDeeds : (is : PairRow → PairRow → Type 0) → List PairRow → List Deed → Type 0
+InPlacesByDeeds is rows [] = Unit {0}
+InPlacesByDeeds is rows (deed ∷ deeds) = InPlaces is rows (rows_by_deed deed) × InPlacesByDeeds is (rows_by_deed deed) deeds
 
 -- the volumes of a control that are known
 abbrev pub known_at_control : (control : ℕ) → List (List KnownVolume) → List KnownVolume
@@ -87,21 +100,6 @@ pub record IsInStep (last time : ℕ) (rows : List PairRow) : Type 0 where
   pub up : last ≤ time
   pub same : (rows ≡ []) ⊎ (last ≡ time)
 
--- ---- groups
-
--- A row that is pending or copying becomes duplex with a group.
-abbrev pub matures : FormedGroup → PairRow → Bool
-matures group r = not (is_settled r.state) && is_shown_done group r
-
-abbrev pub are_none : {A : Type 0} → List A → Bool
-are_none [] = true
-are_none (x ∷ xs) = false
-
--- A group is logged where its cut is above the time that is meant; at that time where it has an entry or a break, or makes a pair duplex.
-abbrev pub is_to_log : FormedGroup → (time : ℕ) → List PairRow → Bool
-is_to_log group time rows =
-    if group.cut.0 == time then not (are_none group.entries && are_none group.breaks) || list_any (matures group) rows else nat_lt time group.cut.0
-
 -- ---- the mover's seat
 
 -- It stays at its table, with the same controls.
@@ -111,9 +109,9 @@ pub record IsStillAt (old new : MoverSeatState) : Type 0 where
   pub all : new.seats ≡ old.seats
   pub controls : length new.known ≡ length old.known
 
--- If no form went beyond a limit before, none has then.
+-- If each form took a limit before, each has then.
 abbrev pub KeepsLimit : (limit : ℕ) → (seat next : MoverSeatState) → Type 0
-KeepsLimit limit seat next = IsTrue (list_all (is_limited limit) (map as_answer seat.calls)) → IsTrue (list_all (is_limited limit) (map as_answer next.calls))
+KeepsLimit limit seat next = IsTrue (list_all (is_at_limit limit) (map as_answer seat.calls)) → IsTrue (list_all (is_at_limit limit) (map as_answer next.calls))
 
 -- ---- when the mover may go on
 
@@ -143,10 +141,11 @@ SettlesFor tells seat next site after old new result = (limit : ℕ) → MaySett
 
 -- ---- deeds
 
--- What is meant of a site behind calls is what deeds leave.
+-- What is meant of a site behind calls is what deeds leave. Its table is another in its rows alone.
 pub record IsLeftBehind (site next : SiteState) (deeds : List Deed) : Type 0 where
   pub level : next.level ≡ site.level
   pub controls : next.controls ≡ site.controls
+  pub table : next.table ≡ with_rows site.table next.table.rows
   pub rows : next.told ≡ rows_behind deeds site.told
   pub time : next.time ≡ time_meant_behind deeds site.time
 
@@ -213,7 +212,8 @@ AreHitsCounted steps old new = (d : ℕ) → new.faults (Volume d) < most_faults
 --   changes: each row is changed at the time that is meant, if each break that a form showed is
 --   made: each deed is a record or a mark that tells failures, or the record of a group that a form showed, and at the end nothing is due
 --   going: the session goes on by the mark
---   behind, owed: after Ok the site is what the deeds leave, and the volume of each row that was hit owes all its tracks
+--   pairs: each deed keeps each row's pair
+--   behind, owed: after Ok the site is what the deeds leave, and the volume of each row was dropped exactly for what it owes more
 --   begins: at every moment the first of the deeds are seen, from each track that isn't excepted
 --   did: after Ok all of them are done
 pub record Moved (tells : Type 0) (seat next : MoverSeatState) (site after : SiteState) (old new : PlantState) (result : Result (Unit {0}) StoreError) : Type 0 where
@@ -223,11 +223,12 @@ pub record Moved (tells : Type 0) (seat next : MoverSeatState) (site after : Sit
   pub changes : IsTrue (are_shown_at_cuts (map as_answer gained)) → AreByChanges site.level site.time site.told steps
   pub made : site.mark.ended ≡ false → AreMade site.level false (map as_answer gained) site.time site.told NoneDue steps NoneDue
   pub going : OnOk result (SessionGoesOn site after)
+  pub pairs : InPlacesByDeeds KeepsPair site.told (deeds_of steps)
   pub counted : AreHitsCounted steps old new
   pub makes : Makes site (map as_answer gained) (deeds_of steps)
   pub all : OnOk result (MakesAll site after (map as_answer gained) (deeds_of steps))
   pub behind : OnOk result (IsLeftBehind site after (deeds_of steps))
-  pub owed : OnOk result (OwesFailed site.told after.told (map as_answer gained))
+  pub owed : OnOk result (OwesExactly site.told after.told (map as_answer gained) (deeds_of steps))
   pub begins : tells → BeginsAll site (deeds_of steps) old new
   pub did : tells → OnOk result (DidAll site after (deeds_of steps) old new)
 
@@ -255,6 +256,7 @@ pub record SiteMoved (tells : Type 0) (site after : SiteState) (old new : PlantS
   pub changes : AreByChanges site.level site.time site.told steps
   pub made : site.mark.ended ≡ false → (answers : List Answer) → AreMade site.level false answers site.time site.told NoneDue steps NoneDue
   pub going : OnOk result (SessionGoesOn site after)
+  pub fades : InPlacesByDeeds Fades site.told (deeds_of steps)
   pub later : (d : ℕ) → old.faults (Volume d) ≤ new.faults (Volume d)
   pub counted : AreHitsToldBy site steps none_untold old new
   pub counted_all : OnOk result (AreHitsToldBy site steps (untold_hits after) old new)
@@ -286,3 +288,5 @@ pub record MoverWorks (tells : Type 0) (site after : SiteState) (old new : Plant
   pub failed : FailByCounts site.failed after.failed old.faults new.faults
   -- It works on no other volume from then on.
   pub rest : OnOk result ((v : ℕ) → IsTrue (is_worked_on after v) → IsTrue (is_worked_on site v))
+  -- Of volumes it writes only slots: those of tracks of rows that aren't suspended, and of items that waited at first.
+  pub slots : WritesSlots tells site after old new result

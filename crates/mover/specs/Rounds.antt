@@ -16,6 +16,7 @@ use Rattle.mover.specs.declared.ends.RoundsEnd.TheVariants as ends
 use Rattle.mover.specs.declared.lane.Lane.{Lane}
 use Rattle.mover.specs.Readers.{LaneReaderState}
 use Rattle.mover.specs.Moves.{IsStillAt, KeepsLimit, Moved, MoverWorks}
+use Rattle.mover.specs.Numbers.{UsesNumbers}
 use Rattle.mover.specs.Lanes.{AllLanesRead, BreaksInRound, HasFaultFrom, IsReaderOf, IsSameLane, StandsLast}
 
 -- ---- before
@@ -59,13 +60,14 @@ pub record HasReached {S : Type 0} (limit : ℕ) (lanes : List (Lane S)) (seat :
   pub done : (k : ℕ) (d : Lane S) → k < length lanes → IsSomeAnd (slice_index_or lanes k d).reader IsDone
 
 -- Rounds, however many: each lane's reader did its parts and still sits, and the mover moved and stays at its table.
---   limited: no form went beyond the limit, if none had before
+--   limited: each form took the limit, if each had before
 pub record DoesRounds {S : Type 0} (tells : Type 0) (left : S → Option (List ℕ)) (faults : S → ℕ) (at : TurnState) (limit : ℕ) (lanes after : List (Lane S)) (seat next : MoverSeatState) (site then : SiteState) (old new : PlantState) (result : Result (Unit {0}) StoreError) : Type 0 where
   pub read : AllLanesRead left faults at limit lanes after
   pub moved : Moved tells seat next site then old new result
   pub limited : KeepsLimit limit seat next
   pub still : IsStillAt seat next
   pub works : MoverWorks tells site then old new result
+  pub numbers : UsesNumbers seat next site then result
 
 -- how the site's calls ended: well, but for an error that is answered
 abbrev pub store_result : RoundsEnd → Result (Unit {0}) StoreError

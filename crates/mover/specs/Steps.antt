@@ -1,5 +1,5 @@
 -- What each deed of the mover's work is, with its changes of rows.
-use Rattle.std.specs.Prelude.{◌≡◌, ℕ, ◌≤◌, List, [], ◌∷◌, Bool}
+use Rattle.std.specs.Prelude.{◌≡◌, ◌≢◌, ℕ, ◌≤◌, List, [], ◌∷◌, Bool, IsTrue}
 use Rattle.pair_table.specs.declared.level.Level.{Level}
 use Rattle.pair_table.specs.declared.row.PairRow.{PairRow}
 use Rattle.crash_plant.specs.declared.spot.Spot.{Spot}
@@ -15,26 +15,33 @@ use Rattle.record_rows.specs.Records.{changes_behind_mark, record_changes, rows_
 use Rattle.record_rows.specs.Told.{due_after_changes}
 use Rattle.site_deeds.specs.Changing.{DeedOfChanges}
 use Rattle.fed_logs.specs.Laws.{WasShown}
+use Rattle.mover.specs.Groups.{is_to_log}
+
+-- the record of a group behind a mark with these rows, in which these devices were hit
+abbrev pub record_behind_mark : Level → (marked : List ℕ) → FormedGroup → (failed : List Bool) → List PairRow → DeedOfChanges
+record_behind_mark level marked group failed rows =
+    record { deed = Logged group.cut.0 group.entries (rows_behind_mark level marked group failed rows); changes = changes_behind_mark level marked group failed rows }
 
 -- A deed of the mover's, from a time, from rows and from what is due. The failed jobs are those that are known when it is done. Marks leave whether
 -- the session has ended.
---   Suspends: a record of the rows that failures suspend
+--   Suspends: a record of the rows that failures suspend, of which there are some
 --   Marks: a mark, with those suspensions
 --   MarksFirst: a mark that a record needs first, with hits. What these reach is due with the record
---   Records: the record of a group that a form showed, with what the group and the failures make of the rows
---   RecordsBehind: the same behind a mark that was made first, in which these devices were hit
+--   Records: the record of a group that a form showed and that is to be logged, with what the group and the failures make of the rows
+--   RecordsBehind: the same behind a mark that was made first, in which these devices were hit. The group is to be logged by the rows before it
 pub data IsDeedMade (level : Level) (flag : Bool) (answers : List Answer) : (time : ℕ) → List PairRow → Due → DeedOfChanges → Type 0 where
-  Suspends : (time : ℕ) (rows : List PairRow) (failed : List Bool)
+  Suspends : (time : ℕ) (rows : List PairRow) (failed : List Bool) → hit_now failed rows ≢ []
       → IsDeedMade level flag answers time rows NoneDue (record { deed = Changed time (rows_with_hits level time failed rows); changes = hit_changes time (hit_now failed rows) })
   Marks : (time : ℕ) (rows : List PairRow) (failed : List Bool) (spot : Spot)
       → IsDeedMade level flag answers time rows NoneDue (record { deed = Marked spot flag (rows_with_hits level time failed rows); changes = hit_changes time (hit_now failed rows) })
   MarksFirst : (time : ℕ) (rows : List PairRow) (failed : List Bool) (spot : Spot)
       → IsDeedMade level flag answers time rows NoneDue (record { deed = Marked spot flag (rows_marked time (hit_now failed rows) rows); changes = marked_changes time (hit_now failed rows) })
-  Records : (time : ℕ) (rows : List PairRow) (group : FormedGroup) (failed : List Bool) → WasShown answers (shown_in group) → time ≤ group.cut.0
+  Records : (time : ℕ) (rows : List PairRow) (group : FormedGroup) (failed : List Bool)
+      → WasShown answers (shown_in group) → time ≤ group.cut.0 → IsTrue (is_to_log group time rows)
       → IsDeedMade level flag answers time rows NoneDue (record { deed = Logged group.cut.0 group.entries (rows_with_record level group failed rows); changes = record_changes group failed rows })
-  RecordsBehind : (time : ℕ) (rows : List PairRow) (group : FormedGroup) (failed : List Bool) (marked_at : ℕ) (marked : List ℕ) → WasShown answers (shown_in group) → time ≤ group.cut.0
-      → IsDeedMade level flag answers time rows (due_behind_mark level marked_at marked)
-      (record { deed = Logged group.cut.0 group.entries (rows_behind_mark level marked group failed rows); changes = changes_behind_mark level marked group failed rows })
+  RecordsBehind : (time : ℕ) (was : List PairRow) (group : FormedGroup) (failed : List Bool) (marked : List ℕ)
+      → WasShown answers (shown_in group) → time ≤ group.cut.0 → IsTrue (is_to_log group time was)
+      → IsDeedMade level flag answers time (rows_marked time marked was) (due_behind_mark level time marked) (record_behind_mark level marked group failed (rows_marked time marked was))
 
 -- So is each of these deeds, one behind the other. This is due at the end.
 abbrev pub AreMade : Level → (flag : Bool) → List Answer → (time : ℕ) → List PairRow → Due → List DeedOfChanges → (last : Due) → Type 0

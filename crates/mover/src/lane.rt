@@ -31,9 +31,10 @@ impl<S> Lane<S> {
         }
     }
 
-    /// Gives the lane its reader. The sidefile's reader was started on the lane's source, and the primary was made from the header
-    /// that came with it. The sidefile may have broken; it didn't want memory.
+    /// Gives the lane its reader, once. The sidefile's reader was started on the lane's source, and the primary was made from the
+    /// header that came with it. The sidefile may have broken; it didn't want memory.
     pub fn open(&mut self, alloc: Global, side: Sidefile, primary: Primary) -> Result<(), NoMemory>
+        requires closed { self.old.reader ≡ None }
         requires usable { side.halted ≡ Some halts.NoMemory → ⊥ }
         requires volumes { primary.volumes ≡ side.reader.volumes }
         requires even { primary.time ≡ side.upto }

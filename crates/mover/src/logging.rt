@@ -4,7 +4,9 @@ ghost use Rattle.std.specs.Prelude.{◌≡◌, ◌≤◌, ◌&&◌, ◌||◌, no
 ghost use Rattle.std.specs.List.{list_any};
 ghost use Rattle.record_rows.specs.GroupRows.{is_shown_done};
 ghost use Rattle.row_changes.specs.Toward.{is_settled};
-ghost use Rattle.mover.specs.Moves.{IsStillAt, KeepsLimit, MayMove, MaySettle, Moved, MoverWorks, is_to_log, matures};
+ghost use Rattle.mover.specs.Groups.{is_to_log, matures};
+ghost use Rattle.mover.specs.Moves.{IsStillAt, KeepsLimit, MayMove, MaySettle, Moved, MoverWorks};
+ghost use Rattle.mover.specs.Numbers.{FormsUse};
 
 use crate::settling::{drop_suspended, states_of};
 use crash_plant::Plant;
@@ -83,6 +85,7 @@ pub(crate) fn log_formed<W: Wait, P: Plant>(
     ensures room { formed.new.controls ≡ formed.old.controls }
     ensures seat { IsStillAt seat.old seat.new }
     ensures works { MoverWorks P.tells site.old site.new (P.state plant.old) (P.state plant.new) result }
+    ensures numbers { FormsUse 1 2 1 seat.old seat.new site.old site.new result }
 {
     let _ = group.form(rt, seat, limit, formed);
     if !is_logged(formed, site.time(), site.table()) {

@@ -2,6 +2,7 @@
 
 ghost use Rattle.std.specs.Prelude.{◌≡◌, length, OnOk};
 ghost use Rattle.mover.specs.Moves.{IsStillAt, KeepsLimit, MayMove, Moved, MoverWorks};
+ghost use Rattle.mover.specs.Numbers.{UsesNumbers};
 
 use crate::logging::log_formed;
 use crate::settling::settle;
@@ -36,6 +37,7 @@ pub(crate) fn move_once<R: Threads + Wait + Sync, P: Plant>(
     ensures room { formed.new.controls ≡ formed.old.controls }
     ensures seat { IsStillAt seat.old seat.new }
     ensures works { MoverWorks P.tells site.old site.new (P.state plant.old) (P.state plant.new) result }
+    ensures numbers { UsesNumbers seat.old seat.new site.old site.new result }
 {
     log_formed(rt, group, seat, limit, formed, site, plant)?;
     settle(rt, group, seat, site, plant)

@@ -4,13 +4,14 @@ ghost use Rattle.std.specs.Prelude.{◌≡◌, ◌<◌, ◌≤◌, ℕ, All, Ok,
 ghost use Rattle.tod_stamp.specs.declared.limits.TheConstants.{MOST_CONTROLS};
 ghost use Rattle.std.specs.List.{list_all};
 ghost use Rattle.std.specs.Thread.{IsSync};
-ghost use Rattle.fed_logs.specs.Laws.{is_limited};
 ghost use Rattle.turn_group.specs.Calls.{as_answer};
 ghost use Rattle.turn_group.specs.Seats.{TurnState};
 ghost use Rattle.row_changes.specs.Toward.{is_settled};
 ghost use Rattle.mover.specs.declared.ends.RoundsEnd.TheVariants as ends;
 ghost use Rattle.mover.specs.Lanes.{IsLaneSeated, MayGoOn, MayLaneRead};
+ghost use Rattle.mover.specs.Groups.{is_at_limit};
 ghost use Rattle.mover.specs.Moves.{MayMove, Moved, MoverWorks};
+ghost use Rattle.mover.specs.Numbers.{UsesNumbers};
 ghost use Rattle.mover.specs.Rounds.{AllRead, SeatsAreBack, AreLanesOf, AreNewSeats, HasReached, IsDone, DoesRounds, store_result};
 
 use crate::ends::RoundsEnd;
@@ -205,9 +206,10 @@ pub fn rounds<R: Threads + Wait + Sync, S: Source + Send, P: Plant, G: Gate + Sy
     // Whatever it answers.
     ensures lanes { AllRead S.left S.faults limit.0 seats.new lanes.old lanes.new }
     ensures moved { Moved P.tells seat.old seat.new site.old site.new (P.state plant.old) (P.state plant.new) (store_result result) }
-    ensures limited { IsTrue (list_all (is_limited limit.0) (map as_answer seat.new.calls)) }
+    ensures limited { IsTrue (list_all (is_at_limit limit.0) (map as_answer seat.new.calls)) }
     ensures seats { SeatsAreBack group.now seat.new seats.new }
     ensures works { MoverWorks P.tells site.old site.new (P.state plant.old) (P.state plant.new) (store_result result) }
+    ensures numbers { UsesNumbers seat.old seat.new site.old site.new (store_result result) }
     // At the limit.
     ensures reached { result ≡ ends.Reached → HasReached limit.0 lanes.new seat.new site.new }
     ensures may { result ≡ ends.Reached → MayMove P.tells limit.0 seat.new site.new (P.state plant.new) }

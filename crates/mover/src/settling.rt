@@ -8,6 +8,7 @@ ghost use Rattle.record_rows.specs.Hits.{hit_now, is_device_suspended};
 ghost use Rattle.site_store.specs.Standing.{MayRecord, StandsFast};
 ghost use Rattle.mover.specs.Dropping.{AreOfControls, Drops, MakesDrops, are_states_of, drop_of, owes_by, owes_since};
 ghost use Rattle.mover.specs.Moves.{IsStillAt, KeepsLimit, MaySettle, Moved, MoverWorks, SettlesFor, SiteMoved};
+ghost use Rattle.mover.specs.Numbers.{FormsUse, UsesUpTo};
 
 use crash_plant::Plant;
 use pair_table::{MOST_ROWS, PairRow, PairState, PairTable, SuspendCause};
@@ -135,6 +136,7 @@ fn keep<R: Threads + Sync, P: Plant>(
     ensures rests { OnOk result (MayRecord P.tells site.new (P.state plant.new)) }
     ensures moved { SiteMoved P.tells site.old site.new (P.state plant.old) (P.state plant.new) result }
     ensures works { MoverWorks P.tells site.old site.new (P.state plant.old) (P.state plant.new) result }
+    ensures numbers { UsesUpTo 2 2 site.old site.new result }
 {
     site.apply(rt, plant);
     let time = site.time();
@@ -161,6 +163,7 @@ pub(crate) fn settle<R: Threads + Wait + Sync, P: Plant>(
     ensures limited { (limit : ℕ) → KeepsLimit limit seat.old seat.new }
     ensures seat { IsStillAt seat.old seat.new }
     ensures works { MoverWorks P.tells site.old site.new (P.state plant.old) (P.state plant.new) result }
+    ensures numbers { FormsUse 0 2 2 seat.old seat.new site.old site.new result }
 {
     let was = states_of(site.table());
     keep(rt, site, plant)?;

@@ -10,11 +10,13 @@ use Rattle.group_state.specs.Groups.{shown_in}
 use Rattle.site_store.specs.declared.store_error.StoreError.{StoreError}
 use Rattle.site_store.specs.Logging.{IsOfSomeRow}
 use Rattle.mover.specs.Dropping.{AreOfControls, Drops, drops_from}
-use Rattle.mover.specs.Moves.{IsOfMover, Moved, MoverWorks, is_to_log}
+use Rattle.mover.specs.Groups.{is_to_log}
+use Rattle.mover.specs.Moves.{IsOfMover, Moved, MoverWorks}
 use Rattle.mover.proofs.DropMade.{stays_then}
 use Rattle.mover.proofs.LogMoves.{entries_of_rows, log_works}
 use Rattle.mover.proofs.Limits.{drops_keep_limit, form_keeps_limit}
-use Rattle.mover.proofs.MoverCalls.{controls_still, forms_of, log_fails, log_level, log_may, log_moved, log_rest, log_still, logged_up, on_err, states_told, stays_formed, table_rows, unlogged_knows, unlogged_moved}
+use Rattle.mover.proofs.MoverCalls.{controls_still, forms_of, log_fails, log_level, log_may, log_moved, log_rest, log_slots, log_still, logged_up, on_err, states_told, stays_formed, table_rows, unlogged_knows, unlogged_moved}
+use Rattle.mover.proofs.Numbers.{drops_use, form_uses, log_uses, unlogged_uses, uses_as}
 use Rattle.mover.proofs.WorkedOn.{no_work}
 use Rattle.mover.proofs.logging.log_formed.Goals as goal
 
@@ -44,6 +46,7 @@ returns-then-not-is_logged g c =
       room = c.form.ensures.room;
       seat = stays_formed c.args.limit (form_reply c.form.result (shown_in group)) seat turn c.form.ensures.called;
       works = no_work tells site plant (Ok tt) (lent_of_works tells (IsOfMover site) plant plant (works_on_here tells (IsOfMover site) plant)) refl;
+      numbers = unlogged_uses c.args.limit c.form.result group seat turn site f;
     }
 
 pub log-requires-clause-may : goal.log-requires-clause-may
@@ -80,8 +83,8 @@ returns-in_err-log g c =
     let l = c.log.ensures in
     let error = c.in_err-log.field-0.0 in
     let same : c.log.result ≡ c.from_residual.result = search rules in
-    let moved = log_fails tells c.args.limit c.form.result group seat turn site next old new c.log.result f may.knows apart may.rests.idle is l.ok l.leaves l.failed (λ d. l.others.faults (Volume d)) error c.in_err-log.was in
-    let works = log_works tells group site next old new c.log.result (c.table.ensures.told may.rests.level) l.others l.cause l.failed (on_err _ c.log.result error c.in_err-log.was) in
+    let moved = log_fails tells c.args.limit c.form.result group seat turn site next old new c.log.result f may.knows apart may.rests.idle is c.form.ensures.carried l.ok l.leaves l.failed (λ d. l.others.faults (Volume d)) error c.in_err-log.was in
+    let works = log_works tells group site next old new c.log.result (c.table.ensures.told may.rests.level) l.others l.cause l.failed (on_err _ c.log.result error c.in_err-log.was) l.volumes (on_err _ c.log.result error c.in_err-log.was) in
     record {
       may = search rules;
       moved = subst (λ (r : Result (Unit {0}) StoreError). Moved tells seat turn site next old new r) same moved;
@@ -90,6 +93,7 @@ returns-in_err-log g c =
       room = c.form.ensures.room;
       seat = stays_formed c.args.limit (form_reply c.form.result (shown_in group)) seat turn c.form.ensures.called;
       works = subst (λ (r : Result (Unit {0}) StoreError). MoverWorks tells site next old new r) same works;
+      numbers = form_uses c.args.limit c.form.result group seat turn site next c.from_residual.result f (uses_as 2 1 site next c.log.result c.from_residual.result same (log_uses tells group site next old new c.log.result l.ok));
     }
 
 pub drop_suspended-requires-clause-table : goal.drop_suspended-requires-clause-table
@@ -112,8 +116,8 @@ drop_suspended-requires-clause-controls g c =
     let rows_was = table_rows site c.table-2.result.now c.table-2.ensures.table c.table-2.ensures.told may.rests.level in
     let apart : none_clash site.told ≡ true = ap none_clash (sym rows_was) ∙ c.states_of-was.ensures.rules.apart in
     let l = c.log.ensures in
-    let still = log_still tells c.args.limit c.form.result group seat turn site next old new c.log.result f may.knows apart may.rests.idle is l.ok l.leaves l.failed (λ d. l.others.faults (Volume d)) c.in_ok-log.was in
-    let level = log_level tells c.args.limit c.form.result group seat turn site next old new c.log.result f may.knows apart may.rests.idle is l.ok l.leaves l.failed (λ d. l.others.faults (Volume d)) c.in_ok-log.was in
+    let still = log_still tells c.args.limit c.form.result group seat turn site next old new c.log.result f may.knows apart may.rests.idle is c.form.ensures.carried l.ok l.leaves l.failed (λ d. l.others.faults (Volume d)) c.in_ok-log.was in
+    let level = log_level tells c.args.limit c.form.result group seat turn site next old new c.log.result f may.knows apart may.rests.idle is c.form.ensures.carried l.ok l.leaves l.failed (λ d. l.others.faults (Volume d)) c.in_ok-log.was in
     let rows_then = table_rows next c.table-3.result.now c.table-3.ensures.table c.table-3.ensures.told level in
     subst (λ (l : List PairRow). AreOfControls (length turn.known) l) (sym rows_then) (subst (λ (n : ℕ). AreOfControls n next.told) (ap length (sym f.known)) (controls_still (length seat.known) site.told next.told still may.knows.rows.controls))
 
@@ -138,17 +142,20 @@ returns g c =
     let states = states_told site c.table-2.result.now.rows was rows_was c.states_of-was.ensures.states in
     let l = c.log.ensures in
     let later = λ (d : ℕ). l.others.faults (Volume d) in
-    let level = log_level tells c.args.limit c.form.result group seat turn site next old new c.log.result f may.knows apart may.rests.idle is l.ok l.leaves l.failed later c.in_ok-log.was in
-    let rest = log_rest tells c.args.limit c.form.result group seat turn site next old new c.log.result f may.knows apart may.rests.idle is l.ok l.leaves l.failed later c.in_ok-log.was in
+    let level = log_level tells c.args.limit c.form.result group seat turn site next old new c.log.result f may.knows apart may.rests.idle is c.form.ensures.carried l.ok l.leaves l.failed later c.in_ok-log.was in
+    let rest = log_rest tells c.args.limit c.form.result group seat turn site next old new c.log.result f may.knows apart may.rests.idle is c.form.ensures.carried l.ok l.leaves l.failed later c.in_ok-log.was in
+    let slots = log_slots tells c.args.limit c.form.result group seat turn site next old new c.log.result f may.knows apart may.rests.idle is c.form.ensures.carried l.ok l.leaves l.failed later c.in_ok-log.was in
     let rows_then = table_rows next c.table-3.result.now c.table-3.ensures.table c.table-3.ensures.told level in
     let drops = subst (λ (l : List PairRow). Drops was l turn end) rows_then c.drop_suspended.ensures.drops in
-    let works = log_works tells group site next old new (Ok tt) (c.table.ensures.told may.rests.level) l.others c.in_ok-log.ensures.cause l.failed rest in
+    let works = log_works tells group site next old new (Ok tt) (c.table.ensures.told may.rests.level) l.others c.in_ok-log.ensures.cause l.failed rest l.volumes slots in
     record {
-      may = log_may tells c.args.limit c.form.result group seat turn site next old new c.log.result f may.knows apart may.rests.idle is l.ok l.leaves l.failed later c.in_ok-log.was end was states drops c.form.ensures.upto may.rests.fast;
-      moved = log_moved tells c.args.limit c.form.result group seat turn site next old new c.log.result f may.knows apart may.rests.idle is l.ok l.leaves l.failed later c.in_ok-log.was end was states drops;
+      may = log_may tells c.args.limit c.form.result group seat turn site next old new c.log.result f may.knows apart may.rests.idle is c.form.ensures.carried l.ok l.leaves l.failed later c.in_ok-log.was end was states drops c.form.ensures.upto may.rests.fast;
+      moved = log_moved tells c.args.limit c.form.result group seat turn site next old new c.log.result f may.knows apart may.rests.idle is c.form.ensures.carried l.ok l.leaves l.failed later c.in_ok-log.was end was states drops;
       cut = sym (drops.last ∙ f.last);
       limited = λ before. drops_keep_limit c.args.limit.0 (drops_from 0 was next.told) turn end drops (form_keeps_limit c.args.limit c.form.result group seat turn f before);
       room = c.form.ensures.room;
       seat = stays_then seat turn end (stays_formed c.args.limit (form_reply c.form.result (shown_in group)) seat turn c.form.ensures.called) c.drop_suspended.ensures.seat;
       works = works;
+      numbers = drops_use 1 2 1 (drops_from 0 was next.told) seat turn end site next (Ok tt) drops
+          (form_uses c.args.limit c.form.result group seat turn site next (Ok tt) f (uses_as 2 1 site next c.log.result (Ok tt) c.in_ok-log.was (log_uses tells group site next old new c.log.result l.ok)));
     }

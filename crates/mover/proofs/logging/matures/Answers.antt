@@ -4,7 +4,7 @@ use Rattle.std.specs.List.{list_any}
 use Rattle.std.specs.Option.{option_copied}
 use Rattle.std.proofs.lemmas.List.{take_all}
 use Rattle.image_former.proofs.Lists.{any_more}
-use Rattle.mover.specs.Moves.{matures}
+use Rattle.mover.specs.Groups.{matures}
 use Rattle.mover.proofs.SamePairs.{any_there}
 use Rattle.mover.proofs.logging.matures.Goals as goal
 

@@ -1,6 +1,6 @@
 use Rattle.std.proofs.Common.{◌≡◌, take, false}
 use Rattle.std.specs.List.{list_any}
-use Rattle.mover.specs.Moves.{matures}
+use Rattle.mover.specs.Groups.{matures}
 use Rattle.mover.proofs.logging.matures.Given as goal
 
 -- no row before matures

@@ -27,6 +27,7 @@ returns g c =
       limited = e.does.limited (none_limited g.S.Source.left g.S.Source.faults c.args.group.now c.args.limit.0 c.args.lanes.now c.args.seat.now c.args.seats.now c.requires.lanes c.requires.seats);
       seats = b.seats;
       works = e.does.works;
+      numbers = e.does.numbers;
       reached = λ is. b.reached (e.reached is);
       may = e.may;
     }

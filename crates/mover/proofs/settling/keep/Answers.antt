@@ -1,4 +1,5 @@
 use Rattle.std.proofs.Common.{rules, ◌≡◌, Ok, false, refl}
+use Rattle.mover.proofs.Numbers.{marked_use, tell_uses, told_use}
 use Rattle.mover.proofs.Resting.{marked_at_rest, may_tell, may_then, rests_as, told_by_record, told_then}
 use Rattle.mover.proofs.SiteCalls.{may_mark}
 use Rattle.mover.proofs.settling.keep.Goals as goal
@@ -16,10 +17,12 @@ returns-in_err-suspend g c =
     let new = g.P.Plant.state c.suspend.new.plant in
     let s = c.suspend.ensures in
     let by = told_by_record tells g.P.Plant.state site c.apply.new.self c.args.plant.now c.apply.new.plant c.requires.fast c.requires.level c.requires.apart c.apply.ensures.ok c.apply.ensures.leaves c.apply.ensures.moments c.apply.ensures.others
-    c.time-time.result.0 c.time-time.ensures next c.suspend.new.plant c.suspend.result s.ok s.leaves s.moments s.others s.cause s.failed in
+    c.time-time.result.0 c.time-time.ensures next c.suspend.new.plant c.suspend.result s.ok s.leaves s.moments s.others s.cause s.failed s.volumes in
     let same : c.suspend.result ≡ c.from_residual.result = search rules in
     let b = rests_as tells site next old new c.suspend.result c.from_residual.result same by in
-    record { told = told_then tells site next old new c.from_residual.result b; rests = may_then tells site next old new c.from_residual.result b; moved = b.moved; works = b.works }
+    let used = tell_uses tells c.time-time.result.0 site c.apply.new.self next old (g.P.Plant.state c.apply.new.plant) c.apply.new.plant c.suspend.new.plant c.suspend.result c.apply.ensures.ok s.ok in
+    let numbers = told_use site next c.suspend.result c.from_residual.result same used in
+    record { told = told_then tells site next old new c.from_residual.result b; rests = may_then tells site next old new c.from_residual.result b; moved = b.moved; works = b.works; numbers = numbers }
 
 pub returns-then-not-is_mark_due : goal.returns-then-not-is_mark_due
 returns-then-not-is_mark_due g c =
@@ -30,9 +33,10 @@ returns-then-not-is_mark_due g c =
     let new = g.P.Plant.state c.suspend.new.plant in
     let s = c.suspend.ensures in
     let by = told_by_record tells g.P.Plant.state site c.apply.new.self c.args.plant.now c.apply.new.plant c.requires.fast c.requires.level c.requires.apart c.apply.ensures.ok c.apply.ensures.leaves c.apply.ensures.moments c.apply.ensures.others
-    c.time-time.result.0 c.time-time.ensures next c.suspend.new.plant c.suspend.result s.ok s.leaves s.moments s.others s.cause s.failed in
+    c.time-time.result.0 c.time-time.ensures next c.suspend.new.plant c.suspend.result s.ok s.leaves s.moments s.others s.cause s.failed s.volumes in
     let b = rests_as tells site next old new c.suspend.result (Ok tt) c.in_ok-suspend.was by in
-    record { told = b.rests.told; rests = b.rests.may; moved = b.moved; works = b.works }
+    let used = tell_uses tells c.time-time.result.0 site c.apply.new.self next old (g.P.Plant.state c.apply.new.plant) c.apply.new.plant c.suspend.new.plant c.suspend.result c.apply.ensures.ok s.ok in
+    record { told = b.rests.told; rests = b.rests.may; moved = b.moved; works = b.works; numbers = told_use site next c.suspend.result (Ok tt) c.in_ok-suspend.was used }
 
 pub mark-requires-clause-may : goal.mark-requires-clause-may
 mark-requires-clause-may g c κs within =
@@ -43,7 +47,7 @@ mark-requires-clause-may g c κs within =
     let new = g.P.Plant.state c.suspend.new.plant in
     let s = c.suspend.ensures in
     let by = told_by_record tells g.P.Plant.state site c.apply.new.self c.args.plant.now c.apply.new.plant c.requires.fast c.requires.level c.requires.apart c.apply.ensures.ok c.apply.ensures.leaves c.apply.ensures.moments c.apply.ensures.others
-    c.time-time.result.0 c.time-time.ensures next c.suspend.new.plant c.suspend.result s.ok s.leaves s.moments s.others s.cause s.failed in
+    c.time-time.result.0 c.time-time.ensures next c.suspend.new.plant c.suspend.result s.ok s.leaves s.moments s.others s.cause s.failed s.volumes in
     let b = rests_as tells site next old new c.suspend.result (Ok tt) c.in_ok-suspend.was by in
     may_mark tells next new b.rests.may.fast b.rests.may.level b.rests.may.idle
 
@@ -59,7 +63,9 @@ returns g c =
     let s = c.suspend.ensures in
     let m = c.mark.ensures in
     let by = told_by_record tells g.P.Plant.state site c.apply.new.self c.args.plant.now c.apply.new.plant c.requires.fast c.requires.level c.requires.apart c.apply.ensures.ok c.apply.ensures.leaves c.apply.ensures.moments c.apply.ensures.others
-    c.time-time.result.0 c.time-time.ensures mid c.suspend.new.plant c.suspend.result s.ok s.leaves s.moments s.others s.cause s.failed in
+    c.time-time.result.0 c.time-time.ensures mid c.suspend.new.plant c.suspend.result s.ok s.leaves s.moments s.others s.cause s.failed s.volumes in
     let b = rests_as tells site mid old between c.suspend.result (Ok tt) c.in_ok-suspend.was by in
     let all = marked_at_rest tells g.P.Plant.state site mid next c.args.plant.now c.suspend.new.plant c.mark.new.plant b false refl c.mark.result m.ok m.leaves m.moments m.others m.cause m.failed in
-    record { told = told_then tells site next old new c.mark.result all; rests = may_then tells site next old new c.mark.result all; moved = all.moved; works = all.works }
+    let used = tell_uses tells c.time-time.result.0 site c.apply.new.self mid old (g.P.Plant.state c.apply.new.plant) c.apply.new.plant c.suspend.new.plant c.suspend.result c.apply.ensures.ok s.ok in
+    let numbers = marked_use site mid next false c.suspend.new.plant c.mark.new.plant c.suspend.result c.in_ok-suspend.was used c.mark.result m.ok in
+    record { told = told_then tells site next old new c.mark.result all; rests = may_then tells site next old new c.mark.result all; moved = all.moved; works = all.works; numbers = numbers }

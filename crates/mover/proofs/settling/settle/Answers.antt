@@ -1,4 +1,4 @@
-use Rattle.std.proofs.Common.{rules, ◌≡◌, true, Result, List, length, sym, ap, subst, ◌∙◌, refl}
+use Rattle.std.proofs.Common.{rules, ◌≡◌, true, Result, Ok, List, length, sym, ap, subst, ◌∙◌, refl}
 use Rattle.pair_table.specs.declared.row.PairRow.{PairRow}
 use Rattle.pair_table.specs.Tables.{none_clash}
 use Rattle.site_store.specs.declared.store_error.StoreError.{StoreError}
@@ -7,6 +7,7 @@ use Rattle.mover.specs.Moves.{MoverWorks}
 use Rattle.mover.proofs.DropMade.{stays_self}
 use Rattle.mover.proofs.Limits.{drops_keep_limit}
 use Rattle.mover.proofs.MoverCalls.{controls_still, kept_knows, kept_moved, settle_fails, states_told, table_rows, well, well_still}
+use Rattle.mover.proofs.Numbers.{drops_use, rest_uses, uses_as}
 use Rattle.mover.proofs.settling.settle.Goals as goal
 
 pub keep-requires-clause-fast : goal.keep-requires-clause-fast
@@ -37,6 +38,7 @@ returns-in_err-keep g c =
       limited = λ limit before. before;
       seat = stays_self c.args.seat.now;
       works = subst (λ (r : Result (Unit {0}) StoreError). MoverWorks tells site c.keep.new.site old new r) same c.keep.ensures.works;
+      numbers = rest_uses 2 2 c.args.seat.now site c.keep.new.site c.from_residual.result (uses_as 2 2 site c.keep.new.site c.keep.result c.from_residual.result same c.keep.ensures.numbers);
     }
 
 pub drop_suspended-requires-clause-controls : goal.drop_suspended-requires-clause-controls
@@ -76,4 +78,5 @@ returns g c =
       limited = λ limit. drops_keep_limit limit (drops_from 0 was next.told) seat end drops;
       seat = c.drop_suspended.ensures.seat;
       works = subst (λ (r : Result (Unit {0}) StoreError). MoverWorks tells site next old new r) c.in_ok-keep.was c.keep.ensures.works;
+      numbers = drops_use 0 2 2 (drops_from 0 was next.told) seat seat end site next (Ok tt) drops (rest_uses 2 2 seat site next (Ok tt) (uses_as 2 2 site next c.keep.result (Ok tt) c.in_ok-keep.was c.keep.ensures.numbers));
     }

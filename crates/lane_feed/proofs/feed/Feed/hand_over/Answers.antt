@@ -7,7 +7,7 @@ returns-in-Batch-clause-steps g c =
     let h = c.in-Batch.ensures in
     let goes = side_goes_on c.args.self.now old.side old.primary old.held old.halted c.self.view_is c.requires.idle.goes_on c.self.invariant in
     handed_step c.args.self.now old.side old.primary old.held old.halted c.self.view_is _ _ c.args.limit c.handover.new.self (g.T.Teller.state c.args.teller.now) (g.T.Teller.state c.args.teller.now) c.requires.idle
-    c.in-Batch.batch (h.due goes) h.run (h.reached goes)
+    c.in-Batch.batch (h.due goes) (h.reached goes)
 
 pub returns-in-AtLimit-clause-steps : goal.returns-in-AtLimit-clause-steps
 returns-in-AtLimit-clause-steps g c =
