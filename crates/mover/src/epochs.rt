@@ -19,7 +19,8 @@ use tod_stamp::Stamp;
 use turn_group::TurnGroup;
 use xrc_edge::Source;
 
-/// Brings a session to a limit: every write up to it is in a group that was logged and applied, and every wanted track is copied.
+/// Brings a session to a limit: every write up to it on a carried volume is in a group that was logged and applied, and every wanted
+/// track is copied.
 ///
 /// After `Store` or `NoMemory` the lanes and the site may not be used again, and the group state is gone.
 pub fn epoch<R: Threads + Wait + Sync, S: Source + Send, P: Plant, G: Gate + Sync>(

@@ -32,7 +32,7 @@ impl<S> Lane<S> {
     }
 
     /// Gives the lane its reader, once. The sidefile's reader was started on the lane's source, and the primary was made from the
-    /// header that came with it. The sidefile may have broken; it didn't want memory.
+    /// header that came with it. The sidefile may have broken, and then its control tells no more; it didn't want memory.
     pub fn open(&mut self, alloc: Global, side: Sidefile, primary: Primary) -> Result<(), NoMemory>
         requires closed { self.old.reader ≡ None }
         requires usable { side.halted ≡ Some halts.NoMemory → ⊥ }
