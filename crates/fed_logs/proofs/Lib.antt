@@ -8,3 +8,4 @@ pub mod Rising
 pub mod Breaking
 pub mod ShownBreaks
 pub mod BreaksToCome
+pub mod LiveEntries

@@ -1,5 +1,6 @@
 -- Calls of readers that are fed by their controls' traces.
-use Rattle.std.specs.Prelude.{◌≡◌, ◌≤◌, ℕ, ◌&&◌, List, [], ◌∷◌, length, filter, slice_get, Bool, true, false, Some, nat_lt, nat_le, MatchBool}
+use Rattle.std.specs.Prelude.{◌≡◌, ◌≤◌, ℕ, ◌+◌, ◌==◌, ◌&&◌, ◌||◌, List, [], ◌∷◌, length, filter, slice_get, Bool, true, false, Some, nat_lt, nat_le, MatchBool, IsTrue}
+use Rattle.std.specs.List.{list_all, list_any}
 use Rattle.ckd_track.specs.declared.write.Batch.{Batch}
 use Rattle.write_trace.specs.declared.entry.Entry.{Entry}
 use Rattle.write_trace.specs.declared.trace.Trace.{Trace}
@@ -67,6 +68,32 @@ abbrev pub AreFedBy : Trace → (floor : ℕ) → List Answer → Type 0
 AreFedBy t floor [] = Unit {0}
 AreFedBy t floor (answer ∷ run) = MatchBool (has_changed answer.reply) (IsFedBy t floor answer.call × AreFedBy t (floor_behind floor answer.call) run) (AreFedBy t floor run)
 
+-- ---- how far a call goes
+
+abbrev pub is_entry_at : (time : ℕ) → Entry → Bool
+is_entry_at time e = stamp_of e == time
+
+-- whether a good entry of a trace has this stamp
+abbrev pub has_entry_at : Trace → (time : ℕ) → Bool
+has_entry_at t time = list_any (is_entry_at time) t.entries
+
+-- Whether a call of a control's reader goes as far towards a limit as the control's trace lets it. A raise goes to the limit. A batch goes to the
+-- limit, or less far to just before an entry. A break's time is the trace's.
+abbrev pub goes_up_to : (limit : ℕ) → Trace → Call → Bool
+goes_up_to limit t (Join b) = b.upto.0 == limit || (nat_lt b.upto.0 limit && has_entry_at t (b.upto.0 + 1))
+goes_up_to limit t (NextWanted k) = true
+goes_up_to limit t (Copied k v x at slot) = true
+goes_up_to limit t (Raise k upto) = upto.0 == limit
+goes_up_to limit t (Break k upto cause) = true
+goes_up_to limit t (Form given) = true
+goes_up_to limit t (Carry k v plan) = true
+goes_up_to limit t (Drop k v all) = true
+goes_up_to limit t (Resume k v) = true
+goes_up_to limit t (Forget k v) = true
+
+abbrev pub is_up_to_limit : (limit : ℕ) → Trace → Answer → Bool
+is_up_to_limit limit t answer = goes_up_to limit t answer.call
+
 -- ---- whose a call is
 
 -- whether a call is one of a control's reader
@@ -100,3 +127,7 @@ part_of_reader k run = filter (is_answer_of k) run
 -- Each reader's part of a run from a state on is fed by its control's trace.
 abbrev pub AllAreFed : List Trace → Group → List Answer → Type 0
 AllAreFed traces s run = (k : ℕ) (t : Trace) → slice_get traces k ≡ Some t → AreFedBy t (floor_of s k) (part_of_reader k run)
+
+-- Each reader's part of a run goes as far towards a limit as its control's trace lets it.
+abbrev pub AllGoUpTo : (limit : ℕ) → List Trace → List Answer → Type 0
+AllGoUpTo limit traces run = (k : ℕ) (t : Trace) → slice_get traces k ≡ Some t → IsTrue (list_all (is_up_to_limit limit t) (part_of_reader k run))

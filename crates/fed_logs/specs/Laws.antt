@@ -1,5 +1,5 @@
 -- The laws of logs. Each is the contract of a public function without parameters.
-use Rattle.std.specs.Prelude.{◌≡◌, ℕ, ◌<◌, ◌≤◌, List, ◌∷◌, length, take, Bool, true, slice_get, Some, nat_le, IsTrue}
+use Rattle.std.specs.Prelude.{◌≡◌, ℕ, ◌<◌, ◌≤◌, List, ◌∷◌, ◌++◌, length, take, Bool, true, slice_get, Some, nat_le, IsTrue}
 use Rattle.std.specs.List.{list_all, Contains}
 use Rattle.pair_table.specs.declared.row.PairRow.{PairRow}
 use Rattle.write_trace.specs.declared.trace.Trace.{Trace}
@@ -16,7 +16,7 @@ use Rattle.fed_logs.specs.Deeds.{held_behind}
 use Rattle.record_rows.specs.Deeds.Deed.{Logged}
 use Rattle.fed_logs.specs.Feeds.{truth_of, part_of_mover, IsFedBy}
 use Rattle.group_state.specs.Calls.{is_by_reader}
-use Rattle.fed_logs.specs.Moves.{Plans, MayFollow, MakesDeeds, MakesAllDeeds, is_break_of_control}
+use Rattle.fed_logs.specs.Moves.{Plans, MayFollow, MakesDeeds, MakesAllDeeds, AreEntriesLive, LiveByDeeds, is_break_of_control, is_mark_due_behind}
 use Rattle.fed_logs.specs.Logs.{Sizes, IsFedLog, BeginsLog, HoldTruth, AwaitsBreak}
 
 -- ---- tracks
@@ -37,6 +37,11 @@ abbrev pub ReachedHolds : Type 0
 ReachedHolds = (size : Sizes) (traces : List Trace) (held : HeldTracks) (s end : Group) (run : List Answer) (time ended : ℕ) (rows last : List PairRow) (done known : Plans) (deeds : List Deed)
     → IsFedLog traces s end run → BeginsLog size traces held s time rows done → MakesAllDeeds time rows done (part_of_mover run) deeds ended last known
     → (last ≡ rows_behind deeds rows) × (ended ≡ time_meant_behind deeds time) × KeepsGroup end × BeginsLog size traces (held_behind deeds held) end ended last known
+
+-- Deeds one behind the other have entries of live rows if each part has, by the rows and the mark that the first one leaves.
+abbrev pub LiveEntriesInTurn : Type 0
+LiveEntriesInTurn = (due : Bool) (rows : List PairRow) (first then : List Deed) → LiveByDeeds rows first → AreEntriesLive due rows first → AreEntriesLive (is_mark_due_behind due first) (rows_behind first rows) then
+    → AreEntriesLive due rows (first ++ then)
 
 -- ---- times
 

@@ -5,6 +5,7 @@ use Rattle.pair_table.specs.declared.row.PairRow.{PairRow}
 use Rattle.pair_table.specs.declared.row.PairState.{PairState}
 use Rattle.pair_table.specs.declared.row.PairState.TheVariants.{Duplex}
 use Rattle.pair_table.specs.Rows.{is_suspended}
+use Rattle.row_changes.specs.Toward.{is_settled}
 use Rattle.pending_queue.specs.Entries.{WaitingEntry}
 use Rattle.cut_core.specs.Shares.{names_volume}
 use Rattle.group_state.specs.Groups.{Shown}
@@ -12,7 +13,7 @@ use Rattle.group_state.specs.HistoryLaws.{is_named}
 use Rattle.group_state.specs.Machine.{Call, Reply}
 use Rattle.group_state.specs.Machine.Call.{Join, NextWanted, Copied, Raise, Break, Form, Carry, Drop, Resume, Forget}
 use Rattle.group_state.specs.Runs.{Answer, shown_by}
-use Rattle.record_rows.specs.Deeds.{Deed}
+use Rattle.record_rows.specs.Deeds.{Deed, rows_by_deed}
 use Rattle.record_rows.specs.Deeds.Deed.{Logged, Changed, Marked}
 
 -- ---- rows
@@ -30,6 +31,10 @@ IsLive state = is_suspended state ≡ false
 
 abbrev pub IsDuplex : PairState → Type 0
 IsDuplex state = state ≡ Duplex
+
+-- A row that is pending or copying.
+abbrev pub IsUnsettled : PairState → Type 0
+IsUnsettled state = is_settled state ≡ false
 
 -- An entry is of a volume whose row is live.
 abbrev pub IsOfLiveRow : List PairRow → WaitingEntry → Type 0
@@ -54,11 +59,12 @@ pub record MayFollow (shown : Shown) (rows next : List PairRow) : Type 0 where
   pub live : (k v : ℕ) → HasRowIn IsLive k v next → (is_break_of_control k shown ≡ false) × HasRowIn IsLive k v rows
   pub duplex : (k v : ℕ) → HasRowIn IsDuplex k v next → HasRowIn IsDuplex k v rows ⊎ IsTrue (is_plan_shown_done k v shown)
 
--- A form that shows nothing new to a site: no entry, and a cut up to the time that is meant. It reports no break of a live row's control,
--- and none at all but below that time. So it is while a session starts, whose site has the time of its start.
+-- A form that shows nothing new to a site: no entry, and a cut up to the time that is meant. It makes no row duplex that is pending or copying.
+-- It reports no break of a live row's control, and none at all but below that time, as while a session starts.
 pub record ShowsNothing (time : ℕ) (rows : List PairRow) (shown : Shown) : Type 0 where
   pub at : shown.cut.0 ≤ time
   pub entries : shown.entries ≡ []
+  pub plans : (k v : ℕ) → HasRowIn IsUnsettled k v rows → is_plan_shown_done k v shown ≡ false
   pub breaks : (k v : ℕ) → HasRowIn IsLive k v rows → is_break_of_control k shown ≡ false
   pub early : (k : ℕ) → IsTrue (is_break_of_control k shown) → shown.cut.0 < time
 
@@ -78,6 +84,33 @@ is_mark_at_most (Logged cut entries rows ∷ deeds) = false
 is_mark_at_most (Changed time rows ∷ deeds) = false
 is_mark_at_most (Marked spot ended rows ∷ []) = true
 is_mark_at_most (Marked spot ended rows ∷ deed ∷ deeds) = false
+
+-- ---- entries of live rows
+
+-- The entries of each group are of rows that were live when the group was formed, by the rows that were seen last then. A mark is due behind a
+-- group, and tells rows that the next form sees. A mark that isn't due may be made for a group that was formed before it.
+abbrev pub AreEntriesLive : (due : Bool) → (seen : List PairRow) → List Deed → Type 0
+AreEntriesLive due seen [] = Unit {0}
+AreEntriesLive due seen (Logged cut entries next ∷ deeds) = All (IsOfLiveRow seen) entries × AreEntriesLive true next deeds
+AreEntriesLive due seen (Changed at next ∷ deeds) = AreEntriesLive due next deeds
+AreEntriesLive true seen (Marked spot ended next ∷ deeds) = AreEntriesLive false next deeds
+AreEntriesLive false seen (Marked spot ended next ∷ deeds) = AreEntriesLive false seen deeds
+
+-- Rows are live only where others are.
+abbrev pub AreLiveIn : (wider rows : List PairRow) → Type 0
+AreLiveIn wider rows = (k v : ℕ) → HasRowIn IsLive k v rows → HasRowIn IsLive k v wider
+
+-- Behind each deed rows are live only where rows before it were.
+abbrev pub LiveByDeeds : List PairRow → List Deed → Type 0
+LiveByDeeds rows [] = Unit {0}
+LiveByDeeds rows (deed ∷ deeds) = AreLiveIn rows (rows_by_deed deed) × LiveByDeeds (rows_by_deed deed) deeds
+
+-- whether a mark is due behind deeds
+abbrev pub is_mark_due_behind : (due : Bool) → List Deed → Bool
+is_mark_due_behind due [] = due
+is_mark_due_behind due (Logged cut entries rows ∷ deeds) = is_mark_due_behind true deeds
+is_mark_due_behind due (Changed time rows ∷ deeds) = is_mark_due_behind due deeds
+is_mark_due_behind due (Marked spot ended rows ∷ deeds) = is_mark_due_behind false deeds
 
 -- ---- plans
 

@@ -1,6 +1,6 @@
 //! The laws of logs.
 
-ghost use Rattle.fed_logs.specs.Laws.{FedTellTruth, LogsBear, ReachedHolds, TimesRise, BreaksCome};
+ghost use Rattle.fed_logs.specs.Laws.{FedTellTruth, LogsBear, ReachedHolds, LiveEntriesInTurn, TimesRise, BreaksCome};
 ghost use Rattle.fed_logs.specs.ShownBreaks.{ShownBreaksAreTheTraces, GroupsBreakAtCuts, NewGroupsAreUnbroken, LogsBreakAsTraces, OtherCallsKeepBreaks};
 ghost use Rattle.fed_logs.specs.ShownBreaks.{BreaksToComeAreAwaited, AllBreaksAreToCome, LaterBreaksAreToCome, OtherCallsAwaitBreaks};
 
@@ -10,6 +10,11 @@ pub fn logs_bear()
     ensures fed { FedTellTruth }
     ensures bear { LogsBear }
     ensures reached { ReachedHolds }
+{}
+
+/// Deeds of which each part has entries of live rows alone have such entries.
+pub fn live_entries_in_turn()
+    ensures { LiveEntriesInTurn }
 {}
 
 /// The time that is meant never falls.

@@ -4,5 +4,6 @@
 mod laws;
 
 pub use laws::{
-    breaks_come, later_breaks_are_to_come, logs_bear, shown_breaks_are_the_traces, times_rise,
+    breaks_come, later_breaks_are_to_come, live_entries_in_turn, logs_bear,
+    shown_breaks_are_the_traces, times_rise,
 };

@@ -56,14 +56,15 @@ could_turn_out Failing control limit now old new bytes later given l turn = l.we
 
 -- ---- a batch
 
--- A batch is that of the first run that was ahead, which is behind a time, up to the batch's. What is left is behind the batch's time, and so is
--- the break.
-pub record TakesRun (low : ℕ) (cause : Option Cause) (old new : List Entry) (batch : Batch) : Type 0 where
+-- A batch is that of the first run that was ahead, which is behind a time, up to the batch's. It goes up to the limit, or to just before what is
+-- left. What is left is behind the batch's time, and so is the break.
+pub record TakesRun (limit low : ℕ) (cause : Option Cause) (old new : List Entry) (batch : Batch) : Type 0 where
   pub run : List Entry
   pub split : old ≡ run ++ new
   pub is : IsBatchOf run batch
   pub later : low ≤ batch.upto.0
   pub within : list_all (is_between low batch.upto.0) run ≡ true
+  pub goes : GoesTo limit batch.upto.0 (runs new)
   pub above : IsAbove batch.upto.0 (runs new)
   pub clean : runs new ≡ [] → cause ≡ None
   pub same : break_in cause (runs new) ≡ break_in cause (runs old)
@@ -81,10 +82,10 @@ break_left : (cause : Option Cause) (run : List Entry) (more : List (List Entry)
 break_left cause run [] crowded clean = rw (clean refl, crowded) refl
 break_left cause run (next ∷ more) crowded clean = rw crowded refl
 
-pub takes_run : (control limit low : ℕ) (cause : Option Cause) (old new : List Entry) (batch : Batch) → do_rise (low + 1) old ≡ true → hands.Batch batch ≡ hand control cause limit (runs old) → runs new ≡ left_after (hands.Batch batch) (runs old) → TakesRun low cause old new batch
+pub takes_run : (control limit low : ℕ) (cause : Option Cause) (old new : List Entry) (batch : Batch) → do_rise (low + 1) old ≡ true → hands.Batch batch ≡ hand control cause limit (runs old) → runs new ≡ left_after (hands.Batch batch) (runs old) → TakesRun limit low cause old new batch
 takes_run control limit low cause old new batch rise is left = choose (step control cause limit (runs old))
   where
-    choose : Step control cause limit (runs old) → TakesRun low cause old new batch
+    choose : Step control cause limit (runs old) → TakesRun limit low cause old new batch
     choose (Takes run more upto first h there goes crowded clean) =
         let same : batch ≡ batch_of control run upto = (let b : hands.Batch batch ≡ hands.Batch (batch_of control run upto) = is ∙ h in cc b) in
         let behind : runs new ≡ more = left ∙ ap (left_after (hands.Batch batch)) first in
@@ -99,6 +100,7 @@ takes_run control limit low cause old new batch rise is left = choose (step cont
           is = record { one = ap length f.one; writes = writes; room = (let few = ltb-false quota (length (writes_of run)) crowded in omega (arith, few, ap length writes)) };
           later = omega (arith, low_is, high, up);
           within = stamp_between low batch.upto.0 (run_stamp run) run low_is (omega (arith, high, up)) f.stamps;
+          goes = subst (λ (n : ℕ). GoesTo limit n (runs new)) (sym up) (subst (GoesTo limit upto) (sym behind) goes);
           above = subst (λ (n : ℕ). IsAbove n (runs new)) (sym up) (subst (IsAbove upto) (sym behind) (goes_above limit upto more (omega (arith, low_is, high)) goes));
           clean = λ none. clean (sym behind ∙ none);
           same = ap (break_in cause) behind ∙ break_left cause run more crowded clean ∙ ap (break_in cause) (sym first);

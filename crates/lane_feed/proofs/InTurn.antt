@@ -12,7 +12,7 @@ use Rattle.group_state.specs.Runs.{Answer}
 use Rattle.told_tracks.specs.Told.{has_changed}
 use Rattle.fed_logs.specs.Feeds.{AreFedBy, IsFedBy, floor_behind}
 use Rattle.lane_feed.specs.Feeds.{FeedState, floor_behind_calls, telling_behind_calls}
-use Rattle.lane_feed.specs.Reads.{Outlook, HasRead, AreLeft, StandsSo, MayTurnOutOf, IsToFailIn, IsStillToCome, ReadsOn}
+use Rattle.lane_feed.specs.Reads.{Outlook, HasRead, AreLeft, StandsSo, MayTurnOutOf, IsToFailIn, IsStillToCome, ReadsBytes, ReadsOn}
 use Rattle.lane_feed.specs.Reads.Outlook.{Whole, Failing}
 use Rattle.lane_feed.specs.Laws.{NoCallReadsNothing, CallsReadInTurn}
 
@@ -24,7 +24,7 @@ telling_then : (telling : Bool) (a b : List Answer) → telling_behind_calls tel
 telling_then telling [] b = refl
 telling_then telling (x ∷ a) b = telling_then (telling_after x.call telling) a b
 
-fed_then : (t : Trace) (floor : ℕ) (a b : List Answer) → AreFedBy t floor a → AreFedBy t (floor_behind_calls floor a) b → AreFedBy t floor (a ++ b)
+pub fed_then : (t : Trace) (floor : ℕ) (a b : List Answer) → AreFedBy t floor a → AreFedBy t (floor_behind_calls floor a) b → AreFedBy t floor (a ++ b)
 fed_then t floor [] b h k = k
 fed_then t floor (x ∷ a) b h k = choose (has_changed x.reply) (λ n. fed_then t n a b) h k
   where
@@ -57,9 +57,30 @@ reads_nothing told feed = record {
   };
 }
 
-still_before : (o : Outlook) (rest used more later : List ℕ) → rest ≡ used ++ more → IsStillToCome o more later → IsStillToCome o rest (used ++ later)
+pub still_before : (o : Outlook) (rest used more later : List ℕ) → rest ≡ used ++ more → IsStillToCome o more later → IsStillToCome o rest (used ++ later)
 still_before Whole rest used more later split come = ap (λ (x : List ℕ). used ++ x) come ∙ sym split
 still_before Failing rest used more later split come = tt
+
+-- Bytes that calls one after another used.
+abbrev pub bytes_in_turn : (mid now : Option (List ℕ)) (a b c : FeedState) (first then : List Answer) (bytes : List ℕ) → floor_behind_calls a.primary.time first ≡ b.primary.time → b.halted ≡ None → (r : ReadsBytes mid a b first bytes)
+    → ReadsBytes now b c then r.rest → ReadsBytes now a c (first ++ then) bytes
+bytes_in_turn mid now a b c first then bytes floor is r s = record {
+  used = r.used ++ s.used;
+  rest = s.rest;
+  split = r.split ∙ ap (λ (x : List ℕ). r.used ++ x) s.split ∙ sym (append_assoc r.used s.used s.rest);
+  left = s.left;
+  could = λ o later turn. subst (λ (x : List ℕ). MayTurnOutOf o x a) (sym (append_assoc r.used s.used later)) (r.could o (s.used ++ later) (s.could o later turn));
+  fails = λ later fails. subst (λ (x : List ℕ). IsToFailIn x a) (sym (append_assoc r.used s.used later)) (r.fails (s.used ++ later) (s.fails later fails));
+  reads = λ o t later come turn read.
+      let all : HasRead o (r.used ++ (s.used ++ later)) t a = subst (λ (x : List ℕ). HasRead o x t a) (append_assoc r.used s.used later) read in
+      let one = r.reads o t (s.used ++ later) (still_before o r.rest s.used s.rest later s.split come) (s.could o later turn) all in
+      let two = s.reads o t later come turn (subst (λ (x : Option Halt). StandsSo o (s.used ++ later) t b x) is one.stands) in
+      record { fed = fed_then t a.primary.time first then one.fed (subst (λ (n : ℕ). AreFedBy t n then) (sym floor) two.fed); stands = two.stands };
+}
+
+-- Bytes are ahead of a feed that reads on behind calls.
+pub still_ahead : (mid : Option (List ℕ)) (a b : FeedState) (first : List Answer) (bytes : List ℕ) → b.halted ≡ None → (r : ReadsBytes mid a b first bytes) → IsAhead b.side.reader mid r.rest
+still_ahead mid a b first bytes is r = subst (λ (x : Option Halt). AreLeft mid x b.side.reader r.rest) is r.left
 
 pub reads_in_turn : CallsReadInTurn
 reads_in_turn before mid now a b c first then h k = choose b.halted refl
@@ -79,19 +100,5 @@ reads_in_turn before mid now a b c first then h k = choose b.halted refl
           told = λ goes cause upto broke. telling_then true first then ∙ ap (λ t. telling_behind_calls t then) (h.telling is) ∙ k.told is cause upto broke;
           reads = λ goes bytes there.
               let r = h.reads goes bytes there in
-              let left : IsAhead b.side.reader mid r.rest = subst (λ (x : Option Halt). AreLeft mid x b.side.reader r.rest) is r.left in
-              let s = k.reads is r.rest left in
-              record {
-                used = r.used ++ s.used;
-                rest = s.rest;
-                split = r.split ∙ ap (λ (x : List ℕ). r.used ++ x) s.split ∙ sym (append_assoc r.used s.used s.rest);
-                left = s.left;
-                could = λ o later turn. subst (λ (x : List ℕ). MayTurnOutOf o x a) (sym (append_assoc r.used s.used later)) (r.could o (s.used ++ later) (s.could o later turn));
-                fails = λ later fails. subst (λ (x : List ℕ). IsToFailIn x a) (sym (append_assoc r.used s.used later)) (r.fails (s.used ++ later) (s.fails later fails));
-                reads = λ o t later come turn read.
-                    let all : HasRead o (r.used ++ (s.used ++ later)) t a = subst (λ (x : List ℕ). HasRead o x t a) (append_assoc r.used s.used later) read in
-                    let one = r.reads o t (s.used ++ later) (still_before o r.rest s.used s.rest later s.split come) (s.could o later turn) all in
-                    let two = s.reads o t later come turn (subst (λ (x : Option Halt). StandsSo o (s.used ++ later) t b x) is one.stands) in
-                    record { fed = fed_then t a.primary.time first then one.fed (subst (λ (n : ℕ). AreFedBy t n then) (sym floor) two.fed); stands = two.stands };
-              };
+              bytes_in_turn mid now a b c first then bytes floor is r (k.reads is r.rest (still_ahead mid a b first bytes is r));
         }

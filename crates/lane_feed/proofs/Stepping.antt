@@ -135,7 +135,7 @@ module _ (o : Outlook) (later : List ℕ) (t : Trace) (old : FeedState) (batch :
 
 module _ (before now : Option (List ℕ)) (limit : ℕ) (old : FeedState) (side : SidefileState) (idle : IsIdle old) where
   module _ (batch : Batch) (h : HandsOver before now limit old.side side (hands.Batch batch)) (bytes : List ℕ) (there : IsAhead old.side.reader before bytes) where
-    handed_read : (o : Outlook) (t : Trace) (later : List ℕ) → IsStillToCome o (h.due bytes there).1.rest later → MayTurnOut o later None side.reader.stopped → HasRead o ((h.due bytes there).1.used ++ later) t old
+    pub handed_read : (o : Outlook) (t : Trace) (later : List ℕ) → IsStillToCome o (h.due bytes there).1.rest later → MayTurnOut o later None side.reader.stopped → HasRead o ((h.due bytes there).1.used ++ later) t old
         → HasRead o later t (record old { side = side; held = Some batch })
     handed_read o t later come turn read =
         let d = h.due bytes there in
@@ -350,7 +350,7 @@ still_reads before now old new gained goes same still side reads bytes there = r
 }
 
 -- A step that hands over, and reads on.
-hands_on : (before now : Option (List ℕ)) (limit : ℕ) (old new : FeedState) (gained : List Answer) (given : Hand) → old.halted ≡ None → new.halted ≡ None → (bytes : List ℕ)
+abbrev pub hands_on : (before now : Option (List ℕ)) (limit : ℕ) (old new : FeedState) (gained : List Answer) (given : Hand) → old.halted ≡ None → new.halted ≡ None → (bytes : List ℕ)
     → (l : LeavesRuns old.side.control limit now (front_of old.side) (front_of new.side) bytes given)
     → ((o : Outlook) (t : Trace) (later : List ℕ) → IsStillToCome o l.rest later → MayTurnOut o later None new.side.reader.stopped → HasRead o (l.used ++ later) t old → AreFedBy t old.primary.time gained × HasRead o later t new)
     → ReadsBytes now old new gained bytes

@@ -18,7 +18,7 @@ use Rattle.lane_feed.specs.Feeds.{FeedState, floor_behind_calls, telling_behind_
 use Rattle.lane_feed.specs.Reads.{Outlook, EndsAsAhead, HasRead, HasTracksAt, ReadsOn, do_rise}
 use Rattle.lane_feed.specs.Reads.Outlook.{Whole, Failing}
 use Rattle.lane_feed.specs.Steps.{FeedStep}
-use Rattle.lane_feed.specs.Tellers.{TellerState, TellsOn, BreaksBelow, IsCopiedBy}
+use Rattle.lane_feed.specs.Tellers.{TellerState, TellsOn, TellsUpTo, BreaksBelow, IsCopiedBy}
 
 -- Without a call nothing is read.
 abbrev pub NoCallReadsNothing : Type 0
@@ -45,6 +45,19 @@ CallsBreakBelowInTurn = (limit : ℕ) (before mid now : Option (List ℕ)) (old 
 -- A step of a reader that copies tells no break.
 abbrev pub CopiesTellNoBreak : Type 0
 CopiesTellNoBreak = (limit : ℕ) (left : Option (List ℕ)) (joined : Option CopyJoin) (feed : FeedState) (told after : TellerState) → feed.halted ≡ None → IsCopiedBy joined feed told after → BreaksBelow limit left feed feed told after
+
+-- Without a call nothing goes further.
+abbrev pub NoCallGoesUpTo : Type 0
+NoCallGoesUpTo = (limit : ℕ) (left : Option (List ℕ)) (feed : FeedState) (told : TellerState) → TellsUpTo limit left left feed feed told told
+
+-- Calls one after another go up to a limit if each does.
+abbrev pub CallsGoUpToInTurn : Type 0
+CallsGoUpToInTurn = (limit : ℕ) (before mid now : Option (List ℕ)) (old next new : FeedState) (told between after : TellerState) → TellsOn before mid old next told between → TellsUpTo limit before mid old next told between
+    → TellsOn mid now next new between after → TellsUpTo limit mid now next new between after → TellsUpTo limit before now old new told after
+
+-- A step of a reader that copies goes no further, whatever the limit is.
+abbrev pub CopiesGoUpTo : Type 0
+CopiesGoUpTo = (limit : ℕ) (left : Option (List ℕ)) (joined : Option CopyJoin) (feed : FeedState) (told after : TellerState) → TellsOn left left feed feed told after → IsCopiedBy joined feed told after → TellsUpTo limit left left feed feed told after
 
 -- Behind a run each control's floor is the one that the calls of its reader tell.
 abbrev pub FloorsAreToldByCalls : Type 0

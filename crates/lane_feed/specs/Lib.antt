@@ -1,5 +1,6 @@
 pub mod Feeds
 pub mod Reads
+pub mod Limits
 pub mod Steps
 pub mod Readings
 pub mod Tellers

@@ -24,6 +24,7 @@ use Rattle.fed_logs.specs.Feeds.{floor_behind}
 use Rattle.fed_logs.specs.ShownBreaks.{is_break_below}
 use Rattle.lane_feed.specs.Feeds.{FeedState}
 use Rattle.lane_feed.specs.Reads.{ReadsOn}
+use Rattle.lane_feed.specs.Limits.{GoesUpTo}
 use Rattle.lane_feed.specs.Steps.{FeedStep, held_answer, wanted_answer, copied_answer}
 
 -- A teller: its control, the volumes of the control's trace, the control's floor, whether the control still tells, and the calls that were
@@ -94,6 +95,10 @@ pub record TellsOn (before now : Option (List ℕ)) (old new : FeedState) (told 
   pub gained : List Answer
   pub answers : after.answers ≡ told.answers ++ gained
   pub reads_on : ReadsOn before now old new gained
+
+-- The calls on a feed that a teller gained go as far towards a limit as the trace lets them.
+abbrev pub TellsUpTo : (limit : ℕ) → (before now : Option (List ℕ)) → (old new : FeedState) → (told after : TellerState) → Type 0
+TellsUpTo limit before now old new told after = (gained : List Answer) → after.answers ≡ told.answers ++ gained → GoesUpTo limit before now old new gained
 
 -- ---- breaks below a limit
 

@@ -9,7 +9,7 @@ ghost use Rattle.sidefile.specs.declared.hand.Halt.TheVariants as halts;
 ghost use Rattle.lane_feed.specs.declared.reading.Reading.TheVariants as readings;
 ghost use Rattle.lane_feed.specs.Steps.{IsIdle};
 ghost use Rattle.pending_queue.specs.declared.room.Room.{Room as RoomIs};
-ghost use Rattle.lane_feed.specs.Tellers.{IsToldBy, HoldsBatch, IsRefusedBy, StandsAs, StandsAsOrHolds, HasFaultBy, StepsOn, TellsOn, BreaksBelow, IsCopiedBy};
+ghost use Rattle.lane_feed.specs.Tellers.{IsToldBy, HoldsBatch, IsRefusedBy, StandsAs, StandsAsOrHolds, HasFaultBy, StepsOn, TellsOn, TellsUpTo, BreaksBelow, IsCopiedBy};
 
 use crate::reading::Reading;
 use crate::teller::Teller;
@@ -168,6 +168,8 @@ impl Feed {
         requires told { IsToldBy self.old (T.state teller.old) }
         requires limit { self.old.side.upto ≤ limit.0 }
         ensures reads { TellsOn (S.left source.old) (S.left source.new) self.old self.new (T.state teller.old) (T.state teller.new) }
+        // Each handover takes the limit.
+        ensures up_to { TellsUpTo limit.0 (S.left source.old) (S.left source.new) self.old self.new (T.state teller.old) (T.state teller.new) }
         ensures below { BreaksBelow limit.0 (S.left source.old) self.old self.new (T.state teller.old) (T.state teller.new) }
         ensures told { IsToldBy self.new (T.state teller.new) }
         ensures within { self.new.side.upto ≤ limit.0 }

@@ -1,6 +1,6 @@
 //! The laws of feeds.
 
-ghost use Rattle.lane_feed.specs.Laws.{NoCallReadsNothing, CallsReadInTurn, StepsReadOn, NoCallBreaks, CallsBreakBelowInTurn, CopiesTellNoBreak, FloorsAreToldByCalls, TellingIsToldByCalls, ReadTracksAreThePrimary, NothingIsReadFirst, HeadersBeginTraces};
+ghost use Rattle.lane_feed.specs.Laws.{NoCallReadsNothing, CallsReadInTurn, StepsReadOn, NoCallBreaks, CallsBreakBelowInTurn, CopiesTellNoBreak, NoCallGoesUpTo, CallsGoUpToInTurn, CopiesGoUpTo, FloorsAreToldByCalls, TellingIsToldByCalls, ReadTracksAreThePrimary, NothingIsReadFirst, HeadersBeginTraces};
 
 /// Calls on a feed one after another read on.
 pub fn calls_read_in_turn()
@@ -18,6 +18,14 @@ pub fn calls_break_below()
     ensures none { NoCallBreaks }
     ensures then { CallsBreakBelowInTurn }
     ensures copied { CopiesTellNoBreak }
+{}
+
+/// Calls on a feed one after another go as far towards a limit as the trace lets them, if each does. Where none is made, and where a track is copied,
+/// it is so for every limit.
+pub fn calls_go_up_to_limits()
+    ensures none { NoCallGoesUpTo }
+    ensures then { CallsGoUpToInTurn }
+    ensures copied { CopiesGoUpTo }
 {}
 
 /// Behind a run the calls of a control's reader tell the control's floor, and whether the control still tells.

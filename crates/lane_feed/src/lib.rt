@@ -8,8 +8,8 @@ mod teller;
 
 pub use feed::Feed;
 pub use laws::{
-    calls_break_below, calls_read_in_turn, calls_tell_controls, first_feed, read_tracks,
-    steps_read_on,
+    calls_break_below, calls_go_up_to_limits, calls_read_in_turn, calls_tell_controls, first_feed,
+    read_tracks, steps_read_on,
 };
 pub use reading::Reading;
 pub use teller::Teller;

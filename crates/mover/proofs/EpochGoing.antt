@@ -2,6 +2,7 @@
 use Rattle.std.proofs.Common.{◌≡◌, ◌<◌, ◌≤◌, ◌++◌, ℕ, Bool, true, false, not, ◌&&◌, List, [], length, map, Option, Some, None, OnOk, refl, sym, ap, ◌∙◌, subst, arith}
 use Rattle.std.specs.Prelude.{IsSomeAnd, slice_index_or}
 use Rattle.std.specs.List.{list_all}
+use Rattle.std.proofs.lemmas.Option.{slice_get_within}
 use Rattle.crash_plant.specs.Moments.{PlantState}
 use Rattle.write_trace.specs.declared.trace.Trace.{Trace}
 use Rattle.group_state.specs.Groups.{Group}
@@ -13,7 +14,7 @@ use Rattle.record_rows.specs.Deeds.{Deed}
 use Rattle.site_deeds.specs.Changing.{AreByChanges, deeds_of}
 use Rattle.site_deeds.specs.Doing.{BeginsDeeds}
 use Rattle.site_deeds.specs.Exceptions.{Exceptions}
-use Rattle.fed_logs.specs.Feeds.{is_answer_of_mover, part_of_mover, part_of_reader}
+use Rattle.fed_logs.specs.Feeds.{AllGoUpTo, is_answer_of_mover, is_up_to_limit, part_of_mover, part_of_reader}
 use Rattle.fed_logs.specs.ShownBreaks.{BrokeAsTraces}
 use Rattle.consistency.specs.Bears.{Run}
 use Rattle.pair_table.specs.declared.level.Level.{Level}
@@ -41,9 +42,9 @@ use Rattle.mover.specs.Moves.{DidAll, KeepsAll, KnowsDuplex, MakesAll, Moved, ar
 use Rattle.mover.specs.Numbers.{UsesNumbers, UsesNumbersOf}
 use Rattle.mover.specs.Steps.{AreMade}
 use Rattle.mover.specs.Rounds.{AllRead, AreLanesOf, Read, SeatsAreBack}
-use Rattle.mover.specs.Epochs.{AllTurnOut, AreStepsOf, BearsBehind, EpochGoes, EpochRun, IfReached, LaneWent, Shows, end_result}
+use Rattle.mover.specs.Epochs.{AllTurnOut, AreStepsOf, BearsBehind, EpochGoes, EpochRun, HoldNone, IfReached, LaneWent, Shows, end_result}
 use Rattle.mover.proofs.CutBreaks.{mover_shows_at_cuts}
-use Rattle.mover.proofs.LaneFeeds.{log_is_fed}
+use Rattle.mover.proofs.LaneFeeds.{lane_up_to, log_is_fed, some_item}
 use Rattle.mover.proofs.StepsMade.{made_are_steps}
 use Rattle.mover.proofs.LogParts.{contains_filtered, limited_all, log_of, mover_part, reader_part, seats_alone, up_to_limit}
 use Rattle.mover.proofs.MovedOn.{on_ok}
@@ -137,6 +138,14 @@ module _ {S : Type 0} (tells : Type 0) (left : S → Option (List ℕ)) (faults 
   fed_so : (traces : List Trace) → KeepsGroup at.first → AllTurnOut left traces old new → IsFedLog traces at.first end log
   fed_so traces keeps turns = log_is_fed left faults at.first end limit log old new keeps history.runs seats_are lanes lane_went traces turns
 
+  up_to_so : (traces : List Trace) → HoldNone old → AllTurnOut left traces old new → AllGoUpTo limit traces log
+  up_to_so traces none_held turns k t there =
+      let below : k < length old = omega (arith, slice_get_within traces k t there, turns.many) in
+      let d = some_item old k below in
+      let part = reader_part at.first end next.calls seats history k (omega (arith, below, lanes.many, back.many)) in
+      subst (λ (l : List Answer). list_all (is_up_to_limit limit t) l ≡ true) (sym part)
+      (lane_up_to left faults t limit (seat_at seats k) (slice_index_or old k d) (slice_index_or new k d) (read.each k d below) (none_held.each k d below) (turns.each k t d there))
+
   abbrev any_done : Plans
   any_done = λ k v. true
 
@@ -150,6 +159,7 @@ module _ {S : Type 0} (tells : Type 0) (left : S → Option (List ℕ)) (faults 
   pub epoch_bears : BearsBehind left limit at.first end old new site log moved.steps
   epoch_bears = record {
     fed = fed_so;
+    up_to = up_to_so;
     tracks = λ size traces held done keeps turns knows begins n few.
         logs_bear size traces held at.first end log site.time site.told done (deeds_of moved.steps) (fed_so traces keeps turns) begins (makes_so done knows) n few;
     breaks = λ traces keeps turns n few k b t there breaks awaits low early.

@@ -64,6 +64,7 @@ module _ {S : Type 0} (tells : Type 0) (left : S → Option (List ℕ)) (faults 
   none_bears : BearsBehind left limit first first lanes lanes site [] []
   none_bears = record {
     fed = fed_none;
+    up_to = λ traces none_held turns k t there. refl;
     tracks = λ size traces held done keeps turns knows begins n few. subst (λ (m : ℕ). HoldsBehind size traces held site [] m) (sym (at_none n few)) begins.truth;
     breaks = λ traces keeps turns n few k b t there breaks awaits late early. absurd (late_or_early n few b late early);
     times = λ n m nm few. (rises n m nm few, subst (λ (m : ℕ). time_meant_behind (take m []) site.time ≤ limit) (sym (at_none m few)) low);

@@ -1,5 +1,5 @@
 -- Each reader's part of an epoch's log is fed by its trace.
-use Rattle.std.proofs.Common.{◌≡◌, ◌≢◌, ◌<◌, ℕ, true, List, [], ◌∷◌, length, Option, Some, None, refl, sym, ◌∙◌, subst, arith}
+use Rattle.std.proofs.Common.{◌≡◌, ◌≢◌, ◌<◌, ℕ, true, List, [], ◌∷◌, length, map, Option, Some, None, refl, sym, ap, ◌∙◌, subst, arith}
 use Rattle.std.specs.Prelude.{IsSomeAnd, slice_index_or}
 use Rattle.std.specs.List.{list_all}
 use Rattle.std.proofs.lemmas.Option.{slice_get_within}
@@ -9,13 +9,16 @@ use Rattle.group_state.specs.Groups.{Group}
 use Rattle.group_state.specs.Runs.{Answer, Runs}
 use Rattle.group_state.specs.Sound.{KeepsGroup}
 use Rattle.told_tracks.specs.Told.{floor_of}
-use Rattle.fed_logs.specs.Feeds.{AreFedBy, part_of_reader}
+use Rattle.fed_logs.specs.Feeds.{AreFedBy, is_up_to_limit, part_of_reader}
 use Rattle.fed_logs.specs.Logs.{IsFedLog, is_call_of_seat}
 use Rattle.lane_feed.specs.Reads.{ReadsOn, Went}
+use Rattle.lane_feed.specs.Limits.{IsHeldUpTo}
+use Rattle.turn_group.specs.Calls.{as_answer}
+use Rattle.turn_group.specs.Seats.{ReaderSeatState, calls_at}
 use Rattle.mover.specs.declared.lane.Lane.{Lane}
 use Rattle.mover.specs.Readers.{LaneReaderState}
 use Rattle.mover.specs.Lanes.{HadBroken, HasFaultFrom, IsReaderOf}
-use Rattle.mover.specs.Rounds.{AreLanesOf}
+use Rattle.mover.specs.Rounds.{AreLanesOf, Read}
 use Rattle.mover.specs.Epochs.{AllTurnOut, LaneWent, TurnsOut}
 
 -- some item of a list that has one
@@ -53,6 +56,25 @@ module _ {S : Type 0} (left : S → Option (List ℕ)) (faults : S → ℕ) (t :
           halted : (halt : Option Halt) → was.feed.halted ≡ halt → AreFedBy t (floor_of first k) run
           halted None goes = subst (λ (n : ℕ). AreFedBy t n run) (sym (reader.floor goes)) (went_so left t old new was is run went.0 (turns.0 goes) goes).fed
           halted (Some halt) stopped = subst (AreFedBy t (floor_of first k)) (sym (went.0.stays halt stopped).1) tt
+
+  -- The calls of a reader that holds no batch at first go as far towards the limit as the trace lets them.
+  pub lane_up_to : (limit : ℕ) (seat : Option ReaderSeatState) (old new : Lane S) → IsSomeAnd old.reader (λ was. IsSomeAnd new.reader (Read left faults limit seat old new was)) → IsSomeAnd old.reader (λ r. r.feed.halted ≡ None → r.feed.held ≡ None) → LaneTurnsOut old new
+      → list_all (is_up_to_limit limit t) (map as_answer (calls_at seat)) ≡ true
+  lane_up_to limit seat old new read none turns = of old.reader new.reader read none turns
+    where
+      of : (p q : Option LaneReaderState) → IsSomeAnd p (λ was. IsSomeAnd q (Read left faults limit seat old new was)) → IsSomeAnd p (λ r. r.feed.halted ≡ None → r.feed.held ≡ None)
+          → IsSomeAnd p (λ was. IsSomeAnd q (λ is. (was.feed.halted ≡ None → TurnsOut left t old new was is) × (was.feed.halted ≢ None → HadBroken t was.feed))) → list_all (is_up_to_limit limit t) (map as_answer (calls_at seat)) ≡ true
+      of None q read none turns = absurd read
+      of (Some was) None read none turns = absurd read
+      of (Some was) (Some is) read none turns = halted was.feed.halted refl
+        where
+          halted : (halt : Option Halt) → was.feed.halted ≡ halt → list_all (is_up_to_limit limit t) (map as_answer (calls_at seat)) ≡ true
+          halted None goes =
+              let out = turns.0 goes in
+              let u = read.up_to goes out.bytes out.ahead in
+              let g = out.gave u.reads.used u.reads.rest u.reads.split u.reads.left in
+              (u.went out.outlook t g.0 g.1 g.2 g.3 (subst (IsHeldUpTo limit t) (sym (none goes)) tt)).calls
+          halted (Some halt) stopped = ap (list_all (is_up_to_limit limit t)) (read.reads_on.stays halt stopped).1
 
 module _ {S : Type 0} (left : S → Option (List ℕ)) (faults : S → ℕ) (first end : Group) (limit : ℕ) (log : List Answer) (old new : List (Lane S)) (keeps : KeepsGroup first) (runs : Runs first log end) (seats : list_all is_call_of_seat log ≡ true) (lanes : AreLanesOf first limit old)
     (went : (k : ℕ) (d : Lane S) → k < length old → LaneWent left faults (part_of_reader k log) (slice_index_or old k d) (slice_index_or new k d)) where

@@ -14,6 +14,7 @@ use Rattle.lane_feed.specs.Reads.{ReadsOn}
 use Rattle.lane_feed.specs.Tellers.{BreaksBelow, HasFaultBy, TellerState, TellsOn, break_bound}
 use Rattle.lane_feed.proofs.Below.{below_in_turn}
 use Rattle.lane_feed.proofs.InTurn.{reads_in_turn}
+use Rattle.lane_feed.proofs.UpToLimit.{up_to_in_turn}
 use Rattle.turn_group.specs.Seats.{TurnState}
 use Rattle.mover.specs.declared.lane.Lane.{Lane}
 use Rattle.mover.specs.Readers.{LaneReaderState}
@@ -55,6 +56,7 @@ module _ (limit : ℕ) (before mid now : Option (List ℕ)) where
     answers = then.answers ∙ ap (λ (l : List Answer). l ++ then.gained) first.answers ∙ append_assoc (answers_of old) first.gained then.gained;
     same = record { control = then.same.control ∙ first.same.control; heads = then.same.heads ∙ first.same.heads };
     reads_on = reads_in_turn before mid now old.feed turn.feed new.feed first.gained then.gained first.reads_on then.reads_on;
+    up_to = up_to_in_turn limit before mid now old.feed turn.feed new.feed first.gained then.gained first.reads_on first.up_to then.reads_on then.up_to;
     below = breaks_then old.feed turn.feed new.feed first.gained then.gained first.reads_on first.below then.reads_on then.below;
     fault = faults_then old.feed.halted turn.feed.halted new.feed.halted faults between risen (λ halt is. ap (λ (f : FeedState). f.halted) (first.reads_on.stays halt is).0) (λ halt is. ap (λ (f : FeedState). f.halted) (then.reads_on.stays halt is).0) first.fault then.fault;
   }

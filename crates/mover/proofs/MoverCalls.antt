@@ -20,8 +20,10 @@ use Rattle.group_state.specs.Machine.Call.{Form}
 use Rattle.group_state.specs.Runs.{Answer, shown_by}
 use Rattle.record_rows.specs.Deeds.{Deed, rows_behind, time_meant_behind}
 use Rattle.record_rows.specs.Deeds.Deed.{Logged, Changed, Marked}
+use Rattle.record_rows.specs.GroupRows.{is_shown_done}
 use Rattle.record_rows.specs.Hits.{hit_now}
 use Rattle.record_rows.proofs.Counting.{once}
+use Rattle.row_changes.specs.Toward.{is_settled}
 use Rattle.site_deeds.specs.Changing.{AreByChanges, deeds_of}
 use Rattle.site_deeds.specs.Doing.{BeginsDeeds, DoesDeeds}
 use Rattle.site_deeds.specs.Exceptions.{excepted_behind}
@@ -31,7 +33,7 @@ use Rattle.site_deeds.proofs.Single.{no_call}
 use Rattle.site_deeds.proofs.Turning.{leave_in_turn}
 use Rattle.site_deeds.proofs.Widening.{begins_still, does_still}
 use Rattle.fed_logs.specs.Laws.{WasShown}
-use Rattle.fed_logs.specs.Moves.{AreQuiet, Following, HasRowIn, IsDuplex, KeepsCall, KeepsShown, MakesAllDeeds, MakesDeeds, Plans, ShowsNothing, is_plan_shown_done, plans_with_shown}
+use Rattle.fed_logs.specs.Moves.{AreQuiet, Following, HasRowIn, IsDuplex, KeepsCall, KeepsShown, MakesAllDeeds, MakesDeeds, Plans, IsUnsettled, ShowsNothing, is_plan_shown_done, plans_with_shown}
 use Rattle.turn.specs.Turn.{ticketed}
 use Rattle.turn_group.specs.Calls.{MadeCall, as_answer}
 use Rattle.turn_group.specs.Notes.{is_of_carried}
@@ -56,7 +58,7 @@ use Rattle.mover.proofs.LogMoves.{entries_of_live, logged_fewer, logged_rest, lo
 use Rattle.mover.proofs.LogSteps.{LogSteps, follow_of, log_steps}
 use Rattle.mover.proofs.MovedOn.{in_rows_alone}
 use Rattle.mover.proofs.OwedExactly.{owed_none, owed_once, stood_faded, stood_logged}
-use Rattle.mover.proofs.SamePairs.{apart_still, at_of, before, contains_at, fade_pair}
+use Rattle.mover.proofs.SamePairs.{apart_still, at_of, before, contains_at, fade_pair, none_there}
 use Rattle.mover.proofs.SiteCalls.{fast_then, none_waits}
 use Rattle.mover.proofs.ToldHits.{hits_rise}
 
@@ -207,18 +209,18 @@ empty_of (x ∷ l) is = absurd cc
 
 -- why a group isn't logged: its cut is below the time that is meant, or at it with nothing to log
 abbrev IsLeftOut : FormedGroup → SiteState → Type 0
-IsLeftOut group site = (group.cut.0 < site.time) ⊎ ((group.cut.0 ≡ site.time) × (group.entries ≡ []) × (group.breaks ≡ []))
+IsLeftOut group site = (group.cut.0 < site.time) ⊎ ((group.cut.0 ≡ site.time) × (group.entries ≡ []) × (group.breaks ≡ []) × (list_any (matures group) site.told ≡ false))
 
 left_out : (group : FormedGroup) (site : SiteState) → is_to_log group site.time site.told ≡ false → IsLeftOut group site
 left_out group site is = by (nat_eq group.cut.0 site.time) refl is
   where
-    both : (a b c : Bool) → (not (a && b) || c) ≡ false → (a ≡ true) × (b ≡ true)
-    both true true c e = (refl, refl)
+    both : (a b c : Bool) → (not (a && b) || c) ≡ false → (a ≡ true) × (b ≡ true) × (c ≡ false)
+    both true true c e = (refl, refl, e)
     both true false c e = absurd cc
     both false b c e = absurd cc
 
     by : (t : Bool) → nat_eq group.cut.0 site.time ≡ t → cond t (not (are_none group.entries && are_none group.breaks) || list_any (λ r. matures group r) site.told) (nat_lt site.time group.cut.0) ≡ false → IsLeftOut group site
-    by true e is = let parts = both (are_none group.entries) (are_none group.breaks) (list_any (λ r. matures group r) site.told) is in inr (eqb-true group.cut.0 site.time e, empty_of group.entries parts.0, empty_of group.breaks parts.1)
+    by true e is = let parts = both (are_none group.entries) (are_none group.breaks) (list_any (λ r. matures group r) site.told) is in inr (eqb-true group.cut.0 site.time e, empty_of group.entries parts.0, empty_of group.breaks parts.1, parts.2)
     by false e is = let other = eqb-false group.cut.0 site.time e in let up = ltb-false site.time group.cut.0 is in inl (omega (arith, other, up))
 
 module _ (tells : Type 0) (limit : Stamp) (r : forming.Forming) (group : FormedGroup) (seat turn : MoverSeatState) (site : SiteState) (plant : PlantState) (f : FormsGroup limit r group seat turn) (knows : KnowsSite limit.0 seat site) (carried : list_all (is_of_carried seat.known) group.entries ≡ true)
@@ -232,6 +234,14 @@ module _ (tells : Type 0) (limit : Stamp) (r : forming.Forming) (group : FormedG
   no_row : {is : PairState → Type 0} (k v : ℕ) → group.cut.0 < site.time → HasRowIn is k v site.told → ⊥
   no_row k v early has = let at = at_of site.told has.row has.among in let e : slice_get [] at.0 ≡ Some has.row = ap (λ (l : List PairRow). slice_get l at.0) (sym (no_rows early)) ∙ at.1 in cc e
 
+  -- a row that the group makes duplex isn't among those that are pending or copying
+  none_shown_done : list_any (matures group) site.told ≡ false → (k v : ℕ) → HasRowIn IsUnsettled k v site.told → is_plan_shown_done k v (shown_in group) ≡ false
+  none_shown_done none k v has =
+      let at = at_of site.told has.row has.among in
+      let left : (not (is_settled has.row.state) && is_shown_done group has.row) ≡ false = none_there (matures group) site.told at.0 has.row none at.1 in
+      let own : is_shown_done group has.row ≡ false = subst (λ (b : Bool). (not b && is_shown_done group has.row) ≡ false) has.state left in
+      subst (λ (j : ℕ). is_plan_shown_done j v (shown_in group) ≡ false) has.control (subst (λ (w : ℕ). is_plan_shown_done has.row.control w (shown_in group) ≡ false) has.volume own)
+
   shows_nothing : ShowsNothing site.time site.told (shown_in group)
   shows_nothing = by (left_out group site out)
     where
@@ -239,12 +249,14 @@ module _ (tells : Type 0) (limit : Stamp) (r : forming.Forming) (group : FormedG
       by (inl early) = record {
         at = omega (arith, early);
         entries = no_entries seat.known site.told group.entries (no_rows early) knows.rows carried;
+        plans = λ k v has. absurd (no_row k v early has);
         breaks = λ k v has. absurd (no_row k v early has);
         early = λ k broken. early;
       }
       by (inr same) = record {
         at = omega (arith, same.0);
         entries = same.1;
+        plans = none_shown_done same.3;
         breaks = λ k v has. ap (λ (l : List (ℕ × Stamp × Cause)). list_any (λ (b : ℕ × Stamp × Cause). b.0 == k) l) same.2;
         early = λ k broken. absurd (true≢false (sym broken ∙ ap (λ (l : List (ℕ × Stamp × Cause)). list_any (λ (b : ℕ × Stamp × Cause). b.0 == k) l) same.2));
       }

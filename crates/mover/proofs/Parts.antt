@@ -17,10 +17,11 @@ use Rattle.lane_feed.specs.Tellers.{IsToldBy, StandsAs, HasFaultBy, IsHaltBelow,
 use Rattle.lane_feed.proofs.Below.{nothing_breaks, below_in_turn, copies_tell_no_break}
 use Rattle.lane_feed.proofs.InTurn.{reads_nothing}
 use Rattle.lane_feed.proofs.Telling.{tells_nothing, tells_in_turn}
+use Rattle.lane_feed.proofs.UpToLimit.{copies_go_up_to, none_up_to, nothing_up_to, tells_up_to_in_turn}
 use Rattle.turn_group.specs.Calls.{as_answer}
 use Rattle.turn_group.specs.Seats.{ReaderSeatState, TurnState, calls_at}
 use Rattle.mover.specs.Readers.{LaneReaderState, SitsAt, teller_of}
-use Rattle.mover.specs.Lanes.{AreLastCopies, AreLastOf, DidPart, EndsIn, HasFaultFrom, IsRefusal, MayGoOn, MayRead, ReadsInRound, SeatBreaks, SeatCopies, SeatTells, Sits, TellsFor, answers_at, answers_of}
+use Rattle.mover.specs.Lanes.{AreLastCopies, AreLastOf, DidPart, EndsIn, HasFaultFrom, IsRefusal, MayGoOn, MayRead, ReadsInRound, SeatCopies, SeatTakesLimit, SeatTells, Sits, TellsFor, answers_at, answers_of}
 
 -- ---- breaks
 
@@ -60,33 +61,42 @@ tells_none heads left feed seat = tells_nothing left feed (teller_of heads seat)
 pub tells_then : (heads : List VolumeHead) (before mid now : Option (List ℕ)) (a b c : FeedState) (s t u : ReaderSeatState) → SeatTells heads before mid a b s t → SeatTells heads mid now b c t u → SeatTells heads before now a c s u
 tells_then heads before mid now a b c s t u h k = tells_in_turn before mid now a b c (teller_of heads s) (teller_of heads t) (teller_of heads u) h k
 
-pub breaks_none : (heads : List VolumeHead) (limit : ℕ) (left : Option (List ℕ)) (feed : FeedState) (seat : ReaderSeatState) → SeatBreaks heads limit left feed feed seat seat
-breaks_none heads limit left feed seat = nothing_breaks limit left feed (teller_of heads seat)
+pub takes_none : (heads : List VolumeHead) (limit : ℕ) (left : Option (List ℕ)) (feed : FeedState) (seat : ReaderSeatState) → SeatTakesLimit heads limit left left feed feed seat seat
+takes_none heads limit left feed seat = record { up_to = nothing_up_to limit left feed (teller_of heads seat); below = nothing_breaks limit left feed (teller_of heads seat) }
 
-pub breaks_then : (heads : List VolumeHead) (limit : ℕ) (before mid now : Option (List ℕ)) (a b c : FeedState) (s t u : ReaderSeatState) → SeatTells heads before mid a b s t → SeatBreaks heads limit before a b s t → SeatTells heads mid now b c t u → SeatBreaks heads limit mid b c t u
-    → SeatBreaks heads limit before a c s u
-breaks_then heads limit before mid now a b c s t u h low k then = below_in_turn limit before mid now a b c (teller_of heads s) (teller_of heads t) (teller_of heads u) h low k then
+pub takes_then : (heads : List VolumeHead) (limit : ℕ) (before mid now : Option (List ℕ)) (a b c : FeedState) (s t u : ReaderSeatState) → SeatTells heads before mid a b s t → SeatTakesLimit heads limit before mid a b s t → SeatTells heads mid now b c t u
+    → SeatTakesLimit heads limit mid now b c t u → SeatTakesLimit heads limit before now a c s u
+takes_then heads limit before mid now a b c s t u h low k then = record {
+  up_to = tells_up_to_in_turn limit before mid now a b c (teller_of heads s) (teller_of heads t) (teller_of heads u) h low.up_to k then.up_to;
+  below = below_in_turn limit before mid now a b c (teller_of heads s) (teller_of heads t) (teller_of heads u) h low.below k then.below;
+}
 
 pub copies_none : (heads : List VolumeHead) (feed : FeedState) (seat : ReaderSeatState) → SeatCopies heads feed seat seat
-copies_none heads feed seat = record { reads = λ left. tells_none heads left feed seat; below = λ limit left. breaks_none heads limit left feed seat }
+copies_none heads feed seat = record { reads = λ left. tells_none heads left feed seat; takes = λ limit left. takes_none heads limit left feed seat }
 
 pub copies_then : (heads : List VolumeHead) (feed : FeedState) (s t u : ReaderSeatState) → SeatCopies heads feed s t → SeatCopies heads feed t u → SeatCopies heads feed s u
 copies_then heads feed s t u h k = record {
   reads = λ left. tells_then heads left left left feed feed feed s t u (h.reads left) (k.reads left);
-  below = λ limit left. breaks_then heads limit left left left feed feed feed s t u (h.reads left) (h.below limit left) (k.reads left) (k.below limit left);
+  takes = λ limit left. takes_then heads limit left left left feed feed feed s t u (h.reads left) (h.takes limit left) (k.reads left) (k.takes limit left);
 }
 
 -- One step that copies.
 pub copies_one : (heads : List VolumeHead) (feed : FeedState) (s t : ReaderSeatState) (joined : Option CopyJoin) → feed.halted ≡ None → ((left : Option (List ℕ)) → SeatTells heads left left feed feed s t) → IsCopiedBy joined feed (teller_of heads s) (teller_of heads t)
     → SeatCopies heads feed s t
-copies_one heads feed s t joined goes reads copied = record { reads = reads; below = λ limit left. copies_tell_no_break limit left joined feed (teller_of heads s) (teller_of heads t) goes copied }
+copies_one heads feed s t joined goes reads copied = record {
+  reads = reads;
+  takes = λ limit left. record {
+    up_to = copies_go_up_to limit left joined feed (teller_of heads s) (teller_of heads t) (reads left) copied;
+    below = copies_tell_no_break limit left joined feed (teller_of heads s) (teller_of heads t) goes copied;
+  };
+}
 
 pub reads_and_copies : (heads : List VolumeHead) (before now : Option (List ℕ)) (old feed : FeedState) (s t u : ReaderSeatState) → SeatTells heads before now old feed s t → SeatCopies heads feed t u → SeatTells heads before now old feed s u
 reads_and_copies heads before now old feed s t u h k = tells_then heads before now now old feed feed s t u h (k.reads now)
 
-pub breaks_and_copies : (heads : List VolumeHead) (limit : ℕ) (before now : Option (List ℕ)) (old feed : FeedState) (s t u : ReaderSeatState) → SeatTells heads before now old feed s t → SeatBreaks heads limit before old feed s t → SeatCopies heads feed t u
-    → SeatBreaks heads limit before old feed s u
-breaks_and_copies heads limit before now old feed s t u h low k = breaks_then heads limit before now now old feed feed s t u h low (k.reads now) (k.below limit now)
+pub takes_and_copies : (heads : List VolumeHead) (limit : ℕ) (before now : Option (List ℕ)) (old feed : FeedState) (s t u : ReaderSeatState) → SeatTells heads before now old feed s t → SeatTakesLimit heads limit before now old feed s t → SeatCopies heads feed t u
+    → SeatTakesLimit heads limit before now old feed s u
+takes_and_copies heads limit before now old feed s t u h low k = takes_then heads limit before now now old feed feed s t u h low (k.reads now) (k.takes limit now)
 
 -- ---- how calls end
 
@@ -166,6 +176,7 @@ reads_none limit left n old feed seat was last is = subst (λ (r : LaneReaderSta
   answers = sym (append-nil (answers_of (reader_with feed seat last)));
   same = record { control = refl; heads = refl };
   reads_on = reads_nothing left feed;
+  up_to = none_up_to limit left feed;
   below = record { told = λ bytes there. refl; halts = λ goes bytes there. subst (IsHaltBelow limit) (sym goes) tt };
   fault = no_fault feed.halted n;
 })
@@ -190,14 +201,15 @@ goes_on feed unbroken goes = is_unbroken feed.halted (none_of (broken_in feed.ha
 
 -- Reading and copying in turns of a seat.
 pub reads_part : (limit : ℕ) (before now : Option (List ℕ)) (faults risen : ℕ) (old : LaneReaderState) (seat next : ReaderSeatState) (feed : FeedState) (heads : List VolumeHead) (last : Option Reading) → old.seat ≡ Some seat → old.feed.halted ≡ None
-    → IsToldBy old.feed (teller_of heads seat) → IsToldBy feed (teller_of heads next) → SeatTells heads before now old.feed feed seat next → SeatBreaks heads limit before old.feed feed seat next → HasFaultBy faults risen feed.halted
+    → IsToldBy old.feed (teller_of heads seat) → IsToldBy feed (teller_of heads next) → SeatTells heads before now old.feed feed seat next → SeatTakesLimit heads limit before now old.feed feed seat next → HasFaultBy faults risen feed.halted
     → ReadsInRound limit before now faults risen old (reader_with feed (Some next) last)
-reads_part limit before now faults risen old seat next feed heads last is goes was told reads low by = record {
+reads_part limit before now faults risen old seat next feed heads last is goes was told reads takes by = record {
   gained = reads.gained;
   answers = reads.answers ∙ ap (λ (s : Option ReaderSeatState). map as_answer (calls_at s) ++ reads.gained) (sym is);
   same = record { control = sym told.control ∙ reads.same.control ∙ was.control; heads = sym told.volumes ∙ was.volumes };
   reads_on = reads.reads_on;
-  below = record { told = λ bytes there. low.told_so bytes there reads.gained reads.answers; halts = low.halts };
+  up_to = takes.up_to reads.gained reads.answers;
+  below = record { told = λ bytes there. takes.below.told_so bytes there reads.gained reads.answers; halts = takes.below.halts };
   fault = fault_from old.feed.halted feed.halted faults risen goes by;
 }
 

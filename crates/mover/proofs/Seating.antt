@@ -9,6 +9,7 @@ use Rattle.group_state.specs.Groups.{Group}
 use Rattle.group_state.specs.Runs.{Answer}
 use Rattle.mover.specs.Groups.{is_at_limit}
 use Rattle.lane_feed.specs.Reads.{ReadsOn}
+use Rattle.lane_feed.specs.Limits.{GoesUpTo}
 use Rattle.turn_group.specs.Calls.{as_answer}
 use Rattle.turn_group.specs.Notes.{known_of}
 use Rattle.turn_group.specs.Seats.{MoverSeatState, ReaderSeatState, TurnState, calls_at, new_reader, new_readers, seat_at}
@@ -90,6 +91,8 @@ module _ (at : TurnState) (limit k : ℕ) where
             same = did.1.same;
             reads_on = subst (λ (l : List Answer). ReadsOn (left a.source) (left b.source) was.feed r.feed l) answers
                 (subst (λ (x : S). ReadsOn (left x) (left b.source) was.feed r.feed did.1.gained) source (subst (λ (x : S). ReadsOn (left s) (left x) was.feed r.feed did.1.gained) (sym then) did.1.reads_on));
+            up_to = subst (λ (l : List Answer). GoesUpTo limit (left a.source) (left b.source) was.feed r.feed l) answers
+                (subst (λ (x : S). GoesUpTo limit (left x) (left b.source) was.feed r.feed did.1.gained) source (subst (λ (x : S). GoesUpTo limit (left s) (left x) was.feed r.feed did.1.gained) (sym then) did.1.up_to));
             below = subst (λ (l : List Answer). BreaksInRound limit (left a.source) was.feed r.feed l) answers (subst (λ (x : S). BreaksInRound limit (left x) was.feed r.feed did.1.gained) source did.1.below);
             fault = subst (λ (x : S). HasFaultFrom was.feed.halted (faults x) (faults b.source) r.feed.halted) source (subst (λ (x : S). HasFaultFrom was.feed.halted (faults s) (faults x) r.feed.halted) (sym then) did.1.fault);
             within = did.0.within;

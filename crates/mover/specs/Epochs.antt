@@ -18,7 +18,7 @@ use Rattle.site_deeds.specs.Changing.{AreByChanges, DeedOfChanges, deeds_of}
 use Rattle.site_deeds.specs.Doing.{BeginsDeeds}
 use Rattle.site_deeds.specs.Exceptions.{Exceptions}
 use Rattle.fed_logs.specs.Deeds.{held_behind}
-use Rattle.fed_logs.specs.Feeds.{part_of_mover, part_of_reader, truth_of}
+use Rattle.fed_logs.specs.Feeds.{AllGoUpTo, part_of_mover, part_of_reader, truth_of}
 use Rattle.fed_logs.specs.Laws.{ReportsBreak}
 use Rattle.fed_logs.specs.Logs.{AreSized, AwaitsBreak, BeginsLog, HoldTruth, IsFedLog, Sizes, is_call_of_seat}
 use Rattle.fed_logs.specs.Moves.{MakesDeeds, Plans}
@@ -83,6 +83,10 @@ pub record AllTurnOut {S : Type 0} (left : S → Option (List ℕ)) (traces : Li
   pub falls : IsTrue (none_falls traces)
   pub each : (k : ℕ) (t : Trace) (d : Lane S) → slice_get traces k ≡ Some t → let a = slice_index_or old k d in let b = slice_index_or new k d in
       IsSomeAnd a.reader (λ was. IsSomeAnd b.reader (λ is. (was.feed.halted ≡ None → TurnsOut left t a b was is) × (was.feed.halted ≢ None → HadBroken t was.feed)))
+
+-- No lane's reader that reads on holds a batch.
+pub record HoldNone {S : Type 0} (lanes : List (Lane S)) : Type 0 where
+  pub each : (k : ℕ) (d : Lane S) → k < length lanes → IsSomeAnd (slice_index_or lanes k d).reader (λ r. r.feed.halted ≡ None → r.feed.held ≡ None)
 
 -- ---- breaks below a time
 
@@ -158,10 +162,12 @@ pub record AreStepsOf (run : Run) (site : SiteState) (steps : List DeedOfChanges
 
 -- Each reader's part of the log is fed by its trace. So it is for all traces of which the lanes had read, whichever way they turn out. The shared
 -- state at first is one that every call keeps.
+--   up_to: each reader takes the limit, as far as its trace lets it, if no batch was held at first
 --   times: the time that is meant rises to the limit at most
 --   each: the deeds are steps of each run with these traces, if the shared state at first broke as they do
 pub record BearsBehind {S : Type 0} (left : S → Option (List ℕ)) (limit : ℕ) (group end : Group) (old new : List (Lane S)) (site : SiteState) (log : List Answer) (steps : List DeedOfChanges) : Type 0 where
   pub fed : (traces : List Trace) → KeepsGroup group → AllTurnOut left traces old new → IsFedLog traces group end log
+  pub up_to : (traces : List Trace) → HoldNone old → AllTurnOut left traces old new → AllGoUpTo limit traces log
   pub tracks : (size : Sizes) (traces : List Trace) (held : HeldTracks) (done : Plans) → KeepsGroup group → AllTurnOut left traces old new → KnowsDuplex site.told done
       → BeginsLog size traces held group site.time site.told done
       → (n : ℕ) → n ≤ length (deeds_of steps) → HoldsBehind size traces held site (deeds_of steps) n

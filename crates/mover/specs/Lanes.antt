@@ -22,8 +22,9 @@ use Rattle.lane_feed.specs.declared.reading.Reading.TheVariants as readings
 use Rattle.lane_feed.specs.Feeds.{FeedState}
 use Rattle.write_trace.specs.declared.trace.Trace.{Trace}
 use Rattle.lane_feed.specs.Reads.{HasBroken, ReadsOn}
+use Rattle.lane_feed.specs.Limits.{GoesUpTo}
 use Rattle.lane_feed.specs.Steps.{held_answer, wanted_answer}
-use Rattle.lane_feed.specs.Tellers.{IsToldBy, StandsAs, HasFaultBy, TellsOn, BreaksBelow, IsHaltBelow, break_bound, copying_answers}
+use Rattle.lane_feed.specs.Tellers.{IsToldBy, StandsAs, HasFaultBy, TellsOn, TellsUpTo, BreaksBelow, IsHaltBelow, break_bound, copying_answers}
 use Rattle.turn_group.specs.Calls.{as_answer}
 use Rattle.turn_group.specs.Seats.{TurnState, ReaderSeatState, calls_at, seat_at}
 use Rattle.mover.specs.declared.lane.Lane.{Lane}
@@ -65,14 +66,15 @@ HadBroken t feed = (cause : Cause) × (upto : Stamp) × (feed.halted ≡ Some (h
 abbrev pub SeatTells : List VolumeHead → (before now : Option (List ℕ)) → (old new : FeedState) → (seat next : ReaderSeatState) → Type 0
 SeatTells heads before now old new seat next = TellsOn before now old new (teller_of heads seat) (teller_of heads next)
 
--- The breaks that the seat told are below a limit.
-abbrev pub SeatBreaks : List VolumeHead → (limit : ℕ) → (before : Option (List ℕ)) → (old new : FeedState) → (seat next : ReaderSeatState) → Type 0
-SeatBreaks heads limit before old new seat next = BreaksBelow limit before old new (teller_of heads seat) (teller_of heads next)
+-- The calls that the seat told took a limit: they go as far towards it as the trace lets them, and the breaks are below it.
+pub record SeatTakesLimit (heads : List VolumeHead) (limit : ℕ) (before now : Option (List ℕ)) (old new : FeedState) (seat next : ReaderSeatState) : Type 0 where
+  pub up_to : TellsUpTo limit before now old new (teller_of heads seat) (teller_of heads next)
+  pub below : BreaksBelow limit before old new (teller_of heads seat) (teller_of heads next)
 
--- It is so whatever bytes the source has left, since it is asked for none, and no break is told.
+-- It is so whatever bytes the source has left, since it is asked for none, and whatever the limit is.
 pub record SeatCopies (heads : List VolumeHead) (feed : FeedState) (seat next : ReaderSeatState) : Type 0 where
   pub reads : (left : Option (List ℕ)) → SeatTells heads left left feed feed seat next
-  pub below : (limit : ℕ) (left : Option (List ℕ)) → SeatBreaks heads limit left feed feed seat next
+  pub takes : (limit : ℕ) (left : Option (List ℕ)) → SeatTakesLimit heads limit left left feed feed seat next
 
 -- ---- how a part of a round ends
 
@@ -150,12 +152,13 @@ pub record BreaksInRound (limit : ℕ) (before : Option (List ℕ)) (old new : F
   pub told : (bytes : List ℕ) → IsAhead old.side.reader before bytes → IsTrue (list_all (is_break_below (break_bound limit)) gained)
   pub halts : old.halted ≡ None → (bytes : List ℕ) → IsAhead old.side.reader before bytes → IsHaltBelow limit new.halted
 
--- A reader's calls up to a limit, in turns of its seat, read on.
+-- A reader's calls up to a limit, in turns of its seat, read on, as far as its trace lets them.
 pub record ReadsInRound (limit : ℕ) (before now : Option (List ℕ)) (faults risen : ℕ) (old new : LaneReaderState) : Type 0 where
   pub gained : List Answer
   pub answers : answers_of new ≡ answers_of old ++ gained
   pub same : IsSameLane old.feed new.feed
   pub reads_on : ReadsOn before now old.feed new.feed gained
+  pub up_to : GoesUpTo limit before now old.feed new.feed gained
   pub below : BreaksInRound limit before old.feed new.feed gained
   pub fault : HasFaultFrom old.feed.halted faults risen new.feed.halted
 

@@ -7,6 +7,7 @@ use Rattle.row_changes.specs.Toward.{is_settled}
 use Rattle.group_state.specs.Groups.{Group}
 use Rattle.lane_feed.specs.declared.reading.Reading.TheVariants as readings
 use Rattle.lane_feed.specs.Reads.{ReadsOn}
+use Rattle.lane_feed.specs.Limits.{GoesUpTo}
 use Rattle.turn_group.specs.Calls.{as_answer}
 use Rattle.turn_group.specs.Seats.{MoverSeatState, ReaderSeatState, TurnState, calls_at, new_mover, new_readers, seat_at}
 use Rattle.site_store.specs.declared.store_error.StoreError.{StoreError}
@@ -34,10 +35,11 @@ pub record AreNewSeats (at : TurnState) (mover : MoverSeatState) (readers : List
 
 -- ---- behind
 
--- What a lane's reader did in the turns of its seat: its calls read on.
+-- What a lane's reader did in the turns of its seat: its calls read on, each as far towards the limit as its trace lets it.
 pub record Read {S : Type 0} (left : S → Option (List ℕ)) (faults : S → ℕ) (limit : ℕ) (seat : Option ReaderSeatState) (old new : Lane S) (was is : LaneReaderState) : Type 0 where
   pub same : IsSameLane was.feed is.feed
   pub reads_on : ReadsOn (left old.source) (left new.source) was.feed is.feed (map as_answer (calls_at seat))
+  pub up_to : GoesUpTo limit (left old.source) (left new.source) was.feed is.feed (map as_answer (calls_at seat))
   pub below : BreaksInRound limit (left old.source) was.feed is.feed (map as_answer (calls_at seat))
   pub fault : HasFaultFrom was.feed.halted (faults old.source) (faults new.source) is.feed.halted
   pub within : is.feed.side.upto ≤ limit

@@ -5,7 +5,7 @@ ghost use Rattle.pending_queue.specs.declared.room.Room.{Room as RoomIs};
 ghost use Rattle.lane_feed.specs.declared.reading.Reading.TheVariants as readings;
 ghost use Rattle.lane_feed.specs.Tellers.{IsToldBy, StandsAs, HasFaultBy};
 ghost use Rattle.mover.specs.Readers.{SitsAt, teller_of};
-ghost use Rattle.mover.specs.Lanes.{AllLanesRead, AreLastCopies, AreLastOf, DidAllParts, DidLanePart, DidPart, EndsIn, IsRefusal, LaneReads, MayLaneRead, MayRead, ReadsInRound, SeatBreaks, SeatCopies, SeatTells, Sits, answers_at};
+ghost use Rattle.mover.specs.Lanes.{AllLanesRead, AreLastCopies, AreLastOf, DidAllParts, DidLanePart, DidPart, EndsIn, IsRefusal, LaneReads, MayLaneRead, MayRead, ReadsInRound, SeatCopies, SeatTakesLimit, SeatTells, Sits, answers_at};
 
 use crate::gate::Gate;
 use crate::lane::Lane;
@@ -34,7 +34,7 @@ fn read_on<W: Wait, S: Source, B: Sitting>(
     requires told { IsToldBy feed.old (teller_of B.volumes teller.old.seat) }
     requires limit { feed.old.side.upto ≤ limit.0 }
     ensures reads { SeatTells B.volumes (S.left source.old) (S.left source.new) feed.old feed.new teller.old.seat teller.new.seat }
-    ensures below { SeatBreaks B.volumes limit.0 (S.left source.old) feed.old feed.new teller.old.seat teller.new.seat }
+    ensures takes { SeatTakesLimit B.volumes limit.0 (S.left source.old) (S.left source.new) feed.old feed.new teller.old.seat teller.new.seat }
     ensures told { IsToldBy feed.new (teller_of B.volumes teller.new.seat) }
     ensures within { feed.new.side.upto ≤ limit.0 }
     ensures stands { StandsAs result limit.0 feed.new }
@@ -83,7 +83,7 @@ fn read_and_copy<W: Wait, S: Source, B: Sitting>(
     requires told { IsToldBy feed.old (teller_of B.volumes teller.old.seat) }
     requires limit { feed.old.side.upto ≤ limit.0 }
     ensures reads { SeatTells B.volumes (S.left source.old) (S.left source.new) feed.old feed.new teller.old.seat teller.new.seat }
-    ensures below { SeatBreaks B.volumes limit.0 (S.left source.old) feed.old feed.new teller.old.seat teller.new.seat }
+    ensures takes { SeatTakesLimit B.volumes limit.0 (S.left source.old) (S.left source.new) feed.old feed.new teller.old.seat teller.new.seat }
     ensures told { IsToldBy feed.new (teller_of B.volumes teller.new.seat) }
     ensures within { feed.new.side.upto ≤ limit.0 }
     ensures stands { StandsAs result limit.0 feed.new }
@@ -113,7 +113,7 @@ fn read_with_seat<W: Wait, S: Source, B: Sitting>(
     requires told { IsToldBy feed.old (teller_of B.volumes seat) }
     requires limit { feed.old.side.upto ≤ limit.0 }
     ensures reads { SeatTells B.volumes (S.left source.old) (S.left source.new) feed.old feed.new seat result.1 }
-    ensures below { SeatBreaks B.volumes limit.0 (S.left source.old) feed.old feed.new seat result.1 }
+    ensures takes { SeatTakesLimit B.volumes limit.0 (S.left source.old) (S.left source.new) feed.old feed.new seat result.1 }
     ensures sits { SitsAt B.table B.volumes result.1 }
     ensures told { IsToldBy feed.new (teller_of B.volumes result.1) }
     ensures within { feed.new.side.upto ≤ limit.0 }

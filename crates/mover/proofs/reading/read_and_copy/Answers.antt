@@ -1,4 +1,4 @@
-use Rattle.mover.proofs.Parts.{reads_and_copies, breaks_and_copies, ends_reading}
+use Rattle.mover.proofs.Parts.{reads_and_copies, takes_and_copies, ends_reading}
 use Rattle.mover.specs.Lanes.{answers_at}
 use Rattle.mover.proofs.reading.read_and_copy.Goals as goal
 
@@ -7,10 +7,10 @@ returns-in-AtLimit-clause-reads g c =
     let call = c.read_on-reading in
     reads_and_copies g.B.Sitting.volumes _ _ _ _ c.args.teller.now.seat call.new.teller.seat c.copy_all.new.teller.seat call.ensures.reads c.copy_all.ensures.copies
 
-pub returns-in-AtLimit-clause-below : goal.returns-in-AtLimit-clause-below
-returns-in-AtLimit-clause-below g c =
+pub returns-in-AtLimit-clause-takes : goal.returns-in-AtLimit-clause-takes
+returns-in-AtLimit-clause-takes g c =
     let call = c.read_on-reading in
-    breaks_and_copies g.B.Sitting.volumes c.args.limit.0 _ (g.S.Source.left call.new.source) _ _ c.args.teller.now.seat call.new.teller.seat c.copy_all.new.teller.seat call.ensures.reads call.ensures.below c.copy_all.ensures.copies
+    takes_and_copies g.B.Sitting.volumes c.args.limit.0 _ (g.S.Source.left call.new.source) _ _ c.args.teller.now.seat call.new.teller.seat c.copy_all.new.teller.seat call.ensures.reads call.ensures.takes c.copy_all.ensures.copies
 
 pub returns-in_default : goal.returns-in_default
 returns-in_default g c =
@@ -18,7 +18,7 @@ returns-in_default g c =
     let feed = c.read_on-reading.new.feed in
     record {
       reads = call.reads;
-      below = call.below;
+      takes = call.takes;
       told = call.told;
       within = call.within;
       stands = call.stands;

@@ -1,5 +1,5 @@
 use Rattle.std.proofs.Common.{◌∙◌, refl}
-use Rattle.mover.proofs.Parts.{tells_none, tells_then, breaks_none, breaks_then, no_fault_yet, fault_then, ends_behind, ends_refused}
+use Rattle.mover.proofs.Parts.{tells_none, tells_then, takes_none, takes_then, no_fault_yet, fault_then, ends_behind, ends_refused}
 use Rattle.mover.specs.Lanes.{IsRefusal, answers_at}
 use Rattle.mover.proofs.reading.read_on.Goals as goal
 
@@ -8,7 +8,7 @@ loop-init g c = record {
   told = c.requires.told;
   within = c.requires.limit;
   reads = tells_none g.B.Sitting.volumes (g.S.Source.left c.args.source.now) c.args.feed.now c.args.teller.now.seat;
-  below = breaks_none g.B.Sitting.volumes c.args.limit.0 (g.S.Source.left c.args.source.now) c.args.feed.now c.args.teller.now.seat;
+  takes = takes_none g.B.Sitting.volumes c.args.limit.0 (g.S.Source.left c.args.source.now) c.args.feed.now c.args.teller.now.seat;
   goes = λ was. was;
   fault = λ was. refl;
 }
@@ -25,7 +25,7 @@ loop-preserved g c =
       told = call.told;
       within = call.within;
       reads = tells_then heads _ _ _ _ _ _ first mid then before.reads call.reads;
-      below = breaks_then heads c.args.limit.0 _ _ _ _ _ _ first mid then before.reads before.below call.reads call.below;
+      takes = takes_then heads c.args.limit.0 _ _ _ _ _ _ first mid then before.reads before.takes call.reads (record { up_to = call.up_to; below = call.below });
       goes = λ was. c.in-Joined.ensures.stands.0;
       fault = λ was. no_fault_yet (g.S.Source.faults c.loop.source) (g.S.Source.faults c.read_once.new.source) c.read_once.new.self.halted c.in-Joined.ensures.stands.0 (call.fault (before.goes was)) ∙ before.fault was;
     }
@@ -40,7 +40,7 @@ returns-in_default g c =
     let then = c.read_once.new.teller.seat in
     record {
       reads = tells_then heads _ _ _ _ _ _ first mid then before.reads call.reads;
-      below = breaks_then heads c.args.limit.0 _ _ _ _ _ _ first mid then before.reads before.below call.reads call.below;
+      takes = takes_then heads c.args.limit.0 _ _ _ _ _ _ first mid then before.reads before.takes call.reads (record { up_to = call.up_to; below = call.below });
       told = call.told;
       within = call.within;
       stands = call.stands;

@@ -1,6 +1,6 @@
 use Rattle.std.proofs.Common.{◌≡◌, ◌≤◌, None}
 use Rattle.lane_feed.specs.Tellers.{IsToldBy}
-use Rattle.mover.specs.Lanes.{SeatBreaks, SeatTells}
+use Rattle.mover.specs.Lanes.{SeatTakesLimit, SeatTells}
 use Rattle.mover.specs.Readers.{teller_of}
 use Rattle.mover.proofs.reading.read_on.Given as goal
 
@@ -9,7 +9,7 @@ invariant-loop g l = record {
   told : IsToldBy l.feed (teller_of g.B.Sitting.volumes l.teller.seat);
   within : l.feed.side.upto ≤ l.limit.0;
   reads : SeatTells g.B.Sitting.volumes (g.S.Source.left l.initial.source) (g.S.Source.left l.source) l.initial.feed l.feed l.initial.teller.seat l.teller.seat;
-  below : SeatBreaks g.B.Sitting.volumes l.limit.0 (g.S.Source.left l.initial.source) l.initial.feed l.feed l.initial.teller.seat l.teller.seat;
+  takes : SeatTakesLimit g.B.Sitting.volumes l.limit.0 (g.S.Source.left l.initial.source) (g.S.Source.left l.source) l.initial.feed l.feed l.initial.teller.seat l.teller.seat;
   goes : l.initial.feed.halted ≡ None → l.feed.halted ≡ None;
   fault : l.initial.feed.halted ≡ None → g.S.Source.faults l.source ≡ g.S.Source.faults l.initial.source;
 }

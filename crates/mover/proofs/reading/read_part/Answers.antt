@@ -26,4 +26,4 @@ returns-clause-reads g c =
     let next : LaneReaderState = record { feed = c.read_with_seat-reading.new.feed; seat = Some c.read_with_seat-reading.result.1; last = Some c.read_with_seat-reading.result.0 } in
     subst (λ (r : LaneReaderState). ReadsInRound c.args.limit.0 (g.S.Source.left c.args.source.now) (g.S.Source.left c.read_with_seat-reading.new.source) (g.S.Source.faults c.args.source.now) (g.S.Source.faults c.read_with_seat-reading.new.source) r next) c.reader.view_is
     (reads_part c.args.limit.0 _ _ _ _ was seat c.read_with_seat-reading.result.1 c.read_with_seat-reading.new.feed old.feed.side.reader.volumes (Some c.read_with_seat-reading.result.0) has goes
-    (tells_of c.args.group.now c.args.limit.0 was may seat has).told call.told call.reads call.below (call.fault goes))
+    (tells_of c.args.group.now c.args.limit.0 was may seat has).told call.told call.reads call.takes (call.fault goes))

@@ -3,6 +3,7 @@ use Rattle.std.specs.Option.{is_some}
 use Rattle.lane_feed.specs.Feeds.{FeedState}
 use Rattle.lane_feed.specs.declared.reading.Reading.{Reading}
 use Rattle.lane_feed.proofs.Below.{nothing_breaks, step_below, below_in_turn}
+use Rattle.lane_feed.proofs.UpToLimit.{nothing_up_to, step_tells_up_to, tells_up_to_in_turn}
 use Rattle.lane_feed.proofs.Telling.{tells_nothing, tells_step, tells_in_turn, holds_batch, fault_behind, refused_behind}
 use Rattle.lane_feed.proofs.feed.Feed.read_once.Goals as goal
 
@@ -54,3 +55,18 @@ returns-in-None-clause-below g c =
     let first = c.hand_over.ensures.steps in
     let then = c.join_held-in-None.ensures.steps (g.S.Source.left c.hand_over.new.source) c.args.limit in
     below_in_turn c.args.limit.0 _ _ _ _ _ _ _ _ _ (tells_step _ _ c.args.limit _ _ _ _ first) (step_below _ _ c.args.limit _ _ _ _ first) (tells_step _ _ c.args.limit _ _ _ _ then) (step_below _ _ c.args.limit _ _ _ _ then)
+
+pub returns-in-Some-clause-up_to : goal.returns-in-Some-clause-up_to
+returns-in-Some-clause-up_to g c = nothing_up_to _ _ _ (g.T.Teller.state c.args.teller.now)
+
+pub returns-then-is_some-clause-up_to : goal.returns-then-is_some-clause-up_to
+returns-then-is_some-clause-up_to g c = step_tells_up_to _ _ c.args.limit _ _ _ _ (c.join_held.ensures.steps (g.S.Source.left c.args.source.now) c.args.limit)
+
+pub returns-in-Some-hand_over-clause-up_to : goal.returns-in-Some-hand_over-clause-up_to
+returns-in-Some-hand_over-clause-up_to g c = step_tells_up_to _ _ c.args.limit _ _ _ _ c.hand_over.ensures.steps
+
+pub returns-in-None-clause-up_to : goal.returns-in-None-clause-up_to
+returns-in-None-clause-up_to g c =
+    let first = c.hand_over.ensures.steps in
+    let then = c.join_held-in-None.ensures.steps (g.S.Source.left c.hand_over.new.source) c.args.limit in
+    tells_up_to_in_turn c.args.limit.0 _ _ _ _ _ _ _ _ _ (tells_step _ _ c.args.limit _ _ _ _ first) (step_tells_up_to _ _ c.args.limit _ _ _ _ first) (tells_step _ _ c.args.limit _ _ _ _ then) (step_tells_up_to _ _ c.args.limit _ _ _ _ then)
