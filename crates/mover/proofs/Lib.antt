@@ -6,6 +6,7 @@ pub mod KeptCalls
 pub mod Making
 pub mod MovedOn
 pub mod InSlots
+pub mod SpentSites
 pub mod WorkedOn
 pub mod ToldHits
 pub mod SiteCalls

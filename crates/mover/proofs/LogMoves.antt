@@ -1,6 +1,6 @@
 -- What a formed group that is logged does, and what one that isn't.
 use Rattle.std.proofs.Common.{◌≡◌, inl, inr, ℕ, suc, ◌*◌, ◌<◌, Bool, true, false, not, cond, nat_eq, nat_lt, ◌==◌, ◌&&◌, ◌||◌, List, [], ◌∷◌, ◌++◌, length, Option, Some, None, Result, refl, sym, ap, subst, ◌∙◌, arith, true≢false, slice_get, OnOk}
-use Rattle.std.specs.Prelude.{IsSomeAnd, find}
+use Rattle.std.specs.Prelude.{IsErrOf, IsSomeAnd, find}
 use Rattle.std.specs.List.{All, Contains, list_all, list_any}
 use Rattle.std.proofs.lemmas.Bool.{and_from, and_parts, eq-eqb, eqb-true, ltb-true, or_cases, or_left, or_right}
 use Rattle.std.proofs.lemmas.List.Elements.{All-cons, All-nil}
@@ -26,6 +26,7 @@ use Rattle.site_deeds.specs.Exceptions.{Exceptions, excepted_behind, is_kept, is
 use Rattle.fed_logs.specs.Moves.{HasRowIn, IsLive}
 use Rattle.turn_group.specs.Notes.{KnownVolume, is_of_carried}
 use Rattle.site_store.specs.declared.store_error.StoreError.{StoreError}
+use Rattle.site_store.specs.declared.store_error.StoreError.TheVariants.{Spent}
 use Rattle.site_store.specs.Applying.{excepted_by_apply}
 use Rattle.site_store.specs.Causes.{FailByCounts, HasStoreCause}
 use Rattle.site_store.specs.Jobs.{has_device, is_of_device}
@@ -34,6 +35,7 @@ use Rattle.site_store.specs.Records.{IsOfRecord, VolumesStay, behind_way}
 use Rattle.site_store.specs.Sites.{SiteState, is_written}
 use Rattle.site_store.proofs.ByWays.{RecordWay, by_ways, way_here, way_marked, way_switched}
 use Rattle.mover.specs.Moves.{IsOfLive, IsOfMover, KeepPairs, KnowsRows, MoverWorks, is_device_of_row, is_row_of_number, is_worked_on, known_at_control, row_of_volume}
+use Rattle.mover.specs.Numbers.{IsSiteSpent}
 use Rattle.mover.specs.Slots.{is_track_of_mover}
 use Rattle.mover.proofs.InSlots.{slots_stay}
 use Rattle.mover.proofs.LogSteps.{LogSteps}
@@ -297,13 +299,14 @@ module _ (tells : Type 0) (group : FormedGroup) (site next : SiteState) (way : R
 
 pub log_works : (tells : Type 0) (group : FormedGroup) (site next : SiteState) (old new : PlantState) (result : Result (Unit {0}) StoreError) → site.told ≡ site.table.rows → WorksOnLent tells (IsOfLog site group) old new → HasStoreCause old.faults new.faults result
     → FailByCounts site.failed next.failed old.faults new.faults → OnOk result ((v : ℕ) → is_worked_on next v ≡ true → is_worked_on site v ≡ true)
-    → VolumesStay tells old new → OnOk result ((v x : ℕ) → is_track_of_mover next v x ≡ true → is_track_of_mover site v x ≡ true) → MoverWorks tells site next old new result
-log_works tells group site next old new result same works cause fails rest stay slots = record {
+    → VolumesStay tells old new → OnOk result ((v x : ℕ) → is_track_of_mover next v x ≡ true → is_track_of_mover site v x ≡ true) → (IsErrOf result Spent → IsSiteSpent tells next new) → MoverWorks tells site next old new result
+log_works tells group site next old new result same works cause fails rest stay slots spent = record {
   others = works_lent_more tells (IsOfLog site group) (IsOfMover site) old new among works;
   cause = cause;
   failed = fails;
   rest = rest;
   slots = slots_stay tells site next old new result stay slots;
+  spent = spent;
 }
   where
     record_device : (d : Device) → IsOfRecord site d → IsOfMover site d

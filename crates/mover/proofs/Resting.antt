@@ -1,10 +1,12 @@
 -- A site comes to rest behind its last group: it is applied, failures are told, and a mark is made.
 use Rattle.std.proofs.Common.{◌≡◌, ℕ, Bool, true, false, [], Result, Ok, ap, subst, ◌∙◌, OnOk}
+use Rattle.std.specs.Prelude.{IsErrOf}
 use Rattle.crash_plant.specs.Moments.{PlantState}
 use Rattle.applier.specs.Back.{WorksOnLent}
 use Rattle.pair_table.specs.Tables.{none_clash}
 use Rattle.record_rows.specs.Hits.{hit_now}
 use Rattle.site_store.specs.declared.store_error.StoreError.{StoreError}
+use Rattle.site_store.specs.declared.store_error.StoreError.TheVariants.{Spent}
 use Rattle.site_store.specs.Applying.{Applies, DoesApply, excepted_by_apply}
 use Rattle.site_store.specs.Causes.{FailByCounts, HasStoreCause}
 use Rattle.site_store.specs.Changing.{DoesSuspend, Suspends}
@@ -56,7 +58,7 @@ module _ (tells : Type 0) {P : Type 0} (state : P → PlantState) (site mid : Si
 
   module _ (cut : ℕ) (now : cut ≡ mid.time) (next : SiteState) (last : P) (result : Result (Unit {0}) StoreError) (says : Suspends cut mid next (state then) then last result) (leaves_next : OnOk result (Leaves tells (λ e. e) mid next (state then) (state last)))
       (moments_next : DoesSuspend tells cut mid next (state then) (state last) result) (works_next : WorksOnLent tells (IsOfRecord mid) (state then) (state last)) (cause : HasStoreCause (state then).faults (state last).faults result)
-      (fails : FailByCounts mid.failed next.failed (state then).faults (state last).faults) (stay : VolumesStay tells (state then) (state last)) where
+      (fails : FailByCounts mid.failed next.failed (state then).faults (state last).faults) (stay : VolumesStay tells (state then) (state last)) (uncalled : IsErrOf result Spent → (next ≡ mid) × (last ≡ then)) where
     says_now : Suspends mid.time mid next (state then) then last result
     says_now = subst (λ (t : ℕ). Suspends t mid next (state then) then last result) now says
 
@@ -69,7 +71,7 @@ module _ (tells : Type 0) {P : Type 0} (state : P → PlantState) (site mid : Si
     pub told_by_record : RestsBy tells site next (state first) (state last) result
     told_by_record = record {
       moved = site_then tells site mid next (state first) (state then) (state last) result applied (suspend_moved tells state mid next then last result apart_mid idle_mid level_mid says_now leaves_next moments_now works_next fails);
-      works = works_then tells site mid next (state first) (state then) (state last) result applied_works (suspend_works tells state mid next then last result apart_mid idle_mid level_mid says_now leaves_next moments_now works_next fails cause stay);
+      works = works_then tells site mid next (state first) (state then) (state last) result applied_works (suspend_works tells state mid next then last result apart_mid idle_mid level_mid says_now leaves_next moments_now works_next fails cause stay may_tell.fast uncalled);
       rests = on_both result (λ (t : Tells mid next) (l : Leaves tells (λ e. e) mid next (state then) (state last)). record {
         may = record { fast = fast_then tells (λ e. e) mid next (state then) (state last) may_tell.fast l; level = t.level_is; idle = t.idle };
         told = none_untold_then mid next apart_mid t;
@@ -84,7 +86,7 @@ module _ (tells : Type 0) {P : Type 0} (state : P → PlantState) (site mid next
   pub marked_at_rest : RestsBy tells site next (state first) (state last) result
   marked_at_rest = record {
     moved = site_then tells site mid next (state first) (state then) (state last) result by.moved (mark_moved tells state mid next ended goes_on then last result by.rests.apart by.rests.may.idle ok leaves moments works fails);
-    works = works_then tells site mid next (state first) (state then) (state last) result by.works (mark_works tells state mid next ended goes_on then last result by.rests.apart by.rests.may.idle ok leaves moments works fails cause);
+    works = works_then tells site mid next (state first) (state then) (state last) result by.works (mark_works tells state mid next ended goes_on then last result by.rests.apart by.rests.may.idle ok leaves moments works fails cause by.rests.may.fast);
     rests = on_both result (λ (t : Tells mid next) (l : Leaves tells (λ e. none_excepted) mid next (state then) (state last)). record {
       may = record { fast = fast_then tells (λ e. none_excepted) mid next (state then) (state last) by.rests.may.fast l; level = t.level_is; idle = t.idle };
       told = none_untold_then mid next by.rests.apart t;

@@ -1,6 +1,6 @@
 -- What the calls of a site between two calls of the mover do: a group is applied, and failures are told by a record or a mark.
 use Rattle.std.proofs.Common.{◌≡◌, ◌≢◌, inl, inr, ℕ, zero, suc, ◌+◌, ◌≤◌, ◌<◌, Bool, true, false, not, cond, nat_eq, ◌&&◌, ◌||◌, List, [], ◌∷◌, ◌++◌, length, get_or, replicate, Result, Ok, Err, refl, sym, ap, subst, ◌∙◌, arith, true≢false, OnOk, append-nil}
-use Rattle.std.specs.Prelude.{IsOk}
+use Rattle.std.specs.Prelude.{IsErrOf, IsOk}
 use Rattle.std.specs.List.{All, list_any}
 use Rattle.std.proofs.lemmas.List.Elements.{All-cons, All-nil}
 use Rattle.crash_plant.specs.declared.device.Device.{Device}
@@ -40,6 +40,7 @@ use Rattle.site_deeds.proofs.Single.{no_call}
 use Rattle.site_deeds.proofs.Widening.{begins_still, does_still}
 use Rattle.fed_logs.specs.Moves.{AreFewer, AreQuiet}
 use Rattle.site_store.specs.declared.store_error.StoreError.{StoreError}
+use Rattle.site_store.specs.declared.store_error.StoreError.TheVariants.{Spent}
 use Rattle.site_store.specs.Applying.{Applies, AppliesToVolume, DoesApply, excepted_by_apply, is_applied}
 use Rattle.site_store.specs.Causes.{FailByCounts, HasStoreCause}
 use Rattle.site_store.specs.Changing.{DoesSuspend, Suspends, suspension_deeds, suspension_deeds_of, with_suspensions}
@@ -56,6 +57,7 @@ use Rattle.mover.proofs.InSlots.{slots_applied, slots_at_rest, slots_stay}
 use Rattle.mover.proofs.SamePairs.{apart_still, each_mapped, each_more, each_self, fade_pair, fade_self, fewer_of, gone_then, same_pair, still_self}
 use Rattle.mover.proofs.Making.{hits_made, mark_made}
 use Rattle.mover.proofs.MovedOn.{in_rows_alone, on_both, on_ok}
+use Rattle.mover.proofs.SpentSites.{mark_spent, suspend_spent}
 use Rattle.mover.proofs.ToldHits.{flag_low, hits_rise, still_hit}
 
 -- ---- flags
@@ -191,6 +193,7 @@ module _ (tells : Type 0) (site next : SiteState) (old new : PlantState) (fits :
     failed = apply_fails;
     rest = works_less site next (subst (λ (rows : List PairRow). KeepPairs site.told rows) (sym told_is) (still_self site.told)) written (λ v is. absurd (none_there v is));
     slots = slots_applied tells site next old new applies;
+    spent = λ none. cc none;
   }
     where
       among : (d : Device) → IsOfWaiting site d → IsOfMover site d
@@ -501,13 +504,14 @@ module _ (tells : Type 0) {P : Type 0} (state : P → PlantState) (site next : S
           let there : hit_now site.failed site.told ≢ [] = λ none. let clash : d ∷ hits ≡ [] = sym some ∙ none in cc clash in
           by_ways Goes (by_record there) (by_record there) by_mark moments.way (subst Begin (some_deeds there) moments.begins) (subst Do (some_deeds there) moments.does)
 
-  pub suspend_works : HasStoreCause (state was).faults (state is).faults result → VolumesStay tells (state was) (state is) → MoverWorks tells site next (state was) (state is) result
-  suspend_works cause stay = record {
+  pub suspend_works : HasStoreCause (state was).faults (state is).faults result → VolumesStay tells (state was) (state is) → StandsFast tells site (state was) → (IsErrOf result Spent → (next ≡ site) × (is ≡ was)) → MoverWorks tells site next (state was) (state is) result
+  suspend_works cause stay fast uncalled = record {
     others = works_lent_more tells (IsOfRecord site) (IsOfMover site) (state was) (state is) among works;
     cause = cause;
     failed = fails;
     rest = on_ok result (λ (t : Tells site next). works_less site next (tells_still t) (λ v is. worked_written site v (t.written v is)) (λ v is. absurd (true≢false (sym is ∙ ap (has_device v) t.idle)))) suspend_tells;
     slots = slots_stay tells site next (state was) (state is) result stay (on_ok result (λ (t : Tells site next). slots_at_rest site next (tells_still t) t.idle) suspend_tells);
+    spent = suspend_spent tells state site next was is result fast site.time ok uncalled;
   }
     where
       among : (d : Device) → IsOfRecord site d → IsOfMover site d
@@ -556,13 +560,14 @@ module _ (tells : Type 0) {P : Type 0} (state : P → PlantState) (site next : S
       fewer_stand : tells → OnOk result (StandsFewer site next (state was) (state is))
       fewer_stand told = on_ok result (λ (l : Leaves tells (λ e. none_excepted) site next (state was) (state is)). λ e stands. (none_excepted, l.stands told e stands, λ d x none. refl)) leaves
 
-  pub mark_works : HasStoreCause (state was).faults (state is).faults result → MoverWorks tells site next (state was) (state is) result
-  mark_works cause = record {
+  pub mark_works : HasStoreCause (state was).faults (state is).faults result → StandsFast tells site (state was) → MoverWorks tells site next (state was) (state is) result
+  mark_works cause fast = record {
     others = works_lent_more tells (IsOfMark site) (IsOfMover site) (state was) (state is) among works;
     cause = cause;
     failed = fails;
     rest = on_ok result (λ (t : Tells site next). works_less site next (tells_still t) (λ v is. worked_written site v (t.written v is)) (λ v is. absurd (true≢false (sym is ∙ ap (has_device v) t.idle)))) mark_tells;
     slots = slots_stay tells site next (state was) (state is) result moments.volumes (on_ok result (λ (t : Tells site next). slots_at_rest site next (tells_still t) t.idle) mark_tells);
+    spent = mark_spent tells state site next was is result fast ended ok;
   }
     where
       among : (d : Device) → IsOfMark site d → IsOfMover site d

@@ -36,6 +36,7 @@ module _ (tells : Type 0) (site mid after : SiteState) (old between new : PlantS
     failed = fails_trans site.failed mid.failed after.failed old.faults between.faults new.faults first.failed then.failed;
     rest = on_ok result (λ (rest : (v : ℕ) → IsTrue (is_worked_on after v) → IsTrue (is_worked_on mid v)). λ v is. first.rest v (rest v is)) then.rest;
     slots = slots_then tells site after old new result mid between first.others.site.volumes first.others.elapses then.others.elapses first.slots then.slots;
+    spent = then.spent;
   }
     where
       wider : (d : Device) → IsOfMover mid d → IsOfMover site d
@@ -50,4 +51,5 @@ no_work tells site plant result works is = subst (λ (r : Result (Unit {0}) Stor
   failed = none_fails site.failed plant.faults plant.faults (λ d. refl);
   rest = λ v is. is;
   slots = slots_here tells site plant;
+  spent = λ none. cc none;
 })

@@ -1,5 +1,5 @@
 -- What the mover does: the deeds of its site, kept of its calls, and what it knows of rows.
-use Rattle.std.specs.Prelude.{◌≡◌, ◌⊎◌, ℕ, ◌+◌, ◌-◌, ◌*◌, ◌^◌, ◌<◌, ◌≤◌, ◌==◌, ◌&&◌, ◌||◌, not, if◌then◌else◌, List, [], ◌∷◌, ◌++◌, length, map, Bool, true, false, find, slice_index_or, Option, Some, None, Result, OnOk, IsSomeAnd, IsTrue}
+use Rattle.std.specs.Prelude.{◌≡◌, ◌⊎◌, ℕ, ◌+◌, ◌-◌, ◌*◌, ◌^◌, ◌<◌, ◌≤◌, ◌==◌, ◌&&◌, ◌||◌, not, if◌then◌else◌, List, [], ◌∷◌, ◌++◌, length, map, Bool, true, false, find, slice_index_or, Option, Some, None, Result, OnOk, IsErrOf, IsSomeAnd, IsTrue}
 use Rattle.std.specs.List.{Contains, list_all, list_any}
 use Rattle.tod_stamp.specs.declared.limits.TheConstants.{TRACKS_OF_CYLINDER}
 use Rattle.tod_stamp.specs.declared.stamp.Stamp.{Stamp}
@@ -27,6 +27,7 @@ use Rattle.turn_group.specs.Calls.{MadeCall, as_answer}
 use Rattle.turn_group.specs.Notes.{KnownVolume}
 use Rattle.turn_group.specs.Seats.{MoverSeatState}
 use Rattle.site_store.specs.declared.store_error.StoreError.{StoreError}
+use Rattle.site_store.specs.declared.store_error.StoreError.TheVariants.{Spent}
 use Rattle.applier.specs.Back.{WorksOnLent}
 use Rattle.site_store.specs.Applying.{excepted_by_apply}
 use Rattle.site_store.specs.Causes.{FailByCounts, HasStoreCause}
@@ -36,6 +37,7 @@ use Rattle.site_store.specs.Sites.{SiteState, is_written}
 use Rattle.site_store.specs.Standing.{MayRecord, SiteStands, StandsFast}
 use Rattle.mover.specs.Dropping.{AreOfControls, OwesExactly}
 use Rattle.mover.specs.Groups.{is_at_limit}
+use Rattle.mover.specs.Numbers.{IsSiteSpent}
 use Rattle.mover.specs.Slots.{WritesSlots}
 use Rattle.mover.specs.Steps.{AreMade}
 
@@ -281,7 +283,7 @@ abbrev pub IsOfMover : SiteState → Device → Type 0
 IsOfMover site device = IsStore device ⊎ ((v : ℕ) × (device ≡ Volume v) × IsTrue (is_worked_on site v))
 
 -- Calls of the mover work on these devices alone, and hear and say nothing. A fault is one of the control, the state or a journal, whose count
--- rose, and a volume's job fails exactly if its count rose.
+-- rose, and a volume's job fails exactly if its count rose. Spent comes only where the numbers are spent by then.
 pub record MoverWorks (tells : Type 0) (site after : SiteState) (old new : PlantState) (result : Result (Unit {0}) StoreError) : Type 0 where
   pub others : WorksOnLent tells (IsOfMover site) old new
   pub cause : HasStoreCause old.faults new.faults result
@@ -290,3 +292,4 @@ pub record MoverWorks (tells : Type 0) (site after : SiteState) (old new : Plant
   pub rest : OnOk result ((v : ℕ) → IsTrue (is_worked_on after v) → IsTrue (is_worked_on site v))
   -- Of volumes it writes only slots: those of tracks of rows that aren't suspended, and of items that waited at first.
   pub slots : WritesSlots tells site after old new result
+  pub spent : IsErrOf result Spent → IsSiteSpent tells after new

@@ -1,5 +1,6 @@
--- How many numbers of records and of marks calls use up.
+-- How many numbers of records and of marks calls use up, and where they are spent.
 use Rattle.std.specs.Prelude.{◌≡◌, ◌⊎◌, ℕ, ◌+◌, ◌*◌, ◌≤◌, List, count_by, map, Bool, true, false, Result, OnOk, IsErrOf}
+use Rattle.crash_plant.specs.Moments.{PlantState}
 use Rattle.group_state.specs.Machine.{Call}
 use Rattle.group_state.specs.Machine.Call.{Join, NextWanted, Copied, Raise, Break, Form, Carry, Drop, Resume, Forget}
 use Rattle.group_state.specs.Runs.{Answer}
@@ -7,7 +8,9 @@ use Rattle.turn_group.specs.Calls.{as_answer}
 use Rattle.turn_group.specs.Seats.{MoverSeatState}
 use Rattle.site_store.specs.declared.store_error.StoreError.{StoreError}
 use Rattle.site_store.specs.declared.store_error.StoreError.TheVariants.{Spent}
+use Rattle.site_deeds.specs.Exceptions.{Exceptions}
 use Rattle.site_store.specs.Sites.{SiteState}
+use Rattle.site_store.specs.Standing.{SiteStands}
 use Rattle.site_store.specs.Ways.{most}
 
 -- ---- forms
@@ -47,3 +50,11 @@ UsesNumbers seat next site after result = (forms : ℕ) × FormsUse forms (4 * f
 -- The same of calls that were kept in one list.
 abbrev pub UsesNumbersOf : List Answer → (site after : SiteState) → Result (Unit {0}) StoreError → Type 0
 UsesNumbersOf answers site after result = UsesUpTo (4 * forms_among answers) (3 * forms_among answers) site after result
+
+-- ---- spent numbers
+
+-- The next record would need a number behind the greatest, with the switch that it may need, or the next mark would. The devices tell these
+-- numbers, since every crash leaves the site.
+pub record IsSiteSpent (tells : Type 0) (site : SiteState) (plant : PlantState) : Type 0 where
+  pub at_end : (most ≤ site.at.number) ⊎ (site.mark.number ≡ most)
+  pub stands : tells → (excepted : Exceptions) × SiteStands excepted site plant

@@ -27,7 +27,7 @@ use Rattle.site_store.specs.declared.way.Way.TheVariants.{Marked as MarkedFirst}
 use Rattle.site_store.specs.Causes.{FailByCounts, HasStoreCause}
 use Rattle.site_store.specs.Hits.{AreHits, are_some, with_group_and_hits}
 use Rattle.site_store.specs.Jobs.{body_room}
-use Rattle.site_store.specs.Logging.{FailByEntries, FormsRecord, HasEntryOn, IsOfLog, IsOfSomeRow, LogsBy, LogsGroup, MayLog, rows_before, rows_logged}
+use Rattle.site_store.specs.Logging.{FailByEntries, FormsRecord, HasEntryOn, IsOfLog, IsOfSomeRow, LogsBy, LogsGroup, MayLog, StaysUnwritten, rows_before, rows_logged}
 use Rattle.site_store.specs.Marking.{MakesMark}
 use Rattle.site_store.specs.Recording.{HasRoomBehindSwitch, MayPutRecord, ShowsRecord, group_with}
 use Rattle.site_store.specs.Records.{IsJournal, IsOfMark, behind_mark, one_more}
@@ -159,6 +159,12 @@ module _ (tells : Type 0) (group : FormedGroup) (site : SiteState) (old mid : Pl
 
   quiet_first : StoresQuiet old.faults mid.faults
   quiet_first = quiet_reads tells (λ d. HasEntryOn site.table.rows group.entries d) old mid first.works
+
+  -- Nothing was written then, and what stood stands.
+  pub spent_stays : (start next : SiteState) → site ≡ start → next ≡ with_failed failed site → StaysUnwritten tells start next old mid
+  spent_stays start next is next_is =
+      subst (λ (s : SiteState). StaysUnwritten tells s next old mid) is
+      (subst (λ (n : SiteState). StaysUnwritten tells site n old mid) (sym next_is) (record { same = refl; reads = first.reads; leaves = record { fits = fits_then; stands = stands_then } }))
 
   pub spent_causes : HasStoreCause old.faults mid.faults (Err Spent)
   spent_causes = spent_cause old.faults mid.faults quiet_first

@@ -6,6 +6,7 @@ use Rattle.crash_plant.specs.declared.device.Device.{Device}
 use Rattle.crash_plant.specs.declared.device.Device.TheVariants.{Volume}
 use Rattle.crash_plant.specs.Calls.{NoneLent}
 use Rattle.crash_plant.specs.Moments.{PlantState}
+use Rattle.applier.specs.Back.{OnlyReads}
 use Rattle.pair_table.specs.declared.row.PairRow.{PairRow}
 use Rattle.pair_table.specs.Tables.{KeepsRows}
 use Rattle.pending_queue.specs.Entries.{WaitingEntry}
@@ -27,7 +28,7 @@ use Rattle.site_store.specs.declared.store_error.StoreError.TheVariants.{Spent}
 use Rattle.site_store.specs.declared.way.Way.{Way}
 use Rattle.site_store.specs.declared.way.Way.TheVariants.{Here, Switched, Marked as MarkedFirst}
 use Rattle.site_store.specs.Sites.{SiteState}
-use Rattle.site_store.specs.Standing.{SiteStands, row_has_volume}
+use Rattle.site_store.specs.Standing.{Leaves, SiteStands, row_has_volume}
 use Rattle.record_rows.specs.Deeds.{Deed}
 use Rattle.site_deeds.specs.Deeds.{kinds_of}
 use Rattle.site_deeds.specs.Doing.{BeginsDeeds, DoesDeeds}
@@ -225,3 +226,9 @@ pub record LogsGroup (tells : Type 0) (group : FormedGroup) (site next : SiteSta
   pub logs : LogsBy tells group way site next old new result
   -- A mark that is made first tells the jobs that had failed when the record was formed first.
   pub early_has : way ≡ MarkedFirst → (d : ℕ) → IsTrue (is_down first.failed d) → IsTrue (is_down logs.early d)
+
+-- Where the numbers are spent volumes were read alone. The site is as it was, but for jobs that failed in it, and what stood stands.
+pub record StaysUnwritten (tells : Type 0) (site next : SiteState) (old new : PlantState) : Type 0 where
+  pub same : next ≡ record site { failed = next.failed }
+  pub reads : OnlyReads tells old new
+  pub leaves : Leaves tells (λ e. e) site next old new

@@ -8,7 +8,7 @@ ghost use Rattle.site_store.specs.declared.way.Way.TheVariants.{Marked};
 ghost use Rattle.site_store.specs.Causes.{FailByCounts, HasStoreCause};
 ghost use Rattle.site_store.specs.Hits.{AreHits};
 ghost use Rattle.site_store.specs.Jobs.{are_home_from, has_job_failed};
-ghost use Rattle.site_store.specs.Logging.{FailByEntries, FormsRecord, IsOfEntries, IsOfLog, LogsBy, LogsGroup, MayForm, MayLog};
+ghost use Rattle.site_store.specs.Logging.{FailByEntries, FormsRecord, IsOfEntries, IsOfLog, LogsBy, LogsGroup, MayForm, MayLog, StaysUnwritten};
 ghost use Rattle.site_store.specs.Records.{VolumesStay};
 ghost use Rattle.site_store.specs.Standing.{MayRecord, Leaves};
 
@@ -120,7 +120,7 @@ impl<V> Site<V> {
         ensures leaves { OnOk result (Leaves P.tells (λ e. e) self.old self.new (P.state plant.old) (P.state plant.new)) }
         ensures others { WorksOnLent P.tells (IsOfLog self.old formed.now) (P.state plant.old) (P.state plant.new) }
         ensures volumes { VolumesStay P.tells (P.state plant.old) (P.state plant.new) }
-        ensures unwritten { IsErrOf result Spent → OnlyReads P.tells (P.state plant.old) (P.state plant.new) }
+        ensures unwritten { IsErrOf result Spent → StaysUnwritten P.tells self.old self.new (P.state plant.old) (P.state plant.new) }
         ensures heard_said { P.tells → Silent (P.state plant.old) (P.state plant.new) }
         ensures cause { HasStoreCause (P.state plant.old).faults (P.state plant.new).faults result }
         ensures failed { FailByCounts self.old.failed self.new.failed (P.state plant.old).faults (P.state plant.new).faults }

@@ -55,7 +55,7 @@ impl<V> Site<V> {
         ensures moments { DoesSuspend P.tells cut.0 self.old self.new (P.state plant.old) (P.state plant.new) result }
         ensures others { WorksOnLent P.tells (IsOfRecord self.old) (P.state plant.old) (P.state plant.new) }
         ensures volumes { VolumesStay P.tells (P.state plant.old) (P.state plant.new) }
-        ensures uncalled { IsErrOf result Spent → plant.new ≡ plant.old }
+        ensures uncalled { IsErrOf result Spent → (self.new ≡ self.old) × (plant.new ≡ plant.old) }
         ensures heard_said { P.tells → Silent (P.state plant.old) (P.state plant.new) }
         ensures cause { HasStoreCause (P.state plant.old).faults (P.state plant.new).faults result }
         ensures failed { FailByCounts self.old.failed self.new.failed (P.state plant.old).faults (P.state plant.new).faults }

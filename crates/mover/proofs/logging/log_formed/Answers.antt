@@ -17,6 +17,7 @@ use Rattle.mover.proofs.LogMoves.{entries_of_rows, log_works}
 use Rattle.mover.proofs.Limits.{drops_keep_limit, form_keeps_limit}
 use Rattle.mover.proofs.MoverCalls.{controls_still, forms_of, log_fails, log_level, log_may, log_moved, log_rest, log_slots, log_still, logged_up, on_err, states_told, stays_formed, table_rows, unlogged_knows, unlogged_moved}
 use Rattle.mover.proofs.Numbers.{drops_use, form_uses, log_uses, unlogged_uses, uses_as}
+use Rattle.mover.proofs.SpentSites.{log_spent}
 use Rattle.mover.proofs.WorkedOn.{no_work}
 use Rattle.mover.proofs.logging.log_formed.Goals as goal
 
@@ -84,7 +85,7 @@ returns-in_err-log g c =
     let error = c.in_err-log.field-0.0 in
     let same : c.log.result ≡ c.from_residual.result = search rules in
     let moved = log_fails tells c.args.limit c.form.result group seat turn site next old new c.log.result f may.knows apart may.rests.idle is c.form.ensures.carried l.ok l.leaves l.failed (λ d. l.others.faults (Volume d)) error c.in_err-log.was in
-    let works = log_works tells group site next old new c.log.result (c.table.ensures.told may.rests.level) l.others l.cause l.failed (on_err _ c.log.result error c.in_err-log.was) l.volumes (on_err _ c.log.result error c.in_err-log.was) in
+    let works = log_works tells group site next old new c.log.result (c.table.ensures.told may.rests.level) l.others l.cause l.failed (on_err _ c.log.result error c.in_err-log.was) l.volumes (on_err _ c.log.result error c.in_err-log.was) (log_spent tells group site next old new c.log.result may.rests.fast l.ok l.unwritten) in
     record {
       may = search rules;
       moved = subst (λ (r : Result (Unit {0}) StoreError). Moved tells seat turn site next old new r) same moved;
@@ -147,7 +148,7 @@ returns g c =
     let slots = log_slots tells c.args.limit c.form.result group seat turn site next old new c.log.result f may.knows apart may.rests.idle is c.form.ensures.carried l.ok l.leaves l.failed later c.in_ok-log.was in
     let rows_then = table_rows next c.table-3.result.now c.table-3.ensures.table c.table-3.ensures.told level in
     let drops = subst (λ (l : List PairRow). Drops was l turn end) rows_then c.drop_suspended.ensures.drops in
-    let works = log_works tells group site next old new (Ok tt) (c.table.ensures.told may.rests.level) l.others c.in_ok-log.ensures.cause l.failed rest l.volumes slots in
+    let works = log_works tells group site next old new (Ok tt) (c.table.ensures.told may.rests.level) l.others c.in_ok-log.ensures.cause l.failed rest l.volumes slots (λ none. cc none) in
     record {
       may = log_may tells c.args.limit c.form.result group seat turn site next old new c.log.result f may.knows apart may.rests.idle is c.form.ensures.carried l.ok l.leaves l.failed later c.in_ok-log.was end was states drops c.form.ensures.upto may.rests.fast;
       moved = log_moved tells c.args.limit c.form.result group seat turn site next old new c.log.result f may.knows apart may.rests.idle is c.form.ensures.carried l.ok l.leaves l.failed later c.in_ok-log.was end was states drops;

@@ -17,7 +17,7 @@ returns-in_err-suspend g c =
     let new = g.P.Plant.state c.suspend.new.plant in
     let s = c.suspend.ensures in
     let by = told_by_record tells g.P.Plant.state site c.apply.new.self c.args.plant.now c.apply.new.plant c.requires.fast c.requires.level c.requires.apart c.apply.ensures.ok c.apply.ensures.leaves c.apply.ensures.moments c.apply.ensures.others
-    c.time-time.result.0 c.time-time.ensures next c.suspend.new.plant c.suspend.result s.ok s.leaves s.moments s.others s.cause s.failed s.volumes in
+    c.time-time.result.0 c.time-time.ensures next c.suspend.new.plant c.suspend.result s.ok s.leaves s.moments s.others s.cause s.failed s.volumes s.uncalled in
     let same : c.suspend.result ≡ c.from_residual.result = search rules in
     let b = rests_as tells site next old new c.suspend.result c.from_residual.result same by in
     let used = tell_uses tells c.time-time.result.0 site c.apply.new.self next old (g.P.Plant.state c.apply.new.plant) c.apply.new.plant c.suspend.new.plant c.suspend.result c.apply.ensures.ok s.ok in
@@ -33,7 +33,7 @@ returns-then-not-is_mark_due g c =
     let new = g.P.Plant.state c.suspend.new.plant in
     let s = c.suspend.ensures in
     let by = told_by_record tells g.P.Plant.state site c.apply.new.self c.args.plant.now c.apply.new.plant c.requires.fast c.requires.level c.requires.apart c.apply.ensures.ok c.apply.ensures.leaves c.apply.ensures.moments c.apply.ensures.others
-    c.time-time.result.0 c.time-time.ensures next c.suspend.new.plant c.suspend.result s.ok s.leaves s.moments s.others s.cause s.failed s.volumes in
+    c.time-time.result.0 c.time-time.ensures next c.suspend.new.plant c.suspend.result s.ok s.leaves s.moments s.others s.cause s.failed s.volumes s.uncalled in
     let b = rests_as tells site next old new c.suspend.result (Ok tt) c.in_ok-suspend.was by in
     let used = tell_uses tells c.time-time.result.0 site c.apply.new.self next old (g.P.Plant.state c.apply.new.plant) c.apply.new.plant c.suspend.new.plant c.suspend.result c.apply.ensures.ok s.ok in
     record { told = b.rests.told; rests = b.rests.may; moved = b.moved; works = b.works; numbers = told_use site next c.suspend.result (Ok tt) c.in_ok-suspend.was used }
@@ -47,7 +47,7 @@ mark-requires-clause-may g c κs within =
     let new = g.P.Plant.state c.suspend.new.plant in
     let s = c.suspend.ensures in
     let by = told_by_record tells g.P.Plant.state site c.apply.new.self c.args.plant.now c.apply.new.plant c.requires.fast c.requires.level c.requires.apart c.apply.ensures.ok c.apply.ensures.leaves c.apply.ensures.moments c.apply.ensures.others
-    c.time-time.result.0 c.time-time.ensures next c.suspend.new.plant c.suspend.result s.ok s.leaves s.moments s.others s.cause s.failed s.volumes in
+    c.time-time.result.0 c.time-time.ensures next c.suspend.new.plant c.suspend.result s.ok s.leaves s.moments s.others s.cause s.failed s.volumes s.uncalled in
     let b = rests_as tells site next old new c.suspend.result (Ok tt) c.in_ok-suspend.was by in
     may_mark tells next new b.rests.may.fast b.rests.may.level b.rests.may.idle
 
@@ -63,7 +63,7 @@ returns g c =
     let s = c.suspend.ensures in
     let m = c.mark.ensures in
     let by = told_by_record tells g.P.Plant.state site c.apply.new.self c.args.plant.now c.apply.new.plant c.requires.fast c.requires.level c.requires.apart c.apply.ensures.ok c.apply.ensures.leaves c.apply.ensures.moments c.apply.ensures.others
-    c.time-time.result.0 c.time-time.ensures mid c.suspend.new.plant c.suspend.result s.ok s.leaves s.moments s.others s.cause s.failed s.volumes in
+    c.time-time.result.0 c.time-time.ensures mid c.suspend.new.plant c.suspend.result s.ok s.leaves s.moments s.others s.cause s.failed s.volumes s.uncalled in
     let b = rests_as tells site mid old between c.suspend.result (Ok tt) c.in_ok-suspend.was by in
     let all = marked_at_rest tells g.P.Plant.state site mid next c.args.plant.now c.suspend.new.plant c.mark.new.plant b false refl c.mark.result m.ok m.leaves m.moments m.others m.cause m.failed in
     let used = tell_uses tells c.time-time.result.0 site c.apply.new.self mid old (g.P.Plant.state c.apply.new.plant) c.apply.new.plant c.suspend.new.plant c.suspend.result c.apply.ensures.ok s.ok in

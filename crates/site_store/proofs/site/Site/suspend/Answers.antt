@@ -127,6 +127,10 @@ returns-then-suspension_needs_more-clause-failed g c =
     let count = (g.P.Plant.state c.args.plant.now).faults in
     subst (λ (failed : List Bool). FailByCounts c.args.self.now.failed failed count count) (sym (ap (λ (s : SiteState). s.failed) c.self.view_is)) (none_fail c.args.self.now.failed count)
 
+pub returns-then-suspension_needs_more-clause-uncalled :
+    goal.returns-then-suspension_needs_more-clause-uncalled
+returns-then-suspension_needs_more-clause-uncalled g c = λ spent. (idle_site _ c.args.self.now c.self.view_is c.requires.ready.idle, refl)
+
 -- ---- a mark in place of the record
 
 pub returns-then-eq-clause-ok : goal.returns-then-eq-clause-ok
