@@ -3,11 +3,13 @@ use Rattle.std.proofs.Common.{◌≡◌, ◌⊎◌, inl, inr, ℕ, suc, ◌≤�
 use Rattle.std.specs.List.{All}
 use Rattle.std.proofs.Math.Seq.{take-append_seam}
 use Rattle.std.proofs.lemmas.Grind.{flat_map-append}
-use Rattle.std.proofs.lemmas.List.{map-append, take-append-drop}
+use Rattle.std.specs.Prelude.{fold}
+use Rattle.std.proofs.lemmas.List.{map-append, take-append-drop, take_all}
 use Rattle.std.proofs.lemmas.List.Elements.{All-cons, All-nil}
 use Rattle.crash_plant.specs.Calls.{SameSite}
 use Rattle.crash_plant.specs.Choices.{Choice, IsChoice}
 use Rattle.crash_plant.specs.Moments.{PlantState}
+use Rattle.pair_table.specs.declared.level.Level.{Level}
 use Rattle.group_state.specs.Groups.{Group}
 use Rattle.group_state.specs.Runs.{Answer}
 use Rattle.row_changes.specs.Changes.{Timed}
@@ -20,7 +22,7 @@ use Rattle.site_deeds.specs.Doing.{points_of, with_next}
 use Rattle.site_deeds.specs.Exceptions.{Exceptions}
 use Rattle.site_deeds.specs.Seeing.{SeesBehind}
 use Rattle.site_deeds.proofs.Moments.{first_seen}
-use Rattle.passages.specs.Points.{AreLinked, GoesThrough}
+use Rattle.passages.specs.Points.{AreLinked, GoesThrough, last_point}
 use Rattle.consistency.specs.Bears.{Bears, Run, Stage, breaks_of}
 use Rattle.consistency.specs.Steps.{TimedCommand}
 use Rattle.fed_logs.specs.Logs.{Sizes}
@@ -32,11 +34,17 @@ use Rattle.session_points.specs.Ways.Way.{OnTheWay}
 use Rattle.session_points.proofs.Legs.{ends_alike}
 use Rattle.borne_deeds.specs.Laws.{BegunDeedsBear, BegunDeedsPassPoints, DoneDeedsPassPoints, next_point}
 use Rattle.borne_deeds.specs.Points.{AreSteps, point_behind, point_by, points_by}
-use Rattle.borne_deeds.specs.Working.{Work, WorkBegins}
+use Rattle.borne_deeds.specs.Working.{IsOnItsWay, ShowsLast, Work, WorkBegins}
 use Rattle.borne_deeds.proofs.Bearing.{bears, broken, counted, may_be_meant, shown}
 use Rattle.borne_deeds.specs.Silent.{all_silent, with_silent}
 use Rattle.borne_deeds.proofs.Breaking.{same_deeds}
 use Rattle.borne_deeds.proofs.Leading.{behind_both, count_deeds, first_deeds, first_steps, flag_there, same_point, silent_points, silent_step, steps_behind, take_silent}
+
+-- The last of the points of the first deeds is the one behind these.
+last_by : (level : Level) (p : Point) (moments : List ℕ) (steps : List DeedOfChanges) → last_point p (points_by level p moments steps) ≡ point_behind level p (take (length moments) steps)
+last_by level p [] steps = refl
+last_by level p (t ∷ moments) [] = refl
+last_by level p (t ∷ moments) (step ∷ steps) = last_by level (point_by level p step) moments steps
 
 module _ (old : PlantState) (k : Work) (w : WorkBegins old k) where
   abbrev run : Run
@@ -235,6 +243,16 @@ module _ (old : PlantState) (k : Work) (w : WorkBegins old k) where
       subst (λ (m : Leg). AreLinked (ComesNext run asked) leg_after m (points_by run.level m.point moments (silent rest))) (leg_more t front step rest is) (links moments (front ++ step ∷ []) rest (more front step rest is)),
     )
 
+    -- The point on its way comes next behind them, unless all were passed.
+    comes_behind : (moments : List ℕ) (front rest : List DeedOfChanges) → front ++ rest ≡ steps
+        → IsOnItsWay run asked (fold leg_after (leg_of front) (points_by run.level (point_of front) moments (silent rest))) (point_behind run.level (point_of front) (take (suc (length moments)) (silent rest)))
+    comes_behind [] front [] is = inl refl
+    comes_behind [] front (step ∷ rest) is = inr (OnTheWay (with_silent line.time (breaks_of run) step).changes, (comes 0 front step rest is).0)
+    comes_behind (t ∷ moments) front [] is = inl refl
+    comes_behind (t ∷ moments) front (step ∷ rest) is =
+        subst (λ (m : Leg). IsOnItsWay run asked (fold leg_after m (points_by run.level m.point moments (silent rest))) (point_behind run.level m.point (take (suc (length moments)) (silent rest)))) (leg_more t front step rest is)
+        (comes_behind moments (front ++ step ∷ []) rest (more front step rest is))
+
   may_all : (moments : List ℕ) (front rest : List DeedOfChanges) → front ++ rest ≡ steps → All (λ n. MayBeMeant run stage n.point) (points_by run.level (point_of front) moments (silent rest))
   may_all [] front rest is = All-nil (λ (n : PassedPoint). MayBeMeant run stage n.point)
   may_all (t ∷ moments) front [] is = All-nil (λ (n : PassedPoint). MayBeMeant run stage n.point)
@@ -255,6 +273,10 @@ module _ (old : PlantState) (k : Work) (w : WorkBegins old k) where
   links_all : (asked : ℕ → Option TimedCommand) → IsAtWork run asked l → (moments : List ℕ) → AreLinked (ComesNext run asked) leg_after l (points_by run.level p moments (silent steps))
   links_all asked work moments = subst (λ (m : Leg). AreLinked (ComesNext run asked) leg_after m (points_by run.level p moments (silent steps))) start_leg (links asked work moments [] steps refl)
 
+  comes_all : (asked : ℕ → Option TimedCommand) → IsAtWork run asked l → (moments : List ℕ) → IsOnItsWay run asked (fold leg_after l (points_by run.level p moments (silent steps))) (point_behind run.level p (take (suc (length moments)) (silent steps)))
+  comes_all asked work moments =
+      subst (λ (m : Leg). IsOnItsWay run asked (fold leg_after m (points_by run.level p moments (silent steps))) (point_behind run.level p (take (suc (length moments)) (silent steps)))) start_leg (comes_behind asked work moments [] steps refl)
+
   -- the point of the first deeds, with the changes that are named
   first_named : (n : ℕ) → point_of (take n steps) ≡ point_of (take n (silent steps))
   first_named n =
@@ -265,6 +287,19 @@ module _ (old : PlantState) (k : Work) (w : WorkBegins old k) where
   next_tells new site n c sees =
       subst (λ (q : Point). ShowsPoint run (shape_of new) q c) (first_named n)
       (tell new site (take n steps) (drop n steps) (take-append-drop n steps) c (subst (λ (ds : List Deed). SeesBehind old excepted p.rows ds c) (sym (first_deeds n steps)) sees))
+
+  -- A choice that shows so many deeds shows the last of their points.
+  shows_first : (new : PlantState) → SameSite old new → (moments : List ℕ) → (c : Choice) → SeesBehind old excepted p.rows (take (length moments) (deeds_of steps)) c → ShowsPoint run (shape_of new) (last_point p (points_by run.level p moments (silent steps))) c
+  shows_first new site moments c sees = subst (λ (q : Point). ShowsPoint run (shape_of new) q c) (sym (last_by run.level p moments (silent steps))) (next_tells new site (length moments) c sees)
+
+  shows_last : (new : PlantState) → SameSite old new → (moments : List ℕ) → (c : Choice) → SeesBehind old excepted p.rows (take (length moments) (deeds_of steps)) c ⊎ SeesBehind old excepted p.rows (with_next (length moments) (deeds_of steps)) c
+      → ShowsLast run new (last_point p (points_by run.level p moments (silent steps))) (Some (point_of (take (suc (length moments)) (silent steps)))) c
+  shows_last new site moments c (inl sees) = inl (shows_first new site moments c sees)
+  shows_last new site moments c (inr sees) = inr (next_tells new site (suc (length moments)) c sees)
+
+  shows_all : (new : PlantState) → SameSite old new → (moments : List ℕ) → length moments ≡ length (deeds_of steps) → (c : Choice) → SeesBehind old excepted p.rows (deeds_of steps) c → ShowsPoint run (shape_of new) (last_point p (points_by run.level p moments (silent steps))) c
+  shows_all new site moments each c sees =
+      shows_first new site moments c (subst (λ (ds : List Deed). SeesBehind old excepted p.rows ds c) (sym (take_all (length moments) (deeds_of steps) (omega (arith, each)))) sees)
 
   next_may : (n : ℕ) → MayBeMeant run stage (point_of (take n (silent steps)))
   next_may n = subst (MayBeMeant run stage) (first_named n) (facts (take n steps) (drop n steps) (take-append-drop n steps)).may_there
@@ -279,22 +314,26 @@ begun_deeds_bear old new k w up begins t from to c has =
     )
 
 pub begun_deeds_pass_points : (old new : PlantState) → BegunDeedsPassPoints old new
-begun_deeds_pass_points old new k asked w work up begins =
+begun_deeds_pass_points old new k asked w work begins =
     let n = suc (length begins.moments) in
     record {
       same = same_deeds k.line.time (breaks_of k.run) k.steps;
-      goes = goes old k w new begins.site begins.moments [] k.steps refl old.clock new.clock (Some (with_next (length begins.moments) (deeds_of k.steps))) (next_point k begins.moments)
+      goes = λ up. goes old k w new begins.site begins.moments [] k.steps refl old.clock new.clock (Some (with_next (length begins.moments) (deeds_of k.steps))) (next_point k begins.moments)
           (next_tells old k w new begins.site n) (begins.goes up);
       linked = links_all old k w asked work begins.moments;
       may = may_all old k w begins.moments [] k.steps refl;
       may_next = next_may old k w n;
+      comes_next = comes_all old k w asked work begins.moments;
+      now = λ c has. shows_last old k w new begins.site begins.moments c (begins.now c has);
     }
 
 pub done_deeds_pass_points : (old new : PlantState) → DoneDeedsPassPoints old new
-done_deeds_pass_points old new k asked w work up does = record {
+done_deeds_pass_points old new k asked w work does = record {
   same = same_deeds k.line.time (breaks_of k.run) k.steps;
-  goes = goes old k w new does.site does.moments [] k.steps refl old.clock new.clock None None tt (does.goes up);
+  goes = λ up. goes old k w new does.site does.moments [] k.steps refl old.clock new.clock None None tt (does.goes up);
   linked = links_all old k w asked work does.moments;
   may = may_all old k w does.moments [] k.steps refl;
   may_next = tt;
+  comes_next = tt;
+  now = λ c has. shows_all old k w new does.site does.moments does.each c (does.now c has);
 }

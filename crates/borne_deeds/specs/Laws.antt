@@ -48,11 +48,11 @@ next_point work moments = Some (point_behind work.run.level work.leg.point (take
 
 -- Calls that begin the deeds pass their points, and the next one is on its way. Calls that do them all pass all.
 abbrev pub BegunDeedsPassPoints : (old new : PlantState) → Type 0
-BegunDeedsPassPoints old new = (work : Work) (asked : Asked) → WorkBegins old work → IsAtWork work.run asked work.leg → 0 < old.clock
+BegunDeedsPassPoints old new = (work : Work) (asked : Asked) → WorkBegins old work → IsAtWork work.run asked work.leg
     → (begins : Begins old new work) → PassesPoints old new work asked begins.moments (named_steps work) (next_point work begins.moments)
 
 abbrev pub DoneDeedsPassPoints : (old new : PlantState) → Type 0
-DoneDeedsPassPoints old new = (work : Work) (asked : Asked) → WorkBegins old work → IsAtWork work.run asked work.leg → 0 < old.clock
+DoneDeedsPassPoints old new = (work : Work) (asked : Asked) → WorkBegins old work → IsAtWork work.run asked work.leg
     → (does : DoesWork old new work) → PassesPoints old new work asked does.moments (named_steps work) None
 
 -- ---- at the end

@@ -1,5 +1,5 @@
 -- The work for a line's time: what it begins with, and its log with the deeds that are kept of it.
-use Rattle.std.specs.Prelude.{◌≡◌, ℕ, ◌≤◌, List, take, true, false, Option, Some, IfSome, IsTrue}
+use Rattle.std.specs.Prelude.{◌≡◌, ◌⊎◌, ℕ, ◌<◌, ◌≤◌, List, take, fold, true, false, Option, Some, None, IfSome, IsTrue}
 use Rattle.std.specs.List.{All, list_all, Contains}
 use Rattle.crash_plant.specs.Choices.{AtNow, Choice, IsChoice}
 use Rattle.crash_plant.specs.Moments.{PlantState}
@@ -13,7 +13,7 @@ use Rattle.site_means.specs.Images.{shape_of}
 use Rattle.site_deeds.specs.Changing.{DeedOfChanges, changes_of, deeds_of}
 use Rattle.site_deeds.specs.Exceptions.{Exceptions, excepted_behind}
 use Rattle.site_deeds.specs.Seeing.{SeesBehind}
-use Rattle.passages.specs.Points.{AreLinked}
+use Rattle.passages.specs.Points.{AreLinked, last_point}
 use Rattle.consistency.specs.Bears.{Run, Stage, breaks_of, tracks_of_row}
 use Rattle.consistency.specs.Steps.{TimedCommand}
 use Rattle.fed_logs.specs.Feeds.{part_of_mover}
@@ -22,7 +22,7 @@ use Rattle.fed_logs.specs.Logs.{AwaitsBreak, BeginsLog, IsFedLog, Sizes}
 use Rattle.fed_logs.specs.Moves.{MakesAllDeeds, MakesDeeds, Plans}
 use Rattle.session_points.specs.Bearing.{GoesThroughPoints, MayBeMeant, ShowsPoint}
 use Rattle.session_points.specs.Leads.{Point, may_rest}
-use Rattle.session_points.specs.Ways.{ComesNext, HasCountedHits, IsLegOf, Leg, PassedPoint, leg_after, leg_to}
+use Rattle.session_points.specs.Ways.{ComesBy, ComesNext, HasCountedHits, IsLegOf, Leg, PassedPoint, Way, leg_after, leg_to}
 use Rattle.borne_deeds.specs.Points.{AreSteps, point_behind, points_by}
 use Rattle.borne_deeds.specs.Silent.{all_silent}
 use Rattle.borne_deeds.specs.Told.{CarriedAsLive, ExceptedAreOwed, FailedAreOwed, KeptHaveRows, held_by_choice}
@@ -134,11 +134,24 @@ named_steps work = all_silent work.line.time (breaks_of work.run) work.steps
 abbrev pub points_in : Work → (moments : List ℕ) → (named : List DeedOfChanges) → List PassedPoint
 points_in work moments named = points_by work.run.level work.leg.point moments named
 
+-- Nothing new is on its way from a leg, or a point that comes next by some way.
+abbrev pub IsOnItsWay : Run → Asked → Leg → Point → Type 0
+IsOnItsWay run asked l q = (q ≡ l.point) ⊎ ((way : Way) × ComesBy run asked l q way)
+
+-- A choice shows the last of some points, or the one that is on its way.
+abbrev pub ShowsLast : Run → PlantState → (last : Point) → (on_its_way : Option Point) → Choice → Type 0
+ShowsLast run plant last None c = ShowsPoint run (shape_of plant) last c
+ShowsLast run plant last (Some q) c = ShowsPoint run (shape_of plant) last c ⊎ ShowsPoint run (shape_of plant) q c
+
 -- The work passes points, and one may be on its way. Each comes next on the way to the line's time, and each may be meant. The deeds are those
--- of the work, with the changes by which the points come.
+-- of the work, with the changes by which the points come. The past of a plant that keeps one tells the points' moments.
+--   comes_next: the one on its way comes next behind the others, if it isn't the last of these
+--   now: whatever a crash leaves now shows the last of the others, or the one on its way
 pub record PassesPoints (old new : PlantState) (work : Work) (asked : Asked) (moments : List ℕ) (by : List DeedOfChanges) (next : Option Point) : Type 0 where
   pub same : deeds_of by ≡ deeds_of work.steps
-  pub goes : GoesThroughPoints work.run new old.clock work.leg.point (points_in work moments by) new.clock next
+  pub goes : 0 < old.clock → GoesThroughPoints work.run new old.clock work.leg.point (points_in work moments by) new.clock next
   pub linked : AreLinked (ComesNext work.run asked) leg_after work.leg (points_in work moments by)
   pub may : All (λ n. MayBeMeant work.run work.stage n.point) (points_in work moments by)
   pub may_next : IfSome next (MayBeMeant work.run work.stage)
+  pub comes_next : IfSome next (IsOnItsWay work.run asked (fold leg_after work.leg (points_in work moments by)))
+  pub now : AtNow (ShowsLast work.run new (last_point work.leg.point (points_in work moments by)) next) new

@@ -279,9 +279,12 @@ module _ {S : Type 0} (tells : Type 0) (left : S → Option (List ℕ)) (faults 
     excepted = did.still;
     done = all.known;
     stands = stands_then;
-    passes = λ asked at_work past.
-        let found = done_deeds_pass_points was is job asked began at_work past does in
-        (points_in job does.moments (named_steps job), record { goes = found.goes; linked = found.linked; may = found.may; may_next = tt }, leaves_leg does.moments does.each);
+    passes = λ asked at_work.
+        let found = done_deeds_pass_points was is job asked began at_work does in (
+          points_in job does.moments (named_steps job),
+          record { goes = found.goes; linked = found.linked; may = found.may; may_next = tt; comes_next = tt; now = found.now },
+          leaves_leg does.moments does.each,
+        );
     effect = record { at = r.time.time; none_due = refl; not_broken_yet = none_at line.time leg_then.changes early_then; settled = r.settled };
   }
 

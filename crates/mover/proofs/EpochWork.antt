@@ -133,9 +133,12 @@ module _ {S : Type 0} (tells : Type 0) (left : S → Option (List ℕ)) (faults 
   bears_at_each_moment = record {
     moments = λ up. begun_deeds_bear was is work work_begins up begins;
     now = now_bears;
-    passes = λ asked at_work up.
-        let found = begun_deeds_pass_points was is work asked work_begins at_work up begins in
-        (points_in work begins.moments (named_steps work), next_point work begins.moments, record { goes = found.goes; linked = found.linked; may = found.may; may_next = found.may_next });
+    passes = λ asked at_work.
+        let found = begun_deeds_pass_points was is work asked work_begins at_work begins in (
+          points_in work begins.moments (named_steps work),
+          next_point work begins.moments,
+          record { goes = found.goes; linked = found.linked; may = found.may; may_next = found.may_next; comes_next = found.comes_next; now = found.now },
+        );
   }
 
 pub epochs_bear : {S : Type 0} → (tells : Type 0) → (left : S → Option (List ℕ)) → (faults : S → ℕ) → (was is : PlantState) → EpochsBear tells left faults was is

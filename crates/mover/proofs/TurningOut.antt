@@ -27,13 +27,13 @@ lanes_read_in_turn {S} left old mid new first then = record {
   each = λ k d low. of (slice_index_or old k d) (slice_index_or mid k d) (slice_index_or new k d) (slice_index_or old k d).reader (slice_index_or mid k d).reader (slice_index_or new k d).reader (first.each k d low) (then.each k d (omega (arith, low, first.same)));
 }
   where
-    of : (a b c : Lane S) (p q r : Option LaneReaderState) → IsSomeAnd p (λ was. IsSomeAnd q (λ is. (gained : List Answer) × ReadsOn (left a.source) (left b.source) was.feed is.feed gained × MayGoOn is.feed))
-        → IsSomeAnd q (λ was. IsSomeAnd r (λ is. (gained : List Answer) × ReadsOn (left b.source) (left c.source) was.feed is.feed gained × MayGoOn is.feed))
-        → IsSomeAnd p (λ was. IsSomeAnd r (λ is. (gained : List Answer) × ReadsOn (left a.source) (left c.source) was.feed is.feed gained × MayGoOn is.feed))
+    of : (a b c : Lane S) (p q r : Option LaneReaderState) → IsSomeAnd p (λ was. IsSomeAnd q (λ is. (gained : List Answer) × ReadsOn (left a.source) (left b.source) was.feed is.feed gained))
+        → IsSomeAnd q (λ was. IsSomeAnd r (λ is. (gained : List Answer) × ReadsOn (left b.source) (left c.source) was.feed is.feed gained))
+        → IsSomeAnd p (λ was. IsSomeAnd r (λ is. (gained : List Answer) × ReadsOn (left a.source) (left c.source) was.feed is.feed gained))
     of a b c None q r h k = absurd h
     of a b c (Some was) None r h k = absurd h
     of a b c (Some was) (Some is) None h k = absurd k
-    of a b c (Some was) (Some is) (Some end) h k = (h.0 ++ k.0, reads_in_turn (left a.source) (left b.source) (left c.source) was.feed is.feed end.feed h.0 k.0 h.1 k.1, k.2)
+    of a b c (Some was) (Some is) (Some end) h k = (h.0 ++ k.0, reads_in_turn (left a.source) (left b.source) (left c.source) was.feed is.feed end.feed h.0 k.0 h.1 k.1)
 
 -- ---- one lane that reads on between the two
 
@@ -184,20 +184,20 @@ abbrev Out : {S : Type 0} → (left : S → Option (List ℕ)) → Trace → (a 
 Out left t a b p q = IsSomeAnd p (λ was. IsSomeAnd q (λ is. TurnsOutSo left t a b was is))
 
 pub traces_turn_out : {S : Type 0} → (left : S → Option (List ℕ)) → TracesTurnOutInTurn left
-traces_turn_out {S} left traces old mid new first then turns = (
+traces_turn_out {S} left traces old mid new first may then turns = (
   record { many = turns.many; falls = turns.falls; each = λ k t d at. (both k t d at).0 },
   record { many = turns.many ∙ sym first.same; falls = turns.falls; each = λ k t d at. (both k t d at).1 },
 )
   where
-    of : (t : Trace) (a b c : Lane S) (p q r : Option LaneReaderState) → IsSomeAnd p (λ was. IsSomeAnd q (λ is. (gained : List Answer) × ReadsOn (left a.source) (left b.source) was.feed is.feed gained × MayGoOn is.feed))
-        → IsSomeAnd q (λ was. IsSomeAnd r (λ is. (gained : List Answer) × ReadsOn (left b.source) (left c.source) was.feed is.feed gained × MayGoOn is.feed)) → Out left t a c p r → Out left t a b p q × Out left t b c q r
-    of t a b c None q r h k out = absurd h
-    of t a b c (Some was) None r h k out = absurd h
-    of t a b c (Some was) (Some is) None h k out = absurd k
-    of t a b c (Some was) (Some is) (Some end) h k out = in_turn left t a b c was is end h.0 k.0 h.1 k.1 h.2 out
+    of : (t : Trace) (a b c : Lane S) (p q r : Option LaneReaderState) → IsSomeAnd p (λ was. IsSomeAnd q (λ is. (gained : List Answer) × ReadsOn (left a.source) (left b.source) was.feed is.feed gained)) → IsSomeAnd q (λ is. MayGoOn is.feed)
+        → IsSomeAnd q (λ was. IsSomeAnd r (λ is. (gained : List Answer) × ReadsOn (left b.source) (left c.source) was.feed is.feed gained)) → Out left t a c p r → Out left t a b p q × Out left t b c q r
+    of t a b c None q r h m k out = absurd h
+    of t a b c (Some was) None r h m k out = absurd h
+    of t a b c (Some was) (Some is) None h m k out = absurd k
+    of t a b c (Some was) (Some is) (Some end) h m k out = in_turn left t a b c was is end h.0 k.0 h.1 k.1 m out
 
     both : (k : ℕ) (t : Trace) (d : Lane S) → slice_get traces k ≡ Some t → Out left t (slice_index_or old k d) (slice_index_or mid k d) (slice_index_or old k d).reader (slice_index_or mid k d).reader
         × Out left t (slice_index_or mid k d) (slice_index_or new k d) (slice_index_or mid k d).reader (slice_index_or new k d).reader
     both k t d at =
         let low : k < length old = omega (arith, slice_get_within traces k t at, turns.many) in
-        of t (slice_index_or old k d) (slice_index_or mid k d) (slice_index_or new k d) (slice_index_or old k d).reader (slice_index_or mid k d).reader (slice_index_or new k d).reader (first.each k d low) (then.each k d (omega (arith, low, first.same))) (turns.each k t d at)
+        of t (slice_index_or old k d) (slice_index_or mid k d) (slice_index_or new k d) (slice_index_or old k d).reader (slice_index_or mid k d).reader (slice_index_or new k d).reader (first.each k d low) (may k d (omega (arith, low, first.same))) (then.each k d (omega (arith, low, first.same))) (turns.each k t d at)

@@ -11,7 +11,7 @@ use Rattle.row_changes.specs.Changes.{Timed}
 use Rattle.row_changes.specs.Toward.{is_break}
 use Rattle.site_means.specs.Images.{shape_of}
 use Rattle.site_deeds.specs.Exceptions.{Exceptions}
-use Rattle.passages.specs.Points.{AreLinked}
+use Rattle.passages.specs.Points.{AreLinked, last_point}
 use Rattle.consistency.specs.Bears.{Bears, Run, Stage}
 use Rattle.consistency.specs.Steps.{TimedCommand}
 use Rattle.fed_logs.specs.Logs.{Sizes}
@@ -20,7 +20,7 @@ use Rattle.fed_logs.specs.ShownBreaks.{BreaksAreToCome, BrokeAsTraces}
 use Rattle.session_points.specs.Bearing.{GoesThroughPoints, MayBeMeant, ShowsPoint}
 use Rattle.session_points.specs.Leads.{Point}
 use Rattle.session_points.specs.Ways.{ComesNext, IsAtWork, IsLegOf, Leg, MayTakeEffect, PassedPoint, hits_of_leg, leg_after}
-use Rattle.borne_deeds.specs.Working.{Asked, StandsForRows}
+use Rattle.borne_deeds.specs.Working.{Asked, IsOnItsWay, ShowsLast, StandsForRows}
 use Rattle.site_store.specs.Sites.{SiteState}
 use Rattle.site_store.specs.Standing.{SiteStands}
 use Rattle.mover.specs.declared.ends.EpochEnd.{EpochEnd}
@@ -107,18 +107,23 @@ pub record IsEpochOf {S : Type 0} (tells : Type 0) (left : S → Option (List �
 abbrev pub BearsSome : RunSoFar → PlantState → Choice → Type 0
 BearsSome so plant c = (time : ℕ) × Bears so.run so.stage (shape_of plant) c time
 
--- From the leg on points were passed, and one may be on its way. Each comes next on the way to the line's time, and may be meant.
+-- From the leg on points were passed, and one may be on its way. Each comes next on the way to the line's time, and may be meant. The past of a
+-- plant that keeps one tells the points' moments.
+--   comes_next: the one on its way comes next behind the others, if it isn't the last of these
+--   now: whatever a crash leaves now shows the last of the others, or the one on its way
 pub record PassesOn (so : RunSoFar) (asked : Asked) (old new : PlantState) (points : List PassedPoint) (next : Option Point) : Type 0 where
-  pub goes : GoesThroughPoints so.run new old.clock so.leg.point points new.clock next
+  pub goes : 0 < old.clock → GoesThroughPoints so.run new old.clock so.leg.point points new.clock next
   pub linked : AreLinked (ComesNext so.run asked) leg_after so.leg points
   pub may : All (λ n. MayBeMeant so.run so.stage n.point) points
   pub may_next : IfSome next (MayBeMeant so.run so.stage)
+  pub comes_next : IfSome next (IsOnItsWay so.run asked (fold leg_after so.leg points))
+  pub now : AtNow (ShowsLast so.run new (last_point so.leg.point points) next) new
 
 -- Whatever a crash leaves at a moment, and now, bears some time. While the session works for the line, points are passed.
 pub record BearsAtEachMoment (so : RunSoFar) (was is : PlantState) : Type 0 where
   pub moments : 0 < was.clock → AtEveryMoment (BearsSome so is) was is
   pub now : AtNow (BearsSome so is) is
-  pub passes : (asked : Asked) → IsAtWork so.run asked so.leg → 0 < was.clock → (points : List PassedPoint) × (next : Option Point) × PassesOn so asked was is points next
+  pub passes : (asked : Asked) → IsAtWork so.run asked so.leg → (points : List PassedPoint) × (next : Option Point) × PassesOn so asked was is points next
 
 -- Each moment of an epoch for a line bears, whatever the epoch answers.
 abbrev pub EpochsBear : {S : Type 0} → (tells : Type 0) → (left : S → Option (List ℕ)) → (faults : S → ℕ) → (was is : PlantState) → Type 0
@@ -136,7 +141,7 @@ pub record StandsAtLimit (so : RunSoFar) (line : TimedCommand) (next : Group) (a
   pub excepted : Exceptions
   pub done : Plans
   pub stands : StandsSoFar (run_on so leg excepted done) next after is
-  pub passes : (asked : Asked) → IsAtWork so.run asked so.leg → 0 < was.clock → (points : List PassedPoint) × PassesOn so asked was is points None × (fold leg_after so.leg points ≡ leg)
+  pub passes : (asked : Asked) → IsAtWork so.run asked so.leg → (points : List PassedPoint) × PassesOn so asked was is points None × (fold leg_after so.leg points ≡ leg)
   pub effect : MayTakeEffect so.run line leg
 
 -- Where an epoch for a line reaches its limit, the session may take the line's command, and the next line's epoch may begin.

@@ -13,7 +13,8 @@ pub fn epochs_bear<S: Source, P: Plant>(old: &P, new: &P)
     ensures reached { EpochsStandAgain P.tells S.left S.faults (P.state old.now) (P.state new.now) }
 {}
 
-/// Lanes that read on in several epochs read on in all of them together. How traces turn out behind all tells how they turn out behind each.
+/// Lanes that read on in two epochs read on in both together. How traces turn out behind both tells how they turn out behind each, if no lane
+/// wanted memory between the two.
 pub fn traces_turn_out_in_turn<S: Source>()
     ensures lanes { LanesReadInTurn S.left }
     ensures traces { TracesTurnOutInTurn S.left }
