@@ -1,3 +1,14 @@
+pub mod Leads
+pub mod Ways
+pub mod Bearing
+pub mod Owing
+pub mod Answering
+pub mod Replying
+pub mod Between
+pub mod Unhit
+pub mod PointLaws
+pub mod FlagLaws
+pub mod ReplyLaws
 pub use Rattle.row_changes.specs.Changes
 pub use Rattle.row_changes.specs.Toward
 pub mod Steps

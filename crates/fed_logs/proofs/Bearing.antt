@@ -11,16 +11,16 @@ use Rattle.group_state.specs.Sound.{KeepsGroup}
 use Rattle.group_state.specs.Machine.{Call, Reply}
 use Rattle.group_state.specs.Machine.Call.{Join, NextWanted, Copied, Raise, Break, Form, Carry, Drop, Resume, Forget}
 use Rattle.group_state.specs.Runs.{Answer, shown_by}
-use Rattle.told_tracks.specs.Told.{HeldTracks, held_behind_group}
+use Rattle.fed_logs.specs.Told.{HeldTracks, held_behind_group}
 use Rattle.record_rows.specs.Deeds.{Deed, rows_behind, time_meant_behind}
 use Rattle.fed_logs.specs.Deeds.{held_behind}
 use Rattle.record_rows.specs.Deeds.Deed.{Logged, Changed, Marked}
 use Rattle.fed_logs.specs.Feeds.{truth_of, is_call_of_reader, part_of_mover}
 use Rattle.fed_logs.specs.Moves.{AreQuiet, ShowsNothing, Plans, plans_with_shown, plans_without, Following, IsLogged, KeepsShown, KeepsCall, IsKeptOn, MakesDeeds, IsKeptWhole, MakesAllDeeds}
 use Rattle.fed_logs.specs.Logs.{Sizes, HoldTruth, IsFedLog, BeginsLog, is_call_of_seat}
-use Rattle.fed_logs.specs.Laws.{LogsBear, ReachedHolds}
+use Rattle.fed_logs.specs.LogLaws.{LogsBear, ReachedHolds}
 use Rattle.fed_logs.proofs.Went.{form_shown}
-use Rattle.fed_logs.proofs.Reading.{answer_of, read_on, read_begins, form_log, form_begins, nothing_begins, drop_log, drop_begins, fewer_begins, quiet_begins}
+use Rattle.fed_logs.proofs.ReadCalls.{answer_of, read_on, read_begins, form_log, form_begins, nothing_begins, drop_log, drop_begins, fewer_begins, quiet_begins}
 
 -- what was kept of a form, of what it showed
 pub kept_shown : (s next : Group) (limit : Stamp) (reply : Reply) (time : ℕ) (rows : List PairRow) (done : Plans) (deeds : List Deed) (rest : Following) → shown_by reply ≡ Some (shown_at (cut_of s limit) s) → KeepsCall time rows done (Form limit) reply deeds rest

@@ -20,21 +20,21 @@ use Rattle.group_state.specs.Machine.Call.{Join, NextWanted, Copied, Raise, Brea
 use Rattle.group_state.specs.Runs.{Answer, May}
 use Rattle.group_state.proofs.FormLaws.{all_at}
 use Rattle.group_state.proofs.Kept.{kept_form}
-use Rattle.told_tracks.specs.Told.{floor_of, has_changed}
-use Rattle.told_tracks.proofs.Keeping.{at_map, told_to_last}
+use Rattle.fed_logs.specs.Told.{floor_of, has_changed}
+use Rattle.fed_logs.proofs.Keeping.{at_map, told_to_last}
 use Rattle.record_rows.specs.Deeds.{Deed, time_meant_behind}
 use Rattle.record_rows.specs.Deeds.Deed.{Logged, Changed, Marked}
 use Rattle.fed_logs.specs.Feeds.{IsFedBy, is_call_of_reader, part_of_mover}
 use Rattle.group_state.specs.Calls.{is_by_reader}
 use Rattle.fed_logs.specs.Moves.{AreQuiet, ShowsNothing, MayFollow, Plans, plans_with_shown, plans_without, IsLogged, KeepsShown, KeepsCall, IsKeptOn, MakesDeeds, is_break_of_control}
 use Rattle.fed_logs.specs.Logs.{IsFedLog, AwaitsBreak, is_call_of_seat}
-use Rattle.fed_logs.specs.Laws.{WasShown, ReportsBreak, BreaksCome}
-use Rattle.fed_logs.specs.Laws.ReportsBreak.{Now, Later}
+use Rattle.fed_logs.specs.LogLaws.{WasShown, ReportsBreak, BreaksCome}
+use Rattle.fed_logs.specs.LogLaws.ReportsBreak.{Now, Later}
 use Rattle.fed_logs.proofs.Shown.{counts_behind, break_was_told}
 use Rattle.fed_logs.proofs.Went.{WentRead, form_shown}
 use Rattle.fed_logs.proofs.Went.WentRead.{Same, Joins, Copies, Raises, Breaks}
 use Rattle.fed_logs.proofs.Standing.{at_with, same_count, formed_count}
-use Rattle.fed_logs.proofs.Reading.{answer_of, read_on, fed_own, form_log, drop_log}
+use Rattle.fed_logs.proofs.ReadCalls.{answer_of, read_on, fed_own, form_log, drop_log}
 use Rattle.fed_logs.proofs.Bearing.{kept_shown}
 
 -- ---- what is kept of a control by a call

@@ -16,15 +16,15 @@ use Rattle.group_state.specs.Machine.{Call, Reply}
 use Rattle.group_state.specs.Machine.Call.{Join, NextWanted, Copied, Raise, Break, Form, Carry, Drop, Resume, Forget}
 use Rattle.group_state.specs.Runs.{Answer, May}
 use Rattle.group_state.proofs.Stands.{new_at}
-use Rattle.told_tracks.specs.Told.{floor_of, has_changed}
-use Rattle.told_tracks.proofs.Keeping.{at_map}
+use Rattle.fed_logs.specs.Told.{floor_of, has_changed}
+use Rattle.fed_logs.proofs.Keeping.{at_map}
 use Rattle.fed_logs.specs.Feeds.{IsFedBy, is_call_of_reader}
 use Rattle.fed_logs.specs.Logs.{IsFedLog, is_call_of_seat}
 use Rattle.fed_logs.specs.ShownBreaks.{StillTells, is_break_below, BreaksToComeAreAwaited, AllBreaksAreToCome, LaterBreaksAreToCome, OtherCallsAwaitBreaks}
 use Rattle.fed_logs.proofs.Went.{WentRead}
 use Rattle.fed_logs.proofs.Went.WentRead.{Same, Joins, Copies, Raises, Breaks}
 use Rattle.fed_logs.proofs.Standing.{at_with, same_count, formed_count}
-use Rattle.fed_logs.proofs.Reading.{answer_of, read_on, fed_own, form_log, drop_log}
+use Rattle.fed_logs.proofs.ReadCalls.{answer_of, read_on, fed_own, form_log, drop_log}
 use Rattle.fed_logs.proofs.Breaking.{told_up_to, broke_at}
 
 pub breaks_to_come_are_awaited : BreaksToComeAreAwaited

@@ -4,7 +4,7 @@ use Rattle.pair_table.specs.declared.row.PairRow.{PairRow}
 use Rattle.record_rows.specs.Deeds.{Deed, rows_behind}
 use Rattle.record_rows.specs.Deeds.Deed.{Logged, Changed, Marked}
 use Rattle.fed_logs.specs.Moves.{AreEntriesLive, AreLiveIn, LiveByDeeds, is_mark_due_behind}
-use Rattle.fed_logs.specs.Laws.{LiveEntriesInTurn}
+use Rattle.fed_logs.specs.LogLaws.{LiveEntriesInTurn}
 
 live_of_more : (due : Bool) (seen wider : List PairRow) (deeds : List Deed) → AreLiveIn wider seen → AreEntriesLive due seen deeds → AreEntriesLive due wider deeds
 live_of_more due seen wider [] up live = tt

@@ -13,9 +13,9 @@ use Rattle.record_rows.specs.Deeds.{Deed, time_meant_behind}
 use Rattle.record_rows.specs.Deeds.Deed.{Logged, Changed, Marked}
 use Rattle.fed_logs.specs.Feeds.{part_of_mover}
 use Rattle.fed_logs.specs.Moves.{AreQuiet, ShowsNothing, Plans, plans_with_shown, plans_without, IsLogged, KeepsShown, KeepsCall, IsKeptOn, MakesDeeds}
-use Rattle.fed_logs.specs.Laws.{is_limited, TimesRise}
+use Rattle.fed_logs.specs.LogLaws.{is_limited, TimesRise}
 use Rattle.fed_logs.proofs.Went.{form_shown}
-use Rattle.fed_logs.proofs.Reading.{answer_of}
+use Rattle.fed_logs.proofs.ReadCalls.{answer_of}
 use Rattle.fed_logs.proofs.Bearing.{kept_shown}
 
 module _ (limit : ℕ) where

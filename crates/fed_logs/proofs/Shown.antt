@@ -22,7 +22,7 @@ use Rattle.group_state.proofs.SoundLaws.{count_cons}
 use Rattle.group_state.proofs.FormLaws.{sound_formed}
 use Rattle.group_state.proofs.VolumeLaws.{has_found}
 use Rattle.group_state.proofs.OwnParts.{control_number}
-use Rattle.told_tracks.proofs.Keeping.{at_map}
+use Rattle.fed_logs.proofs.Keeping.{at_map}
 use Rattle.fed_logs.specs.Moves.{is_break_of_control, is_plan_shown_done}
 use Rattle.fed_logs.specs.Logs.{IsPlanDone}
 

@@ -22,8 +22,8 @@ use Rattle.group_state.specs.Machine.Reply.{Made, Joined, Held, Stale, Wanted, F
 use Rattle.group_state.specs.Runs.{Answer, May, shown_by}
 use Rattle.group_state.proofs.OwnParts.{control_number}
 use Rattle.row_changes.specs.Changes.{break_time_of, is_at}
-use Rattle.told_tracks.specs.Told.{floor_of, has_changed}
-use Rattle.told_tracks.proofs.Keeping.{at_map}
+use Rattle.fed_logs.specs.Told.{floor_of, has_changed}
+use Rattle.fed_logs.proofs.Keeping.{at_map}
 use Rattle.record_rows.specs.GroupRows.{is_break_at}
 use Rattle.fed_logs.specs.Feeds.{IsFedBy, is_call_of_reader}
 use Rattle.fed_logs.specs.Logs.{IsFedLog, is_call_of_seat}
@@ -31,7 +31,7 @@ use Rattle.fed_logs.specs.ShownBreaks.{BrokeAs, BrokeAsTraces, IsTracesBreak, Sh
 use Rattle.fed_logs.proofs.Went.{WentRead, form_shown}
 use Rattle.fed_logs.proofs.Went.WentRead.{Same, Joins, Copies, Raises, Breaks}
 use Rattle.fed_logs.proofs.Standing.{at_with, same_count, formed_count}
-use Rattle.fed_logs.proofs.Reading.{answer_of, read_on, fed_own, form_log, drop_log, some_trace}
+use Rattle.fed_logs.proofs.ReadCalls.{answer_of, read_on, fed_own, form_log, drop_log, some_trace}
 
 -- ---- one call
 

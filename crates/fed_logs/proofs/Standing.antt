@@ -24,8 +24,8 @@ use Rattle.group_state.specs.Runs.{May}
 use Rattle.group_state.proofs.VolumeLaws.{Keeps, same_or_none}
 use Rattle.group_state.proofs.SoundLaws.{all_filter}
 use Rattle.group_state.proofs.Kept.{kept_with, keeps_joined, keeps_copied, keeps_raised, keeps_broke, keeps_dropped}
-use Rattle.told_tracks.proofs.Tracks.{tested_with}
-use Rattle.told_tracks.proofs.Keeping.{at_map}
+use Rattle.fed_logs.proofs.Tracks.{tested_with}
+use Rattle.fed_logs.proofs.Keeping.{at_map}
 use Rattle.fed_logs.specs.Moves.{HasRowIn, IsLive, IsDuplex, AreFewer, MayFollow, Plans, plans_with_shown, plans_without, is_plan_shown_done}
 use Rattle.fed_logs.specs.Logs.{Sizes, is_of_size, AreSized, IsPlanDone, Stand}
 use Rattle.fed_logs.proofs.Shown.{counts_behind, shown_done}

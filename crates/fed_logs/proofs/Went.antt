@@ -11,7 +11,7 @@ use Rattle.group_state.specs.Machine.{Call, Reply, copy_reply, reply_to, group_a
 use Rattle.group_state.specs.Machine.Call.{Join, NextWanted, Copied, Raise, Break, Form, Carry, Drop, Resume, Forget}
 use Rattle.group_state.specs.Machine.Reply.{Made, Joined, Held, Stale, Wanted, Formed, Nothing}
 use Rattle.group_state.specs.Runs.{shown_by}
-use Rattle.told_tracks.specs.Told.{has_changed}
+use Rattle.fed_logs.specs.Told.{has_changed}
 use Rattle.fed_logs.specs.Feeds.{is_call_of_reader}
 
 -- a reader's call

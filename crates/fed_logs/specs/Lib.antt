@@ -1,6 +1,15 @@
+pub mod Told
+pub mod ToldLaws
 pub mod Deeds
 pub mod Feeds
 pub mod Moves
 pub mod Logs
-pub mod Laws
+pub mod LogLaws
 pub mod ShownBreaks
+pub mod LaneFeeds
+pub mod Reads
+pub mod Limits
+pub mod Steps
+pub mod Readings
+pub mod Tellers
+pub mod FeedLaws

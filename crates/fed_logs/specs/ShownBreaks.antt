@@ -13,10 +13,10 @@ use Rattle.group_state.specs.Groups.{Group, control_at, new_group, Shown, shown_
 use Rattle.group_state.specs.Machine.{Call, Reply, steps}
 use Rattle.group_state.specs.Machine.Call.{Join, NextWanted, Copied, Raise, Break, Form, Carry, Drop, Resume, Forget}
 use Rattle.group_state.specs.Runs.{Answer}
-use Rattle.told_tracks.specs.Told.{floor_of}
+use Rattle.fed_logs.specs.Told.{floor_of}
 use Rattle.record_rows.specs.GroupRows.{are_breaks_at_cut}
 use Rattle.fed_logs.specs.Logs.{AwaitsBreak, IsFedLog}
-use Rattle.fed_logs.specs.Laws.{WasShown}
+use Rattle.fed_logs.specs.LogLaws.{WasShown}
 
 -- If a control has broken, and its break wasn't reported yet, the break is the trace's: by this cause, at the control's floor.
 abbrev pub BrokeAs : Trace → ControlState → Type 0

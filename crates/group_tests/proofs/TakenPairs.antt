@@ -31,15 +31,15 @@ use Rattle.record_rows.specs.Records.{rows_with_hits}
 use Rattle.record_rows.specs.Told.{InPlaces}
 use Rattle.fed_logs.specs.Moves.{Plans}
 use Rattle.fed_logs.proofs.Standing.{at_with, same_count}
-use Rattle.borne_deeds.proofs.Copying.{kept_within}
-use Rattle.borne_deeds.proofs.Pairs.{Among, among_cases, among_of}
-use Rattle.borne_deeds.proofs.Pairs.Among.{Here, Later}
-use Rattle.borne_deeds.specs.Told.{is_volume_kept}
-use Rattle.carried_rows.specs.Taking.{IfAdds, IsSuspendedSince, KeepsForRows, MayTake, after_calls, calls_of_change, drop_by}
-use Rattle.carried_rows.proofs.Changed.{no_plans}
-use Rattle.carried_rows.proofs.KeptRows.{kept_added_row, kept_dropped_row, kept_forgotten_row, kept_resumed_row}
-use Rattle.carried_rows.proofs.Commanded.{commands_may_be_taken}
-use Rattle.carried_rows.proofs.Walking.{Steps, Walked, change_walk}
+use Rattle.mover.proofs.Copying.{kept_within}
+use Rattle.mover.proofs.Pairs.{Among, among_cases, among_of}
+use Rattle.mover.proofs.Pairs.Among.{Here, Later}
+use Rattle.mover.specs.Told.{is_volume_kept}
+use Rattle.xrc_session.specs.Taking.{IfAdds, IsSuspendedSince, KeepsForRows, MayTake, after_calls, calls_of_change, drop_by}
+use Rattle.xrc_session.proofs.Changed.{no_plans}
+use Rattle.xrc_session.proofs.KeptRows.{kept_added_row, kept_dropped_row, kept_forgotten_row, kept_resumed_row}
+use Rattle.xrc_session.proofs.Commanded.{commands_may_be_taken}
+use Rattle.xrc_session.proofs.Walking.{Steps, Walked, change_walk}
 use Rattle.group_tests.specs.Changes.{AllCount, TakesChanges, are_live}
 
 -- ---- rows in order

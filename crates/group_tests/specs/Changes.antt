@@ -9,7 +9,7 @@ use Rattle.pair_table.specs.Rows.{is_suspended}
 use Rattle.pair_table.specs.Tables.{Table}
 use Rattle.group_state.specs.Controls.{counts}
 use Rattle.group_state.specs.Groups.{Group, control_at}
-use Rattle.carried_rows.specs.Taking.{KeepsForRows}
+use Rattle.xrc_session.specs.Taking.{KeepsForRows}
 
 -- Each control counts.
 abbrev pub AllCount : Group → Type 0

@@ -6,12 +6,12 @@ ghost use Rattle.pair_table.specs.Tables.{Table};
 ghost use Rattle.group_tests.specs.Changes.{TakesChanges, are_live};
 
 use crate::fixtures::assert_same;
-use carried_rows::take_change;
 use group_state::GroupState;
 use pair_table::{Change, Choice, Command, Names, PairRow, PairState, PairTable, SuspendCause};
 use std::alloc::Global;
 use std::process::Abort;
 use tod_stamp::{MOST_CONTROLS, Serial, Session, Stamp};
+use xrc_session::take_change;
 
 const SUSPEND: Command = Command::Suspend(Choice::All);
 

@@ -17,8 +17,8 @@ use Rattle.consistency.specs.Bears.{tracks_of_row}
 use Rattle.fed_logs.specs.Logs.{is_of_size}
 use Rattle.turn_group.specs.Notes.{KnownVolume, known_of, known_volume, volumes_known}
 use Rattle.turn_group.proofs.Known.{HasSizesOf, map_at, sizes_at, sizes_in}
-use Rattle.borne_deeds.specs.Told.{CarriedAsLive}
-use Rattle.borne_deeds.proofs.Pairs.{among_of, apart_still, found_row, pair_of, pairs_of}
+use Rattle.mover.specs.Told.{CarriedAsLive}
+use Rattle.mover.proofs.Pairs.{among_of, apart_still, found_row, pair_of, pairs_of}
 use Rattle.mover.specs.Moves.{IsOfLive, KnowsRows, are_numbers_distinct, is_carried_as, known_at_control, names_number, row_of_volume}
 use Rattle.mover.specs.Epochs.{IsSamePair}
 use Rattle.mover.proofs.SamePairs.{at_of, before, contains_at}

@@ -14,7 +14,7 @@ use Rattle.write_trace.specs.contracts.reader.TraceReader as TraceReader
 use Rattle.sidefile.specs.contracts.sidefile.Sidefile as Sidefile
 use Rattle.primary_ctl.specs.contracts.held.Held as Tracks
 use Rattle.primary_ctl.specs.contracts.primary.Primary as Primary
-use Rattle.lane_feed.specs.contracts.feed.Feed as Feed
+use Rattle.fed_logs.specs.contracts.feed.Feed as Feed
 use Rattle.turn_group.proofs.Crossing.{reader_send}
 use Rattle.mover.specs.contracts.reader.Reader as Reader
 

@@ -12,7 +12,7 @@ use Rattle.group_state.specs.Machine.Call.{Join, NextWanted, Copied, Raise, Brea
 use Rattle.group_state.specs.Machine.Reply.{Joined, Held, Formed, Nothing}
 use Rattle.group_state.specs.Runs.{Answer, Runs, shown_by}
 use Rattle.group_state.specs.Volumes.{is_wanted}
-use Rattle.lane_feed.proofs.Entries.{all_append}
+use Rattle.fed_logs.proofs.FeedEntries.{all_append}
 use Rattle.fed_logs.specs.Feeds.{is_answer_of_mover, part_of_mover}
 use Rattle.mover.specs.Moves.{are_shown_at_cuts, is_broken_at, is_shown_at_cut, shows_at_cut}
 use Rattle.mover.proofs.LogParts.{all_filtered}

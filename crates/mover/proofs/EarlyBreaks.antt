@@ -29,17 +29,17 @@ use Rattle.record_rows.specs.Deeds.Deed.{Logged, Changed, Marked}
 use Rattle.record_rows.specs.GroupRows.{breaking, group_changes, matured_with_group, maturing, maturing_of}
 use Rattle.record_rows.specs.Hits.{hit_changes, hit_now, marked_changes, reached_changes, rows_marked, told_changes}
 use Rattle.record_rows.specs.Told.{due_after_changes}
-use Rattle.site_deeds.specs.Changing.{DeedOfChanges, changes_of}
+use Rattle.site_store.specs.DeedChanges.{DeedOfChanges, changes_of}
 use Rattle.fed_logs.specs.Feeds.{part_of_reader}
-use Rattle.fed_logs.specs.Laws.{WasShown}
+use Rattle.fed_logs.specs.LogLaws.{WasShown}
 use Rattle.fed_logs.specs.Logs.{IsFedLog}
 use Rattle.fed_logs.specs.Moves.{is_break_of_control}
 use Rattle.fed_logs.specs.ShownBreaks.{BreaksAreToCome, BrokeAsTraces, IsTracesBreak}
 use Rattle.fed_logs.proofs.Shown.{break_was_told}
 use Rattle.fed_logs.proofs.ShownBreaks.{shown_breaks_are_the_traces}
-use Rattle.borne_deeds.specs.Silent.{all_silent, breaking_at, has_none_live, silent_at, silent_from, silent_of}
-use Rattle.lane_feed.specs.Feeds.{telling_behind_calls}
-use Rattle.lane_feed.proofs.Controls.{telling_is_told}
+use Rattle.mover.specs.Silent.{all_silent, breaking_at, has_none_live, silent_at, silent_from, silent_of}
+use Rattle.fed_logs.specs.LaneFeeds.{telling_behind_calls}
+use Rattle.fed_logs.proofs.ToldControls.{telling_is_told}
 use Rattle.mover.specs.Bearing.{is_early_break}
 use Rattle.mover.proofs.LanesAgain.{tells_no_more}
 use Rattle.mover.specs.Steps.{AreMade, IsDeedMade}

@@ -11,13 +11,13 @@ use Rattle.group_state.specs.Sound.{KeepsGroup}
 use Rattle.mover.specs.Groups.{is_at_limit}
 use Rattle.fed_logs.specs.Logs.{AreSized}
 use Rattle.fed_logs.specs.ShownBreaks.{BreaksAreToCome}
-use Rattle.borne_deeds.specs.Told.{CarriedAsLive, FailedAreOwed}
+use Rattle.mover.specs.Told.{CarriedAsLive, FailedAreOwed}
 use Rattle.turn_group.specs.Calls.{as_answer}
 use Rattle.turn_group.specs.Histories.{OneHistory}
 use Rattle.turn_group.specs.Notes.{says}
 use Rattle.turn_group.specs.Notes.SeatNote.{MoverNote}
 use Rattle.turn_group.specs.Seats.{IsSeated, MoverSeatState, ReaderSeatState, TurnState, calls_at, new_mover, seat_at}
-use Rattle.site_deeds.specs.Changing.{deeds_of}
+use Rattle.site_store.specs.DeedChanges.{deeds_of}
 use Rattle.site_store.specs.declared.store_error.StoreError.{StoreError}
 use Rattle.site_store.specs.Sites.{SiteState}
 use Rattle.mover.specs.declared.ends.EpochEnd.{EpochEnd}

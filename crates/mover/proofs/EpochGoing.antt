@@ -11,9 +11,9 @@ use Rattle.group_state.specs.Sound.{KeepsGroup}
 use Rattle.xrc_journal.specs.Bodies.{have_image}
 use Rattle.xrc_journal.specs.Items.{Item}
 use Rattle.record_rows.specs.Deeds.{Deed}
-use Rattle.site_deeds.specs.Changing.{AreByChanges, deeds_of}
-use Rattle.site_deeds.specs.Doing.{BeginsDeeds}
-use Rattle.site_deeds.specs.Exceptions.{Exceptions}
+use Rattle.site_store.specs.DeedChanges.{AreByChanges, deeds_of}
+use Rattle.site_store.specs.Doing.{BeginsDeeds}
+use Rattle.site_store.specs.Exceptions.{Exceptions}
 use Rattle.fed_logs.specs.Feeds.{AllGoUpTo, is_answer_of_mover, is_up_to_limit, part_of_mover, part_of_reader}
 use Rattle.fed_logs.specs.ShownBreaks.{BrokeAsTraces}
 use Rattle.consistency.specs.Bears.{Run}
@@ -26,7 +26,7 @@ use Rattle.fed_logs.specs.Moves.{MakesDeeds, Plans}
 use Rattle.fed_logs.proofs.Bearing.{logs_bear}
 use Rattle.fed_logs.proofs.Breaking.{breaks_come}
 use Rattle.fed_logs.proofs.Rising.{times_rise}
-use Rattle.lane_feed.specs.Reads.{ReadsOn}
+use Rattle.fed_logs.specs.Reads.{ReadsOn}
 use Rattle.turn_group.specs.Calls.{MadeCall, as_answer}
 use Rattle.turn_group.specs.Histories.{OneHistory}
 use Rattle.turn_group.specs.Seats.{MoverSeatState, ReaderSeatState, TurnState, calls_at, seat_at}

@@ -6,11 +6,11 @@ use Rattle.write_trace.specs.declared.trace.Trace.{Trace}
 use Rattle.group_state.specs.Groups.{Group}
 use Rattle.group_state.specs.Sound.{KeepsGroup}
 use Rattle.record_rows.specs.Deeds.{time_meant_behind}
-use Rattle.site_deeds.proofs.Moments.{have_begun}
-use Rattle.site_deeds.proofs.Single.{no_call}
+use Rattle.site_store.proofs.Moments.{have_begun}
+use Rattle.site_store.proofs.Single.{no_call}
 use Rattle.fed_logs.specs.Logs.{IsFedLog}
-use Rattle.lane_feed.specs.Reads.{ReadsOn}
-use Rattle.lane_feed.proofs.InTurn.{reads_nothing}
+use Rattle.fed_logs.specs.Reads.{ReadsOn}
+use Rattle.fed_logs.proofs.InTurn.{reads_nothing}
 use Rattle.site_store.specs.Sites.{SiteState}
 use Rattle.mover.specs.declared.ends.EpochEnd.TheVariants as ends
 use Rattle.mover.specs.declared.lane.Lane.{Lane}

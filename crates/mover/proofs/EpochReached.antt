@@ -14,10 +14,10 @@ use Rattle.fed_logs.specs.Feeds.{part_of_reader}
 use Rattle.fed_logs.specs.Logs.{IsFedLog, is_call_of_seat}
 use Rattle.fed_logs.specs.ShownBreaks.{BreaksAreToCome, is_break_below}
 use Rattle.fed_logs.proofs.BreaksToCome.{later_breaks_are_to_come}
-use Rattle.fed_logs.proofs.Reading.{some_trace}
-use Rattle.lane_feed.specs.Reads.{ReadsOn}
-use Rattle.lane_feed.specs.Tellers.{break_bound}
-use Rattle.site_deeds.specs.Changing.{AreByChanges, DeedOfChanges, deeds_of}
+use Rattle.fed_logs.proofs.ReadCalls.{some_trace}
+use Rattle.fed_logs.specs.Reads.{ReadsOn}
+use Rattle.fed_logs.specs.Tellers.{break_bound}
+use Rattle.site_store.specs.DeedChanges.{AreByChanges, DeedOfChanges, deeds_of}
 use Rattle.turn_group.specs.Notes.{KnownVolume, says}
 use Rattle.turn_group.specs.Notes.SeatNote.{MoverNote}
 use Rattle.turn_group.specs.Seats.{MoverSeatState, ReaderSeatState, calls_at, seat_at}

@@ -21,9 +21,9 @@ use Rattle.row_changes.specs.Toward.{hit_count, is_break}
 use Rattle.record_rows.specs.Deeds.{rows_behind, time_meant_behind}
 use Rattle.record_rows.proofs.Counting.{counts_append}
 use Rattle.site_means.specs.Images.{shape_of}
-use Rattle.site_deeds.specs.Changing.{DeedOfChanges, changes_of, deeds_of}
-use Rattle.site_deeds.specs.Doing.{DoesDeeds}
-use Rattle.site_deeds.specs.Exceptions.{Exceptions, excepted_behind}
+use Rattle.site_store.specs.DeedChanges.{DeedOfChanges, changes_of, deeds_of}
+use Rattle.site_store.specs.Doing.{DoesDeeds}
+use Rattle.site_store.specs.Exceptions.{Exceptions, excepted_behind}
 use Rattle.consistency.specs.Bears.{Run, breaks_of}
 use Rattle.consistency.specs.Steps.{TimedCommand}
 use Rattle.fed_logs.specs.Feeds.{is_answer_of_mover, part_of_mover}
@@ -32,17 +32,17 @@ use Rattle.fed_logs.specs.Moves.{MakesAllDeeds, Plans}
 use Rattle.fed_logs.specs.ShownBreaks.{BreaksAreToCome, BrokeAsTraces}
 use Rattle.fed_logs.proofs.Bearing.{reached_holds}
 use Rattle.fed_logs.proofs.ShownBreaks.{logs_break_as_traces}
-use Rattle.session_points.specs.Bearing.{ShowsPoint}
-use Rattle.session_points.specs.Leads.{Point}
-use Rattle.session_points.specs.Ways.{IsLegOf, Leg, MayTakeEffect, PassedPoint, hits_of_leg, leg_after, leg_to}
-use Rattle.borne_deeds.specs.Points.{point_behind, point_by, points_by}
-use Rattle.borne_deeds.specs.Silent.{all_silent, with_silent}
-use Rattle.borne_deeds.specs.Told.{CarriedAsLive, FailedAreOwed, held_by_choice}
-use Rattle.borne_deeds.specs.Working.{IsKeptToEnd, StandsForRows, excepted_last, last_point_of, Work, WorkBegins, named_steps, points_in}
-use Rattle.borne_deeds.proofs.Bearing.{leg_there}
-use Rattle.borne_deeds.proofs.Ending.{stands_for_rows_again}
-use Rattle.borne_deeds.proofs.Leading.{count_deeds, fewer_hits, flag_there, rows_there, silent_points, time_there}
-use Rattle.borne_deeds.proofs.Passing.{done_deeds_pass_points}
+use Rattle.consistency.specs.Bearing.{ShowsPoint}
+use Rattle.consistency.specs.Leads.{Point}
+use Rattle.consistency.specs.Ways.{IsLegOf, Leg, MayTakeEffect, PassedPoint, hits_of_leg, leg_after, leg_to}
+use Rattle.mover.specs.Points.{point_behind, point_by, points_by}
+use Rattle.mover.specs.Silent.{all_silent, with_silent}
+use Rattle.mover.specs.Told.{CarriedAsLive, FailedAreOwed, held_by_choice}
+use Rattle.mover.specs.Working.{IsKeptToEnd, StandsForRows, excepted_last, last_point_of, Work, WorkBegins, named_steps, points_in}
+use Rattle.mover.proofs.Bearing.{leg_there}
+use Rattle.mover.proofs.Ending.{stands_for_rows_again}
+use Rattle.mover.proofs.Leading.{count_deeds, fewer_hits, flag_there, rows_there, silent_points, time_there}
+use Rattle.mover.proofs.Passing.{done_deeds_pass_points}
 use Rattle.site_store.specs.Applying.{excepted_by_apply}
 use Rattle.site_store.specs.Sites.{SiteState}
 use Rattle.site_store.proofs.RowRoom.{reads_choice}

@@ -12,22 +12,22 @@ use Rattle.record_rows.specs.Deeds.{Deed}
 use Rattle.record_rows.proofs.Counting.{counts_append}
 use Rattle.site_means.specs.Images.{Shape, shape_of}
 use Rattle.site_means.proofs.Goes.{shape_same}
-use Rattle.site_deeds.specs.Changing.{DeedOfChanges, changes_of, deeds_of}
-use Rattle.site_deeds.specs.Doing.{BeginsDeeds, with_next}
-use Rattle.site_deeds.specs.Seeing.{SeesBehind}
+use Rattle.site_store.specs.DeedChanges.{DeedOfChanges, changes_of, deeds_of}
+use Rattle.site_store.specs.Doing.{BeginsDeeds, with_next}
+use Rattle.site_store.specs.Seeing.{SeesBehind}
 use Rattle.consistency.specs.Bears.{Bears, breaks_of}
 use Rattle.consistency.specs.Steps.{TimedCommand}
 use Rattle.fed_logs.specs.Feeds.{part_of_mover}
 use Rattle.fed_logs.specs.Moves.{HasRowIn, IsDuplex, MakesDeeds}
 use Rattle.fed_logs.proofs.BreaksToCome.{breaks_to_come_are_awaited}
-use Rattle.session_points.specs.Leads.{Point, may_rest}
-use Rattle.session_points.specs.Ways.{HasCountedHits, leg_to}
-use Rattle.borne_deeds.specs.Points.{AreSteps}
-use Rattle.borne_deeds.specs.Laws.{next_point}
-use Rattle.borne_deeds.specs.Working.{IsAtLine, IsLogOfWork, Work, WorkBegins, named_steps, points_in, time_then}
-use Rattle.borne_deeds.proofs.Bearing.{seen_deeds_bear}
-use Rattle.borne_deeds.proofs.Leading.{count_deeds, trace_of_break}
-use Rattle.borne_deeds.proofs.Passing.{begun_deeds_bear, begun_deeds_pass_points}
+use Rattle.consistency.specs.Leads.{Point, may_rest}
+use Rattle.consistency.specs.Ways.{HasCountedHits, leg_to}
+use Rattle.mover.specs.Points.{AreSteps}
+use Rattle.mover.specs.BorneLaws.{next_point}
+use Rattle.mover.specs.Working.{IsAtLine, IsLogOfWork, Work, WorkBegins, named_steps, points_in, time_then}
+use Rattle.mover.proofs.Bearing.{seen_deeds_bear}
+use Rattle.mover.proofs.Leading.{count_deeds, trace_of_break}
+use Rattle.mover.proofs.Passing.{begun_deeds_bear, begun_deeds_pass_points}
 use Rattle.site_store.specs.Sites.{SiteState}
 use Rattle.mover.specs.declared.ends.EpochEnd.{EpochEnd}
 use Rattle.mover.specs.declared.lane.Lane.{Lane}

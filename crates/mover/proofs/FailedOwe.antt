@@ -23,8 +23,8 @@ use Rattle.group_state.proofs.VolumeLaws.{Keeps, passes_with}
 use Rattle.record_rows.specs.Deeds.{Deed}
 use Rattle.record_rows.specs.Hits.{is_device_suspended}
 use Rattle.record_rows.specs.Told.{InPlaces}
-use Rattle.told_tracks.proofs.Keeping.{at_map}
-use Rattle.told_tracks.proofs.Tracks.{tested_with}
+use Rattle.fed_logs.proofs.Keeping.{at_map}
+use Rattle.fed_logs.proofs.Tracks.{tested_with}
 use Rattle.fed_logs.specs.Feeds.{is_answer_of_mover, is_call_of_reader, part_of_mover}
 use Rattle.fed_logs.specs.Logs.{AreSized, Sizes, is_call_of_seat, is_of_size}
 use Rattle.fed_logs.specs.Moves.{HasRowIn}
@@ -33,8 +33,8 @@ use Rattle.fed_logs.proofs.Went.{WentRead, went_read}
 use Rattle.fed_logs.proofs.Went.WentRead.{Same, Joins, Copies, Raises, Breaks}
 use Rattle.turn_group.specs.Notes.{known_volume}
 use Rattle.turn_group.proofs.Known.{HasSizesOf, sizes_at, sizes_in, sizes_last}
-use Rattle.borne_deeds.specs.Told.{CarriedAsLive, FailedAreOwed, is_copied_to, is_mapped, is_owed, is_to_be_copied, is_volume_kept}
-use Rattle.borne_deeds.proofs.Copying.{dropped_mapped, kept_within}
+use Rattle.mover.specs.Told.{CarriedAsLive, FailedAreOwed, is_copied_to, is_mapped, is_owed, is_to_be_copied, is_volume_kept}
+use Rattle.mover.proofs.Copying.{dropped_mapped, kept_within}
 use Rattle.mover.specs.Dropping.{IsDeviceSuspended, OwesExactly, owed_by_call, owed_by_calls, stood_duplex}
 use Rattle.mover.specs.Epochs.{IsSamePair}
 use Rattle.mover.proofs.LanesAgain.{count_stays, sizes_stay}

@@ -8,11 +8,11 @@ use Rattle.sidefile.specs.declared.hand.Halt.{Halt}
 use Rattle.group_state.specs.Groups.{Group}
 use Rattle.group_state.specs.Runs.{Answer, Runs}
 use Rattle.group_state.specs.Sound.{KeepsGroup}
-use Rattle.told_tracks.specs.Told.{floor_of}
+use Rattle.fed_logs.specs.Told.{floor_of}
 use Rattle.fed_logs.specs.Feeds.{AreFedBy, is_up_to_limit, part_of_reader}
 use Rattle.fed_logs.specs.Logs.{IsFedLog, is_call_of_seat}
-use Rattle.lane_feed.specs.Reads.{ReadsOn, Went}
-use Rattle.lane_feed.specs.Limits.{IsHeldUpTo}
+use Rattle.fed_logs.specs.Reads.{ReadsOn, Went}
+use Rattle.fed_logs.specs.Limits.{IsHeldUpTo}
 use Rattle.turn_group.specs.Calls.{as_answer}
 use Rattle.turn_group.specs.Seats.{ReaderSeatState, calls_at}
 use Rattle.mover.specs.declared.lane.Lane.{Lane}

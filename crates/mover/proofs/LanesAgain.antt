@@ -19,13 +19,13 @@ use Rattle.group_state.specs.Machine.Call.{Join, NextWanted, Copied, Raise, Brea
 use Rattle.group_state.specs.Runs.{Answer, Runs}
 use Rattle.fed_logs.specs.Feeds.{is_call_of_reader, part_of_reader}
 use Rattle.fed_logs.specs.Logs.{is_call_of_seat}
-use Rattle.lane_feed.specs.declared.reading.Reading.{Reading}
-use Rattle.lane_feed.specs.declared.reading.Reading.TheVariants as readings
-use Rattle.lane_feed.specs.Feeds.{FeedState, floor_behind_calls, telling_behind_calls}
-use Rattle.lane_feed.specs.Reads.{ReadsOn}
-use Rattle.lane_feed.specs.Tellers.{StandsAs}
-use Rattle.lane_feed.proofs.Controls.{floors_are_told, telling_is_told}
-use Rattle.lane_feed.proofs.InTurn.{no_halt}
+use Rattle.fed_logs.specs.declared.reading.Reading.{Reading}
+use Rattle.fed_logs.specs.declared.reading.Reading.TheVariants as readings
+use Rattle.fed_logs.specs.LaneFeeds.{FeedState, floor_behind_calls, telling_behind_calls}
+use Rattle.fed_logs.specs.Reads.{ReadsOn}
+use Rattle.fed_logs.specs.Tellers.{StandsAs}
+use Rattle.fed_logs.proofs.ToldControls.{floors_are_told, telling_is_told}
+use Rattle.fed_logs.proofs.InTurn.{no_halt}
 use Rattle.turn_group.specs.Notes.{known_of, known_volume, volumes_known}
 use Rattle.turn_group.proofs.Known.{HasSizesOf, sizes_at, sizes_in, sizes_known, sizes_last}
 use Rattle.mover.specs.Readers.{LaneReaderState, IsOfHeader, is_of_header}

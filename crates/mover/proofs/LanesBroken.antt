@@ -12,9 +12,9 @@ use Rattle.sidefile.specs.Ahead.{IsAhead}
 use Rattle.sidefile.specs.Breaks.{Break, break_of, has_broken, is_below}
 use Rattle.sidefile.specs.Halts.{broken_in}
 use Rattle.group_state.specs.Runs.{Answer}
-use Rattle.lane_feed.specs.Feeds.{FeedState}
-use Rattle.lane_feed.specs.Reads.{HasRead, IsHeldRun, Outlook, ReadsOn, StandsSo}
-use Rattle.lane_feed.specs.Tellers.{IsHaltBelow}
+use Rattle.fed_logs.specs.LaneFeeds.{FeedState}
+use Rattle.fed_logs.specs.Reads.{HasRead, IsHeldRun, Outlook, ReadsOn, StandsSo}
+use Rattle.fed_logs.specs.Tellers.{IsHaltBelow}
 use Rattle.mover.specs.declared.lane.Lane.{Lane}
 use Rattle.mover.specs.Readers.{LaneReaderState}
 use Rattle.mover.specs.Lanes.{MayGoOn}

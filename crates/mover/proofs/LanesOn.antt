@@ -7,14 +7,14 @@ use Rattle.sidefile.specs.declared.hand.Halt.{Halt}
 use Rattle.sidefile.specs.declared.hand.Halt.TheVariants as halts
 use Rattle.group_state.specs.Runs.{Answer}
 use Rattle.fed_logs.specs.ShownBreaks.{is_break_below}
-use Rattle.lane_feed.specs.declared.reading.Reading.{Reading}
-use Rattle.lane_feed.specs.declared.reading.Reading.TheVariants as readings
-use Rattle.lane_feed.specs.Feeds.{FeedState}
-use Rattle.lane_feed.specs.Reads.{ReadsOn}
-use Rattle.lane_feed.specs.Tellers.{BreaksBelow, HasFaultBy, TellerState, TellsOn, break_bound}
-use Rattle.lane_feed.proofs.Below.{below_in_turn}
-use Rattle.lane_feed.proofs.InTurn.{reads_in_turn}
-use Rattle.lane_feed.proofs.UpToLimit.{up_to_in_turn}
+use Rattle.fed_logs.specs.declared.reading.Reading.{Reading}
+use Rattle.fed_logs.specs.declared.reading.Reading.TheVariants as readings
+use Rattle.fed_logs.specs.LaneFeeds.{FeedState}
+use Rattle.fed_logs.specs.Reads.{ReadsOn}
+use Rattle.fed_logs.specs.Tellers.{BreaksBelow, HasFaultBy, TellerState, TellsOn, break_bound}
+use Rattle.fed_logs.proofs.Below.{below_in_turn}
+use Rattle.fed_logs.proofs.InTurn.{reads_in_turn}
+use Rattle.fed_logs.proofs.UpToLimit.{up_to_in_turn}
 use Rattle.turn_group.specs.Seats.{TurnState}
 use Rattle.mover.specs.declared.lane.Lane.{Lane}
 use Rattle.mover.specs.Readers.{LaneReaderState}

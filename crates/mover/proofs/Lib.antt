@@ -1,3 +1,15 @@
+pub mod Pairs
+pub mod Held
+pub mod Failing
+pub mod Copying
+pub mod Excepting
+pub mod Breaking
+pub mod Leading
+pub mod Bearing
+pub mod Passing
+pub mod Keeping
+pub mod Ending
+pub mod Records
 pub mod SamePairs
 pub mod DeedPairs
 pub mod OwedExactly

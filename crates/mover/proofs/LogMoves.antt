@@ -22,7 +22,7 @@ use Rattle.xrc_journal.specs.Items.{Earlier, Item, behind_all, is_drawn, none_ea
 use Rattle.xrc_journal.specs.Items.Item.{Image, Delta, Pair, Gone}
 use Rattle.record_rows.specs.Hits.{hit_now, is_device_suspended, is_down}
 use Rattle.record_rows.proofs.Telling.{none_hit_again}
-use Rattle.site_deeds.specs.Exceptions.{Exceptions, excepted_behind, is_kept, is_whole_on}
+use Rattle.site_store.specs.Exceptions.{Exceptions, excepted_behind, is_kept, is_whole_on}
 use Rattle.fed_logs.specs.Moves.{HasRowIn, IsLive}
 use Rattle.turn_group.specs.Notes.{KnownVolume, is_of_carried}
 use Rattle.site_store.specs.declared.store_error.StoreError.{StoreError}

@@ -9,7 +9,7 @@ use Rattle.group_state.specs.Machine.{Call}
 use Rattle.group_state.specs.Machine.Call.{Join, NextWanted, Copied, Raise, Break, Form, Carry, Drop, Resume, Forget}
 use Rattle.group_state.specs.Runs.{Answer}
 use Rattle.fed_logs.specs.Feeds.{is_call_of_reader, part_of_mover, part_of_reader}
-use Rattle.fed_logs.specs.Laws.{is_limit_up_to, is_limited}
+use Rattle.fed_logs.specs.LogLaws.{is_limit_up_to, is_limited}
 use Rattle.mover.specs.Groups.{is_at_limit, takes_limit}
 use Rattle.fed_logs.specs.Logs.{is_call_of_seat}
 use Rattle.turn_group.specs.Calls.{MadeCall, as_answer}

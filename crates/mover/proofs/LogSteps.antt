@@ -31,8 +31,8 @@ use Rattle.record_rows.proofs.Devices.{apart_of, devices_apart}
 use Rattle.record_rows.proofs.Grouped.{behind_marks_group, records_group}
 use Rattle.record_rows.proofs.HitRows.{marks_are_changes}
 use Rattle.record_rows.proofs.Telling.{behind_marks_tell, marks_tell, only_failed, records_tell}
-use Rattle.site_deeds.specs.Changing.{AreByChanges, DeedOfChanges, changes_of, deeds_of}
-use Rattle.fed_logs.specs.Laws.{WasShown}
+use Rattle.site_store.specs.DeedChanges.{AreByChanges, DeedOfChanges, changes_of, deeds_of}
+use Rattle.fed_logs.specs.LogLaws.{WasShown}
 use Rattle.fed_logs.specs.Moves.{AreQuiet, MayFollow, is_mark_at_most, is_plan_shown_done}
 use Rattle.site_store.specs.Logging.{FailedBetween, log_deeds, rows_before, rows_logged}
 use Rattle.site_store.specs.Sites.{SiteState}

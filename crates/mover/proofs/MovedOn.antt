@@ -14,12 +14,12 @@ use Rattle.row_changes.specs.Changes.Due.{NoneDue}
 use Rattle.row_changes.specs.Toward.{hit_count}
 use Rattle.record_rows.specs.Deeds.{Deed, entries_by_deed, rows_behind, rows_by_deed, time_by_deed, time_meant_behind}
 use Rattle.record_rows.proofs.Counting.{counts_append}
-use Rattle.site_deeds.specs.Changing.{AreByChanges, DeedOfChanges, changes_of, deeds_of}
-use Rattle.site_deeds.specs.Doing.{BeginsDeeds, DoesDeeds}
-use Rattle.site_deeds.specs.Exceptions.{Exceptions, excepted_behind, excepted_by_deed, is_kept, is_whole_on}
-use Rattle.site_deeds.proofs.Composing.{begin_behind, go_on}
-use Rattle.site_deeds.proofs.Turning.{exceptions_in_turn, leave_in_turn}
-use Rattle.site_deeds.proofs.Widening.{begins_still, does_still}
+use Rattle.site_store.specs.DeedChanges.{AreByChanges, DeedOfChanges, changes_of, deeds_of}
+use Rattle.site_store.specs.Doing.{BeginsDeeds, DoesDeeds}
+use Rattle.site_store.specs.Exceptions.{Exceptions, excepted_behind, excepted_by_deed, is_kept, is_whole_on}
+use Rattle.site_store.proofs.Composing.{begin_behind, go_on}
+use Rattle.site_store.proofs.Turning.{exceptions_in_turn, leave_in_turn}
+use Rattle.site_store.proofs.Widening.{begins_still, does_still}
 use Rattle.fed_logs.specs.Moves.{AreQuiet, MakesAllDeeds, MakesDeeds}
 use Rattle.turn_group.specs.Calls.{MadeCall, as_answer}
 use Rattle.turn_group.specs.Seats.{MoverSeatState}

@@ -24,15 +24,15 @@ use Rattle.record_rows.specs.GroupRows.{is_shown_done}
 use Rattle.record_rows.specs.Hits.{hit_now}
 use Rattle.record_rows.proofs.Counting.{once}
 use Rattle.row_changes.specs.Toward.{is_settled}
-use Rattle.site_deeds.specs.Changing.{AreByChanges, deeds_of}
-use Rattle.site_deeds.specs.Doing.{BeginsDeeds, DoesDeeds}
-use Rattle.site_deeds.specs.Exceptions.{excepted_behind}
-use Rattle.site_deeds.specs.Laws.{LeavesInTurn}
-use Rattle.site_deeds.proofs.Moments.{have_begun}
-use Rattle.site_deeds.proofs.Single.{no_call}
-use Rattle.site_deeds.proofs.Turning.{leave_in_turn}
-use Rattle.site_deeds.proofs.Widening.{begins_still, does_still}
-use Rattle.fed_logs.specs.Laws.{WasShown}
+use Rattle.site_store.specs.DeedChanges.{AreByChanges, deeds_of}
+use Rattle.site_store.specs.Doing.{BeginsDeeds, DoesDeeds}
+use Rattle.site_store.specs.Exceptions.{excepted_behind}
+use Rattle.site_store.specs.DeedLaws.{LeavesInTurn}
+use Rattle.site_store.proofs.Moments.{have_begun}
+use Rattle.site_store.proofs.Single.{no_call}
+use Rattle.site_store.proofs.Turning.{leave_in_turn}
+use Rattle.site_store.proofs.Widening.{begins_still, does_still}
+use Rattle.fed_logs.specs.LogLaws.{WasShown}
 use Rattle.fed_logs.specs.Moves.{AreQuiet, Following, HasRowIn, IsDuplex, KeepsCall, KeepsShown, MakesAllDeeds, MakesDeeds, Plans, IsUnsettled, ShowsNothing, is_plan_shown_done, plans_with_shown}
 use Rattle.turn.specs.Turn.{ticketed}
 use Rattle.turn_group.specs.Calls.{MadeCall, as_answer}

@@ -12,7 +12,7 @@ use Rattle.row_changes.specs.Changes.{RowChange, Timed, after_changes, hit_row, 
 use Rattle.row_changes.specs.Changes.RowChange.{Mature, Break, Hit, MarkedHit, Reached}
 use Rattle.record_rows.specs.Deeds.{rows_behind, rows_by_deed, time_by_deed}
 use Rattle.record_rows.specs.Told.{InPlaces}
-use Rattle.site_deeds.specs.Changing.{AreByChanges, DeedOfChanges, deeds_of}
+use Rattle.site_store.specs.DeedChanges.{AreByChanges, DeedOfChanges, deeds_of}
 use Rattle.mover.specs.Epochs.{IsSamePair}
 use Rattle.mover.proofs.SamePairs.{same_pair}
 

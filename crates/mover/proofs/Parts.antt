@@ -9,15 +9,15 @@ use Rattle.pending_queue.specs.declared.room.Room.{Room}
 use Rattle.group_state.specs.declared.joining.CopyJoin.{CopyJoin}
 use Rattle.group_state.specs.declared.joining.CopyJoin.TheVariants as copyings
 use Rattle.group_state.specs.Runs.{Answer}
-use Rattle.lane_feed.specs.declared.reading.Reading.{Reading}
-use Rattle.lane_feed.specs.declared.reading.Reading.TheVariants as readings
-use Rattle.lane_feed.specs.Feeds.{FeedState}
-use Rattle.lane_feed.specs.Steps.{held_answer, wanted_answer}
-use Rattle.lane_feed.specs.Tellers.{IsToldBy, StandsAs, HasFaultBy, IsHaltBelow, IsCopiedBy, WasRefused, copying_answers}
-use Rattle.lane_feed.proofs.Below.{nothing_breaks, below_in_turn, copies_tell_no_break}
-use Rattle.lane_feed.proofs.InTurn.{reads_nothing}
-use Rattle.lane_feed.proofs.Telling.{tells_nothing, tells_in_turn}
-use Rattle.lane_feed.proofs.UpToLimit.{copies_go_up_to, none_up_to, nothing_up_to, tells_up_to_in_turn}
+use Rattle.fed_logs.specs.declared.reading.Reading.{Reading}
+use Rattle.fed_logs.specs.declared.reading.Reading.TheVariants as readings
+use Rattle.fed_logs.specs.LaneFeeds.{FeedState}
+use Rattle.fed_logs.specs.Steps.{held_answer, wanted_answer}
+use Rattle.fed_logs.specs.Tellers.{IsToldBy, StandsAs, HasFaultBy, IsHaltBelow, IsCopiedBy, WasRefused, copying_answers}
+use Rattle.fed_logs.proofs.Below.{nothing_breaks, below_in_turn, copies_tell_no_break}
+use Rattle.fed_logs.proofs.InTurn.{reads_nothing}
+use Rattle.fed_logs.proofs.Telling.{tells_nothing, tells_in_turn}
+use Rattle.fed_logs.proofs.UpToLimit.{copies_go_up_to, none_up_to, nothing_up_to, tells_up_to_in_turn}
 use Rattle.turn_group.specs.Calls.{as_answer}
 use Rattle.turn_group.specs.Seats.{ReaderSeatState, TurnState, calls_at}
 use Rattle.mover.specs.Readers.{LaneReaderState, SitsAt, teller_of}

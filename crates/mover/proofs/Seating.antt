@@ -8,8 +8,8 @@ use Rattle.tod_stamp.specs.declared.limits.TheConstants.{MOST_CONTROLS}
 use Rattle.group_state.specs.Groups.{Group}
 use Rattle.group_state.specs.Runs.{Answer}
 use Rattle.mover.specs.Groups.{is_at_limit}
-use Rattle.lane_feed.specs.Reads.{ReadsOn}
-use Rattle.lane_feed.specs.Limits.{GoesUpTo}
+use Rattle.fed_logs.specs.Reads.{ReadsOn}
+use Rattle.fed_logs.specs.Limits.{GoesUpTo}
 use Rattle.turn_group.specs.Calls.{as_answer}
 use Rattle.turn_group.specs.Notes.{known_of}
 use Rattle.turn_group.specs.Seats.{MoverSeatState, ReaderSeatState, TurnState, calls_at, new_reader, new_readers, seat_at}

@@ -33,11 +33,11 @@ use Rattle.record_rows.proofs.Counting.{hits_count, once}
 use Rattle.record_rows.proofs.Devices.{apart_of}
 use Rattle.record_rows.proofs.HitRows.{hits_are_changes}
 use Rattle.record_rows.proofs.Telling.{hits_tell, none_hit_again}
-use Rattle.site_deeds.specs.Doing.{BeginsDeeds, DoesDeeds}
-use Rattle.site_deeds.specs.Exceptions.{Exceptions, excepted_behind, is_kept, is_whole_on}
-use Rattle.site_deeds.proofs.Moments.{have_begun}
-use Rattle.site_deeds.proofs.Single.{no_call}
-use Rattle.site_deeds.proofs.Widening.{begins_still, does_still}
+use Rattle.site_store.specs.Doing.{BeginsDeeds, DoesDeeds}
+use Rattle.site_store.specs.Exceptions.{Exceptions, excepted_behind, is_kept, is_whole_on}
+use Rattle.site_store.proofs.Moments.{have_begun}
+use Rattle.site_store.proofs.Single.{no_call}
+use Rattle.site_store.proofs.Widening.{begins_still, does_still}
 use Rattle.fed_logs.specs.Moves.{AreFewer, AreQuiet}
 use Rattle.site_store.specs.declared.store_error.StoreError.{StoreError}
 use Rattle.site_store.specs.declared.store_error.StoreError.TheVariants.{Spent}

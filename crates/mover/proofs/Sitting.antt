@@ -30,7 +30,7 @@ use Rattle.group_state.specs.Machine.{Call, Reply}
 use Rattle.group_state.specs.Machine.Call.{Join, NextWanted, Copied, Raise, Break}
 use Rattle.group_state.specs.Machine.Reply.{Made, Wanted}
 use Rattle.group_state.specs.Runs.{Answer}
-use Rattle.lane_feed.specs.Tellers.{TellerState, teller_after}
+use Rattle.fed_logs.specs.Tellers.{TellerState, teller_after}
 use Rattle.turn.specs.Turn.{ticketed}
 use Rattle.turn_group.specs.Calls.{MadeCall, as_answer}
 use Rattle.turn_group.specs.Seats.{ReaderSeatState, ReaderCalled, reader_after, TurnState, SeatMayJoin, SeatMayCopy, is_track_of_control}

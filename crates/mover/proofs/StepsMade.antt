@@ -18,17 +18,17 @@ use Rattle.record_rows.specs.Records.{rows_with_hits}
 use Rattle.record_rows.specs.Told.{due_after_changes}
 use Rattle.record_rows.proofs.Coming.{hits_may_come, marks_may_come}
 use Rattle.record_rows.proofs.HitRows.{hits_are_changes, marks_are_changes}
-use Rattle.site_deeds.specs.Changing.{DeedOfChanges}
+use Rattle.site_store.specs.DeedChanges.{DeedOfChanges}
 use Rattle.consistency.specs.Bears.{Run, breaks_of}
-use Rattle.fed_logs.specs.Laws.{WasShown}
+use Rattle.fed_logs.specs.LogLaws.{WasShown}
 use Rattle.fed_logs.specs.Logs.{IsFedLog}
 use Rattle.fed_logs.specs.ShownBreaks.{BrokeAsTraces}
-use Rattle.session_points.specs.Leads.{Comes, Point}
-use Rattle.session_points.specs.Ways.{are_at_time}
-use Rattle.borne_deeds.specs.Points.{AreSteps, IsStep, LeavesSo, point_behind}
-use Rattle.borne_deeds.specs.Records.{IsGroupOfLog}
-use Rattle.borne_deeds.proofs.Pairs.{apart_still, pairs_of, same_pairs}
-use Rattle.borne_deeds.proofs.Records.{behind_marks_are_steps, records_are_steps}
+use Rattle.consistency.specs.Leads.{Comes, Point}
+use Rattle.consistency.specs.Ways.{are_at_time}
+use Rattle.mover.specs.Points.{AreSteps, IsStep, LeavesSo, point_behind}
+use Rattle.mover.specs.Records.{IsGroupOfLog}
+use Rattle.mover.proofs.Pairs.{apart_still, pairs_of, same_pairs}
+use Rattle.mover.proofs.Records.{behind_marks_are_steps, records_are_steps}
 use Rattle.mover.specs.Steps.{AreMade, IsDeedMade}
 use Rattle.mover.specs.Steps.IsDeedMade.{Suspends, Marks, MarksFirst, Records, RecordsBehind}
 

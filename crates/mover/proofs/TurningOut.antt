@@ -8,10 +8,10 @@ use Rattle.sidefile.specs.Ahead.{IsAhead}
 use Rattle.sidefile.specs.declared.hand.Halt.{Halt}
 use Rattle.sidefile.specs.declared.hand.Halt.TheVariants as halts
 use Rattle.group_state.specs.Runs.{Answer}
-use Rattle.lane_feed.specs.Feeds.{FeedState}
-use Rattle.lane_feed.specs.Reads.{AreLeft, HasRead, IsStillToCome, MayTurnOut, MayTurnOutOf, Outlook, ReadsOn, ReadsBytes, StandsSo}
-use Rattle.lane_feed.specs.Reads.Outlook.{Whole, Failing}
-use Rattle.lane_feed.proofs.InTurn.{no_halt, reads_in_turn}
+use Rattle.fed_logs.specs.LaneFeeds.{FeedState}
+use Rattle.fed_logs.specs.Reads.{AreLeft, HasRead, IsStillToCome, MayTurnOut, MayTurnOutOf, Outlook, ReadsOn, ReadsBytes, StandsSo}
+use Rattle.fed_logs.specs.Reads.Outlook.{Whole, Failing}
+use Rattle.fed_logs.proofs.InTurn.{no_halt, reads_in_turn}
 use Rattle.mover.specs.declared.lane.Lane.{Lane}
 use Rattle.mover.specs.Readers.{LaneReaderState}
 use Rattle.mover.specs.Lanes.{HadBroken, MayGoOn}

@@ -10,17 +10,17 @@ use Rattle.group_state.specs.Sound.{KeepsGroup}
 use Rattle.row_changes.specs.Changes.{Timed}
 use Rattle.row_changes.specs.Toward.{is_break}
 use Rattle.site_means.specs.Images.{shape_of}
-use Rattle.site_deeds.specs.Exceptions.{Exceptions}
+use Rattle.site_store.specs.Exceptions.{Exceptions}
 use Rattle.passages.specs.Points.{AreLinked, last_point}
 use Rattle.consistency.specs.Bears.{Bears, Run, Stage}
 use Rattle.consistency.specs.Steps.{TimedCommand}
 use Rattle.fed_logs.specs.Logs.{Sizes}
 use Rattle.fed_logs.specs.Moves.{Plans}
 use Rattle.fed_logs.specs.ShownBreaks.{BreaksAreToCome, BrokeAsTraces}
-use Rattle.session_points.specs.Bearing.{GoesThroughPoints, MayBeMeant, ShowsPoint}
-use Rattle.session_points.specs.Leads.{Point}
-use Rattle.session_points.specs.Ways.{ComesNext, IsAtWork, IsLegOf, Leg, MayTakeEffect, PassedPoint, hits_of_leg, leg_after}
-use Rattle.borne_deeds.specs.Working.{Asked, IsOnItsWay, ShowsLast, StandsForRows}
+use Rattle.consistency.specs.Bearing.{GoesThroughPoints, MayBeMeant, ShowsPoint}
+use Rattle.consistency.specs.Leads.{Point}
+use Rattle.consistency.specs.Ways.{ComesNext, IsAtWork, IsLegOf, Leg, MayTakeEffect, PassedPoint, hits_of_leg, leg_after}
+use Rattle.mover.specs.Working.{Asked, IsOnItsWay, ShowsLast, StandsForRows}
 use Rattle.site_store.specs.Sites.{SiteState}
 use Rattle.site_store.specs.Standing.{SiteStands}
 use Rattle.mover.specs.declared.ends.EpochEnd.{EpochEnd}

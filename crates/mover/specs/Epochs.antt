@@ -9,21 +9,21 @@ use Rattle.sidefile.specs.Breaks.{Break, break_of, break_time}
 use Rattle.group_state.specs.Groups.{Group}
 use Rattle.group_state.specs.Runs.{Answer, Runs}
 use Rattle.group_state.specs.Sound.{KeepsGroup}
-use Rattle.told_tracks.specs.Told.{HeldTracks}
+use Rattle.fed_logs.specs.Told.{HeldTracks}
 use Rattle.pair_table.specs.declared.row.PairRow.{PairRow}
 use Rattle.pair_table.specs.Tables.{in_state, none_clash}
 use Rattle.record_rows.specs.Deeds.{Deed, rows_behind, time_meant_behind}
 use Rattle.record_rows.specs.Told.{InPlaces}
-use Rattle.site_deeds.specs.Changing.{AreByChanges, DeedOfChanges, deeds_of}
-use Rattle.site_deeds.specs.Doing.{BeginsDeeds}
-use Rattle.site_deeds.specs.Exceptions.{Exceptions}
+use Rattle.site_store.specs.DeedChanges.{AreByChanges, DeedOfChanges, deeds_of}
+use Rattle.site_store.specs.Doing.{BeginsDeeds}
+use Rattle.site_store.specs.Exceptions.{Exceptions}
 use Rattle.fed_logs.specs.Deeds.{held_behind}
 use Rattle.fed_logs.specs.Feeds.{AllGoUpTo, part_of_mover, part_of_reader, truth_of}
-use Rattle.fed_logs.specs.Laws.{ReportsBreak}
+use Rattle.fed_logs.specs.LogLaws.{ReportsBreak}
 use Rattle.fed_logs.specs.Logs.{AreSized, AwaitsBreak, BeginsLog, HoldTruth, IsFedLog, Sizes, is_call_of_seat}
 use Rattle.fed_logs.specs.Moves.{MakesDeeds, Plans}
 use Rattle.fed_logs.specs.ShownBreaks.{BreaksAreToCome, BrokeAsTraces}
-use Rattle.lane_feed.specs.Reads.{AreLeft, HasRead, IsStillToCome, MayTurnOutOf, Outlook, ReadsOn}
+use Rattle.fed_logs.specs.Reads.{AreLeft, HasRead, IsStillToCome, MayTurnOutOf, Outlook, ReadsOn}
 use Rattle.sidefile.specs.Ahead.{IsAhead}
 use Rattle.primary_ctl.specs.Primaries.{none_falls}
 use Rattle.row_changes.specs.Toward.{is_settled}
@@ -41,10 +41,10 @@ use Rattle.mover.specs.Groups.{is_at_limit}
 use Rattle.mover.specs.Numbers.{UsesNumbersOf}
 use Rattle.mover.specs.Steps.{AreMade}
 use Rattle.consistency.specs.Bears.{Run, breaks_of}
-use Rattle.session_points.specs.Leads.{Point}
+use Rattle.consistency.specs.Leads.{Point}
 use Rattle.row_changes.specs.Changes.Due.{NoneDue}
-use Rattle.borne_deeds.specs.Points.{AreSteps, point_behind}
-use Rattle.borne_deeds.specs.Told.{CarriedAsLive, FailedAreOwed}
+use Rattle.mover.specs.Points.{AreSteps, point_behind}
+use Rattle.mover.specs.Told.{CarriedAsLive, FailedAreOwed}
 use Rattle.mover.specs.Lanes.{HadBroken, HasFaultFrom, IsSameLane, broken_by}
 use Rattle.mover.specs.Rounds.{AreLanesOf}
 

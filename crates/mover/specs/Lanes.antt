@@ -17,20 +17,24 @@ use Rattle.group_state.specs.Controls.{is_telling}
 use Rattle.group_state.specs.Groups.{Group, control_at}
 use Rattle.group_state.specs.Runs.{Answer}
 use Rattle.fed_logs.specs.ShownBreaks.{is_break_below}
-use Rattle.lane_feed.specs.declared.reading.Reading.{Reading}
-use Rattle.lane_feed.specs.declared.reading.Reading.TheVariants as readings
-use Rattle.lane_feed.specs.Feeds.{FeedState}
+use Rattle.fed_logs.specs.declared.reading.Reading.{Reading}
+use Rattle.fed_logs.specs.declared.reading.Reading.TheVariants as readings
+use Rattle.fed_logs.specs.LaneFeeds.{FeedState}
 use Rattle.write_trace.specs.declared.trace.Trace.{Trace}
-use Rattle.lane_feed.specs.Reads.{HasBroken, ReadsOn}
-use Rattle.lane_feed.specs.Limits.{GoesUpTo}
-use Rattle.lane_feed.specs.Steps.{held_answer, wanted_answer}
-use Rattle.lane_feed.specs.Tellers.{IsToldBy, StandsAs, HasFaultBy, TellsOn, TellsUpTo, BreaksBelow, IsHaltBelow, break_bound, copying_answers}
+use Rattle.fed_logs.specs.Reads.{HasBroken, ReadsOn}
+use Rattle.fed_logs.specs.Limits.{GoesUpTo}
+use Rattle.fed_logs.specs.Steps.{held_answer, wanted_answer}
+use Rattle.fed_logs.specs.Tellers.{IsToldBy, StandsAs, HasFaultBy, TellsOn, TellsUpTo, BreaksBelow, IsHaltBelow, break_bound, copying_answers}
 use Rattle.turn_group.specs.Calls.{as_answer}
 use Rattle.turn_group.specs.Seats.{TurnState, ReaderSeatState, calls_at, seat_at}
 use Rattle.mover.specs.declared.lane.Lane.{Lane}
 use Rattle.mover.specs.Readers.{LaneReaderState, SitsAt, teller_of, IsOfHeader}
 
 -- ---- a lane's reader
+
+-- the reader of a lane, once it has one
+abbrev pub reader_in : {S : Type 0} → Lane S → Option LaneReaderState
+reader_in lane = lane.reader
 
 abbrev pub heads_of : FeedState → List VolumeHead
 heads_of feed = feed.side.reader.volumes

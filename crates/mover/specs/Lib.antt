@@ -1,3 +1,9 @@
+pub mod Points
+pub mod Silent
+pub mod Told
+pub mod Working
+pub mod BorneLaws
+pub mod Records
 pub mod Groups
 pub mod Numbers
 pub mod Steps

@@ -19,9 +19,9 @@ use Rattle.record_rows.specs.Hits.{hit_now, is_device_suspended}
 use Rattle.record_rows.specs.Told.{InPlaces}
 use Rattle.row_changes.specs.Changes.Due.{NoneDue}
 use Rattle.row_changes.specs.Toward.{hit_count}
-use Rattle.site_deeds.specs.Changing.{AreByChanges, DeedOfChanges, changes_of, deeds_of}
-use Rattle.site_deeds.specs.Doing.{BeginsDeeds, DoesDeeds}
-use Rattle.site_deeds.specs.Exceptions.{Exceptions, excepted_behind}
+use Rattle.site_store.specs.DeedChanges.{AreByChanges, DeedOfChanges, changes_of, deeds_of}
+use Rattle.site_store.specs.Doing.{BeginsDeeds, DoesDeeds}
+use Rattle.site_store.specs.Exceptions.{Exceptions, excepted_behind}
 use Rattle.fed_logs.specs.Moves.{AreQuiet, HasRowIn, IsDuplex, Plans, MakesDeeds, MakesAllDeeds}
 use Rattle.turn_group.specs.Calls.{MadeCall, as_answer}
 use Rattle.turn_group.specs.Notes.{KnownVolume}

@@ -7,9 +7,9 @@ use Rattle.write_trace.specs.Headers.{cylinders_of}
 use Rattle.group_state.specs.declared.volume.Volume.{Volume}
 use Rattle.group_state.specs.Controls.{ControlState}
 use Rattle.group_state.specs.Groups.{control_at, new_group}
-use Rattle.lane_feed.specs.declared.reading.Reading.{Reading}
-use Rattle.lane_feed.specs.Feeds.{FeedState}
-use Rattle.lane_feed.specs.Tellers.{TellerState}
+use Rattle.fed_logs.specs.declared.reading.Reading.{Reading}
+use Rattle.fed_logs.specs.LaneFeeds.{FeedState}
+use Rattle.fed_logs.specs.Tellers.{TellerState}
 use Rattle.turn_group.specs.Calls.{as_answer}
 use Rattle.turn_group.specs.Seats.{ReaderSeatState, TurnState}
 

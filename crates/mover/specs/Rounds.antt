@@ -5,9 +5,9 @@ use Rattle.tod_stamp.specs.declared.limits.TheConstants.{MOST_CONTROLS}
 use Rattle.crash_plant.specs.Moments.{PlantState}
 use Rattle.row_changes.specs.Toward.{is_settled}
 use Rattle.group_state.specs.Groups.{Group}
-use Rattle.lane_feed.specs.declared.reading.Reading.TheVariants as readings
-use Rattle.lane_feed.specs.Reads.{ReadsOn}
-use Rattle.lane_feed.specs.Limits.{GoesUpTo}
+use Rattle.fed_logs.specs.declared.reading.Reading.TheVariants as readings
+use Rattle.fed_logs.specs.Reads.{ReadsOn}
+use Rattle.fed_logs.specs.Limits.{GoesUpTo}
 use Rattle.turn_group.specs.Calls.{as_answer}
 use Rattle.turn_group.specs.Seats.{MoverSeatState, ReaderSeatState, TurnState, calls_at, new_mover, new_readers, seat_at}
 use Rattle.site_store.specs.declared.store_error.StoreError.{StoreError}

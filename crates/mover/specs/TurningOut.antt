@@ -2,7 +2,7 @@
 use Rattle.std.specs.Prelude.{◌≡◌, ℕ, ◌<◌, List, length, Option, IsSomeAnd, slice_index_or}
 use Rattle.write_trace.specs.declared.trace.Trace.{Trace}
 use Rattle.group_state.specs.Runs.{Answer}
-use Rattle.lane_feed.specs.Reads.{ReadsOn}
+use Rattle.fed_logs.specs.Reads.{ReadsOn}
 use Rattle.mover.specs.declared.lane.Lane.{Lane}
 use Rattle.mover.specs.Lanes.{MayGoOn}
 use Rattle.mover.specs.Epochs.{AllTurnOut}

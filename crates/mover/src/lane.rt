@@ -2,7 +2,7 @@
 
 use crate::reader::Reader;
 use ckd_track::{Cause, Slot};
-use lane_feed::{Feed, Reading};
+use fed_logs::{Feed, Reading};
 use primary_ctl::Primary;
 use sidefile::Sidefile;
 use std::alloc::Global;

@@ -4,7 +4,7 @@ ghost use Rattle.std.specs.Prelude.{◌≡◌};
 ghost use Rattle.sidefile.specs.Halts.{broken_in};
 
 use ckd_track::{Cause, Slot};
-use lane_feed::{Feed, Reading};
+use fed_logs::{Feed, Reading};
 use std::marker::Model;
 use tod_stamp::Stamp;
 use turn_group::ReaderSeat;

@@ -2,8 +2,8 @@
 
 ghost use Rattle.std.specs.Prelude.{◌≡◌, ◌≤◌, None, All};
 ghost use Rattle.pending_queue.specs.declared.room.Room.{Room as RoomIs};
-ghost use Rattle.lane_feed.specs.declared.reading.Reading.TheVariants as readings;
-ghost use Rattle.lane_feed.specs.Tellers.{IsToldBy, StandsAs, HasFaultBy};
+ghost use Rattle.fed_logs.specs.declared.reading.Reading.TheVariants as readings;
+ghost use Rattle.fed_logs.specs.Tellers.{IsToldBy, StandsAs, HasFaultBy};
 ghost use Rattle.mover.specs.Readers.{SitsAt, teller_of};
 ghost use Rattle.mover.specs.Lanes.{AllLanesRead, AreLastCopies, AreLastOf, DidAllParts, DidLanePart, DidPart, EndsIn, IsRefusal, LaneReads, MayLaneRead, MayRead, ReadsInRound, SeatCopies, SeatTakesLimit, SeatTells, Sits, answers_at};
 
@@ -12,8 +12,8 @@ use crate::lane::Lane;
 use crate::reader::Reader;
 use crate::seat_teller::{SeatTeller, Sitting};
 use ckd_track::Slot;
+use fed_logs::{Feed, Reading};
 use group_state::CopyJoin;
-use lane_feed::{Feed, Reading};
 use std::alloc::Global;
 use std::marker::{Brand, PhantomData};
 use std::sync::Wait;

@@ -22,7 +22,7 @@ use crate::moving::move_once;
 use crate::reading::read_all;
 use crate::seats::{hand_back, hand_out};
 use crash_plant::Plant;
-use lane_feed::Reading;
+use fed_logs::Reading;
 use pair_table::PairTable;
 use pending_queue::Formed;
 use site_store::{Site, StoreError};

@@ -4,8 +4,8 @@ ghost use Rattle.std.specs.Prelude.{◌≡◌};
 ghost use Rattle.mover.specs.Readers.{SitsAt};
 
 use ckd_track::{Batch, Cause, Slot};
+use fed_logs::Teller;
 use group_state::{CopyJoin, RunJoin};
-use lane_feed::Teller;
 use std::marker::{Brand, PhantomData};
 use std::sync::Wait;
 use tod_stamp::Stamp;

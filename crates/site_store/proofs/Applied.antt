@@ -30,9 +30,9 @@ use Rattle.site_means.specs.Sight.{meant_by, walked, walked_by}
 use Rattle.site_means.proofs.Agreeing.{meanings_agree}
 use Rattle.site_means.proofs.Goes.{shape_same}
 use Rattle.site_means.proofs.Marked.{contents_are_drawn}
-use Rattle.site_deeds.specs.Doing.{DoesDeeds}
-use Rattle.site_deeds.specs.Exceptions.{Exceptions}
-use Rattle.site_deeds.proofs.Single.{same_content}
+use Rattle.site_store.specs.Doing.{DoesDeeds}
+use Rattle.site_store.specs.Exceptions.{Exceptions}
+use Rattle.site_store.proofs.Single.{same_content}
 use Rattle.site_store.specs.Applying.{Applies, AppliesTo, AppliesToVolume, DoesApply, SeesTheSame, excepted_by_apply, is_applied, with_applied}
 use Rattle.site_store.specs.Jobs.{has_device}
 use Rattle.site_store.specs.Marking.{IsAmong}

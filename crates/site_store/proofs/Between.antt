@@ -14,7 +14,7 @@ use Rattle.pending_queue.specs.Groups.{FormedGroup}
 use Rattle.record_rows.specs.Hits.{hit_now}
 use Rattle.site_means.specs.Walk.{rows_through}
 use Rattle.xrc_journal.specs.Items.{Item}
-use Rattle.site_deeds.specs.Exceptions.{Exceptions}
+use Rattle.site_store.specs.Exceptions.{Exceptions}
 use Rattle.site_store.specs.declared.store_error.StoreError.{StoreError}
 use Rattle.site_store.specs.declared.way.Way.{Way}
 use Rattle.site_store.specs.declared.way.Way.TheVariants.{Here, Switched, Marked}

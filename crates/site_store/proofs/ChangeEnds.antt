@@ -13,10 +13,10 @@ use Rattle.record_rows.specs.Deeds.{Deed}
 use Rattle.record_rows.specs.Deeds.Deed.{Changed, Marked as MarkedDeed}
 use Rattle.record_rows.specs.Hits.{hit_now, rows_marked}
 use Rattle.record_rows.specs.Records.{rows_with_hits}
-use Rattle.site_deeds.specs.Doing.{BeginsDeeds, DoesDeeds}
-use Rattle.site_deeds.specs.Exceptions.{Exceptions}
-use Rattle.site_deeds.proofs.Moments.{more_follow}
-use Rattle.site_deeds.proofs.Single.{no_call}
+use Rattle.site_store.specs.Doing.{BeginsDeeds, DoesDeeds}
+use Rattle.site_store.specs.Exceptions.{Exceptions}
+use Rattle.site_store.proofs.Moments.{more_follow}
+use Rattle.site_store.proofs.Single.{no_call}
 use Rattle.site_means.specs.Images.{shape_of}
 use Rattle.site_means.specs.Walk.{rows_through}
 use Rattle.state_set.specs.Slots.{are_rows}

@@ -10,10 +10,10 @@ use Rattle.crash_plant.proofs.Steps.{works_on_more, works_on_trans}
 use Rattle.pair_table.specs.declared.row.PairRow.{PairRow}
 use Rattle.record_rows.specs.Deeds.{Deed, rows_behind}
 use Rattle.record_rows.specs.Deeds.Deed.{Changed, Marked as MarkedDeed}
-use Rattle.site_deeds.specs.Doing.{BeginsDeeds, DoesDeeds}
-use Rattle.site_deeds.specs.Exceptions.{Exceptions, excepted_behind}
-use Rattle.site_deeds.proofs.Composing.{begin_behind, go_on}
-use Rattle.site_deeds.proofs.Single.{no_call}
+use Rattle.site_store.specs.Doing.{BeginsDeeds, DoesDeeds}
+use Rattle.site_store.specs.Exceptions.{Exceptions, excepted_behind}
+use Rattle.site_store.proofs.Composing.{begin_behind, go_on}
+use Rattle.site_store.proofs.Single.{no_call}
 use Rattle.xrc_journal.specs.Items.{Item}
 use Rattle.xrc_journal.specs.Jobs.{FailsByCount}
 use Rattle.site_store.specs.declared.store_error.StoreError.{StoreError}

@@ -17,7 +17,7 @@ use Rattle.pair_table.specs.Refusals.{refusal, refuses_command, row_of_primary}
 use Rattle.pair_table.specs.Tables.{KeepsRows, Table, are_below, is_of, with_row}
 use Rattle.pair_table.proofs.AddLaws.{label_all}
 use Rattle.state_set.specs.Slots.{started_table}
-use Rattle.site_deeds.specs.Exceptions.{Exceptions}
+use Rattle.site_store.specs.Exceptions.{Exceptions}
 use Rattle.site_means.specs.declared.means.Means.{Means}
 use Rattle.site_means.specs.Meaning.Meaning.{Meant}
 use Rattle.site_store.specs.Changing.{Lead, changed_items, named_devices}

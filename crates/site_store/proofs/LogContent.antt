@@ -20,9 +20,9 @@ use Rattle.xrc_journal.specs.Items.{Item}
 use Rattle.xrc_journal.specs.Items.Item.{Image, Delta, Pair, Gone}
 use Rattle.record_rows.specs.Deeds.{Deed}
 use Rattle.record_rows.specs.Deeds.Deed.{Logged}
-use Rattle.site_deeds.specs.Deeds.{content_by_deed, kinds_of, means_by_deed, with_time_and_rows}
-use Rattle.site_deeds.specs.Exceptions.{Exceptions, excepted_by_deed, is_kept, is_whole_on}
-use Rattle.site_deeds.proofs.Contents.{same_by_deed}
+use Rattle.site_store.specs.Deeds.{content_by_deed, kinds_of, means_by_deed, with_time_and_rows}
+use Rattle.site_store.specs.Exceptions.{Exceptions, excepted_by_deed, is_kept, is_whole_on}
+use Rattle.site_store.proofs.Contents.{same_by_deed}
 use Rattle.site_means.specs.Laws.{with_group}
 use Rattle.site_means.specs.Sight.{content_of, walked_by}
 use Rattle.site_means.specs.Walk.{rows_through, walk_items}

@@ -18,7 +18,7 @@ use Rattle.record_rows.specs.Hits.{hit_now}
 use Rattle.record_rows.specs.Records.{rows_behind_mark, rows_with_record}
 use Rattle.xrc_journal.specs.Bodies.{Held}
 use Rattle.xrc_journal.specs.Items.{Item, body_spelling}
-use Rattle.site_deeds.specs.Exceptions.{Exceptions}
+use Rattle.site_store.specs.Exceptions.{Exceptions}
 use Rattle.site_store.specs.declared.hits.Hits.{Hits}
 use Rattle.site_store.specs.declared.store_error.StoreError.{StoreError}
 use Rattle.site_store.specs.declared.store_error.StoreError.TheVariants.{Spent}

@@ -25,10 +25,10 @@ use Rattle.record_rows.specs.Deeds.Deed.{Logged, Marked}
 use Rattle.record_rows.specs.Hits.{hit_now, is_down, rows_marked}
 use Rattle.record_rows.specs.Records.{rows_with_record}
 use Rattle.record_rows.specs.Told.{AreTold}
-use Rattle.site_deeds.specs.Doing.{BeginsDeeds, DoesDeeds}
-use Rattle.site_deeds.specs.Exceptions.{Exceptions, excepted_by_deed}
-use Rattle.site_deeds.proofs.Composing.{go_on}
-use Rattle.site_deeds.proofs.Moments.{have_begun, more_follow}
+use Rattle.site_store.specs.Doing.{BeginsDeeds, DoesDeeds}
+use Rattle.site_store.specs.Exceptions.{Exceptions, excepted_by_deed}
+use Rattle.site_store.proofs.Composing.{go_on}
+use Rattle.site_store.proofs.Moments.{have_begun, more_follow}
 use Rattle.site_means.specs.Walk.{first_unfit}
 use Rattle.site_store.specs.declared.store_error.StoreError.{StoreError}
 use Rattle.site_store.specs.declared.store_error.StoreError.TheVariants.{Spent}

@@ -12,10 +12,10 @@ use Rattle.pending_queue.specs.Groups.{FormedGroup}
 use Rattle.xrc_journal.specs.Items.{Item, body_spelling}
 use Rattle.xrc_journal.specs.Records.{most_body}
 use Rattle.xrc_journal.specs.Walks.{Logged as LoggedGroup}
-use Rattle.ring_means.specs.Ring.{FitsBehind}
-use Rattle.site_deeds.specs.Deeds.{with_time_and_rows}
-use Rattle.site_deeds.specs.Doing.{BeginsDeeds, DoesDeeds}
-use Rattle.site_deeds.specs.Exceptions.{Exceptions, is_kept}
+use Rattle.site_store.specs.Ring.{FitsBehind}
+use Rattle.site_store.specs.Deeds.{with_time_and_rows}
+use Rattle.site_store.specs.Doing.{BeginsDeeds, DoesDeeds}
+use Rattle.site_store.specs.Exceptions.{Exceptions, is_kept}
 use Rattle.site_means.specs.Walk.{Walk, first_unfit}
 use Rattle.site_store.specs.declared.store_error.StoreError.{StoreError}
 use Rattle.site_store.specs.declared.way.Way.{Way}

@@ -15,7 +15,7 @@ use Rattle.pending_queue.specs.Groups.{FormedGroup}
 use Rattle.image_former.specs.Changes.{changed_through}
 use Rattle.xrc_journal.specs.Contents.{content_through}
 use Rattle.xrc_journal.specs.Items.{AreItems, Item}
-use Rattle.site_deeds.specs.Exceptions.{Exceptions}
+use Rattle.site_store.specs.Exceptions.{Exceptions}
 use Rattle.site_means.specs.Images.{Shape, shape_of}
 use Rattle.site_means.specs.Meaning.{chosen_in, meaning_in}
 use Rattle.site_means.proofs.Goes.{shape_same}

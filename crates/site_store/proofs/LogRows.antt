@@ -20,7 +20,7 @@ use Rattle.record_rows.specs.GroupRows.{is_shown_done, row_in, row_with_group, r
 use Rattle.record_rows.specs.Hits.{hit_now, is_device_suspended, is_down, rows_hit, rows_marked, rows_told}
 use Rattle.record_rows.specs.Records.{rows_behind_mark, rows_with_record}
 use Rattle.record_rows.specs.Told.{AreTold, IsTold}
-use Rattle.site_deeds.specs.Exceptions.{is_kept}
+use Rattle.site_store.specs.Exceptions.{is_kept}
 use Rattle.site_store.specs.declared.hits.Hits.{Hits}
 use Rattle.site_store.specs.Hits.{AreHits, are_some, with_group_and_hits}
 use Rattle.site_store.proofs.HitStates.{group_makes_rows, is_hit_suspended}

@@ -10,8 +10,8 @@ use Rattle.pair_table.specs.declared.row.PairRow.{PairRow}
 use Rattle.pending_queue.specs.Groups.{FormedGroup}
 use Rattle.xrc_journal.specs.Items.{Item}
 use Rattle.record_rows.specs.Deeds.Deed.{Logged}
-use Rattle.site_deeds.specs.Doing.{BeginsDeeds, DoesDeeds}
-use Rattle.site_deeds.specs.Exceptions.{Exceptions}
+use Rattle.site_store.specs.Doing.{BeginsDeeds, DoesDeeds}
+use Rattle.site_store.specs.Exceptions.{Exceptions}
 use Rattle.site_store.specs.declared.store_error.StoreError.{StoreError}
 use Rattle.site_store.specs.declared.way.Way.{Way}
 use Rattle.site_store.specs.Causes.{FailByCounts, HasStoreCause}

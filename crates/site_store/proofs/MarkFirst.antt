@@ -15,12 +15,12 @@ use Rattle.xrc_journal.specs.Items.{Item, body_spelling}
 use Rattle.xrc_journal.specs.Records.{next_set}
 use Rattle.record_rows.specs.Deeds.{Deed, rows_by_deed}
 use Rattle.record_rows.specs.Deeds.Deed.{Marked}
-use Rattle.site_deeds.specs.Doing.{BeginsDeeds, DoesDeeds}
-use Rattle.site_deeds.specs.Exceptions.{Exceptions, excepted_by_deed}
-use Rattle.site_deeds.proofs.Composing.{begin_behind, go_on}
-use Rattle.site_deeds.proofs.Moments.{more_follow}
-use Rattle.site_deeds.proofs.Single.{reads_and_syncs}
-use Rattle.site_deeds.proofs.Widening.{begins_still, does_still}
+use Rattle.site_store.specs.Doing.{BeginsDeeds, DoesDeeds}
+use Rattle.site_store.specs.Exceptions.{Exceptions, excepted_by_deed}
+use Rattle.site_store.proofs.Composing.{begin_behind, go_on}
+use Rattle.site_store.proofs.Moments.{more_follow}
+use Rattle.site_store.proofs.Single.{reads_and_syncs}
+use Rattle.site_store.proofs.Widening.{begins_still, does_still}
 use Rattle.site_store.specs.declared.store_error.StoreError.{StoreError}
 use Rattle.site_store.specs.declared.way.Way.TheVariants.{Marked as MarkedFirst}
 use Rattle.site_store.specs.Jobs.{body_room}

@@ -15,10 +15,10 @@ use Rattle.pair_table.specs.declared.row.PairRow.{PairRow}
 use Rattle.pair_table.specs.Tables.{Table, are_below}
 use Rattle.state_set.specs.Slots.{started_table}
 use Rattle.record_rows.specs.Deeds.Deed.{Marked}
-use Rattle.site_deeds.specs.Deeds.{from_mark}
-use Rattle.site_deeds.specs.Exceptions.{Exceptions, is_kept}
-use Rattle.site_deeds.proofs.Moments.{have_begun, more_follow}
-use Rattle.site_deeds.proofs.Single.{no_call}
+use Rattle.site_store.specs.Deeds.{from_mark}
+use Rattle.site_store.specs.Exceptions.{Exceptions, is_kept}
+use Rattle.site_store.proofs.Moments.{have_begun, more_follow}
+use Rattle.site_store.proofs.Single.{no_call}
 use Rattle.site_store.specs.declared.store_error.StoreError.{StoreError}
 use Rattle.site_store.specs.declared.store_error.StoreError.TheVariants.{Spent}
 use Rattle.site_store.specs.Causes.{FailByCounts, HasStoreCause}

@@ -20,7 +20,7 @@ use Rattle.record_rows.specs.Hits.{hit_now, is_device_suspended, is_down, is_hit
 use Rattle.record_rows.specs.Records.{rows_with_hits}
 use Rattle.record_rows.proofs.Changed.{hits_change}
 use Rattle.record_rows.proofs.GroupSteps.{device_in}
-use Rattle.site_deeds.specs.Exceptions.{is_kept}
+use Rattle.site_store.specs.Exceptions.{is_kept}
 use Rattle.site_store.specs.Standing.{row_has_volume}
 use Rattle.site_store.proofs.HitRows.{among_hit, hits_device}
 

@@ -15,11 +15,11 @@ use Rattle.pair_table.specs.declared.row.PairRow.{PairRow}
 use Rattle.pair_table.proofs.TableLaws.{either_false}
 use Rattle.record_rows.specs.Deeds.{Deed}
 use Rattle.record_rows.specs.Deeds.Deed.{Marked}
-use Rattle.ring_means.specs.Laws.{IsMarkedAtEnd, IsUntouched}
-use Rattle.ring_means.proofs.Meant.{mark_kept, marks_meant, untouched_shown}
-use Rattle.site_deeds.specs.Deeds.{from_mark, means_by_deed}
-use Rattle.site_deeds.specs.Exceptions.{Exceptions, excepted_by_deed, is_kept}
-use Rattle.site_deeds.specs.Seeing.{MeansByDeed, MeansTheSame}
+use Rattle.site_store.specs.RingLaws.{IsMarkedAtEnd, IsUntouched}
+use Rattle.site_store.proofs.Meant.{mark_kept, marks_meant, untouched_shown}
+use Rattle.site_store.specs.Deeds.{from_mark, means_by_deed}
+use Rattle.site_store.specs.Exceptions.{Exceptions, excepted_by_deed, is_kept}
+use Rattle.site_store.specs.Seeing.{MeansByDeed, MeansTheSame}
 use Rattle.site_means.specs.declared.means.Means.{Means}
 use Rattle.site_means.specs.Images.{shape_of}
 use Rattle.site_means.specs.Meaning.{Meaning}

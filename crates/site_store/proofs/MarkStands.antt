@@ -12,14 +12,14 @@ use Rattle.pair_table.specs.declared.row.PairRow.{PairRow}
 use Rattle.state_set.specs.Slots.{state_of}
 use Rattle.record_rows.specs.Deeds.{Deed}
 use Rattle.record_rows.specs.Deeds.Deed.{Marked}
-use Rattle.ring_means.specs.Laws.{IsMarkedAtEnd, fresh_walk}
-use Rattle.ring_means.specs.Plants.{IsMeantFromMark}
-use Rattle.ring_means.proofs.Plants.{end_durable, mark_meant, sets_stay}
-use Rattle.site_deeds.specs.Deeds.{from_mark}
-use Rattle.site_deeds.specs.Doing.{BeginsDeeds, DoesDeeds}
-use Rattle.site_deeds.specs.Exceptions.{Exceptions}
-use Rattle.site_deeds.specs.Seeing.{MeansByDeed, MeansTheSame}
-use Rattle.site_deeds.proofs.Single.{one_follows}
+use Rattle.site_store.specs.RingLaws.{IsMarkedAtEnd, fresh_walk}
+use Rattle.site_store.specs.RingPlants.{IsMeantFromMark}
+use Rattle.site_store.proofs.RingPlants.{end_durable, mark_meant, sets_stay}
+use Rattle.site_store.specs.Deeds.{from_mark}
+use Rattle.site_store.specs.Doing.{BeginsDeeds, DoesDeeds}
+use Rattle.site_store.specs.Exceptions.{Exceptions}
+use Rattle.site_store.specs.Seeing.{MeansByDeed, MeansTheSame}
+use Rattle.site_store.proofs.Single.{one_follows}
 use Rattle.site_means.specs.declared.means.Means.{Means}
 use Rattle.site_means.specs.Images.{shape_of}
 use Rattle.site_means.specs.Meaning.Meaning.{Meant}

@@ -21,7 +21,7 @@ use Rattle.site_means.specs.Meaning.Meaning.{Meant}
 use Rattle.site_means.specs.Walk.{Walk, first_unfit, fits_rows, rows_by, rows_through}
 use Rattle.site_means.proofs.Goes.{rows_append}
 use Rattle.site_means.proofs.Reaching.{meant_by}
-use Rattle.ring_means.proofs.Walking.{walks_through}
+use Rattle.site_store.proofs.Walking.{walks_through}
 use Rattle.xrc_journal.specs.Items.{Item, item_spelling}
 use Rattle.xrc_journal.specs.Items.Item.{Image, Delta, Pair, Gone}
 use Rattle.xrc_journal.specs.Walks.{Logged}

@@ -6,13 +6,13 @@ use Rattle.crash_plant.specs.Choices.{AllFollow, Choice, IsChoice}
 use Rattle.crash_plant.specs.Moments.{PlantState}
 use Rattle.pair_table.specs.declared.row.PairRow.{PairRow}
 use Rattle.record_rows.specs.Deeds.{Deed}
-use Rattle.ring_means.specs.Plants.{AllMean}
-use Rattle.ring_means.specs.Ring.{ShowsGroup}
-use Rattle.site_deeds.specs.Deeds.{content_by_deed, means_by_deed}
-use Rattle.site_deeds.specs.Doing.{BeginsDeeds, DoesDeeds}
-use Rattle.site_deeds.specs.Exceptions.{Exceptions, excepted_by_deed}
-use Rattle.site_deeds.specs.Seeing.{MeansByDeed, MeansTheSame}
-use Rattle.site_deeds.proofs.Single.{one_follows}
+use Rattle.site_store.specs.RingPlants.{AllMean}
+use Rattle.site_store.specs.Ring.{ShowsGroup}
+use Rattle.site_store.specs.Deeds.{content_by_deed, means_by_deed}
+use Rattle.site_store.specs.Doing.{BeginsDeeds, DoesDeeds}
+use Rattle.site_store.specs.Exceptions.{Exceptions, excepted_by_deed}
+use Rattle.site_store.specs.Seeing.{MeansByDeed, MeansTheSame}
+use Rattle.site_store.proofs.Single.{one_follows}
 use Rattle.site_means.specs.declared.means.Means.{Means}
 use Rattle.site_means.specs.Images.{shape_of}
 use Rattle.site_means.specs.Laws.{with_group}

@@ -15,9 +15,9 @@ use Rattle.xrc_journal.specs.Walks.{Logged}
 use Rattle.site_means.specs.declared.means.Means.{Means}
 use Rattle.site_means.specs.Images.{Shape, shape_of}
 use Rattle.site_means.specs.Walk.{Walk}
-use Rattle.ring_means.specs.Plants.{AllMean, AreDurable, and_switch_for}
-use Rattle.ring_means.specs.Ring.{FitsBehind, ShowsGroup, ShowsSame, ShowsSwitch, and_switch, switched_from}
-use Rattle.ring_means.proofs.Plants.{group_durable, group_meant, group_shown, switch_durable, switch_shown, switched_group_meant, switched_group_shown}
+use Rattle.site_store.specs.RingPlants.{AllMean, AreDurable, and_switch_for}
+use Rattle.site_store.specs.Ring.{FitsBehind, ShowsGroup, ShowsSame, ShowsSwitch, and_switch, switched_from}
+use Rattle.site_store.proofs.RingPlants.{group_durable, group_meant, group_shown, switch_durable, switch_shown, switched_group_meant, switched_group_shown}
 use Rattle.site_store.specs.declared.store_error.StoreError.{StoreError}
 use Rattle.site_store.specs.declared.way.Way.{Way}
 use Rattle.site_store.specs.declared.way.Way.TheVariants.{Here, Switched, Marked}

@@ -4,8 +4,8 @@ use Rattle.crash_plant.specs.declared.device.Device.TheVariants.{Control, State,
 use Rattle.crash_plant.specs.Calls.{WorksOn}
 use Rattle.crash_plant.specs.Moments.{PlantState}
 use Rattle.control_set.specs.declared.value.Mark.{Mark}
-use Rattle.ring_means.specs.Plants.{AllChoose, AreDurable}
-use Rattle.site_deeds.specs.Exceptions.{Exceptions}
+use Rattle.site_store.specs.RingPlants.{AllChoose, AreDurable}
+use Rattle.site_store.specs.Exceptions.{Exceptions}
 use Rattle.site_means.specs.declared.means.Means.{Means}
 use Rattle.site_means.specs.Laws.{with_group}
 use Rattle.site_means.specs.Meaning.Meaning.{Meant}

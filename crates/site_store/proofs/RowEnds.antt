@@ -8,10 +8,10 @@ use Rattle.record_rows.specs.Deeds.{Deed}
 use Rattle.record_rows.specs.Deeds.Deed.{Changed}
 use Rattle.record_rows.specs.Hits.{hit_now}
 use Rattle.record_rows.specs.Records.{rows_with_hits}
-use Rattle.site_deeds.specs.Doing.{BeginsDeeds}
-use Rattle.site_deeds.specs.Exceptions.{Exceptions}
-use Rattle.site_deeds.proofs.Moments.{have_begun, more_follow}
-use Rattle.site_deeds.proofs.Single.{no_call}
+use Rattle.site_store.specs.Doing.{BeginsDeeds}
+use Rattle.site_store.specs.Exceptions.{Exceptions}
+use Rattle.site_store.proofs.Moments.{have_begun, more_follow}
+use Rattle.site_store.proofs.Single.{no_call}
 use Rattle.xrc_journal.specs.Items.{Item}
 use Rattle.site_store.specs.declared.store_error.StoreError.{StoreError}
 use Rattle.site_store.specs.declared.way.Way.{Way}

@@ -9,11 +9,11 @@ use Rattle.crash_plant.specs.Moments.{PlantState}
 use Rattle.pair_table.specs.declared.row.PairRow.{PairRow}
 use Rattle.pair_table.specs.Tables.{with_rows}
 use Rattle.record_rows.specs.Deeds.Deed.{Changed}
-use Rattle.ring_means.specs.Plants.{AllMean, AreDurable}
-use Rattle.ring_means.specs.Ring.{FitsBehind}
-use Rattle.site_deeds.specs.Deeds.{with_time_and_rows}
-use Rattle.site_deeds.specs.Doing.{BeginsDeeds, DoesDeeds}
-use Rattle.site_deeds.specs.Exceptions.{Exceptions}
+use Rattle.site_store.specs.RingPlants.{AllMean, AreDurable}
+use Rattle.site_store.specs.Ring.{FitsBehind}
+use Rattle.site_store.specs.Deeds.{with_time_and_rows}
+use Rattle.site_store.specs.Doing.{BeginsDeeds, DoesDeeds}
+use Rattle.site_store.specs.Exceptions.{Exceptions}
 use Rattle.site_means.specs.declared.means.Means.{Means}
 use Rattle.site_means.specs.Laws.{with_group}
 use Rattle.site_means.specs.Meaning.Meaning.{Meant}

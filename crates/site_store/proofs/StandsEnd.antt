@@ -10,10 +10,10 @@ use Rattle.xrc_journal.specs.RingWalks.{AllEndThrough}
 use Rattle.xrc_journal.specs.Walks.{Logged}
 use Rattle.site_means.specs.Images.{shape_of}
 use Rattle.site_means.specs.Walk.{Walk, first_unfit}
-use Rattle.ring_means.specs.Ring.{FitsBehind}
-use Rattle.ring_means.proofs.Meant.{end_entered, meant_low}
-use Rattle.ring_means.proofs.Plants.{all_end, room_read}
-use Rattle.site_deeds.specs.Exceptions.{Exceptions}
+use Rattle.site_store.specs.Ring.{FitsBehind}
+use Rattle.site_store.proofs.Meant.{end_entered, meant_low}
+use Rattle.site_store.proofs.RingPlants.{all_end, room_read}
+use Rattle.site_store.specs.Exceptions.{Exceptions}
 use Rattle.site_store.specs.Sites.{SiteState, meant_for}
 use Rattle.site_store.specs.Standing.{FitsPlant, SiteStands}
 

@@ -10,9 +10,9 @@ use Rattle.record_rows.specs.Deeds.{Deed}
 use Rattle.record_rows.specs.Deeds.Deed.{Changed, Marked as MarkedDeed}
 use Rattle.record_rows.specs.Hits.{hit_now, rows_hit}
 use Rattle.record_rows.specs.Records.{rows_with_hits}
-use Rattle.site_deeds.specs.Doing.{BeginsDeeds, DoesDeeds}
-use Rattle.site_deeds.specs.Exceptions.{Exceptions}
-use Rattle.site_deeds.proofs.Single.{no_call}
+use Rattle.site_store.specs.Doing.{BeginsDeeds, DoesDeeds}
+use Rattle.site_store.specs.Exceptions.{Exceptions}
+use Rattle.site_store.proofs.Single.{no_call}
 use Rattle.state_set.specs.Slots.{are_rows}
 use Rattle.state_set.proofs.Behind.{rows_from}
 use Rattle.xrc_journal.specs.declared.job.VolumeJob.{VolumeJob}

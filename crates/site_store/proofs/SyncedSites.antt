@@ -14,10 +14,10 @@ use Rattle.applier.proofs.Works.{lent_of_works, works_lent_more, works_lent_tran
 use Rattle.pair_table.specs.declared.row.PairRow.{PairRow}
 use Rattle.pair_table.specs.declared.row.PairState.TheVariants.{Duplex}
 use Rattle.record_rows.specs.Deeds.Deed.{Marked}
-use Rattle.site_deeds.specs.Doing.{DoesDeeds}
-use Rattle.site_deeds.specs.Exceptions.{Exceptions}
-use Rattle.site_deeds.proofs.Composing.{begin_behind, go_on}
-use Rattle.site_deeds.proofs.Single.{reads_and_syncs}
+use Rattle.site_store.specs.Doing.{DoesDeeds}
+use Rattle.site_store.specs.Exceptions.{Exceptions}
+use Rattle.site_store.proofs.Composing.{begin_behind, go_on}
+use Rattle.site_store.proofs.Single.{reads_and_syncs}
 use Rattle.site_means.specs.Images.{Shape}
 use Rattle.site_means.specs.Meaning.{chosen_in, meaning_in}
 use Rattle.site_means.proofs.Goes.{shape_same}

@@ -21,8 +21,8 @@ use Rattle.site_store.specs.declared.way.Way.TheVariants.{Here, Switched, Marked
 use Rattle.site_store.specs.Sites.{SiteState}
 use Rattle.site_store.specs.Standing.{SiteStands, StandsFast}
 use Rattle.record_rows.specs.Deeds.{Deed}
-use Rattle.site_deeds.specs.Doing.{BeginsDeeds, DoesDeeds}
-use Rattle.site_deeds.specs.Exceptions.{Exceptions}
+use Rattle.site_store.specs.Doing.{BeginsDeeds, DoesDeeds}
+use Rattle.site_store.specs.Exceptions.{Exceptions}
 use Rattle.record_rows.specs.Deeds.Deed.{Changed, Marked}
 use Rattle.site_store.specs.declared.hits.Hits.{Hits}
 use Rattle.site_store.specs.Hits.{AreHits, pairs_with_next, with_hits}

@@ -15,7 +15,7 @@ use Rattle.site_store.specs.Changing.{Lead, MayChange, changed_items, named_devi
 use Rattle.site_store.specs.Hits.{are_some}
 use Rattle.site_store.specs.Sites.{SiteState, has_failed}
 use Rattle.site_store.specs.Standing.{FitsPlant, Leaves, StandsFast, row_has_volume}
-use Rattle.site_deeds.specs.Exceptions.{Exceptions}
+use Rattle.site_store.specs.Exceptions.{Exceptions}
 
 -- The rows of the table are on volumes.
 abbrev pub AreOnVolumes : SiteState → Type 0

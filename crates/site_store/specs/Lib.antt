@@ -1,3 +1,12 @@
+pub mod Deeds
+pub mod Exceptions
+pub mod DeedChanges
+pub mod Seeing
+pub mod Doing
+pub mod DeedLaws
+pub mod Ring
+pub mod RingLaws
+pub mod RingPlants
 pub mod Applying
 pub mod Between
 pub mod Causes

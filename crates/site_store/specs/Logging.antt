@@ -30,9 +30,9 @@ use Rattle.site_store.specs.declared.way.Way.TheVariants.{Here, Switched, Marked
 use Rattle.site_store.specs.Sites.{SiteState}
 use Rattle.site_store.specs.Standing.{Leaves, SiteStands, row_has_volume}
 use Rattle.record_rows.specs.Deeds.{Deed}
-use Rattle.site_deeds.specs.Deeds.{kinds_of}
-use Rattle.site_deeds.specs.Doing.{BeginsDeeds, DoesDeeds}
-use Rattle.site_deeds.specs.Exceptions.{Exceptions}
+use Rattle.site_store.specs.Deeds.{kinds_of}
+use Rattle.site_store.specs.Doing.{BeginsDeeds, DoesDeeds}
+use Rattle.site_store.specs.Exceptions.{Exceptions}
 use Rattle.record_rows.specs.Deeds.Deed.{Logged, Marked}
 use Rattle.site_store.specs.declared.hits.Hits.{Hits}
 use Rattle.site_store.specs.Hits.{Next, pairs_with_next, with_group_and_hits}

@@ -15,8 +15,8 @@ use Rattle.site_means.specs.declared.means.Means.{Means}
 use Rattle.site_means.specs.Images.{Images, Shape, shape_of}
 use Rattle.site_means.specs.Laws.{and_group, with_group}
 use Rattle.site_means.specs.Walk.{Walk}
-use Rattle.ring_means.specs.Plants.{AllMean, AreDurable, IsMeantBehind, and_switch_for}
-use Rattle.ring_means.specs.Ring.{FitsBehind, ShowsGroup, ShowsSame}
+use Rattle.site_store.specs.RingPlants.{AllMean, AreDurable, IsMeantBehind, and_switch_for}
+use Rattle.site_store.specs.Ring.{FitsBehind, ShowsGroup, ShowsSame}
 use Rattle.site_store.specs.declared.store_error.StoreError.{StoreError}
 use Rattle.site_store.specs.declared.way.Way.{Way}
 use Rattle.site_store.specs.declared.way.Way.TheVariants.{Here, Switched, Marked}

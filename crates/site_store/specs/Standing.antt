@@ -12,7 +12,7 @@ use Rattle.pair_table.specs.declared.row.PairRow.{PairRow}
 use Rattle.xrc_journal.specs.Items.{AreItems, Item, form_of}
 use Rattle.xrc_journal.specs.Contents.{HasItem, content_through}
 use Rattle.xrc_journal.specs.Lengths.{journal_length}
-use Rattle.site_deeds.specs.Exceptions.{Exceptions}
+use Rattle.site_store.specs.Exceptions.{Exceptions}
 use Rattle.site_means.specs.Images.{shape_of}
 use Rattle.site_means.specs.Meaning.{chosen_in, meaning}
 use Rattle.site_means.specs.Meaning.Meaning.{Meant}

@@ -20,12 +20,12 @@ use Rattle.write_trace.specs.declared.trace.TraceEnd.{TraceEnd}
 use Rattle.write_trace.specs.declared.trace.TraceEnd.TheVariants.{BadTrace, Ended}
 use Rattle.consistency.specs.Bears.{Run}
 use Rattle.consistency.specs.Steps.{TimedCommand}
-use Rattle.session_points.specs.Leads.{Point}
-use Rattle.session_points.specs.Owing.{tracks_asked, tracks_owed}
+use Rattle.consistency.specs.Leads.{Point}
+use Rattle.consistency.specs.Owing.{tracks_asked, tracks_owed}
 use Rattle.passages.specs.Points.{AreLinked}
-use Rattle.session_points.specs.Answering.{points_before}
-use Rattle.session_points.specs.Ways.{ComesBy, ComesNext, Leg, PassedPoint, Way, hits_of_leg, hits_stand, leg_after, leg_by}
-use Rattle.session_points.specs.Ways.Way.{Commanded, Ending, MarkedFor, OnTheWay}
+use Rattle.consistency.specs.Answering.{points_before}
+use Rattle.consistency.specs.Ways.{ComesBy, ComesNext, Leg, PassedPoint, Way, hits_of_leg, hits_stand, leg_after, leg_by}
+use Rattle.consistency.specs.Ways.Way.{Commanded, Ending, MarkedFor, OnTheWay}
 
 -- ---- two controls, each with one volume of one cylinder, and two devices
 

@@ -4,7 +4,7 @@ use Rattle.pair_table.specs.declared.row.PairRow.{PairRow}
 use Rattle.pair_table.specs.Commands.{MayCommand, answer, table_after}
 use Rattle.pair_table.specs.Tables.{KeepsRows, Table}
 use Rattle.group_state.specs.Groups.{Group}
-use Rattle.carried_rows.specs.Taking.{MayTake, after_calls, calls_of_change}
+use Rattle.xrc_session.specs.Taking.{MayTake, after_calls, calls_of_change}
 use Rattle.group_tests.specs.Changes.{TakesChanges}
 use Rattle.group_tests.proofs.TakenPairs.{command_taken, commanded_again}
 use Rattle.group_tests.proofs.changes.command.Goals as goal

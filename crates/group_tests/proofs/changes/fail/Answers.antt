@@ -4,7 +4,7 @@ use Rattle.pair_table.specs.declared.command.Change.TheVariants.{Nothing}
 use Rattle.pair_table.specs.declared.row.PairRow.{PairRow}
 use Rattle.pair_table.specs.Tables.{Table}
 use Rattle.group_state.specs.Groups.{Group}
-use Rattle.carried_rows.specs.Taking.{MayTake, after_calls, calls_of_change}
+use Rattle.xrc_session.specs.Taking.{MayTake, after_calls, calls_of_change}
 use Rattle.group_tests.specs.Changes.{TakesChanges, are_live}
 use Rattle.group_tests.proofs.TakenPairs.{failed_again, failure_taken}
 use Rattle.group_tests.proofs.changes.fail.Goals as goal

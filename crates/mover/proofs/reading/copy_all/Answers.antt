@@ -1,6 +1,6 @@
 use Rattle.std.proofs.Common.{Some, None, subst}
 use Rattle.group_state.specs.declared.joining.CopyJoin.{CopyJoin}
-use Rattle.lane_feed.specs.Tellers.{IsCopiedBy}
+use Rattle.fed_logs.specs.Tellers.{IsCopiedBy}
 use Rattle.mover.specs.Readers.{teller_of}
 use Rattle.mover.specs.Lanes.{AreLastCopies, answers_at}
 use Rattle.mover.proofs.Parts.{copies_none, copies_then, copies_one, ends_behind, ends_full, ends_unwanted}

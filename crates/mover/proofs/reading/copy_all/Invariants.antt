@@ -1,4 +1,4 @@
-use Rattle.lane_feed.specs.Tellers.{IsToldBy}
+use Rattle.fed_logs.specs.Tellers.{IsToldBy}
 use Rattle.mover.specs.Lanes.{SeatCopies}
 use Rattle.mover.specs.Readers.{teller_of}
 use Rattle.mover.proofs.reading.copy_all.Given as goal

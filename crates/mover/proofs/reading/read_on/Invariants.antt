@@ -1,5 +1,5 @@
 use Rattle.std.proofs.Common.{◌≡◌, ◌≤◌, None}
-use Rattle.lane_feed.specs.Tellers.{IsToldBy}
+use Rattle.fed_logs.specs.Tellers.{IsToldBy}
 use Rattle.mover.specs.Lanes.{SeatTakesLimit, SeatTells}
 use Rattle.mover.specs.Readers.{teller_of}
 use Rattle.mover.proofs.reading.read_on.Given as goal

@@ -1,6 +1,6 @@
 use Rattle.std.proofs.Common.{Some, sym, ap, subst, ◌∙◌}
 use Rattle.std.specs.Option.{is_some}
-use Rattle.lane_feed.specs.declared.reading.Reading.TheVariants as readings
+use Rattle.fed_logs.specs.declared.reading.Reading.TheVariants as readings
 use Rattle.mover.specs.Readers.{LaneReaderState}
 use Rattle.mover.specs.Lanes.{MayRead, ReadsInRound}
 use Rattle.mover.proofs.Parts.{did_nothing, goes_on, reads_none, reads_part, tells_of}

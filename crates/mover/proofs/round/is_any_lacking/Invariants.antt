@@ -1,5 +1,5 @@
 use Rattle.std.proofs.Common.{◌≡◌, ℕ, ◌<◌, get_or, Some}
-use Rattle.lane_feed.specs.declared.reading.Reading.TheVariants as readings
+use Rattle.fed_logs.specs.declared.reading.Reading.TheVariants as readings
 use Rattle.mover.specs.Lanes.{last_of}
 use Rattle.mover.proofs.round.is_any_lacking.Given as goal
 

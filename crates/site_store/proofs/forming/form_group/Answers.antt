@@ -11,7 +11,7 @@ use Rattle.image_former.specs.Entries.{HasEntry}
 use Rattle.image_former.specs.Jobs.{is_failed_of}
 use Rattle.site_store.specs.Causes.{FailByCounts}
 use Rattle.site_store.specs.Jobs.{are_home_from, has_job_failed}
-use Rattle.site_deeds.specs.Deeds.{kinds_of}
+use Rattle.site_store.specs.Deeds.{kinds_of}
 use Rattle.site_store.specs.Logging.{FailByEntries}
 use Rattle.site_store.proofs.DueItems.{spelled_by_kinds}
 use Rattle.site_store.proofs.LentJobs.{home_at, low_devices, one_job, slots}

@@ -3,7 +3,7 @@ use Rattle.std.specs.Vec.{with_items}
 use Rattle.std.proofs.lemmas.List.{length-map, with_items_is}
 use Rattle.crash_plant.specs.declared.device.Device.TheVariants.{Volume}
 use Rattle.xrc_journal.specs.declared.job.VolumeJob.{VolumeJob}
-use Rattle.site_deeds.proofs.Single.{no_call}
+use Rattle.site_store.proofs.Single.{no_call}
 use Rattle.site_store.specs.Applying.{Applies, AppliesToVolume, excepted_by_apply, with_applied}
 use Rattle.site_store.specs.Jobs.{are_home_from, has_device, has_job_failed}
 use Rattle.site_store.specs.Sites.{SiteState}

@@ -9,7 +9,7 @@ use Rattle.control_set.specs.declared.value.Mark.{Mark}
 use Rattle.pair_table.specs.declared.level.Level.TheVariants.{Volume as VolumeLevel}
 use Rattle.pair_table.specs.Tables.{Table}
 use Rattle.record_rows.specs.Records.{rows_with_hits}
-use Rattle.site_deeds.specs.Exceptions.{is_kept}
+use Rattle.site_store.specs.Exceptions.{is_kept}
 use Rattle.xrc_journal.specs.declared.job.VolumeJob.{VolumeJob}
 use Rattle.site_store.specs.declared.store_error.StoreError.{StoreError}
 use Rattle.site_store.specs.Causes.{FailByCounts, HasStoreCause}

@@ -1,5 +1,0 @@
-use Rattle.borne_deeds.proofs.Ending.{stands_for_rows_again}
-use Rattle.borne_deeds.proofs.laws.done_deeds_stand.Goals as goal
-
-pub returns : goal.returns
-returns g c = stands_for_rows_again (g.P.Plant.state c.args.old.now) (g.P.Plant.state c.args.new.now)

@@ -1,8 +1,0 @@
-use Rattle.borne_deeds.proofs.Bearing.{seen_deeds_bear, seen_deeds_show_points}
-use Rattle.borne_deeds.proofs.laws.seen_deeds_bear.Goals as goal
-
-pub returns-clause-shows : goal.returns-clause-shows
-returns-clause-shows g c = seen_deeds_show_points (g.P.Plant.state c.args.start.now)
-
-pub returns-clause-bears : goal.returns-clause-bears
-returns-clause-bears g c = seen_deeds_bear (g.P.Plant.state c.args.start.now)

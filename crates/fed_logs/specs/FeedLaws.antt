@@ -1,0 +1,116 @@
+-- The laws of feeds. Each is the contract of a public function without parameters.
+use Rattle.std.specs.Prelude.{◌≡◌, ℕ, ◌<◌, ◌-◌, List, [], ◌++◌, length, take, true, false, Option, Some, None, Ok, IsTrue}
+use Rattle.tod_stamp.specs.declared.stamp.Stamp.{Stamp}
+use Rattle.write_trace.specs.declared.header.Header.{Header}
+use Rattle.write_trace.specs.declared.trace.Trace.{Trace}
+use Rattle.write_trace.specs.Answers.{ReaderState}
+use Rattle.write_trace.specs.Good.{trace_of}
+use Rattle.write_trace.specs.Starts.{ReadsHeader}
+use Rattle.group_state.specs.declared.joining.CopyJoin.{CopyJoin}
+use Rattle.primary_ctl.specs.States.{track_of, base_in}
+use Rattle.sidefile.specs.Ahead.{IsAhead, IsFault, entries_ahead}
+use Rattle.group_state.specs.Controls.{is_telling}
+use Rattle.group_state.specs.Groups.{Group, control_at}
+use Rattle.group_state.specs.Runs.{Answer, Runs}
+use Rattle.fed_logs.specs.Told.{floor_of}
+use Rattle.fed_logs.specs.Feeds.{part_of_reader}
+use Rattle.fed_logs.specs.LaneFeeds.{FeedState, floor_behind_calls, telling_behind_calls}
+use Rattle.fed_logs.specs.Reads.{Outlook, EndsAsAhead, HasRead, HasTracksAt, ReadsOn, do_rise}
+use Rattle.fed_logs.specs.Reads.Outlook.{Whole, Failing}
+use Rattle.fed_logs.specs.Steps.{FeedStep}
+use Rattle.fed_logs.specs.Tellers.{TellerState, TellsOn, TellsUpTo, BreaksBelow, IsCopiedBy}
+
+-- Without a call nothing is read.
+abbrev pub NoCallReadsNothing : Type 0
+NoCallReadsNothing = (told : Option (List ℕ)) (feed : FeedState) → ReadsOn told told feed feed []
+
+-- Calls one after another read on.
+abbrev pub CallsReadInTurn : Type 0
+CallsReadInTurn = (before mid now : Option (List ℕ)) (old next new : FeedState) (first then : List Answer) → ReadsOn before mid old next first → ReadsOn mid now next new then
+    → ReadsOn before now old new (first ++ then)
+
+-- Each step of a reader reads on.
+abbrev pub StepsReadOn : Type 0
+StepsReadOn = (before now : Option (List ℕ)) (limit : Stamp) (old new : FeedState) (gained : List Answer) → FeedStep before now limit old new gained → ReadsOn before now old new gained
+
+-- Without a call no break is told.
+abbrev pub NoCallBreaks : Type 0
+NoCallBreaks = (limit : ℕ) (left : Option (List ℕ)) (feed : FeedState) (told : TellerState) → BreaksBelow limit left feed feed told told
+
+-- Calls one after another break below a limit if each does.
+abbrev pub CallsBreakBelowInTurn : Type 0
+CallsBreakBelowInTurn = (limit : ℕ) (before mid now : Option (List ℕ)) (old next new : FeedState) (told between after : TellerState) → TellsOn before mid old next told between → BreaksBelow limit before old next told between
+    → TellsOn mid now next new between after → BreaksBelow limit mid next new between after → BreaksBelow limit before old new told after
+
+-- A step of a reader that copies tells no break.
+abbrev pub CopiesTellNoBreak : Type 0
+CopiesTellNoBreak = (limit : ℕ) (left : Option (List ℕ)) (joined : Option CopyJoin) (feed : FeedState) (told after : TellerState) → feed.halted ≡ None → IsCopiedBy joined feed told after → BreaksBelow limit left feed feed told after
+
+-- Without a call nothing goes further.
+abbrev pub NoCallGoesUpTo : Type 0
+NoCallGoesUpTo = (limit : ℕ) (left : Option (List ℕ)) (feed : FeedState) (told : TellerState) → TellsUpTo limit left left feed feed told told
+
+-- Calls one after another go up to a limit if each does.
+abbrev pub CallsGoUpToInTurn : Type 0
+CallsGoUpToInTurn = (limit : ℕ) (before mid now : Option (List ℕ)) (old next new : FeedState) (told between after : TellerState) → TellsOn before mid old next told between → TellsUpTo limit before mid old next told between
+    → TellsOn mid now next new between after → TellsUpTo limit mid now next new between after → TellsUpTo limit before now old new told after
+
+-- A step of a reader that copies goes no further, whatever the limit is.
+abbrev pub CopiesGoUpTo : Type 0
+CopiesGoUpTo = (limit : ℕ) (left : Option (List ℕ)) (joined : Option CopyJoin) (feed : FeedState) (told after : TellerState) → TellsOn left left feed feed told after → IsCopiedBy joined feed told after → TellsUpTo limit left left feed feed told after
+
+-- Behind a run each control's floor is the one that the calls of its reader tell.
+abbrev pub FloorsAreToldByCalls : Type 0
+FloorsAreToldByCalls = (s : Group) (run : List Answer) (end : Group) → Runs s run end → (k : ℕ) → k < length s.controls → floor_of end k ≡ floor_behind_calls (floor_of s k) (part_of_reader k run)
+
+-- Behind a run a control still tells exactly if it did before, and no call of its reader is a break.
+abbrev pub TellingIsToldByCalls : Type 0
+TellingIsToldByCalls = (s : Group) (run : List Answer) (end : Group) → Runs s run end → (k : ℕ) → k < length s.controls
+    → is_telling (control_at end k).phase ≡ telling_behind_calls (is_telling (control_at s k).phase) (part_of_reader k run)
+
+-- What a feed has read makes of its primary what the trace makes of it at the primary's time.
+abbrev pub ReadTracksAreThePrimary : Type 0
+ReadTracksAreThePrimary = (o : Outlook) (rest : List ℕ) (t : Trace) (feed : FeedState) → HasRead o rest t feed → HasTracksAt t feed.primary.time feed.primary
+
+-- A feed behind a header, whose primary has the base tracks.
+pub record IsFirstFeed (head : Header) (feed : FeedState) : Type 0 where
+  pub waiting : feed.side.waiting ≡ None
+  pub upto : feed.side.upto ≡ 0
+  pub time : feed.primary.time ≡ 0
+  pub held : feed.held ≡ None
+  pub tracks : (v x : ℕ) → track_of feed.primary v x ≡ base_in head.base v x
+
+-- At the start nothing was read of a trace whose entries are all ahead.
+abbrev pub NothingIsReadFirst : Type 0
+NothingIsReadFirst = (o : Outlook) (rest : List ℕ) (t : Trace) (feed : FeedState) → IsFirstFeed t.header feed → entries_ahead feed.side.reader.stopped feed.side.reader rest ≡ t.entries → IsTrue (do_rise 1 t.entries)
+    → EndsAsAhead o t feed.side.reader rest → HasRead o rest t feed
+
+-- ---- the bytes of a source
+
+-- All bytes that are ahead come, or those come behind which the source fails, with some left.
+abbrev pub ComeSo : Outlook → ReaderState → (rest later left : List ℕ) → Type 0
+ComeSo Whole reader rest later left = later ≡ rest
+ComeSo Failing reader rest later left = (rest ≡ later ++ left) × IsFault reader later
+
+-- the trace of all bytes that a source told, or of those that it gave before it failed, with some left
+abbrev pub IsTraceOf : Outlook → (told left : List ℕ) → Trace → Type 0
+IsTraceOf Whole told left t = trace_of 1 false told ≡ Ok t
+IsTraceOf Failing told left t = trace_of 1 true (take (length told - length left) told) ≡ Ok t
+
+-- These bytes are ahead, behind a header that was read of the bytes of a source.
+pub record IsBehindHeader (told : List ℕ) (now : Option (List ℕ)) (head : Header) (feed : FeedState) (rest : List ℕ) : Type 0 where
+  pub reads : ReadsHeader (Some told) now head feed.side.reader
+  pub first : IsFirstFeed head feed
+  pub there : IsAhead feed.side.reader now rest
+
+-- Nothing was read yet of the trace that a source's bytes are.
+pub record BeginsTrace (o : Outlook) (told later left : List ℕ) (head : Header) (feed : FeedState) : Type 0 where
+  pub trace : Trace
+  pub headed : trace.header ≡ head
+  pub is : IsTraceOf o told left trace
+  pub unread : HasRead o later trace feed
+
+-- A feed behind a header has read nothing of the trace that its source's bytes are, whether all of them come or the source fails.
+abbrev pub HeadersBeginTraces : Type 0
+HeadersBeginTraces = (told : List ℕ) (now : Option (List ℕ)) (head : Header) (feed : FeedState) (rest : List ℕ) → IsBehindHeader told now head feed rest
+    → (o : Outlook) (later left : List ℕ) → ComeSo o feed.side.reader rest later left → BeginsTrace o told later left head feed

@@ -1,0 +1,45 @@
+-- A lane's feed, and what it keeps.
+use Rattle.std.specs.Prelude.{◌≡◌, ℕ, List, [], ◌∷◌, Bool, Option, Some, None, if◌then◌else◌}
+use Rattle.ckd_track.specs.declared.write.Batch.{Batch}
+use Rattle.primary_ctl.specs.States.{PrimaryState}
+use Rattle.sidefile.specs.declared.hand.Halt.{Halt}
+use Rattle.sidefile.specs.States.{SidefileState, IsRunOf}
+use Rattle.group_state.specs.Calls.{telling_after}
+use Rattle.group_state.specs.Runs.{Answer}
+use Rattle.fed_logs.specs.Told.{has_changed}
+use Rattle.fed_logs.specs.Feeds.{floor_behind}
+
+-- A lane's feed: its sidefile, its primary volumes, the batch that was handed over and isn't joined, and why it reads no further. It
+-- reads no further where its sidefile hands over no more, or where its primary had no memory.
+pub record FeedState : Type 0 where
+  pub side : SidefileState
+  pub primary : PrimaryState
+  pub held : Option Batch
+  pub halted : Option Halt
+
+-- A batch that is held is the run behind the primary's time, and goes up to the time that the sidefile has reported. Where none is held
+-- the primary has come to that time.
+abbrev pub IsHeldAt : Option Batch → SidefileState → (time : ℕ) → Type 0
+IsHeldAt None side time = time ≡ side.upto
+IsHeldAt (Some batch) side time = (batch.upto.0 ≡ side.upto) × IsRunOf side.reader.volumes side.control time side.upto batch
+
+-- A feed that reads on: its sidefile hands over, and its primary has the volumes of the trace's header.
+pub record ReadsFurther (side : SidefileState) (primary : PrimaryState) (held : Option Batch) : Type 0 where
+  pub hands : side.halted ≡ None
+  pub volumes : primary.volumes ≡ side.reader.volumes
+  pub is_held : IsHeldAt held side primary.time
+
+-- What every feed keeps.
+abbrev pub KeepsFeed : Option Halt → SidefileState → PrimaryState → Option Batch → Type 0
+KeepsFeed None side primary held = ReadsFurther side primary held
+KeepsFeed (Some halt) side primary held = Unit {0}
+
+-- the floor behind answered calls of a reader
+abbrev pub floor_behind_calls : (floor : ℕ) → List Answer → ℕ
+floor_behind_calls floor [] = floor
+floor_behind_calls floor (answer ∷ run) = floor_behind_calls (if has_changed answer.reply then floor_behind floor answer.call else floor) run
+
+-- whether a control still tells behind answered calls of its reader
+abbrev pub telling_behind_calls : (telling : Bool) → List Answer → Bool
+telling_behind_calls telling [] = telling
+telling_behind_calls telling (answer ∷ run) = telling_behind_calls (telling_after answer.call telling) run

@@ -1,9 +1,0 @@
-pub mod Entries
-pub mod Hands
-pub mod InTurn
-pub mod Stepping
-pub mod UpToLimit
-pub mod Below
-pub mod Telling
-pub mod Beginning
-pub mod Controls

@@ -1,3 +1,0 @@
-pub mod Ring
-pub mod Laws
-pub mod Plants

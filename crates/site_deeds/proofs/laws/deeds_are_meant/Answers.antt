@@ -1,8 +1,0 @@
-use Rattle.site_deeds.proofs.Now.{are_meant, leave_content}
-use Rattle.site_deeds.proofs.laws.deeds_are_meant.Goals as goal
-
-pub returns-clause-means : goal.returns-clause-means
-returns-clause-means g c = are_meant (g.P.Plant.state c.args.old.now) (g.P.Plant.state c.args.new.now)
-
-pub returns-clause-content : goal.returns-clause-content
-returns-clause-content g c = leave_content (g.P.Plant.state c.args.old.now) (g.P.Plant.state c.args.new.now)

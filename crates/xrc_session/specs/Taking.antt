@@ -1,0 +1,180 @@
+-- A command's change of rows taken over into the shared state: what the state keeps for rows, and the calls that a change makes.
+use Rattle.std.specs.Prelude.{◌≡◌, ℕ, ◌<◌, ◌==◌, ◌&&◌, not, List, [], ◌∷◌, ◌++◌, filter, length, Bool, true, false, Option, Some, None, IfSome, IsSomeAnd, IsTrue, if◌then◌else◌}
+use Rattle.std.specs.List.{Contains, flat_map}
+use Rattle.change_map.specs.Sets.{every_track}
+use Rattle.copy_plan.specs.Plans.{fresh_plan}
+use Rattle.pair_table.specs.declared.command.Change.{Change}
+use Rattle.pair_table.specs.declared.command.Change.TheVariants.{Added, Resumed, Gone}
+use Rattle.pair_table.specs.declared.row.PairRow.{PairRow}
+use Rattle.pair_table.specs.declared.row.PairState.{PairState}
+use Rattle.pair_table.specs.declared.row.PairState.TheVariants.{Pending, Copy, Duplex, Suspended}
+use Rattle.pair_table.specs.Devices.{is_among}
+use Rattle.pair_table.specs.Rows.{is_suspended}
+use Rattle.pair_table.specs.Tables.{in_state, none_clash, row_of, with_state}
+use Rattle.group_state.specs.Volumes.{owed}
+use Rattle.group_state.specs.Controls.{counts}
+use Rattle.group_state.specs.Groups.{Group, control_at}
+use Rattle.group_state.specs.Machine.{Call, group_after}
+use Rattle.group_state.specs.Machine.Call.{Carry, Drop, Forget, Resume}
+use Rattle.group_state.specs.Runs.{May}
+use Rattle.group_state.specs.Sound.{KeepsGroup}
+use Rattle.record_rows.specs.Hits.{is_by_device}
+use Rattle.record_rows.specs.Told.{InPlaces}
+use Rattle.consistency.specs.Bears.{tracks_of_row}
+use Rattle.fed_logs.specs.Logs.{IsPlanDone}
+use Rattle.fed_logs.specs.Moves.{Plans, plans_without}
+use Rattle.mover.specs.Told.{IsCarriedAsLive, KeptHaveRows}
+
+-- ---- what is kept for rows
+
+-- What the state keeps for a row: its volume, a control that counts if the row isn't suspended, and a plan that is done if it is duplex.
+pub record KeepsForRow (s : Group) (r : PairRow) : Type 0 where
+  pub low : r.control < length s.controls
+  pub own : IsCarriedAsLive s r
+  pub counted : is_suspended r.state ≡ false → IsTrue (counts (control_at s r.control).phase)
+  pub done : r.state ≡ Duplex → IsPlanDone r.volume (control_at s r.control)
+
+-- The state keeps what every state keeps, and the volume of each of these rows. It keeps no other volume.
+pub record KeepsForRows (s : Group) (rows : List PairRow) : Type 0 where
+  pub keeps : KeepsGroup s
+  pub apart : IsTrue (none_clash rows)
+  pub each : (r : PairRow) → Contains rows r → KeepsForRow s r
+  pub rowed : KeptHaveRows s rows
+
+-- ---- calls in a row
+
+abbrev pub after_calls : List Call → Group → Group
+after_calls [] s = s
+after_calls (call ∷ calls) s = after_calls calls (group_after s call)
+
+-- Each call may be made when its turn comes.
+abbrev pub AllMay : List Call → Group → Type 0
+AllMay [] s = Unit {0}
+AllMay (call ∷ calls) s = May s call × AllMay calls (group_after s call)
+
+-- the plans that are known to be done behind calls
+abbrev pub plans_after : Call → Plans → Plans
+plans_after (Drop k v all) done = plans_without k v done
+plans_after call done = done
+
+abbrev pub plans_after_calls : List Call → Plans → Plans
+plans_after_calls [] done = done
+plans_after_calls (call ∷ calls) done = plans_after_calls calls (plans_after call done)
+
+-- ---- the command
+
+-- whether a change makes the device's row pending: it adds the row, or resumes it
+abbrev pub is_begun : Change → (device : ℕ) → Bool
+is_begun (Added device) d = device == d
+is_begun (Resumed device) d = device == d
+is_begun change d = false
+
+abbrev pub as_pending : Option PairRow → List PairRow
+as_pending None = []
+as_pending (Some r) = in_state Pending r ∷ []
+
+-- The rows that a command leaves of those before it, without its suspensions. The row that it adds is found among those after it.
+abbrev pub rows_by_command : Change → (before after : List PairRow) → List PairRow
+rows_by_command (Added device) before after = before ++ as_pending (row_of device after)
+rows_by_command (Resumed device) before after = with_state device Pending before
+rows_by_command (Gone devices) before after = filter (λ r. not (is_among r.device devices)) before
+rows_by_command change before after = before
+
+-- An added row's volume begins to be carried, and all of its tracks are wanted.
+abbrev pub carry_calls : Option PairRow → List Call
+carry_calls None = []
+carry_calls (Some r) = Carry r.control r.volume (fresh_plan (every_track (tracks_of_row r))) ∷ []
+
+-- A resumed row's volume is carried again, and the tracks in its map are wanted.
+abbrev pub resume_calls : Option PairRow → List Call
+resume_calls None = []
+resume_calls (Some r) = Resume r.control r.volume ∷ []
+
+-- The volume of a row that goes is dropped and forgotten.
+abbrev pub forget_calls : (devices : List ℕ) → PairRow → List Call
+forget_calls devices r = if is_among r.device devices then Drop r.control r.volume true ∷ Forget r.control r.volume ∷ [] else []
+
+abbrev pub command_calls : Change → (before after : List PairRow) → List Call
+command_calls (Added device) before after = carry_calls (row_of device after)
+command_calls (Resumed device) before after = resume_calls (row_of device before)
+command_calls (Gone devices) before after = flat_map (forget_calls devices) before
+command_calls change before after = []
+
+-- ---- suspensions
+
+-- Whether a suspension, by its own device or not, drops the volume of a row in this state, and if so, with all of its tracks. A duplex row owes
+-- only what changes from then on, unless its own device suspends it. Every other row owes all of its tracks. The volume of a suspended row is
+-- dropped again only if its device fails.
+abbrev pub drop_by : (was : PairState) → (by_device : Bool) → Option Bool
+drop_by Pending failed = Some true
+drop_by Copy failed = Some true
+drop_by Duplex failed = Some failed
+drop_by (Suspended cause since) failed = if failed && not (is_by_device cause) then Some true else None
+
+abbrev pub drop_between : (was is : PairState) → Option Bool
+drop_between was Pending = None
+drop_between was Copy = None
+drop_between was Duplex = None
+drop_between was (Suspended cause since) = drop_by was (is_by_device cause)
+
+abbrev pub drop_call : PairRow → Option Bool → List Call
+drop_call r None = []
+drop_call r (Some all) = Drop r.control r.volume all ∷ []
+
+abbrev pub state_or_pending : Option PairRow → PairState
+state_or_pending None = Pending
+state_or_pending (Some r) = r.state
+
+-- the state in which a command leaves a device's row
+abbrev pub state_by_command : Change → (before : List PairRow) → (device : ℕ) → PairState
+state_by_command change before d = if is_begun change d then Pending else state_or_pending (row_of d before)
+
+abbrev pub drop_calls : Change → (before : List PairRow) → PairRow → List Call
+drop_calls change before r = drop_call r (drop_between (state_by_command change before r.device) r.state)
+
+-- ---- a change
+
+-- The calls of the shared state for a command's change: what the command itself asks, and then a drop for each row that is suspended by the
+-- command or by a failure behind it.
+abbrev pub calls_of_change : Change → (before after : List PairRow) → List Call
+calls_of_change change before after = command_calls change before after ++ flat_map (drop_calls change before) after
+
+-- A row is as the command left it, but for a suspension that drops its volume.
+pub record IsSuspendedSince (r s : PairRow) : Type 0 where
+  pub same : s ≡ in_state s.state r
+  pub stays : drop_between r.state s.state ≡ None → s.state ≡ r.state
+
+-- The row that a change adds is among those after it, and its control counts. One that it resumes is suspended, and its control counts.
+abbrev pub MayBeBegun : Group → Change → (before after : List PairRow) → Type 0
+MayBeBegun s (Added device) before after = IsSomeAnd (row_of device after) (λ r. (r.control < length s.controls) × IsTrue (counts (control_at s r.control).phase))
+MayBeBegun s (Resumed device) before after = IfSome (row_of device before) (λ r. IsTrue (is_suspended r.state) × IsTrue (counts (control_at s r.control).phase))
+MayBeBegun s change before after = Unit {0}
+
+-- what is so of the row that a change adds, if it adds one
+abbrev pub IfAdds : Change → (after : List PairRow) → (PairRow → Type 0) → Type 0
+IfAdds (Added device) after is = IfSome (row_of device after) is
+IfAdds change after is = Unit {0}
+
+-- Rows come from others by a command's change and by suspensions behind it, of different pairs on different devices.
+pub record MayTake (s : Group) (change : Change) (before after : List PairRow) : Type 0 where
+  pub begun : MayBeBegun s change before after
+  pub apart : IsTrue (none_clash (rows_by_command change before after))
+  pub follow : InPlaces IsSuspendedSince (rows_by_command change before after) after
+
+-- How many tracks are to be copied: all of an added row's, and those in the map of a resumed row's volume.
+abbrev pub tracks_of_added : Option PairRow → ℕ
+tracks_of_added None = 0
+tracks_of_added (Some r) = tracks_of_row r
+
+abbrev pub tracks_owed_to : Group → Option PairRow → ℕ
+tracks_owed_to s None = 0
+tracks_owed_to s (Some r) = owed r.volume (control_at s r.control).volumes
+
+abbrev pub tracks_to_copy : Change → Group → (before after : List PairRow) → ℕ
+tracks_to_copy (Added device) s before after = tracks_of_added (row_of device after)
+tracks_to_copy (Resumed device) s before after = tracks_owed_to s (row_of device before)
+tracks_to_copy change s before after = 0
+
+abbrev pub is_adding : Change → Bool
+is_adding (Added device) = true
+is_adding change = false

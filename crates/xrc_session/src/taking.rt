@@ -1,0 +1,220 @@
+//! A command's change of rows, taken over into the shared state.
+
+ghost use Rattle.std.specs.Prelude.{◌≡◌, OnOk, OnErr, IfOk, IsTrue, None, Some};
+ghost use Rattle.std.specs.List.{flat_map};
+ghost use Rattle.std.specs.Option.{option_copied};
+ghost use Rattle.pair_table.specs.Devices.{is_among};
+ghost use Rattle.pair_table.specs.Rows.{keeps_row_rules};
+ghost use Rattle.pair_table.specs.Tables.{row_of};
+ghost use Rattle.record_rows.specs.Hits.{is_by_device};
+ghost use Rattle.consistency.specs.Bears.{tracks_of_row};
+ghost use Rattle.xrc_session.specs.Taking.{AllMay, KeepsForRows, MayTake, after_calls, calls_of_change, carry_calls, command_calls};
+ghost use Rattle.xrc_session.specs.Taking.{drop_between, drop_by, drop_call, drop_calls, forget_calls, is_adding, is_begun, state_by_command, tracks_to_copy};
+
+use change_map::ChangeMap;
+use copy_plan::CopyPlan;
+use group_state::GroupState;
+use pair_table::{Change, PairRow, PairState, PairTable, SuspendCause};
+use std::alloc::Global;
+use tod_stamp::TRACKS_OF_CYLINDER;
+use xrc_edge::NoMemory;
+
+/// Whether a pair is suspended by its own device.
+fn is_by_device(cause: SuspendCause) -> bool
+    ensures { result ≡ is_by_device cause }
+{
+    match cause {
+        SuspendCause::Device => true,
+        SuspendCause::Command | SuspendCause::Session | SuspendCause::Control => false,
+    }
+}
+
+/// Whether a suspension, by its own device or not, drops the volume of a row in this state, and if so, with all of its tracks.
+fn drop_by(was: PairState, by_device: bool) -> Option<bool>
+    ensures { result ≡ drop_by was by_device }
+{
+    match was {
+        PairState::Pending | PairState::Copy => Some(true),
+        PairState::Duplex => Some(by_device),
+        PairState::Suspended { cause, since: _ } => {
+            if by_device && !is_by_device(cause) {
+                Some(true)
+            } else {
+                None
+            }
+        }
+    }
+}
+
+/// Whether a row that goes from one state to another has its volume dropped by it, and if so, with all of its tracks.
+fn drop_between(was: PairState, is: PairState) -> Option<bool>
+    ensures { result ≡ drop_between was is }
+{
+    match is {
+        PairState::Suspended { cause, since: _ } => drop_by(was, is_by_device(cause)),
+        PairState::Pending | PairState::Copy | PairState::Duplex => None,
+    }
+}
+
+/// The device's row. None exactly where it has none.
+fn row_of(rows: &[PairRow], device: u16) -> Option<&PairRow>
+    ensures { option_copied result ≡ row_of device rows.now }
+{
+    rows.iter().find(|row| device == row.device)
+}
+
+/// Whether a device is one of a list.
+fn is_among(device: u16, devices: &[u16]) -> bool
+    ensures { result ≡ is_among device devices.now }
+{
+    devices.iter().any(|other| *other == device)
+}
+
+/// Whether a change makes the device's row pending: it adds the row, or resumes it.
+fn is_begun(change: &Change, device: u16) -> bool
+    ensures { result ≡ is_begun change.now device }
+{
+    match change {
+        Change::Added(begun) | Change::Resumed(begun) => *begun == device,
+        Change::Nothing
+        | Change::Started
+        | Change::Gone(_)
+        | Change::Suspended(_)
+        | Change::Ended => false,
+    }
+}
+
+/// The state in which a command leaves a device's row.
+fn state_by_command(change: &Change, before: &[PairRow], device: u16) -> PairState
+    ensures { result ≡ state_by_command change.now before.now device }
+{
+    if is_begun(change, device) {
+        return PairState::Pending;
+    }
+    match row_of(before, device) {
+        Some(row) => row.state,
+        None => PairState::Pending,
+    }
+}
+
+/// Begins to carry an added row's volume, and tells its tracks, which are all wanted.
+fn carry_row(alloc: Global, group: &mut GroupState, row: &PairRow) -> Result<u32, NoMemory>
+    requires rules { IsTrue (keeps_row_rules row.now) }
+    requires may { AllMay (carry_calls (Some row.now)) group.old }
+    ensures calls { OnOk result (group.new ≡ after_calls (carry_calls (Some row.now)) group.old) }
+    ensures tracks { IfOk result (λ tracks. tracks ≡ tracks_of_row row.now) }
+    ensures err { OnErr result (group.new ≡ group.old) }
+{
+    let tracks = TRACKS_OF_CYLINDER * row.cylinders;
+    let plan = CopyPlan::first(alloc, tracks)?;
+    let map = ChangeMap::make(alloc, tracks)?;
+    group.carry(alloc, row.control, row.volume, plan, map)?;
+    Ok(tracks)
+}
+
+/// Drops and forgets the volume of a row, if its device is one of those whose rows go.
+fn forget_row(group: &mut GroupState, devices: &[u16], row: &PairRow)
+    requires may { AllMay (forget_calls devices.now row.now) group.old }
+    ensures calls { group.new ≡ after_calls (forget_calls devices.now row.now) group.old }
+{
+    if is_among(row.device, devices) {
+        group.drop_volume(row.control, row.volume, true);
+        group.forget(row.control, row.volume);
+    }
+}
+
+/// Drops and forgets the volumes of the rows that go.
+fn forget_rows(group: &mut GroupState, devices: &[u16], before: &[PairRow])
+    requires may { AllMay (flat_map (forget_calls devices.now) before.now) group.old }
+    ensures calls { group.new ≡ after_calls (flat_map (forget_calls devices.now) before.now) group.old }
+{
+    for place in 0..before.len() {
+        forget_row(group, devices, &before[place]);
+    }
+}
+
+/// Makes the calls for what a command does to rows, but for its suspensions. Tells how many tracks are to be copied.
+fn take_command(
+    alloc: Global,
+    group: &mut GroupState,
+    before: &[PairRow],
+    table: &PairTable,
+    change: &Change,
+) -> Result<u32, NoMemory>
+    requires may { AllMay (command_calls change.now before.now table.now.rows) group.old }
+    ensures calls { OnOk result (group.new ≡ after_calls (command_calls change.now before.now table.now.rows) group.old) }
+    ensures tracks { IfOk result (λ tracks. tracks ≡ tracks_to_copy change.now group.old before.now table.now.rows) }
+    ensures err { OnErr result (group.new ≡ group.old) }
+    ensures memory { OnErr result (IsTrue (is_adding change.now)) }
+{
+    match change {
+        Change::Added(device) => match table.row_of(*device) {
+            Some(row) => carry_row(alloc, group, row),
+            None => Ok(0),
+        },
+        Change::Resumed(device) => match row_of(before, *device) {
+            Some(row) => Ok(group.resume(row.control, row.volume)),
+            None => Ok(0),
+        },
+        Change::Gone(devices) => {
+            forget_rows(group, devices.as_slice(), before);
+            Ok(0)
+        }
+        Change::Nothing | Change::Started | Change::Suspended(_) | Change::Ended => Ok(0),
+    }
+}
+
+/// Drops the volume of a row that was in another state, if that is to be dropped.
+fn drop_row(group: &mut GroupState, was: PairState, row: &PairRow)
+    requires may { AllMay (drop_call row.now (drop_between was row.now.state)) group.old }
+    ensures calls { group.new ≡ after_calls (drop_call row.now (drop_between was row.now.state)) group.old }
+{
+    if let Some(all) = drop_between(was, row.state) {
+        group.drop_volume(row.control, row.volume, all);
+    }
+}
+
+/// Drops the volumes of the rows that were suspended by a command or behind it.
+fn drop_suspended(group: &mut GroupState, before: &[PairRow], table: &PairTable, change: &Change)
+    requires may { AllMay (flat_map (drop_calls change.now before.now) table.now.rows) group.old }
+    ensures calls { group.new ≡ after_calls (flat_map (drop_calls change.now before.now) table.now.rows) group.old }
+{
+    for place in 0..table.len() {
+        let Some(row) = table.row(place) else {
+            unreachable!()
+        };
+        let was = state_by_command(change, before, row.device);
+        drop_row(group, was, row);
+    }
+}
+
+/// Takes a command's change of rows over into the shared state, with the suspensions that came behind it, and tells how many tracks
+/// are to be copied. `before` has the rows before the command, and `table` has the rows after the change was logged.
+///
+/// - An added row's volume begins to be carried, and all of its tracks are wanted.
+/// - A resumed row's volume is carried again, and the tracks in its map are wanted.
+/// - The volume of a row that goes is forgotten.
+/// - The volume of a row that becomes suspended is dropped, with all of its tracks. If the row was duplex and its own device doesn't
+///   suspend it, only what changes from then on is mapped.
+/// - A row that was suspended before has its volume dropped again, with all of its tracks, if its device has failed since.
+///
+/// Only an added row wants memory. Without it the state is as before.
+pub fn take_change(
+    alloc: Global,
+    group: &mut GroupState,
+    before: &[PairRow],
+    table: &PairTable,
+    change: &Change,
+) -> Result<u32, NoMemory>
+    requires kept { KeepsForRows group.old before.now }
+    requires may { MayTake group.old change.now before.now table.now.rows }
+    ensures calls { OnOk result (group.new ≡ after_calls (calls_of_change change.now before.now table.now.rows) group.old) }
+    ensures kept { OnOk result (KeepsForRows group.new table.now.rows) }
+    ensures tracks { IfOk result (λ tracks. tracks ≡ tracks_to_copy change.now group.old before.now table.now.rows) }
+    ensures err { OnErr result (group.new ≡ group.old) }
+    ensures memory { OnErr result (IsTrue (is_adding change.now)) }
+{
+    let tracks = take_command(alloc, group, before, table, change)?;
+    drop_suspended(group, before, table, change);
+    Ok(tracks)
+}
