@@ -94,13 +94,13 @@ any_fits (Gone devices) after = tt
 any_fits (SuspendedRows devices) after = tt
 any_fits Ended after = tt
 
-counted_behind : (s : Group) (change : Change) (before after : List PairRow) → Counted s before → MayTake s change before after → Counted (after_calls (calls_of_change change before after) s) after
+counted_behind : (s : Group) (change : Change) (before after : List PairRow) → Counted s before → MayTake s change before after → Counted (after_calls (calls_of_change change s before after) s) after
 counted_behind s change before after h may =
-    let walk : Walked Counts (calls_of_change change before after) s after no_plans = change_walk Counts FitsAny counted_steps change before after s no_plans may (any_fits change after) h in
+    let walk : Walked Counts (calls_of_change change s before after) s after no_plans = change_walk Counts FitsAny counted_steps change before after s no_plans may (any_fits change after) h in
     walk.ends
 
 pub taken_again : (names : Naming) (table next : Table) (s : Group) (change : Change) → TakesChanges names table s → MayTake s change table.rows next.rows → MayCommand names next.rows → next.is_started ≡ true
-    → TakesChanges names next (after_calls (calls_of_change change table.rows next.rows) s)
+    → TakesChanges names next (after_calls (calls_of_change change s table.rows next.rows) s)
 taken_again names table next s change h take may started =
     let behind = counted_behind s change table.rows next.rows (record { kept = h.kept; many = h.many; counted = h.counted }) take in
     record { may = may; started = started; kept = behind.kept; many = behind.many; counted = behind.counted }
@@ -144,7 +144,7 @@ command_taken names table session command change at s h is keeps =
 
 pub commanded_again : (names : Naming) (table : Table) (session : List ℕ) (command : Command) (change : Change) (at : ℕ) (s : Group) → TakesChanges names table s → answer names table session command ≡ Ok change
     → KeepsRows (table_after names table session command at).rows → MayCommand names (table_after names table session command at).rows
-    → TakesChanges names (table_after names table session command at) (after_calls (calls_of_change change table.rows (table_after names table session command at).rows) s)
+    → TakesChanges names (table_after names table session command at) (after_calls (calls_of_change change s table.rows (table_after names table session command at).rows) s)
 commanded_again names table session command change at s h is keeps may =
     taken_again names table (table_after names table session command at) s change h (command_taken names table session command change at s h is keeps) may (started_behind names table session command at h.started)
 
@@ -176,7 +176,7 @@ pub failure_taken : (names : Naming) (table : Table) (device at : ℕ) (s : Grou
 failure_taken names table device at s h live = record { begun = tt; apart = h.kept.apart; follow = fails_follow device at table.rows live }
 
 pub failed_again : (names : Naming) (table : Table) (device at : ℕ) (s : Group) → TakesChanges names table s → are_live table.rows ≡ true
-    → TakesChanges names (with_rows table (with_state device (failed_state at) table.rows)) (after_calls (calls_of_change Nothing table.rows (with_state device (failed_state at) table.rows)) s)
+    → TakesChanges names (with_rows table (with_state device (failed_state at) table.rows)) (after_calls (calls_of_change Nothing s table.rows (with_state device (failed_state at) table.rows)) s)
 failed_again names table device at s h live =
     taken_again names table (with_rows table (with_state device (failed_state at) table.rows)) s Nothing h (failure_taken names table device at s h live) (may_with_state names device (failed_state at) table.rows h.may) h.started
 

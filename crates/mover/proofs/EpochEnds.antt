@@ -73,7 +73,7 @@ module _ {S : Type 0} (tells : Type 0) (left : S → Option (List ℕ)) (faults 
     pub goes_by : UsesNumbers seat next site after (store_result ended) → EpochGoes tells left faults limit group old new site after was is result
     goes_by numbers =
         subst (λ (s : Group). EpochGoes tells left faults limit s old new site after was is result) first_is
-        (epoch_goes tells left faults limit at old new seat next seats end site after was is result no_calls lanes_there may.rests.idle may.knows.below read moved_there back limited history ended_so
+        (epoch_goes tells left faults limit at old new seat next seats end site after was is result no_calls lanes_there may.rests.idle may.marked may.knows.below read moved_there back limited history ended_so
         (subst (λ (r : Result (Unit {0}) StoreError). UsesNumbers seat next site after r) same numbers))
 
   -- at the limit
@@ -82,8 +82,8 @@ module _ {S : Type 0} (tells : Type 0) (left : S → Option (List ℕ)) (faults 
     reached_by =
         let result = ends.Reached end in
         let m = moved_there result so refl in
-        let alone = seats_are tells left faults limit at old new seat next seats end site after was is result no_calls lanes_there may.rests.idle may.knows.below read m back limited history refl in
-        let changes = changes_so tells left faults limit at old new seat next seats end site after was is result no_calls lanes_there may.rests.idle may.knows.below read m back limited history refl in
+        let alone = seats_are tells left faults limit at old new seat next seats end site after was is result no_calls lanes_there may.rests.idle may.marked may.knows.below read m back limited history refl in
+        let changes = changes_so tells left faults limit at old new seat next seats end site after was is result no_calls lanes_there may.rests.idle may.marked may.knows.below read m back limited history refl in
         let log = log_of at.first end next.calls seats history in
         let parts = λ (k : ℕ) (low : k < length old). reader_part at.first end next.calls seats history k (omega (arith, low, lanes_there.many, back.many)) in
         record {
@@ -97,14 +97,14 @@ module _ {S : Type 0} (tells : Type 0) (left : S → Option (List ℕ)) (faults 
           broken = λ traces before up low turns broke. lanes_broke left faults limit at.first end log seats old new history.runs alone lanes_there long read parts reached.done traces up turns before low broke;
           awaits = λ traces up keeps turns come.
               let keeps_there = subst KeepsGroup (sym first_is) keeps in
-              let bears = epoch_bears tells left faults limit at old new seat next seats end site after was is result no_calls lanes_there may.rests.idle may.knows.below read m back limited history refl in
+              let bears = epoch_bears tells left faults limit at old new seat next seats end site after was is result no_calls lanes_there may.rests.idle may.marked may.knows.below read m back limited history refl in
               breaks_are_to_come left faults limit at.first end log seats old new history.runs alone lanes_there long read parts reached.done traces up turns site.time may.knows.below (bears.fed traces keeps_there turns) (subst (BreaksAreToCome traces site.time) (sym first_is) come);
           stands = λ size keeps apart sized failed carried.
               let keeps_there = subst KeepsGroup (sym first_is) keeps in
               let sized_there = subst (AreSized size) (sym first_is) sized in
               let failed_there = subst (λ (s : Group). FailedAreOwed size s site.told) (sym first_is) failed in
               let carried_there = subst (λ (s : Group). CarriedAsLive s site.told) (sym first_is) carried in
-              let owed = owed_so tells left faults limit at old new seat next seats end site after was is result no_calls lanes_there may.rests.idle may.knows.below read m back limited history refl in
+              let owed = owed_so tells left faults limit at old new seat next seats end site after was is result no_calls lanes_there may.rests.idle may.marked may.knows.below read m back limited history refl in
               let pairs = (at_time limit site after m.steps m.behind reached.time changes m.going).pairs in
               let begins = may_begin tells limit next end after is noted may_then in (
                 failed_owe size at.first end log site.told after.told (deeds_of m.steps) keeps_there sized_there history.runs alone failed_there carried_there pairs owed,

@@ -1,5 +1,5 @@
 -- What an epoch does, from what its rounds did and from the history of its table.
-use Rattle.std.proofs.Common.{◌≡◌, ◌<◌, ◌≤◌, ◌++◌, ℕ, Bool, true, false, not, ◌&&◌, List, [], length, map, Option, Some, None, OnOk, refl, sym, ap, ◌∙◌, subst, arith}
+use Rattle.std.proofs.Common.{◌≡◌, ◌<◌, ◌≤◌, ◌++◌, ℕ, Bool, true, false, not, nat_le, ◌&&◌, List, [], length, map, Option, Some, None, OnOk, refl, sym, ap, ◌∙◌, subst, arith}
 use Rattle.std.specs.Prelude.{IsSomeAnd, slice_index_or}
 use Rattle.std.specs.List.{list_all}
 use Rattle.std.proofs.lemmas.Option.{slice_get_within}
@@ -22,7 +22,7 @@ use Rattle.pair_table.specs.Tables.{none_clash}
 use Rattle.row_changes.specs.Changes.Due.{NoneDue}
 use Rattle.mover.specs.Groups.{is_at_limit}
 use Rattle.fed_logs.specs.Logs.{IsFedLog, is_call_of_seat}
-use Rattle.fed_logs.specs.Moves.{MakesDeeds, Plans}
+use Rattle.fed_logs.specs.Moves.{AreEntriesLive, MakesDeeds, Plans}
 use Rattle.fed_logs.proofs.Bearing.{logs_bear}
 use Rattle.fed_logs.proofs.Breaking.{breaks_come}
 use Rattle.fed_logs.proofs.Rising.{times_rise}
@@ -65,7 +65,7 @@ did_so site after deeds was is (ends.Store error) did = tt
 did_so site after deeds was is ends.NoMemory did = tt
 
 module _ {S : Type 0} (tells : Type 0) (left : S → Option (List ℕ)) (faults : S → ℕ) (limit : ℕ) (at : TurnState) (old new : List (Lane S)) (seat next : MoverSeatState) (seats : List (Option ReaderSeatState)) (end : Group) (site after : SiteState) (was is : PlantState) (result : EpochEnd)
-    (none : seat.calls ≡ []) (lanes : AreLanesOf at.first limit old) (idle : site.waiting ≡ []) (low : site.time ≤ limit) (read : AllRead left faults limit seats old new) (moved : Moved tells seat next site after was is (end_result result)) (back : SeatsAreBack at next seats)
+    (none : seat.calls ≡ []) (lanes : AreLanesOf at.first limit old) (idle : site.waiting ≡ []) (marked : site.since ≡ 0) (low : site.time ≤ limit) (read : AllRead left faults limit seats old new) (moved : Moved tells seat next site after was is (end_result result)) (back : SeatsAreBack at next seats)
     (limited : list_all (is_at_limit limit) (map as_answer next.calls) ≡ true) (history : OneHistory at.first next.calls (map calls_at seats) end) (ended : IfReached result (λ g. g ≡ end)) where
   abbrev log : List Answer
   log = log_of at.first end next.calls seats history
@@ -120,6 +120,7 @@ module _ {S : Type 0} (tells : Type 0) (left : S → Option (List ℕ)) (faults 
     made = λ goes_on. made_so goes_on;
     pairs = moved.pairs;
     counted = moved.counted;
+    live = subst (λ (due : Bool). AreEntriesLive due site.told (deeds_of moved.steps)) (ap (nat_le 1) marked) moved.live;
     makes = makes_so;
     all = on_ok (end_result result)
         (λ (all : MakesAll site after (map as_answer moved.gained) (deeds_of moved.steps)). λ done knows. subst (λ (l : List Answer). KeepsAll site after done l (deeds_of moved.steps)) gained (all done knows)) moved.all;

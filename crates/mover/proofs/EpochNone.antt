@@ -48,6 +48,7 @@ module _ {S : Type 0} (tells : Type 0) (left : S → Option (List ℕ)) (faults 
     made = λ goes_on. refl;
     pairs = tt;
     counted = λ d fewer. omega arith;
+    live = tt;
     makes = λ done knows. (site.told, refl);
     all = λ done knows. record { known = done; makes = (refl, refl, refl); knows = knows };
     behind = record { level = refl; controls = refl; table = refl; rows = refl; time = refl };

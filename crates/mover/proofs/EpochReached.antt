@@ -116,6 +116,7 @@ at_time limit site after steps behind time changes going = record { deeds = deed
 pub may_begin : (tells : Type 0) (limit : ℕ) (seat : MoverSeatState) (end : Group) (after : SiteState) (plant : PlantState) → says end (MoverNote seat.last seat.known) → MayMove tells limit seat after plant → MayBeginEpoch tells limit end after plant
 may_begin tells limit seat end after plant noted may = record {
   rests = may.rests;
+  marked = may.marked;
   knows = record {
     rows = subst (λ (known : List (List KnownVolume)). KnowsRows known after.told) (sym noted.1) may.knows.rows;
     controls = subst (λ (known : List (List KnownVolume)). length known ≤ after.controls) (sym noted.1) may.knows.controls;

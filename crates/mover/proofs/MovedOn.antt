@@ -20,18 +20,20 @@ use Rattle.site_store.specs.Exceptions.{Exceptions, excepted_behind, excepted_by
 use Rattle.site_store.proofs.Composing.{begin_behind, go_on}
 use Rattle.site_store.proofs.Turning.{exceptions_in_turn, leave_in_turn}
 use Rattle.site_store.proofs.Widening.{begins_still, does_still}
-use Rattle.fed_logs.specs.Moves.{AreQuiet, MakesAllDeeds, MakesDeeds}
+use Rattle.fed_logs.specs.Moves.{AreEntriesLive, AreQuiet, MakesAllDeeds, MakesDeeds, is_mark_due_behind}
+use Rattle.fed_logs.proofs.LiveEntries.{live_in_turn}
 use Rattle.turn_group.specs.Calls.{MadeCall, as_answer}
 use Rattle.turn_group.specs.Seats.{MoverSeatState}
 use Rattle.site_store.specs.declared.store_error.StoreError.{StoreError}
 use Rattle.site_store.specs.Applying.{excepted_by_apply}
 use Rattle.site_store.specs.Sites.{SiteState}
 use Rattle.mover.specs.Dropping.{OwesExactly}
-use Rattle.mover.specs.Moves.{Fades, InPlacesByDeeds, KeepsPair, SessionGoesOn, AreHitsToldBy, BeginsAll, DidAll, IsLeftBehind, IsQuiet, MakesAll, Moved, SiteMoved, are_shown_at_cuts, is_shown_at_cut, none_untold, untold_hits}
+use Rattle.mover.specs.Moves.{Fades, InPlacesByDeeds, KeepsPair, SessionGoesOn, AreHitsToldBy, BeginsAll, DidAll, IsLeftBehind, IsQuiet, MakesAll, Moved, SiteMoved, are_shown_at_cuts, is_mark_due, is_shown_at_cut, none_untold, untold_hits}
 use Rattle.mover.specs.Steps.{AreMade}
 use Rattle.mover.proofs.KeptCalls.{all_then, all_then_all, quiet_then}
 use Rattle.mover.proofs.Making.{made_more, made_then}
 use Rattle.mover.proofs.DeedPairs.{by_deeds_then}
+use Rattle.mover.proofs.LiveRows.{due_append, live_by_deeds}
 use Rattle.mover.proofs.OwedExactly.{owed_then}
 use Rattle.mover.proofs.SamePairs.{still_then}
 
@@ -49,6 +51,19 @@ changes_append (s ∷ a) b = ap (λ (l : List Timed). s.changes ++ l) (changes_a
 by_deeds_on : (R : PairRow → PairRow → Type 0) (site mid : SiteState) (a b : List DeedOfChanges) → mid.told ≡ rows_behind (deeds_of a) site.told → InPlacesByDeeds R site.told (deeds_of a) → InPlacesByDeeds R mid.told (deeds_of b) → InPlacesByDeeds R site.told (deeds_of (a ++ b))
 by_deeds_on R site mid a b rows first then =
     subst (InPlacesByDeeds R site.told) (sym (deeds_append a b)) (by_deeds_then R (deeds_of a) (deeds_of b) site.told first (subst (λ (l : List PairRow). InPlacesByDeeds R l (deeds_of b)) rows then))
+
+-- A mark is due behind both parts exactly if one is behind the second, from what the first leaves.
+due_then : (site mid after : SiteState) (a b : List DeedOfChanges) → is_mark_due mid ≡ is_mark_due_behind (is_mark_due site) (deeds_of a) → is_mark_due after ≡ is_mark_due_behind (is_mark_due mid) (deeds_of b) → is_mark_due after ≡ is_mark_due_behind (is_mark_due site) (deeds_of (a ++ b))
+due_then site mid after a b first then =
+    then ∙ ap (λ (due : Bool). is_mark_due_behind due (deeds_of b)) first ∙ sym (due_append (is_mark_due site) (deeds_of a) (deeds_of b)) ∙ ap (is_mark_due_behind (is_mark_due site)) (sym (deeds_append a b))
+
+-- Entries of both parts are of live rows.
+live_then : (site mid : SiteState) (a b : List DeedOfChanges) → InPlacesByDeeds KeepsPair site.told (deeds_of a) → mid.told ≡ rows_behind (deeds_of a) site.told → is_mark_due mid ≡ is_mark_due_behind (is_mark_due site) (deeds_of a)
+    → AreEntriesLive (is_mark_due site) site.told (deeds_of a) → AreEntriesLive (is_mark_due mid) mid.told (deeds_of b) → AreEntriesLive (is_mark_due site) site.told (deeds_of (a ++ b))
+live_then site mid a b pairs rows due first then =
+    subst (AreEntriesLive (is_mark_due site) site.told) (sym (deeds_append a b))
+    (live_in_turn (is_mark_due site) site.told (deeds_of a) (deeds_of b) (live_by_deeds site.told (deeds_of a) pairs) first
+    (subst (λ (d : Bool). AreEntriesLive d (rows_behind (deeds_of a) site.told) (deeds_of b)) due (subst (λ (r : List PairRow). AreEntriesLive (is_mark_due mid) r (deeds_of b)) rows then)))
 
 pub by_changes_then : (level : Level) (time : ℕ) (rows : List PairRow) (a b : List DeedOfChanges) → AreByChanges level time rows a → AreByChanges level (time_meant_behind (deeds_of a) time) (rows_behind (deeds_of a) rows) b → AreByChanges level time rows (a ++ b)
 by_changes_then level time rows [] b are then = then
@@ -153,6 +168,7 @@ module _ (tells : Type 0) (site mid after : SiteState) (old between new : PlantS
       still = still_then site.told mid.told after.told first.all.still q.still;
     }) then.all;
     behind = on_ok result (λ (q : IsLeftBehind mid after b). subst (IsLeftBehind site after) (sym both) (behind_then site mid after a b first.behind q)) then.behind;
+    due = on_ok result (λ (d : is_mark_due after ≡ is_mark_due_behind (is_mark_due mid) b). due_then site mid after first.steps then.steps first.due d) then.due;
     begins = λ told. subst (λ (l : List Deed). BeginsAll site l old new) (sym both) (begins_then site mid old between new a b first.behind (first.did told) (then.begins told));
     did = λ told. on_ok result (λ (d : DidAll mid after b between new). subst (λ (l : List Deed). DidAll site after l old new) (sym both) (did_then site mid old between new a b first.behind after (first.did told) d)) (then.did told);
   }
@@ -209,6 +225,7 @@ module _ (tells : Type 0) (seat turn next : MoverSeatState) (site mid after : Si
         let one = first.counted d (omega (arith, low, two)) in
         let sum : hit_count d (changes_of (first.steps ++ then.steps)) ≡ hit_count d (changes_of first.steps) + hit_count d (changes_of then.steps) = ap (hit_count d) (changes_append first.steps then.steps) ∙ counts_append d (changes_of first.steps) (changes_of then.steps) in
         omega (arith, one, two, sum);
+    live = live_then site mid first.steps then.steps first.pairs first.behind.rows first.due first.live then.live;
     makes = λ done knows.
         let one = first.all done knows in
         subst (λ (l : List Deed). MakesDeeds site.time site.told done (map as_answer (first.gained ++ then.gained)) l) (sym both)
@@ -229,6 +246,7 @@ module _ (tells : Type 0) (seat turn next : MoverSeatState) (site mid after : Si
         subst (OwesExactly site.told after.told (map as_answer (first.gained ++ then.gained))) (sym both)
         (subst (λ (l : List Answer). OwesExactly site.told after.told l (a ++ b)) (sym answers)
         (owed_then site.told mid.told after.told run more a b first.pairs then.pairs first.behind.rows q.rows first.owed o))) then.owed then.behind;
+    due = on_ok result (λ (d : is_mark_due after ≡ is_mark_due_behind (is_mark_due mid) b). due_then site mid after first.steps then.steps first.due d) then.due;
     begins = λ told. subst (λ (l : List Deed). BeginsAll site l old new) (sym both) (begins_then site mid old between new a b first.behind (first.did told) (then.begins told));
     did = λ told. on_ok result (λ (d : DidAll mid after b between new). subst (λ (l : List Deed). DidAll site after l old new) (sym both) (did_then site mid old between new a b first.behind after (first.did told) d)) (then.did told);
   }

@@ -1,5 +1,5 @@
 -- The mover's calls with the deeds of its site: a form, with the group's log or without, and the drops behind it.
-use Rattle.std.proofs.Common.{◌≡◌, ◌⊎◌, inl, inr, ℕ, ◌≤◌, ◌<◌, Bool, true, false, not, cond, nat_eq, nat_lt, ◌==◌, ◌&&◌, ◌||◌, List, [], ◌∷◌, ◌++◌, length, map, Option, Some, Result, Ok, Err, refl, sym, ap, subst, ◌∙◌, arith, true≢false, slice_get, append-nil, append_assoc, OnOk}
+use Rattle.std.proofs.Common.{◌≡◌, ◌⊎◌, inl, inr, ℕ, ◌≤◌, ◌<◌, Bool, true, false, not, cond, nat_eq, nat_le, nat_lt, ◌==◌, ◌&&◌, ◌||◌, List, [], ◌∷◌, ◌++◌, length, map, Option, Some, Result, Ok, Err, refl, sym, ap, subst, ◌∙◌, arith, true≢false, slice_get, append-nil, append_assoc, OnOk}
 use Rattle.std.specs.List.{list_all, list_any}
 use Rattle.std.proofs.lemmas.Bool.{and_parts, eqb-false, eqb-true, ltb-false, ltb-true, or_left, or_right}
 use Rattle.tod_stamp.specs.declared.stamp.Stamp.{Stamp}
@@ -33,7 +33,7 @@ use Rattle.site_store.proofs.Single.{no_call}
 use Rattle.site_store.proofs.Turning.{leave_in_turn}
 use Rattle.site_store.proofs.Widening.{begins_still, does_still}
 use Rattle.fed_logs.specs.LogLaws.{WasShown}
-use Rattle.fed_logs.specs.Moves.{AreQuiet, Following, HasRowIn, IsDuplex, KeepsCall, KeepsShown, MakesAllDeeds, MakesDeeds, Plans, IsUnsettled, ShowsNothing, is_plan_shown_done, plans_with_shown}
+use Rattle.fed_logs.specs.Moves.{AreEntriesLive, AreQuiet, Following, HasRowIn, IsDuplex, IsUnsettled, KeepsCall, KeepsShown, MakesAllDeeds, MakesDeeds, Plans, ShowsNothing, is_mark_due_behind, is_plan_shown_done, plans_with_shown}
 use Rattle.turn.specs.Turn.{ticketed}
 use Rattle.turn_group.specs.Calls.{MadeCall, as_answer}
 use Rattle.turn_group.specs.Notes.{is_of_carried}
@@ -48,12 +48,13 @@ use Rattle.site_store.specs.Standing.{Leaves, StandsFast}
 use Rattle.site_store.proofs.ByWays.{RecordWay, by_ways}
 use Rattle.mover.specs.Dropping.{AreOfControls, Drops, OwesExactly, VolumeDrop, are_states_of, answer_of_drop, drops_from, known_behind, stood_duplex}
 use Rattle.mover.specs.Groups.{are_none, is_to_log, matures}
-use Rattle.mover.specs.Moves.{Fades, AreHitsCounted, BeginsAll, DidAll, IsLeftBehind, IsInStep, IsStillAt, KeepPairs, KeepsAll, KeepsPair, KnowsDuplex, KnowsRows, KnowsSite, MaySettle, Moved, SiteMoved, are_shown_at_cuts, is_broken_at, is_shown_at_cut, is_worked_on, untold_hits}
+use Rattle.mover.specs.Moves.{Fades, AreHitsCounted, BeginsAll, DidAll, IsLeftBehind, IsInStep, IsStillAt, KeepPairs, KeepsAll, KeepsPair, KnowsDuplex, KnowsRows, KnowsSite, MaySettle, Moved, SiteMoved, are_shown_at_cuts, is_broken_at, is_mark_due, is_shown_at_cut, is_worked_on, untold_hits}
 use Rattle.mover.specs.Slots.{is_track_of_mover}
 use Rattle.mover.proofs.DeedPairs.{by_deeds_more}
 use Rattle.mover.proofs.DropKnown.{knows_behind, same_controls}
 use Rattle.mover.proofs.InSlots.{slots_logged}
 use Rattle.mover.proofs.KeptCalls.{all_then, drops_kept, knows_still, plans_behind, quiet_before_all}
+use Rattle.mover.proofs.LiveRows.{one_is_due, quiet_live}
 use Rattle.mover.proofs.LogMoves.{entries_of_live, logged_fewer, logged_rest, logged_still, logged_told, no_entries}
 use Rattle.mover.proofs.LogSteps.{LogSteps, follow_of, log_steps}
 use Rattle.mover.proofs.MovedOn.{in_rows_alone}
@@ -132,10 +133,12 @@ module _ (tells : Type 0) (seat : MoverSeatState) (site after : SiteState) (old 
     going = tt;
     pairs = by_deeds_more Fades KeepsPair fade_pair site.told (deeds_of moved.steps) moved.fades;
     counted = counted_of (Err error) moved;
+    live = quiet_live (is_mark_due site) site.told site.time site.told (deeds_of moved.steps) moved.quiet.0 moved.quiet.1;
     makes = λ done knows. moved.quiet;
     all = tt;
     behind = tt;
     owed = tt;
+    due = tt;
     begins = moved.begins;
     did = moved.did;
   }
@@ -171,12 +174,14 @@ module _ (tells : Type 0) (seat : MoverSeatState) (site after : SiteState) (old 
       going = moved.going;
       pairs = by_deeds_more Fades KeepsPair fade_pair site.told (deeds_of moved.steps) moved.fades;
       counted = counted_of (Ok tt) moved;
+      live = quiet_live (is_mark_due site) site.told site.time site.told (deeds_of moved.steps) after.told moved.all.suspends;
       makes = λ done knows. subst (λ (l : List Answer). MakesDeeds site.time site.told done l (deeds_of moved.steps)) (sym drops.are)
           (let k = keeps done knows in makes_of_all (map answer_of_drop dropped) site.time site.told done (deeds_of moved.steps) after.time after.told k.known k.makes);
       all = λ done knows. subst (λ (l : List Answer). KeepsAll site after done l (deeds_of moved.steps)) (sym drops.are) (keeps done knows);
       behind = moved.behind;
       owed = subst (λ (l : List Answer). OwesExactly site.told after.told l (deeds_of moved.steps)) (sym drops.are)
           (owed_once was site.told after.told (deeds_of moved.steps) states apart_then (λ place r s at there gone. stood_faded place site.told (deeds_of moved.steps) r moved.fades at));
+      due = moved.due;
       begins = moved.begins;
       did = moved.did;
     }
@@ -288,10 +293,12 @@ module _ (tells : Type 0) (limit : Stamp) (r : forming.Forming) (group : FormedG
     going = λ going. going;
     pairs = tt;
     counted = λ d low. omega arith;
+    live = tt;
     makes = λ done known. subst (λ (l : List Answer). MakesDeeds site.time site.told done l []) (sym gained_is) (let k = keeps_nothing done known in makes_of_all (form_answer limit r group ∷ []) site.time site.told done [] site.time site.told k.known k.makes);
     all = λ done known. subst (λ (l : List Answer). KeepsAll site site done l []) (sym gained_is) (keeps_nothing done known);
     behind = record { level = refl; controls = refl; table = refl; rows = refl; time = refl };
     owed = subst (λ (l : List Answer). OwesExactly site.told site.told l []) (sym gained_is) (owed_none site.told (form_answer limit r group ∷ []) [] (λ k v. refl));
+    due = refl;
     begins = λ told e stands. have_begun plant plant (excepted_by_apply site e) site.told [] (no_call plant (excepted_by_apply site e) site.told);
     did = λ told e stands. record { does = no_call plant (excepted_by_apply site e) site.told; still = e; stands = stands; fewer = λ d x is. is };
   }
@@ -318,7 +325,7 @@ logged_up group site is = by (nat_eq group.cut.0 site.time) refl is
     by true e is = let same = eqb-true group.cut.0 site.time e in omega (arith, same)
     by false e is = let up = ltb-true site.time group.cut.0 is in omega (arith, up)
 
-module _ (tells : Type 0) (limit : Stamp) (r : forming.Forming) (group : FormedGroup) (seat turn : MoverSeatState) (site next : SiteState) (old new : PlantState) (result : Result (Unit {0}) StoreError) (f : FormsGroup limit r group seat turn) (knows : KnowsSite limit.0 seat site) (apart : none_clash site.told ≡ true) (idle : site.waiting ≡ [])
+module _ (tells : Type 0) (limit : Stamp) (r : forming.Forming) (group : FormedGroup) (seat turn : MoverSeatState) (site next : SiteState) (old new : PlantState) (result : Result (Unit {0}) StoreError) (f : FormsGroup limit r group seat turn) (knows : KnowsSite limit.0 seat site) (apart : none_clash site.told ≡ true) (idle : site.waiting ≡ []) (marked : site.since ≡ 0)
     (is_logged : is_to_log group site.time site.told ≡ true) (carried : list_all (is_of_carried seat.known) group.entries ≡ true) (logs : LogsGroup tells group site next old new result) (leaves : OnOk result (Leaves tells (λ e. e) site next old new)) (fails : FailByCounts site.failed next.failed old.faults new.faults) (later : (d : ℕ) → old.faults (Volume d) ≤ new.faults (Volume d)) where
   abbrev way : RecordWay
   way = logs.way
@@ -354,6 +361,13 @@ module _ (tells : Type 0) (limit : Stamp) (r : forming.Forming) (group : FormedG
       let rise = hits_rise site.failed next.failed old.faults new.faults fails d site.told low (later d) in
       let none : once (is_among d (hit_now site.failed site.told)) ≡ 0 = ap (λ (hit : List ℕ). once (is_among d hit)) knows.told in
       omega (arith, most, rise, none)
+
+  -- The entries are of rows that are live when the group is formed. No mark is due then.
+  live : AreEntriesLive (is_mark_due site) site.told (deeds_of steps.steps)
+  live =
+      let entries = entries_of_live seat.known site.told group.entries knows.rows carried in
+      subst (λ (due : Bool). AreEntriesLive due site.told (deeds_of steps.steps)) (sym (ap (nat_le 1) marked)) (subst (AreEntriesLive false site.told) (sym steps.deeds_are)
+      (by_ways (λ (w : RecordWay). AreEntriesLive false site.told (log_deeds w site group early next.failed)) (entries, tt) (entries, tt) (entries, tt) way))
 
   begins : tells → BeginsAll site (deeds_of steps.steps) old new
   begins told e stands = subst (λ (l : List Deed). BeginsDeeds (excepted_by_apply site e) site.told l old new) (sym steps.deeds_are)
@@ -397,6 +411,7 @@ module _ (tells : Type 0) (limit : Stamp) (r : forming.Forming) (group : FormedG
     going = tt;
     pairs = steps.pairs;
     counted = counted;
+    live = live;
     makes = λ done known. subst (λ (l : List Answer). MakesDeeds site.time site.told done l (deeds_of steps.steps)) (sym (made_is [])) (record {
       quiet = [];
       next = site.told;
@@ -408,6 +423,7 @@ module _ (tells : Type 0) (limit : Stamp) (r : forming.Forming) (group : FormedG
     all = tt;
     behind = tt;
     owed = tt;
+    due = tt;
     begins = begins;
     did = λ told. tt;
   })
@@ -483,6 +499,14 @@ module _ (tells : Type 0) (limit : Stamp) (r : forming.Forming) (group : FormedG
           then : Plans
           then = plans_with_shown shown done
 
+      -- Behind it a mark is due.
+      due : is_mark_due next ≡ is_mark_due_behind (is_mark_due site) (deeds_of steps.steps)
+      due =
+          ap is_mark_due is_next ∙ one_is_due (behind_way way site).since ∙ sym (ap (is_mark_due_behind (is_mark_due site)) steps.deeds_are ∙ due_by way)
+        where
+          due_by : (w : RecordWay) → is_mark_due_behind (is_mark_due site) (log_deeds w site group early next.failed) ≡ true
+          due_by = by_ways (λ (w : RecordWay). is_mark_due_behind (is_mark_due site) (log_deeds w site group early next.failed) ≡ true) refl refl refl
+
       behind : IsLeftBehind site next (deeds_of steps.steps)
       behind = record {
         level = ap (λ (s : SiteState). s.level) is_next ∙ level_of way;
@@ -531,10 +555,12 @@ module _ (tells : Type 0) (limit : Stamp) (r : forming.Forming) (group : FormedG
         going = λ going. ap (λ (s : SiteState). s.mark.ended) is_next ∙ by_ways (λ (w : RecordWay). (behind_way w site).mark.ended ≡ site.mark.ended) refl refl refl way ∙ going;
         pairs = steps.pairs;
         counted = counted;
+        live = live;
         makes = λ done known. subst (λ (l : List Answer). MakesDeeds site.time site.told done l (deeds_of steps.steps)) (sym run_is) (let k = keeps_logged done known in makes_of_all run site.time site.told done (deeds_of steps.steps) next.time next.told k.known k.makes);
         all = λ done known. subst (λ (l : List Answer). KeepsAll site next done l (deeds_of steps.steps)) (sym run_is) (keeps_logged done known);
         behind = behind;
         owed = subst (λ (l : List Answer). OwesExactly site.told next.told l (deeds_of steps.steps)) (sym run_is) owed_run;
+        due = due;
         begins = begins;
         did = did;
       }
@@ -570,10 +596,12 @@ nothing_done tells seat site plant = record {
   going = λ going. going;
   pairs = tt;
   counted = λ d low. omega arith;
+  live = tt;
   makes = λ done known. (site.told, refl);
   all = λ done known. record { known = done; makes = (refl, refl, refl); knows = known };
   behind = record { level = refl; controls = refl; table = refl; rows = refl; time = refl };
   owed = owed_none site.told [] [] (λ k v. refl);
+  due = refl;
   begins = λ told e stands. have_begun plant plant (excepted_by_apply site e) site.told [] (no_call plant (excepted_by_apply site e) site.told);
   did = λ told e stands. record { does = no_call plant (excepted_by_apply site e) site.told; still = e; stands = stands; fewer = λ d x is. is };
 }

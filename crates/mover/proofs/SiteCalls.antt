@@ -38,7 +38,7 @@ use Rattle.site_store.specs.Exceptions.{Exceptions, excepted_behind, is_kept, is
 use Rattle.site_store.proofs.Moments.{have_begun}
 use Rattle.site_store.proofs.Single.{no_call}
 use Rattle.site_store.proofs.Widening.{begins_still, does_still}
-use Rattle.fed_logs.specs.Moves.{AreFewer, AreQuiet}
+use Rattle.fed_logs.specs.Moves.{AreFewer, AreQuiet, is_mark_due_behind}
 use Rattle.site_store.specs.declared.store_error.StoreError.{StoreError}
 use Rattle.site_store.specs.declared.store_error.StoreError.TheVariants.{Spent}
 use Rattle.site_store.specs.Applying.{Applies, AppliesToVolume, DoesApply, excepted_by_apply, is_applied}
@@ -52,7 +52,7 @@ use Rattle.site_store.specs.Standing.{FitsPlant, Leaves, SiteStands, StandsFast,
 use Rattle.site_store.specs.Waiting.{IsOfWaiting}
 use Rattle.site_store.proofs.ByWays.{RecordWay, by_ways, way_here, way_marked, way_switched}
 use Rattle.mover.specs.Steps.{AreMade}
-use Rattle.mover.specs.Moves.{Fades, SessionGoesOn, IsOfMover, KeepPairs, KeepsPair, MoverWorks, SiteMoved, is_device_of_row, is_worked_on, most_faults, untold_hits}
+use Rattle.mover.specs.Moves.{Fades, SessionGoesOn, IsOfMover, KeepPairs, KeepsPair, MoverWorks, SiteMoved, is_device_of_row, is_mark_due, is_worked_on, most_faults, untold_hits}
 use Rattle.mover.proofs.InSlots.{slots_applied, slots_at_rest, slots_stay}
 use Rattle.mover.proofs.SamePairs.{apart_still, each_mapped, each_more, each_self, fade_pair, fade_self, fewer_of, gone_then, same_pair, still_self}
 use Rattle.mover.proofs.Making.{hits_made, mark_made}
@@ -174,6 +174,7 @@ module _ (tells : Type 0) (site next : SiteState) (old new : PlantState) (fits :
       rows = told_is;
       time = ap (λ (s : SiteState). s.time) applies.next_is;
     };
+    due = ap is_mark_due applies.next_is;
     begins = λ told e stands. have_begun old new (excepted_by_apply site e) site.told [] (does told e);
     did = λ told e stands. record {
       does = does told e;
@@ -327,8 +328,8 @@ module _ (tells : Type 0) (site next : SiteState) (old new : PlantState) (result
 
   pub tell_moved : (deed : Deed) → rows_by_deed deed ≡ next_rows → time_by_deed site.time deed ≡ site.time → entries_by_deed deed ≡ [] → AreQuiet site.time site.told (deed ∷ []) next_rows
       → (site.mark.ended ≡ false → (answers : List Answer) → AreMade site.level false answers site.time site.told NoneDue (record { deed = deed; changes = changes } ∷ []) NoneDue) → OnOk result (Tells site next)
-      → (tells → (e : Exceptions) → SiteStands e site old → BeginsDeeds e site.told (deed ∷ []) old new) → (tells → OnOk result ((e : Exceptions) → SiteStands e site old → DoesDeeds e site.told (deed ∷ []) old new)) → SiteMoved tells site next old new result
-  tell_moved deed rows_are time_is none quiet made tell begins does = record {
+      → OnOk result (is_mark_due next ≡ is_mark_due_behind (is_mark_due site) (deed ∷ [])) → (tells → (e : Exceptions) → SiteStands e site old → BeginsDeeds e site.told (deed ∷ []) old new) → (tells → OnOk result ((e : Exceptions) → SiteStands e site old → DoesDeeds e site.told (deed ∷ []) old new)) → SiteMoved tells site next old new result
+  tell_moved deed rows_are time_is none quiet made tell due begins does = record {
     steps = record { deed = deed; changes = changes } ∷ [];
     changes = (
       record {
@@ -346,6 +347,7 @@ module _ (tells : Type 0) (site next : SiteState) (old new : PlantState) (result
     quiet = (next_rows, quiet);
     all = on_ok result (λ (t : Tells site next). record { suspends = subst (λ (l : List PairRow). AreQuiet site.time site.told (deed ∷ []) l) (sym t.rows) quiet; time = t.time; still = subst (λ (l : List PairRow). KeepPairs site.told l) (sym t.rows) (told_still site next.failed) }) tell;
     behind = on_ok result (λ (t : Tells site next). record { level = t.level; controls = t.controls; table = t.table; rows = t.rows ∙ sym rows_are; time = t.time ∙ sym time_is }) tell;
+    due = due;
     begins = λ told e stands. begins_still old new e (excepted_by_apply site e) site.told (same e) (deed ∷ []) (begins told e stands);
     did = λ told. on_both result (λ (d : (e : Exceptions) → SiteStands e site old → DoesDeeds e site.told (deed ∷ []) old new) (l : StandsFewer site next old new).
         λ e stands. let s = l e stands in record {
@@ -381,6 +383,7 @@ nothing_moved tells site plant value = record {
   quiet = (site.told, refl);
   all = record { suspends = refl; time = refl; still = still_self site.told };
   behind = record { level = refl; controls = refl; table = refl; rows = refl; time = refl };
+  due = refl;
   begins = λ told e stands. have_begun plant plant (excepted_by_apply site e) site.told [] (no_call plant (excepted_by_apply site e) site.told);
   did = λ told e stands. record { does = no_call plant (excepted_by_apply site e) site.told; still = e; stands = stands; fewer = λ d x is. is };
 }
@@ -482,14 +485,20 @@ module _ (tells : Type 0) {P : Type 0} (state : P → PlantState) (site next : S
       Do : List Deed → Type 0
       Do deeds = tells → OnOk result ((e : Exceptions) → SiteStands e site (state was) → DoesDeeds e site.told deeds (state was) (state is))
 
+      Behind : RecordWay → SiteState
+      Behind way = with_suspensions (state was).journals way site.time moments.items next.failed site
+
       Goes : RecordWay → Type 0
-      Goes way = Begin (suspension_deeds way site site.time next.failed) → Do (suspension_deeds way site site.time next.failed) → SiteMoved tells site next (state was) (state is) result
+      Goes way = OnOk result (next ≡ Behind way) → Begin (suspension_deeds way site site.time next.failed) → Do (suspension_deeds way site site.time next.failed) → SiteMoved tells site next (state was) (state is) result
 
-      by_record : hit_now site.failed site.told ≢ [] → Begin (Changed site.time (told_rows site next.failed) ∷ []) → Do (Changed site.time (told_rows site next.failed) ∷ []) → SiteMoved tells site next (state was) (state is) result
-      by_record there begins does = tell_moved tells site next (state was) (state is) result apart idle fails later fewer_stand (Changed site.time (told_rows site next.failed)) refl refl refl (refl, told_fewer site next.failed, refl) (λ going answers. hits_made site.level answers site.time site.told next.failed (still_hit site.failed next.failed (state was).faults (state is).faults site.told fails there)) suspend_tells begins does
+      by_record : hit_now site.failed site.told ≢ [] → OnOk result (is_mark_due next ≡ is_mark_due site) → Begin (Changed site.time (told_rows site next.failed) ∷ []) → Do (Changed site.time (told_rows site next.failed) ∷ []) → SiteMoved tells site next (state was) (state is) result
+      by_record there due begins does = tell_moved tells site next (state was) (state is) result apart idle fails later fewer_stand (Changed site.time (told_rows site next.failed)) refl refl refl (refl, told_fewer site next.failed, refl) (λ going answers. hits_made site.level answers site.time site.told next.failed (still_hit site.failed next.failed (state was).faults (state is).faults site.told fails there)) suspend_tells due begins does
 
-      by_mark : Begin (Marked site.at site.mark.ended (told_rows site next.failed) ∷ []) → Do (Marked site.at site.mark.ended (told_rows site next.failed) ∷ []) → SiteMoved tells site next (state was) (state is) result
-      by_mark begins does = tell_moved tells site next (state was) (state is) result apart idle fails later fewer_stand (Marked site.at site.mark.ended (told_rows site next.failed)) refl refl refl (told_fewer site next.failed, refl) (λ going answers. mark_made site.level answers site.at site.mark.ended going site.time site.told next.failed) suspend_tells begins does
+      same_due : (way : RecordWay) → is_mark_due (Behind way) ≡ is_mark_due site → OnOk result (next ≡ Behind way) → OnOk result (is_mark_due next ≡ is_mark_due site)
+      same_due way same left = on_ok result (λ (e : next ≡ Behind way). ap is_mark_due e ∙ same) left
+
+      by_mark : OnOk result (next ≡ Behind way_marked) → Begin (Marked site.at site.mark.ended (told_rows site next.failed) ∷ []) → Do (Marked site.at site.mark.ended (told_rows site next.failed) ∷ []) → SiteMoved tells site next (state was) (state is) result
+      by_mark left begins does = tell_moved tells site next (state was) (state is) result apart idle fails later fewer_stand (Marked site.at site.mark.ended (told_rows site next.failed)) refl refl refl (told_fewer site next.failed, refl) (λ going answers. mark_made site.level answers site.at site.mark.ended going site.time site.told next.failed) suspend_tells (on_ok result (λ (e : next ≡ Behind way_marked). ap is_mark_due e) left) begins does
 
       some_deeds : hit_now site.failed site.told ≢ [] → suspension_deeds_of moments.way site site.time next.failed ≡ suspension_deeds moments.way site site.time next.failed
       some_deeds some = by_hit (hit_now site.failed site.told) some
@@ -502,7 +511,7 @@ module _ (tells : Type 0) {P : Type 0} (state : P → PlantState) (site next : S
       by [] none = let n = ok.nothing none in stays result n.0 n.1 n.2
       by (d ∷ hits) some =
           let there : hit_now site.failed site.told ≢ [] = λ none. let clash : d ∷ hits ≡ [] = sym some ∙ none in cc clash in
-          by_ways Goes (by_record there) (by_record there) by_mark moments.way (subst Begin (some_deeds there) moments.begins) (subst Do (some_deeds there) moments.does)
+          by_ways Goes (λ left. by_record there (same_due way_here refl left)) (λ left. by_record there (same_due way_switched refl left)) by_mark moments.way (moments.left there) (subst Begin (some_deeds there) moments.begins) (subst Do (some_deeds there) moments.does)
 
   pub suspend_works : HasStoreCause (state was).faults (state is).faults result → VolumesStay tells (state was) (state is) → StandsFast tells site (state was) → (IsErrOf result Spent → (next ≡ site) × (is ≡ was)) → MoverWorks tells site next (state was) (state is) result
   suspend_works cause stay fast uncalled = record {
@@ -543,13 +552,16 @@ module _ (tells : Type 0) {P : Type 0} (state : P → PlantState) (site next : S
   }) ok.next_is
 
   pub mark_moved : SiteMoved tells site next (state was) (state is) result
-  mark_moved = tell_moved tells site next (state was) (state is) result apart idle fails later fewer_stand deed refl refl refl (told_fewer site next.failed, refl) (λ going answers. mark_made site.level answers site.at ended goes_on site.time site.told next.failed) mark_tells
+  mark_moved = tell_moved tells site next (state was) (state is) result apart idle fails later fewer_stand deed refl refl refl (told_fewer site next.failed, refl) (λ going answers. mark_made site.level answers site.at ended goes_on site.time site.told next.failed) mark_tells mark_due
       (λ told e stands. subst (λ (x : Exceptions). BeginsDeeds x site.told (deed ∷ []) (state was) (state is)) (waits e) (moments.begins told e stands))
       (λ told. on_ok result (λ (does : (e : Exceptions) → SiteStands e site (state was) → DoesDeeds (excepted_with_waiting site e) site.told (deed ∷ []) (state was) (state is)). λ e stands.
       subst (λ (x : Exceptions). DoesDeeds x site.told (deed ∷ []) (state was) (state is)) (waits e) (does e stands)) (moments.does told))
     where
       deed : Deed
       deed = Marked site.at ended (told_rows site next.failed)
+
+      mark_due : OnOk result (is_mark_due next ≡ false)
+      mark_due = on_ok result (λ (e : next ≡ behind_mark ended (rows_at_mark site.level site next.failed) next.failed site). ap is_mark_due e) ok.next_is
 
       waits : (e : Exceptions) → excepted_with_waiting site e ≡ e
       waits e = no_more_waits site e idle

@@ -21,7 +21,7 @@ use Rattle.fed_logs.specs.Deeds.{held_behind}
 use Rattle.fed_logs.specs.Feeds.{AllGoUpTo, part_of_mover, part_of_reader, truth_of}
 use Rattle.fed_logs.specs.LogLaws.{ReportsBreak}
 use Rattle.fed_logs.specs.Logs.{AreSized, AwaitsBreak, BeginsLog, HoldTruth, IsFedLog, Sizes, is_call_of_seat}
-use Rattle.fed_logs.specs.Moves.{MakesDeeds, Plans}
+use Rattle.fed_logs.specs.Moves.{AreEntriesLive, MakesDeeds, Plans}
 use Rattle.fed_logs.specs.ShownBreaks.{BreaksAreToCome, BrokeAsTraces}
 use Rattle.fed_logs.specs.Reads.{AreLeft, HasRead, IsStillToCome, MayTurnOutOf, Outlook, ReadsOn}
 use Rattle.sidefile.specs.Ahead.{IsAhead}
@@ -106,6 +106,7 @@ LaneWent left faults run old new =
 --   limited: each form takes the limit
 --   made: each deed is a record or a mark that tells failures, or the record of a group that a form showed, and at the end nothing is due
 --   pairs: each deed keeps each row's pair
+--   live: each group's entries are of rows that were live when it was formed, by the mark behind the group before, too
 --   behind, owed: after Ok the site is what the deeds leave, and the volume of each row was dropped exactly for what it owes more
 --   numbers: numbers of records and of marks are used up by the forms of the run alone, and Spent comes only where they are near their end
 pub record EpochRun {S : Type 0} (left : S → Option (List ℕ)) (faults : S → ℕ) (limit : ℕ) (group : Group) (old new : List (Lane S)) (site after : SiteState) (was is : PlantState) (result : EpochEnd) : Type 0 where
@@ -121,6 +122,7 @@ pub record EpochRun {S : Type 0} (left : S → Option (List ℕ)) (faults : S �
   pub made : site.mark.ended ≡ false → AreMade site.level false (part_of_mover log) site.time site.told NoneDue steps NoneDue
   pub pairs : InPlacesByDeeds KeepsPair site.told (deeds_of steps)
   pub counted : AreHitsCounted steps was is
+  pub live : AreEntriesLive false site.told (deeds_of steps)
   pub makes : (done : Plans) → KnowsDuplex site.told done → MakesDeeds site.time site.told done (part_of_mover log) (deeds_of steps)
   pub all : OnOk (end_result result) ((done : Plans) → KnowsDuplex site.told done → KeepsAll site after done (part_of_mover log) (deeds_of steps))
   pub behind : OnOk (end_result result) (IsLeftBehind site after (deeds_of steps))

@@ -1,5 +1,5 @@
 -- What the mover does: the deeds of its site, kept of its calls, and what it knows of rows.
-use Rattle.std.specs.Prelude.{◌≡◌, ◌⊎◌, ℕ, ◌+◌, ◌-◌, ◌*◌, ◌^◌, ◌<◌, ◌≤◌, ◌==◌, ◌&&◌, ◌||◌, not, if◌then◌else◌, List, [], ◌∷◌, ◌++◌, length, map, Bool, true, false, find, slice_index_or, Option, Some, None, Result, OnOk, IsErrOf, IsSomeAnd, IsTrue}
+use Rattle.std.specs.Prelude.{◌≡◌, ◌⊎◌, ℕ, ◌+◌, ◌-◌, ◌*◌, ◌^◌, ◌<◌, ◌≤◌, ◌==◌, ◌&&◌, ◌||◌, not, nat_le, if◌then◌else◌, List, [], ◌∷◌, ◌++◌, length, map, Bool, true, false, find, slice_index_or, Option, Some, None, Result, OnOk, IsErrOf, IsSomeAnd, IsTrue}
 use Rattle.std.specs.List.{Contains, list_all, list_any}
 use Rattle.tod_stamp.specs.declared.limits.TheConstants.{TRACKS_OF_CYLINDER}
 use Rattle.tod_stamp.specs.declared.stamp.Stamp.{Stamp}
@@ -22,7 +22,7 @@ use Rattle.row_changes.specs.Toward.{hit_count}
 use Rattle.site_store.specs.DeedChanges.{AreByChanges, DeedOfChanges, changes_of, deeds_of}
 use Rattle.site_store.specs.Doing.{BeginsDeeds, DoesDeeds}
 use Rattle.site_store.specs.Exceptions.{Exceptions, excepted_behind}
-use Rattle.fed_logs.specs.Moves.{AreQuiet, HasRowIn, IsDuplex, Plans, MakesDeeds, MakesAllDeeds}
+use Rattle.fed_logs.specs.Moves.{AreEntriesLive, AreQuiet, HasRowIn, IsDuplex, Plans, MakesDeeds, MakesAllDeeds, is_mark_due_behind}
 use Rattle.turn_group.specs.Calls.{MadeCall, as_answer}
 use Rattle.turn_group.specs.Notes.{KnownVolume}
 use Rattle.turn_group.specs.Seats.{MoverSeatState}
@@ -125,9 +125,14 @@ pub record KnowsSite (limit : ℕ) (seat : MoverSeatState) (site : SiteState) : 
   pub below : site.time ≤ limit
   pub told : hit_now site.failed site.told ≡ []
 
--- Before a round: every item of the site was applied.
+-- whether a mark is due: a group was logged since the last one
+abbrev pub is_mark_due : SiteState → Bool
+is_mark_due site = nat_le 1 site.since
+
+-- Before a round: every item of the site was applied, and no group was logged since the last mark.
 pub record MayMove (tells : Type 0) (limit : ℕ) (seat : MoverSeatState) (site : SiteState) (plant : PlantState) : Type 0 where
   pub rests : MayRecord tells site plant
+  pub marked : site.since ≡ 0
   pub knows : KnowsSite limit seat site
 
 -- In a round: items of the site may wait.
@@ -215,7 +220,9 @@ AreHitsCounted steps old new = (d : ℕ) → new.faults (Volume d) < most_faults
 --   made: each deed is a record or a mark that tells failures, or the record of a group that a form showed, and at the end nothing is due
 --   going: the session goes on by the mark
 --   pairs: each deed keeps each row's pair
+--   live: each group's entries are of rows that were live when it was formed, by the mark that was due before, too
 --   behind, owed: after Ok the site is what the deeds leave, and the volume of each row was dropped exactly for what it owes more
+--   due: after Ok a mark is due exactly if one is behind the deeds
 --   begins: at every moment the first of the deeds are seen, from each track that isn't excepted
 --   did: after Ok all of them are done
 pub record Moved (tells : Type 0) (seat next : MoverSeatState) (site after : SiteState) (old new : PlantState) (result : Result (Unit {0}) StoreError) : Type 0 where
@@ -227,10 +234,12 @@ pub record Moved (tells : Type 0) (seat next : MoverSeatState) (site after : Sit
   pub going : OnOk result (SessionGoesOn site after)
   pub pairs : InPlacesByDeeds KeepsPair site.told (deeds_of steps)
   pub counted : AreHitsCounted steps old new
+  pub live : AreEntriesLive (is_mark_due site) site.told (deeds_of steps)
   pub makes : Makes site (map as_answer gained) (deeds_of steps)
   pub all : OnOk result (MakesAll site after (map as_answer gained) (deeds_of steps))
   pub behind : OnOk result (IsLeftBehind site after (deeds_of steps))
   pub owed : OnOk result (OwesExactly site.told after.told (map as_answer gained) (deeds_of steps))
+  pub due : OnOk result (is_mark_due after ≡ is_mark_due_behind (is_mark_due site) (deeds_of steps))
   pub begins : tells → BeginsAll site (deeds_of steps) old new
   pub did : tells → OnOk result (DidAll site after (deeds_of steps) old new)
 
@@ -265,6 +274,7 @@ pub record SiteMoved (tells : Type 0) (site after : SiteState) (old new : PlantS
   pub quiet : (next : List PairRow) × AreQuiet site.time site.told (deeds_of steps) next
   pub all : OnOk result (IsQuiet site after (deeds_of steps))
   pub behind : OnOk result (IsLeftBehind site after (deeds_of steps))
+  pub due : OnOk result (is_mark_due after ≡ is_mark_due_behind (is_mark_due site) (deeds_of steps))
   pub begins : tells → BeginsAll site (deeds_of steps) old new
   pub did : tells → OnOk result (DidAll site after (deeds_of steps) old new)
 

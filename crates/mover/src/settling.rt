@@ -1,13 +1,13 @@
 //! The second half of the mover's part of a round: the last group is applied, failures are told, a mark is made if it is due, and the
 //! volumes of pairs that are suspended or hit now are dropped.
 
-ghost use Rattle.std.specs.Prelude.{◌≡◌, ◌<◌, ℕ, nat_le, [], false, length, OnOk, IsTrue};
+ghost use Rattle.std.specs.Prelude.{◌≡◌, ◌<◌, ℕ, [], false, length, OnOk, IsTrue};
 ghost use Rattle.pair_table.specs.Rows.{is_suspended};
 ghost use Rattle.pair_table.specs.Tables.{KeepsRows, none_clash};
 ghost use Rattle.record_rows.specs.Hits.{hit_now, is_device_suspended};
 ghost use Rattle.site_store.specs.Standing.{MayRecord, StandsFast};
 ghost use Rattle.mover.specs.Dropping.{AreOfControls, Drops, MakesDrops, are_states_of, drop_of, owes_by, owes_since};
-ghost use Rattle.mover.specs.Moves.{IsStillAt, KeepsLimit, MaySettle, Moved, MoverWorks, SettlesFor, SiteMoved};
+ghost use Rattle.mover.specs.Moves.{IsStillAt, KeepsLimit, MaySettle, Moved, MoverWorks, SettlesFor, SiteMoved, is_mark_due};
 ghost use Rattle.mover.specs.Numbers.{FormsUse, UsesUpTo};
 
 use crash_plant::Plant;
@@ -117,7 +117,7 @@ pub(crate) fn drop_suspended<W: Wait>(
 
 /// Whether a mark is due.
 fn is_mark_due<V>(site: &Site<V>) -> bool
-    ensures { result ≡ nat_le 1 site.now.since }
+    ensures { result ≡ is_mark_due site.now }
 {
     site.since() >= GROUPS_OF_MARK
 }
@@ -134,6 +134,7 @@ fn keep<R: Threads + Sync, P: Plant>(
     requires told { hit_now site.old.failed site.old.told ≡ [] }
     ensures told { OnOk result (hit_now site.new.failed site.new.told ≡ []) }
     ensures rests { OnOk result (MayRecord P.tells site.new (P.state plant.new)) }
+    ensures marked { OnOk result (site.new.since ≡ 0) }
     ensures moved { SiteMoved P.tells site.old site.new (P.state plant.old) (P.state plant.new) result }
     ensures works { MoverWorks P.tells site.old site.new (P.state plant.old) (P.state plant.new) result }
     ensures numbers { UsesUpTo 2 2 site.old site.new result }

@@ -74,6 +74,7 @@ begins_new tells n records blocks volumes session level at site plant is fits st
     level = ap (λ (s : SiteState). s.is_ahead) is;
     idle = ap (λ (s : SiteState). s.waiting) is;
   };
+  marked = ap (λ (s : SiteState). s.since) is;
   knows = subst (KnowsSite at.0 (new_mover no_table.table group (length group.controls + 1))) (sym is) (record {
     rows = record {
       controls = λ r has. absurd (omega (arith, has.1));
@@ -121,6 +122,7 @@ go_later tells limit later lanes group site plant up go = record {
   are = lanes_later group limit later lanes up go.are;
   may = record {
     rests = go.may.rests;
+    marked = go.may.marked;
     knows = record { rows = go.may.knows.rows; controls = go.may.knows.controls; in_step = go.may.knows.in_step; below = (let b = go.may.knows.below in omega (arith, b, up)); told = go.may.knows.told };
   };
 }

@@ -67,6 +67,7 @@ none_does tells cut site old none = record {
   way = way_of old site [];
   items = [];
   is_way = none_way cut site old none;
+  left = λ some. absurd (some none);
   begins = λ told e stands. begin_here old e site.told (suspension_deeds_of (way_of old site []) site cut site.failed);
   does = λ told e stands. subst (λ (deeds : List Deed). DoesDeeds e site.told deeds old old) (sym (suspension_none site cut site.failed (way_of old site []) none)) (no_call old e site.told);
 }
@@ -172,6 +173,7 @@ module _ (tells : Type 0) (cut : Stamp) (site : SiteState) (old : PlantState) (h
       way = way;
       items = items;
       is_way = hit_way way way_is;
+      left = λ more. tt;
       begins = λ told e stands. begin_here old e site.told (suspension_deeds_of way site cut.0 next.failed);
       does = λ told. tt;
     }
@@ -219,14 +221,15 @@ module _ (tells : Type 0) (cut : Stamp) (site : SiteState) (old : PlantState) (h
           (change_stands tells [] site site old old new (nothing_first tells site old) way cut.0 items rows (λ told e stands. logged) low works result shows)
 
       -- The jobs that have failed are those before it.
-      pub record_does : (then : SiteState) → then.failed ≡ site.failed → DoesSuspend tells cut.0 site then old new result
-      record_does then same =
+      pub record_does : (then : SiteState) → then.failed ≡ site.failed → OnOk result (then ≡ behind_record old.journals way cut.0 items rows site.failed site) → DoesSuspend tells cut.0 site then old new result
+      record_does then same then_is =
           let deeds_are : Changed cut.0 rows ∷ [] ≡ suspension_deeds_of way site cut.0 then.failed =
           sym (suspension_is site cut.0 then.failed way some ∙ suspension_plain site cut.0 then.failed way plain ∙ ap (λ (failed : List Bool). Changed cut.0 (rows_with_hits site.level cut.0 failed site.told) ∷ []) same) in
           record {
             way = way;
             items = items;
             is_way = hit_way way way_is;
+            left = λ more. on_ok result (λ (is : then ≡ behind_record old.journals way cut.0 items rows site.failed site). is ∙ plain_suspensions old.journals way cut.0 items then.failed site plain) then_is;
             begins = λ told e stands. subst (λ (deeds : List Deed). BeginsDeeds e site.told deeds old new) deeds_are (change_begins tells [] site site old old new (nothing_first tells site old) way cut.0 items rows (λ told e stands. logged) low works result shows told e stands);
             does = λ told. subst (λ (deeds : List Deed). OnOk result ((e : Exceptions) → SiteStands e site old → DoesDeeds e site.told deeds old new)) deeds_are
                 (change_done tells [] site site old old new (nothing_first tells site old) way cut.0 items rows (λ told e stands. logged) low works result shows told);
@@ -234,14 +237,16 @@ module _ (tells : Type 0) (cut : Stamp) (site : SiteState) (old : PlantState) (h
 
   -- ---- the mark
 
-  pub mark_does : (way : Way) → way ≡ way_of old site items → way ≡ Marked → (then : SiteState) (new : PlantState) (result : Result (Unit {0}) StoreError) → MakesMark tells site.mark.ended (rows_with_hits site.level site.time then.failed site.told) site then old new result → DoesSuspend tells cut.0 site then old new result
-  mark_does way way_is marked then new result makes =
+  pub mark_does : (way : Way) → way ≡ way_of old site items → way ≡ Marked → (then : SiteState) (new : PlantState) (result : Result (Unit {0}) StoreError) → MakesMark tells site.mark.ended (rows_with_hits site.level site.time then.failed site.told) site then old new result
+      → OnOk result (then ≡ behind_mark site.mark.ended (rows_with_hits site.level site.time then.failed site.told) then.failed site) → DoesSuspend tells cut.0 site then old new result
+  mark_does way way_is marked then new result makes then_is =
       let told_rows = rows_with_hits site.level site.time then.failed site.told in
       let deeds_are : MarkedDeed site.at site.mark.ended told_rows ∷ [] ≡ suspension_deeds_of Marked site cut.0 then.failed = sym (suspension_is site cut.0 then.failed Marked some) in
       record {
         way = Marked;
         items = items;
         is_way = hit_way Marked (sym marked ∙ way_is);
+        left = λ more. then_is;
         begins = λ told e stands. subst (λ (deeds : List Deed). BeginsDeeds e site.told deeds old new) deeds_are (mark_begins tells site.mark.ended told_rows site then old new result makes ready.idle told e stands);
         does = λ told. subst (λ (deeds : List Deed). OnOk result ((e : Exceptions) → SiteStands e site old → DoesDeeds e site.told deeds old new)) deeds_are (mark_done tells site then old new site.mark.ended told_rows ready.idle result makes told);
       }

@@ -198,5 +198,7 @@ pub record DoesSuspend (tells : Type 0) (cut : ℕ) (site next : SiteState) (old
   pub way : Way
   pub items : List Item
   pub is_way : IsWayOfHits cut site old way items
+  -- The site is left by the same way.
+  pub left : hit_now site.failed site.told ≢ [] → OnOk result (next ≡ with_suspensions old.journals way cut items next.failed site)
   pub begins : tells → (e : Exceptions) → SiteStands e site old → BeginsDeeds e site.told (suspension_deeds_of way site cut next.failed) old new
   pub does : tells → OnOk result ((e : Exceptions) → SiteStands e site old → DoesDeeds e site.told (suspension_deeds_of way site cut next.failed) old new)

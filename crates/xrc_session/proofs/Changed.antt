@@ -1,26 +1,32 @@
 -- A command's change that is taken over: what is kept for rows behind it, and what stands.
-use Rattle.std.proofs.Common.{ℕ, false, nat_lt, List, [], ◌∷◌, ◌++◌, Option, Some, None, refl, sym, subst}
+use Rattle.std.proofs.Common.{◌≡◌, ℕ, ◌<◌, Bool, true, false, not, nat_lt, nat_eq, ◌&&◌, ◌||◌, List, [], ◌∷◌, ◌++◌, length, inl, inr, Option, Some, None, refl, sym, subst, ◌∙◌, true≢false}
 use Rattle.std.specs.Prelude.{IfSome}
+use Rattle.std.specs.List.{Contains}
+use Rattle.std.proofs.lemmas.Bool.{and_from, and_parts, eq-eqb, eqb-true, or_cases, or_left, or_right}
+use Rattle.cut_core.specs.Shares.{names_volume}
 use Rattle.change_map.specs.Sets.{every_track}
 use Rattle.copy_plan.specs.Plans.{fresh_plan}
 use Rattle.crash_plant.specs.Moments.{PlantState}
 use Rattle.pair_table.specs.declared.command.Change.{Change}
 use Rattle.pair_table.specs.declared.command.Change.TheVariants.{Nothing, Started, Added, Resumed, Gone, Suspended as SuspendedRows, Ended}
 use Rattle.pair_table.specs.declared.row.PairRow.{PairRow}
+use Rattle.pair_table.specs.declared.row.PairState.{PairState}
 use Rattle.pair_table.specs.declared.row.PairState.TheVariants.{Pending}
-use Rattle.pair_table.specs.Tables.{in_state, row_of}
+use Rattle.pair_table.specs.Rows.{is_suspended}
+use Rattle.pair_table.specs.Tables.{in_state, row_of, with_state}
 use Rattle.pair_table.proofs.FindLaws.{all-snoc}
 use Rattle.group_state.specs.Groups.{Group, control_at}
 use Rattle.group_state.specs.Machine.{group_after}
-use Rattle.group_state.specs.Machine.Call.{Carry}
+use Rattle.group_state.specs.Machine.Call.{Carry, Drop}
 use Rattle.group_state.specs.Sound.{MayCarry}
-use Rattle.fed_logs.specs.Moves.{Plans}
+use Rattle.record_rows.specs.Hits.{is_device_suspended}
+use Rattle.fed_logs.specs.Logs.{IsPlanDone}
+use Rattle.fed_logs.specs.Moves.{Plans, plans_without}
 use Rattle.xrc_session.specs.BetweenEpochs.{Between, StandsBetween}
 use Rattle.xrc_session.specs.CarriedLaws.{FitsOn, TakenRowsStand}
 use Rattle.xrc_session.specs.Taking.{IfAdds, KeepsForRows, MayTake, calls_of_change}
 use Rattle.xrc_session.proofs.Adding.{added_rows_stand}
 use Rattle.xrc_session.proofs.Forgetting.{forgotten_rows_stand}
-use Rattle.xrc_session.proofs.Knowing.{base}
 use Rattle.xrc_session.proofs.KeptRows.{kept_added_row, kept_dropped_row, kept_forgotten_row, kept_resumed_row, may_carry_row}
 use Rattle.xrc_session.proofs.Resuming.{resumed_rows_stand}
 use Rattle.xrc_session.proofs.Suspending.{suspended_rows_stand}
@@ -60,10 +66,60 @@ pub no_plans : Plans
 no_plans = λ k v. false
 
 -- The calls of a change may be made, and behind them the state keeps what it does for the rows after it.
-pub taken : (s : Group) (change : Change) (before after : List PairRow) → KeepsForRows s before → MayTake s change before after → Walked Kept (calls_of_change change before after) s after no_plans
+pub taken : (s : Group) (change : Change) (before after : List PairRow) → KeepsForRows s before → MayTake s change before after → Walked Kept (calls_of_change change s before after) s after no_plans
 taken s change before after kept may = change_walk Kept FitsAny kept_steps change before after s no_plans may (any_fits change after) kept
 
 -- ---- what stands
+
+-- the plans that are known to be done, with one more
+abbrev pub plans_with : (control volume : ℕ) → Plans → Plans
+plans_with k v done = λ j w. done j w || names_volume j w k v
+
+same_name : (k v : ℕ) → names_volume k v k v ≡ true
+same_name k v = and_from (nat_eq k k) (nat_eq v v) (eq-eqb k k refl) (eq-eqb v v refl)
+
+known_no_more : (k v : ℕ) (done : Plans) → plans_without k v (plans_with k v done) ≡ plans_without k v done
+known_no_more k v done = λ i j w. flags (done j w) (names_volume j w k v) i
+  where
+    flags : (a b : Bool) → ((a || b) && not b) ≡ (a && not b)
+    flags true b = refl
+    flags false true = refl
+    flags false false = refl
+
+-- A plan that is done may be known to be so.
+pub known_stands : (start : PlantState) (b : Between) (k v : ℕ) → StandsBetween start b → k < length b.group.controls → IsPlanDone v (control_at b.group k) → StandsBetween start (record b { done = plans_with k v b.done })
+known_stands start b k v st low plan = record {
+  rows = record {
+    apart = st.rows.apart;
+    below = st.rows.below;
+    sized = st.rows.sized;
+    holds = λ c is.
+        let h = st.rows.holds c is in
+        record {
+          sized = h.sized;
+          holds = h.holds;
+          last = h.last;
+          stand = record {
+            live = h.stand.live;
+            duplex = λ j w has. or_left (b.done j w) (names_volume j w k v) (h.stand.duplex j w has);
+            plans = λ j w known. elim (or_cases (b.done j w) (names_volume j w k v) known) [
+              | inl before ↦ h.stand.plans j w before
+              | inr new ↦
+                  let p = and_parts (nat_eq j k) (nat_eq w v) new in
+                  subst (λ (i : ℕ). (i < length b.group.controls) × IsPlanDone w (control_at b.group i)) (sym (eqb-true j k p.0))
+                  (subst (λ (u : ℕ). (k < length b.group.controls) × IsPlanDone u (control_at b.group k)) (sym (eqb-true w v p.1)) (low, plan))
+            ];
+          };
+          truth = h.truth;
+        };
+    rowed = st.rows.rowed;
+    owed = st.rows.owed;
+    failed = st.rows.failed;
+    carried = st.rows.carried;
+  };
+  keeps = st.keeps;
+  some = st.some;
+}
 
 module _ (start : PlantState) (b : Between) where
   abbrev at : Group → List PairRow → Plans → Between
@@ -72,18 +128,30 @@ module _ (start : PlantState) (b : Between) where
   abbrev Stands : Group → List PairRow → Plans → Type 0
   Stands s rows done = KeepsForRows s rows × StandsBetween start (at s rows done)
 
+  dropped_stands : (s : Group) (rows : List PairRow) (done : Plans) (r : PairRow) (state : PairState) (all : Bool) → Stands s rows done → Contains rows r → is_suspended state ≡ true → (is_device_suspended state ≡ true → all ≡ true)
+      → (all ≡ false → IsPlanDone r.volume (control_at s r.control)) → StandsBetween start (at (group_after s (Drop r.control r.volume all)) (with_state r.device state rows) (plans_without r.control r.volume done))
+  dropped_stands s rows done r state all j among suspends device known = choose all refl
+    where
+      low : r.control < length s.controls
+      low = (j.0.each r among).low
+
+      choose : (b : Bool) → all ≡ b → StandsBetween start (at (group_after s (Drop r.control r.volume all)) (with_state r.device state rows) (plans_without r.control r.volume done))
+      choose true is = suspended_rows_stand start (at s rows done) r state all j.1 (record { among = among; suspends = suspends; failed = device; known = λ part. absurd (true≢false (sym is ∙ part)); may = low })
+      choose false is = subst (λ (plans : Plans). StandsBetween start (at (group_after s (Drop r.control r.volume all)) (with_state r.device state rows) plans)) (known_no_more r.control r.volume done)
+          (suspended_rows_stand start (at s rows (plans_with r.control r.volume done)) r state all (known_stands start (at s rows done) r.control r.volume j.1 low (known is)) (record {
+            among = among;
+            suspends = suspends;
+            failed = device;
+            known = λ part. or_right (done r.control r.volume) (names_volume r.control r.volume r.control r.volume) (same_name r.control r.volume);
+            may = low;
+          }))
+
   stands_steps : Steps Stands (FitsOn start b.size)
   stands_steps = record {
     kept = λ s rows done j. j.0;
     drop = λ s rows done r state all j among suspends device known. (
       kept_dropped_row s rows r j.0 among state all suspends,
-      suspended_rows_stand start (at s rows done) r state all j.1 (record {
-        among = among;
-        suspends = suspends;
-        failed = device;
-        known = λ part. (base start (at s rows done) j.1).stand.duplex r.control r.volume (record { row = r; among = among; control = refl; volume = refl; state = known part });
-        may = (j.0.each r among).low;
-      }),
+      dropped_stands s rows done r state all j among suspends device known,
     );
     resume = λ s rows done r j among suspended counted. (
       kept_resumed_row s rows r j.0 among suspended counted,

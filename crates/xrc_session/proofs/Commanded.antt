@@ -2,8 +2,9 @@
 use Rattle.std.proofs.Common.{◌≡◌, ℕ, ◌<◌, zero, suc, Bool, true, false, cond, not, nat_eq, ◌&&◌, ◌||◌, List, [], ◌∷◌, ◌++◌, map, filter, length, Option, Some, None, Ok, refl, sym, ap, subst, ◌∙◌, true≢false, slice_get}
 use Rattle.std.specs.Prelude.{is_none, bytes_eq, IfSome, IsSomeAnd}
 use Rattle.std.specs.List.{Contains, list_any}
-use Rattle.std.proofs.lemmas.Bool.{and_parts, eq-eqb, or_left}
-use Rattle.std.proofs.lemmas.Option.{same_Some}
+use Rattle.std.specs.Option.{option_map}
+use Rattle.std.proofs.lemmas.Bool.{and_parts, eq-eqb, eqb-true, or_left}
+use Rattle.std.proofs.lemmas.Option.{get_or_from_slice_get, same_Some, slice_get-map, slice_get_within}
 use Rattle.pair_table.specs.declared.command.Change.{Change}
 use Rattle.pair_table.specs.declared.command.Change.TheVariants.{Added, Gone, Resumed}
 use Rattle.pair_table.specs.declared.command.Choice.{Choice}
@@ -18,13 +19,14 @@ use Rattle.pair_table.specs.declared.names.NamedVolume.{NamedVolume}
 use Rattle.pair_table.specs.declared.row.PairRow.{PairRow}
 use Rattle.pair_table.specs.declared.row.PairState.{PairState}
 use Rattle.pair_table.specs.declared.row.PairState.TheVariants.{Pending, Copy, Duplex, Suspended}
-use Rattle.pair_table.specs.declared.row.SuspendCause.TheVariants.{Command as ByCommand, Device, Session}
+use Rattle.pair_table.specs.declared.row.SuspendCause.{SuspendCause}
+use Rattle.pair_table.specs.declared.row.SuspendCause.TheVariants.{Command as ByCommand, Device, Session, Control}
 use Rattle.pair_table.specs.Commands.{accepted, add_to, added, answer_by, change_of, devices_of, is_chosen, is_to_suspend, new_row, new_row_for, rows_after, suspended_since}
 use Rattle.pair_table.specs.Devices.{is_among}
 use Rattle.pair_table.specs.Naming.{Naming, is_broken, labelled_device, primary_of}
 use Rattle.pair_table.specs.Refusals.{is_of_primary, is_start, refusal, refuses_command, refuses_found, refuses_label, refuses_primary, row_of_primary}
-use Rattle.pair_table.specs.Rows.{is_suspended}
-use Rattle.pair_table.specs.Tables.{Table, in_state, is_of, none_clash, row_of, with_state}
+use Rattle.pair_table.specs.Rows.{cause_number, is_suspended}
+use Rattle.pair_table.specs.Tables.{Table, changed_row, in_state, is_of, none_clash, row_of, with_state}
 use Rattle.pair_table.proofs.StateLaws.{state_of_primary}
 use Rattle.pair_table.proofs.PutLaws.{number_sym}
 use Rattle.pair_table.proofs.TableLaws.{either_false, not_true}
@@ -36,10 +38,10 @@ use Rattle.record_rows.specs.Records.{rows_with_hits}
 use Rattle.record_rows.specs.Told.{InPlaces}
 use Rattle.record_rows.proofs.Devices.{apart_first, apart_in_map, apart_of, devices_apart, found_in_map, none_at, row_at_place}
 use Rattle.record_rows.proofs.HitRows.{among_hit, held, hit_is_told, told_row, told_rows}
-use Rattle.mover.proofs.Pairs.{contains_of, found_of_device}
+use Rattle.mover.proofs.Pairs.{Among, among_of, contains_of, found_of_device}
 use Rattle.xrc_session.specs.CarriedLaws.{BegunControlsCount, CommandsMayBeTaken}
-use Rattle.xrc_session.specs.Taking.{IsSuspendedSince, MayBeBegun, MayTake, as_pending, drop_between, drop_by, rows_by_command}
-use Rattle.xrc_session.proofs.CarriedRows.{among_last, stated_among}
+use Rattle.xrc_session.specs.Taking.{IsSuspendedSince, MayBeBegun, MayTake, as_pending, drop_between, drop_by, is_suspended_as, rows_by_command, stands_again}
+use Rattle.xrc_session.proofs.CarriedRows.{among_last, one_of_device, stated_among}
 use Rattle.xrc_session.proofs.Walking.{found_in}
 
 -- ---- hits
@@ -105,6 +107,43 @@ in_places_before is g [] [] before h = tt
 in_places_before is g [] (t ∷ next) before h = absurd h
 in_places_before is g (r ∷ rows) [] before h = absurd h
 in_places_before is g (r ∷ rows) (t ∷ next) before h = (before r t h.0, in_places_before is g rows next before h.1)
+
+in_places_through : (is : PairRow → PairRow → Type 0) (g f : PairRow → PairRow) (rows : List PairRow) → ((i : ℕ) (x : PairRow) → slice_get rows i ≡ Some x → is x (f (g x))) → InPlaces is rows (map f (map g rows))
+in_places_through is g f [] each = tt
+in_places_through is g f (r ∷ rows) each = (each 0 r refl, in_places_through is g f rows (λ i x at. each (suc i) x at))
+
+-- ---- a row that is suspended as it was
+
+same_causes : (a b : SuspendCause) → nat_eq (cause_number a) (cause_number b) ≡ true → a ≡ b
+same_causes ByCommand ByCommand e = refl
+same_causes ByCommand Device e = absurd cc
+same_causes ByCommand Session e = absurd cc
+same_causes ByCommand Control e = absurd cc
+same_causes Device ByCommand e = absurd cc
+same_causes Device Device e = refl
+same_causes Device Session e = absurd cc
+same_causes Device Control e = absurd cc
+same_causes Session ByCommand e = absurd cc
+same_causes Session Device e = absurd cc
+same_causes Session Session e = refl
+same_causes Session Control e = absurd cc
+same_causes Control ByCommand e = absurd cc
+same_causes Control Device e = absurd cc
+same_causes Control Session e = absurd cc
+same_causes Control Control e = refl
+
+same_states : (was is : PairState) → is_suspended_as was is ≡ true → was ≡ is
+same_states was Pending e = absurd cc
+same_states was Copy e = absurd cc
+same_states was Duplex e = absurd cc
+same_states Pending (Suspended cause since) e = absurd cc
+same_states Copy (Suspended cause since) e = absurd cc
+same_states Duplex (Suspended cause since) e = absurd cc
+same_states (Suspended first from) (Suspended cause since) e =
+    let parts = and_parts (nat_eq (cause_number first) (cause_number cause)) (nat_eq from.0 since.0) e in
+    λ i. Suspended (same_causes first cause parts.0 i) (record { 0 = eqb-true from.0 since.0 parts.1 i })
+
+-- ---- the rows behind hits
 
 module _ (level : Level) (cut : ℕ) (failed : List Bool) where
   abbrev told_of : List PairRow → PairRow → PairRow
@@ -266,19 +305,64 @@ module _ (names : Naming) (rows : List PairRow) (at : ℕ) (level : Level) (cut 
 
   -- A row that is resumed.
   takes_again : (primary : List ℕ) (r : PairRow) → row_of_primary primary rows ≡ Some r → is_suspended r.state ≡ true → Takes (Resumed r.device) (map (λ x. cond (is_of_primary r.primary x) (in_state Pending x) x) rows)
-  takes_again primary r is suspended = takes_by (Resumed r.device) (map (λ x. cond (is_of_primary r.primary x) (in_state Pending x) x) rows) (λ clear. again) (λ clear counted.
-      subst (λ (o : Option PairRow). IfSome o (λ x. (is_suspended x.state ≡ true) × (counts (control_at s x.control).phase ≡ true))) (sym found) (suspended, (begins counted).1))
+  takes_again primary r is suspended = λ clear counted. record {
+    begun = subst (λ (o : Option PairRow). IfSome o (λ x. (is_suspended x.state ≡ true) × (counts (control_at s x.control).phase ≡ true))) (sym found) (suspended, (begins counted).1);
+    apart = stands_apart (stands_again (row_of r.device rows) (row_of r.device (hits next))) clear;
+    follow = stands_follow (stands_again (row_of r.device rows) (row_of r.device (hits next))) refl clear;
+  }
     where
-      again : with_state r.device Pending rows ≡ map (λ x. cond (is_of_primary r.primary x) (in_state Pending x) x) rows
+      next : List PairRow
+      next = map (λ x. cond (is_of_primary r.primary x) (in_state Pending x) x) rows
+
+      again : with_state r.device Pending rows ≡ next
       again = state_of_primary primary Pending rows r apart is
 
-      found : row_of r.device rows ≡ Some r
-      found = found_of_device r rows apart (found_in (is_of_primary primary) rows r is)
+      among : Among r rows
+      among = found_in (is_of_primary primary) rows r is
 
-      begins : BegunControlsCount s (Resumed r.device) (map (λ x. cond (is_of_primary r.primary x) (in_state Pending x) x) rows) → Counts (in_state Pending r)
-      begins counted = counted (in_state Pending r)
-          (subst (λ (next : List PairRow). Contains next (in_state Pending r)) again (contains_of (in_state Pending r) (with_state r.device Pending rows) (stated_among r Pending rows apart (found_in (is_of_primary primary) rows r is))))
-          (eq-eqb r.device r.device refl)
+      found : row_of r.device rows ≡ Some r
+      found = found_of_device r rows apart among
+
+      there : Contains next (in_state Pending r)
+      there = subst (λ (all : List PairRow). Contains all (in_state Pending r)) again (contains_of (in_state Pending r) (with_state r.device Pending rows) (stated_among r Pending rows apart among))
+
+      begins : BegunControlsCount s (Resumed r.device) next → Counts (in_state Pending r)
+      begins counted = counted (in_state Pending r) there (eq-eqb r.device r.device refl)
+
+      stands_apart : (b : Bool) → none_clash next ≡ true → none_clash (cond b rows (with_state r.device Pending rows)) ≡ true
+      stands_apart true clear = apart
+      stands_apart false clear = ap none_clash again ∙ clear
+
+      -- the row behind the hits
+      behind : none_clash next ≡ true → row_of r.device (hits next) ≡ Some (told_of level cut failed next (in_state Pending r))
+      behind clear = ap (row_of r.device) (hits_told level cut failed next)
+          ∙ found_in_map (told_of level cut failed next) (told_device level cut (hit_now failed next)) r.device next (in_state Pending r) (found_of_device (in_state Pending r) next clear (among_of next (in_state Pending r) there))
+
+      -- The resumed row is suspended again as it was, so it stays.
+      stays : stands_again (row_of r.device rows) (row_of r.device (hits next)) ≡ true → none_clash next ≡ true → (x z : PairRow) → Among x rows → IsSuspendedSince (changed_row r.device Pending x) z
+          → (is_of r.device x ≡ true → z ≡ told_of level cut failed next (in_state Pending r)) → IsSuspendedSince x z
+      stays stands clear x z have h told = choose (is_of r.device x) refl h
+        where
+          choose : (b : Bool) → is_of r.device x ≡ b → IsSuspendedSince (cond b (in_state Pending x) x) z → IsSuspendedSince x z
+          choose false other h = h
+          choose true own h = record {
+            same = h.same;
+            stays = λ e.
+                let itself : r ≡ x = one_of_device r x rows apart among have (eqb-true r.device x.device own) in
+                ap (λ (y : PairRow). y.state) (told own)
+                ∙ sym (same_states r.state (let y : PairRow = told_of level cut failed next (in_state Pending r) in y.state) (ap (λ (o : Option PairRow). stands_again o (Some (told_of level cut failed next (in_state Pending r)))) (sym found) ∙ ap (stands_again (row_of r.device rows)) (sym (behind clear)) ∙ stands))
+                ∙ ap (λ (y : PairRow). y.state) itself;
+          }
+
+      stands_follow : (b : Bool) → stands_again (row_of r.device rows) (row_of r.device (hits next)) ≡ b → none_clash next ≡ true → InPlaces IsSuspendedSince (cond b rows (with_state r.device Pending rows)) (hits next)
+      stands_follow false stands clear = subst (λ (all : List PairRow). InPlaces IsSuspendedSince all (hits next)) (sym again) (hits_follow level cut failed next (apart_of next clear))
+      stands_follow true stands clear =
+          subst (λ (all : List PairRow). InPlaces IsSuspendedSince rows all) (ap (map (told_of level cut failed next)) again ∙ sym (hits_told level cut failed next))
+          (in_places_through IsSuspendedSince (changed_row r.device Pending) (told_of level cut failed next) rows (λ i x at.
+          let have : Among x rows = among_of rows x (i, slice_get_within rows i x at, get_or_from_slice_get rows i x x at) in
+          stays stands clear x (told_of level cut failed next (changed_row r.device Pending x)) have
+          (told_at level cut failed next i (changed_row r.device Pending x) (apart_of next clear) (ap (λ (all : List PairRow). slice_get all i) (sym again) ∙ slice_get-map (changed_row r.device Pending) rows i ∙ ap (option_map (changed_row r.device Pending)) at))
+          (λ own. ap (told_of level cut failed next) (ap (λ (b : Bool). cond b (in_state Pending x) x) own ∙ ap (in_state Pending) (sym (one_of_device r x rows apart among have (eqb-true r.device x.device own)))))))
 
   takes_pair : (primary secondary : List ℕ) → refuses_primary primary secondary names rows (primary_of primary names) ≡ None → Takes (change_of names (AddPair primary secondary) rows) (rows_after names at (AddPair primary secondary) rows)
   takes_pair primary secondary own = by_row (row_of_primary primary rows) refl

@@ -41,6 +41,7 @@ use Rattle.xrc_session.proofs.JoinsRows.{kept_known, some_of}
 record IsLeftByChange (at : ℕ) (site next : SiteState) : Type 0 where
   controls : next.controls ≡ site.controls
   time : next.time ≡ at
+  marked : site.since ≡ 0 → next.since ≡ 0
   pairs : pairs_of next.table.rows ≡ pairs_of site.table.rows
 
 hit_pairs : (level : Level) (time : ℕ) (hit : List ℕ) (rows : List PairRow) → pairs_of (rows_hit level time hit rows) ≡ pairs_of rows
@@ -51,6 +52,7 @@ logged_record : (at : ℕ) (change : Change) (way : RecordWay) (site next : Site
 logged_record at change way site next old behind = subst (λ (t : SiteState). IsLeftByChange at site t) (sym behind.next_is) (record {
   controls = by_ways (λ (w : RecordWay). (behind_way w site).controls ≡ site.controls) refl refl refl way;
   time = refl;
+  marked = by_ways (λ (w : RecordWay). site.since ≡ 0 → (behind_way w site).since ≡ 0) (λ e. e) (λ e. e) (λ e. refl) way;
   pairs = hit_pairs site.level at (hit_now next.failed site.table.rows) site.table.rows;
 })
 
@@ -58,7 +60,7 @@ logged_change : {P : Type 0} (at : ℕ) (change : Change) (site next : SiteState
 logged_change at change site next old was is time logs = choose (changed_items change site.table.rows) refl
   where
     choose : (items : List Item) → changed_items change site.table.rows ≡ items → IsLeftByChange at site next
-    choose [] none = subst (λ (t : SiteState). IsLeftByChange at site t) (sym (logs.nothing none).1) (record { controls = refl; time = time; pairs = refl })
+    choose [] none = subst (λ (t : SiteState). IsLeftByChange at site t) (sym (logs.nothing none).1) (record { controls = refl; time = time; marked = λ e. e; pairs = refl })
     choose (i ∷ items) some =
         let logged = logs.rows (λ none. let clash : i ∷ items ≡ [] = sym some ∙ none in cc clash) in
         logged_record at change logged.way site next old logged.behind
@@ -109,6 +111,7 @@ rests_behind tells was is lanes old new names session command change at group en
   lanes_of = subst (λ (g : Group). AreLanesOf g at lanes) (sym taken.calls) (lanes_behind lanes at change site.table.rows next.table.rows group rest.lanes_of added);
   begins = record {
     rests = idle.may;
+    marked = logged.marked rest.begins.marked;
     knows = record {
       rows = kept_known end next.told kept;
       controls = few;
@@ -132,7 +135,7 @@ rests_behind tells was is lanes old new names session command change at group en
     kept : KeepsForRows end next.told
     kept = subst (KeepsForRows end) (sym idle.same) taken.kept
 
-    stays : StaysForReaders group (after_calls (calls_of_change change site.table.rows next.table.rows) group)
+    stays : StaysForReaders group (after_calls (calls_of_change change group site.table.rows next.table.rows) group)
     stays = changes_stay change site.table.rows next.table.rows group
 
     last_is : end.last.0 ≡ at

@@ -27,7 +27,7 @@ use Rattle.group_state.proofs.VolumeLaws.{all_with, all_without}
 use Rattle.pending_queue.specs.Entries.{entry_tracks}
 use Rattle.consistency.specs.Bears.{tracks_of_row}
 use Rattle.fed_logs.proofs.Standing.{at_with, same_count}
-use Rattle.xrc_session.specs.Taking.{IfAdds, after_calls, calls_of_change, carry_calls, command_calls, drop_between, drop_call, drop_calls, forget_calls, resume_calls, state_by_command}
+use Rattle.xrc_session.specs.Taking.{IfAdds, after_calls, calls_of_change, carry_calls, command_calls, drop_between, drop_call, drop_calls, forget_calls, owes_again, resume_calls, stands_again, state_by_command, tracks_owed_to}
 use Rattle.mover.specs.declared.lane.Lane.{Lane}
 use Rattle.mover.specs.Readers.{IsOfHeader, LaneReaderState, is_of_header}
 use Rattle.mover.specs.Lanes.{IsReaderOf, IsSameLane, heads_of}
@@ -52,6 +52,7 @@ lanes_later lanes group limit later up h =
 pub epochs_later : (tells : Type 0) (plant : PlantState) → EpochsMayBeginLater tells plant
 epochs_later tells plant group site limit later up may = record {
   rests = may.rests;
+  marked = may.marked;
   knows = record { rows = may.knows.rows; controls = may.knows.controls; in_step = may.knows.in_step; below = (let below = may.knows.below in omega (arith, below, up)); told = may.knows.told };
 }
 
@@ -91,31 +92,35 @@ module _ (Carried : (k v : ℕ) → PlanState → Type 0) where
   drops : (change : Change) (before rows : List PairRow) → Each (IsOfChange Carried) (flat_map (drop_calls change before) rows)
   drops change before [] = tt
   drops change before (r ∷ rows) =
-      both_parts (drop_calls change before r) (flat_map (drop_calls change before) rows) (one (drop_between (state_by_command change before r.device) r.state)) (drops change before rows)
+      both_parts (drop_calls change before r) (flat_map (drop_calls change before) rows) (one (drop_between (state_by_command change before r) r.state)) (drops change before rows)
     where
       one : (o : Option Bool) → Each (IsOfChange Carried) (drop_call r o)
       one None = tt
       one (Some all) = (tt, tt)
 
-  commands : (change : Change) (before after : List PairRow) → IfAdds change after (λ r. Carried r.control r.volume (fresh_plan (every_track (tracks_of_row r)))) → Each (IsOfChange Carried) (command_calls change before after)
-  commands Nothing before after carried = tt
-  commands Started before after carried = tt
-  commands (Added device) before after carried = of (row_of device after) carried
+  commands : (change : Change) (s : Group) (before after : List PairRow) → IfAdds change after (λ r. Carried r.control r.volume (fresh_plan (every_track (tracks_of_row r)))) → Each (IsOfChange Carried) (command_calls change s before after)
+  commands Nothing s before after carried = tt
+  commands Started s before after carried = tt
+  commands (Added device) s before after carried = of (row_of device after) carried
     where
       of : (o : Option PairRow) → IfSome o (λ r. Carried r.control r.volume (fresh_plan (every_track (tracks_of_row r)))) → Each (IsOfChange Carried) (carry_calls o)
       of None carried = tt
       of (Some r) carried = (carried, tt)
-  commands (Resumed device) before after carried = of (row_of device before)
+  commands (Resumed device) s before after carried = of (row_of device before) (row_of device after)
     where
-      of : (o : Option PairRow) → Each (IsOfChange Carried) (resume_calls o)
-      of None = tt
-      of (Some r) = (tt, tt)
-  commands (Gone devices) before after carried = forgets devices before
-  commands (Suspended devices) before after carried = tt
-  commands Ended before after carried = tt
+      of : (o p : Option PairRow) → Each (IsOfChange Carried) (resume_calls s o p)
+      of None p = tt
+      of (Some r) p = (tt, again (stands_again (Some r) p))
+        where
+          again : (b : Bool) → Each (IsOfChange Carried) (cond b (Drop r.control r.volume (owes_again (tracks_owed_to s (Some r)) r.state) ∷ []) [])
+          again true = (tt, tt)
+          again false = tt
+  commands (Gone devices) s before after carried = forgets devices before
+  commands (Suspended devices) s before after carried = tt
+  commands Ended s before after carried = tt
 
-  calls_are : (change : Change) (before after : List PairRow) → IfAdds change after (λ r. Carried r.control r.volume (fresh_plan (every_track (tracks_of_row r)))) → Each (IsOfChange Carried) (calls_of_change change before after)
-  calls_are change before after carried = both_parts (command_calls change before after) (flat_map (drop_calls change before) after) (commands change before after carried) (drops change before after)
+  calls_are : (change : Change) (s : Group) (before after : List PairRow) → IfAdds change after (λ r. Carried r.control r.volume (fresh_plan (every_track (tracks_of_row r)))) → Each (IsOfChange Carried) (calls_of_change change s before after)
+  calls_are change s before after carried = both_parts (command_calls change s before after) (flat_map (drop_calls change before) after) (commands change s before after carried) (drops change before after)
 
 -- ---- what they leave for readers
 
@@ -168,7 +173,7 @@ any_added (Suspended devices) after = tt
 any_added Ended after = tt
 
 pub changes_stay : ChangesStayForReaders
-changes_stay change before after s = calls_stay IsAnyVolume (calls_of_change change before after) s (calls_are IsAnyVolume change before after (any_added change after))
+changes_stay change before after s = calls_stay IsAnyVolume (calls_of_change change s before after) s (calls_are IsAnyVolume change s before after (any_added change after))
 
 -- ---- lanes
 
@@ -264,7 +269,7 @@ module _ {S : Type 0} (lanes : List (Lane S)) (limit : ℕ) where
 
 pub lanes_behind : {S : Type 0} (lanes : List (Lane S)) → LanesStandBehindChanges lanes
 lanes_behind lanes limit change before after s h adds =
-    lanes_calls lanes limit (calls_of_change change before after) s (calls_are (IsVolumeOfLane lanes) change before after (volume_added lanes limit change after adds)) h
+    lanes_calls lanes limit (calls_of_change change s before after) s (calls_are (IsVolumeOfLane lanes) change s before after (volume_added lanes limit change after adds)) h
 
 -- ---- names
 

@@ -10,6 +10,7 @@ pub mod Adding
 pub mod Recording
 pub mod CallRuns
 pub mod KeptRows
+pub mod StandsAgain
 pub mod Walking
 pub mod Changed
 pub mod Commanded

@@ -14,7 +14,7 @@ use Rattle.pair_table.specs.declared.row.PairState.TheVariants.{Pending, Duplex}
 use Rattle.pair_table.specs.declared.row.SuspendCause.TheVariants.{Device, Session}
 use Rattle.pair_table.specs.Devices.{is_among}
 use Rattle.pair_table.specs.Rows.{is_suspended}
-use Rattle.pair_table.specs.Tables.{changed_row, in_state, is_of, row_of}
+use Rattle.pair_table.specs.Tables.{changed_row, in_state, is_of, row_of, with_state}
 use Rattle.pending_queue.specs.Entries.{WaitingEntry}
 use Rattle.row_changes.specs.Changes.{hit_row, reached_row, since}
 use Rattle.record_rows.specs.Deeds.{Deed, entries_by_deed, rows_by_deed}
@@ -31,7 +31,7 @@ use Rattle.mover.proofs.Pairs.{Among, among_cases, among_of, contains_of}
 use Rattle.mover.proofs.Pairs.Among.{Here, Later}
 use Rattle.xrc_session.specs.BetweenEpochs.{Between, StandsBetween}
 use Rattle.xrc_session.specs.CarriedLaws.{IsWithoutEntries, between_taken}
-use Rattle.xrc_session.specs.Taking.{IsSuspendedSince, as_pending, drop_between, rows_by_command}
+use Rattle.xrc_session.specs.Taking.{IsSuspendedSince, as_pending, drop_between, rows_by_command, stands_again}
 use Rattle.xrc_session.proofs.Changed.{taken_rows_stand}
 use Rattle.xrc_session.proofs.KeptRows.{standing_rows_are_kept}
 use Rattle.xrc_session.proofs.Recording.{rows_stand_behind_deeds}
@@ -286,13 +286,17 @@ command_back (Added device) before after x duplex there = by_row (row_of device 
     by_row : (o : Option PairRow) → Among x (before ++ as_pending o) → Among x before
     by_row None there = subst (Among x) (append-nil before) there
     by_row (Some r) there = elim (among_either x (in_state Pending r) before there) [ inl there ↦ there | inr same ↦ absurd (pending_not x.state (ap (λ (s : PairRow). s.state) (sym same)) duplex) ]
-command_back (Resumed device) before after x duplex there =
-    let found = map_back (changed_row device Pending) x before there in
-    by_device (is_of device found.0) found.0 found.1 found.2
+command_back (Resumed device) before after x duplex there = by_again (stands_again (row_of device before) (row_of device after)) there
   where
     by_device : (b : Bool) (y : PairRow) → Among y before → cond b (in_state Pending y) y ≡ x → Among x before
     by_device true y there same = absurd (pending_not x.state (ap (λ (s : PairRow). s.state) (sym same)) duplex)
     by_device false y there same = subst (λ (s : PairRow). Among s before) same there
+
+    by_again : (b : Bool) → Among x (cond b before (with_state device Pending before)) → Among x before
+    by_again true there = there
+    by_again false there =
+        let found = map_back (changed_row device Pending) x before there in
+        by_device (is_of device found.0) found.0 found.1 found.2
 command_back (Gone devices) before after x duplex there = (among_kept (λ r. not (is_among r.device devices)) x before there).0
 command_back (SuspendedRows devices) before after x duplex there = there
 command_back Ended before after x duplex there = there

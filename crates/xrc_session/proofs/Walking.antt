@@ -1,5 +1,5 @@
 -- A command's change, row by row: what its calls leave, with the rows that go with them.
-use Rattle.std.proofs.Common.{◌≡◌, inl, inr, ℕ, ◌<◌, Bool, true, false, cond, not, nat_eq, ◌&&◌, List, [], ◌∷◌, ◌++◌, filter, length, Option, Some, None, refl, sym, ap, subst, ◌∙◌, true≢false}
+use Rattle.std.proofs.Common.{◌≡◌, inl, inr, ℕ, ◌<◌, Bool, true, false, cond, not, nat_eq, ◌&&◌, ◌||◌, List, [], ◌∷◌, ◌++◌, filter, length, Option, Some, None, refl, sym, ap, subst, ◌∙◌, true≢false}
 use Rattle.std.specs.Prelude.{find, IfSome, IsSomeAnd}
 use Rattle.std.specs.List.{Contains, flat_map}
 use Rattle.std.proofs.lemmas.Bool.{eq-eqb, eqb-true}
@@ -17,7 +17,7 @@ use Rattle.pair_table.specs.Rows.{is_suspended}
 use Rattle.pair_table.specs.Tables.{changed_row, in_state, is_of, none_clash, row_of, with_state, without_row}
 use Rattle.pair_table.proofs.FindLaws.{found_passes}
 use Rattle.pair_table.proofs.PutLaws.{number_sym}
-use Rattle.pair_table.proofs.TableLaws.{first_apart, no_row, with_state-absent, without-absent}
+use Rattle.pair_table.proofs.TableLaws.{either_false, first_apart, no_row, with_state-absent, without-absent}
 use Rattle.group_state.specs.Controls.{counts}
 use Rattle.group_state.specs.Groups.{Group, control_at}
 use Rattle.group_state.specs.Machine.{Call, group_after}
@@ -25,14 +25,16 @@ use Rattle.group_state.specs.Machine.Call.{Carry, Drop, Forget, Resume}
 use Rattle.record_rows.specs.Hits.{is_by_device, is_device_suspended}
 use Rattle.record_rows.specs.Told.{InPlaces}
 use Rattle.consistency.specs.Bears.{tracks_of_row}
+use Rattle.fed_logs.specs.Logs.{IsPlanDone}
 use Rattle.fed_logs.specs.Moves.{Plans, plans_without}
 use Rattle.mover.proofs.Failing.{among_map}
-use Rattle.mover.proofs.Pairs.{Among, apart_among, contains_of, found_of_device}
+use Rattle.mover.proofs.Pairs.{Among, among_of, apart_among, apart_still, contains_of, found_of_device, pair_of, pairs_of}
 use Rattle.mover.proofs.Pairs.Among.{Here, Later}
-use Rattle.xrc_session.specs.Taking.{AllMay, IfAdds, IsSuspendedSince, KeepsForRows, MayBeBegun, MayTake, after_calls, as_pending, calls_of_change, carry_calls, command_calls, drop_between, drop_by, drop_call, drop_calls, forget_calls, plans_after, plans_after_calls}
-use Rattle.xrc_session.specs.Taking.{resume_calls, rows_by_command, state_by_command, state_or_pending}
+use Rattle.xrc_session.specs.Taking.{AllMay, IfAdds, IsSuspendedSince, KeepsForRows, MayBeBegun, MayTake, after_calls, as_pending, calls_of_change, carry_calls, command_calls, drop_between, drop_by, drop_call, drop_calls, forget_calls, is_begun, owes_again, plans_after, plans_after_calls}
+use Rattle.xrc_session.specs.Taking.{resume_calls, rows_by_command, stands_again, state_by_command, state_or_pending, tracks_owed_to}
 use Rattle.xrc_session.proofs.KeptRows.{apart_last, may_carry_row}
-use Rattle.xrc_session.proofs.CarriedRows.{among_either, among_kept}
+use Rattle.xrc_session.proofs.CarriedRows.{among_either, among_kept, stated_among}
+use Rattle.xrc_session.proofs.StandsAgain.{resumed_done, stated_back}
 
 -- ---- rows in their places
 
@@ -69,7 +71,7 @@ found_in test (t ∷ rows) r found = choose (test t) found (found_in test rows r
 pub record Steps (J : Group → List PairRow → Plans → Type 0) (fits : PairRow → Type 0) : Type 1 where
   pub kept : (s : Group) (rows : List PairRow) (done : Plans) → J s rows done → KeepsForRows s rows
   pub drop : (s : Group) (rows : List PairRow) (done : Plans) (r : PairRow) (state : PairState) (all : Bool) → J s rows done → Contains rows r → is_suspended state ≡ true
-      → (is_device_suspended state ≡ true → all ≡ true) → (all ≡ false → r.state ≡ Duplex)
+      → (is_device_suspended state ≡ true → all ≡ true) → (all ≡ false → IsPlanDone r.volume (control_at s r.control))
       → J (group_after s (Drop r.control r.volume all)) (with_state r.device state rows) (plans_without r.control r.volume done)
   pub resume : (s : Group) (rows : List PairRow) (done : Plans) (r : PairRow) → J s rows done → Contains rows r → is_suspended r.state ≡ true → counts (control_at s r.control).phase ≡ true
       → J (group_after s (Resume r.control r.volume)) (with_state r.device Pending rows) done
@@ -90,6 +92,10 @@ walked_then J (call ∷ first) second s next done may walk =
     record { may = (may.0, more.may); ends = more.ends }
 
 -- ---- a drop
+
+negated : (b : Bool) → not b ≡ false → b ≡ true
+negated true is = refl
+negated false is = absurd (true≢false is)
 
 pub record DropFacts (was is : PairState) (all : Bool) : Type 0 where
   pub suspends : is_suspended is ≡ true
@@ -142,7 +148,7 @@ module _ (J : Group → List PairRow → Plans → Type 0) (fits : PairRow → T
           record {
             may = ((kept.each r among).low, tt);
             ends = subst (λ (rows : List PairRow). J (group_after s (Drop r.control r.volume all)) rows (plans_without r.control r.volume done)) (state_at xs r rest state kept.apart)
-                (steps.drop s (xs ++ r ∷ rest) done r state all j among facts.suspends facts.device facts.known);
+                (steps.drop s (xs ++ r ∷ rest) done r state all j among facts.suspends facts.device (λ part. (kept.each r among).done (facts.known part)));
           }
 
   drops_walk : (xs rows next : List PairRow) (s : Group) (done : Plans) → InPlaces IsSuspendedSince rows next → J s (xs ++ rows) done → Walked J (drops_in rows next) s (xs ++ next) done
@@ -203,7 +209,7 @@ module _ (J : Group → List PairRow → Plans → Type 0) (fits : PairRow → T
   -- ---- the command
 
   abbrev WalksBy : Change → (before after : List PairRow) → Group → Plans → Type 0
-  WalksBy change before after s done = Walked J (command_calls change before after) s (rows_by_command change before after) done
+  WalksBy change before after s done = Walked J (command_calls change s before after) s (rows_by_command change before after) done
 
   adds : (before : List PairRow) (o : Option PairRow) (s : Group) (done : Plans) → IsSomeAnd o (λ r. (r.control < length s.controls) × (counts (control_at s r.control).phase ≡ true)) → IfSome o (λ r. fits (in_state Pending r))
       → none_clash (before ++ as_pending o) ≡ true → J s before done → Walked J (carry_calls o) s (before ++ as_pending o) done
@@ -213,24 +219,71 @@ module _ (J : Group → List PairRow → Plans → Type 0) (fits : PairRow → T
     ends = steps.add s before done (in_state Pending r) j begun.0 begun.1 refl apart fit;
   }
 
-  resumes : (device : ℕ) (before : List PairRow) (o : Option PairRow) → row_of device before ≡ o → (s : Group) (done : Plans) → IfSome o (λ r. (is_suspended r.state ≡ true) × (counts (control_at s r.control).phase ≡ true)) → J s before done
-      → Walked J (resume_calls o) s (with_state device Pending before) done
-  resumes device before None is s done begun j = record { may = tt; ends = subst (λ (rows : List PairRow). J s rows done) (sym (with_state-absent device Pending before (no_row device before is))) j }
-  resumes device before (Some r) is s done begun j =
-      let among = contains_of r before (found_in (is_of device) before r is) in
-      let same : device ≡ r.device = eqb-true device r.device (found_passes (is_of device) before r is) in
+  -- A row is resumed.
+  resume_one : (before : List PairRow) (r : PairRow) (s : Group) (done : Plans) → Contains before r → is_suspended r.state ≡ true → counts (control_at s r.control).phase ≡ true → J s before done
+      → Walked J (Resume r.control r.volume ∷ []) s (with_state r.device Pending before) done
+  resume_one before r s done among suspended counted j =
       let own = (steps.kept s before done j).each r among in
-      record {
-        may = ((own.low, own.own.dropped begun.0), tt);
-        ends = subst (λ (d : ℕ). J (group_after s (Resume r.control r.volume)) (with_state d Pending before) done) (sym same) (steps.resume s before done r j among begun.0 begun.1);
-      }
+      record { may = ((own.low, own.own.dropped suspended), tt); ends = steps.resume s before done r j among suspended counted }
+
+  -- A row is resumed, and its volume is dropped again, since the row is suspended as it was.
+  again_one : (before : List PairRow) (r : PairRow) (s : Group) (done : Plans) → Contains before r → is_suspended r.state ≡ true → counts (control_at s r.control).phase ≡ true → J s before done
+      → Walked J (Resume r.control r.volume ∷ Drop r.control r.volume (owes_again (tracks_owed_to s (Some r)) r.state) ∷ []) s before done
+  again_one before r s done among suspended counted j = record {
+    may = (resumed.may.0, ((behind.each pending there).low, tt));
+    ends = subst (λ (rows : List PairRow). J (group_after t (Drop r.control r.volume all)) rows (plans_without r.control r.volume done)) (stated_back r Pending before kept.apart among)
+        (steps.drop t (with_state r.device Pending before) done pending r.state all resumed.ends there suspended failed known);
+  }
+    where
+      kept : KeepsForRows s before
+      kept = steps.kept s before done j
+
+      resumed : Walked J (Resume r.control r.volume ∷ []) s (with_state r.device Pending before) done
+      resumed = resume_one before r s done among suspended counted j
+
+      t : Group
+      t = group_after s (Resume r.control r.volume)
+
+      pending : PairRow
+      pending = in_state Pending r
+
+      all : Bool
+      all = owes_again (tracks_owed_to s (Some r)) r.state
+
+      behind : KeepsForRows t (with_state r.device Pending before)
+      behind = steps.kept t (with_state r.device Pending before) done resumed.ends
+
+      there : Contains (with_state r.device Pending before) pending
+      there = contains_of pending (with_state r.device Pending before) (stated_among r Pending before kept.apart (among_of before r among))
+
+      failed : is_device_suspended r.state ≡ true → all ≡ true
+      failed is = ap (λ (b : Bool). b || not (nat_eq (tracks_owed_to s (Some r)) 0)) is
+
+      known : all ≡ false → IsPlanDone r.volume (control_at t r.control)
+      known part = resumed_done s before r kept among suspended
+          (eqb-true (tracks_owed_to s (Some r)) 0 (negated (nat_eq (tracks_owed_to s (Some r)) 0) (either_false (is_device_suspended r.state) (not (nat_eq (tracks_owed_to s (Some r)) 0)) part).1))
+
+  resumes : (device : ℕ) (before after : List PairRow) (o : Option PairRow) → row_of device before ≡ o → (s : Group) (done : Plans) → IfSome o (λ r. (is_suspended r.state ≡ true) × (counts (control_at s r.control).phase ≡ true)) → J s before done
+      → Walked J (resume_calls s o (row_of device after)) s (cond (stands_again o (row_of device after)) before (with_state device Pending before)) done
+  resumes device before after None is s done begun j = record { may = tt; ends = subst (λ (rows : List PairRow). J s rows done) (sym (with_state-absent device Pending before (no_row device before is))) j }
+  resumes device before after (Some r) is s done begun j = choose (stands_again (Some r) (row_of device after))
+    where
+      among : Contains before r
+      among = contains_of r before (found_in (is_of device) before r is)
+
+      same : device ≡ r.device
+      same = eqb-true device r.device (found_passes (is_of device) before r is)
+
+      choose : (b : Bool) → Walked J (Resume r.control r.volume ∷ cond b (Drop r.control r.volume (owes_again (tracks_owed_to s (Some r)) r.state) ∷ []) []) s (cond b before (with_state device Pending before)) done
+      choose true = again_one before r s done among begun.0 begun.1 j
+      choose false = subst (λ (d : ℕ). Walked J (Resume r.control r.volume ∷ []) s (with_state d Pending before) done) (sym same) (resume_one before r s done among begun.0 begun.1 j)
 
   command_walk : (change : Change) (before after : List PairRow) (s : Group) (done : Plans) → MayBeBegun s change before after → IfAdds change after (λ r. fits (in_state Pending r)) → none_clash (rows_by_command change before after) ≡ true → J s before done
       → WalksBy change before after s done
   command_walk Nothing before after s done begun fit apart j = record { may = tt; ends = j }
   command_walk Started before after s done begun fit apart j = record { may = tt; ends = j }
   command_walk (Added device) before after s done begun fit apart j = adds before (row_of device after) s done begun fit apart j
-  command_walk (Resumed device) before after s done begun fit apart j = resumes device before (row_of device before) refl s done begun j
+  command_walk (Resumed device) before after s done begun fit apart j = resumes device before after (row_of device before) refl s done begun j
   command_walk (Gone devices) before after s done begun fit apart j = forgets_walk devices [] before s done j
   command_walk (SuspendedRows devices) before after s done begun fit apart j = record { may = tt; ends = j }
   command_walk Ended before after s done begun fit apart j = record { may = tt; ends = j }
@@ -240,67 +293,131 @@ module _ (J : Group → List PairRow → Plans → Type 0) (fits : PairRow → T
 found_state : (before : List PairRow) (r : PairRow) → none_clash before ≡ true → Among r before → state_or_pending (row_of r.device before) ≡ r.state
 found_state before r apart there = ap state_or_pending (found_of_device r before apart there)
 
-added_state : (device : ℕ) (before : List PairRow) (new : PairRow) (after : List PairRow) → row_of device after ≡ Some new → none_clash before ≡ true → none_clash (before ++ in_state Pending new ∷ []) ≡ true → (r : PairRow)
-    → Among r (before ++ in_state Pending new ∷ []) → state_by_command (Added device) before r.device ≡ r.state
-added_state device before new after found apart whole r there = elim (among_either r (in_state Pending new) before there) [
-  | inl old ↦ other old (nat_eq device r.device) refl
-  | inr same ↦ subst (λ (x : PairRow). state_by_command (Added device) before x.device ≡ x.state) same (own (nat_eq device new.device) own_device)
+-- A row behind suspensions is of the pair of the row that the command left.
+abbrev IsBehind : (r t : PairRow) → Type 0
+IsBehind r t = t ≡ in_state t.state r
+
+-- the state in which a command left a row that it didn't begin
+not_begun : (change : Change) (before : List PairRow) (r t : PairRow) → IsBehind r t → is_begun change r.device ≡ false → none_clash before ≡ true → Among r before → state_by_command change before t ≡ r.state
+not_begun change before r t behind none apart there = ap (λ (d : ℕ). cond (is_begun change d && not (stands_again (row_of d before) (Some t))) Pending (state_or_pending (row_of d before))) (ap (λ (x : PairRow). x.device) behind)
+    ∙ ap (λ (b : Bool). cond (b && not (stands_again (row_of r.device before) (Some t))) Pending (state_or_pending (row_of r.device before))) none
+    ∙ found_state before r apart there
+
+added_state : (device : ℕ) (before : List PairRow) (new : PairRow) (after : List PairRow) → row_of device after ≡ Some new → none_clash before ≡ true → none_clash (before ++ in_state Pending new ∷ []) ≡ true → (r t : PairRow)
+    → Among r (before ++ in_state Pending new ∷ []) → IsBehind r t → state_by_command (Added device) before t ≡ r.state
+added_state device before new after found apart whole r t there behind = elim (among_either r (in_state Pending new) before there) [
+  | inl old ↦ not_begun (Added device) before r t behind (other old (nat_eq device r.device) refl) apart old
+  | inr same ↦ own (ap (λ (x : PairRow). x.device) behind ∙ ap (λ (x : PairRow). x.device) (sym same)) ∙ ap (λ (x : PairRow). x.state) same
 ]
   where
     own_device : nat_eq device new.device ≡ true
     own_device = found_passes (is_of device) after new found
 
-    own : (b : Bool) → b ≡ true → cond b Pending (state_or_pending (row_of new.device before)) ≡ Pending
-    own true is = refl
-    own false is = absurd (true≢false (sym is))
+    absent : (o : Option PairRow) → row_of new.device before ≡ o → o ≡ None
+    absent None is = refl
+    absent (Some x) is = absurd (true≢false (sym (found_passes (is_of new.device) before x is) ∙ number_sym new.device x.device ∙ (apart_last (in_state Pending new) x before whole (found_in (is_of new.device) before x is)).device))
 
-    other : Among r before → (b : Bool) → nat_eq device r.device ≡ b → cond b Pending (state_or_pending (row_of r.device before)) ≡ r.state
-    other old false is = found_state before r apart old
+    own : t.device ≡ new.device → state_by_command (Added device) before t ≡ Pending
+    own is = ap (λ (d : ℕ). cond (nat_eq device d && not (stands_again (row_of d before) (Some t))) Pending (state_or_pending (row_of d before))) is
+        ∙ ap (λ (b : Bool). cond (b && not (stands_again (row_of new.device before) (Some t))) Pending (state_or_pending (row_of new.device before))) own_device
+        ∙ ap (λ (o : Option PairRow). cond (not (stands_again o (Some t))) Pending (state_or_pending o)) (absent (row_of new.device before) refl)
+
+    other : Among r before → (b : Bool) → nat_eq device r.device ≡ b → b ≡ false
+    other old false is = refl
     other old true is =
         absurd (true≢false (sym (eq-eqb r.device new.device (sym (eqb-true device r.device is) ∙ eqb-true device new.device own_device)) ∙ (apart_last (in_state Pending new) r before whole old).device))
 
-resumed_state : (device : ℕ) (before : List PairRow) → none_clash before ≡ true → (r : PairRow) → Among r (with_state device Pending before) → state_by_command (Resumed device) before r.device ≡ r.state
-resumed_state device before apart r there =
-    let was = among_map (changed_row device Pending) r before there in
-    subst (λ (x : PairRow). state_by_command (Resumed device) before x.device ≡ x.state) was.is (choose was.row was.among (nat_eq device was.row.device) refl)
+-- The state in which a resume leaves rows: the row is pending, or is suspended again as it was.
+resumed_state : (device : ℕ) (before : List PairRow) (p : Option PairRow) → none_clash before ≡ true → (r t : PairRow) → Among r (cond (stands_again (row_of device before) p) before (with_state device Pending before)) → IsBehind r t
+    → (nat_eq device t.device ≡ true → p ≡ Some t) → state_by_command (Resumed device) before t ≡ r.state
+resumed_state device before p apart r t there behind found = choose (stands_again (row_of device before) p) refl there
   where
-    choose : (w : PairRow) → Among w before → (b : Bool) → nat_eq device w.device ≡ b → (let x : PairRow = changed_row device Pending w in state_by_command (Resumed device) before x.device ≡ x.state)
-    choose w among true is = rw is (rw is refl)
-    choose w among false is = rw is (rw is (found_state before w apart among))
+    -- what becomes of the row that was before
+    was_row : (w : PairRow) → Among w before → t.device ≡ w.device → (again : Bool) → stands_again (row_of device before) p ≡ again → (b : Bool) → nat_eq device w.device ≡ b
+        → state_by_command (Resumed device) before t ≡ cond (b && not again) Pending w.state
+    was_row w among same again is false other =
+        ap (λ (d : ℕ). cond (nat_eq device d && not (stands_again (row_of d before) (Some t))) Pending (state_or_pending (row_of d before))) same
+        ∙ ap (λ (b : Bool). cond (b && not (stands_again (row_of w.device before) (Some t))) Pending (state_or_pending (row_of w.device before))) other
+        ∙ found_state before w apart among
+    was_row w among same again is true own =
+        let here : nat_eq device t.device ≡ true = ap (nat_eq device) same ∙ own in
+        let itself : stands_again (row_of t.device before) (Some t) ≡ again = ap (λ (d : ℕ). stands_again (row_of d before) (Some t)) (sym (eqb-true device t.device here)) ∙ ap (stands_again (row_of device before)) (sym (found here)) ∙ is in
+        ap (λ (b : Bool). cond (b && not (stands_again (row_of t.device before) (Some t))) Pending (state_or_pending (row_of t.device before))) here
+        ∙ ap (λ (b : Bool). cond (not b) Pending (state_or_pending (row_of t.device before))) itself
+        ∙ ap (λ (d : ℕ). cond (not again) Pending (state_or_pending (row_of d before))) same
+        ∙ ap (λ (x : PairState). cond (not again) Pending x) (found_state before w apart among)
 
-begun_state : (change : Change) (before after : List PairRow) (s : Group) → MayBeBegun s change before after → none_clash before ≡ true → none_clash (rows_by_command change before after) ≡ true → (r : PairRow) → Among r (rows_by_command change before after)
-    → state_by_command change before r.device ≡ r.state
-begun_state Nothing before after s begun apart whole r there = found_state before r apart there
-begun_state Started before after s begun apart whole r there = found_state before r apart there
-begun_state (Added device) before after s begun apart whole r there = choose (row_of device after) refl begun whole there
+    device_is : t.device ≡ r.device
+    device_is = ap (λ (x : PairRow). x.device) behind
+
+    stated_device : (w : PairRow) → (let x : PairRow = changed_row device Pending w in x.device) ≡ w.device
+    stated_device w = by (is_of device w)
+      where
+        by : (b : Bool) → (let x : PairRow = cond b (in_state Pending w) w in x.device) ≡ w.device
+        by true = refl
+        by false = refl
+
+    stated_state : (w : PairRow) → (let x : PairRow = changed_row device Pending w in x.state) ≡ cond (nat_eq device w.device && true) Pending w.state
+    stated_state w = by (is_of device w)
+      where
+        by : (b : Bool) → (let x : PairRow = cond b (in_state Pending w) w in x.state) ≡ cond (b && true) Pending w.state
+        by true = refl
+        by false = refl
+
+    stays : (b : Bool) → (state : PairState) → cond (b && false) Pending state ≡ state
+    stays true state = refl
+    stays false state = refl
+
+    choose : (again : Bool) → stands_again (row_of device before) p ≡ again → Among r (cond again before (with_state device Pending before)) → state_by_command (Resumed device) before t ≡ r.state
+    choose true is there = was_row r there device_is true is (nat_eq device r.device) refl ∙ stays (nat_eq device r.device) r.state
+    choose false is there =
+        let was = among_map (changed_row device Pending) r before there in
+        let same : t.device ≡ was.row.device = device_is ∙ sym (ap (λ (x : PairRow). x.device) was.is) ∙ stated_device was.row in
+        was_row was.row was.among same false is (nat_eq device was.row.device) refl ∙ sym (stated_state was.row) ∙ ap (λ (x : PairRow). x.state) was.is
+
+begun_state : (change : Change) (before after : List PairRow) (s : Group) → MayBeBegun s change before after → none_clash before ≡ true → none_clash (rows_by_command change before after) ≡ true → none_clash after ≡ true → (r t : PairRow)
+    → Among r (rows_by_command change before after) → Among t after → IsBehind r t → state_by_command change before t ≡ r.state
+begun_state Nothing before after s begun apart whole clear r t there among behind = not_begun Nothing before r t behind refl apart there
+begun_state Started before after s begun apart whole clear r t there among behind = not_begun Started before r t behind refl apart there
+begun_state (Added device) before after s begun apart whole clear r t there among behind = choose (row_of device after) refl begun whole there
   where
     choose : (o : Option PairRow) → row_of device after ≡ o → IsSomeAnd o (λ x. (x.control < length s.controls) × (counts (control_at s x.control).phase ≡ true)) → none_clash (before ++ as_pending o) ≡ true → Among r (before ++ as_pending o)
-        → state_by_command (Added device) before r.device ≡ r.state
+        → state_by_command (Added device) before t ≡ r.state
     choose None is none whole there = absurd none
-    choose (Some new) is begun whole there = added_state device before new after is apart whole r there
-begun_state (Resumed device) before after s begun apart whole r there = resumed_state device before apart r there
-begun_state (Gone devices) before after s begun apart whole r there = found_state before r apart (among_kept (λ x. not (is_among x.device devices)) r before there).0
-begun_state (SuspendedRows devices) before after s begun apart whole r there = found_state before r apart there
-begun_state Ended before after s begun apart whole r there = found_state before r apart there
+    choose (Some new) is begun whole there = added_state device before new after is apart whole r t there behind
+begun_state (Resumed device) before after s begun apart whole clear r t there among behind =
+    resumed_state device before (row_of device after) apart r t there behind (λ is. ap (λ (d : ℕ). row_of d after) (eqb-true device t.device is) ∙ found_of_device t after clear among)
+begun_state (Gone devices) before after s begun apart whole clear r t there among behind = not_begun (Gone devices) before r t behind refl apart (among_kept (λ x. not (is_among x.device devices)) r before there).0
+begun_state (SuspendedRows devices) before after s begun apart whole clear r t there among behind = not_begun (SuspendedRows devices) before r t behind refl apart there
+begun_state Ended before after s begun apart whole clear r t there among behind = not_begun Ended before r t behind refl apart there
 
-same_drops : (change : Change) (before rows next : List PairRow) → InPlaces IsSuspendedSince rows next → ((r : PairRow) → Among r rows → state_by_command change before r.device ≡ r.state) → drops_in rows next ≡ flat_map (drop_calls change before) next
+same_drops : (change : Change) (before rows next : List PairRow) → InPlaces IsSuspendedSince rows next → ((r t : PairRow) → Among r rows → Among t next → IsBehind r t → state_by_command change before t ≡ r.state)
+    → drops_in rows next ≡ flat_map (drop_calls change before) next
 same_drops change before [] [] follow states = refl
 same_drops change before [] (t ∷ next) follow states = absurd follow
 same_drops change before (r ∷ rows) [] follow states = absurd follow
 same_drops change before (r ∷ rows) (t ∷ next) follow states =
-    let device : t.device ≡ r.device = ap (λ (x : PairRow). x.device) follow.0.same in
-    let was : r.state ≡ state_by_command change before t.device = sym (ap (state_by_command change before) device ∙ states r (Here rows)) in
+    let was : r.state ≡ state_by_command change before t = sym (states r t (Here rows) (Here next) follow.0.same) in
     ap (λ (x : PairState). drop_call t (drop_between x t.state) ++ drops_in rows next) was
-    ∙ ap (λ (calls : List Call). drop_calls change before t ++ calls) (same_drops change before rows next follow.1 (λ x there. states x (Later r rows there)))
+    ∙ ap (λ (calls : List Call). drop_calls change before t ++ calls) (same_drops change before rows next follow.1 (λ x y there among. states x y (Later r rows there) (Later t next among)))
+
+-- Suspensions leave each row's pair, so rows that don't clash don't behind them.
+same_behind : (rows next : List PairRow) → InPlaces IsSuspendedSince rows next → pairs_of next ≡ pairs_of rows
+same_behind [] [] follow = refl
+same_behind [] (t ∷ next) follow = absurd follow
+same_behind (r ∷ rows) [] follow = absurd follow
+same_behind (r ∷ rows) (t ∷ next) follow = λ i. pair_of (follow.0.same i) ∷ same_behind rows next follow.1 i
 
 -- ---- the whole change
 
 pub change_walk : (J : Group → List PairRow → Plans → Type 0) (fits : PairRow → Type 0) (steps : Steps J fits) (change : Change) (before after : List PairRow) (s : Group) (done : Plans) → MayTake s change before after → IfAdds change after (λ r. fits (in_state Pending r)) → J s before done
-    → Walked J (calls_of_change change before after) s after done
+    → Walked J (calls_of_change change s before after) s after done
 change_walk J fits steps change before after s done may fit j =
     let first = command_walk J fits steps change before after s done may.begun fit may.apart j in
-    let calls = command_calls change before after in
-    let same = same_drops change before (rows_by_command change before after) after may.follow (begun_state change before after s may.begun (steps.kept s before done j).apart may.apart) in
-    let second = drops_walk J fits steps [] (rows_by_command change before after) after (after_calls calls s) (plans_after_calls calls done) may.follow first.ends in
+    let calls = command_calls change s before after in
+    let rows = rows_by_command change before after in
+    let clear = apart_still rows after (same_behind rows after may.follow) may.apart in
+    let same = same_drops change before rows after may.follow (λ r t. begun_state change before after s may.begun (steps.kept s before done j).apart may.apart clear r t) in
+    let second = drops_walk J fits steps [] rows after (after_calls calls s) (plans_after_calls calls done) may.follow first.ends in
     walked_then J calls (flat_map (drop_calls change before) after) s after done first.may
     (subst (λ (drops : List Call). Walked J drops (after_calls calls s) after (plans_after_calls calls done)) same second)

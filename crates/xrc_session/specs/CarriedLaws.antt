@@ -79,7 +79,7 @@ pub record FitsOn (start : PlantState) (size : Sizes) (r : PairRow) : Type 0 whe
 -- the state behind the calls that a change makes, with the rows after it
 abbrev pub between_taken : Change → (after : List PairRow) → Between → Between
 between_taken change after b =
-    let calls = calls_of_change change b.point.rows after in
+    let calls = calls_of_change change b.group b.point.rows after in
     record b { group = after_calls calls b.group; point = record b.point { rows = after }; done = plans_after_calls calls b.done }
 
 -- If the state stands for rows, it keeps for them what a change asks.

@@ -72,12 +72,12 @@ pub record StaysForReaders (old new : Group) : Type 0 where
   pub phase : (k : ℕ) → k < length old.controls → (control_at new k).phase ≡ (control_at old k).phase
 
 abbrev pub ChangesStayForReaders : Type 0
-ChangesStayForReaders = (change : Change) (before after : List PairRow) (s : Group) → StaysForReaders s (after_calls (calls_of_change change before after) s)
+ChangesStayForReaders = (change : Change) (before after : List PairRow) (s : Group) → StaysForReaders s (after_calls (calls_of_change change s before after) s)
 
 -- The lanes are the controls' behind a change, if the volume of the row that it adds is one of its lane's header.
 abbrev pub LanesStandBehindChanges : {S : Type 0} → List (Lane S) → Type 0
 LanesStandBehindChanges lanes = (limit : ℕ) (change : Change) (before after : List PairRow) (s : Group) → AreLanesOf s limit lanes → IfAdds change after (IsRowOfLane lanes)
-    → AreLanesOf (after_calls (calls_of_change change before after) s) limit lanes
+    → AreLanesOf (after_calls (calls_of_change change s before after) s) limit lanes
 
 -- A mover that begins with a state that keeps volumes for rows knows these rows.
 abbrev pub KeptRowsAreKnown : Type 0
@@ -101,7 +101,7 @@ pub record IsTakenOver {P : Type 0} (tells : Type 0) (at : ℕ) (change : Change
   pub may : MayChange tells at change site old
   pub logs : LogsChange at change site next old was is (Ok tt)
   pub leaves : Leaves tells (λ e. e) site next old new
-  pub calls : end ≡ after_calls (calls_of_change change before next.table.rows) group
+  pub calls : end ≡ after_calls (calls_of_change change group before next.table.rows) group
   pub kept : KeepsForRows end next.table.rows
   pub told : hit_now next.failed next.told ≡ []
 

@@ -110,7 +110,7 @@ pub record LogsFrom (tells : Type 0) (b : Between) (cut : ℕ) (change : Change)
 -- What its record excepts, and a mark that the record needs first, is owed once the change was taken over.
 abbrev pub ExceptedBehindChangesAreOwed : (tells : Type 0) → (old new : PlantState) → Type 0
 ExceptedBehindChangesAreOwed tells old new = (b : Between) (cut : ℕ) (change : Change) (site next : SiteState) (after : List PairRow) (logs : LogsFrom tells b cut change site next after old new)
-    → ExceptedAreOwed b.size (excepted_behind site.told logs.deeds b.excepted) (after_calls (calls_of_change change b.point.rows after) b.group) after
+    → ExceptedAreOwed b.size (excepted_behind site.told logs.deeds b.excepted) (after_calls (calls_of_change change b.group b.point.rows after) b.group) after
 
 -- So the state stands for the rows behind it.
 abbrev pub RowsStandBehindChanges : (tells : Type 0) → (old new : PlantState) → Type 0

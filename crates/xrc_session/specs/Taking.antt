@@ -1,5 +1,5 @@
 -- A command's change of rows taken over into the shared state: what the state keeps for rows, and the calls that a change makes.
-use Rattle.std.specs.Prelude.{◌≡◌, ℕ, ◌<◌, ◌==◌, ◌&&◌, not, List, [], ◌∷◌, ◌++◌, filter, length, Bool, true, false, Option, Some, None, IfSome, IsSomeAnd, IsTrue, if◌then◌else◌}
+use Rattle.std.specs.Prelude.{◌≡◌, ℕ, ◌<◌, ◌==◌, ◌&&◌, ◌||◌, not, List, [], ◌∷◌, ◌++◌, filter, length, Bool, true, false, Option, Some, None, IfSome, IsSomeAnd, IsTrue, if◌then◌else◌}
 use Rattle.std.specs.List.{Contains, flat_map}
 use Rattle.change_map.specs.Sets.{every_track}
 use Rattle.copy_plan.specs.Plans.{fresh_plan}
@@ -18,9 +18,10 @@ use Rattle.group_state.specs.Machine.{Call, group_after}
 use Rattle.group_state.specs.Machine.Call.{Carry, Drop, Forget, Resume}
 use Rattle.group_state.specs.Runs.{May}
 use Rattle.group_state.specs.Sound.{KeepsGroup}
-use Rattle.record_rows.specs.Hits.{is_by_device}
+use Rattle.record_rows.specs.Hits.{is_by_device, is_device_suspended}
 use Rattle.record_rows.specs.Told.{InPlaces}
 use Rattle.consistency.specs.Bears.{tracks_of_row}
+use Rattle.consistency.specs.Owing.{is_same_state}
 use Rattle.fed_logs.specs.Logs.{IsPlanDone}
 use Rattle.fed_logs.specs.Moves.{Plans, plans_without}
 use Rattle.mover.specs.Told.{IsCarriedAsLive, KeptHaveRows}
@@ -69,14 +70,25 @@ is_begun (Added device) d = device == d
 is_begun (Resumed device) d = device == d
 is_begun change d = false
 
+-- Whether a row is suspended as it was before: since the same time, and for the same cause.
+abbrev pub is_suspended_as : (was is : PairState) → Bool
+is_suspended_as was is = is_suspended is && is_same_state was is
+
+-- Whether a device's row is suspended behind a command as it was before. Where a command resumes the row, no record shows it in another state.
+abbrev pub stands_again : (before after : Option PairRow) → Bool
+stands_again None after = false
+stands_again (Some r) None = false
+stands_again (Some r) (Some s) = is_suspended_as r.state s.state
+
 abbrev pub as_pending : Option PairRow → List PairRow
 as_pending None = []
 as_pending (Some r) = in_state Pending r ∷ []
 
--- The rows that a command leaves of those before it, without its suspensions. The row that it adds is found among those after it.
+-- The rows that a command leaves of those before it, without its suspensions. The row that it adds is found among those after it. One that it
+-- resumes, and that is suspended again as it was, stays.
 abbrev pub rows_by_command : Change → (before after : List PairRow) → List PairRow
 rows_by_command (Added device) before after = before ++ as_pending (row_of device after)
-rows_by_command (Resumed device) before after = with_state device Pending before
+rows_by_command (Resumed device) before after = if stands_again (row_of device before) (row_of device after) then before else with_state device Pending before
 rows_by_command (Gone devices) before after = filter (λ r. not (is_among r.device devices)) before
 rows_by_command change before after = before
 
@@ -85,20 +97,32 @@ abbrev pub carry_calls : Option PairRow → List Call
 carry_calls None = []
 carry_calls (Some r) = Carry r.control r.volume (fresh_plan (every_track (tracks_of_row r))) ∷ []
 
--- A resumed row's volume is carried again, and the tracks in its map are wanted.
-abbrev pub resume_calls : Option PairRow → List Call
-resume_calls None = []
-resume_calls (Some r) = Resume r.control r.volume ∷ []
+-- how many tracks a row's volume owes
+abbrev pub tracks_owed_to : Group → Option PairRow → ℕ
+tracks_owed_to s None = 0
+tracks_owed_to s (Some r) = owed r.volume (control_at s r.control).volumes
+
+-- Whether a row that is suspended again as it was owes all of its tracks. Since its time is the command's, no track of it has changed since: it owes
+-- all if it owed any, and all if its own device has failed.
+abbrev pub owes_again : (owed : ℕ) → PairState → Bool
+owes_again owed state = is_device_suspended state || not (owed == 0)
+
+-- A resumed row's volume is carried again, and the tracks in its map are wanted. If the row is suspended again as it was, its volume is dropped.
+abbrev pub resume_calls : Group → (before after : Option PairRow) → List Call
+resume_calls s None after = []
+resume_calls s (Some r) after =
+    Resume r.control r.volume
+    ∷ (if stands_again (Some r) after then Drop r.control r.volume (owes_again (tracks_owed_to s (Some r)) r.state) ∷ [] else [])
 
 -- The volume of a row that goes is dropped and forgotten.
 abbrev pub forget_calls : (devices : List ℕ) → PairRow → List Call
 forget_calls devices r = if is_among r.device devices then Drop r.control r.volume true ∷ Forget r.control r.volume ∷ [] else []
 
-abbrev pub command_calls : Change → (before after : List PairRow) → List Call
-command_calls (Added device) before after = carry_calls (row_of device after)
-command_calls (Resumed device) before after = resume_calls (row_of device before)
-command_calls (Gone devices) before after = flat_map (forget_calls devices) before
-command_calls change before after = []
+abbrev pub command_calls : Change → Group → (before after : List PairRow) → List Call
+command_calls (Added device) s before after = carry_calls (row_of device after)
+command_calls (Resumed device) s before after = resume_calls s (row_of device before) (row_of device after)
+command_calls (Gone devices) s before after = flat_map (forget_calls devices) before
+command_calls change s before after = []
 
 -- ---- suspensions
 
@@ -125,19 +149,20 @@ abbrev pub state_or_pending : Option PairRow → PairState
 state_or_pending None = Pending
 state_or_pending (Some r) = r.state
 
--- the state in which a command leaves a device's row
-abbrev pub state_by_command : Change → (before : List PairRow) → (device : ℕ) → PairState
-state_by_command change before d = if is_begun change d then Pending else state_or_pending (row_of d before)
+-- The state in which a command left a row, as it is behind the suspensions that followed.
+abbrev pub state_by_command : Change → (before : List PairRow) → PairRow → PairState
+state_by_command change before r =
+    if is_begun change r.device && not (stands_again (row_of r.device before) (Some r)) then Pending else state_or_pending (row_of r.device before)
 
 abbrev pub drop_calls : Change → (before : List PairRow) → PairRow → List Call
-drop_calls change before r = drop_call r (drop_between (state_by_command change before r.device) r.state)
+drop_calls change before r = drop_call r (drop_between (state_by_command change before r) r.state)
 
 -- ---- a change
 
 -- The calls of the shared state for a command's change: what the command itself asks, and then a drop for each row that is suspended by the
 -- command or by a failure behind it.
-abbrev pub calls_of_change : Change → (before after : List PairRow) → List Call
-calls_of_change change before after = command_calls change before after ++ flat_map (drop_calls change before) after
+abbrev pub calls_of_change : Change → Group → (before after : List PairRow) → List Call
+calls_of_change change s before after = command_calls change s before after ++ flat_map (drop_calls change before) after
 
 -- A row is as the command left it, but for a suspension that drops its volume.
 pub record IsSuspendedSince (r s : PairRow) : Type 0 where
@@ -165,10 +190,6 @@ pub record MayTake (s : Group) (change : Change) (before after : List PairRow) :
 abbrev pub tracks_of_added : Option PairRow → ℕ
 tracks_of_added None = 0
 tracks_of_added (Some r) = tracks_of_row r
-
-abbrev pub tracks_owed_to : Group → Option PairRow → ℕ
-tracks_owed_to s None = 0
-tracks_owed_to s (Some r) = owed r.volume (control_at s r.control).volumes
 
 abbrev pub tracks_to_copy : Change → Group → (before after : List PairRow) → ℕ
 tracks_to_copy (Added device) s before after = tracks_of_added (row_of device after)

@@ -6,17 +6,20 @@ ghost use Rattle.std.specs.Option.{option_copied};
 ghost use Rattle.pair_table.specs.Devices.{is_among};
 ghost use Rattle.pair_table.specs.Rows.{keeps_row_rules};
 ghost use Rattle.pair_table.specs.Tables.{row_of};
-ghost use Rattle.record_rows.specs.Hits.{is_by_device};
+ghost use Rattle.pair_table.specs.Rows.{cause_number};
+ghost use Rattle.pair_table.specs.declared.row.PairState.TheVariants.{Suspended};
+ghost use Rattle.record_rows.specs.Hits.{is_by_device, is_device_suspended};
 ghost use Rattle.consistency.specs.Bears.{tracks_of_row};
 ghost use Rattle.xrc_session.specs.Taking.{AllMay, KeepsForRows, MayTake, after_calls, calls_of_change, carry_calls, command_calls};
-ghost use Rattle.xrc_session.specs.Taking.{drop_between, drop_by, drop_call, drop_calls, forget_calls, is_adding, is_begun, state_by_command, tracks_to_copy};
+ghost use Rattle.xrc_session.specs.Taking.{drop_between, drop_by, drop_call, drop_calls, forget_calls, is_adding, is_begun, is_suspended_as};
+ghost use Rattle.xrc_session.specs.Taking.{resume_calls, stands_again, state_by_command, tracks_owed_to, tracks_to_copy};
 
 use change_map::ChangeMap;
 use copy_plan::CopyPlan;
 use group_state::GroupState;
 use pair_table::{Change, PairRow, PairState, PairTable, SuspendCause};
 use std::alloc::Global;
-use tod_stamp::TRACKS_OF_CYLINDER;
+use tod_stamp::{Stamp, TRACKS_OF_CYLINDER};
 use xrc_edge::NoMemory;
 
 /// Whether a pair is suspended by its own device.
@@ -26,6 +29,51 @@ fn is_by_device(cause: SuspendCause) -> bool
     match cause {
         SuspendCause::Device => true,
         SuspendCause::Command | SuspendCause::Session | SuspendCause::Control => false,
+    }
+}
+
+/// Whether a row in this state is suspended by its own device.
+fn is_device_suspended(state: PairState) -> bool
+    ensures { result ≡ is_device_suspended state }
+{
+    match state {
+        PairState::Suspended { cause, since: _ } => is_by_device(cause),
+        PairState::Pending | PairState::Copy | PairState::Duplex => false,
+    }
+}
+
+/// The number of a cause. Each has its own.
+fn cause_number(cause: SuspendCause) -> u8
+    ensures { result ≡ cause_number cause }
+{
+    match cause {
+        SuspendCause::Command => 1,
+        SuspendCause::Device => 2,
+        SuspendCause::Session => 3,
+        SuspendCause::Control => 4,
+    }
+}
+
+/// Whether a row is suspended for a cause and since a time.
+fn is_suspended_by(was: PairState, cause: SuspendCause, since: Stamp) -> bool
+    ensures { result ≡ is_suspended_as was (Suspended cause since) }
+{
+    match was {
+        PairState::Suspended {
+            cause: first,
+            since: from,
+        } => cause_number(first) == cause_number(cause) && from.0 == since.0,
+        PairState::Pending | PairState::Copy | PairState::Duplex => false,
+    }
+}
+
+/// Whether a row is suspended as it was before: since the same time, and for the same cause.
+fn is_suspended_as(was: PairState, is: PairState) -> bool
+    ensures { result ≡ is_suspended_as was is }
+{
+    match is {
+        PairState::Suspended { cause, since } => is_suspended_by(was, cause, since),
+        PairState::Pending | PairState::Copy | PairState::Duplex => false,
     }
 }
 
@@ -84,15 +132,26 @@ fn is_begun(change: &Change, device: u16) -> bool
     }
 }
 
-/// The state in which a command leaves a device's row.
-fn state_by_command(change: &Change, before: &[PairRow], device: u16) -> PairState
-    ensures { result ≡ state_by_command change.now before.now device }
+/// Whether a device's row is suspended behind a command as it was before.
+fn stands_again(before: Option<&PairRow>, after: Option<&PairRow>) -> bool
+    ensures { result ≡ stands_again (option_copied before.entry) (option_copied after.entry) }
 {
-    if is_begun(change, device) {
+    match (before, after) {
+        (Some(was), Some(is)) => is_suspended_as(was.state, is.state),
+        _ => false,
+    }
+}
+
+/// The state in which a command left a row, as it is behind the suspensions that followed.
+fn state_by_command(change: &Change, before: &[PairRow], row: &PairRow) -> PairState
+    ensures { result ≡ state_by_command change.now before.now row.now }
+{
+    let was = row_of(before, row.device);
+    if is_begun(change, row.device) && !stands_again(was, Some(row)) {
         return PairState::Pending;
     }
-    match row_of(before, device) {
-        Some(row) => row.state,
+    match was {
+        Some(found) => found.state,
         None => PairState::Pending,
     }
 }
@@ -110,6 +169,21 @@ fn carry_row(alloc: Global, group: &mut GroupState, row: &PairRow) -> Result<u32
     let map = ChangeMap::make(alloc, tracks)?;
     group.carry(alloc, row.control, row.volume, plan, map)?;
     Ok(tracks)
+}
+
+/// Carries a resumed row's volume again, and tells how many of its tracks are wanted. If the row is suspended again as it was, its volume
+/// is dropped again. No track has changed since then, so it owes all if it owed any, and all if its own device has failed.
+fn resume_row(group: &mut GroupState, was: &PairRow, after: Option<&PairRow>) -> u32
+    requires may { AllMay (resume_calls group.old (Some was.now) (option_copied after)) group.old }
+    ensures calls { group.new ≡ after_calls (resume_calls group.old (Some was.now) (option_copied after.entry)) group.old }
+    ensures tracks { result ≡ tracks_owed_to group.old (Some was.now) }
+{
+    let tracks = group.resume(was.control, was.volume);
+    if stands_again(Some(was), after) {
+        let all = is_device_suspended(was.state) || tracks != 0;
+        group.drop_volume(was.control, was.volume, all);
+    }
+    tracks
 }
 
 /// Drops and forgets the volume of a row, if its device is one of those whose rows go.
@@ -141,8 +215,8 @@ fn take_command(
     table: &PairTable,
     change: &Change,
 ) -> Result<u32, NoMemory>
-    requires may { AllMay (command_calls change.now before.now table.now.rows) group.old }
-    ensures calls { OnOk result (group.new ≡ after_calls (command_calls change.now before.now table.now.rows) group.old) }
+    requires may { AllMay (command_calls change.now group.old before.now table.now.rows) group.old }
+    ensures calls { OnOk result (group.new ≡ after_calls (command_calls change.now group.old before.now table.now.rows) group.old) }
     ensures tracks { IfOk result (λ tracks. tracks ≡ tracks_to_copy change.now group.old before.now table.now.rows) }
     ensures err { OnErr result (group.new ≡ group.old) }
     ensures memory { OnErr result (IsTrue (is_adding change.now)) }
@@ -153,7 +227,7 @@ fn take_command(
             None => Ok(0),
         },
         Change::Resumed(device) => match row_of(before, *device) {
-            Some(row) => Ok(group.resume(row.control, row.volume)),
+            Some(row) => Ok(resume_row(group, row, table.row_of(*device))),
             None => Ok(0),
         },
         Change::Gone(devices) => {
@@ -183,7 +257,7 @@ fn drop_suspended(group: &mut GroupState, before: &[PairRow], table: &PairTable,
         let Some(row) = table.row(place) else {
             unreachable!()
         };
-        let was = state_by_command(change, before, row.device);
+        let was = state_by_command(change, before, row);
         drop_row(group, was, row);
     }
 }
@@ -192,7 +266,8 @@ fn drop_suspended(group: &mut GroupState, before: &[PairRow], table: &PairTable,
 /// are to be copied. `before` has the rows before the command, and `table` has the rows after the change was logged.
 ///
 /// - An added row's volume begins to be carried, and all of its tracks are wanted.
-/// - A resumed row's volume is carried again, and the tracks in its map are wanted.
+/// - A resumed row's volume is carried again, and the tracks in its map are wanted. If the row is suspended again as it was, its volume is
+///   dropped again, and owes what it did.
 /// - The volume of a row that goes is forgotten.
 /// - The volume of a row that becomes suspended is dropped, with all of its tracks. If the row was duplex and its own device doesn't
 ///   suspend it, only what changes from then on is mapped.
@@ -208,7 +283,7 @@ pub fn take_change(
 ) -> Result<u32, NoMemory>
     requires kept { KeepsForRows group.old before.now }
     requires may { MayTake group.old change.now before.now table.now.rows }
-    ensures calls { OnOk result (group.new ≡ after_calls (calls_of_change change.now before.now table.now.rows) group.old) }
+    ensures calls { OnOk result (group.new ≡ after_calls (calls_of_change change.now group.old before.now table.now.rows) group.old) }
     ensures kept { OnOk result (KeepsForRows group.new table.now.rows) }
     ensures tracks { IfOk result (λ tracks. tracks ≡ tracks_to_copy change.now group.old before.now table.now.rows) }
     ensures err { OnErr result (group.new ≡ group.old) }

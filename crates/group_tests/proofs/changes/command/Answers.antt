@@ -39,8 +39,8 @@ returns g c =
     let may : MayCommand pairs.names next.rows = subst (λ (t : Table). MayCommand pairs.names t.rows) after c.command-answer.ensures.again in
     let before : c.as_slice.result.now ≡ pairs.table.rows = search rules in
     let taken : c.take_change-taken.result ≡ Ok c.expect.result = search rules in
-    let calls : c.take_change-taken.new.group ≡ after_calls (calls_of_change change c.as_slice.result.now made.rows) pairs.state =
-    subst (λ r. OnOk r (c.take_change-taken.new.group ≡ after_calls (calls_of_change change c.as_slice.result.now made.rows) pairs.state)) taken c.take_change-taken.ensures.calls in
+    let calls : c.take_change-taken.new.group ≡ after_calls (calls_of_change change pairs.state c.as_slice.result.now made.rows) pairs.state =
+    subst (λ r. OnOk r (c.take_change-taken.new.group ≡ after_calls (calls_of_change change pairs.state c.as_slice.result.now made.rows) pairs.state)) taken c.take_change-taken.ensures.calls in
     subst (λ (s : Group). TakesChanges pairs.names made s) (sym calls)
-    (subst (λ (rows : List PairRow). TakesChanges pairs.names made (after_calls (calls_of_change change rows made.rows) pairs.state)) (sym before)
-    (subst (λ (t : Table). TakesChanges pairs.names t (after_calls (calls_of_change change pairs.table.rows t.rows) pairs.state)) (sym after) (commanded_again pairs.names pairs.table session command change c.args.at pairs.state c.requires is keeps may)))
+    (subst (λ (rows : List PairRow). TakesChanges pairs.names made (after_calls (calls_of_change change pairs.state rows made.rows) pairs.state)) (sym before)
+    (subst (λ (t : Table). TakesChanges pairs.names t (after_calls (calls_of_change change pairs.state pairs.table.rows t.rows) pairs.state)) (sym after) (commanded_again pairs.names pairs.table session command change c.args.at pairs.state c.requires is keeps may)))

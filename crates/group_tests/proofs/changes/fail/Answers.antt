@@ -28,8 +28,8 @@ returns g c =
     let checked : are_live c.as_slice.result.now ≡ true = search rules in
     let live : are_live pairs.table.rows ≡ true = subst (λ (rows : List PairRow). are_live rows ≡ true) first checked in
     let ok : c.take_change-taken.result ≡ Ok c.expect.result = search rules in
-    let calls : c.take_change-taken.new.group ≡ after_calls (calls_of_change Nothing c.as_slice-2.result.now next.rows) pairs.state =
-    subst (λ r. OnOk r (c.take_change-taken.new.group ≡ after_calls (calls_of_change Nothing c.as_slice-2.result.now next.rows) pairs.state)) ok c.take_change-taken.ensures.calls in
+    let calls : c.take_change-taken.new.group ≡ after_calls (calls_of_change Nothing pairs.state c.as_slice-2.result.now next.rows) pairs.state =
+    subst (λ r. OnOk r (c.take_change-taken.new.group ≡ after_calls (calls_of_change Nothing pairs.state c.as_slice-2.result.now next.rows) pairs.state)) ok c.take_change-taken.ensures.calls in
     subst (λ (s : Group). TakesChanges pairs.names next s) (sym calls)
-    (subst (λ (rows : List PairRow). TakesChanges pairs.names next (after_calls (calls_of_change Nothing rows next.rows) pairs.state)) (sym before)
-    (subst (λ (t : Table). TakesChanges pairs.names t (after_calls (calls_of_change Nothing pairs.table.rows t.rows) pairs.state)) (sym c.set_state.ensures) (failed_again pairs.names pairs.table 0 c.args.at pairs.state c.requires live)))
+    (subst (λ (rows : List PairRow). TakesChanges pairs.names next (after_calls (calls_of_change Nothing pairs.state rows next.rows) pairs.state)) (sym before)
+    (subst (λ (t : Table). TakesChanges pairs.names t (after_calls (calls_of_change Nothing pairs.state pairs.table.rows t.rows) pairs.state)) (sym c.set_state.ensures) (failed_again pairs.names pairs.table 0 c.args.at pairs.state c.requires live)))

@@ -84,7 +84,7 @@ returns-in_err-log g c =
     let l = c.log.ensures in
     let error = c.in_err-log.field-0.0 in
     let same : c.log.result ≡ c.from_residual.result = search rules in
-    let moved = log_fails tells c.args.limit c.form.result group seat turn site next old new c.log.result f may.knows apart may.rests.idle is c.form.ensures.carried l.ok l.leaves l.failed (λ d. l.others.faults (Volume d)) error c.in_err-log.was in
+    let moved = log_fails tells c.args.limit c.form.result group seat turn site next old new c.log.result f may.knows apart may.rests.idle may.marked is c.form.ensures.carried l.ok l.leaves l.failed (λ d. l.others.faults (Volume d)) error c.in_err-log.was in
     let works = log_works tells group site next old new c.log.result (c.table.ensures.told may.rests.level) l.others l.cause l.failed (on_err _ c.log.result error c.in_err-log.was) l.volumes (on_err _ c.log.result error c.in_err-log.was) (log_spent tells group site next old new c.log.result may.rests.fast l.ok l.unwritten) in
     record {
       may = search rules;
@@ -117,8 +117,8 @@ drop_suspended-requires-clause-controls g c =
     let rows_was = table_rows site c.table-2.result.now c.table-2.ensures.table c.table-2.ensures.told may.rests.level in
     let apart : none_clash site.told ≡ true = ap none_clash (sym rows_was) ∙ c.states_of-was.ensures.rules.apart in
     let l = c.log.ensures in
-    let still = log_still tells c.args.limit c.form.result group seat turn site next old new c.log.result f may.knows apart may.rests.idle is c.form.ensures.carried l.ok l.leaves l.failed (λ d. l.others.faults (Volume d)) c.in_ok-log.was in
-    let level = log_level tells c.args.limit c.form.result group seat turn site next old new c.log.result f may.knows apart may.rests.idle is c.form.ensures.carried l.ok l.leaves l.failed (λ d. l.others.faults (Volume d)) c.in_ok-log.was in
+    let still = log_still tells c.args.limit c.form.result group seat turn site next old new c.log.result f may.knows apart may.rests.idle may.marked is c.form.ensures.carried l.ok l.leaves l.failed (λ d. l.others.faults (Volume d)) c.in_ok-log.was in
+    let level = log_level tells c.args.limit c.form.result group seat turn site next old new c.log.result f may.knows apart may.rests.idle may.marked is c.form.ensures.carried l.ok l.leaves l.failed (λ d. l.others.faults (Volume d)) c.in_ok-log.was in
     let rows_then = table_rows next c.table-3.result.now c.table-3.ensures.table c.table-3.ensures.told level in
     subst (λ (l : List PairRow). AreOfControls (length turn.known) l) (sym rows_then) (subst (λ (n : ℕ). AreOfControls n next.told) (ap length (sym f.known)) (controls_still (length seat.known) site.told next.told still may.knows.rows.controls))
 
@@ -143,15 +143,15 @@ returns g c =
     let states = states_told site c.table-2.result.now.rows was rows_was c.states_of-was.ensures.states in
     let l = c.log.ensures in
     let later = λ (d : ℕ). l.others.faults (Volume d) in
-    let level = log_level tells c.args.limit c.form.result group seat turn site next old new c.log.result f may.knows apart may.rests.idle is c.form.ensures.carried l.ok l.leaves l.failed later c.in_ok-log.was in
-    let rest = log_rest tells c.args.limit c.form.result group seat turn site next old new c.log.result f may.knows apart may.rests.idle is c.form.ensures.carried l.ok l.leaves l.failed later c.in_ok-log.was in
-    let slots = log_slots tells c.args.limit c.form.result group seat turn site next old new c.log.result f may.knows apart may.rests.idle is c.form.ensures.carried l.ok l.leaves l.failed later c.in_ok-log.was in
+    let level = log_level tells c.args.limit c.form.result group seat turn site next old new c.log.result f may.knows apart may.rests.idle may.marked is c.form.ensures.carried l.ok l.leaves l.failed later c.in_ok-log.was in
+    let rest = log_rest tells c.args.limit c.form.result group seat turn site next old new c.log.result f may.knows apart may.rests.idle may.marked is c.form.ensures.carried l.ok l.leaves l.failed later c.in_ok-log.was in
+    let slots = log_slots tells c.args.limit c.form.result group seat turn site next old new c.log.result f may.knows apart may.rests.idle may.marked is c.form.ensures.carried l.ok l.leaves l.failed later c.in_ok-log.was in
     let rows_then = table_rows next c.table-3.result.now c.table-3.ensures.table c.table-3.ensures.told level in
     let drops = subst (λ (l : List PairRow). Drops was l turn end) rows_then c.drop_suspended.ensures.drops in
     let works = log_works tells group site next old new (Ok tt) (c.table.ensures.told may.rests.level) l.others c.in_ok-log.ensures.cause l.failed rest l.volumes slots (λ none. cc none) in
     record {
-      may = log_may tells c.args.limit c.form.result group seat turn site next old new c.log.result f may.knows apart may.rests.idle is c.form.ensures.carried l.ok l.leaves l.failed later c.in_ok-log.was end was states drops c.form.ensures.upto may.rests.fast;
-      moved = log_moved tells c.args.limit c.form.result group seat turn site next old new c.log.result f may.knows apart may.rests.idle is c.form.ensures.carried l.ok l.leaves l.failed later c.in_ok-log.was end was states drops;
+      may = log_may tells c.args.limit c.form.result group seat turn site next old new c.log.result f may.knows apart may.rests.idle may.marked is c.form.ensures.carried l.ok l.leaves l.failed later c.in_ok-log.was end was states drops c.form.ensures.upto may.rests.fast;
+      moved = log_moved tells c.args.limit c.form.result group seat turn site next old new c.log.result f may.knows apart may.rests.idle may.marked is c.form.ensures.carried l.ok l.leaves l.failed later c.in_ok-log.was end was states drops;
       cut = sym (drops.last ∙ f.last);
       limited = λ before. drops_keep_limit c.args.limit.0 (drops_from 0 was next.told) turn end drops (form_keeps_limit c.args.limit c.form.result group seat turn f before);
       room = c.form.ensures.room;

@@ -72,7 +72,7 @@ returns g c =
     let drops = subst (λ (l : List PairRow). Drops was l seat end) rows_then c.drop_suspended.ensures.drops in
     let told = c.requires.may.1.knows.told in
     record {
-      may = λ limit may. record { rests = k.rests; knows = kept_knows tells seat site next old new told end was states apart drops moved limit may.knows k.told };
+      may = λ limit may. record { rests = k.rests; marked = k.marked; knows = kept_knows tells seat site next old new told end was states apart drops moved limit may.knows k.told };
       moved = kept_moved tells seat site next old new told end was states apart drops moved;
       last = drops.last;
       limited = λ limit. drops_keep_limit limit (drops_from 0 was next.told) seat end drops;

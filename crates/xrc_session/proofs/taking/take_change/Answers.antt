@@ -12,7 +12,7 @@ take_command-requires c =
     let before = c.args.before.now in
     let after = c.args.table.now.rows in
     let walk = taken c.args.group.now change before after c.requires.kept c.requires.may in
-    record { may = first_may (command_calls change before after) (flat_map (drop_calls change before) after) c.args.group.now walk.may }
+    record { may = first_may (command_calls change c.args.group.now before after) (flat_map (drop_calls change before) after) c.args.group.now walk.may }
 
 pub drop_suspended-requires : goal.drop_suspended-requires
 drop_suspended-requires c =
@@ -21,7 +21,7 @@ drop_suspended-requires c =
     let after = c.args.table.now.rows in
     let drops = flat_map (drop_calls change before) after in
     let walk = taken c.args.group.now change before after c.requires.kept c.requires.may in
-    record { may = subst (AllMay drops) (sym c.in_ok-tracks.ensures.calls) (second_may (command_calls change before after) drops c.args.group.now walk.may) }
+    record { may = subst (AllMay drops) (sym c.in_ok-tracks.ensures.calls) (second_may (command_calls change c.args.group.now before after) drops c.args.group.now walk.may) }
 
 pub returns-clause-calls : goal.returns-clause-calls
 returns-clause-calls c =
@@ -29,7 +29,7 @@ returns-clause-calls c =
     let before = c.args.before.now in
     let after = c.args.table.now.rows in
     let drops = flat_map (drop_calls change before) after in
-    c.drop_suspended.ensures.calls ∙ ap (after_calls drops) c.in_ok-tracks.ensures.calls ∙ sym (after_both (command_calls change before after) drops c.args.group.now)
+    c.drop_suspended.ensures.calls ∙ ap (after_calls drops) c.in_ok-tracks.ensures.calls ∙ sym (after_both (command_calls change c.args.group.now before after) drops c.args.group.now)
 
 pub returns-clause-kept : goal.returns-clause-kept
 returns-clause-kept c =

@@ -169,6 +169,7 @@ returns-then-eq-clause-moments g c =
     let marked = last_way c.way_from-way.result (λ is. let no = (rw is at c.eq.ensures) in let yes = c.if-eq.true in cc (no, yes)) (λ is. let no = (rw is at c.eq.ensures) in let yes = c.if-eq.true in cc (no, yes)) in
     mark_does tells c.args.cut site old hits (formed g f) c.way_from-way.result (way_is g f) marked k.new.self new k.result
     (subst (λ (x : SiteState). MakesMark tells x.mark.ended (rows_with_hits x.level x.time k.new.self.failed x.told) x k.new.self old new k.result) (idle_site _ site c.self.view_is c.requires.ready.idle) k.ensures.makes)
+    (subst (λ (x : SiteState). OnOk k.result (k.new.self ≡ behind_mark x.mark.ended (rows_with_hits x.level x.time k.new.self.failed x.told) k.new.self.failed x)) (idle_site _ site c.self.view_is c.requires.ready.idle) k.ensures.ok)
 
 pub returns-then-eq-clause-others : goal.returns-then-eq-clause-others
 returns-then-eq-clause-others g c =
@@ -225,7 +226,7 @@ returns-in_err-put_record-clause-moments g c =
     let low : site.mark.at.number < 2 ^ 64 = omega (arith, ap (λ (x : SiteState). x.mark.at.number) c.self.view_is) in
     record_does tells c.args.cut site old hits (formed g f) c.way_from-way.result (way_is g f) plain enough low new c.put_record.ensures.only c.from_residual.result
     (shows_there tells c.way_from-way.result s.journal.marked site.mark.at s.journal.at site.at c.args.cut.0 c.form_hits.new.body.items (pairs_with_next (with_hits hits) site.told) old new c.put_record.result c.from_residual.result (c.self.invariant.marked_is ∙ ap (λ (x : SiteState). x.mark.at) c.self.view_is) (ap (λ (x : SiteState). x.at) c.self.view_is) (items_are g f) same c.put_record.ensures.shows)
-    _ (ap (λ (x : SiteState). x.failed) c.self.view_is)
+    _ (ap (λ (x : SiteState). x.failed) c.self.view_is) (at_error _ c.from_residual.result c.in_err-put_record.field-0.0 (sym same ∙ c.in_err-put_record.was))
 
 pub returns-in_err-put_record-clause-failed : goal.returns-in_err-put_record-clause-failed
 returns-in_err-put_record-clause-failed g c =
@@ -285,7 +286,13 @@ returns-clause-moments g c =
     let new = g.P.Plant.state c.put_record.new.plant in
     let low : site.mark.at.number < 2 ^ 64 = omega (arith, ap (λ (x : SiteState). x.mark.at.number) c.self.view_is) in
     let shows = shows_there tells c.way_from-way.result s.journal.marked site.mark.at s.journal.at site.at c.args.cut.0 c.form_hits.new.body.items (pairs_with_next (with_hits hits) site.told) old new c.put_record.result (Ok tt) (c.self.invariant.marked_is ∙ ap (λ (x : SiteState). x.mark.at) c.self.view_is) (ap (λ (x : SiteState). x.at) c.self.view_is) (items_are g f) c.in_ok-put_record.was c.put_record.ensures.shows in
+    let made_rows = rows_with_hits site.level c.args.cut.0 site.failed site.told in
+    let few : are_below 64 site.told ≡ true = subst (λ (l : List PairRow). are_below 64 l ≡ true) (rows_are g f) (rows_below _ site old c.self.view_is c.requires.ready.fast.fits) in
+    let made = ap (rows_in_states (with_hits hits)) (rows_are g f) ∙ hits_make_rows site.level c.args.cut site.failed site.told hits (formed g f).are few in
+    let next_is = logged_view _ site old.journals c.way_from-way.result c.args.cut.0 c.form_hits.new.body.items (pairs_with_next (with_hits hits) site.told) made_rows s.told.rows c.take_hits.new.table s.ahead c.put_record.new.journal.at c.self.view_is c.requires.ready.idle
+    (c.take_hits.ensures ∙ ap (with_rows s.table) made) (ap (λ (x : SiteState). x.is_ahead) c.self.view_is ∙ c.requires.ready.level) c.in_ok-put_record.ensures.at (items_are g f) in
     record_does tells c.args.cut site old hits (formed g f) c.way_from-way.result (way_is g f) plain enough low new c.put_record.ensures.only (Ok tt) shows _ (ap (λ (x : SiteState). x.failed) c.self.view_is)
+    (next_is ∙ plain_behind old.journals c.way_from-way.result c.args.cut.0 (pairs_with_next (with_hits hits) site.told) made_rows site plain)
 
 pub returns-clause-failed : goal.returns-clause-failed
 returns-clause-failed g c =
