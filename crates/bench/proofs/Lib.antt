@@ -1,2 +1,3 @@
 mod Singles
 mod Telling
+mod GroupRows

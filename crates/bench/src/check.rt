@@ -1,6 +1,6 @@
 //! Each benchmark once at a small size, so that its numbers can be compared.
 
-use crate::{apply, plant, queue, read, region, sets, trace, turns};
+use crate::{apply, plant, queue, read, region, sets, site, trace, turns};
 use anyhow::Result;
 use std::alloc::Global;
 use std::fs::File;
@@ -31,6 +31,8 @@ const CONTROLS: u16 = 16;
 /// Times that each seat tells.
 const TURNS: u32 = 1_000;
 
+const GROUPS: u32 = 5;
+
 /// What needs no file.
 fn in_memory<R: Print + Eprint + Clock>(rt: &R, alloc: Global) -> Result<()> {
     apply::run(rt, alloc, UPDATES)?;
@@ -47,7 +49,7 @@ fn traces<R: Files<File = File> + Print>(rt: &R, alloc: Global, file: &str) -> R
     read::run(rt, alloc, file)
 }
 
-/// Runs all. The file is a trace of each kind, and then a volume.
+/// Runs all. The file is a trace of each kind, and then a volume. The names of a site's files begin with its name.
 pub fn run<R>(rt: &R, alloc: Global, file: &str, input: Stdin, output: Stdout) -> Result<()>
 where
     R: Files<File = File> + Print + Eprint + Clock + Threads + Wait + Sync,
@@ -55,5 +57,6 @@ where
     in_memory(rt, alloc)?;
     turns::run(rt, alloc, CONTROLS, TURNS)?;
     traces(rt, alloc, file)?;
+    site::run(rt, alloc, file, GROUPS)?;
     plant::run(rt, alloc, file, BLOCKS, input, output)
 }

@@ -5,11 +5,15 @@
 mod apply;
 mod check;
 mod measure;
+mod plain_site;
 mod plant;
 mod queue;
 mod read;
 mod region;
 mod sets;
+mod site;
+mod site_calls;
+mod site_groups;
 mod trace;
 mod turns;
 mod words;
@@ -41,6 +45,7 @@ where
         Asked::Read { file } => read::run(rt, alloc, file),
         Asked::Region => region::run(rt, alloc, region::ROUNDS),
         Asked::Sets { tracks, times } => sets::run(rt, alloc, tracks, times),
+        Asked::Site { file, groups } => site::run(rt, alloc, file, groups),
         Asked::Spread { file, updates } => trace::write_spread(rt, alloc, file, updates),
         Asked::Turn { controls, times } => turns::run(rt, alloc, controls, times),
         Asked::Write {

@@ -22,7 +22,7 @@ const CONTENT: [u8; 80] = [0x5A; 80];
 const BLOCKS: u32 = 3_552;
 
 /// The stamp of each update, and the cut of each group.
-const STAMP: Stamp = Stamp(1);
+pub const STAMP: Stamp = Stamp(1);
 
 /// A batch of one update.
 fn batch_of(alloc: Global, track: u32) -> Result<Batch, NoMemory> {
@@ -54,7 +54,8 @@ fn batches(alloc: Global) -> Result<Vec<Batch>> {
     Ok(batches)
 }
 
-fn empty_queue(alloc: Global) -> Result<Queue>
+/// A queue in which nothing waits.
+pub fn empty_queue(alloc: Global) -> Result<Queue>
     ensures { IfOk result (λ queue. last_stamp queue.state.waiting ≤ 1) }
 {
     match Queue::make(alloc, 0, WRITES_OF_RUN as u32, BLOCKS) {
@@ -63,7 +64,8 @@ fn empty_queue(alloc: Global) -> Result<Queue>
     }
 }
 
-fn empty_group(alloc: Global) -> Result<Formed>
+/// A group without entries.
+pub fn empty_group(alloc: Global) -> Result<Formed>
     ensures { IfOk result (λ group. group.controls ≡ 1) }
 {
     match Formed::make(alloc, 1) {
@@ -73,7 +75,7 @@ fn empty_group(alloc: Global) -> Result<Formed>
 }
 
 /// Pushes a batch of one update.
-fn push(queue: &mut Queue, batch: &Batch) -> Result<()>
+pub fn push(queue: &mut Queue, batch: &Batch) -> Result<()>
     requires { last_stamp queue.old.state.waiting ≤ 1 }
     ensures { OnOk result (last_stamp queue.new.state.waiting ≤ 1) }
 {
@@ -100,7 +102,7 @@ fn push_each(queue: &mut Queue, batches: &[Batch]) -> Result<()>
 }
 
 /// Pops all that waits into the group, and tells how many entries that were.
-fn pop(queue: &mut Queue, group: &mut Formed) -> Result<u32>
+pub fn pop(queue: &mut Queue, group: &mut Formed) -> Result<u32>
     requires { group.old.controls ≡ 1 }
     ensures waiting { OnOk result (last_stamp queue.new.state.waiting ≤ 1) }
     ensures group { group.new.controls ≡ 1 }

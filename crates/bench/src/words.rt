@@ -1,7 +1,7 @@
 //! What the words of a command line ask for.
 
 pub const USAGE: &str =
-    "say: apply, queue, region, sets TRACKS TIMES, turn CONTROLS TIMES, plant FILE BLOCKS, read FILE, write FILE UPDATES TRACKS, spread FILE UPDATES, or check FILE";
+    "say: apply, queue, region, sets TRACKS TIMES, turn CONTROLS TIMES, plant FILE BLOCKS, site FILE GROUPS, read FILE, write FILE UPDATES TRACKS, spread FILE UPDATES, or check FILE";
 
 /// What is to be done. A file is named as the words name it.
 #[derive(Clone, Copy)]
@@ -22,6 +22,10 @@ pub enum Asked<'words> {
     Sets {
         tracks: u32,
         times: u32,
+    },
+    Site {
+        file: &'words str,
+        groups: u32,
     },
     Spread {
         file: &'words str,
@@ -65,6 +69,10 @@ fn with_two<'words>(word: &str, first: &'words str, second: &str) -> Option<Aske
         "sets" => Some(Asked::Sets {
             tracks: first.parse().ok()?,
             times: second,
+        }),
+        "site" => Some(Asked::Site {
+            file: first,
+            groups: second,
         }),
         "spread" => Some(Asked::Spread {
             file: first,
