@@ -1,31 +1,44 @@
 -- A new session may go to the time of its start, and what may go to a limit may go to a later one.
-use Rattle.std.proofs.Common.{◌≡◌, inl, ◌+◌, ◌<◌, ◌≤◌, ℕ, zero, suc, List, [], ◌++◌, drop, length, map, take, Option, Some, None, Result, Ok, refl, sym, ap, ◌∙◌, subst, arith}
+use Rattle.std.proofs.Common.{◌≡◌, inl, inr, ◌+◌, ◌-◌, ◌*◌, ◌<◌, ◌≤◌, ℕ, zero, suc, Bool, true, false, nat_lt, nat_le, ◌&&◌, List, [], ◌∷◌, ◌++◌, drop, length, map, take, replicate, Option, Some, None, Result, Ok, refl, sym, ap, ◌∙◌, subst, arith, true≢false}
 use Rattle.std.specs.Prelude.{IfOk, IsSomeAnd, IsTrue, slice_index_or}
-use Rattle.std.specs.List.{Contains}
+use Rattle.std.specs.List.{Contains, list_all}
 use Rattle.std.proofs.Math.Seq.{take-append_seam}
-use Rattle.std.proofs.lemmas.List.{length-map}
+use Rattle.std.proofs.lemmas.Bool.{and_parts}
+use Rattle.std.proofs.lemmas.List.{length-map, length-replicate}
+use Rattle.crash_plant.specs.Calls.{SameSite}
 use Rattle.crash_plant.specs.Moments.{PlantState}
 use Rattle.pair_table.specs.declared.level.Level.{Level}
+use Rattle.pair_table.specs.declared.names.NamedDevice.{NamedDevice}
+use Rattle.pair_table.specs.declared.row.PairRow.{PairRow}
+use Rattle.pair_table.specs.Naming.{Naming}
+use Rattle.tod_stamp.specs.declared.limits.TheConstants.{MOST_CONTROLS}
 use Rattle.tod_stamp.specs.declared.stamp.Stamp.{Stamp}
 use Rattle.group_state.specs.Controls.{ControlState, is_telling, new_control}
-use Rattle.group_state.specs.Groups.{Group, control_at, new_controls, new_group}
+use Rattle.group_state.specs.Groups.{Group, control_at, most_records, new_controls, new_group}
+use Rattle.group_state.specs.Volumes.{passes, volume_of}
 use Rattle.group_state.proofs.GroupLaws.{length_new}
+use Rattle.group_state.proofs.Kept.{kept_first}
+use Rattle.group_state.proofs.SoundLaws.{all_up}
 use Rattle.group_state.proofs.Stands.{new_at}
 use Rattle.turn_group.specs.Notes.{KnownVolume, known_of, volumes_known}
 use Rattle.turn_group.specs.Seats.{new_mover}
 use Rattle.sidefile.specs.declared.hand.Halt.TheVariants as halts
 use Rattle.xrc_edge.specs.declared.outcome.NoMemory.{NoMemory}
 use Rattle.site_store.specs.declared.store_error.StoreError.{StoreError}
+use Rattle.site_store.specs.Commands.{LabelsFit, MayDo, label_has_volume}
 use Rattle.site_store.specs.Sites.{SiteState, new_site}
 use Rattle.site_store.specs.Standing.{FitsPlant, SiteStands, none_excepted}
 use Rattle.mover.specs.declared.lane.Lane.{Lane}
-use Rattle.mover.specs.Readers.{LaneReaderState, no_table}
+use Rattle.mover.specs.Readers.{IsOfHeader, LaneReaderState, no_table}
 use Rattle.mover.specs.Lanes.{IsReaderOf, heads_of}
 use Rattle.mover.specs.Moves.{IsOfLive, KnowsSite, are_numbers_distinct, known_at_control, row_of_volume}
 use Rattle.mover.specs.Rounds.{AreLanesOf}
 use Rattle.mover.specs.Epochs.{MayBeginEpoch}
-use Rattle.mover.specs.Readers.{IsOfHeader}
-use Rattle.mover_tests.specs.Courses.{AreNewLanes, IsNewReader, MayGoTo}
+use Rattle.mover.specs.Told.{is_volume_kept}
+use Rattle.mover.proofs.Copying.{kept_within}
+use Rattle.xrc_session.specs.Taking.{KeepsForRows}
+use Rattle.mover_tests.specs.Courses.{AreNewLanes, AreOpened, IsNewReader, MayCommandCourse, MayGoTo}
+use Rattle.mover_tests.proofs.Homes.{labels_still}
 
 -- ---- new lanes
 
@@ -95,34 +108,56 @@ begins_new tells n records blocks volumes session level at site plant is fits st
     live : (k : ℕ) (u : KnownVolume) → Contains (known_at_control k (volumes_known (new_group n records blocks))) u → IsTrue u.carried → IsSomeAnd (row_of_volume k u.number []) (IsOfLive k u)
     live k u has carried = absurd (let none : length (known_at_control k (volumes_known (new_group n records blocks))) ≡ 0 = ap (λ (known : List KnownVolume). length known) (none_known n 0 records blocks k) in omega (arith, has.1, none))
 
+-- It keeps what it does for no rows.
+none_kept : (n records blocks k v : ℕ) → is_volume_kept v (control_at (new_group n records blocks) k) ≡ true → ⊥
+none_kept n records blocks k v kept =
+    let low : k < n = omega (arith, kept_within (new_group n records blocks) k v kept, length_new n 0 records blocks) in
+    true≢false (sym kept ∙ ap (λ (c : ControlState). passes (λ u. true) (volume_of v c.volumes)) (new_at n 0 records blocks k (new_control 0 0 0) low))
+
+kept_new : (n records blocks : ℕ) → 1 ≤ n → n ≤ MOST_CONTROLS → records ≤ most_records → KeepsForRows (new_group n records blocks) []
+kept_new n records blocks some few most = record {
+  keeps = kept_first n records blocks some few most;
+  apart = refl;
+  each = λ r among. absurd (omega (arith, among.1));
+  rowed = λ k v kept. absurd (none_kept n records blocks k v kept);
+}
+
+-- A command may come to it.
+labels_within : (plant : PlantState) (volumes : ℕ) (labels : List NamedDevice) → volumes ≡ plant.volumes → list_all (label_has_volume plant) labels ≡ true → list_all (λ l. nat_lt l.device (length (replicate volumes false))) labels ≡ true
+labels_within plant volumes labels same fit =
+    all_up (label_has_volume plant) (λ l. nat_lt l.device (length (replicate volumes false))) labels
+    (λ l is. ap (nat_lt l.device) (length-replicate volumes false ∙ same) ∙ (and_parts (nat_lt l.device plant.volumes) _ is).0) fit
+
+may_new : (n volumes : ℕ) (session : List ℕ) (level : Level) (at : Stamp) (names : Naming) (site : SiteState) (plant : PlantState) → site ≡ new_site n volumes session level at → volumes ≡ plant.volumes → LabelsFit plant names → MayDo names site
+may_new n volumes session level at names site plant is same fit =
+    subst (MayDo names) (sym is) (record { command = record { named = refl; below = refl }; started = refl; labels = labels_within plant volumes names.labels same fit; rows = refl })
+
+-- ---- a session that begins
+
 -- what holds of what was made
 made_so : {A E : Type 0} → (P : A → Type 0) (made : Result A E) (x : A) → made ≡ Ok x → IfOk made P → P x
 made_so P made x is so = subst (λ (r : Result _ _). IfOk r P) is so
 
-pub may_begin : {S : Type 0} → (tells : Type 0) (n records blocks volumes : ℕ) (session : List ℕ) (level : Level) (at : Stamp) (lanes : List (Lane S)) (shared : Result Group NoMemory) (group : Group) (made : Result SiteState StoreError) (site : SiteState) (plant : PlantState)
-    → shared ≡ Ok group → made ≡ Ok site → length lanes ≡ n → AreNewLanes lanes → IfOk shared (λ s. s ≡ new_group n records blocks) → IfOk made (λ s. s ≡ new_site n volumes session level at) → IfOk made (λ s. FitsPlant s plant)
-    → (tells → IfOk made (λ s. SiteStands none_excepted s plant)) → MayGoTo tells at.0 lanes group site plant
-may_begin tells n records blocks volumes session level at lanes shared group made site plant has is many new first ok fits stands =
-    subst (λ (s : Group). MayGoTo tells at.0 lanes s site plant) (sym (made_so (λ s. s ≡ new_group n records blocks) shared group has first)) (record {
-      are = new_lanes n records blocks at.0 lanes many new;
-      may = begins_new tells n records blocks volumes session level at site plant (made_so (λ s. s ≡ new_site n volumes session level at) made site is ok) (made_so (λ s. FitsPlant s plant) made site is fits) (λ told. made_so (λ s. SiteStands none_excepted s plant) made site is (stands told));
-    })
+module _ {S : Type 0} (tells : Type 0) (n records blocks : ℕ) (session : List ℕ) (level : Level) (at : Stamp) (names : Naming) (lanes : List (Lane S)) (old plant : PlantState) (same : SameSite old plant) (labels : LabelsFit old names)
+    (many : length lanes ≡ n) (some : 1 ≤ n) (few : n ≤ MOST_CONTROLS) (most : records ≤ most_records) (opened : AreOpened lanes names.primaries) where
+  goes_new : (site : SiteState) → site ≡ new_site n old.volumes session level at → FitsPlant site plant → (tells → SiteStands none_excepted site plant) → MayGoTo tells at.0 names lanes (new_group n records blocks) site plant
+  goes_new site is fits stands = record {
+    are = new_lanes n records blocks at.0 lanes many opened.are_new;
+    may = begins_new tells n records blocks old.volumes session level at site plant is fits stands;
+    kept = subst (λ (s : SiteState). KeepsForRows (new_group n records blocks) s.told) (sym is) (kept_new n records blocks some few most);
+    commands = record {
+      are_named = opened.are_named;
+      may = may_new n old.volumes session level at names site plant is (sym same.volumes) fit;
+      labels = fit;
+      same = ap (λ (s : SiteState). s.told) is ∙ sym (ap (λ (s : SiteState). s.table.rows) is);
+    };
+  }
+    where
+      fit : LabelsFit plant names
+      fit = labels_still names old plant same labels
 
--- ---- a later limit
-
-lanes_later : {S : Type 0} → (group : Group) (limit later : ℕ) (lanes : List (Lane S)) → limit ≤ later → AreLanesOf group limit lanes → AreLanesOf group later lanes
-lanes_later {S} group limit later lanes up are = record { many = are.many; each = λ k d low. of k (slice_index_or lanes k d).reader (are.each k d low) }
-  where
-    of : (k : ℕ) (r : Option LaneReaderState) → IsSomeAnd r (IsReaderOf group k limit) → IsSomeAnd r (IsReaderOf group k later)
-    of k None is = absurd is
-    of k (Some r) is = record { control = is.control; sized = is.sized; floor = is.floor; telling = is.telling; broken = is.broken; within = (let w = is.within in omega (arith, w, up)); goes = is.goes }
-
-pub go_later : {S : Type 0} → (tells : Type 0) (limit later : ℕ) (lanes : List (Lane S)) (group : Group) (site : SiteState) (plant : PlantState) → limit ≤ later → MayGoTo tells limit lanes group site plant → MayGoTo tells later lanes group site plant
-go_later tells limit later lanes group site plant up go = record {
-  are = lanes_later group limit later lanes up go.are;
-  may = record {
-    rests = go.may.rests;
-    marked = go.may.marked;
-    knows = record { rows = go.may.knows.rows; controls = go.may.knows.controls; in_step = go.may.knows.in_step; below = (let b = go.may.knows.below in omega (arith, b, up)); told = go.may.knows.told };
-  };
-}
+  pub may_begin : (shared : Result Group NoMemory) (group : Group) (made : Result SiteState StoreError) (site : SiteState) → shared ≡ Ok group → made ≡ Ok site → IfOk shared (λ s. s ≡ new_group n records blocks)
+      → IfOk made (λ s. s ≡ new_site n old.volumes session level at) → IfOk made (λ s. FitsPlant s plant) → (tells → IfOk made (λ s. SiteStands none_excepted s plant)) → MayGoTo tells at.0 names lanes group site plant
+  may_begin shared group made site has is first ok fits stands =
+      subst (λ (s : Group). MayGoTo tells at.0 names lanes s site plant) (sym (made_so (λ s. s ≡ new_group n records blocks) shared group has first))
+      (goes_new site (made_so (λ s. s ≡ new_site n old.volumes session level at) made site is ok) (made_so (λ s. FitsPlant s plant) made site is fits) (λ told. made_so (λ s. SiteStands none_excepted s plant) made site is (stands told)))

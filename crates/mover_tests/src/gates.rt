@@ -1,8 +1,10 @@
 //! Readers that wait for each other in the gate.
 
-use crate::courses::{add_lane, begun, brought_on, plant, trace};
+use crate::courses::{begun, brought_on, plant};
+use crate::lanes::{add_lane, no_lanes, trace};
 use crate::traces::Event::{Idle, Whole};
 use mover::{FreePass, Gate};
+use pair_table::Level;
 use std::sync::atomic::{AtomicBool, Ordering};
 use std::thread::yield_now;
 use tod_stamp::Stamp;
@@ -46,11 +48,11 @@ impl Gate for MeetingGate {
 fn readers_wait_for_each_other_in_the_gate(rt: HostRuntime) {
     let alloc = rt.alloc();
     let events = [Idle(0x52), Whole(0x64, 0, 0, *b"AB"), Idle(0x66)];
-    let mut lanes = Vec::new(alloc);
-    add_lane(&rt, alloc, &mut lanes, trace(&rt, alloc, &events));
-    add_lane(&rt, alloc, &mut lanes, trace(&rt, alloc, &events));
-    let mut plant = plant(&rt, alloc, 2);
-    let course = begun(&rt, alloc, lanes, &mut plant, Stamp(0x50));
+    let mut lanes = no_lanes(alloc);
+    add_lane(&rt, alloc, &mut lanes, trace(&rt, alloc, (1, 1), &events));
+    add_lane(&rt, alloc, &mut lanes, trace(&rt, alloc, (2, 1), &events));
+    let mut plant = plant(&rt, alloc, 2, 1);
+    let course = begun(&rt, alloc, lanes, &mut plant, Level::Volume, Stamp(0x50));
     let limits = (Stamp(0x50), Stamp(0x50));
     let course = brought_on(&rt, alloc, &FreePass, course, &mut plant, limits);
     let gate = MeetingGate {

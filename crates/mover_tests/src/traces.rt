@@ -16,18 +16,42 @@ pub(crate) enum Event {
     Whole(u64, u16, u32, [u8; 2]),
 }
 
-/// The serial of a volume.
-fn serial(rt: &impl Abort, volume: u16) -> Serial {
-    let (tens, ones) = (b'0' + (volume / 10 % 10) as u8, b'0' + (volume % 10) as u8);
-    Serial::read(&[b'P', b'R', b'I', b'M', tens, ones]).expect(rt, "a serial")
+/// A digit to the base 36.
+fn digit(value: u16) -> u8 {
+    let value = (value % 36) as u8;
+    if value < 10 {
+        b'0' + value
+    } else {
+        b'A' + (value - 10)
+    }
 }
 
-/// The header of a trace of so many volumes of one cylinder.
-fn header(rt: &impl Abort, alloc: Global, volumes: u16) -> Header {
+/// A serial that ends in a number of two digits.
+fn serial(rt: &impl Abort, front: &[u8; 4], number: u16) -> Serial {
+    let mut name = [b'0'; 6];
+    name[..4].copy_from_slice(front);
+    name[4] = digit(number / 36);
+    name[5] = digit(number);
+    Serial::read(&name).expect(rt, "a serial")
+}
+
+/// PRIM01 for 1, and so on.
+pub(crate) fn primary(rt: &impl Abort, number: u16) -> Serial {
+    serial(rt, b"PRIM", number)
+}
+
+/// SEC001 for 1, and so on.
+pub(crate) fn secondary(rt: &impl Abort, number: u16) -> Serial {
+    serial(rt, b"SEC0", number)
+}
+
+/// The header of a trace of so many volumes of one cylinder, with serials from that of a number on.
+fn header(rt: &impl Abort, alloc: Global, volumes: (u16, u16)) -> Header {
+    let (first, many) = volumes;
     let mut heads = VolumeList::make(alloc);
-    for volume in 0..volumes {
+    for volume in 0..many {
         let head = VolumeHead {
-            serial: serial(rt, volume),
+            serial: primary(rt, first.saturating_add(volume)),
             cylinders: 1,
         };
         heads.push(alloc, head).expect(rt, "memory");
@@ -39,6 +63,19 @@ fn header(rt: &impl Abort, alloc: Global, volumes: u16) -> Header {
     }
 }
 
+/// The image of a track that has record 1 alone.
+pub(crate) fn whole(rt: &impl Abort, alloc: Global, content: [u8; 2]) -> Kind {
+    let rec = Rec {
+        number: 1,
+        key: Bytes::make(alloc),
+        content: bytes_of(alloc, &content).expect(rt, "memory"),
+    };
+    let mut image = Track::make(alloc);
+    assert!(rt; image.fits(&rec));
+    image.push(alloc, rec).expect(rt, "memory");
+    Kind::Whole { track: image }
+}
+
 /// Writes an image of a track, which has record 1 alone.
 fn put_whole(
     rt: &impl Abort,
@@ -48,15 +85,7 @@ fn put_whole(
     content: [u8; 2],
 ) {
     let (stamp, volume, track) = at;
-    let rec = Rec {
-        number: 1,
-        key: Bytes::make(alloc),
-        content: bytes_of(alloc, &content).expect(rt, "memory"),
-    };
-    let mut image = Track::make(alloc);
-    assert!(rt; image.fits(&rec));
-    image.push(alloc, rec).expect(rt, "memory");
-    let kind = Kind::Whole { track: image };
+    let kind = whole(rt, alloc, content);
     assert!(rt; stamp >= 1 && track < 15 && kind.keeps_rules());
     let write = Write {
         volume,
@@ -80,8 +109,13 @@ fn put(rt: &impl Abort, alloc: Global, out: &mut Bytes, event: Event) {
     }
 }
 
-/// The bytes of a trace of so many volumes.
-pub(crate) fn trace_bytes(rt: &impl Abort, alloc: Global, volumes: u16, events: &[Event]) -> Bytes {
+/// The bytes of a trace of so many volumes, with serials from that of a number on.
+pub(crate) fn trace_bytes(
+    rt: &impl Abort,
+    alloc: Global,
+    volumes: (u16, u16),
+    events: &[Event],
+) -> Bytes {
     let mut out = Bytes::make(alloc);
     let header = header(rt, alloc, volumes);
     assert!(rt; header.keeps_rules());

@@ -1,8 +1,16 @@
-use Rattle.std.proofs.Common.{rules}
+use Rattle.std.proofs.Common.{rules, ◌≡◌, ◌≤◌, sym, subst, ◌∙◌}
+use Rattle.tod_stamp.specs.declared.limits.TheConstants.{MOST_CONTROLS}
+use Rattle.pair_table.specs.declared.names.NamedVolume.{NamedVolume}
+use Rattle.pair_table.specs.Naming.{Naming}
+use Rattle.mover_tests.specs.Courses.{AreOpened}
 use Rattle.mover_tests.proofs.Going.{may_begin}
 use Rattle.mover_tests.proofs.courses.begun.Goals as goal
 
 pub returns-clause-may : goal.returns-clause-may
 returns-clause-may g c =
-    may_begin g.P.Plant.tells c.len-controls.result 32 3552 (g.P.Plant.state c.args.plant.now).volumes c.expect-name.result _ c.args.at c.args.lanes.items c.make.result c.expect-group.result c.format-made.result c.expect-site.result (g.P.Plant.state c.format-made.new.plant)
-    c.expect-group.ensures c.expect-site.ensures (search rules) c.requires.new c.make.ensures c.format-made.ensures.ok c.format-made.ensures.fits c.format-made.ensures.stands
+    let n = c.len-controls.result in
+    let names = c.label_volumes.new.names in
+    let primaries : names.primaries ≡ c.args.lanes.named.items = c.label_volumes.ensures.primaries ∙ c.names_of-names.ensures.primaries ∙ c.as_slice.ensures.value in
+    may_begin g.P.Plant.tells n 32 3552 c.session.result c.args.level c.args.at names c.args.lanes.all.items (g.P.Plant.state c.args.plant.now) (g.P.Plant.state c.format-made.new.plant) c.format-made.ensures.others.site c.label_volumes.ensures.labels
+    (search rules) (search rules) (search rules) (search rules) (subst (AreOpened c.args.lanes.all.items) (sym primaries) c.requires.opened)
+    c.make.result c.expect-group.result c.format-made.result c.expect-site.result c.expect-group.ensures c.expect-site.ensures c.make.ensures c.format-made.ensures.ok c.format-made.ensures.fits c.format-made.ensures.stands
