@@ -121,6 +121,7 @@ module _ {S : Type 0} (tells : Type 0) (left : S → Option (List ℕ)) (faults 
     pairs = moved.pairs;
     counted = moved.counted;
     live = subst (λ (due : Bool). AreEntriesLive due site.told (deeds_of moved.steps)) (ap (nat_le 1) marked) moved.live;
+    entries = moved.entries;
     makes = makes_so;
     all = on_ok (end_result result)
         (λ (all : MakesAll site after (map as_answer moved.gained) (deeds_of moved.steps)). λ done knows. subst (λ (l : List Answer). KeepsAll site after done l (deeds_of moved.steps)) gained (all done knows)) moved.all;

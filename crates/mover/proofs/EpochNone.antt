@@ -49,6 +49,7 @@ module _ {S : Type 0} (tells : Type 0) (left : S → Option (List ℕ)) (faults 
     pairs = tt;
     counted = λ d fewer. omega arith;
     live = tt;
+    entries = tt;
     makes = λ done knows. (site.told, refl);
     all = λ done knows. record { known = done; makes = (refl, refl, refl); knows = knows };
     behind = record { level = refl; controls = refl; table = refl; rows = refl; time = refl };

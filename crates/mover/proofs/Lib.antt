@@ -12,6 +12,7 @@ pub mod Ending
 pub mod Records
 pub mod SamePairs
 pub mod DeedPairs
+pub mod LeftEntries
 pub mod LiveRows
 pub mod OwedExactly
 pub mod DropKnown

@@ -28,11 +28,12 @@ use Rattle.site_store.specs.declared.store_error.StoreError.{StoreError}
 use Rattle.site_store.specs.Applying.{excepted_by_apply}
 use Rattle.site_store.specs.Sites.{SiteState}
 use Rattle.mover.specs.Dropping.{OwesExactly}
-use Rattle.mover.specs.Moves.{Fades, InPlacesByDeeds, KeepsPair, SessionGoesOn, AreHitsToldBy, BeginsAll, DidAll, IsLeftBehind, IsQuiet, MakesAll, Moved, SiteMoved, are_shown_at_cuts, is_mark_due, is_shown_at_cut, none_untold, untold_hits}
+use Rattle.mover.specs.Moves.{Fades, InPlacesByDeeds, KeepsPair, SessionGoesOn, AreHitsToldBy, BeginsAll, DidAll, IsLeftBehind, IsQuiet, LogsEntriesOf, MakesAll, Moved, SiteMoved, are_shown_at_cuts, is_mark_due, is_shown_at_cut, none_untold, untold_hits}
 use Rattle.mover.specs.Steps.{AreMade}
 use Rattle.mover.proofs.KeptCalls.{all_then, all_then_all, quiet_then}
 use Rattle.mover.proofs.Making.{made_more, made_then}
 use Rattle.mover.proofs.DeedPairs.{by_deeds_then}
+use Rattle.mover.proofs.LeftEntries.{entries_then}
 use Rattle.mover.proofs.LiveRows.{due_append, live_by_deeds}
 use Rattle.mover.proofs.OwedExactly.{owed_then}
 use Rattle.mover.proofs.SamePairs.{still_then}
@@ -226,6 +227,7 @@ module _ (tells : Type 0) (seat turn next : MoverSeatState) (site mid after : Si
         let sum : hit_count d (changes_of (first.steps ++ then.steps)) ≡ hit_count d (changes_of first.steps) + hit_count d (changes_of then.steps) = ap (hit_count d) (changes_append first.steps then.steps) ∙ counts_append d (changes_of first.steps) (changes_of then.steps) in
         omega (arith, one, two, sum);
     live = live_then site mid first.steps then.steps first.pairs first.behind.rows first.due first.live then.live;
+    entries = subst (LogsEntriesOf site.told) (sym both) (entries_then site.told a b first.entries (subst (λ (r : List PairRow). LogsEntriesOf r b) first.behind.rows then.entries));
     makes = λ done knows.
         let one = first.all done knows in
         subst (λ (l : List Deed). MakesDeeds site.time site.told done (map as_answer (first.gained ++ then.gained)) l) (sym both)

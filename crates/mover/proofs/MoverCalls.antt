@@ -45,15 +45,16 @@ use Rattle.site_store.specs.Logging.{AreItemsOf, LogsGroup, behind_group, log_de
 use Rattle.site_store.specs.Records.{behind_way}
 use Rattle.site_store.specs.Sites.{SiteState}
 use Rattle.site_store.specs.Standing.{Leaves, StandsFast}
-use Rattle.site_store.proofs.ByWays.{RecordWay, by_ways}
+use Rattle.site_store.proofs.ByWays.{RecordWay, by_ways, way_marked}
 use Rattle.mover.specs.Dropping.{AreOfControls, Drops, OwesExactly, VolumeDrop, are_states_of, answer_of_drop, drops_from, known_behind, stood_duplex}
 use Rattle.mover.specs.Groups.{are_none, is_to_log, matures}
-use Rattle.mover.specs.Moves.{Fades, AreHitsCounted, BeginsAll, DidAll, IsLeftBehind, IsInStep, IsStillAt, KeepPairs, KeepsAll, KeepsPair, KnowsDuplex, KnowsRows, KnowsSite, MaySettle, Moved, SiteMoved, are_shown_at_cuts, is_broken_at, is_mark_due, is_shown_at_cut, is_worked_on, untold_hits}
+use Rattle.mover.specs.Moves.{Fades, AreHitsCounted, BeginsAll, DidAll, IsLeftBehind, IsInStep, IsStillAt, KeepPairs, KeepsAll, KeepsPair, KnowsDuplex, KnowsRows, KnowsSite, LogsEntriesOf, MaySettle, Moved, SiteMoved, are_shown_at_cuts, is_broken_at, is_mark_due, is_shown_at_cut, is_worked_on, untold_hits}
 use Rattle.mover.specs.Slots.{is_track_of_mover}
 use Rattle.mover.proofs.DeedPairs.{by_deeds_more}
 use Rattle.mover.proofs.DropKnown.{knows_behind, same_controls}
 use Rattle.mover.proofs.InSlots.{slots_logged}
 use Rattle.mover.proofs.KeptCalls.{all_then, drops_kept, knows_still, plans_behind, quiet_before_all}
+use Rattle.mover.proofs.LeftEntries.{live_may, marked_may, quiet_entries}
 use Rattle.mover.proofs.LiveRows.{one_is_due, quiet_live}
 use Rattle.mover.proofs.LogMoves.{entries_of_live, logged_fewer, logged_rest, logged_still, logged_told, no_entries}
 use Rattle.mover.proofs.LogSteps.{LogSteps, follow_of, log_steps}
@@ -134,6 +135,7 @@ module _ (tells : Type 0) (seat : MoverSeatState) (site after : SiteState) (old 
     pairs = by_deeds_more Fades KeepsPair fade_pair site.told (deeds_of moved.steps) moved.fades;
     counted = counted_of (Err error) moved;
     live = quiet_live (is_mark_due site) site.told site.time site.told (deeds_of moved.steps) moved.quiet.0 moved.quiet.1;
+    entries = quiet_entries site.told site.time site.told (deeds_of moved.steps) moved.quiet.0 moved.quiet.1;
     makes = λ done knows. moved.quiet;
     all = tt;
     behind = tt;
@@ -175,6 +177,7 @@ module _ (tells : Type 0) (seat : MoverSeatState) (site after : SiteState) (old 
       pairs = by_deeds_more Fades KeepsPair fade_pair site.told (deeds_of moved.steps) moved.fades;
       counted = counted_of (Ok tt) moved;
       live = quiet_live (is_mark_due site) site.told site.time site.told (deeds_of moved.steps) after.told moved.all.suspends;
+      entries = quiet_entries site.told site.time site.told (deeds_of moved.steps) after.told moved.all.suspends;
       makes = λ done knows. subst (λ (l : List Answer). MakesDeeds site.time site.told done l (deeds_of moved.steps)) (sym drops.are)
           (let k = keeps done knows in makes_of_all (map answer_of_drop dropped) site.time site.told done (deeds_of moved.steps) after.time after.told k.known k.makes);
       all = λ done knows. subst (λ (l : List Answer). KeepsAll site after done l (deeds_of moved.steps)) (sym drops.are) (keeps done knows);
@@ -294,6 +297,7 @@ module _ (tells : Type 0) (limit : Stamp) (r : forming.Forming) (group : FormedG
     pairs = tt;
     counted = λ d low. omega arith;
     live = tt;
+    entries = tt;
     makes = λ done known. subst (λ (l : List Answer). MakesDeeds site.time site.told done l []) (sym gained_is) (let k = keeps_nothing done known in makes_of_all (form_answer limit r group ∷ []) site.time site.told done [] site.time site.told k.known k.makes);
     all = λ done known. subst (λ (l : List Answer). KeepsAll site site done l []) (sym gained_is) (keeps_nothing done known);
     behind = record { level = refl; controls = refl; table = refl; rows = refl; time = refl };
@@ -369,6 +373,14 @@ module _ (tells : Type 0) (limit : Stamp) (r : forming.Forming) (group : FormedG
       subst (λ (due : Bool). AreEntriesLive due site.told (deeds_of steps.steps)) (sym (ap (nat_le 1) marked)) (subst (AreEntriesLive false site.told) (sym steps.deeds_are)
       (by_ways (λ (w : RecordWay). AreEntriesLive false site.told (log_deeds w site group early next.failed)) (entries, tt) (entries, tt) (entries, tt) way))
 
+  -- A mark that is made first suspends none of these but by its own device.
+  left_entries : LogsEntriesOf site.told (deeds_of steps.steps)
+  left_entries =
+      let entries = entries_of_live seat.known site.told group.entries knows.rows carried in
+      let plain : LogsEntriesOf site.told (Logged group.cut.0 group.entries rows ∷ []) = (λ k d low. live_may site.told (entries k d low), tt) in
+      let marked : LogsEntriesOf site.told (log_deeds way_marked site group early next.failed) = (λ k d low. marked_may site.time (hit_now early site.told) site.told (entries k d low), tt) in
+      subst (LogsEntriesOf site.told) (sym steps.deeds_are) (by_ways (λ (w : RecordWay). LogsEntriesOf site.told (log_deeds w site group early next.failed)) plain plain marked way)
+
   begins : tells → BeginsAll site (deeds_of steps.steps) old new
   begins told e stands = subst (λ (l : List Deed). BeginsDeeds (excepted_by_apply site e) site.told l old new) (sym steps.deeds_are)
       (begins_still old new e (excepted_by_apply site e) site.told (λ d x is. sym (none_waits site e d x idle) ∙ is) deeds (logs.logs.does.begins told e stands))
@@ -412,6 +424,7 @@ module _ (tells : Type 0) (limit : Stamp) (r : forming.Forming) (group : FormedG
     pairs = steps.pairs;
     counted = counted;
     live = live;
+    entries = left_entries;
     makes = λ done known. subst (λ (l : List Answer). MakesDeeds site.time site.told done l (deeds_of steps.steps)) (sym (made_is [])) (record {
       quiet = [];
       next = site.told;
@@ -556,6 +569,7 @@ module _ (tells : Type 0) (limit : Stamp) (r : forming.Forming) (group : FormedG
         pairs = steps.pairs;
         counted = counted;
         live = live;
+        entries = left_entries;
         makes = λ done known. subst (λ (l : List Answer). MakesDeeds site.time site.told done l (deeds_of steps.steps)) (sym run_is) (let k = keeps_logged done known in makes_of_all run site.time site.told done (deeds_of steps.steps) next.time next.told k.known k.makes);
         all = λ done known. subst (λ (l : List Answer). KeepsAll site next done l (deeds_of steps.steps)) (sym run_is) (keeps_logged done known);
         behind = behind;
@@ -597,6 +611,7 @@ nothing_done tells seat site plant = record {
   pairs = tt;
   counted = λ d low. omega arith;
   live = tt;
+  entries = tt;
   makes = λ done known. (site.told, refl);
   all = λ done known. record { known = done; makes = (refl, refl, refl); knows = known };
   behind = record { level = refl; controls = refl; table = refl; rows = refl; time = refl };

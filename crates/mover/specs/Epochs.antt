@@ -36,7 +36,7 @@ use Rattle.mover.specs.declared.ends.EpochEnd.TheVariants as ends
 use Rattle.mover.specs.declared.lane.Lane.{Lane}
 use Rattle.mover.specs.Readers.{LaneReaderState, no_table}
 use Rattle.mover.specs.Dropping.{OwesExactly}
-use Rattle.mover.specs.Moves.{AreHitsCounted, Did, InPlacesByDeeds, IsLeftBehind, KeepsAll, KeepsPair, KnowsDuplex, MayMove, SessionGoesOn}
+use Rattle.mover.specs.Moves.{AreHitsCounted, Did, InPlacesByDeeds, IsLeftBehind, KeepsAll, KeepsPair, KnowsDuplex, LogsEntriesOf, MayMove, SessionGoesOn}
 use Rattle.mover.specs.Groups.{is_at_limit}
 use Rattle.mover.specs.Numbers.{UsesNumbersOf}
 use Rattle.mover.specs.Steps.{AreMade}
@@ -107,6 +107,7 @@ LaneWent left faults run old new =
 --   made: each deed is a record or a mark that tells failures, or the record of a group that a form showed, and at the end nothing is due
 --   pairs: each deed keeps each row's pair
 --   live: each group's entries are of rows that were live when it was formed, by the mark behind the group before, too
+--   entries: none of these is suspended just before its record but by its own device
 --   behind, owed: after Ok the site is what the deeds leave, and the volume of each row was dropped exactly for what it owes more
 --   numbers: numbers of records and of marks are used up by the forms of the run alone, and Spent comes only where they are near their end
 pub record EpochRun {S : Type 0} (left : S → Option (List ℕ)) (faults : S → ℕ) (limit : ℕ) (group : Group) (old new : List (Lane S)) (site after : SiteState) (was is : PlantState) (result : EpochEnd) : Type 0 where
@@ -123,6 +124,7 @@ pub record EpochRun {S : Type 0} (left : S → Option (List ℕ)) (faults : S �
   pub pairs : InPlacesByDeeds KeepsPair site.told (deeds_of steps)
   pub counted : AreHitsCounted steps was is
   pub live : AreEntriesLive false site.told (deeds_of steps)
+  pub entries : LogsEntriesOf site.told (deeds_of steps)
   pub makes : (done : Plans) → KnowsDuplex site.told done → MakesDeeds site.time site.told done (part_of_mover log) (deeds_of steps)
   pub all : OnOk (end_result result) ((done : Plans) → KnowsDuplex site.told done → KeepsAll site after done (part_of_mover log) (deeds_of steps))
   pub behind : OnOk (end_result result) (IsLeftBehind site after (deeds_of steps))

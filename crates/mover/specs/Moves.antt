@@ -1,6 +1,6 @@
 -- What the mover does: the deeds of its site, kept of its calls, and what it knows of rows.
 use Rattle.std.specs.Prelude.{◌≡◌, ◌⊎◌, ℕ, ◌+◌, ◌-◌, ◌*◌, ◌^◌, ◌<◌, ◌≤◌, ◌==◌, ◌&&◌, ◌||◌, not, nat_le, if◌then◌else◌, List, [], ◌∷◌, ◌++◌, length, map, Bool, true, false, find, slice_index_or, Option, Some, None, Result, OnOk, IsErrOf, IsSomeAnd, IsTrue}
-use Rattle.std.specs.List.{Contains, list_all, list_any}
+use Rattle.std.specs.List.{All, Contains, list_all, list_any}
 use Rattle.tod_stamp.specs.declared.limits.TheConstants.{TRACKS_OF_CYLINDER}
 use Rattle.tod_stamp.specs.declared.stamp.Stamp.{Stamp}
 use Rattle.ckd_track.specs.declared.write.Cause.{Cause}
@@ -8,6 +8,7 @@ use Rattle.crash_plant.specs.declared.device.Device.{Device}
 use Rattle.crash_plant.specs.declared.device.Device.TheVariants.{Volume}
 use Rattle.crash_plant.specs.Moments.{PlantState}
 use Rattle.pair_table.specs.declared.row.PairRow.{PairRow}
+use Rattle.pair_table.specs.declared.row.PairState.{PairState}
 use Rattle.pair_table.specs.declared.row.PairState.TheVariants.{Duplex}
 use Rattle.pair_table.specs.Devices.{is_among}
 use Rattle.pair_table.specs.Rows.{is_suspended}
@@ -15,6 +16,7 @@ use Rattle.pair_table.specs.Tables.{in_state, with_rows}
 use Rattle.group_state.specs.Groups.{Shown}
 use Rattle.group_state.specs.Runs.{Answer, shown_by}
 use Rattle.record_rows.specs.Deeds.{Deed, rows_behind, rows_by_deed, time_meant_behind}
+use Rattle.record_rows.specs.Deeds.Deed.{Logged, Changed, Marked}
 use Rattle.record_rows.specs.Hits.{hit_now, is_device_suspended}
 use Rattle.record_rows.specs.Told.{InPlaces}
 use Rattle.row_changes.specs.Changes.Due.{NoneDue}
@@ -175,6 +177,17 @@ DidAll site next deeds old new = (excepted : Exceptions) → SiteStands excepted
 abbrev pub SessionGoesOn : (site next : SiteState) → Type 0
 SessionGoesOn site next = site.mark.ended ≡ false → next.mark.ended ≡ false
 
+-- A group may have entries of a row that is live just before its record, or that its own device has suspended there.
+abbrev pub MayHaveEntries : PairState → Type 0
+MayHaveEntries state = (is_suspended state ≡ false) ⊎ IsTrue (is_device_suspended state)
+
+-- The entries of each group are of such rows.
+abbrev pub LogsEntriesOf : List PairRow → List Deed → Type 0
+LogsEntriesOf rows [] = Unit {0}
+LogsEntriesOf rows (Logged cut entries next ∷ deeds) = All (λ e. HasRowIn MayHaveEntries e.head.control e.head.volume rows) entries × LogsEntriesOf next deeds
+LogsEntriesOf rows (Changed at next ∷ deeds) = LogsEntriesOf next deeds
+LogsEntriesOf rows (Marked spot ended next ∷ deeds) = LogsEntriesOf next deeds
+
 -- Plans of duplex rows are known to be done.
 abbrev pub KnowsDuplex : List PairRow → Plans → Type 0
 KnowsDuplex rows done = (k v : ℕ) → HasRowIn IsDuplex k v rows → IsTrue (done k v)
@@ -221,6 +234,7 @@ AreHitsCounted steps old new = (d : ℕ) → new.faults (Volume d) < most_faults
 --   going: the session goes on by the mark
 --   pairs: each deed keeps each row's pair
 --   live: each group's entries are of rows that were live when it was formed, by the mark that was due before, too
+--   entries: none of these is suspended just before its record but by its own device
 --   behind, owed: after Ok the site is what the deeds leave, and the volume of each row was dropped exactly for what it owes more
 --   due: after Ok a mark is due exactly if one is behind the deeds
 --   begins: at every moment the first of the deeds are seen, from each track that isn't excepted
@@ -235,6 +249,7 @@ pub record Moved (tells : Type 0) (seat next : MoverSeatState) (site after : Sit
   pub pairs : InPlacesByDeeds KeepsPair site.told (deeds_of steps)
   pub counted : AreHitsCounted steps old new
   pub live : AreEntriesLive (is_mark_due site) site.told (deeds_of steps)
+  pub entries : LogsEntriesOf site.told (deeds_of steps)
   pub makes : Makes site (map as_answer gained) (deeds_of steps)
   pub all : OnOk result (MakesAll site after (map as_answer gained) (deeds_of steps))
   pub behind : OnOk result (IsLeftBehind site after (deeds_of steps))
