@@ -10,15 +10,28 @@ fail() {
     exit 1
 }
 
-# The program that measures. It is proved and built where that was not done yet.
-find_bench() {
-    bench=$repository/crates/bench/out/bench
-    [ -x "$bench" ] && return
+# A program that measures. It is proved and built where that was not done yet, by a run on the words behind its name.
+find_program() {
+    program=$repository/crates/$1/out/$1
+    [ -x "$program" ] && return
     command -v rt >/dev/null || fail "the toolchain's command rt is not installed"
-    said=$(cd "$repository/crates/bench" && rt run -- check out/scratch 2>&1) || true
-    [ -x "$bench" ] && return
+    cd "$repository/crates/$1" || exit
+    shift
+    said=$(rt run -- "$@" 2>&1) || true
+    cd "$repository" || exit
+    [ -x "$program" ] && return
     printf '%s\n' "$said" >&2
     fail "the program was not built"
+}
+
+find_bench() {
+    find_program bench check out/scratch
+    bench=$program
+}
+
+find_mover() {
+    find_program bench_mover out/scratch 500
+    mover=$program
 }
 
 # The program whose whole runs are measured.

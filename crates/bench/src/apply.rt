@@ -2,8 +2,8 @@
 
 ghost use Rattle.std.specs.Prelude.{◌<◌, length};
 
-use crate::measure::{NO_MEMORY, copied, hundredths, micros_since};
 use anyhow::{Context, Result};
+use bench_parts::{NO_MEMORY, copied, hundredths, micros_since};
 use ckd_track::{Kind, Rec, RecList, Slot, Write, WriteList};
 use std::alloc::Global;
 use std::time::{Clock, Instant};

@@ -1,6 +1,6 @@
 //! Each benchmark once at a small size, so that its numbers can be compared.
 
-use crate::{apply, plant, queue, read, region, sets, site, trace, turns};
+use crate::{apply, plant, queue, read, region, sets, site, turns};
 use anyhow::Result;
 use std::alloc::Global;
 use std::fs::File;
@@ -43,9 +43,9 @@ fn in_memory<R: Print + Eprint + Clock>(rt: &R, alloc: Global) -> Result<()> {
 
 /// Writes and reads a trace of each kind.
 fn traces<R: Files<File = File> + Print>(rt: &R, alloc: Global, file: &str) -> Result<()> {
-    trace::write_file(rt, alloc, file, TRACE_UPDATES, TRACE_TRACKS)?;
+    bench_parts::write_file(rt, alloc, file, TRACE_UPDATES, TRACE_TRACKS)?;
     read::run(rt, alloc, file)?;
-    trace::write_spread(rt, alloc, file, TRACE_UPDATES)?;
+    bench_parts::write_spread(rt, alloc, file, TRACE_UPDATES)?;
     read::run(rt, alloc, file)
 }
 

@@ -4,7 +4,6 @@
 
 mod apply;
 mod check;
-mod measure;
 mod plain_site;
 mod plant;
 mod queue;
@@ -14,7 +13,6 @@ mod sets;
 mod site;
 mod site_calls;
 mod site_groups;
-mod trace;
 mod turns;
 mod words;
 
@@ -46,13 +44,13 @@ where
         Asked::Region => region::run(rt, alloc, region::ROUNDS),
         Asked::Sets { tracks, times } => sets::run(rt, alloc, tracks, times),
         Asked::Site { file, groups } => site::run(rt, alloc, file, groups),
-        Asked::Spread { file, updates } => trace::write_spread(rt, alloc, file, updates),
+        Asked::Spread { file, updates } => bench_parts::write_spread(rt, alloc, file, updates),
         Asked::Turn { controls, times } => turns::run(rt, alloc, controls, times),
         Asked::Write {
             file,
             updates,
             tracks,
-        } => trace::write_file(rt, alloc, file, updates, tracks),
+        } => bench_parts::write_file(rt, alloc, file, updates, tracks),
     }
 }
 

@@ -144,15 +144,14 @@ fn put_mark<P: Plant>(plant: &mut P, is_second: bool) -> Result<()>
     put_down(plant, Device::Control, gate, &[1])
 }
 
-/// Makes the writes and syncs of so many groups that are logged, applied and marked, but for those of switches.
-pub fn repeat_writes<P: Plant>(plant: &mut P, groups: u32) -> Result<()>
+/// Makes the writes and syncs of a group that is logged, applied and marked, but for those of a switch. Groups are numbered from 0 on.
+pub fn write_group<P: Plant>(plant: &mut P, group: u32) -> Result<()>
     requires { NoneLent (P.state plant.old) }
+    ensures { NoneLent (P.state plant.new) }
 {
-    for group in 0..u64::from(groups) {
-        let journal = Device::Journal((group / RECORDS % u64::from(JOURNALS)) as u16);
-        put_record(plant, journal, group % RECORDS * RECORD)?;
-        put_images(plant)?;
-        put_mark(plant, group % 2 == 1)?;
-    }
-    Ok(())
+    let number = u64::from(group);
+    let journal = Device::Journal((number / RECORDS % u64::from(JOURNALS)) as u16);
+    put_record(plant, journal, number % RECORDS * RECORD)?;
+    put_images(plant)?;
+    put_mark(plant, number % 2 == 1)
 }

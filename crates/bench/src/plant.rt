@@ -4,8 +4,8 @@ ghost use Rattle.std.specs.Prelude.{IfOk};
 ghost use Rattle.crash_plant.specs.Calls.{IsThere};
 ghost use Rattle.crash_plant.specs.declared.device.Device.TheVariants.{Volume};
 
-use crate::measure::NO_MEMORY;
 use anyhow::{Context, Result, bail};
+use bench_parts::NO_MEMORY;
 use crash_plant::{Device, FileDisk, FilePlant, Plant};
 use std::alloc::Global;
 use std::fs::{File, OpenOptions};

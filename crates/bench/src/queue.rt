@@ -3,8 +3,8 @@
 ghost use Rattle.std.specs.Prelude.{◌≡◌, ◌≤◌, IfOk, OnOk};
 ghost use Rattle.pending_queue.specs.Entries.{last_stamp};
 
-use crate::measure::{NO_MEMORY, copied, hundredths, micros_since};
 use anyhow::{Context, Result, bail};
+use bench_parts::{NO_MEMORY, copied, hundredths, micros_since};
 use ckd_track::{Batch, Kind, WRITES_OF_RUN, Write, WriteList};
 use pending_queue::{Formed, Queue};
 use std::alloc::Global;

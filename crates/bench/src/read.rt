@@ -1,76 +1,19 @@
 //! How fast a trace is read.
 
-use anyhow::{Context, Result, bail};
-use ckd_track::{Kind, Write};
+use anyhow::Result;
+use bench_parts::{Counts, read_file};
 use std::alloc::Global;
 use std::fs::File;
 use std::rt::Files;
-use write_trace::{Next, TraceReader, start};
-use xrc_edge::{FileSource, Source};
-
-/// What a trace had.
-#[derive(Clone, Copy)]
-struct Counts {
-    updates: u64,
-    bytes: u64,
-    tracks: u64,
-    records: u64,
-}
-
-const NOTHING: Counts = Counts {
-    updates: 0,
-    bytes: 0,
-    tracks: 0,
-    records: 0,
-};
-
-impl Counts {
-    fn count(&mut self, write: &Write) {
-        match &write.kind {
-            Kind::Update { bytes, .. } => {
-                self.updates = self.updates.saturating_add(1);
-                self.bytes = self.bytes.saturating_add(bytes.len() as u64);
-            }
-            Kind::Whole { track } => {
-                self.tracks = self.tracks.saturating_add(1);
-                self.records = self.records.saturating_add(track.recs().len() as u64);
-            }
-            Kind::Format { .. } => {}
-        }
-    }
-}
-
-fn read_entries<S: Source>(
-    alloc: Global,
-    reader: &mut TraceReader,
-    source: &mut S,
-) -> Result<Counts> {
-    let mut counts = NOTHING;
-    for _ in 0..u64::MAX {
-        match reader.next(alloc, source) {
-            Next::Write(write) => counts.count(&write),
-            Next::Idle(_) => {}
-            Next::Ended => return Ok(counts),
-            Next::BadTrace(place) => bail!("the entry at {place} is bad"),
-            Next::ReadFault => bail!("the file could not be read"),
-            Next::NoMemory => bail!("there is no memory"),
-        }
-    }
-    bail!("the trace has no end")
-}
 
 /// Reads a trace to its end, and says what it had.
 pub fn run<R: Files<File = File> + Print>(rt: &R, alloc: Global, name: &str) -> Result<()> {
-    let file = File::open(rt, name).context(format_args!("cannot open {name}"))?;
-    let mut source = FileSource::new(file);
-    let (_header, mut reader) = start(alloc, &mut source).ok().context("the header is bad")?;
-    let counts = read_entries(alloc, &mut reader, &mut source)?;
     let Counts {
         updates,
         bytes,
         tracks,
         records,
-    } = counts;
+    } = read_file(rt, alloc, name)?;
     println!(rt; "{updates} updates of {bytes} bytes, {tracks} tracks of {records} records")?;
     Ok(())
 }

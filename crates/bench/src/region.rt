@@ -4,8 +4,8 @@ ghost use Rattle.std.specs.Prelude.{◌≤◌, ◌^◌, [], length, IfOk, OnOk};
 ghost use Rattle.block_region.specs.Regions.{Holds};
 ghost use Rattle.block_region.specs.Laws.{AreAllOut};
 
-use crate::measure::{NO_MEMORY, hundredths, micros_since};
 use anyhow::{Context, Result, bail};
+use bench_parts::{NO_MEMORY, hundredths, micros_since};
 use block_region::{Chain, Region};
 use std::alloc::Global;
 use std::collections::VecDeque;

@@ -2,8 +2,8 @@
 
 ghost use Rattle.std.specs.Prelude.{◌≡◌, length};
 
-use crate::measure::{NO_MEMORY, hundredths, micros_since};
 use anyhow::{Context, Result};
+use bench_parts::{NO_MEMORY, hundredths, micros_since};
 use change_map::ChangeMap;
 use std::alloc::Global;
 use std::time::{Clock, Instant};

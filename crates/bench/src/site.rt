@@ -4,12 +4,12 @@ ghost use Rattle.std.specs.Prelude.{◌≡◌, ◌≤◌, true, vec_len, IfOk, O
 ghost use Rattle.crash_plant.specs.Calls.{NoneLent};
 ghost use Rattle.site_store.specs.Between.{IsSiteIdle};
 
-use crate::measure::{NO_MEMORY, hundredths, micros_since};
-use crate::plain_site::{repeat_writes, zero_all};
+use crate::plain_site::{write_group, zero_all};
 use crate::queue::STAMP;
 use crate::site_calls::{put_pair, start_site, turn};
 use crate::site_groups::group_of;
 use anyhow::{Context, Result, bail};
+use bench_parts::{NO_MEMORY, hundredths, micros_since, serial};
 use crash_plant::{CONTROL_LENGTH, FileDisk, FilePlant, Plant, STATE_LENGTH};
 use pair_table::{PairRow, PairState};
 use pending_queue::Formed;
@@ -20,7 +20,7 @@ use std::io::{Empty, Sink, empty, sink};
 use std::rt::Files;
 use std::thread::Threads;
 use std::time::{Clock, Instant};
-use tod_stamp::{Serial, Session};
+use tod_stamp::Session;
 
 /// The volumes, and of each the tracks that a group updates: together they are as many as a group may have of a control.
 pub const VOLUMES: u16 = 8;
@@ -99,14 +99,6 @@ fn open_plant<R: Files<File = File>>(
     .context(NO_MEMORY)
 }
 
-/// The serial with this front, and a digit for a device behind it.
-fn serial(front: &[u8; 5], device: u16) -> Result<Serial> {
-    let mut name = [b'0'; 6];
-    name[..5].copy_from_slice(front);
-    name[5] = b'0' + (device % 10) as u8;
-    Serial::read(&name).context("the serial is no name")
-}
-
 /// The duplex row of a device.
 fn row(device: u16) -> Result<PairRow> {
     Ok(PairRow {
@@ -133,23 +125,6 @@ fn start<P: Plant>(alloc: Global, plant: &mut P) -> Result<Site<P::Volume>>
     Ok(site)
 }
 
-/// Logs, applies and marks a group again and again.
-fn turn_over<R: Threads + Sync, P: Plant>(
-    rt: &R,
-    plant: &mut P,
-    site: &mut Site<P::Volume>,
-    formed: &Formed,
-    groups: u32,
-) -> Result<()>
-    requires { IsSiteIdle P.tells site.old (P.state plant.old) }
-    ensures { OnOk result (IsSiteIdle P.tells site.new (P.state plant.new)) }
-{
-    for _ in 0..groups {
-        turn(rt, plant, site, formed)?;
-    }
-    Ok(())
-}
-
 /// A site on devices of zeros, whose tracks have a record each.
 fn written_site<R: Threads + Sync, P: Plant>(
     rt: &R,
@@ -162,59 +137,95 @@ fn written_site<R: Threads + Sync, P: Plant>(
     zero_all(plant)?;
     let mut site = start(alloc, plant)?;
     let wholes = group_of(alloc, true)?;
-    turn_over(rt, plant, &mut site, &wholes, 1)?;
+    turn(rt, plant, &mut site, &wholes)?;
     Ok(site)
 }
 
-/// The microseconds in which a group is logged, applied and marked so often.
-fn time_turns<R: Clock + Threads + Sync, P: Plant>(
+/// The microseconds in which a group is logged, applied and marked.
+fn time_turn<R: Clock + Threads + Sync, P: Plant>(
     rt: &R,
     plant: &mut P,
     site: &mut Site<P::Volume>,
     formed: &Formed,
-    groups: u32,
 ) -> Result<u64>
     requires { IsSiteIdle P.tells site.old (P.state plant.old) }
-    ensures { OnOk result (NoneLent (P.state plant.new)) }
+    ensures { OnOk result (IsSiteIdle P.tells site.new (P.state plant.new)) }
 {
     let start = Instant::now(rt)?;
-    turn_over(rt, plant, site, formed, groups)?;
+    turn(rt, plant, site, formed)?;
     micros_since(rt, start)
 }
 
-/// The microseconds of the writes and syncs of so many groups.
-fn time_writes<R: Clock, P: Plant>(rt: &R, plant: &mut P, groups: u32) -> Result<u64>
+/// The microseconds of the writes and syncs of a group.
+fn time_writes<R: Clock, P: Plant>(rt: &R, plant: &mut P, group: u32) -> Result<u64>
     requires { NoneLent (P.state plant.old) }
+    ensures { NoneLent (P.state plant.new) }
 {
     let start = Instant::now(rt)?;
-    repeat_writes(plant, groups)?;
+    write_group(plant, group)?;
     micros_since(rt, start)
 }
 
-/// Times both on a plant, and says how many groups of how many updates there were.
+/// The microseconds of both.
+#[derive(Clone, Copy)]
+struct Took {
+    turning: u64,
+    writing: u64,
+}
+
+/// Times both, group by group in turn, so that both meet the same disk.
+fn time_both<R: Clock + Threads + Sync, P: Plant>(
+    rt: &R,
+    plant: &mut P,
+    site: &mut Site<P::Volume>,
+    formed: &Formed,
+    plain: &mut P,
+    groups: u32,
+) -> Result<Took>
+    requires idle { IsSiteIdle P.tells site.old (P.state plant.old) }
+    requires home { NoneLent (P.state plain.old) }
+{
+    let mut took = Took {
+        turning: 0,
+        writing: 0,
+    };
+    for group in 0..groups {
+        let turning = time_turn(rt, plant, site, formed)?;
+        let writing = time_writes(rt, plain, group)?;
+        took.turning = took.turning.saturating_add(turning);
+        took.writing = took.writing.saturating_add(writing);
+    }
+    Ok(took)
+}
+
+/// Times both, each on a plant of its own, and says how many groups of how many updates there were.
 fn measure<R: Print + Eprint + Clock + Threads + Sync, P: Plant>(
     rt: &R,
     alloc: Global,
     plant: &mut P,
+    plain: &mut P,
     groups: u32,
 ) -> Result<()>
-    requires { NoneLent (P.state plant.old) }
+    requires plant { NoneLent (P.state plant.old) }
+    requires plain { NoneLent (P.state plain.old) }
 {
+    zero_all(plain)?;
     let mut site = written_site(rt, alloc, plant)?;
     let updates = group_of(alloc, false)?;
-    let turning = time_turns(rt, plant, &mut site, &updates, groups)?;
-    let writing = time_writes(rt, plant, groups)?;
-    let ratio = hundredths(turning, writing);
+    let took = time_both(rt, plant, &mut site, &updates, plain, groups)?;
+    let ratio = hundredths(took.turning, took.writing);
     eprintln!(rt; "{ratio} hundredths of the time of the writes and syncs alone")?;
     println!(rt; "{groups} groups of {} updates", updates.count())?;
     Ok(())
 }
 
-/// Logs, applies and marks so many groups on files whose names begin with this one, and then makes the same writes and syncs alone.
+/// Logs, applies and marks so many groups on files whose names begin with this one, and makes the same writes and syncs alone on others.
 pub fn run<R>(rt: &R, alloc: Global, name: &str, groups: u32) -> Result<()>
 where
     R: Files<File = File> + Print + Eprint + Clock + Threads + Sync,
 {
+    let plain_name = format!(in alloc; "{name}-plain")?;
     let mut plant = open_plant(rt, alloc, name)?;
-    measure(rt, alloc, &mut plant, groups)
+    let mut plain = open_plant(rt, alloc, &plain_name)?;
+    measure(rt, alloc, &mut plant, &mut plain, groups)
 }

@@ -10,8 +10,8 @@ ghost use Rattle.site_store.specs.Changing.{MayChange};
 ghost use Rattle.site_store.specs.Logging.{IsOfSomeRow};
 ghost use Rattle.site_store.specs.Standing.{HasLengths};
 
-use crate::measure::NO_MEMORY;
 use anyhow::{Result, bail};
+use bench_parts::NO_MEMORY;
 use crash_plant::{CONTROL_LENGTH, Device, Plant, STATE_LENGTH};
 use pair_table::{Change, Level, PairRow, PairTable};
 use pending_queue::{EntryHead, Formed};

@@ -2,10 +2,10 @@
 
 ghost use Rattle.std.specs.Prelude.{◌≡◌, IfOk};
 
-use crate::measure::{NO_MEMORY, copied};
 use crate::queue::{STAMP, empty_group, empty_queue, pop, push};
 use crate::site::{TRACKS, VOLUMES};
 use anyhow::{Context, Result};
+use bench_parts::{NO_MEMORY, copied};
 use ckd_track::{Batch, Kind, Rec, Track, Write, WriteList};
 use pending_queue::Formed;
 use std::alloc::Global;

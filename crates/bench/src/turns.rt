@@ -5,8 +5,8 @@ ghost use Rattle.tod_stamp.specs.declared.limits.TheConstants.{MOST_CONTROLS};
 ghost use Rattle.group_state.specs.Groups.{new_group};
 ghost use Rattle.bench.specs.Telling.{HasTold, NoneHasTold};
 
-use crate::measure::NO_MEMORY;
 use anyhow::{Context, Result, bail};
+use bench_parts::NO_MEMORY;
 use group_state::GroupState;
 use pending_queue::Formed;
 use std::alloc::Global;

@@ -1,13 +1,16 @@
-//! Writing the traces that are read and copied.
+//! Writing the traces that are read, copied and brought to devices.
+
+ghost use Rattle.std.specs.Prelude.{◌≤◌, ◌<◌, ◌+◌, ◌^◌, IfOk};
+ghost use Rattle.bench_parts.specs.declared.trace.TheConstants.{SPREAD_TRACKS};
 
 use crate::measure::{NO_MEMORY, copied};
 use anyhow::{Context, Result, bail};
-use ckd_track::{Kind, Rec, Track, Write};
+use ckd_track::{Kind, Rec, Slot, Track, Write};
 use std::alloc::Global;
 use std::fs::File;
 use std::io::Write as _;
 use std::rt::Files;
-use tod_stamp::Stamp;
+use tod_stamp::{Stamp, TRACKS_OF_CYLINDER};
 use write_trace::TraceWriter;
 use xrc_edge::{Bytes, NoMemory};
 
@@ -23,9 +26,21 @@ const SPREAD_HEADER: [u8; 18] = *b"XTR1\x00\x01PRIM01\x00\x64\x00\x00\x00\x00";
 /// The tracks of that volume.
 const SPREAD_TRACKS: u32 = 1_500;
 
-/// How far the track of an update stands behind that of the one before. It has no divisor in common with the number of tracks,
-/// so that each has its turn.
+/// The time of its first entry.
+const SPREAD_BEGIN: u32 = 1;
+
+/// The header of a trace that is brought to devices: one volume of one cylinder without base tracks.
+const CYLINDER_HEADER: [u8; 18] = *b"XTR1\x00\x01PRIM01\x00\x01\x00\x00\x00\x00";
+
+/// The time of its first entry. A session may have started before it.
+const CYLINDER_BEGIN: u32 = 2;
+
+/// How far the track of an update stands behind that of the one before. It has no divisor in common with the number of tracks of
+/// either volume, so that each has its turn.
 const STRIDE: u32 = 601;
+
+/// The bytes of the image of a track of 12 records of 80 bytes.
+pub const IMAGE: usize = 1_010;
 
 /// The bytes of an update.
 const UPDATE: [u8; 80] = [0x5A; 80];
@@ -117,30 +132,33 @@ impl Gathered {
         Ok(())
     }
 
-    /// Each track of the volume that is copied as a whole, at the times from 1 on.
-    fn put_tracks(&mut self, alloc: Global, kind: Kind) -> Result<()> {
+    /// Each track of a volume as a whole, at the times from one on.
+    fn put_tracks(&mut self, alloc: Global, kind: Kind, tracks: u32, begin: u32) -> Result<()> {
         let mut write = Write {
             volume: 0,
             track: 0,
-            stamp: Stamp(1),
+            stamp: Stamp(u64::from(begin)),
             kind,
         };
-        for track in 0..SPREAD_TRACKS {
+        for track in 0..tracks {
             write.track = track;
-            write.stamp = Stamp(1 + u64::from(track));
+            write.stamp = Stamp(u64::from(begin) + u64::from(track));
             self.put(alloc, &write)?;
         }
         Ok(())
     }
 
-    /// So many updates of records of these tracks, each at a later time than the one before.
-    fn put_updates(&mut self, alloc: Global, count: u32) -> Result<()> {
+    /// So many updates of records of the tracks of a volume, each at a later time than the one before, from one on.
+    fn put_updates(&mut self, alloc: Global, tracks: u32, begin: u32, count: u32) -> Result<()>
+        requires some { 1 ≤ tracks }
+        requires few { tracks ≤ SPREAD_TRACKS }
+    {
         for turn in 0..count {
-            let number = 1 + (turn / SPREAD_TRACKS % u32::from(RECORDS)) as u8;
+            let number = 1 + (turn / tracks % u32::from(RECORDS)) as u8;
             let write = Write {
                 volume: 0,
-                track: turn % SPREAD_TRACKS * STRIDE % SPREAD_TRACKS,
-                stamp: Stamp(1 + u64::from(SPREAD_TRACKS) + u64::from(turn)),
+                track: turn % tracks * STRIDE % tracks,
+                stamp: Stamp(u64::from(begin) + u64::from(turn)),
                 kind: update(alloc, number).ok().context(NO_MEMORY)?,
             };
             self.put(alloc, &write)?;
@@ -165,6 +183,30 @@ pub fn write_file<R: Files<File = File>>(
     gathered.flush()
 }
 
+/// Writes a trace of all tracks of a volume, at the times from one on, and then so many updates spread over them, each with a stamp of
+/// its own. Tells the last stamp.
+fn write_volume<R: Files<File = File>>(
+    rt: &R,
+    alloc: Global,
+    name: &str,
+    header: &[u8],
+    tracks: u32,
+    begin: u32,
+    updates: u32,
+) -> Result<Stamp>
+    requires some { 1 ≤ tracks }
+    requires few { tracks ≤ SPREAD_TRACKS }
+    requires early { begin + tracks < 2 ^ 32 }
+    ensures { IfOk result (λ last. begin ≤ last.0) }
+{
+    let mut gathered = Gathered::begin(rt, alloc, name, header)?;
+    let track = full_track(alloc, &BEFORE).ok().context(NO_MEMORY)?;
+    gathered.put_tracks(alloc, Kind::Whole { track }, tracks, begin)?;
+    gathered.put_updates(alloc, tracks, begin + tracks, updates)?;
+    gathered.flush()?;
+    Ok(Stamp(u64::from(begin + tracks - 1) + u64::from(updates)))
+}
+
 /// Writes a trace of the 1,500 tracks of a volume, and then so many updates spread over them, each with a stamp of its own.
 pub fn write_spread<R: Files<File = File>>(
     rt: &R,
@@ -172,9 +214,48 @@ pub fn write_spread<R: Files<File = File>>(
     name: &str,
     updates: u32,
 ) -> Result<()> {
-    let mut gathered = Gathered::begin(rt, alloc, name, &SPREAD_HEADER)?;
+    write_volume(
+        rt,
+        alloc,
+        name,
+        &SPREAD_HEADER,
+        SPREAD_TRACKS,
+        SPREAD_BEGIN,
+        updates,
+    )?;
+    Ok(())
+}
+
+/// Writes a trace of the 15 tracks of a volume, and then so many updates, each of another track than the one before and with a stamp of
+/// its own. Tells the last stamp.
+pub fn write_cylinder<R: Files<File = File>>(
+    rt: &R,
+    alloc: Global,
+    name: &str,
+    updates: u32,
+) -> Result<Stamp>
+    ensures { IfOk result (λ last. 1 ≤ last.0) }
+{
+    write_volume(
+        rt,
+        alloc,
+        name,
+        &CYLINDER_HEADER,
+        TRACKS_OF_CYLINDER,
+        CYLINDER_BEGIN,
+        updates,
+    )
+}
+
+/// The image of a track of such a trace before its updates.
+pub fn full_image(alloc: Global) -> Result<[u8; IMAGE]> {
     let track = full_track(alloc, &BEFORE).ok().context(NO_MEMORY)?;
-    gathered.put_tracks(alloc, Kind::Whole { track })?;
-    gathered.put_updates(alloc, updates)?;
-    gathered.flush()
+    let mut slot = Slot::make(alloc).ok().context(NO_MEMORY)?;
+    slot.set(&track);
+    let mut image = [0; IMAGE];
+    if slot.bytes().len() != IMAGE {
+        bail!("the track has another length");
+    }
+    image.copy_from_slice(slot.bytes());
+    Ok(image)
 }

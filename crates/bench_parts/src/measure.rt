@@ -1,10 +1,11 @@
-//! What the benchmarks share: times, and bytes that writes and records hold.
+//! Times, and bytes that writes and records hold.
 
 use anyhow::Result;
 use std::alloc::Global;
 use std::time::{Clock, Instant};
 use xrc_edge::{Bytes, NoMemory};
 
+/// What a benchmark says where there is no memory.
 pub const NO_MEMORY: &str = "there is no memory";
 
 /// The microseconds since a start.
@@ -18,6 +19,7 @@ pub fn hundredths(ours: u64, plain: u64) -> u64 {
     ours.saturating_mul(100) / plain.max(1)
 }
 
+/// Bytes with this content.
 pub fn copied(alloc: Global, content: &[u8]) -> Result<Bytes, NoMemory> {
     let mut bytes = Bytes::make(alloc);
     bytes.extend_from_slice(alloc, content)?;

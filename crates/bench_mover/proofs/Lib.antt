@@ -1,0 +1,3 @@
+mod PuttingRows
+mod StartingGroup
+mod StartingRows

@@ -1,0 +1,3 @@
+pub mod DroppedWrites
+pub mod PutRows
+pub mod Starting
