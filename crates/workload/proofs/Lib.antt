@@ -1,0 +1,10 @@
+pub mod Ranges
+pub mod Headers
+pub mod GoodTraces
+pub mod Entries
+pub mod Leaving
+pub mod Labelling
+pub mod Lines
+pub mod Counting
+pub mod Holding
+pub mod SummedUp

@@ -1,0 +1,13 @@
+//! The laws of generated inputs.
+
+ghost use Rattle.workload.specs.Laws.{ScriptsAreRead, TracesAreGood};
+
+/// Each trace is read whole: its header and all its writes, and it ends cleanly behind them.
+pub fn traces_are_good()
+    ensures { TracesAreGood }
+{}
+
+/// Each line of the script spells its command, and no time falls.
+pub fn scripts_are_read()
+    ensures { ScriptsAreRead }
+{}
