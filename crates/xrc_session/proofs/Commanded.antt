@@ -132,7 +132,7 @@ same_causes Control Device e = absurd cc
 same_causes Control Session e = absurd cc
 same_causes Control Control e = refl
 
-same_states : (was is : PairState) → is_suspended_as was is ≡ true → was ≡ is
+pub same_states : (was is : PairState) → is_suspended_as was is ≡ true → was ≡ is
 same_states was Pending e = absurd cc
 same_states was Copy e = absurd cc
 same_states was Duplex e = absurd cc
@@ -242,7 +242,7 @@ last_place [] r = refl
 last_place (t ∷ rows) r = last_place rows r
 
 -- A primary that has a row is paired again only if the row is suspended.
-row_taken : (names : Naming) (rows : List PairRow) (primary secondary : List ℕ) (r : PairRow) (v : Option NamedVolume) → refuses_primary primary secondary names rows v ≡ None → row_of_primary primary rows ≡ Some r → is_suspended r.state ≡ true
+pub row_taken : (names : Naming) (rows : List PairRow) (primary secondary : List ℕ) (r : PairRow) (v : Option NamedVolume) → refuses_primary primary secondary names rows v ≡ None → row_of_primary primary rows ≡ Some r → is_suspended r.state ≡ true
 row_taken names rows primary secondary r None own is = absurd cc
 row_taken names rows primary secondary r (Some v) own is = by_broken (is_broken v.control names) own
   where

@@ -89,7 +89,7 @@ module _ {S : Type 0} (lanes : List (Lane S)) (names : Naming) (are : AreNamedOf
   rows_of_lanes : (rows : List PairRow) (r : PairRow) → PrimariesAreNamed names rows → Contains rows r → IsRowOfLane lanes r
   rows_of_lanes rows r named has = row_of_lane r (ap (has_named_primary names) (sym has.2) ∙ AllPass-from_list_all (has_named_primary names) rows named has.0 r has.1)
 
-  added_of_lane : (change : Change) (after : List PairRow) → PrimariesAreNamed names after → IfAdds change after (IsRowOfLane lanes)
+  pub added_of_lane : (change : Change) (after : List PairRow) → PrimariesAreNamed names after → IfAdds change after (IsRowOfLane lanes)
   added_of_lane Nothing after named = tt
   added_of_lane Started after named = tt
   added_of_lane (Added device) after named = of (row_of device after) refl

@@ -59,7 +59,7 @@ epochs_later tells plant group site limit later up may = record {
 -- ---- the calls of a change
 
 -- Each of several calls has a property.
-abbrev Each : (Call → Type 0) → List Call → Type 0
+abbrev pub Each : (Call → Type 0) → List Call → Type 0
 Each P [] = Unit {0}
 Each P (call ∷ calls) = P call × Each P calls
 
@@ -76,14 +76,14 @@ IsOfChange Carried (Drop k v all) = Unit {0}
 IsOfChange Carried (Resume k v) = Unit {0}
 IsOfChange Carried (Forget k v) = Unit {0}
 
-module _ (Carried : (k v : ℕ) → PlanState → Type 0) where
-  both_parts : (first second : List Call) → Each (IsOfChange Carried) first → Each (IsOfChange Carried) second → Each (IsOfChange Carried) (first ++ second)
-  both_parts [] second are more = more
-  both_parts (call ∷ first) second are more = (are.0, both_parts first second are.1 more)
+pub each_of_both : (P : Call → Type 0) (first second : List Call) → Each P first → Each P second → Each P (first ++ second)
+each_of_both P [] second are more = more
+each_of_both P (call ∷ first) second are more = (are.0, each_of_both P first second are.1 more)
 
+module _ (Carried : (k v : ℕ) → PlanState → Type 0) where
   forgets : (devices : List ℕ) (rows : List PairRow) → Each (IsOfChange Carried) (flat_map (forget_calls devices) rows)
   forgets devices [] = tt
-  forgets devices (r ∷ rows) = both_parts (forget_calls devices r) (flat_map (forget_calls devices) rows) (choose (is_among r.device devices)) (forgets devices rows)
+  forgets devices (r ∷ rows) = each_of_both (IsOfChange Carried) (forget_calls devices r) (flat_map (forget_calls devices) rows) (choose (is_among r.device devices)) (forgets devices rows)
     where
       choose : (b : Bool) → Each (IsOfChange Carried) (cond b (Drop r.control r.volume true ∷ Forget r.control r.volume ∷ []) [])
       choose true = (tt, (tt, tt))
@@ -92,7 +92,7 @@ module _ (Carried : (k v : ℕ) → PlanState → Type 0) where
   drops : (change : Change) (before rows : List PairRow) → Each (IsOfChange Carried) (flat_map (drop_calls change before) rows)
   drops change before [] = tt
   drops change before (r ∷ rows) =
-      both_parts (drop_calls change before r) (flat_map (drop_calls change before) rows) (one (drop_between (state_by_command change before r) r.state)) (drops change before rows)
+      each_of_both (IsOfChange Carried) (drop_calls change before r) (flat_map (drop_calls change before) rows) (one (drop_between (state_by_command change before r) r.state)) (drops change before rows)
     where
       one : (o : Option Bool) → Each (IsOfChange Carried) (drop_call r o)
       one None = tt
@@ -120,7 +120,7 @@ module _ (Carried : (k v : ℕ) → PlanState → Type 0) where
   commands Ended s before after carried = tt
 
   calls_are : (change : Change) (s : Group) (before after : List PairRow) → IfAdds change after (λ r. Carried r.control r.volume (fresh_plan (every_track (tracks_of_row r)))) → Each (IsOfChange Carried) (calls_of_change change s before after)
-  calls_are change s before after carried = both_parts (command_calls change s before after) (flat_map (drop_calls change before) after) (commands change s before after carried) (drops change before after)
+  calls_are change s before after carried = each_of_both (IsOfChange Carried) (command_calls change s before after) (flat_map (drop_calls change before) after) (commands change s before after carried) (drops change before after)
 
 -- ---- what they leave for readers
 

@@ -137,10 +137,10 @@ keep_first (suc n) time rows [] keep = tt
 keep_first (suc n) time rows (deed ∷ deeds) keep = (keep.0, keep_first n time (rows_by_deed deed) deeds keep.1)
 
 -- Some first ones of the deeds.
-abbrev IsFirst : (deeds front : List Deed) → Type 0
+abbrev pub IsFirst : (deeds front : List Deed) → Type 0
 IsFirst deeds front = (n : ℕ) × (n ≤ length deeds) × (front ≡ take n deeds)
 
-first_ones : (n : ℕ) (deeds : List Deed) → IsFirst deeds (take n deeds)
+pub first_ones : (n : ℕ) (deeds : List Deed) → IsFirst deeds (take n deeds)
 first_ones n deeds = elim (cases_lt n (length deeds)) [
   | inl less ↦ (n, omega (arith, less), refl)
   | inr past ↦ (length deeds, omega arith, take_all n deeds past ∙ sym (take_all (length deeds) deeds (omega arith)))
@@ -156,7 +156,7 @@ module _ (old new : PlantState) (b : Between) (rows : List PairRow) (deeds : Lis
       (deeds_show_points old b rows (take n deeds) (record { stands = h.stands; shows = h.shows; same = h.same; keep = keep_first n b.point.time rows deeds h.keep }) q is c sees)
 
   module _ (told : List Deed → Point) (way : PassedDeed → Way) (are : ArePointsBehind deeds b.point told) where
-    step : (front : List Deed) (c : Choice) → IsFirst deeds front → SeesBehind old b.excepted rows front c → Shows (told front) c
+    pub step : (front : List Deed) (c : Choice) → IsFirst deeds front → SeesBehind old b.excepted rows front c → Shows (told front) c
     step front c first sees =
         subst (λ (all : List Deed). Shows (told all) c) (sym first.2)
         (tell first.0 (told (take first.0 deeds)) (are.behind first.0 first.1) c (subst (λ (all : List Deed). SeesBehind old b.excepted rows all c) first.2 sees))

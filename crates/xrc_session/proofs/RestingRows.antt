@@ -52,7 +52,7 @@ use Rattle.xrc_session.proofs.RestingSites.{hits_told}
 -- ---- who is hit
 
 -- Where no device is hit, no row is.
-none_hit : (failed : List Bool) (r : PairRow) (rows : List PairRow) → hit_now failed rows ≡ [] → Among r rows → is_hit_now failed r ≡ false
+pub none_hit : (failed : List Bool) (r : PairRow) (rows : List PairRow) → hit_now failed rows ≡ [] → Among r rows → is_hit_now failed r ≡ false
 none_hit failed r [] none there = absurd (among_cases r [] there)
 none_hit failed r (s ∷ rows) none there = by_flag (is_hit_now failed s) refl none (among_cases r (s ∷ rows) there) (λ rest later. none_hit failed r rows rest later)
   where
@@ -97,7 +97,7 @@ module _ (tells : Type 0) (cut : ℕ) (change : Change) (site next : SiteState) 
       cond_has (λ way. P (change_deeds way site cut next.failed)) (record_has_room old site.at items) _ _ alone
       (cond_has (λ way. P (change_deeds way site cut next.failed)) (next_set old.journals site.at.set == site.mark.at.set) _ _ marked alone)
 
-  deeds_cases : (changed_items change site.table.rows ≡ [] → P []) → (changed_items change site.table.rows ≢ [] → P (Changed cut (table_with_hits cut next.failed site) ∷ []))
+  pub deeds_cases : (changed_items change site.table.rows ≡ [] → P []) → (changed_items change site.table.rows ≢ [] → P (Changed cut (table_with_hits cut next.failed site) ∷ []))
       → (changed_items change site.table.rows ≢ [] → P (Marked site.at site.mark.ended (told_by_mark next.failed site) ∷ Changed cut (table_with_hits cut next.failed site) ∷ [])) → P (change_deeds_of change does.way site cut next.failed)
   deeds_cases none alone marked = by_items (changed_items change site.table.rows) refl
     where
@@ -257,7 +257,7 @@ suspended_not : (state : PairState) → is_suspended state ≡ true → state �
 suspended_not state suspended duplex = true≢false (sym suspended ∙ ap is_suspended duplex)
 
 -- a row that was changed to another, and one that is changed
-map_back : (f : PairRow → PairRow) (y : PairRow) (rows : List PairRow) → Among y (map f rows) → (x : PairRow) × Among x rows × (f x ≡ y)
+pub map_back : (f : PairRow → PairRow) (y : PairRow) (rows : List PairRow) → Among y (map f rows) → (x : PairRow) × Among x rows × (f x ≡ y)
 map_back f y [] there = absurd (among_cases y [] there)
 map_back f y (r ∷ rows) there = elim (among_cases y (f r ∷ map f rows) there) [
   | inl same ↦ (r, Here rows, same)

@@ -31,7 +31,7 @@ use Rattle.xrc_session.specs.Resting.{AllAreTold, CommandsComeBehindChanges, Com
 
 -- ---- hits are told
 
-suspends : (state : PairState) → is_suspended state ≡ false → is_device_suspended state ≡ false
+pub suspends : (state : PairState) → is_suspended state ≡ false → is_device_suspended state ≡ false
 suspends Pending is = refl
 suspends Copy is = refl
 suspends Duplex is = refl
@@ -200,7 +200,7 @@ module _ (test : PairRow → Bool) (stays : (state : PairState) (r : PairRow) �
   all_pass hits [] = refl
   all_pass hits (r ∷ rows) = λ i. (reached_passes level hits (hit_row hits time r) ∙ hit_passes hits r) i && all_pass hits rows i
 
-  hits_pass : (failed : List Bool) (rows : List PairRow) → list_all test (rows_with_hits level time failed rows) ≡ list_all test rows
+  pub hits_pass : (failed : List Bool) (rows : List PairRow) → list_all test (rows_with_hits level time failed rows) ≡ list_all test rows
   hits_pass failed rows = by_hits (hit_now failed rows)
     where
       by_hits : (hits : List ℕ) → list_all test (rows_hit level time hits rows) ≡ list_all test rows

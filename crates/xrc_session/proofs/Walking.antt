@@ -375,7 +375,7 @@ resumed_state device before p apart r t there behind found = choose (stands_agai
         let same : t.device ≡ was.row.device = device_is ∙ sym (ap (λ (x : PairRow). x.device) was.is) ∙ stated_device was.row in
         was_row was.row was.among same false is (nat_eq device was.row.device) refl ∙ sym (stated_state was.row) ∙ ap (λ (x : PairRow). x.state) was.is
 
-begun_state : (change : Change) (before after : List PairRow) (s : Group) → MayBeBegun s change before after → none_clash before ≡ true → none_clash (rows_by_command change before after) ≡ true → none_clash after ≡ true → (r t : PairRow)
+pub begun_state : (change : Change) (before after : List PairRow) (s : Group) → MayBeBegun s change before after → none_clash before ≡ true → none_clash (rows_by_command change before after) ≡ true → none_clash after ≡ true → (r t : PairRow)
     → Among r (rows_by_command change before after) → Among t after → IsBehind r t → state_by_command change before t ≡ r.state
 begun_state Nothing before after s begun apart whole clear r t there among behind = not_begun Nothing before r t behind refl apart there
 begun_state Started before after s begun apart whole clear r t there among behind = not_begun Started before r t behind refl apart there
@@ -402,7 +402,7 @@ same_drops change before (r ∷ rows) (t ∷ next) follow states =
     ∙ ap (λ (calls : List Call). drop_calls change before t ++ calls) (same_drops change before rows next follow.1 (λ x y there among. states x y (Later r rows there) (Later t next among)))
 
 -- Suspensions leave each row's pair, so rows that don't clash don't behind them.
-same_behind : (rows next : List PairRow) → InPlaces IsSuspendedSince rows next → pairs_of next ≡ pairs_of rows
+pub same_behind : (rows next : List PairRow) → InPlaces IsSuspendedSince rows next → pairs_of next ≡ pairs_of rows
 same_behind [] [] follow = refl
 same_behind [] (t ∷ next) follow = absurd follow
 same_behind (r ∷ rows) [] follow = absurd follow

@@ -1,0 +1,13 @@
+//! The top call: all that the program does.
+#![tactic(auto)]
+
+mod command;
+mod laws;
+mod opening;
+mod run;
+mod words;
+
+pub use command::xrc;
+pub use laws::runs_are_complete;
+pub use opening::wanted;
+pub use words::Wanted;

@@ -1,0 +1,121 @@
+-- A line's reply is said.
+use Rattle.xrc_session.proofs.RepliesNow.{bears_behind}
+use Rattle.xrc_session.proofs.OnTrail.{rests_on_trail}
+use Rattle.pair_table.specs.Tables.{Table}
+use Rattle.std.proofs.Common.{◌≡◌, ◌⊎◌, inl, inr, ℕ, suc, ◌<◌, ◌≤◌, List, [], ◌∷◌, ◌++◌, length, take, Option, Some, None, refl, sym, ap, subst, ◌∙◌, append_assoc, append-nil, arith, true≢false}
+use Rattle.std.specs.Prelude.{MatchOption, IsTrue}
+use Rattle.std.proofs.lemmas.Bool.{cases_lt}
+use Rattle.crash_plant.specs.declared.device.Device.TheVariants.{Control}
+use Rattle.crash_plant.specs.Calls.{Says, WorksOnConsole}
+use Rattle.crash_plant.specs.Moments.{PlantState}
+use Rattle.site_store.specs.Sites.{SiteState}
+use Rattle.consistency.specs.Bears.{Run, Stage}
+use Rattle.consistency.specs.Between.{MayReply, RunGoesOn}
+use Rattle.consistency.specs.Courses.{Answered, AreAsked, IsAnswered, IsCourse, replies_of, stage_at, texts_of}
+use Rattle.consistency.specs.Moments.{BearsThroughout}
+use Rattle.consistency.specs.Steps.{TimedCommand}
+use Rattle.consistency.proofs.Between.{replies_fail, replies_go_on}
+use Rattle.consistency.proofs.Lines.{asked_more, course_more, replies_more, texts_more}
+use Rattle.script_lines.specs.Grammars.{asked_by, line_grammar}
+use Rattle.mover.specs.declared.lane.Lane.{Lane}
+use Rattle.xrc_command.specs.declared.line.Line.{Line}
+use Rattle.xrc_status.specs.Saying.{SaidWhole}
+use Rattle.xrc_status.specs.declared.stop.Stop.TheVariants.{ConsoleFault}
+use Rattle.xrc_session.specs.declared.answering.LineAnswer.{LineAnswer}
+use Rattle.xrc_session.specs.Between.{HasAnswered, HasNotBegun, RestsAtSite, StandsBehindLines, stage_behind}
+use Rattle.xrc_session.specs.Ends.{StopsInLine}
+use Rattle.xrc_session.specs.Replying.{reply_composed}
+use Rattle.xrc_session.specs.States.{SessionState}
+use Rattle.xrc_session.specs.Steps.{IsExactBehind, IsToReply, line_answered}
+use Rattle.xrc_session.specs.Stops.{RepliesInPart}
+use Rattle.xrc_session.specs.Trails.{AreExact, GoesForth, Trail, first_leg, BeginsAtStart, StandsOnTrail}
+use Rattle.xrc_session.proofs.Consoles.{behind_on}
+use Rattle.xrc_session.proofs.Courses.{none_next}
+use Rattle.xrc_session.proofs.Exactly.{exact_more}
+use Rattle.xrc_session.proofs.Replied.{IsAsTold, reply_is_exact}
+
+module _ {S : Type 0} (run : Run) (lines : List Answered) (trail : Trail) (text : List ℕ) (line : Line) (answer : LineAnswer) (s : SessionState) (lanes : List (Lane S)) (began mid new : PlantState)
+    (to : IsToReply run lines trail text (asked_by line) answer s lanes began mid) (as_told : IsAsTold s) (many : length run.traces ≡ length lanes) (reply : List ℕ) (composed : reply ≡ reply_composed s.site lanes line answer)
+    (tells : Type 0) (told : tells) (works : WorksOnConsole tells mid new) (says : Says reply mid new) where
+  abbrev a : Answered
+  a = line_answered run lines text (asked_by line) to.changes to.hits began reply
+
+  exact : IsExactBehind run lines trail text began a
+  exact = reply_is_exact run lines trail text line answer s lanes began mid to as_told many reply composed
+
+  may : MayReply run (stage_behind run lines text began) lines (first_leg run (lines ++ a ∷ []) trail) trail.points a mid
+  may = to.may reply exact
+
+  answered : IsAnswered run (stage_at run lines (length lines)) a
+  answered = record { step = may.answered.step; counted = may.answered.counted; level = may.answered.level; is_reply = may.answered.is_reply }
+
+  exact_all : AreExact run (lines ++ a ∷ []) trail
+  exact_all = exact_more run lines trail to.begins a to.exact exact
+
+  stands : StandsBehindLines run (lines ++ a ∷ []) (stage_behind run (lines ++ a ∷ []) [] began) trail s began new
+  stands = behind_on tells mid new works told run (lines ++ a ∷ []) (stage_behind run (lines ++ a ∷ []) [] began) trail s began to.goes.now.site to.goes.now.later (to.stands reply)
+
+  -- Once it was said whole, the line is answered.
+  pub said_whole : SaidWhole reply mid new → HasAnswered run (lines ++ a ∷ []) trail [] s lanes began new
+  said_whole whole = record {
+    goes = replies_go_on run line_grammar lines (first_leg run (lines ++ a ∷ []) trail) trail.points a began mid new to.goes may tells told works says whole;
+    exact = exact_all;
+    stands = stands;
+    broke = to.broke;
+  }
+
+  later : mid.clock ≤ new.clock
+  later = ((works.elapses told).kept Control).later
+
+  in_part : RepliesInPart run lines a began new
+  in_part =
+      let said = says.front new.clock later (omega arith) in
+      record {
+        course = course_more run lines a to.goes.now.course answered;
+        asked = asked_more line_grammar began.script lines a to.goes.now.asked (record { asks = may.asks; one_line = to.goes.now.one_line });
+        heard = says.heard new.clock later (omega arith) ∙ to.goes.now.heard ∙ ap (λ (l : List ℕ). began.heard began.clock ++ l) (sym (texts_more lines a));
+        script = to.goes.now.script ∙ ap (λ (l : List ℕ). texts_of lines ++ text ++ l) (sym says.script) ∙ ap (λ (l : List ℕ). l ++ new.script) (sym (texts_more lines a));
+        front = (said.0, said.1, said.2 ∙ ap (λ (l : List ℕ). l ++ take said.0 reply) to.goes.now.said ∙ append_assoc (began.said began.clock) (replies_of lines) (take said.0 reply));
+        bears = λ up. replies_fail run line_grammar lines (first_leg run (lines ++ a ∷ []) trail) trail.points a began mid new to.goes may tells told works says up;
+        behind = bears_behind run lines (first_leg run (lines ++ a ∷ []) trail) trail.points a began mid new to.goes may tells told works;
+      }
+
+  -- Where the console failed the session stops within the reply.
+  pub said_in_part : StopsInLine run lines text began new ConsoleFault
+  said_in_part = record {
+    trail = trail;
+    stopped = record {
+      part = Some a;
+      stands = (refl, refl, in_part);
+      exact = exact_all;
+      none = λ unstarted_trail. by_none s.site unstarted_trail stands.place;
+      begun = λ on. by_begun s.site refl on stands.place;
+      next = None;
+      along = λ some. by_along s.site some stands.place;
+      forth = λ past some. by_place s.site (omega (arith, past, to.goes.now.later, later)) some stands.place;
+    };
+    volumes = stands.volumes;
+    spent = λ is. absurd cc;
+  }
+    where
+      by_begun : (o : Option SiteState) → s.site ≡ o → IsTrue (stage_at run (lines ++ a ∷ []) (length (lines ++ a ∷ []))).table.is_started
+          → MatchOption o (HasNotBegun trail began new) (RestsAtSite run (lines ++ a ∷ []) (stage_behind run (lines ++ a ∷ []) [] began) trail s began new) → (0 < trail.started) × BeginsAtStart run (lines ++ a ∷ []) trail
+      by_begun None is on none = absurd (true≢false (sym on ∙ ap (λ (t : Table). t.is_started) stands.table ∙ as_told.unstarted is))
+      by_begun (Some site) is on rests = (rests.under_way.some, rests.under_way.begins)
+
+      by_none : (o : Option SiteState) → trail.started ≡ 0 → MatchOption o (HasNotBegun trail began new) (RestsAtSite run (lines ++ a ∷ []) (stage_behind run (lines ++ a ∷ []) [] began) trail s began new) → trail.points ≡ []
+      by_none None zero not_begun = not_begun.points
+      by_none (Some site) zero rests = absurd (omega (arith, zero, rests.under_way.some))
+
+      by_along : (o : Option SiteState) → 0 < trail.started → MatchOption o (HasNotBegun trail began new) (RestsAtSite run (lines ++ a ∷ []) (stage_behind run (lines ++ a ∷ []) [] began) trail s began new)
+          → StandsOnTrail run (lines ++ a ∷ []) None trail None new
+      by_along None some none = absurd (omega (arith, some, none.started))
+      by_along (Some site) some rests =
+          subst (λ (o : Option TimedCommand). StandsOnTrail run (lines ++ a ∷ []) o trail None new) (none_next run line_grammar began.script (lines ++ a ∷ []))
+          (rests_on_trail run (lines ++ a ∷ []) (stage_behind run (lines ++ a ∷ []) [] began) trail s began new site rests)
+
+      by_place : (o : Option SiteState) → 0 < new.clock → 0 < trail.started → MatchOption o (HasNotBegun trail began new) (RestsAtSite run (lines ++ a ∷ []) (stage_behind run (lines ++ a ∷ []) [] began) trail s began new)
+          → GoesForth run (lines ++ a ∷ []) None trail None began new
+      by_place None up some none = absurd (omega (arith, some, none.started))
+      by_place (Some site) up some rests =
+          subst (λ (o : Option TimedCommand). GoesForth run (lines ++ a ∷ []) o trail None began new) (none_next run line_grammar began.script (lines ++ a ∷ [])) (rests.under_way.forth up)

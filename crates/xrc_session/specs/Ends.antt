@@ -1,0 +1,54 @@
+-- How a run of a session ends: done, or stopped in the work for a line.
+use Rattle.std.specs.Prelude.{◌≡◌, ℕ, ◌<◌, List, [], length, None, Some, IsTrue, slice_get}
+use Rattle.tod_stamp.specs.Fields.{IsBytes}
+use Rattle.crash_plant.specs.declared.device.Device.TheVariants.{Volume}
+use Rattle.crash_plant.specs.Choices.{AtNow}
+use Rattle.crash_plant.specs.Moments.{PlantState}
+use Rattle.pair_table.specs.declared.row.PairRow.{PairRow}
+use Rattle.pair_table.specs.declared.row.PairState.TheVariants.{Duplex}
+use Rattle.primary_ctl.specs.Primaries.{primary}
+use Rattle.applier.specs.Slots.{BeginsWithTrack}
+use Rattle.site_means.specs.Sight.{walked}
+use Rattle.consistency.specs.Bears.{Run, tracks_of_row}
+use Rattle.consistency.specs.Courses.{Answered, stage_at}
+use Rattle.script_lines.specs.Grammars.{line_grammar}
+use Rattle.consistency.specs.Between.{RunGoesOn}
+use Rattle.xrc_status.specs.declared.stop.Stop.{Stop}
+use Rattle.xrc_status.specs.declared.stop.Stop.TheVariants.{Spent}
+use Rattle.xrc_session.specs.Frames.{ChangesRows, rows_passed}
+use Rattle.xrc_session.specs.Stops.{IsSpentNow, IsStopped}
+use Rattle.xrc_session.specs.Trails.{AreExact, GoesForth, Trail, HasBegunTrail, StandsOnTrail}
+
+-- ---- done
+
+-- the rows behind the last of these lines
+abbrev pub rows_at_end : Run → List Answered → List PairRow
+rows_at_end run lines = (stage_at run lines (length lines)).table.rows
+
+-- Behind the last line the walk is empty. So the slot of each track of a duplex row begins with the image of its primary's track at the time of the
+-- last reply.
+pub record IsApplied (run : Run) (lines : List Answered) (now : PlantState) : Type 0 where
+  pub walk : AtNow (λ c. walked now c ≡ []) now
+  pub slots : (place : ℕ) (r : PairRow) → slice_get (rows_at_end run lines) place ≡ Some r → r.state ≡ Duplex → IsBytes (now.bytes (Volume r.device))
+      → (x : ℕ) → x < tracks_of_row r → BeginsWithTrack (now.bytes (Volume r.device)) x (Some (primary run.traces (stage_at run lines (length lines)).replied r.control r.volume x))
+
+-- The script was heard to its end, each line has its reply, and nothing else was said. In a started session all is applied and marked.
+pub record IsRunDone (run : Run) (lines : List Answered) (trail : Trail) (began now : PlantState) : Type 0 where
+  pub goes : RunGoesOn run line_grammar lines [] began now
+  pub at_end : now.script ≡ []
+  pub exact : AreExact run lines trail
+  pub none : trail.started ≡ 0 → trail.points ≡ []
+  pub begun : HasBegunTrail run lines trail
+  pub along : 0 < trail.started → StandsOnTrail run lines None trail None now
+  pub forth : 0 < began.clock → 0 < trail.started → GoesForth run lines None trail None began now
+  pub volumes : ChangesRows (rows_passed trail.points) began now
+  pub applied : IsTrue (stage_at run lines (length lines)).table.is_started → IsApplied run lines now
+
+-- ---- stopped
+
+-- A run stopped in the work for a line, behind the answered ones. At a stop for numbers the devices tell that they are spent.
+pub record StopsInLine (run : Run) (lines : List Answered) (text : List ℕ) (began now : PlantState) (stop : Stop) : Type 0 where
+  pub trail : Trail
+  pub stopped : IsStopped run lines trail text began now stop
+  pub volumes : ChangesRows (rows_passed trail.points) began now
+  pub spent : stop ≡ Spent → IsSpentNow now
