@@ -1,7 +1,7 @@
 #!/bin/sh
 # Looks for names of definitions that stand in two crates: a `pub` item of a crate's specs/*.antt, with its fields and constructors
-# left out of account. A crate that passes on what another one defines (`pub use`) defines nothing. The crates of the session with
-# one pair are left out. Prints each such name with its places, and ends with status 1 where there is one.
+# left out of account. A crate that passes on what another one defines (`pub use`) defines nothing. Prints each such name with its
+# places, and ends with status 1 if there is one.
 set -eu
 cd "$(dirname "$0")/.."
 exec python3 - <<'PYTHON'
@@ -10,7 +10,6 @@ import os
 import re
 import sys
 
-FROZEN = {"one_pair_site", "one_pair_session", "pair_course", "session_lines", "epoch"}
 # An item begins at the margin. Words as `abbrev` or `record` stand before its `pub`, or after it.
 ITEM = re.compile(r"(?:[a-z]+ )*pub (?:(?:abbrev|unfoldable|record|data|open) )*([^\s():]+)")
 
@@ -28,8 +27,6 @@ def main():
     places = {}
     for file in sorted(glob.glob("crates/*/specs/**/*.antt", recursive=True)):
         crate = file.split(os.sep)[1]
-        if crate in FROZEN:
-            continue
         for name, line in definitions(file):
             places.setdefault(name, {}).setdefault(crate, []).append(f"{file}:{line}")
     offenders = {name: crates for name, crates in sorted(places.items()) if len(crates) > 1}

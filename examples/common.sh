@@ -1,5 +1,5 @@
 # What the examples share, which read it with `.` at their beginning: the program, a temporary folder, in which they then are, new devices
-# in it, and the script of a session with one pair. $0 names the example.
+# in it, and what it takes to kill the program and to recover. $0 names the example.
 
 repository=$(cd "$(dirname "$0")/../.." && pwd)
 program=$repository/crates/xrc/out/xrc
@@ -17,29 +17,91 @@ bytes() {
     done
 }
 
-# New devices: control, state, two journals, and a volume of one cylinder with the label SEC001.
+# New devices for so many controllers: control, state, two journals, and so many volumes, 9 at most, of one cylinder each. Volume 0 has
+# the label SEC001, volume 1 SEC002, and so on.
 new_devices() {
-    rm -f control state journal.0 journal.1 volume.0
+    rm -f control state journal.* volume.*
     truncate -s 1024 control
     truncate -s 16384 state
-    truncate -s 1826816 journal.0 journal.1
-    bytes '58 56 4F 4C 53 45 43 30 30 31 00 00 00 01' >volume.0
-    truncate -s 860672 volume.0
+    truncate -s $((8192 + $1 * 1818624)) journal.0 journal.1
+    device=0
+    while [ "$device" -lt "$2" ]; do
+        bytes "58 56 4F 4C 53 45 43 30 30 3$((device + 1)) 00 00 00 01" >"volume.$device"
+        truncate -s 860672 "volume.$device"
+        device=$((device + 1))
+    done
 }
 
-# So many bytes of the volume from a place on, in hexadecimal digits.
+# Of a volume so many bytes from a place on, in hexadecimal digits.
 volume_bytes() {
-    od -An -v -tx1 -j "$1" -N "$2" volume.0 | tr -d ' \n'
+    od -An -v -tx1 -j "$2" -N "$3" "volume.$1" | tr -d ' \n'
 }
 
-# The place of a track's slot.
-slot_place() {
-    echo $((512 + $1 * 57344))
+# What the slot of a volume's track begins with: so many bytes.
+slot() {
+    volume_bytes "$1" $((512 + $2 * 57344)) "$3"
+}
+
+# Shows and checks what the slot of a volume's track begins with, and says what that is.
+check_slot() {
+    found=$(slot "$1" "$2" $((${#3} / 2)))
+    echo "On volume $1 the slot of track $2 begins with $found: $4."
+    [ "$found" = "$3" ] || fail "the slot of track $2 on volume $1 does not begin with $3"
+}
+
+# Shows what the program said, a file of replies, and checks that it is what a second file has.
+check_said() {
+    cat "$1"
+    cmp -s "$2" "$1" || fail "the program does not say what was wanted"
+}
+
+# The process of the program, and the one that writes a trace, if there is one.
+running=
+writing=
+
+stop_all() {
+    [ -z "$running" ] || kill -9 "$running" 2>/dev/null || true
+    [ -z "$writing" ] || kill -9 "$writing" 2>/dev/null || true
+    rm -rf "$site"
+}
+
+# Waits until a command succeeds, for a minute at most, and fails with a text if it doesn't.
+wait_until() {
+    failure=$1
+    shift
+    tries=0
+    until "$@"; do
+        tries=$((tries + 1))
+        [ "$tries" -lt 600 ] || fail "$failure"
+        sleep 0.1
+    done
+}
+
+# Kills the program, and ends the process that writes a trace.
+crash() {
+    kill -9 "$running" 2>/dev/null || fail "the program ended by itself"
+    wait "$running" 2>/dev/null || true
+    running=
+    [ -z "$writing" ] || kill -9 "$writing" 2>/dev/null || true
+    [ -z "$writing" ] || wait "$writing" 2>/dev/null || true
+    writing=
+}
+
+# Recovers the site twice, which says the same both times, and shows it.
+recover() {
+    for said in recovered again; do
+        status=0
+        "$program" recover ABC </dev/null >"$said" || status=$?
+        [ "$status" -eq 0 ] || fail "a recovery ends with $status"
+    done
+    cmp -s recovered again || fail "a second recovery says: $(cat again)"
+    echo "xrc recover ABC says:"
+    cat recovered
 }
 
 if [ ! -x "$program" ]; then
     command -v rt >/dev/null || fail "the toolchain's command rt is not installed"
-    echo "Proving and building the program; from a fresh clone this takes some minutes."
+    echo "Proving and building the program; from a fresh clone this takes an hour or more."
     (cd "$repository/crates/xrc" && rt run </dev/null >out.log 2>&1) || true
     if [ ! -x "$program" ]; then
         cat "$repository/crates/xrc/out.log" >&2
@@ -49,11 +111,5 @@ if [ ! -x "$program" ]; then
 fi
 
 site=$(mktemp -d)
-trap 'rm -rf "$site"' EXIT
+trap stop_all EXIT
 cd "$site" || exit
-
-cat >script <<'SCRIPT'
-0000000000000050 XSTART ABC
-0000000000000060 XADDPAIR ABC VOLUME(PRIM01,SEC001)
-0000000000000090 XEND ABC
-SCRIPT

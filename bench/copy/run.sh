@@ -32,9 +32,8 @@ head -c $content /dev/urandom >>image
 
 truncate -s 1024 control
 truncate -s 16384 state
-# The first journal holds every group of the run.
-truncate -s 300000000 journal.0
-truncate -s 1826816 journal.1
+# The journal is a ring of two data sets.
+truncate -s 67108864 journal.0 journal.1
 printf "XVOLSEC001\\000\\000$(two_bytes $cylinders)" >volume.0
 head -c $((512 - 14 + cylinders * 860160)) /dev/zero >>volume.0
 printf '%s\n' '0000000000000050 XSTART ABC' '0000000000000060 XADDPAIR ABC VOLUME(PRIM01,SEC001)' '00000000FFFFFFFF XEND ABC' >script

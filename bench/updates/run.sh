@@ -10,15 +10,20 @@ find_xrc
 find_bench
 enter_folder
 
-# The tracks have the times 1 to 1,500 (5DC), and each update a time of its own behind them.
+# The tracks have the times 1 to 1,500 (5DC), and each update a time of its own behind them. The query has all tracks copied before the
+# first update.
 "$bench" spread trace.0 2000000
-printf '%s\n' '00000000000005DB XSTART ABC' '00000000000005DC XADDPAIR ABC VOLUME(PRIM01,SEC001)' '00000000FFFFFFFF XEND ABC' >script
+cat >script <<'SCRIPT'
+00000000000005DB XSTART ABC
+00000000000005DC XADDPAIR ABC VOLUME(PRIM01,SEC001)
+00000000000005DC XQUERY ABC
+00000000FFFFFFFF XEND ABC
+SCRIPT
 
 truncate -s 1024 control
 truncate -s 16384 state
-# The first journal holds every group of the run.
-truncate -s 2200000000 journal.0
-truncate -s 1826816 journal.1
+# The journal is a ring of two data sets.
+truncate -s 67108864 journal.0 journal.1
 printf 'XVOLSEC001\000\000\000\144' >volume.0
 head -c $((512 - 14 + 100 * 860160)) /dev/zero >>volume.0
 sync
@@ -31,7 +36,8 @@ tell() { echo "md5sum $theirs ms, xrc $mine ms, ratio $(ratio "$mine" "$theirs")
 echo "trace: $(stat -c %s trace.0) bytes, 2000000 updates"
 repeat compare
 echo "best of each: md5sum $best_theirs ms, xrc $best_mine ms, ratio $(ratio "$best_mine" "$best_theirs")"
-[ "$(wc -l <replies)" -eq 3 ]
+[ "$(wc -l <replies)" -eq 7 ]
+grep -q '^PAIR PRIM01 SEC001 DUPLEX$' replies
 
 # Each of the 18,000 records was updated, so that its 80 bytes are Z.
 [ "$(tr -dc Z <volume.0 | wc -c)" -eq 1440000 ]

@@ -5,14 +5,13 @@ set -eu
 # shellcheck source=SCRIPTDIR/../common.sh
 . "$(dirname "$0")/../common.sh"
 
-running=
-writing=
-stop_all() {
-    [ -z "$running" ] || kill -9 "$running" 2>/dev/null || true
-    [ -z "$writing" ] || kill -9 "$writing" 2>/dev/null || true
-    rm -rf "$site"
-}
-trap stop_all EXIT
+# The query lies before the controller's first write, so that the pair is duplex when the writes come.
+cat >script <<'SCRIPT'
+0000000000000050 XSTART ABC
+0000000000000060 XADDPAIR ABC VOLUME(PRIM01,SEC001)
+0000000000000062 XQUERY ABC
+0000000000000090 XEND ABC
+SCRIPT
 
 # The trace of a volume PRIM01 of one cylinder: at time 64 track 3 gets one record with the content AB, and track 5 gets 31 writes; at
 # 6E that record becomes Z; the controller goes on to 70.
@@ -28,83 +27,58 @@ front() {
     bytes '01 00 00 00 00 00 00 00 70'
 }
 
-# The first 8 bytes of track 3's slot.
-slot() {
-    volume_bytes "$(slot_place 3)" 8
+are_replied() {
+    [ "$(wc -l <replies)" -ge 2 ]
 }
 
-# Waits until the file of replies has so many lines.
-wait_for_replies() {
-    tries=0
-    while [ "$(wc -l <replies)" -lt "$1" ]; do
-        tries=$((tries + 1))
-        [ "$tries" -lt 600 ] || fail "the program did not say $1 replies"
-        sleep 0.1
-    done
+is_written() {
+    [ "$(slot 0 3 8)" != 0000000000000000 ]
 }
 
-# Waits until track 3's slot begins so.
-wait_for_slot() {
-    tries=0
-    while [ "$(slot)" != "$1" ]; do
-        tries=$((tries + 1))
-        [ "$tries" -lt 600 ] || fail "the slot of track 3 begins with $(slot)"
-        sleep 0.1
-    done
-}
-
-# Kills the program.
-crash() {
-    kill -9 "$running"
-    wait "$running" 2>/dev/null || true
-    running=
-    echo "The program is killed. It had said:"
-    cat replies
-}
-
-# Recovers the site twice, and checks what is said.
-recover() {
-    for time in first second; do
-        status=0
-        "$program" recover ABC </dev/null >said || status=$?
-        [ "$status" -eq 0 ] || fail "the $time recovery ends with $status"
-        cmp -s wanted said || fail "the $time recovery says: $(cat said)"
-    done
-    echo "xrc recover ABC says:"
-    cat said
-}
-
-# Killed behind the reply to XADDPAIR: the pair waits for its copy.
-new_devices
+echo "The program is killed behind the reply to XADDPAIR, while it waits for the next line. It had said:"
+new_devices 1 1
 front >trace.0
 mkfifo console
 "$program" run ABC 1 <console >replies &
 running=$!
 exec 3>console
 head -n 2 script >&3
-wait_for_replies 2
+wait_until "the program did not say 2 replies" are_replied
 crash
 exec 3>&-
 rm -f console
-printf 'RECOVERED ABC T=0000000000000060\nPAIR PRIM01 SEC001 PENDING\n' >wanted
+cat replies
 recover
+printf 'RECOVERED ABC T=0000000000000060\nPAIR PRIM01 SEC001 PENDING\n' >wanted
+cmp -s wanted recovered || fail "that is not what was wanted"
+echo "The time is that of the last reply. The pair still waits for its copy, so its secondary promises nothing."
 echo
 
-# Killed while it waits for the controller to go on: 32 writes fill a group, so those of 64 are on the volume, and that of 6E waits.
-new_devices
+echo "The program is killed while it waits for the controller, which has told its writes up to 70. It had said:"
+new_devices 1 1
 rm -f trace.0
 mkfifo trace.0
 (front; exec sleep 600) >trace.0 &
 writing=$!
 "$program" run ABC 1 <script >replies &
 running=$!
-wait_for_slot 0001010000024142
+wait_until "no write came to the slot of track 3" is_written
 crash
-kill -9 "$writing" 2>/dev/null || true
-wait "$writing" 2>/dev/null || true
-writing=
-printf 'RECOVERED ABC T=000000000000006D\nPAIR PRIM01 SEC001 DUPLEX\n' >wanted
+cat replies
 recover
-[ "$(slot)" = 0001010000024142 ] || fail "the slot of track 3 begins with $(slot)"
-[ "$(volume_bytes 0 14)" = 58564f4c5052494d303100000001 ] || fail "the label is not the primary's"
-echo "The slot of track 3 begins with $(slot), as the primary's track at 6D. The volume has the primary's label."
+# 32 writes of a controller may wait at once. So the write of 6E could wait only once those of 64 were in a group, whose time is 6D.
+# No rule says whether a group with the write of 6E had been journaled when the program was killed. Its time is 6F.
+case $(cat recovered) in
+'RECOVERED ABC T=000000000000006D
+PAIR PRIM01 SEC001 DUPLEX')
+    check_slot 0 3 0001010000024142 "record 1 with AB, as the primary's track at 6D"
+    ;;
+'RECOVERED ABC T=000000000000006F
+PAIR PRIM01 SEC001 DUPLEX')
+    check_slot 0 3 0001010000025a00 "record 1 with Z and a zero, as the primary's track at 6F"
+    ;;
+*) fail "the time is neither 6D nor 6F, or the pair is not duplex" ;;
+esac
+check_slot 0 5 00010100000157 "record 1 with W"
+[ "$(volume_bytes 0 0 14)" = 58564f4c5052494d303100000001 ] || fail "the label is not the primary's"
+echo "The time is not before that of the last reply, and the volume has the primary's label."

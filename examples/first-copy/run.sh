@@ -1,33 +1,39 @@
 #!/bin/sh
-# Copies one volume in a temporary folder by two traces in turn, shows what is said and what stands in the slots, and checks both.
+# Copies one volume in a temporary folder by two traces in turn, asks how far the pair is, shows what is said and what stands in the slots,
+# and checks both.
 set -eu
 
 # shellcheck source=SCRIPTDIR/../common.sh
 . "$(dirname "$0")/../common.sh"
 
+# A session starts, a pair is added, an operator asks how far it is, and the session ends.
+cat >script <<'SCRIPT'
+0000000000000050 XSTART ABC
+0000000000000060 XADDPAIR ABC VOLUME(PRIM01,SEC001)
+0000000000000080 XQUERY ABC
+0000000000000090 XEND ABC
+SCRIPT
+
+# The pair has 15 tracks to copy. At 80 all of them stand on the secondary, so the pair is duplex.
 cat >wanted <<'WANTED'
 0000000000000050 XSTART OK T=0000000000000050
 0000000000000060 XADDPAIR OK TRACKS 15 T=0000000000000060
+SESSION ABC LEVEL VOLUME JOURNALED 0000000000000080 PAIRS 1
+CONTROL 0 OK
+PAIR PRIM01 SEC001 DUPLEX
+0000000000000080 XQUERY OK T=0000000000000080
 0000000000000090 XEND OK T=0000000000000090
 WANTED
 
 # Copies by the trace that is there, onto new devices, and checks what is said.
 copy() {
-    new_devices
+    new_devices 1 1
     status=0
     "$program" run ABC 1 <script >replies || status=$?
     echo "xrc run ABC 1 says:"
-    cat replies
+    check_said replies wanted
     [ "$status" -eq 0 ] || fail "the status is $status and not 0"
-    cmp -s wanted replies || fail "the replies are not those that were wanted"
-    [ "$(volume_bytes 0 14)" = 58564f4c53454330303100000001 ] || fail "the label has changed"
-}
-
-# Shows and checks the first bytes of a track's slot.
-check_slot() {
-    slot=$(volume_bytes "$(slot_place "$1")" $((${#2} / 2)))
-    echo "The slot of track $1 begins with $slot."
-    [ "$slot" = "$2" ] || fail "the slot of track $1 does not begin with $2"
+    [ "$(volume_bytes 0 0 14)" = 58564f4c53454330303100000001 ] || fail "the label has changed"
 }
 
 # The trace of a volume PRIM01 of one cylinder: at time 64 track 3 gets one record, number 1, with the content AB.
@@ -37,11 +43,12 @@ bytes '58 54 52 31 00 01 50 52 49 4D 30 31 00 01 00 00 00 00' >header
     bytes '04 00 00 00 00 00 00 00 64 00 00 00 00 00 03 00 01 01 00 00 02 41 42'
 } >trace.0
 copy
-check_slot 3 0001010000024142
-check_slot 0 0000
+check_slot 0 3 0001010000024142 "record 1 with AB"
+check_slot 0 0 0000 "no record"
 echo "The volume was copied."
+echo
 
-# A second trace of that volume, with updates and formats. XEND comes at time 90.
+# A second trace of that volume, with updates and formats.
 {
     cat header
     # At time 10 track 3 gets the records 1, 2 and 3 with the contents AB, CD and EF.
@@ -58,7 +65,7 @@ echo "The volume was copied."
     bytes '02 00 00 00 00 00 00 00 91 00 00 00 00 00 03 01 00 01 56'
 } >trace.0
 copy
-check_slot 3 000301000002595a020000025800040100034b474849
-check_slot 5 0001010000014e
-check_slot 0 0000
-echo "The volume was copied and followed."
+check_slot 0 3 000301000002595a020000025800040100034b474849 "record 1 with YZ, record 2 with X and a zero, record 4 with the key K and GHI"
+check_slot 0 5 0001010000014e "record 1 with N"
+check_slot 0 0 0000 "no record"
+echo "The volume was copied and followed. The write of 91 came behind the session's end at 90."

@@ -1,11 +1,15 @@
 //! One call of the program.
 
+ghost use Rattle.std.specs.Prelude.{IfOk};
+ghost use Rattle.xrc_session.specs.Lanes.{HaveNoReader};
+
 use crate::site::Past;
 use crate::texts::{length_of_lines, spell};
 use crate::trace::{Flaw, Trace};
 use crate::words::Words;
 use crate::wrong::Wrong;
 use crash_plant::{Device, Fail};
+use mover::Lane;
 use std::alloc::Global;
 use std::sync::Wait;
 use std::thread::Threads;
@@ -41,16 +45,19 @@ pub struct Outcome {
 
 /// What a try adds to a call.
 #[derive(Clone, Copy)]
-pub struct Twist {
+pub struct Twist<'c> {
     pub fail: Option<Planned>,
     /// The trace of a number, with its flaw.
     pub flaw: Option<(usize, Flaw)>,
+    /// What the call says without any failure, where that is known.
+    pub calm: Option<&'c [u8]>,
 }
 
-impl Twist {
-    pub const NONE: Twist = Twist {
+impl Twist<'_> {
+    pub const NONE: Twist<'static> = Twist {
         fail: None,
         flaw: None,
+        calm: None,
     };
 }
 
@@ -69,6 +76,11 @@ impl<'a> Call<'a> {
         copy.script.extend_from_slice(self.script.as_slice())?;
         copy.fails.extend_from_slice(self.fails.as_slice())?;
         Ok(copy)
+    }
+
+    /// Whether a line plans a failure.
+    pub fn is_failing(&self) -> bool {
+        !self.fails.is_empty()
     }
 
     pub fn script(&self) -> &[u8] {
@@ -138,8 +150,8 @@ impl<'a> Call<'a> {
         let words = self.recovery()?;
         let left = past.crash(self.alloc, fill)?;
         let mut past = left.freeze(self.alloc)?;
-        let mut sources = Vec::new(self.alloc);
-        let status = past.call(rt, self.alloc, words.as_slice(), &mut sources);
+        let mut lanes = Vec::new(self.alloc);
+        let status = past.call(rt, self.alloc, words.as_slice(), &mut lanes);
         Ok(Outcome { status, past })
     }
 
@@ -157,9 +169,9 @@ impl<'a> Call<'a> {
         rt: &R,
         before: &Past,
         traces: &[Trace],
-        twist: Twist,
+        twist: Twist<'_>,
     ) -> Result<Outcome, Wrong> {
-        let fails = self.planned(rt, before, traces, twist.fail)?;
+        let fails = self.planned(rt, before, traces, twist)?;
         self.make_with(rt, before, traces, twist, fails.as_slice())
     }
 
@@ -168,15 +180,15 @@ impl<'a> Call<'a> {
         rt: &R,
         before: &Past,
         traces: &[Trace],
-        twist: Twist,
+        twist: Twist<'_>,
         fails: &[Fail],
     ) -> Result<Outcome, Wrong> {
         let words = self.all_words()?;
-        let mut sources = sources(self.alloc, traces, twist.flaw)?;
+        let mut lanes = lanes(self.alloc, traces, twist.flaw)?;
         let mut site = before.crash(self.alloc, b"")?;
         site.set_script(self.alloc, self.script.as_slice())?;
         let mut past = site.into_past(self.alloc, fails)?;
-        let status = past.call(rt, self.alloc, words.as_slice(), &mut sources);
+        let status = past.call(rt, self.alloc, words.as_slice(), &mut lanes);
         Ok(Outcome { status, past })
     }
 
@@ -186,15 +198,18 @@ impl<'a> Call<'a> {
         rt: &R,
         before: &Past,
         traces: &[Trace],
-        more: Option<Planned>,
+        twist: Twist<'_>,
     ) -> Result<Vec<Fail>, Wrong> {
         let mut plan = Vec::new(self.alloc);
         plan.extend_from_slice(self.fails.as_slice())?;
-        if let Some(more) = more {
+        if let Some(more) = twist.fail {
             plan.push(more)?;
         }
         if plan.iter().all(|fail| fail.lines == 0) {
             return self.failures(plan.as_slice(), b"");
+        }
+        if let Some(calm) = twist.calm {
+            return self.failures(plan.as_slice(), calm);
         }
         let calm = self.make_with(rt, before, traces, Twist::NONE, &[])?;
         self.failures(plan.as_slice(), calm.past.said())
@@ -221,19 +236,21 @@ impl<'a> Call<'a> {
     }
 }
 
-/// The sources of the traces, of which one may have a flaw.
-fn sources(
+/// The lanes of the traces, of which one may have a flaw. None has its reader yet.
+fn lanes(
     alloc: Global,
     traces: &[Trace],
     flaw: Option<(usize, Flaw)>,
-) -> Result<Vec<MemorySource>, Wrong> {
-    let mut sources = Vec::new(alloc);
+) -> Result<Vec<Lane<MemorySource>>, Wrong>
+    ensures unread { IfOk result (λ lanes. HaveNoReader lanes.items) }
+{
+    let mut lanes = Vec::new(alloc);
     for (number, trace) in traces.iter().enumerate() {
         let flaw = match flaw {
             Some((at, flaw)) if at == number => flaw,
             _ => Flaw::Nothing,
         };
-        sources.push(trace.source(flaw)?)?;
+        lanes.push(Lane::new(trace.source(flaw)?))?;
     }
-    Ok(sources)
+    Ok(lanes)
 }

@@ -48,6 +48,8 @@ pub struct Case<'a> {
     before: Option<Past>,
     done: Option<Done>,
     table: Table,
+    /// The ways in which calls of the table may end.
+    ways: Vec<Words<'a>>,
 }
 
 impl<'a> Case<'a> {
@@ -64,6 +66,7 @@ impl<'a> Case<'a> {
             before: None,
             done: None,
             table: Table::None,
+            ways: Vec::new(alloc),
         }
     }
 
@@ -84,7 +87,8 @@ impl<'a> Case<'a> {
             "run" => self.take_run(words, report),
             ">" | ">|" | ">x" | "fail" | "stop" => self.take_in_call(keyword, words),
             "stops" | "fails" | "cuts" | "pulls" => self.take_table(keyword, words),
-            "at" | "calm" | "n" | "with" => self.take_row(rt, keyword, words, book, report),
+            "way" => self.take_way(words),
+            "at" | "in" | "calm" | "n" | "with" => self.take_row(rt, keyword, words, book, report),
             "same" | "unheard" | "crash" => self.take_wanted(rt, keyword, words, book, report),
             _ if is_wanted(keyword) => self.take_wanted(rt, keyword, words, book, report),
             _ => self.take_setup(keyword, words, report),
@@ -127,6 +131,7 @@ impl<'a> Case<'a> {
         self.progress = Progress::Told;
         self.before = None;
         self.table = Table::None;
+        self.ways.clear();
         Ok(())
     }
 
@@ -142,6 +147,13 @@ impl<'a> Case<'a> {
 
     fn take_table(&mut self, keyword: &str, words: Words<'a>) -> Result<(), Wrong> {
         self.table = Table::begun(keyword, words, self.setup.traces().len())?;
+        self.ways.clear();
+        Ok(())
+    }
+
+    /// Takes a way in which calls of the table may end.
+    fn take_way(&mut self, words: Words<'a>) -> Result<(), Wrong> {
+        self.ways.push(words)?;
         Ok(())
     }
 
@@ -221,6 +233,7 @@ impl<'a> Case<'a> {
         };
         match keyword {
             "at" => scene.try_ends(rt, self.table, words, book, report),
+            "in" => scene.try_ways(rt, self.table, self.ways.as_slice(), words, book, report),
             "calm" => scene.try_calm(rt, self.table, words, report),
             "n" => scene.try_flaws(rt, self.table, words, report),
             _ => scene.try_bytes(rt, words, report),

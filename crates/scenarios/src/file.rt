@@ -4,6 +4,7 @@ use crate::book::Book;
 use crate::case::Case;
 use crate::made::is_wanted;
 use crate::report::Report;
+use crate::turns::Lines;
 use crate::words::Words;
 use crate::wrong::Wrong;
 use std::alloc::Global;
@@ -20,11 +21,11 @@ struct Reader<'a> {
     is_in_left: bool,
 }
 
-/// Tries the cases of a text.
+/// Tries the cases of a file.
 pub fn try_cases<'a, R: Threads + Wait + Sync>(
     rt: &R,
     alloc: Global,
-    text: &'a str,
+    text: &'a Lines,
     report: &mut Report<'a>,
 ) -> Result<(), Wrong> {
     let mut reader = Reader {
@@ -33,10 +34,8 @@ pub fn try_cases<'a, R: Threads + Wait + Sync>(
         case: None,
         is_in_left: false,
     };
-    let mut number = 0u64;
-    for line in text.lines() {
-        number = number.saturating_add(1);
-        reader.take(rt, Words::new(number, line), report)?;
+    for (line, number) in text.text().lines().zip(text.numbers()) {
+        reader.take(rt, Words::new(*number, line), report)?;
     }
     reader.end_case(report)
 }

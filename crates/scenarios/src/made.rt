@@ -14,6 +14,9 @@ const FRONT: u64 = 512;
 
 const SLOT: u64 = 57_344;
 
+/// How many bytes are looked through at once.
+const PIECE: usize = 4_096;
+
 /// A slot that a line names.
 #[derive(Clone, Copy, PartialEq, Eq)]
 struct Slot {
@@ -79,6 +82,7 @@ impl Made {
             "slots" => self.wants_slots(words, report),
             "label" => self.wants_label(words, report),
             "holds" => self.wants_bytes(words, report),
+            "finds" => self.wants_somewhere(words, report),
             _ => Err(words.wrong("the line begins with no word of the notation")),
         }
     }
@@ -176,6 +180,41 @@ impl Made {
         self.check_bytes(words, device, place, wanted.as_slice(), report)
     }
 
+    /// Bytes stand somewhere on a device.
+    fn wants_somewhere(
+        &mut self,
+        mut words: Words<'_>,
+        report: &mut Report<'_>,
+    ) -> Result<(), Wrong> {
+        let device = words.device()?;
+        let wanted = self.wanted_bytes(&mut words)?;
+        let Some(length) = self.left.length(device) else {
+            return Err(words.wrong("the case has no such device"));
+        };
+        if self.is_somewhere(device, length, wanted.as_slice())? {
+            return Ok(());
+        }
+        let part = self.part.with("bytes anywhere");
+        report.compare(words.number(), part, wanted.as_slice(), b"")
+    }
+
+    /// Whether bytes stand somewhere on a device of a length.
+    fn is_somewhere(&mut self, device: Device, length: u64, wanted: &[u8]) -> Result<bool, Wrong> {
+        let mut piece = Vec::new(self.alloc);
+        for place in (0..length).step_by(PIECE) {
+            let behind = (length - place).min(PIECE.saturating_add(wanted.len()) as u64);
+            piece.clear();
+            for _ in 0..behind {
+                piece.push(0)?;
+            }
+            let is_read = self.left.get(device, place, piece.as_mut_slice());
+            if is_read && has_bytes(piece.as_slice(), wanted) {
+                return Ok(true);
+            }
+        }
+        Ok(false)
+    }
+
     /// The bytes of the words that are left.
     fn wanted_bytes(&self, words: &mut Words<'_>) -> Result<Vec<u8>, Wrong> {
         let mut wanted = Vec::new(self.alloc);
@@ -241,6 +280,11 @@ impl Made {
     }
 }
 
+/// Whether bytes stand somewhere within others.
+fn has_bytes(all: &[u8], wanted: &[u8]) -> bool {
+    (0..all.len()).any(|place| behind(all, place).starts_with(wanted))
+}
+
 /// What stands behind so many bytes of a text.
 fn behind(text: &[u8], count: usize) -> &[u8] {
     text.get(count..).unwrap_or(b"")
@@ -250,7 +294,7 @@ fn behind(text: &[u8], count: usize) -> &[u8] {
 pub fn is_wanted(keyword: &str) -> bool {
     matches!(
         keyword,
-        "<" | "<|" | "status" | "slot" | "slots" | "label" | "holds"
+        "<" | "<|" | "status" | "slot" | "slots" | "label" | "holds" | "finds"
     )
 }
 

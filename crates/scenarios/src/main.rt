@@ -12,11 +12,13 @@ mod site;
 mod tables;
 mod texts;
 mod trace;
+mod turns;
 mod words;
 mod wrong;
 
 use crate::file::try_cases;
 use crate::report::Report;
+use crate::turns::{Lines, written_out};
 use crate::wrong::Wrong;
 use std::alloc::Global;
 use std::process::ExitCode;
@@ -32,14 +34,20 @@ const BAD: u8 = 1;
 fn read_files<R: Files + Env + Print + AllocGlobal>(
     rt: &R,
     names: &mut Vec<String>,
-    texts: &mut Vec<String>,
+    texts: &mut Vec<Lines>,
 ) -> io::Result<bool> {
     for name in env::args(rt)?.skip(1) {
         let Ok(text) = fs::read_to_string(rt, name.as_str()) else {
             rt.println(format_args!("{name}: the file can't be read"))?;
             return Ok(false);
         };
-        texts.push(text)?;
+        match written_out(rt.alloc(), text.as_str()) {
+            Ok(lines) => texts.push(lines)?,
+            Err(wrong) => {
+                say_wrong(rt, name.as_str(), wrong)?;
+                return Ok(false);
+            }
+        }
         names.push(name)?;
     }
     if names.is_empty() {
@@ -54,12 +62,12 @@ fn try_files<'a, R: Print + Threads + Wait + Sync>(
     rt: &R,
     alloc: Global,
     names: &'a [String],
-    texts: &'a [String],
+    texts: &'a [Lines],
 ) -> io::Result<bool> {
     let mut report = Report::new(alloc);
     for (name, text) in names.iter().zip(texts) {
         report.begin_file(name.as_str());
-        if let Err(wrong) = try_cases(rt, alloc, text.as_str(), &mut report) {
+        if let Err(wrong) = try_cases(rt, alloc, text, &mut report) {
             rt.print(report.text())?;
             say_wrong(rt, name.as_str(), wrong)?;
             return Ok(false);

@@ -42,6 +42,11 @@ impl<'a> Report<'a> {
         self.bad == 0
     }
 
+    /// Whether this case has a difference.
+    pub fn differs(&self) -> bool {
+        self.bad_here > 0
+    }
+
     pub fn begin_file(&mut self, file: &'a str) {
         self.file = file;
     }

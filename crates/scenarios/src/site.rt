@@ -3,9 +3,11 @@
 ghost use Rattle.crash_plant.specs.Calls.{NoneLent};
 ghost use Rattle.crash_plant.specs.MemoryPlant.{memory_state};
 ghost use Rattle.crash_plant.specs.PlainPlant.{plain_state};
+ghost use Rattle.xrc_session.specs.Lanes.{HaveNoReader};
 
 use crate::wrong::Wrong;
 use crash_plant::{Device, Fail, Heard, MemoryPlant, PlainPlant, Plant};
+use mover::Lane;
 use std::alloc::Global;
 use std::sync::Wait;
 use std::thread::Threads;
@@ -134,8 +136,10 @@ impl Past {
         rt: &R,
         alloc: Global,
         words: &[String],
-        traces: &mut Vec<MemorySource>,
-    ) -> u8 {
+        traces: &mut Vec<Lane<MemorySource>>,
+    ) -> u8
+        requires unread { HaveNoReader traces.old.items }
+    {
         xrc(rt, alloc, words, traces, &mut self.plant)
     }
 

@@ -51,7 +51,7 @@ impl Table {
     }
 
     /// The failure of a row's call.
-    fn fail(self, words: Words<'_>, call: u64) -> Result<Twist, Wrong> {
+    fn fail(self, words: Words<'_>, call: u64) -> Result<Twist<'static>, Wrong> {
         let Table::Fails { at, lines, stop } = self else {
             return Err(words.wrong("it stands below stops or fails"));
         };
@@ -65,11 +65,12 @@ impl Table {
         Ok(Twist {
             fail: Some(fail),
             flaw: None,
+            calm: None,
         })
     }
 
     /// The flaw of a row's trace.
-    fn flaw(self, words: Words<'_>, number: u64) -> Result<Twist, Wrong> {
+    fn flaw(self, words: Words<'_>, number: u64) -> Result<Twist<'static>, Wrong> {
         let Ok(number) = usize::try_from(number) else {
             return Err(words.wrong("a number is too large"));
         };
@@ -85,6 +86,7 @@ impl Table {
         Ok(Twist {
             fail: None,
             flaw: Some(flaw),
+            calm: None,
         })
     }
 }
@@ -104,36 +106,47 @@ struct Ending<'a> {
     words: Words<'a>,
     lines: u64,
     part: &'a str,
+    /// What stands behind the part: the end of its line, or nothing.
+    part_end: &'static str,
     status: u8,
     /// The names of what is left, one for each fill or one for all.
     lefts: Words<'a>,
 }
 
 impl<'a> Ending<'a> {
-    /// Reads `said N [part TEXT] status S leaves NAME..`.
+    /// Reads `said N [part TEXT | line TEXT] status S leaves NAME..`.
     fn read(mut words: Words<'a>) -> Result<Ending<'a>, Wrong> {
         let line = words;
         words.expect("said", "said N is wanted")?;
         let lines = words.decimal()?;
-        let mut part = "";
-        if words.skip("part") {
-            let Some((text, rest)) = words.rest().split_once(" status ") else {
-                return Err(words.wrong("status S is wanted"));
-            };
-            part = text;
-            words = words.with_rest(rest);
-        } else {
-            words.expect("status", "status S is wanted")?;
-        }
+        let (part, part_end) = Ending::read_part(&mut words)?;
         let status = words.small()?;
         words.expect("leaves", "leaves NAME is wanted")?;
         Ok(Ending {
             words: line,
             lines,
             part,
+            part_end,
             status,
             lefts: words,
         })
+    }
+
+    /// Reads `part TEXT` or `line TEXT`, if one is next, and the word `status`. Gives the text, and what stands behind it.
+    fn read_part(words: &mut Words<'a>) -> Result<(&'a str, &'static str), Wrong> {
+        let end = if words.skip("part") {
+            ""
+        } else if words.skip("line") {
+            "\n"
+        } else {
+            words.expect("status", "status S is wanted")?;
+            return Ok(("", ""));
+        };
+        let Some((text, rest)) = words.rest().split_once(" status ") else {
+            return Err(words.wrong("status S is wanted"));
+        };
+        *words = words.with_rest(rest);
+        Ok((text, end))
     }
 
     /// The names of what is left by each fill.
@@ -156,6 +169,7 @@ impl<'a> Ending<'a> {
         };
         let mut part = String::new(alloc);
         spell(self.words, self.part, &mut part)?;
+        part.push_str(self.part_end)?;
         let mut said = Vec::new(alloc);
         said.extend_from_slice(calm.get(..length).unwrap_or(b""))?;
         said.extend_from_slice(part.as_bytes())?;
@@ -164,8 +178,26 @@ impl<'a> Ending<'a> {
 }
 
 impl<'s, 'a> Scene<'s, 'a> {
-    fn make<R: Threads + Wait + Sync>(self, rt: &R, twist: Twist) -> Result<Outcome, Wrong> {
+    fn make<R: Threads + Wait + Sync>(self, rt: &R, twist: Twist<'_>) -> Result<Outcome, Wrong> {
         self.call.make(rt, self.before, self.traces, twist)
+    }
+
+    /// The call with the failure of a row; without it, it says `calm`.
+    fn make_failing<R: Threads + Wait + Sync>(
+        self,
+        rt: &R,
+        table: Table,
+        words: Words<'_>,
+        number: u64,
+        calm: &[u8],
+    ) -> Result<Outcome, Wrong> {
+        let Twist { fail, flaw, .. } = table.fail(words, number)?;
+        let calm = if self.call.is_failing() {
+            None
+        } else {
+            Some(calm)
+        };
+        self.make(rt, Twist { fail, flaw, calm })
     }
 
     /// A row of calls that fail.
@@ -179,17 +211,12 @@ impl<'s, 'a> Scene<'s, 'a> {
     ) -> Result<(), Wrong> {
         let (from, to) = range(&mut words)?;
         let ending = Ending::read(words)?;
-        let said = self.said(rt, ending)?;
+        let calm = self.make(rt, Twist::NONE)?;
         for number in from..=to {
-            self.try_end(rt, table, ending, said.as_slice(), number, book, report)?;
+            let said = calm.past.said();
+            self.try_end(rt, table, ending, said, number, book, report)?;
         }
         Ok(())
-    }
-
-    /// What has to be said by a call that ends so.
-    fn said<R: Threads + Wait + Sync>(self, rt: &R, ending: Ending<'_>) -> Result<Vec<u8>, Wrong> {
-        let calm = self.make(rt, Twist::NONE)?;
-        ending.said(self.alloc, calm.past.said())
     }
 
     fn try_end<R: Threads + Wait + Sync>(
@@ -197,15 +224,95 @@ impl<'s, 'a> Scene<'s, 'a> {
         rt: &R,
         table: Table,
         ending: Ending<'_>,
-        said: &[u8],
+        calm: &[u8],
         number: u64,
         book: &Book<'_>,
         report: &mut Report<'_>,
     ) -> Result<(), Wrong> {
-        let twist = table.fail(ending.words, number)?;
-        let outcome = self.make(rt, twist)?;
-        check_end(&outcome, ending, said, number, report)?;
+        let outcome = self.make_failing(rt, table, ending.words, number, calm)?;
+        let said = ending.said(self.alloc, calm)?;
+        check_end(&outcome, ending, said.as_slice(), number, report)?;
         self.try_lefts(rt, &outcome, ending, number, book, report)
+    }
+
+    /// A row of calls that fail, each of which ends in one of these ways.
+    pub fn try_ways<R: Threads + Wait + Sync>(
+        self,
+        rt: &R,
+        table: Table,
+        ways: &[Words<'_>],
+        mut words: Words<'_>,
+        book: &Book<'_>,
+        report: &mut Report<'_>,
+    ) -> Result<(), Wrong> {
+        let (from, to) = range(&mut words)?;
+        words.end()?;
+        let calm = self.make(rt, Twist::NONE)?;
+        for number in from..=to {
+            let said = calm.past.said();
+            let outcome = self.make_failing(rt, table, words, number, said)?;
+            match self.way_of(ways, said, &outcome)? {
+                Some(way) => self.try_way(rt, &outcome, way, words, number, book, report)?,
+                None => {
+                    let part = Part::at("no way", number, "");
+                    report.compare(words.number(), part, b"", outcome.past.said())?;
+                }
+            }
+        }
+        Ok(())
+    }
+
+    /// The first of these ways in which a call has ended.
+    fn way_of<'w>(
+        self,
+        ways: &[Words<'w>],
+        calm: &[u8],
+        outcome: &Outcome,
+    ) -> Result<Option<Ending<'w>>, Wrong> {
+        for way in ways {
+            let ending = Ending::read(*way)?;
+            let said = ending.said(self.alloc, calm)?;
+            if ending.status == outcome.status && said.as_slice() == outcome.past.said() {
+                return Ok(Some(ending));
+            }
+        }
+        Ok(None)
+    }
+
+    /// What a crash leaves then is recovered as one of a way's names says, by each fill.
+    fn try_way<R: Threads + Wait + Sync>(
+        self,
+        rt: &R,
+        outcome: &Outcome,
+        way: Ending<'_>,
+        words: Words<'_>,
+        number: u64,
+        book: &Book<'_>,
+        report: &mut Report<'_>,
+    ) -> Result<(), Wrong> {
+        for (fill, shown) in FILLS.iter() {
+            report.count_try();
+            let recovered = self.call.recover(rt, &outcome.past, *fill)?;
+            if !self.is_left(&recovered, way, book)? {
+                let part = Part::at("no name of the way", number, *shown);
+                report.compare(words.number(), part, b"", recovered.past.said())?;
+            }
+        }
+        Ok(())
+    }
+
+    /// Whether a recovery has said and left what one of a way's names says.
+    fn is_left(self, recovered: &Outcome, way: Ending<'_>, book: &Book<'_>) -> Result<bool, Wrong> {
+        for name in way.lefts.rest().split_whitespace() {
+            let left = book.left(way.words, name)?;
+            let made = Made::new(self.alloc, recovered, b"", Part::of("recovery"))?;
+            let mut report = Report::new(self.alloc);
+            check_left(made, left, &mut report)?;
+            if !report.differs() {
+                return Ok(true);
+            }
+        }
+        Ok(false)
     }
 
     /// What a crash leaves then is recovered as it is named, by each fill.
@@ -255,7 +362,7 @@ impl<'s, 'a> Scene<'s, 'a> {
         words.end()?;
         report.count_try();
         let calm = self.make(rt, Twist::NONE)?;
-        let outcome = self.make(rt, table.fail(words, number)?)?;
+        let outcome = self.make_failing(rt, table, words, number, calm.past.said())?;
         let part = Part::at("status", number, "");
         report.compare_status(words.number(), part, calm.status, outcome.status)?;
         let (wanted, got) = (calm.past.said(), outcome.past.said());

@@ -1,3 +1,2 @@
 mod LowEntries
-mod PutRow
 mod WorkedPoints

@@ -7,8 +7,6 @@ mod bodies;
 #[cfg(test)]
 mod change_vectors;
 #[cfg(test)]
-mod changes;
-#[cfg(test)]
 mod course_vectors;
 #[cfg(test)]
 mod entries;

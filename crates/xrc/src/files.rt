@@ -1,9 +1,11 @@
 ghost use Rattle.std.specs.Prelude.{◌<◌, ◌^◌, vec_len, IfOk};
 ghost use Rattle.crash_plant.specs.Calls.{NoneLent};
+ghost use Rattle.xrc_session.specs.Lanes.{HaveNoReader};
 
 use crate::failure::Failure;
 use anyhow::Context;
 use crash_plant::{FileDisk, FilePlant, Plant};
+use mover::Lane;
 use std::alloc::Global;
 use std::fs;
 use std::fs::{File, OpenOptions};
@@ -71,17 +73,19 @@ pub fn no_site(alloc: Global, input: Stdin, output: Stdout) -> Result<Site, Fail
     Ok(site)
 }
 
-/// The traces `trace.0` and on, as many as wanted.
+/// The lanes of the traces `trace.0` and on, as many as wanted. None has its reader yet.
 pub fn open_traces<R: Files<File = File>>(
     rt: &R,
     alloc: Global,
     count: u16,
-) -> Result<Vec<FileSource<File>>, Failure> {
+) -> Result<Vec<Lane<FileSource<File>>>, Failure>
+    ensures unread { IfOk result (λ traces. HaveNoReader traces.items) }
+{
     let mut traces = Vec::new(alloc);
     for number in 0..count {
         let name = format!(in alloc; "trace.{number}")?;
         let file = File::open(rt, name.as_str()).context(format_args!("cannot open {name}"))?;
-        traces.push(FileSource::new(file))?;
+        traces.push(Lane::new(FileSource::new(file)))?;
     }
     Ok(traces)
 }

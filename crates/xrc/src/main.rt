@@ -32,10 +32,11 @@ where
         Wanted::Nothing => no_site(alloc, input, output)?,
         Wanted::Devices | Wanted::Traces(_) => open_site(rt, alloc, input, output)?,
     };
-    let mut traces = match wanted {
-        Wanted::Nothing | Wanted::Devices => Vec::new(alloc),
-        Wanted::Traces(count) => open_traces(rt, alloc, count)?,
+    let count = match wanted {
+        Wanted::Nothing | Wanted::Devices => 0,
+        Wanted::Traces(count) => count,
     };
+    let mut traces = open_traces(rt, alloc, count)?;
     Ok(xrc(rt, alloc, &words, &mut traces, &mut plant))
 }
 

@@ -1,284 +1,339 @@
--- How a run over one source ends: done, or by a stop whose line is said last.
-use Rattle.std.proofs.Common.{◌≡◌, ◌≢◌, ◌⊎◌, ◌↔◌, ◌-◌, ◌^◌, ◌<◌, inl, inr, ℕ, List, [], Option, Some, None, Result, Ok, Err, OnOk, IfErr, IsTrue, true, false, refl, sym, ap, subst, arith}
+-- How a run ends: done, or by a stop whose line is said last.
+use Rattle.std.proofs.Common.{◌≡◌, ◌⊎◌, inl, inr, ℕ, ◌+◌, ◌<◌, ◌≤◌, List, [], ◌∷◌, ◌++◌, length, take, drop, false, Option, Some, None, Result, Ok, Err, refl, sym, ap, subst, ◌∙◌, append_assoc, append-nil, arith}
+use Rattle.std.specs.Prelude.{IfErr}
+use Rattle.std.proofs.Math.Seq.{take-append_seam}
 use Rattle.xrc_edge.specs.Causes.{Rose}
-use Rattle.crash_plant.specs.declared.device.Device.{Device}
-use Rattle.crash_plant.specs.declared.device.Device.TheVariants.{Control}
-use Rattle.crash_plant.specs.Moments.{IsDurable, PlantState, on}
-use Rattle.crash_plant.specs.Calls.{NoneLent, SameSite}
-use Rattle.crash_plant.proofs.Steps.{none_lent_console, site_trans}
-use Rattle.write_trace.specs.declared.trace.Trace.{Trace}
-use Rattle.sidefile.specs.Breaks.{has_broken}
-use Rattle.site_means.specs.Answers.{first_short, need}
+use Rattle.crash_plant.specs.declared.device.Device.TheVariants.{Control, Volume}
+use Rattle.crash_plant.specs.Calls.{Says, WorksOnConsole}
+use Rattle.crash_plant.specs.Moments.{PlantState}
 use Rattle.consistency.specs.Bears.{Run}
-use Rattle.pair_course.specs.Course.{tells_a_session}
-use Rattle.consistency.proofs.Keeping.{keeps_throughout}
+use Rattle.consistency.specs.Between.{RunGoesOn}
+use Rattle.consistency.specs.Courses.{Answered, replies_of, texts_of}
+use Rattle.consistency.specs.Leads.{Point}
+use Rattle.consistency.specs.Steps.{TimedCommand}
+use Rattle.consistency.proofs.Keeping.{keeps_says_status, keeps_throughout}
 use Rattle.script_lines.specs.Grammars.{line_grammar}
-use Rattle.session_lines.specs.Runs.{ended_lines}
+use Rattle.script_lines.specs.NextLines.{IsNextLine}
+use Rattle.script_lines.specs.Texts.{has_feed}
+use Rattle.script_lines.specs.declared.next.Next.TheVariants.{Bad}
+use Rattle.mover.specs.declared.lane.Lane.{Lane}
 use Rattle.xrc_status.specs.declared.stop.Stop.{Stop}
-use Rattle.xrc_status.specs.declared.stop.Stop.TheVariants.{BadHeader, BadSite, ConsoleFault, EarlyBreak, HeaderFault, JournalEnd, NoMemory, NotBuilt, TooSmall}
+use Rattle.xrc_status.specs.declared.stop.Stop.TheVariants.{BadLine, ConsoleFault, NoMemory, Spent}
 use Rattle.xrc_status.specs.Saying.{SaysLast}
 use Rattle.xrc_status.specs.Stops.{last_line, status_of}
-use Rattle.xrc_recovery.proofs.Lasting.{not_done}
-use Rattle.one_pair_session.specs.Beginning.{Begins}
-use Rattle.one_pair_session.specs.Expected.{AnswersInPart, IsUnexpected, KeepsExpected, StopsAt}
-use Rattle.one_pair_session.specs.Expected.AreAnswered.{AnEnd}
-use Rattle.one_pair_session.specs.Full.{IsJournalFull}
-use Rattle.one_pair_session.specs.Leaving.{LeavesOthers}
-use Rattle.one_pair_session.specs.Numbers.{HasNumbers}
-use Rattle.one_pair_session.specs.Runs.{AsksSession, EndsInHeader, EndsSession, GaveTrace, HasBrokenBy, IsEarly, IsOfSite, IsRefused, IsSessionRun, NoneFailed, StopsEarlyOr}
-use Rattle.one_pair_session.specs.Stopping.{HasStopCause, NoneRose, StopsSo}
-use Rattle.one_pair_session.proofs.Beginnings.{begins_behind}
-use Rattle.xrc_cli.specs.Statuses.{AnswersThen, BearsAnswered, EndsRun, SaysOnly, StoodSo, WantsMemory, ends_by_site, ends_early, ends_in_work}
-use Rattle.xrc_cli.proofs.Answered.{KeepsAnswered, none_answered, stop_answered, work_expected}
-use Rattle.xrc_cli.proofs.Lasting.{bears_still, cause_still, none_before, others_still}
-use Rattle.xrc_cli.proofs.Stops.{by_site_early, early_status, free_status, header_status, is_bad_site, is_break, is_console, is_early, is_header, is_header_fault, is_journal_end, is_late, is_no_memory, is_not_built, is_of_site, is_short, known_status, stop_tells}
+use Rattle.xrc_session.specs.Between.{stage_behind}
+use Rattle.xrc_session.specs.Frames.{ChangesRows, KeepsPlant, rows_passed}
+use Rattle.xrc_session.specs.Lanes.{AllTold, SourceBytes}
+use Rattle.xrc_session.specs.Openings.{ComesEarly, IsOfSite, OpensInOrder, opening_stop, stop_of_headers, stop_of_site}
+use Rattle.xrc_session.specs.Runs.{AreCountsBelow, IsBadBehind, IsRunOfScript, RunsScript, RunsTold, StopsAtLine}
+use Rattle.xrc_session.specs.Starting.{BeginsRun}
+use Rattle.xrc_session.specs.Stops.{HasRunCause, IsSpentNow, RepliesInPart, StandsStopped, StopsByCount, line_asked, lines_said}
+use Rattle.xrc_session.specs.Trails.{AreExact, GoesForth, Trail, HasBegunTrail, StandsOnTrail}
+use Rattle.xrc_session.proofs.Made.{site_stop_is}
+use Rattle.xrc_cli.specs.Statuses.{EndsScriptRun, IsHeardBehind, OpensFirst, Ran, SaidBehind, SaysLineOnly, StopsWith}
+use Rattle.xrc_cli.specs.Statuses.SaidInPart.{AllReplies, LastInPart}
+use Rattle.xrc_cli.proofs.Lasting.{begins_still, cause_still, forth_still, keeps_still, rows_still, script_still, spent_still, along_still, bears_still}
+use Rattle.xrc_cli.proofs.StatusLines.{stop_says_none}
+use Rattle.xrc_cli.proofs.Stopping.{EndsBy, ends_by, is_console, is_of_headers, is_of_site, is_spent, not_done, status_cause, status_known, StoresAsWere}
 
--- a run that ended by a stop
-abbrev failed : Stop → Result (Unit {0}) Stop
+-- What is so where a script was run, before the line of a stop is said.
+pub record RanScript {S P : Type 0} (tells : Type 0) (state : P → PlantState) (left : S → Option (List ℕ)) (faults : S → ℕ) (session : List ℕ) (storage : ℕ) (before now : List (Lane S)) (old mid : P) (result : Result (Unit {0}) Stop) : Type 0 where
+  pub many : length now ≡ length before
+  pub opens : OpensInOrder left faults storage before now (state old) result
+  pub early : IfErr result (λ stop. ComesEarly stop → mid ≡ old)
+  pub unopened : (sources : List SourceBytes) (stop : Stop) → AllTold left faults before now sources → opening_stop storage (state old) sources ≡ Some stop → mid ≡ old
+  pub keeps : KeepsPlant tells (state old) (state mid)
+  pub runs : tells → RunsTold tells left faults session storage before now (state old) (state mid) result
+  pub begins : tells → BeginsRun session (state old) (state mid)
+  pub cause : IfErr result (λ stop. ComesEarly stop ⊎ HasRunCause (state old) (state mid) stop)
+  pub counts : StopsByCount (state old) (state mid) result
+
+abbrev pub done : Result (Unit {0}) Stop
+done = Ok tt
+
+abbrev pub failed : Stop → Result (Unit {0}) Stop
 failed stop = Err stop
 
--- What is so where the script of a session was run over a source, before a line of a stop is said.
-pub record Ran {P : Type 0} (tells : Type 0) (state : P → PlantState) (session : List ℕ) (unpulled : Type 0) (before now : Option (List ℕ)) (faults risen : ℕ) (old mid : P) (result : Result (Unit {0}) Stop) : Type 0 where
-  pub site : (result ≡ Err BadSite) ↔ ¬ HasNumbers (state old)
-  pub short : HasNumbers (state old) → (d : Device) → first_short (state old) ≡ Some d → result ≡ Err (TooSmall d (need d))
-  pub too_small : (d : Device) (needed : ℕ) → result ≡ Err (TooSmall d needed) → HasNumbers (state old) × (first_short (state old) ≡ Some d) × (needed ≡ need d)
-  pub refused : (place : ℕ) → result ≡ Err (BadHeader 0 place) → (given : List ℕ) → before ≡ Some given → IsRefused given place
-  pub header : (given : List ℕ) (place : ℕ) → before ≡ Some given → IsRefused given place → HasNumbers (state old) → first_short (state old) ≡ None → (result ≡ Err (BadHeader 0 place)) ⊎ (result ≡ Err (HeaderFault 0)) ⊎ (result ≡ Err NoMemory)
-  pub unopened : (given : List ℕ) (place : ℕ) → before ≡ Some given → IsRefused given place → mid ≡ old
-  pub header_fault : result ≡ Err (HeaderFault 0) → Rose faults risen
-  pub cut : result ≡ Err (HeaderFault 0) → (all left : List ℕ) → before ≡ Some all → now ≡ Some left → (given : List ℕ) × EndsInHeader all left given
-  pub ends : tells → (run : Run) (t : Trace) → IsSessionRun session before now faults risen (state old) t run → OnOk result (EndsSession run t (state old) (state mid))
-  pub stops : tells → (run : Run) (t : Trace) → IsSessionRun session before now faults risen (state old) t run
-      → IfErr result (StopsEarlyOr (mid ≡ old) run t (HasBrokenBy t risen) (IsJournalFull t (state mid)) (state old) (state mid))
-  pub home : NoneLent (state mid)
-  pub others : tells → (run : Run) (t : Trace) → IsSessionRun session before now faults risen (state old) t run → LeavesOthers run (state old) (state mid)
-  pub begins : tells → 0 < (state old).clock → IsDurable (on (state old) Control) → Begins session (state old) (state mid)
-  pub quiet : OnOk result (NoneRose (state old) (state mid))
-  pub works : SameSite (state old) (state mid)
-  pub causes : IfErr result (λ stop. IsEarly stop ⊎ HasStopCause (state old) (state mid) stop)
-  pub untouched : IfErr result (λ stop. IsEarly stop → mid ≡ old)
-  pub source_count : result ≢ Err (HeaderFault 0) → result ≢ Err EarlyBreak → risen ≡ faults
-  pub not_pulled : IfErr result (λ stop. IsOfSite stop → unpulled)
-  pub trace_given : result ≡ Err EarlyBreak → risen ≢ faults → (all : List ℕ) → before ≡ Some all → GaveTrace all now
-  pub complete : tells → HasNumbers (state old) → first_short (state old) ≡ None → NoneFailed (state old) (state mid) → risen ≡ faults → risen ≢ 2 ^ 64 - 1 → (run : Run) (t : Trace)
-      → IsSessionRun session before now faults risen (state old) t run → (asks : AsksSession run (state old).script) → has_broken t asks.end.time ≡ false
-      → IfErr result (λ stop. (stop ≡ NoMemory) ⊎ (stop ≡ JournalEnd))
+err_is : (a b : Stop) → failed a ≡ failed b → a ≡ b
+err_is a b is = cc
 
-module _ {P : Type 0} (tells : Type 0) (state : P → PlantState) (session : List ℕ) (unpulled : Type 0) (before now : Option (List ℕ)) (faults risen : ℕ) (old mid : P) where
-  abbrev Over : (run : Run) (t : Trace) → Type 0
-  Over run t = IsSessionRun session before now faults risen (state old) t run
+no_err : (stop : Stop) → done ≡ failed stop → ⊥
+no_err stop is = cc
 
+-- What was lent of a list comes back in its place.
+pub taken_back : {A : Type 0} (len : ℕ) (items new : List A) → length new ≡ len → take len (new ++ drop (length new) items) ≡ new
+taken_back len items new is = ap (λ (n : ℕ). take n (new ++ drop (length new) items)) (sym is) ∙ take-append_seam new (drop (length new) items)
+
+-- Nothing that was heard is no bad line.
+none_bad : (tells : Type 0) (number before : ℕ) (left : List ℕ) → IsNextLine tells number before [] left Bad → ⊥
+none_bad tells number before left (inl (inl fed, asks)) = too_long fed.line fed.text_is
+  where
+    too_long : (line : List ℕ) → [] ≡ line ++ 10 ∷ [] → ⊥
+    too_long [] is = cc
+    too_long (b ∷ line) is = cc
+none_bad tells number before left (inl (inr last, asks)) = omega (arith, last.some)
+none_bad tells number before left (inr long) = omega (arith, long.size)
+
+-- ---- a run that stopped behind its lines
+
+module _ (tells : Type 0) (told : tells) (session : List ℕ) (sources : List SourceBytes) (stop : Stop) (old mid : PlantState) (run : Run) (lines : List Answered) (trail : Trail) (next : Option Point) where
+  -- The console failed within the reply to a line.
+  module _ (a : Answered) (none : trail.started ≡ 0 → trail.points ≡ []) (over : IsRunOfScript session sources old mid run) (is : stop ≡ ConsoleFault) (cause : HasRunCause old mid stop) (part : RepliesInPart run lines a old mid) (exact : AreExact run (lines ++ a ∷ []) trail) (begun : HasBegunTrail run (lines ++ a ∷ []) trail)
+      (along : 0 < trail.started → StandsOnTrail run (lines ++ a ∷ []) None trail next mid) (forth : 0 < old.clock → 0 < trail.started → GoesForth run (lines ++ a ∷ []) None trail next old mid) (volumes : ChangesRows (rows_passed trail.points) old mid) (as_were : StoresAsWere old mid stop) where
+    pub ran_in_part : Ran tells session sources old mid (status_of stop)
+    ran_in_part = record {
+      run = run;
+      over = over;
+      lines = lines ++ a ∷ [];
+      trail = trail;
+      course = part.course;
+      asked = part.asked;
+      bears = part.bears;
+      exact = exact;
+      none = none;
+      begun = begun;
+      forth = λ up some. (None, tt, (next, forth up some));
+      along = λ some. (None, tt, (next, along some));
+      others = volumes;
+      done = λ zero. absurd (omega (arith, zero, ap status_of is));
+      stopped = λ not. record {
+        stop = stop;
+        is = refl;
+        cause = cause;
+        counts = as_were;
+        text = [];
+        heard = part.heard ∙ ap (λ (l : List ℕ). old.heard old.clock ++ l) (sym (append-nil (texts_of (lines ++ a ∷ []))));
+        script = part.script ∙ ap (λ (l : List ℕ). l ++ mid.script) (sym (append-nil (texts_of (lines ++ a ∷ []))));
+        said = λ other. absurd (other (ap status_of is));
+        last = λ three. LastInPart lines a part.front.0 refl part.front.1 part.front.2;
+        bad = λ bad. absurd (none_bad tells _ _ mid.script bad);
+        of_bad = λ n line. absurd (let clash : ConsoleFault ≡ BadLine n = sym is ∙ line in cc clash);
+        spent = λ spent. absurd (omega (arith, spent, ap status_of is));
+        now = part.behind;
+      };
+    }
+
+  -- It stopped between replies, and its line was said.
+  module _ (text : List ℕ) (new : PlantState) (none : trail.started ≡ 0 → trail.points ≡ []) (ends : EndsBy old new stop) (keeps : KeepsPlant tells old mid) (last : SaysLast tells (last_line stop) mid new) (console : old.console_faults ≤ mid.console_faults) (over : IsRunOfScript session sources old new run) (cause : HasRunCause old new stop)
+      (goes : RunGoesOn run line_grammar lines text old mid) (exact : AreExact run lines trail) (begun : HasBegunTrail run lines trail) (along : 0 < trail.started → StandsOnTrail run lines (stage_behind run lines text old).next trail next mid) (forth : 0 < old.clock → 0 < trail.started → GoesForth run lines (stage_behind run lines text old).next trail next old mid) (volumes : ChangesRows (rows_passed trail.points) old mid)
+      (spent : stop ≡ Spent → IsSpentNow mid) (bad : IsBadBehind tells lines text mid.script → (stop ≡ BadLine (length lines + 1)) ⊎ ((stop ≡ ConsoleFault) × (has_feed text ≡ false))) (of_bad : (n : ℕ) → stop ≡ BadLine n → (n ≡ length lines + 1) × IsBadBehind tells lines text mid.script)
+      (silent : stop ≡ ConsoleFault → new.said new.clock ≡ mid.said mid.clock) (as_were : StoresAsWere old new stop) where
+    works : WorksOnConsole tells mid new
+    works = last.front.only
+
+    says : Says (last_line stop) mid new
+    says = last.front.moments told
+
+    later : mid.clock ≤ new.clock
+    later = ((works.elapses told).kept Control).later
+
+    since : old.clock ≤ mid.clock
+    since = ((keeps.elapses told).kept Control).later
+
+    heard_is : new.heard new.clock ≡ old.heard old.clock ++ (texts_of lines ++ text)
+    heard_is = says.heard new.clock later (omega arith) ∙ goes.now.heard
+
+    said_behind : SaidBehind lines (last_line stop) stop old new
+    said_behind =
+        let front = says.front new.clock later (omega arith) in
+        record {
+          said = (front.0, front.1, front.2 ∙ ap (λ (l : List ℕ). l ++ take front.0 (last_line stop)) goes.now.said ∙ append_assoc (old.said old.clock) (replies_of lines) (take front.0 (last_line stop)));
+          whole = elim (last.whole told) [
+            | inl whole ↦ inl (whole ∙ ap (λ (l : List ℕ). l ++ last_line stop) goes.now.said ∙ append_assoc (old.said old.clock) (replies_of lines) (last_line stop))
+            | inr rose ↦ inr (rose_before rose)
+          ];
+        }
+      where
+        rose_before : Rose mid.console_faults new.console_faults → Rose old.console_faults new.console_faults
+        rose_before (inl less) = inl (omega (arith, less, console))
+        rose_before (inr most) = inr most
+
+    heard_behind : (o : Option TimedCommand) → (stage_behind run lines text old).next ≡ o → IsHeardBehind run lines old new o
+    heard_behind None is = tt
+    heard_behind (Some line) is = (text, heard_is, is)
+
+    stops_with : StopsWith tells run lines old new (status_of stop)
+    stops_with = record {
+      stop = stop;
+      is = refl;
+      cause = cause;
+      counts = as_were;
+      text = text;
+      heard = heard_is;
+      script = goes.now.script ∙ ap (λ (l : List ℕ). texts_of lines ++ text ++ l) (sym says.script);
+      said = λ other. said_behind;
+      last = λ three. AllReplies (silent (is_console old new stop ends three) ∙ goes.now.said);
+      bad = λ is. bad (subst (λ (l : List ℕ). IsBadBehind tells lines text l) says.script is);
+      of_bad = λ n is. let line = of_bad n is in (line.0, subst (λ (l : List ℕ). IsBadBehind tells lines text l) (sym says.script) line.1);
+      spent = λ is. spent_still tells told mid new works (spent (is_spent old new stop ends is));
+      now = λ started. bears_still tells told mid new works run (stage_behind run lines text old) (replies_of lines) (goes.now.bears started);
+    }
+
+    pub ran_to_stop : Ran tells session sources old new (status_of stop)
+    ran_to_stop = record {
+      run = run;
+      over = over;
+      lines = lines;
+      trail = trail;
+      course = goes.now.course;
+      asked = goes.now.asked;
+      bears = λ up.
+          let none = stop_says_none stop (status_known old new stop ends) in
+          keeps_says_status run line_grammar lines text old mid new up (goes.keeps up) tells told works (last_line stop) says none.0 none.1;
+      exact = exact;
+      none = none;
+      begun = begun;
+      forth = λ up some.
+          let heard = (stage_behind run lines text old).next in
+          (heard, heard_behind heard refl, (next, forth_still tells told mid new works (omega (arith, up, since)) run lines heard trail next old (forth up some)));
+      along = λ some.
+          let heard = (stage_behind run lines text old).next in
+          (heard, heard_behind heard refl, (next, along_still tells told mid new works run lines heard trail next (along some)));
+      others = rows_still tells told mid new works (rows_passed trail.points) old goes.now.site goes.now.later volumes;
+      done = λ zero. absurd (not_done old new stop ends zero);
+      stopped = λ not. stops_with;
+    }
+
+-- ---- the whole
+
+module _ {S P : Type 0} (tells : Type 0) (state : P → PlantState) (left : S → Option (List ℕ)) (faults : S → ℕ) (session : List ℕ) (storage : ℕ) (before now : List (Lane S)) (old mid : P) where
   -- ---- done
 
-  pub ends_done : (done : Unit {0}) → Ran tells state session unpulled before now faults risen old mid (Ok done) → EndsRun tells state session old mid 0 unpulled before now faults risen
-  ends_done done r = record {
-    known = refl;
-    site = r.works;
-    home = r.home;
-    numbers = (λ is. absurd (omega (arith, is)), λ no. absurd cc (r.site.1 no));
-    short = λ numbers d first. absurd cc (r.short numbers d first);
-    too_small = λ is. absurd (omega (arith, is));
-    bad_header = λ is. absurd (omega (arith, is));
-    header = λ given place told refused numbers long. absurd (no_stop (r.header given place told refused numbers long));
-    header_fault = λ is. absurd (omega (arith, is));
-    cut = λ is. absurd (omega (arith, is));
-    not_pulled = λ is. absurd cc;
-    early = λ is. absurd cc is;
-    bears = λ told run t over.
-        let done = r.ends told run t over in
-        record { lines = ended_lines run done.end; are = AnEnd done.end done.is refl; bears = keeps_throughout run line_grammar (ended_lines run done.end) [] (state old) (state mid) done.goes_on.keeps };
+  pub ends_done : RanScript tells state left faults session storage before now old mid done → EndsScriptRun tells state left faults session storage before now old mid 0
+  ends_done r = record {
+    many = r.many;
+    cause = record {
+      known = refl;
+      counts = λ d store not. r.counts.devices d store (λ stop. no_err _ stop);
+      quiet = λ is. r.counts.console (λ stop. no_err _ stop);
+      console = λ is. absurd (omega (arith, is));
+      journal = λ is. absurd (omega (arith, is));
+      control = λ is. absurd (omega (arith, is));
+      state = λ is. absurd (omega (arith, is));
+    };
+    keeps = r.keeps;
+    opens = record {
+      site = λ stop due. absurd (no_err stop (r.opens.site stop due).0);
+      of_site = λ is. absurd (elim is [ inl one ↦ omega (arith, one) | inr two ↦ omega (arith, two) ]);
+      headers = λ sources stop given due. absurd (elim (r.opens.headers sources stop given due) [ inl one ↦ no_err stop one | inr two ↦ no_err NoMemory two ]);
+      of_headers = λ is. absurd (elim is [ inl one ↦ omega (arith, one) | inr two ↦ omega (arith, two) ]);
+    };
     begins = r.begins;
-    done = λ told is run t over. r.ends told run t over;
-    quiet = λ is. r.quiet;
-    in_part = λ told is. absurd (omega (arith, is));
-    stopped = λ not. absurd (not refl);
-    source_count = λ nine eighteen. r.source_count (λ is. cc) (λ is. cc);
-    unexpected = λ told is. absurd (omega (arith, is));
-    early_break = λ told is. absurd (omega (arith, is));
-    trace_given = λ is. absurd (omega (arith, is));
-    journal_end = λ told is. absurd (omega (arith, is));
-    wanting = λ told is. absurd (omega (arith, is));
-    others = r.others;
-    complete = λ told numbers long none below same most run t over asks whole. (0, (omega arith), refl);
+    ran = λ told below sources given none.
+        let runs = r.runs told sources below given none in
+        let trail = runs.ends.1.0 in
+        let is = runs.ends.1.1 in
+        record {
+          run = runs.run;
+          over = runs.over;
+          lines = runs.lines;
+          trail = trail;
+          course = is.goes.now.course;
+          asked = is.goes.now.asked;
+          bears = λ up. keeps_throughout runs.run line_grammar runs.lines [] (state old) (state mid) (is.goes.keeps up);
+          exact = is.exact;
+          none = is.none;
+          begun = is.begun;
+          forth = λ up some. (None, tt, (None, is.forth up some));
+          along = λ some. (None, tt, (None, is.along some));
+          others = is.volumes;
+          done = λ zero. is;
+          stopped = λ not. absurd (not refl);
+        };
   }
-    where
-      no_stop : {stop other more : Stop} → ¬ ((Ok done ≡ Err stop) ⊎ (Ok done ≡ Err other) ⊎ (Ok done ≡ Err more))
-      no_stop (inl is) = cc
-      no_stop (inr (inl is)) = cc
-      no_stop (inr (inr is)) = cc
 
-  -- ---- not done
+  -- ---- stopped
 
-  module _ (stop : Stop) (new : P) (r : Ran tells state session unpulled before now faults risen old mid (Err stop)) (said : SaysLast tells (last_line stop) (state mid) (state new)) (silent : stop ≡ ConsoleFault → new ≡ mid) where
-    abbrev Late : (run : Run) (t : Trace) → Type 0
-    Late run t = StopsSo run t (HasBrokenBy t risen) (IsJournalFull t (state mid)) (state old) (state mid) stop
-
-    cause_now : IsEarly stop ⊎ HasStopCause (state old) (state new) stop
-    cause_now = elim r.causes [
+  module _ (stop : Stop) (new : P) (r : RanScript tells state left faults session storage before now old mid (failed stop)) (last : SaysLast tells (last_line stop) (state mid) (state new)) (silent : stop ≡ ConsoleFault → new ≡ mid) where
+    cause_now : ComesEarly stop ⊎ HasRunCause (state old) (state new) stop
+    cause_now = elim r.cause [
       | inl early ↦ inl early
-      | inr late ↦ inr (cause_still (state old) (state mid) (state new) said.front.only.faults stop (λ is. ap (λ (p : P). (state p).console_faults) (silent is)) late)
+      | inr late ↦ inr (cause_still (state old) (state mid) (state new) last.front.only.faults stop (λ is. ap (λ (p : P). (state p).console_faults) (silent is)) late)
     ]
 
-    valid : tells_a_session stop ≡ true
-    valid = stop_tells (state old) (state mid) stop r.causes
+    ends : EndsBy (state old) (state new) stop
+    ends = ends_by (state old) (state new) stop cause_now
 
-    -- ---- early stops
+    as_were_mid : StoresAsWere (state old) (state mid) stop
+    as_were_mid d store other = r.counts.devices d store (λ is. other (err_is stop _ is))
 
-    says_only : (other : Stop) → stop ≡ other → IsEarly stop → SaysOnly tells other (state old) (state new) (status_of stop)
-    says_only other is early = record {
+    as_were : StoresAsWere (state old) (state new) stop
+    as_were d store other = last.front.only.faults d ∙ as_were_mid d store other
+
+    -- ---- opening
+
+    says_only : (other : Stop) → stop ≡ other → mid ≡ old → SaysLineOnly tells other (state old) (state new) (status_of stop)
+    says_only other is same = record {
       is = ap status_of is;
-      says = subst (λ (s : Stop). SaysLast tells (last_line s) (state old) (state new)) is (subst (λ (p : P). SaysLast tells (last_line stop) (state p) (state new)) (r.untouched early) said);
+      says = subst (λ (x : Stop). SaysLast tells (last_line x) (state old) (state new)) is (subst (λ (p : P). SaysLast tells (last_line stop) (state p) (state new)) same last);
     }
 
-    early_at : (status : ℕ) → IsTrue (ends_early status) → status_of stop ≡ status → IsEarly stop
-    early_at status early is = is_early (state old) (state mid) stop (subst (λ (n : ℕ). IsTrue (ends_early n)) (sym is) early) r.causes
-
-    err_is : {other : Stop} → failed stop ≡ failed other → stop ≡ other
-    err_is is = cc
-
-    says_unopened : mid ≡ old → SaysOnly tells stop (state old) (state new) (status_of stop)
-    says_unopened same = record { is = refl; says = subst (λ (p : P). SaysLast tells (last_line stop) (state p) (state new)) same said }
-
-    header_is : (place : ℕ) → (failed stop ≡ failed (BadHeader 0 place)) ⊎ (failed stop ≡ failed (HeaderFault 0)) ⊎ (failed stop ≡ failed NoMemory) → (stop ≡ BadHeader 0 place) ⊎ (stop ≡ HeaderFault 0) ⊎ (stop ≡ NoMemory)
-    header_is place (inl is) = inl (err_is is)
-    header_is place (inr (inl is)) = inr (inl (err_is is))
-    header_is place (inr (inr is)) = inr (inr (err_is is))
-
-    short_now : HasNumbers (state old) → (d : Device) → first_short (state old) ≡ Some d → SaysOnly tells (TooSmall d (need d)) (state old) (state new) (status_of stop)
-    short_now numbers d first =
-        let is = err_is (r.short numbers d first) in
-        says_only (TooSmall d (need d)) is (inr (inl (d, need d, is)))
-
-    too_small_now : status_of stop ≡ 14 → HasNumbers (state old) × ((d : Device) × (first_short (state old) ≡ Some d))
-    too_small_now is =
-        let short = is_short stop (early_at 14 refl is) is in
-        let why = r.too_small short.0 short.1 (ap (λ (s : Stop). Err s) short.2) in
-        (why.0, (short.0, why.1))
-
-    bad_header_now : status_of stop ≡ 8 → (place : ℕ) × SaysOnly tells (BadHeader 0 place) (state old) (state new) (status_of stop) × ((given : List ℕ) → before ≡ Some given → IsRefused given place)
-    bad_header_now is =
-        let early = early_at 8 refl is in
-        let bad = is_header stop early is in
-        (bad.0, says_only (BadHeader 0 bad.0) bad.1 early, r.refused bad.0 (ap (λ (s : Stop). Err s) bad.1))
-
-    fault_now : status_of stop ≡ 9 → failed stop ≡ failed (HeaderFault 0)
-    fault_now is = ap (λ (s : Stop). Err s) (is_header_fault stop (early_at 9 refl is) is)
-
-    unpulled_now : IsTrue (ends_by_site (status_of stop)) → unpulled
-    unpulled_now is = r.not_pulled (is_of_site stop (is_early (state old) (state mid) stop (by_site_early (status_of stop) is) r.causes) is)
-
-    -- ---- each moment bears
-
-    stopped_at : tells → (run : Run) (t : Trace) → Over run t → ((stop ≡ ConsoleFault) × AnswersInPart run t (state old) (state mid)) ⊎ KeepsAnswered run t (state old) (state mid)
-    stopped_at told run t over = elim (r.stops told run t over) [
-      | inl early ↦ inr (subst (λ (p : P). KeepsAnswered run t (state old) (state p)) (sym early.1) (none_answered run t (state old)))
-      | inr so ↦ stop_answered run t (state old) (state mid) (HasBrokenBy t risen) (IsJournalFull t (state mid)) stop so
-    ]
-
-    part_now : (run : Run) (t : Trace) → stop ≡ ConsoleFault → AnswersInPart run t (state old) (state mid) → AnswersInPart run t (state old) (state new)
-    part_now run t is part = subst (λ (p : P). AnswersInPart run t (state old) (state p)) (sym (silent is)) part
-
-    bears_now : tells → (run : Run) (t : Trace) → Over run t → BearsAnswered run t (state old) (state new)
-    bears_now told run t over = elim (stopped_at told run t over) [
-      | inl part ↦ (let p = part_now run t part.0 part.1 in record { lines = p.lines; are = p.are; bears = p.bears })
-      | inr kept ↦ bears_still tells told stop run t (state old) (state mid) (state new) valid said over.past kept
-    ]
-
-    says_now : tells → status_of stop ≢ 3 → (run : Run) (t : Trace) → Over run t → AnswersThen tells state run t stop old new
-    says_now told other run t over = elim (stopped_at told run t over) [
-      | inl part ↦ absurd (other (ap status_of part.0))
-      | inr kept ↦ record { answered = bears_still tells told stop run t (state old) (state mid) (state new) valid said over.past kept; said = record { then = mid; stood = kept.keeps.said; says = said } }
-    ]
-
-    others_now : tells → (run : Run) (t : Trace) → Over run t → LeavesOthers run (state old) (state new)
-    others_now told run t over = elim (stopped_at told run t over) [
-      | inl part ↦ subst (λ (p : P). LeavesOthers run (state old) (state p)) (sym (silent part.0)) (r.others told run t over)
-      | inr kept ↦ others_still tells told (last_line stop) (state old) (state mid) (state new) said run over.past kept.keeps.later (r.others told run t over)
-    ]
-
-    begins_now : tells → 0 < (state old).clock → IsDurable (on (state old) Control) → Begins session (state old) (state new)
-    begins_now told past durable =
-        let later = ((said.front.only.elapses told).kept Control).later in
-        let front = (said.front.moments told).front (state new).clock later (omega arith) in
-        begins_behind tells told session (state old) (state mid) (state new) stop front.0 said.front.only front.2 past (r.begins told past durable)
-
-    -- ---- how it stood
-
-    late_at : tells → ¬ IsEarly stop → (run : Run) (t : Trace) → Over run t → Late run t
-    late_at told not run t over = elim (r.stops told run t over) [ inl early ↦ absurd (not early.0) | inr so ↦ so ]
-
-    -- a status that isn't early
-    not_early : (status : ℕ) → ¬ IsTrue (ends_early status) → status_of stop ≡ status → ¬ IsEarly stop
-    not_early status late is early = late (subst (λ (n : ℕ). IsTrue (ends_early n)) is (early_status stop early))
-
-    in_part_now : tells → status_of stop ≡ 3 → (run : Run) (t : Trace) → Over run t → AnswersInPart run t (state old) (state new)
-    in_part_now told is run t over =
-        let console = is_console stop is in
-        part_now run t console (subst (λ (s : Stop). StopsSo run t (HasBrokenBy t risen) (IsJournalFull t (state mid)) (state old) (state mid) s) console (late_at told (not_early 3 (λ no. cc) is) run t over))
-
-    expected_now : tells → IsTrue (ends_in_work (status_of stop)) → (run : Run) (t : Trace) → Over run t → StoodSo tells state stop (KeepsExpected run t (state old)) new
-    expected_now told in_work run t over = record {
-      then = mid;
-      stood = work_expected run t (state old) (state mid) (HasBrokenBy t risen) (IsJournalFull t (state mid)) stop in_work (late_at told (is_late stop in_work) run t over);
-      says = said;
+    opens_now : OpensFirst tells left faults storage before now (state old) (state new) (status_of stop)
+    opens_now = record {
+      site = λ other due.
+          let at = r.opens.site other due in
+          let is = err_is stop other at.0 in
+          (at.1, says_only other is (r.early (inl (subst IsOfSite (sym is) (site_stop_is storage (length before) (state old) other due)))));
+      of_site = λ is. let kind = is_of_site (state old) (state new) stop ends is in (stop, kind, r.opens.of_site stop kind refl);
+      headers = λ sources other given due.
+          let same = r.unopened sources other given due in
+          elim (r.opens.headers sources other given due) [ inl is ↦ inl (says_only other (err_is stop other is) same) | inr is ↦ inr (says_only NoMemory (err_is stop NoMemory is) same) ];
+      of_headers = λ is.
+          let kind = is_of_headers (state old) (state new) stop ends is in
+          (stop, kind, says_only stop refl (r.early (inr kind)), λ sources given. r.opens.of_headers sources stop given kind refl, λ k d fault. r.opens.fault k d (ap failed fault));
     }
 
-    stood_now : (other : Stop) (so : PlantState → Type 0) → stop ≡ other → so (state mid) → StoodSo tells state other so new
-    stood_now other so is stood = record { then = mid; stood = stood; says = subst (λ (s : Stop). SaysLast tells (last_line s) (state mid) (state new)) is said }
+    -- ---- behind the opening
 
-    unexpected_now : tells → status_of stop ≡ 17 → (run : Run) (t : Trace) → Over run t → StoodSo tells state NotBuilt (IsUnexpected run t (state old)) new
-    unexpected_now told is run t over =
-        let named = is_not_built stop is in
-        stood_now NotBuilt (IsUnexpected run t (state old)) named
-        (subst (λ (s : Stop). StopsSo run t (HasBrokenBy t risen) (IsJournalFull t (state mid)) (state old) (state mid) s) named (late_at told (not_early 17 (λ no. cc) is) run t over))
+    module _ (told : tells) (below : AreCountsBelow (state new)) (sources : List SourceBytes) (given : AllTold left faults before now sources) (none : opening_stop storage (state old) sources ≡ None) where
+      not_early : ComesEarly stop → ⊥
+      not_early (inl site) =
+          let due : stop_of_site storage (length sources) (state old) ≡ Some stop = ap (λ (n : ℕ). stop_of_site storage n (state old)) given.many ∙ r.opens.of_site stop site refl in
+          let stops : opening_stop storage (state old) sources ≡ Some stop = ap (λ (o : Option Stop). elim o [ Some x ↦ Some x | None ↦ stop_of_headers 0 [] sources ]) due in
+          cc (none, stops)
+      not_early (inr header) = let stops = r.opens.of_headers sources stop given header refl in cc (none, stops)
 
-    break_now : tells → status_of stop ≡ 18 → (run : Run) (t : Trace) → Over run t → StoodSo tells state EarlyBreak (StopsAt run t (HasBrokenBy t risen) (state old)) new
-    break_now told is run t over =
-        let named = is_break stop is in
-        stood_now EarlyBreak (StopsAt run t (HasBrokenBy t risen) (state old)) named
-        (subst (λ (s : Stop). StopsSo run t (HasBrokenBy t risen) (IsJournalFull t (state mid)) (state old) (state mid) s) named (late_at told (not_early 18 (λ no. cc) is) run t over))
+      late : HasRunCause (state old) (state mid) stop
+      late = elim r.cause [ inl early ↦ absurd (not_early early) | inr cause ↦ cause ]
 
-    full_now : tells → status_of stop ≡ 15 → (run : Run) (t : Trace) → Over run t → StoodSo tells state JournalEnd (λ then. StopsAt run t (IsJournalFull t then) (state old) then) new
-    full_now told is run t over =
-        let named = is_journal_end stop is in
-        stood_now JournalEnd (λ then. StopsAt run t (IsJournalFull t then) (state old) then) named
-        (subst (λ (s : Stop). StopsSo run t (HasBrokenBy t risen) (IsJournalFull t (state mid)) (state old) (state mid) s) named (late_at told (not_early 15 (λ no. cc) is) run t over))
+      late_now : HasRunCause (state old) (state new) stop
+      late_now = elim cause_now [ inl early ↦ absurd (not_early early) | inr cause ↦ cause ]
 
-    memory_now : tells → status_of stop ≡ 1 → (run : Run) (t : Trace) → Over run t → StoodSo tells state NoMemory (WantsMemory run t (state old)) new
-    memory_now told is run t over =
-        let named = is_no_memory stop is in
-        stood_now NoMemory (WantsMemory run t (state old)) named
-        (subst (λ (s : Stop). StopsSo run t (HasBrokenBy t risen) (IsJournalFull t (state mid)) (state old) (state mid) s) named (late_at told (not_early 1 (λ no. cc) is) run t over))
+      runs : RunsScript tells session sources (state old) (state mid) (failed stop)
+      runs = r.runs told sources (λ d. let same = last.front.only.faults (Volume d) in let less = below d in omega (arith, same, less)) given none
 
-    -- ---- the whole
+      over_now : IsRunOfScript session sources (state old) (state new) runs.run
+      over_now = script_still (state old) (state mid) (state new) last.front.only.faults session sources runs.run runs.over
 
-    pub ends_stopped : EndsRun tells state session old new (status_of stop) unpulled before now faults risen
+      at_line : StopsAtLine tells runs.run runs.lines runs.text (state old) (state mid) stop
+      at_line = runs.ends
+
+      abbrev trail : Trail
+      trail = at_line.stops.trail
+
+      abbrev next : Option Point
+      next = at_line.stops.stopped.next
+
+      by_part : (part : Option Answered) → StandsStopped runs.run runs.lines runs.text part (state old) (state mid) stop → AreExact runs.run (lines_said runs.lines part) trail → HasBegunTrail runs.run (lines_said runs.lines part) trail
+          → (0 < trail.started → StandsOnTrail runs.run (lines_said runs.lines part) (line_asked (stage_behind runs.run runs.lines runs.text (state old)).next part) trail next (state mid))
+          → (0 < (state old).clock → 0 < trail.started → GoesForth runs.run (lines_said runs.lines part) (line_asked (stage_behind runs.run runs.lines runs.text (state old)).next part) trail next (state old) (state mid))
+          → Ran tells session sources (state old) (state new) (status_of stop)
+      by_part None goes exact begun along forth =
+          ran_to_stop tells told session sources stop (state old) (state mid) runs.run runs.lines trail next runs.text (state new) at_line.stops.stopped.none ends r.keeps last r.counts.console_later over_now late_now goes exact begun along forth at_line.stops.volumes
+          at_line.stops.spent at_line.bad at_line.of_bad (λ is. ap (λ (p : P). (state p).said (state p).clock) (silent is)) as_were
+      by_part (Some a) stands exact begun along forth =
+          subst (λ (p : P). Ran tells session sources (state old) (state p) (status_of stop)) (sym (silent stands.0))
+          (ran_in_part tells told session sources stop (state old) (state mid) runs.run runs.lines trail next a at_line.stops.stopped.none runs.over stands.0 late stands.2 exact begun along forth at_line.stops.volumes as_were_mid)
+
+      ran_now : Ran tells session sources (state old) (state new) (status_of stop)
+      ran_now = by_part at_line.stops.stopped.part at_line.stops.stopped.stands at_line.stops.stopped.exact at_line.stops.stopped.begun at_line.stops.stopped.along at_line.stops.stopped.forth
+
+    pub ends_stopped : EndsScriptRun tells state left faults session storage before now old new (status_of stop)
     ends_stopped = record {
-      known = known_status (state old) (state mid) stop r.causes;
-      site = site_trans (state old) (state mid) (state new) r.works said.front.only.site;
-      home = none_lent_console tells (state mid) (state new) said.front.only r.home;
-      numbers = (λ is. r.site.0 (ap (λ (s : Stop). Err s) (is_bad_site stop is)), λ no. ap status_of (err_is (r.site.1 no)));
-      short = short_now;
-      too_small = too_small_now;
-      bad_header = bad_header_now;
-      header = λ given place told refused numbers long. (header_status stop place (header_is place (r.header given place told refused numbers long)), (stop, says_unopened (r.unopened given place told refused)));
-      header_fault = λ is. r.header_fault (fault_now is);
-      cut = λ is. r.cut (fault_now is);
-      not_pulled = unpulled_now;
-      early = λ is. (let early = is_early (state old) (state mid) stop is r.causes in (stop, early, says_only stop refl early));
-      bears = bears_now;
-      begins = begins_now;
-      done = λ told is. absurd (not_done stop is);
-      quiet = λ is. absurd (not_done stop is);
-      in_part = in_part_now;
-      stopped = λ not. record { stop = stop; is = refl; cause = cause_now; says = says_now; expected = expected_now };
-      source_count = λ nine eighteen. r.source_count (λ is. nine (ap status_of (err_is is))) (λ is. eighteen (ap status_of (err_is is)));
-      unexpected = unexpected_now;
-      early_break = break_now;
-      trace_given = λ is. r.trace_given (ap (λ (s : Stop). Err s) (is_break stop is));
-      journal_end = full_now;
-      wanting = memory_now;
-      others = others_now;
-      complete = λ told numbers long none below same most run t over asks whole.
-          free_status stop (r.complete told numbers long (none_before (state old) (state mid) (state new) said.front.only.faults below said.later none) same most run t over asks whole);
+      many = r.many;
+      cause = status_cause (state old) (state new) stop ends as_were;
+      keeps = keeps_still tells stop session (state old) (state mid) (state new) r.keeps last;
+      opens = opens_now;
+      begins = λ told. begins_still tells told stop session (state old) (state mid) (state new) r.keeps last (r.begins told);
+      ran = ran_now;
     }

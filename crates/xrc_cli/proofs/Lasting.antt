@@ -1,111 +1,347 @@
--- A stop's line behind a run, and what stays of the run then.
-use Rattle.std.proofs.Common.{◌≡◌, ◌<◌, ◌≤◌, ◌^◌, inl, inr, ℕ, true, List, refl, sym, subst, ◌∙◌, arith}
+-- What lasts of a run while a last line is said behind it.
+use Rattle.xrc_session.proofs.Growing.{says_grows}
+use Rattle.mover.specs.Working.{ShowsLast}
+use Rattle.consistency.specs.Moments.{BearsTime}
+use Rattle.std.proofs.Common.{◌≡◌, ◌⊎◌, inl, inr, ℕ, zero, suc, ◌+◌, ◌<◌, ◌≤◌, ◌^◌, List, [], ◌∷◌, ◌++◌, take, Option, Some, None, refl, sym, ap, subst, ◌∙◌, append_assoc, append-nil, arith}
+use Rattle.std.specs.Prelude.{◌-◌, codes}
 use Rattle.std.proofs.lemmas.Bool.{cases_lt}
 use Rattle.xrc_edge.specs.Causes.{Rose}
 use Rattle.crash_plant.specs.declared.device.Device.{Device}
-use Rattle.crash_plant.specs.declared.device.Device.TheVariants.{Control, State, Journal, Volume}
-use Rattle.crash_plant.specs.Moments.{PlantState, Same, on}
-use Rattle.crash_plant.specs.Calls.{Elapses}
-use Rattle.crash_plant.proofs.Steps.{follows_then}
-use Rattle.write_trace.specs.declared.trace.Trace.{Trace}
-use Rattle.pair_course.specs.Course.{tells_a_session}
-use Rattle.pair_course.proofs.Saying.{stop_says_none}
-use Rattle.consistency.specs.Bears.{Run}
-use Rattle.consistency.proofs.Keeping.{keeps_says_status}
-use Rattle.script_lines.specs.Grammars.{line_grammar}
-use Rattle.epoch.specs.Frames.{DiffersInTracks, HoldsAsBefore, KeepsOthers}
+use Rattle.crash_plant.specs.declared.device.Device.TheVariants.{Control, Journal, State, Volume}
+use Rattle.crash_plant.specs.Calls.{Elapses, SameSite, WorksOnConsole}
+use Rattle.crash_plant.specs.Choices.{AtMoment, AtNow, Choice, IsChoice}
+use Rattle.crash_plant.specs.Moments.{PlantState, on}
+use Rattle.crash_plant.proofs.Choices.{past_choice}
+use Rattle.pair_table.specs.declared.level.Level.{Level}
+use Rattle.pair_table.specs.declared.names.NamedDevice.{NamedDevice}
+use Rattle.pair_table.specs.declared.row.PairRow.{PairRow}
+use Rattle.site_means.specs.Images.{Shape, shape_of}
+use Rattle.site_means.specs.Meaning.{chosen_in, meaning_in}
+use Rattle.site_means.proofs.Goes.{shape_same}
+use Rattle.passages.specs.Points.{GoesThrough, Throughout, last_point}
+use Rattle.passages.proofs.InARow.{moments_rise}
+use Rattle.consistency.specs.Bearing.{ShowsPoint}
+use Rattle.consistency.specs.Bears.{Run, Stage}
+use Rattle.consistency.specs.Courses.{Answered, texts_of}
+use Rattle.consistency.specs.Leads.{Point}
+use Rattle.consistency.specs.Steps.{TimedCommand}
+use Rattle.consistency.specs.Ways.{PassedPoint, Way}
+use Rattle.consistency.proofs.Standing.{console_choice, bears_on}
 use Rattle.xrc_status.specs.declared.stop.Stop.{Stop}
-use Rattle.xrc_status.specs.declared.stop.Stop.TheVariants.{NoMemory, BadWords, ConsoleFault, BadLine, JournalFault, ControlFault, StateFault, BadHeader, HeaderFault, NoSession, OtherSession, Damaged, VolumeFault, TooSmall, JournalEnd, BadSite, NotBuilt, EarlyBreak, EarlyVolume, Spent}
+use Rattle.xrc_status.specs.declared.stop.Stop.TheVariants.{BadHeader, BadLine, BadSite, BadWords, ConsoleFault, ControlFault, Damaged, EarlyBreak, EarlyVolume, HeaderFault, JournalEnd, JournalFault, NoMemory, NoSession, NotBuilt, OtherSession, Spent, StateFault, TooSmall, VolumeFault}
 use Rattle.xrc_status.specs.Saying.{SaysLast}
 use Rattle.xrc_status.specs.Stops.{last_line}
-use Rattle.one_pair_session.specs.Leaving.{LeavesOthers}
-use Rattle.one_pair_session.specs.Leaving.LeavesOthers.{Unpaired, WithPair}
-use Rattle.one_pair_session.specs.Runs.{NoneFailed}
-use Rattle.one_pair_session.specs.Stopping.{HasStopCause}
-use Rattle.xrc_cli.specs.Statuses.{BearsAnswered}
-use Rattle.xrc_cli.proofs.Answered.{KeepsAnswered}
+use Rattle.xrc_session.specs.Frames.{ChangesRows, KeepsPlant}
+use Rattle.xrc_session.specs.Runs.{AreLabels, GivesLabel, IsRunOfScript}
+use Rattle.xrc_session.specs.Runs.AreLabels.{Given, Last}
+use Rattle.xrc_session.specs.Lanes.{SourceBytes}
+use Rattle.xrc_session.specs.Starting.{BeginsRun, HearsStart, IsUnsaid, LeavesVolumes, MeansStart, ShutsOrStarts, StartsBehind, reply_to_start}
+use Rattle.xrc_session.specs.Starting.BeginsRun.{Starting, Unstarted}
+use Rattle.xrc_session.specs.Stops.{HasRunCause, HasStopCause, IsSpentNow}
+use Rattle.xrc_session.specs.Trails.{GoesForth, Trail, first_leg, StandsOnTrail}
+use Rattle.xrc_session.proofs.InTurn.{keeps_console, keeps_then}
+use Rattle.xrc_session.proofs.RowFrames.{changes_rows_none, changes_rows_then}
+use Rattle.xrc_session.proofs.WrittenLines.{written_still}
+use Rattle.xrc_session.proofs.SafeStarts.{leaves_console, leaves_then}
 
 -- ---- counts
 
--- A count that rose has risen behind calls that don't lower it, where counts end at the largest number of 64 bits.
-rose_since : (before mid now : ℕ) → before < 2 ^ 64 → mid ≤ now → Rose before mid → Rose before now
-rose_since before mid now below later (inl less) = inl (omega (arith, less, later))
-rose_since before mid now below later (inr most) = elim (cases_lt now (2 ^ 64)) [
+-- A count that rose has risen still, if it hasn't fallen since.
+rose_since : (before mid now : ℕ) → before ≤ mid → mid ≤ now → Rose before mid → Rose before now
+rose_since before mid now first later (inl less) = inl (omega (arith, less, later))
+rose_since before mid now first later (inr most) = elim (cases_lt now (2 ^ 64)) [
   | inl short ↦ inr (omega (arith, short, later, most))
-  | inr over ↦ inl (omega (arith, over, below))
+  | inr over ↦ inl (omega (arith, over, most, first))
 ]
 
-module _ (first mid new : PlantState) (faults : (d : Device) → new.faults d ≡ mid.faults d) where
-  device_still : (d : Device) → Rose (first.faults d) (mid.faults d) → Rose (first.faults d) (new.faults d)
-  device_still d rose = subst (λ (n : ℕ). Rose (first.faults d) n) (sym (faults d)) rose
+module _ (old mid new : PlantState) (faults : (d : Device) → new.faults d ≡ mid.faults d) where
+  device_still : (d : Device) → Rose (old.faults d) (mid.faults d) → Rose (old.faults d) (new.faults d)
+  device_still d rose = subst (λ (n : ℕ). Rose (old.faults d) n) (sym (faults d)) rose
+
+  stop_still : (stop : Stop) → (stop ≡ ConsoleFault → new.console_faults ≡ mid.console_faults) → HasStopCause old mid stop → HasStopCause old new stop
+  stop_still ConsoleFault same cause = subst (λ (n : ℕ). Rose old.console_faults n) (sym (same refl)) cause
+  stop_still (JournalFault j) same cause = device_still (Journal j) cause
+  stop_still ControlFault same cause = device_still Control cause
+  stop_still StateFault same cause = device_still State cause
+  stop_still Spent same cause = tt
+  stop_still NoMemory same cause = tt
+  stop_still BadWords same cause = absurd cause
+  stop_still (BadLine n) same cause = absurd cause
+  stop_still (BadHeader trace place) same cause = absurd cause
+  stop_still (HeaderFault trace) same cause = absurd cause
+  stop_still NoSession same cause = absurd cause
+  stop_still (OtherSession name) same cause = absurd cause
+  stop_still (Damaged d place) same cause = absurd cause
+  stop_still VolumeFault same cause = absurd cause
+  stop_still (TooSmall d needed) same cause = absurd cause
+  stop_still JournalEnd same cause = absurd cause
+  stop_still BadSite same cause = absurd cause
+  stop_still NotBuilt same cause = absurd cause
+  stop_still EarlyBreak same cause = absurd cause
+  stop_still EarlyVolume same cause = absurd cause
 
   -- A stop has its cause still; of a failed console no line is said.
-  pub cause_still : (stop : Stop) → (stop ≡ ConsoleFault → new.console_faults ≡ mid.console_faults) → HasStopCause first mid stop → HasStopCause first new stop
-  cause_still ConsoleFault same cause = subst (λ (n : ℕ). Rose first.console_faults n) (sym (same refl)) cause
-  cause_still (JournalFault j) same cause = device_still (Journal j) cause
-  cause_still ControlFault same cause = device_still Control cause
-  cause_still StateFault same cause = device_still State cause
-  cause_still EarlyVolume same cause = (cause.0, device_still (Volume cause.0) cause.1)
-  cause_still EarlyBreak same cause = tt
-  cause_still NotBuilt same cause = tt
-  cause_still JournalEnd same cause = tt
-  cause_still Spent same cause = absurd cause
-  cause_still NoMemory same cause = tt
-  cause_still BadWords same cause = absurd cause
-  cause_still (BadLine n) same cause = absurd cause
-  cause_still (BadHeader trace place) same cause = absurd cause
-  cause_still (HeaderFault trace) same cause = absurd cause
-  cause_still NoSession same cause = absurd cause
-  cause_still (OtherSession name) same cause = absurd cause
-  cause_still (Damaged d place) same cause = absurd cause
-  cause_still VolumeFault same cause = absurd cause
-  cause_still (TooSmall d needed) same cause = absurd cause
-  cause_still BadSite same cause = absurd cause
+  pub cause_still : (stop : Stop) → (stop ≡ ConsoleFault → new.console_faults ≡ mid.console_faults) → HasRunCause old mid stop → HasRunCause old new stop
+  cause_still stop same (inl cause) = inl (stop_still stop same cause)
+  cause_still stop same (inr line) = inr line
 
-  -- Where nothing failed up to now, nothing had failed before.
-  pub none_before : first.console_faults < 2 ^ 64 → mid.console_faults ≤ new.console_faults → NoneFailed first new → NoneFailed first mid
-  none_before below later none = record {
-    devices = λ d rose. none.devices d (device_still d rose);
-    console = λ rose. none.console (rose_since first.console_faults mid.console_faults new.console_faults below later rose);
-  }
+  gives_still : (d : ℕ) (labels : List NamedDevice) → GivesLabel old mid d labels → GivesLabel old new d labels
+  gives_still d labels (inl is) = inl is
+  gives_still d labels (inr none) = inr (none.0, device_still (Volume d) none.1)
 
--- ---- what stays
+  labels_from : (d : ℕ) (labels : List NamedDevice) → AreLabels old mid d labels → AreLabels old new d labels
+  labels_from _ _ (Last d none) = Last d none
+  labels_from _ _ (Given d these more there gives others) = Given d these more there (gives_still d these gives) (labels_from (d + 1) more others)
 
-module _ (tells : Type 0) (told : tells) (line : List ℕ) (first mid new : PlantState) (last : SaysLast tells line mid new) where
-  past : Elapses mid new
-  past = last.front.only.elapses told
+  -- The run is still that of the script.
+  pub script_still : (session : List ℕ) (sources : List SourceBytes) (run : Run) → IsRunOfScript session sources old mid run → IsRunOfScript session sources old new run
+  script_still session sources run over = record { name = over.name; traces = over.traces; labels = labels_from 0 run.labels over.labels; rises = λ d. over.rises d ∙ sym (faults (Volume d)) }
 
-  -- A device that held what it held does so still.
-  holds_still : (d : Device) → first.clock ≤ mid.clock → HoldsAsBefore (on first d) (on mid d) → HoldsAsBefore (on first d) (on new d)
-  holds_still d later holds = record {
-    bytes = (last.front.only.devices told d).bytes ∙ holds.bytes;
-    moments = follows_then (on first d) (on mid d) (on new d) Same Same Same later holds.moments (past.kept d) (last.front.only.devices told d).images (λ p q here e. e) (λ p q r here there e e2. e2 ∙ e);
-  }
+-- ---- choices
 
-  keeps_still : (set device tracks : ℕ) → first.clock ≤ mid.clock → KeepsOthers set device tracks first mid → KeepsOthers set device tracks first new
-  keeps_still set device tracks later keeps = record {
-    journals = λ j other. holds_still (Journal j) later (keeps.journals j other);
-    volumes = λ v there other. holds_still (Volume v) later (keeps.volumes v there other);
-    slots = λ there. subst (λ (l : List ℕ). DiffersInTracks tracks (first.bytes (Volume device)) l) (sym (last.front.only.devices told (Volume device)).bytes) (keeps.slots there);
-    slot_moments = λ there.
-        follows_then (on first (Volume device)) (on mid (Volume device)) (on new (Volume device)) (DiffersInTracks tracks) Same (DiffersInTracks tracks) later (keeps.slot_moments there) (past.kept (Volume device)) (last.front.only.devices told (Volume device)).images
-        (λ p q here s. s) (λ p q r here there s same. subst (λ (l : List ℕ). DiffersInTracks tracks p l) (sym same) s);
-  }
+module _ (tells : Type 0) (told : tells) (old new : PlantState) (works : WorksOnConsole tells old new) where
+  past : Elapses old new
+  past = works.elapses told
 
-  pub others_still : (run : Run) → 0 < first.clock → first.clock ≤ mid.clock → LeavesOthers run first mid → LeavesOthers run first new
-  others_still run up later (Unpaired keeps) = Unpaired (keeps_still 0 0 0 later keeps)
-  others_still run up later (WithPair pair moment since to heard asked added keeps) =
-      let goes = (past.kept Control).later in
-      WithPair pair moment since (omega (arith, to, goes)) (past.heard moment (omega (arith, up, later)) to ∙ heard) asked added (keeps_still 0 0 _ later keeps)
+  later : old.clock ≤ new.clock
+  later = (past.kept Control).later
 
--- ---- each moment bears
+  same_shape : shape_of new ≡ shape_of old
+  same_shape = shape_same old new works.site
 
-module _ (tells : Type 0) (told : tells) (stop : Stop) (run : Run) (t : Trace) (first mid new : PlantState) (valid : tells_a_session stop ≡ true) (last : SaysLast tells (last_line stop) mid new) where
-  abbrev pub bears_still : 0 < first.clock → KeepsAnswered run t first mid → BearsAnswered run t first new
-  bears_still up kept =
-      let none = stop_says_none stop valid in
+  -- What every choice is now, each is still.
+  pub now_still : (so : Choice → Type 0) → AtNow so old → AtNow so new
+  now_still so was c is = was c (console_choice tells told old new new.clock c works later (omega arith) is)
+
+  -- Numbers that are spent are so still.
+  pub spent_still : IsSpentNow old → IsSpentNow new
+  spent_still spent c is =
+      let was = spent c (console_choice tells told old new new.clock c works later (omega arith) is) in
       record {
-        lines = kept.lines;
-        are = kept.are;
-        bears = keeps_says_status run line_grammar kept.lines kept.text first mid new up kept.keeps tells told last.front.only (last_line stop) (last.front.moments told) none.0 none.1;
+        mark = was.mark;
+        chosen = ap (λ (shape : Shape). chosen_in shape c) same_shape ∙ was.chosen;
+        means = was.means;
+        walk = was.walk;
+        meant = ap (λ (shape : Shape). meaning_in shape c) same_shape ∙ was.meant;
+        spent = was.spent;
       }
+
+  -- Where each choice bore a time, it does still.
+  pub bears_still : (run : Run) (s : Stage) (said : List ℕ) → AtNow (BearsTime run s said old) old → AtNow (BearsTime run s said new) new
+  bears_still run s said was c is = bears_on run s said old new c works.site (now_still (BearsTime run s said old) was c is)
+
+  -- A session stands on its trail still.
+  pub along_still : (run : Run) (lines : List Answered) (heard : Option TimedCommand) (trail : Trail) (next : Option Point) → StandsOnTrail run lines heard trail next old → StandsOnTrail run lines heard trail next new
+  along_still run lines heard trail next stands = record {
+    rowless = stands.rowless;
+    linked = stands.linked;
+    on_its_way = stands.on_its_way;
+    shows = now_still (ShowsLast run new last next) (shown next stands.shows);
+  }
+    where
+      last : Point
+      last = last_point (first_leg run lines trail).point trail.points
+
+      shown : (o : Option Point) → AtNow (ShowsLast run old last o) old → AtNow (ShowsLast run new last o) old
+      shown None was c is = subst (λ (shape : Shape). ShowsPoint run shape last c) (sym same_shape) (was c is)
+      shown (Some q) was c is = subst (λ (shape : Shape). ShowsPoint run shape last c ⊎ ShowsPoint run shape q c) (sym same_shape) (was c is)
+
+  -- No slot is written.
+  pub rows_still : (rows : List PairRow) (began : PlantState) → SameSite began old → began.clock ≤ old.clock → ChangesRows rows began old → ChangesRows rows began new
+  rows_still rows began site first changes =
+      changes_rows_then rows [] rows began old new site first past (λ r has. has) (λ r has. absurd (omega (arith, has.1))) changes (changes_rows_none [] old new (λ d there. works.devices told (Volume d)))
+
+  module _ (up : 0 < old.clock) where
+    -- What each choice was from a moment on, each is to the end.
+    throughout_still : (so : Choice → Type 0) (from : ℕ) → from ≤ old.clock → Throughout (IsChoice old) from old.clock so → Throughout (IsChoice new) from new.clock so
+    throughout_still so from start was t since within c is = elim (cases_lt t old.clock) [
+      | inl early ↦ was t since (omega (arith, early)) c (past_choice old new t c works.site past up (omega (arith, early)) is)
+      | inr late ↦ was old.clock start (omega arith) c (console_choice tells told old new t c works late within is)
+    ]
+
+    throughout_past : (so : Choice → Type 0) (from to : ℕ) → to ≤ old.clock → Throughout (IsChoice old) from to so → Throughout (IsChoice new) from to so
+    throughout_past so from to before was t since within c is = was t since within c (past_choice old new t c works.site past up (omega (arith, within, before)) is)
+
+    through_still : (shows : Point → Choice → Type 0) (from : ℕ) (p : Point) (points : List PassedPoint) (next : Option Point) → GoesThrough (IsChoice old) shows from p points old.clock next → GoesThrough (IsChoice new) shows from p points new.clock next
+    through_still shows from p [] None goes = (omega (arith, goes.0, later), throughout_still (shows p) from goes.0 goes.1)
+    through_still shows from p [] (Some q) goes = (omega (arith, goes.0, later), throughout_still (λ c. shows p c ⊎ shows q c) from goes.0 goes.1)
+    through_still shows from p (n ∷ more) next goes =
+        let there = moments_rise Point Way Choice (IsChoice old) shows n.moment old.clock n.point more next goes.3 in
+        (goes.0, throughout_past (λ c. shows p c ⊎ shows n.point c) from n.moment there goes.1, throughout_past (shows n.point) n.moment n.moment there goes.2, through_still shows n.moment n.point more next goes.3)
+
+    -- The devices go on as they went.
+    pub forth_still : (run : Run) (lines : List Answered) (heard : Option TimedCommand) (trail : Trail) (next : Option Point) (began : PlantState) → GoesForth run lines heard trail next began old → GoesForth run lines heard trail next began new
+    forth_still run lines heard trail next began forth =
+        let first = (first_leg run lines trail).point in
+        let before = moments_rise Point Way Choice (IsChoice old) (ShowsPoint run (shape_of old)) forth.from old.clock first trail.points next forth.goes in
+        record {
+          from = forth.from;
+          since = forth.since;
+          unsaid = past.said forth.from up before ∙ forth.unsaid;
+          rowless = forth.rowless;
+          begins = λ c is. subst (λ (shape : Shape). ShowsPoint run shape first c) (sym same_shape) (forth.begins c (past_choice old new forth.from c works.site past up before is));
+          goes = subst (λ (shape : Shape). GoesThrough (IsChoice new) (ShowsPoint run shape) forth.from first trail.points new.clock next) (sym same_shape) (through_still (ShowsPoint run (shape_of old)) forth.from first trail.points next forth.goes);
+          linked = forth.linked;
+          on_its_way = forth.on_its_way;
+          written =
+              written_still old new works.site past up lines heard (trail.started - 1) trail.points first forth.from began forth.written
+              (λ rows. changes_rows_none rows old new (λ d there. works.devices told (Volume d)));
+        }
+
+-- ---- the start
+
+-- What is said of a last line begins as the line of a status does, if it is anything.
+abbrev pub BeginsAsStatus : List ℕ → Type 0
+BeginsAsStatus said = (said ≡ []) ⊎ ((rest : List ℕ) × (said ≡ codes "S" ++ rest))
+
+front_of_line : (k : ℕ) (text : List ℕ) → BeginsAsStatus (take k (codes "S" ++ text))
+front_of_line zero text = inl refl
+front_of_line (suc k) text = inr (take k text, refl)
+
+front_of_none : (k : ℕ) → BeginsAsStatus (take k [])
+front_of_none zero = inl refl
+front_of_none (suc k) = inl refl
+
+pub front_of_stop : (stop : Stop) (k : ℕ) → BeginsAsStatus (take k (last_line stop))
+front_of_stop ConsoleFault k = front_of_none k
+front_of_stop NoMemory k = front_of_line k _
+front_of_stop BadWords k = front_of_line k _
+front_of_stop (BadLine n) k = front_of_line k _
+front_of_stop (JournalFault j) k = front_of_line k _
+front_of_stop ControlFault k = front_of_line k _
+front_of_stop StateFault k = front_of_line k _
+front_of_stop (BadHeader trace place) k = front_of_line k _
+front_of_stop (HeaderFault trace) k = front_of_line k _
+front_of_stop NoSession k = front_of_line k _
+front_of_stop (OtherSession name) k = front_of_line k _
+front_of_stop (Damaged d place) k = front_of_line k _
+front_of_stop VolumeFault k = front_of_line k _
+front_of_stop (TooSmall d needed) k = front_of_line k _
+front_of_stop JournalEnd k = front_of_line k _
+front_of_stop BadSite k = front_of_line k _
+front_of_stop NotBuilt k = front_of_line k _
+front_of_stop EarlyBreak k = front_of_line k _
+front_of_stop EarlyVolume k = front_of_line k _
+front_of_stop Spent k = front_of_line k _
+
+-- Nothing of a reply is said by it.
+unsaid_still : (before said more : List ℕ) → IsUnsaid before said → BeginsAsStatus more → IsUnsaid before (said ++ more)
+unsaid_still before said more (inl none) (inl nothing) = inl (ap (λ (l : List ℕ). said ++ l) nothing ∙ append-nil said ∙ none)
+unsaid_still before said more (inl none) (inr (rest, is)) = inr (rest, ap (λ (l : List ℕ). l ++ more) none ∙ ap (λ (l : List ℕ). before ++ l) is)
+unsaid_still before said more (inr (rest, is)) begins = inr (rest ++ more, ap (λ (l : List ℕ). l ++ more) is ∙ append_assoc before (codes "S" ++ rest) more ∙ ap (λ (l : List ℕ). before ++ l) (append_assoc (codes "S") rest more))
+
+module _ (tells : Type 0) (told : tells) (stop : Stop) (session : List ℕ) (old mid new : PlantState) (keeps : KeepsPlant tells old mid) (last : SaysLast tells (last_line stop) mid new) where
+  works : WorksOnConsole tells mid new
+  works = last.front.only
+
+  gone : Elapses mid new
+  gone = works.elapses told
+
+  on_to : mid.clock ≤ new.clock
+  on_to = (gone.kept Control).later
+
+  since : old.clock ≤ mid.clock
+  since = ((keeps.elapses told).kept Control).later
+
+  hears_still : (level : Level) (at : ℕ) → HearsStart session level at old mid → HearsStart session level at old new
+  hears_still level at hears = record { lines = hears.lines; text = hears.text; later = hears.later; start = hears.start; heard = (last.front.moments told).heard new.clock on_to (omega arith) ∙ hears.heard }
+
+  module _ (level : Level) (at : ℕ) (up : 0 < old.clock) (b : StartsBehind session level at old mid) where
+    now : 0 < mid.clock
+    now = omega (arith, up, since)
+
+    heard_within : b.heard_at ≤ mid.clock
+    heard_within = omega (arith, b.later, b.within)
+
+    heard_alike : new.heard b.heard_at ≡ old.heard old.clock ++ (texts_of b.lines ++ b.text)
+    heard_alike = gone.heard b.heard_at now heard_within ∙ b.heard
+
+    said_before : new.said b.heard_at ≡ mid.said b.heard_at
+    said_before = gone.said b.heard_at now heard_within
+
+    untouched : (t : ℕ) → old.clock ≤ t → t ≤ b.heard_at → (c : Choice) → IsChoice new t c → IsChoice old old.clock c
+    untouched t from to c is = b.untouched t from to c (past_choice mid new t c works.site gone now (omega (arith, to, heard_within)) is)
+
+    safe_before : (t : ℕ) → old.clock ≤ t → t ≤ b.replied_at → (c : Choice) → IsChoice new t c → (x : Choice) × IsChoice old old.clock x × ShutsOrStarts session level at old x c
+    safe_before t from to c is = b.safe t from to c (past_choice mid new t c works.site gone now (omega (arith, to, b.within)) is)
+
+    volumes_before : LeavesVolumes b.replied_at old new
+    volumes_before t from to c is = b.volumes t from to c (past_choice mid new t c works.site gone now (omega (arith, to, b.within)) is)
+
+    said_now : new.said new.clock ≡ mid.said mid.clock ++ take ((last.front.moments told).front new.clock on_to (omega arith)).0 (last_line stop)
+    said_now = ((last.front.moments told).front new.clock on_to (omega arith)).2
+
+    -- The reply was said whole by then.
+    replied_before : mid.said b.replied_at ≡ mid.said b.heard_at ++ reply_to_start level at → StartsBehind session level at old new
+    replied_before whole = record {
+      lines = b.lines;
+      text = b.text;
+      start = b.start;
+      heard_at = b.heard_at;
+      since = b.since;
+      heard = heard_alike;
+      untouched = untouched;
+      replied_at = b.replied_at;
+      later = b.later;
+      within = omega (arith, b.within, on_to);
+      reached = inl (gone.said b.replied_at now b.within ∙ whole ∙ ap (λ (l : List ℕ). l ++ reply_to_start level at) (sym said_before));
+      safe = safe_before;
+      volumes = volumes_before;
+      means = by_means b.means;
+    }
+      where
+        by_means : IsUnsaid (mid.said b.heard_at) (mid.said b.replied_at) ⊎ AtMoment (MeansStart session level at old) mid b.replied_at → IsUnsaid (new.said b.heard_at) (new.said b.replied_at) ⊎ AtMoment (MeansStart session level at old) new b.replied_at
+        by_means (inl unsaid) =
+            inl (subst (λ (l : List ℕ). IsUnsaid l (new.said b.replied_at)) (sym said_before) (subst (λ (l : List ℕ). IsUnsaid (mid.said b.heard_at) l) (sym (gone.said b.replied_at now b.within)) unsaid))
+        by_means (inr mean) = inr (λ c is. mean c (past_choice mid new b.replied_at c works.site gone now b.within is))
+
+    -- It wasn't, and it is safe to the end.
+    unreplied : b.replied_at ≡ mid.clock → StartsBehind session level at old new
+    unreplied end = record {
+      lines = b.lines;
+      text = b.text;
+      start = b.start;
+      heard_at = b.heard_at;
+      since = b.since;
+      heard = heard_alike;
+      untouched = untouched;
+      replied_at = new.clock;
+      later = omega (arith, heard_within, on_to);
+      within = omega arith;
+      reached = inr refl;
+      safe = safe;
+      volumes = volumes;
+      means = by_means b.means;
+    }
+      where
+        safe : (t : ℕ) → old.clock ≤ t → t ≤ new.clock → (c : Choice) → IsChoice new t c → (x : Choice) × IsChoice old old.clock x × ShutsOrStarts session level at old x c
+        safe t from to c is = elim (cases_lt t mid.clock) [
+          | inl early ↦ safe_before t from (omega (arith, early, end)) c is
+          | inr late ↦ b.safe mid.clock since (omega (arith, end)) c (console_choice tells told mid new t c works late to is)
+        ]
+
+        volumes : LeavesVolumes new.clock old new
+        volumes t from to c is = elim (cases_lt t mid.clock) [
+          | inl early ↦ volumes_before t from (omega (arith, early, end)) c is
+          | inr late ↦ b.volumes mid.clock since (omega (arith, end)) c (console_choice tells told mid new t c works late to is)
+        ]
+
+        by_means : IsUnsaid (mid.said b.heard_at) (mid.said b.replied_at) ⊎ AtMoment (MeansStart session level at old) mid b.replied_at → IsUnsaid (new.said b.heard_at) (new.said new.clock) ⊎ AtMoment (MeansStart session level at old) new new.clock
+        by_means (inl unsaid) =
+            let here = subst (λ (t : ℕ). IsUnsaid (mid.said b.heard_at) (mid.said t)) end unsaid in
+            let more = take ((last.front.moments told).front new.clock on_to (omega arith)).0 (last_line stop) in
+            let still = unsaid_still (mid.said b.heard_at) (mid.said mid.clock) more here (front_of_stop stop ((last.front.moments told).front new.clock on_to (omega arith)).0) in
+            inl (subst (λ (l : List ℕ). IsUnsaid l (new.said new.clock)) (sym said_before) (subst (λ (l : List ℕ). IsUnsaid (mid.said b.heard_at) l) (sym said_now) still))
+        by_means (inr mean) = inr (λ c is. subst (λ (t : ℕ). AtMoment (MeansStart session level at old) mid t) end mean c (console_choice tells told mid new new.clock c works on_to (omega arith) is))
+
+    pub behind_still : StartsBehind session level at old new
+    behind_still = elim b.reached [ inl whole ↦ replied_before whole | inr end ↦ unreplied end ]
+
+  -- What a run has begun it has begun still.
+  pub begins_still : BeginsRun session old mid → BeginsRun session old new
+  begins_still (Unstarted leaves) = Unstarted (leaves_then old mid new since leaves gone (leaves_console tells mid new told works))
+  begins_still (Starting level at hears behind) = Starting level at (hears_still level at hears) (λ up durable. behind_still level at up (behind up durable))
+
+-- Numbers, lengths and the past are kept.
+pub keeps_still : (tells : Type 0) (stop : Stop) (session : List ℕ) (old mid new : PlantState) → KeepsPlant tells old mid → SaysLast tells (last_line stop) mid new → KeepsPlant tells old new
+keeps_still tells stop session old mid new keeps last = keeps_then tells old mid new keeps (keeps_console tells mid new last.front.only (λ told. says_grows (last_line stop) mid new (last.front.moments told)) keeps.home)

@@ -1,5 +1,7 @@
-pub mod WordLists
-pub mod Stops
-pub mod Answered
+pub mod Worded
+pub mod ScriptTexts
+pub mod Complete
+pub mod StatusLines
+pub mod Stopping
 pub mod Lasting
 pub mod Ending

@@ -1,3 +1,3 @@
 pub mod Words
-pub mod Sources
 pub mod Statuses
+pub mod Laws

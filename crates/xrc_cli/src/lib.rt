@@ -2,10 +2,12 @@
 #![tactic(auto)]
 
 mod command;
+mod laws;
 mod opening;
 mod run;
 mod words;
 
 pub use command::xrc;
+pub use laws::runs_are_complete;
 pub use opening::wanted;
 pub use words::Wanted;

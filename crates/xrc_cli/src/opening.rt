@@ -1,20 +1,20 @@
-ghost use Rattle.std.specs.Prelude.{◌≡◌, map, string_bytes, IsOk, IfOk};
-ghost use Rattle.xrc_cli.specs.Words.{recover_session, run_session, wanted_of};
+//! What has to be opened.
 
-use crate::words::{Wanted, recovered_session, session_of};
+ghost use Rattle.std.specs.Prelude.{◌≡◌, map, string_bytes, IsOk, IfOk};
+ghost use Rattle.xrc_cli.specs.Words.{asked_by_words, wanted_by};
+
+use crate::words::{Asked, Wanted, asked_in};
 use std::alloc::Global;
 use xrc_edge::NoMemory;
 
 /// What has to be opened for the words, which come without the program's name.
 pub fn wanted(_alloc: Global, words: &[String]) -> Result<Wanted, NoMemory>
     ensures answers { IsOk result }
-    ensures answer { IfOk result (λ wanted. wanted ≡ wanted_of (run_session (map string_bytes words.now)) (recover_session (map string_bytes words.now))) }
+    ensures answer { IfOk result (λ wanted. wanted ≡ wanted_by (asked_by_words (map string_bytes words.now))) }
 {
-    if session_of(words).is_some() {
-        return Ok(Wanted::Traces(1));
-    }
-    Ok(match recovered_session(words) {
-        Some(_) => Wanted::Devices,
+    Ok(match asked_in(words) {
+        Some(Asked::Run(_, storage)) => Wanted::Traces(storage),
+        Some(Asked::Recover(_)) => Wanted::Devices,
         None => Wanted::Nothing,
     })
 }

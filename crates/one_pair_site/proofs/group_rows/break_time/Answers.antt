@@ -1,9 +1,0 @@
-use Rattle.std.proofs.Common.{arith}
-use Rattle.one_pair_site.proofs.BreakTimes.{break_here, break_none}
-use Rattle.one_pair_site.proofs.group_rows.break_time.Goals as goal
-
-pub returns-then-found-control : goal.returns-then-found-control
-returns-then-found-control c = break_here c.args.formed.now c.args.control c.breaks-found-items.result.now c.loop-found.found-index c.breaks-found-items.ensures c.loop-found.invariant _ (omega arith) c.if-found-control.true
-
-pub returns : goal.returns
-returns c = break_none c.args.formed.now c.args.control c.breaks-found-items.result.now c.loop-found.found-index c.breaks-found-items.ensures c.loop-found.invariant (omega arith)

@@ -1,9 +1,0 @@
-pub mod Breaking
-pub mod Commanding
-pub mod Maturing
-pub mod Answering
-pub mod Bearing
-pub mod Waiting
-pub mod Naming
-pub mod Words
-pub mod Saying

@@ -1,4 +1,0 @@
-pub mod Asked
-pub mod Going
-pub mod Meaning
-pub mod Saying

@@ -1,0 +1,11 @@
+//! The laws of runs that end with a status.
+
+ghost use Rattle.xrc_cli.specs.Laws.{RunsAreComplete};
+
+use crash_plant::Plant;
+use xrc_edge::Source;
+
+/// A run in which nothing calls for a stop is done, but for want of memory and for numbers that are spent.
+pub fn runs_are_complete<S: Source, P: Plant>(old: &P, new: &P)
+    ensures { P.tells → RunsAreComplete P.tells P.state S.left S.faults old.now new.now }
+{}
