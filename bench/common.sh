@@ -36,8 +36,8 @@ find_mover() {
 
 # The program whose whole runs are measured.
 find_xrc() {
-    xrc=$repository/crates/xrc/out/xrc
-    [ -x "$xrc" ] || fail "build the program first, by examples/first-copy/run.sh"
+    find_program xrc
+    xrc=$program
 }
 
 # Goes to a new folder, which is removed when the benchmark ends or is stopped.

@@ -17,17 +17,21 @@ bytes() {
     done
 }
 
-# New devices for so many controllers: control, state, two journals, and so many volumes, 9 at most, of one cylinder each. Volume 0 has
-# the label SEC001, volume 1 SEC002, and so on.
+# New devices for so many controllers: control, state, two journals, and so many volumes, 9 at most, of one cylinder each. The program
+# gives volume 0 the label SEC001, volume 1 SEC002, and so on; what it says stands in the file labelled.
 new_devices() {
-    rm -f control state journal.* volume.*
+    rm -f control state journal.* volume.* labelled
     truncate -s 1024 control
     truncate -s 16384 state
     truncate -s $((8192 + $1 * 1818624)) journal.0 journal.1
     device=0
     while [ "$device" -lt "$2" ]; do
-        bytes "58 56 4F 4C 53 45 43 30 30 3$((device + 1)) 00 00 00 01" >"volume.$device"
         truncate -s 860672 "volume.$device"
+        device=$((device + 1))
+    done
+    device=0
+    while [ "$device" -lt "$2" ]; do
+        "$program" init "$device" "SEC00$((device + 1))" 1 >>labelled || fail "volume $device gets no label"
         device=$((device + 1))
     done
 }

@@ -1,6 +1,6 @@
 #!/bin/sh
-# Copies one volume in a temporary folder by two traces in turn, asks how far the pair is, shows what is said and what stands in the slots,
-# and checks both.
+# Labels a volume in a temporary folder and copies onto it by two traces in turn, asks how far the pair is, shows what is said and what
+# stands in the slots, and checks both.
 set -eu
 
 # shellcheck source=SCRIPTDIR/../common.sh
@@ -25,9 +25,15 @@ PAIR PRIM01 SEC001 DUPLEX
 0000000000000090 XEND OK T=0000000000000090
 WANTED
 
+# The volume of the new devices has one cylinder, and so 15 tracks.
+echo 'VOLUME 0 SEC001 TRACKS 15' >wanted_label
+
 # Copies by the trace that is there, onto new devices, and checks what is said.
 copy() {
     new_devices 1 1
+    echo "xrc init 0 SEC001 1 says:"
+    check_said labelled wanted_label
+    [ "$(volume_bytes 0 0 14)" = 58564f4c53454330303100000001 ] || fail "the label is another"
     status=0
     "$program" run ABC 1 <script >replies || status=$?
     echo "xrc run ABC 1 says:"

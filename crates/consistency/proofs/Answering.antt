@@ -13,10 +13,11 @@ use Rattle.pair_table.specs.Refusals.{refusal}
 use Rattle.pair_table.specs.Tables.{Table}
 use Rattle.row_changes.specs.Changes.{Timed}
 use Rattle.row_changes.specs.Toward.{AreCounted, hit_count}
+use Rattle.xrc_command.specs.declared.line.Line.{Line}
 use Rattle.consistency.specs.Bears.{Run, Stage, accepts, accepts_end, breaks_of, names_of}
 use Rattle.consistency.specs.Courses.{Answered, IsAnswered, stage_after}
 use Rattle.consistency.specs.Replies.{IsReply}
-use Rattle.consistency.specs.Steps.{TimedCommand, commanded, is_active, names_at, table_after_line, table_on_the_way}
+use Rattle.consistency.specs.Steps.{commanded, is_active, names_at, table_after_line, table_on_the_way}
 use Rattle.consistency.specs.Answering.{answered_by, is_command_of, points_before, reply_content, tracks_of_command}
 use Rattle.consistency.specs.Leads.{LeadsWhole, Point}
 use Rattle.consistency.specs.Ways.{IsCommanding, IsEnding, IsLegOf, Leg, PassedPoint, TakesEffect, Way, going_on, hits_through, leg_by, table_at, stage_point}
@@ -33,16 +34,16 @@ never_twice true same a b c rest = refl
 never_twice false true a b c rest = refl
 never_twice false false a b c rest = refl
 
-not_started_twice : (run : Run) (p : Point) (line : TimedCommand) (level : Level) → line.command ≡ Start level → accepts run (table_at run p) line ≡ false
+not_started_twice : (run : Run) (p : Point) (line : Line) (level : Level) → line.command ≡ Start level → accepts run (table_at run p) line ≡ false
 not_started_twice run p line level is =
     ap (λ (c : Command). accepts run (table_at run p) (record line { command = c })) is
     ∙ never_twice p.is_ended (bytes_eq line.session run.session) Ended NoSession SessionExists None
 
-pub content_as_accepted : (run : Run) (s : Stage) (first : Point) (points : List PassedPoint) (number : ℕ) (text reply : List ℕ) (line : TimedCommand) (changes hits : List Timed)
+pub content_as_accepted : (run : Run) (s : Stage) (first : Point) (points : List PassedPoint) (number : ℕ) (text reply : List ℕ) (line : Line) (changes hits : List Timed)
     → is_ok (reply_content run s first points number (answered_by run s text reply line changes hits)).answer ≡ accepts run (table_on_the_way run.level changes s.table) line
 content_as_accepted run s first points number text reply line changes hits =
     let table = table_on_the_way run.level changes s.table in
-    let names = names_at line.time (breaks_of run) (names_of run) in
+    let names = names_at line.time.0 (breaks_of run) (names_of run) in
     by_refusal (change_of names line.command table.rows) (refusal names table line.session line.command)
   where
     by_refusal : (change : Change) (o : Option Refusal) → is_ok (answer_by o change) ≡ is_none o
@@ -63,11 +64,11 @@ pub told_before : (run : Run) (s : Stage) (first : Point) (xs ys : List PassedPo
     → reply_content run s first (xs ++ n ∷ ys) number a ≡ reply_content run s first xs number a
 told_before run s first xs ys n number hits a is =
     let table = table_on_the_way run.level a.changes s.table in
-    ap (λ (points : List PassedPoint). record (reply_content run s first xs number a) { tracks = tracks_of_command run first points table.rows a.line.time a.line.command }) (points_cut number xs ys n (is_of_line n.way number hits is))
+    ap (λ (points : List PassedPoint). record (reply_content run s first xs number a) { tracks = tracks_of_command run first points table.rows a.line.time.0 a.line.command }) (points_cut number xs ys n (is_of_line n.way number hits is))
 
 -- ---- a line of a session that goes on
 
-module _ (run : Run) (s : Stage) (goes : s.table.is_ended ≡ false) (l : Leg) (leg : IsLegOf run s l) (line : TimedCommand) (q : Point) (hits : List Timed) (effect : TakesEffect run line l q hits) (text reply : List ℕ) where
+module _ (run : Run) (s : Stage) (goes : s.table.is_ended ≡ false) (l : Leg) (leg : IsLegOf run s l) (line : Line) (q : Point) (hits : List Timed) (effect : TakesEffect run line l q hits) (text reply : List ℕ) where
   abbrev table_then : Table
   table_then = table_after_line run.level (breaks_of run) (names_of run) s.table line l.changes hits
 
@@ -84,7 +85,7 @@ module _ (run : Run) (s : Stage) (goes : s.table.is_ended ≡ false) (l : Leg) (
       differ false on off = cc
 
   -- The session stays started, under its name.
-  named : (b : Bool) → (let y : Table = table_on_the_way run.level hits (if b then accepted (names_at line.time (breaks_of run) (names_of run)) line.time line.command (table_at run l.point) else table_at run l.point) in
+  named : (b : Bool) → (let y : Table = table_on_the_way run.level hits (if b then accepted (names_at line.time.0 (breaks_of run) (names_of run)) line.time.0 line.command (table_at run l.point) else table_at run l.point) in
       y ≡ record { session = run.session; is_started = true; is_ended = y.is_ended; rows = y.rows })
   named true = refl
   named false = refl
@@ -93,7 +94,7 @@ module _ (run : Run) (s : Stage) (goes : s.table.is_ended ≡ false) (l : Leg) (
   table_named =
       subst (λ (x : Table). let y : Table = table_on_the_way run.level hits (commanded (breaks_of run) (names_of run) x line) in y ≡ record { session = run.session; is_started = true; is_ended = y.is_ended; rows = y.rows })
       (table_there run s goes l leg line q hits effect)
-      (named (is_none (refusal (names_at line.time (breaks_of run) (names_of run)) (table_at run l.point) line.session line.command)))
+      (named (is_none (refusal (names_at line.time.0 (breaks_of run) (names_of run)) (table_at run l.point) line.session line.command)))
 
   -- The next leg begins at the point, with the flag that the line leaves.
   abbrev leg_from : Point → (answered : ℕ) → (hit_before : (device : ℕ) → ℕ) → Leg
@@ -108,8 +109,8 @@ module _ (run : Run) (s : Stage) (goes : s.table.is_ended ≡ false) (l : Leg) (
     whole = subst (λ (p : Point). LeadsWhole run.level (breaks_of run) p (record q { is_ended = flag }) []) there (whole_itself run.level (breaks_of run) (record q { is_ended = flag }));
   }
     where
-      at_reply : q.time ≡ (if s.table.is_ended then s.replied else line.time)
-      at_reply = subst (λ (e : Bool). q.time ≡ (if e then s.replied else line.time)) (sym goes) (ends_there run s goes l leg line q hits effect)
+      at_reply : q.time ≡ (if s.table.is_ended then s.replied else line.time.0)
+      at_reply = subst (λ (e : Bool). q.time ≡ (if e then s.replied else line.time.0)) (sym goes) (ends_there run s goes l leg line q hits effect)
 
       there : (let x : Point = record q { is_ended = flag } in x ≡ stage_point (stage_after s (answered_by run s text reply line l.changes hits)))
       there =
@@ -121,7 +122,7 @@ module _ (run : Run) (s : Stage) (goes : s.table.is_ended ≡ false) (l : Leg) (
           }
 
   -- A line that is no accepted end leaves it going on.
-  goes_by : (b e : Bool) → is_end line.command ≡ e → (let ends : Bool = elim e [ true ↦ b | false ↦ false ] in ends ≡ false) → (if b then accepted (names_at line.time (breaks_of run) (names_of run)) line.time line.command (table_at run l.point) else table_at run l.point).is_ended ≡ false
+  goes_by : (b e : Bool) → is_end line.command ≡ e → (let ends : Bool = elim e [ true ↦ b | false ↦ false ] in ends ≡ false) → (if b then accepted (names_at line.time.0 (breaks_of run) (names_of run)) line.time.0 line.command (table_at run l.point) else table_at run l.point).is_ended ≡ false
   goes_by true false is none = is
   goes_by true true is none = absurd cc
   goes_by false e is none = leg_goes run s goes l leg
@@ -129,7 +130,7 @@ module _ (run : Run) (s : Stage) (goes : s.table.is_ended ≡ false) (l : Leg) (
   pub goes_still : accepts_end run (table_at run l.point) (Some line) ≡ false → table_then.is_ended ≡ q.is_ended
   goes_still is =
       subst (λ (x : Table). (commanded (breaks_of run) (names_of run) x line).is_ended ≡ false) (table_there run s goes l leg line q hits effect)
-      (goes_by (is_none (refusal (names_at line.time (breaks_of run) (names_of run)) (table_at run l.point) line.session line.command)) (is_end line.command) refl is)
+      (goes_by (is_none (refusal (names_at line.time.0 (breaks_of run) (names_of run)) (table_at run l.point) line.session line.command)) (is_end line.command) refl is)
       ∙ sym (effect.leads.leads.goes_on ∙ leg_goes run s goes l leg)
 
   -- A line that ends it, and is accepted, leaves it ended.
@@ -143,7 +144,7 @@ module _ (run : Run) (s : Stage) (goes : s.table.is_ended ≡ false) (l : Leg) (
       by_end false is holds = absurd cc
 
 -- A line is answered where the session isn't active: before its start, and once it has ended.
-pub inactive_is_answered : (run : Run) (s : Stage) (text reply : List ℕ) (line : TimedCommand) → is_active s.table ≡ false → AreCounted run.rises s.past → ((level : Level) → line.command ≡ Start level → accepts run s.table line ≡ true → level ≡ run.level)
+pub inactive_is_answered : (run : Run) (s : Stage) (text reply : List ℕ) (line : Line) → is_active s.table ≡ false → AreCounted run.rises s.past → ((level : Level) → line.command ≡ Start level → accepts run s.table line ≡ true → level ≡ run.level)
     → IsReply (accepts run s.table line) line reply → IsAnswered run s (answered_by run s text reply line [] [])
 inactive_is_answered run s text reply line off counted level said = record {
   step = record { active = λ on. absurd (differ (is_active s.table) on off); still = λ still. (refl, refl); made = refl };
@@ -166,14 +167,14 @@ module _ (run : Run) (s : Stage) (goes : s.table.is_ended ≡ false) (l : Leg) (
   leg_behind_command number none =
       let effect = c.active (leg_goes run s goes l leg) in
       next_leg run s goes l leg c.line q hits effect text reply (suc l.answered) (hits_through l hits) q.is_ended (counted_through run s l leg hits)
-      (goes_still run s goes l leg c.line q hits effect text reply (subst (λ (o : Option TimedCommand). accepts_end run (table_at run l.point) o ≡ false) c.heard none))
+      (goes_still run s goes l leg c.line q hits effect text reply (subst (λ (o : Option Line). accepts_end run (table_at run l.point) o ≡ false) c.heard none))
 
   pub leg_behind_end : (r : Point) (more : List Timed) (number : ℕ) → IsEnding run s.next q r more
       → IsLegOf run (stage_after s (answered_by run s text reply c.line l.changes (hits ++ more))) (leg_by (leg_by l q (Commanded number hits)) r (Ending number more))
   leg_behind_end r more number ending =
       let effect = c.active (leg_goes run s goes l leg) in
       let whole = effect_is_hit run s goes c.line l q (going_on r) hits more effect ending.leads in
-      let alike = ends_alike run q l.point (Some c.line) effect.leads.leads.goes_on (subst (λ (o : Option TimedCommand). accepts_end run (table_at run q) o ≡ true) c.heard ending.accepted) in
+      let alike = ends_alike run q l.point (Some c.line) effect.leads.leads.goes_on (subst (λ (o : Option Line). accepts_end run (table_at run q) o ≡ true) c.heard ending.accepted) in
       let before = hits_through (leg_by l q (Commanded number hits)) more in
       subst (λ (e : Bool). IsLegOf run (stage_after s (answered_by run s text reply c.line l.changes (hits ++ more))) (record { point = record r { is_ended = e }; replied = r.time; changes = []; marked = []; answered = suc l.answered; hit_before = before }))
       (sym ending.ended)

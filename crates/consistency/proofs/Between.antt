@@ -20,11 +20,12 @@ use Rattle.site_means.specs.declared.means.Means.{Means}
 use Rattle.site_means.specs.Images.{Shape, shape_of}
 use Rattle.site_means.specs.Sight.{means_of}
 use Rattle.site_means.proofs.Goes.{shape_same}
+use Rattle.xrc_command.specs.declared.line.Line.{Line}
 use Rattle.consistency.specs.Bears.{AreAfterLine, AreOnTheWay, Run, Stage, breaks_of, names_of}
 use Rattle.consistency.specs.Courses.{Answered, IsAnswered, last_line_time, replies_of, stage_after, stage_at, texts_of}
 use Rattle.consistency.specs.Keeping.{stage_now}
 use Rattle.consistency.specs.Moments.{AreUpTo, BearsThroughout, BearsTime, MeansTable}
-use Rattle.consistency.specs.Steps.{TimedCommand, names_at, table_on_the_way}
+use Rattle.consistency.specs.Steps.{names_at, table_on_the_way}
 use Rattle.consistency.specs.Times.{times_said}
 use Rattle.consistency.proofs.Keeping.{keeps_begins, keeps_says, keeps_says_throughout, keeps_works, stage_answered}
 use Rattle.consistency.proofs.Lines.{asked_more, at_or_last, course_more, next_not_before, replied_by_last, replies_more, replies_whole, stage_front, stage_more, texts_more}
@@ -41,9 +42,9 @@ use Rattle.consistency.proofs.Leading.{leads_toward, whole_itself}
 use Rattle.consistency.proofs.Replying.{exact_says_up_to}
 
 -- A run that has made no call yet goes on.
-pub runs_begin : (plant : PlantState) (run : Run) (grammar : List ℕ → Option TimedCommand) → RunGoesOn run grammar [] [] plant plant
-runs_begin plant run grammar =
-    let begun = keeps_begins run grammar plant in
+pub runs_begin : (plant : PlantState) (run : Run) → RunGoesOn run [] [] plant plant
+runs_begin plant run =
+    let begun = keeps_begins run plant in
     record {
       now = record {
         course = begun.course;
@@ -71,7 +72,7 @@ up_to_later early late times le all = All-weaker (λ z. z ≤ early) (λ z. z �
 module _ (old new : PlantState) (site : SameSite old new) (elapses : Elapses old new) (run : Run) where
   module _ (up : 0 < old.clock) where
     -- Points that were passed stay passed.
-    passed_stay : (asked : ℕ → Option TimedCommand) (first : Leg) (points : List PassedPoint) (to : ℕ) → to ≤ old.clock → HasPassed run asked first points old to → HasPassed run asked first points new to
+    passed_stay : (asked : ℕ → Option Line) (first : Leg) (points : List PassedPoint) (to : ℕ) → to ≤ old.clock → HasPassed run asked first points old to → HasPassed run asked first points new to
     passed_stay asked first points to le passed = record {
       rowless = passed.rowless;
       from = passed.from;
@@ -117,9 +118,9 @@ exact_more run began plant lines a all one n b at = elim (at_or_last lines a n b
 
 -- ---- works
 
-pub works_go_on : (first old new : PlantState) (run : Run) (grammar : List ℕ → Option TimedCommand) (lines : List Answered) (text : List ℕ) → RunGoesOn run grammar lines text first old → SameSite old new → Elapses old new → Silent old new
-    → ((stage_now run grammar first.script lines text).table.is_started ≡ true → AtEveryMoment (ShowsMeant run (stage_now run grammar first.script lines text) new) old new) → RunGoesOn run grammar lines text first new
-works_go_on first old new run grammar lines text goes site elapses silent means = record {
+pub works_go_on : (first old new : PlantState) (run : Run) (lines : List Answered) (text : List ℕ) → RunGoesOn run lines text first old → SameSite old new → Elapses old new → Silent old new
+    → ((stage_now run first.script lines text).table.is_started ≡ true → AtEveryMoment (ShowsMeant run (stage_now run first.script lines text) new) old new) → RunGoesOn run lines text first new
+works_go_on first old new run lines text goes site elapses silent means = record {
   now = record {
     course = goes.now.course;
     asked = goes.now.asked;
@@ -134,27 +135,27 @@ works_go_on first old new run grammar lines text goes site elapses silent means 
     short = goes.now.short;
   };
   exact = λ n a at. exact_stays old new site elapses run first.clock goes.now.later (stage_at run lines n) (take n lines) a (goes.exact n a at);
-  keeps = λ up. keeps_works run grammar lines text first old new up (goes.keeps up) site elapses silent (λ started t since to c is. bears c (means started t since to c is));
+  keeps = λ up. keeps_works run lines text first old new up (goes.keeps up) site elapses silent (λ started t since to c is. bears c (means started t since to c is));
 }
   where
     later : old.clock ≤ new.clock
     later = (elapses.kept Control).later
 
-    bears : (c : Choice) → ShowsMeant run (stage_now run grammar first.script lines text) new c → BearsTime run (stage_now run grammar first.script lines text) (replies_of lines) new c
+    bears : (c : Choice) → ShowsMeant run (stage_now run first.script lines text) new c → BearsTime run (stage_now run first.script lines text) (replies_of lines) new c
     bears c shown = record {
       time = shown.0.time;
-      bears = points_bear run (stage_now run grammar first.script lines text) (shape_of new) shown.0 c shown.2 shown.1;
+      bears = points_bear run (stage_now run first.script lines text) (shape_of new) shown.0 c shown.2 shown.1;
       not_earlier = up_to_later (stage_at run lines (length lines)).replied shown.0.time (times_said (replies_of lines)) shown.1.in_time.0 goes.now.times;
     }
 
-pub passages_go_on : (first old new : PlantState) (run : Run) (grammar : List ℕ → Option TimedCommand) (lines : List Answered) (text : List ℕ) (p : Point) (points : List PassedPoint) (next : Option Point) → RunGoesOn run grammar lines text first old
+pub passages_go_on : (first old new : PlantState) (run : Run) (lines : List Answered) (text : List ℕ) (p : Point) (points : List PassedPoint) (next : Option Point) → RunGoesOn run lines text first old
     → SameSite old new → Elapses old new → Silent old new
-    → (let s = stage_now run grammar first.script lines text in s.table.is_started ≡ true → GoesThroughPoints run new old.clock p points new.clock next × MayBeMeant run s p × All (λ n. MayBeMeant run s n.point) points × IfSome next (MayBeMeant run s))
-    → RunGoesOn run grammar lines text first new
-passages_go_on first old new run grammar lines text p points next goes site elapses silent passed =
-    works_go_on first old new run grammar lines text goes site elapses silent (λ started t since to c is.
+    → (let s = stage_now run first.script lines text in s.table.is_started ≡ true → GoesThroughPoints run new old.clock p points new.clock next × MayBeMeant run s p × All (λ n. MayBeMeant run s n.point) points × IfSome next (MayBeMeant run s))
+    → RunGoesOn run lines text first new
+passages_go_on first old new run lines text p points next goes site elapses silent passed =
+    works_go_on first old new run lines text goes site elapses silent (λ started t since to c is.
     let way = passed started in
-    all_shown Point Way Choice (IsChoice new) (ShowsPoint run (shape_of new)) (MayBeMeant run (stage_now run grammar first.script lines text)) old.clock new.clock p points next way.1 way.2 way.3 way.0 t since to c is)
+    all_shown Point Way Choice (IsChoice new) (ShowsPoint run (shape_of new)) (MayBeMeant run (stage_now run first.script lines text)) old.clock new.clock p points next way.1 way.2 way.3 way.0 t since to c is)
 
 -- ---- a stage's own point
 
@@ -162,7 +163,7 @@ passages_go_on first old new run grammar lines text p points next goes site elap
 pub stages_are_points : (run : Run) (s : Stage) → s.next ≡ None → AreCounted run.rises s.past → MayBeMeant run s (stage_point s)
 stages_are_points run s none counted = record { ended = inr refl; in_time = (omega arith, timed s.next none); rows = rested s.table.is_ended }
   where
-    timed : (n : Option TimedCommand) → n ≡ None → (let T : Type 0 = elim n [ None ↦ s.replied ≡ s.replied | Some line ↦ elim s.table.is_ended [ true ↦ s.replied ≡ s.replied | false ↦ s.replied ≤ line.time ] ] in T)
+    timed : (n : Option Line) → n ≡ None → (let T : Type 0 = elim n [ None ↦ s.replied ≡ s.replied | Some line ↦ elim s.table.is_ended [ true ↦ s.replied ≡ s.replied | false ↦ s.replied ≤ line.time.0 ] ] in T)
     timed None is = refl
     timed (Some line) is = absurd cc
 
@@ -180,10 +181,10 @@ stages_are_points run s none counted = record { ended = inr refl; in_time = (ome
 
 -- ---- replies
 
-module _ (run : Run) (grammar : List ℕ → Option TimedCommand) (lines : List Answered) (from : Leg) (points : List PassedPoint) (a : Answered) (first old new : PlantState) (goes : RunGoesOn run grammar lines a.text first old)
-    (reply : MayReply run (stage_now run grammar first.script lines a.text) lines from points a old) (tells : Type 0) (told : tells) (works : WorksOnConsole tells old new) (says : Says a.reply old new) where
+module _ (run : Run) (lines : List Answered) (from : Leg) (points : List PassedPoint) (a : Answered) (first old new : PlantState) (goes : RunGoesOn run lines a.text first old)
+    (reply : MayReply run (stage_now run first.script lines a.text) lines from points a old) (tells : Type 0) (told : tells) (works : WorksOnConsole tells old new) (says : Says a.reply old new) where
   abbrev s : Stage
-  s = stage_now run grammar first.script lines a.text
+  s = stage_now run first.script lines a.text
 
   abbrev before : Stage
   before = stage_at run lines (length lines)
@@ -197,18 +198,18 @@ module _ (run : Run) (grammar : List ℕ → Option TimedCommand) (lines : List 
   -- The time of the session doesn't fall.
   rises : before.replied ≤ behind.replied
   rises =
-      let later = next_not_before grammar (length lines) (last_line_time lines (length lines)) (length (texts_of lines ++ a.text) == length first.script) a.text a.line reply.asks in
-      let last = replied_by_last run grammar first.script lines (length lines) goes.now.asked (omega arith) in
+      let later = next_not_before (length lines) (last_line_time lines (length lines)) (length (texts_of lines ++ a.text) == length first.script) a.text a.line reply.asks in
+      let last = replied_by_last run first.script lines (length lines) goes.now.asked (omega arith) in
       by_end before.table.is_ended (omega (arith, later, last))
     where
-      by_end : (e : Bool) → before.replied ≤ a.line.time → before.replied ≤ (if e then before.replied else a.line.time)
+      by_end : (e : Bool) → before.replied ≤ a.line.time.0 → before.replied ≤ (if e then before.replied else a.line.time.0)
       by_end true le = omega arith
       by_end false le = le
 
   short_behind : behind.replied < 2 ^ 64
   short_behind = by_end before.table.is_ended
     where
-      by_end : (e : Bool) → (if e then before.replied else a.line.time) < 2 ^ 64
+      by_end : (e : Bool) → (if e then before.replied else a.line.time.0) < 2 ^ 64
       by_end true = goes.now.short
       by_end false = reply.short
 
@@ -223,8 +224,8 @@ module _ (run : Run) (grammar : List ℕ → Option TimedCommand) (lines : List 
   stays_started : before.table.is_started ≡ true → a.table.is_started ≡ true
   stays_started started =
       let table = table_on_the_way run.level a.changes before.table in
-      let names = names_at a.line.time (breaks_of run) (names_of run) in
-      ap (λ (t : Table). t.is_started) answered.step.made ∙ by_refusal (is_none (refusal names table a.line.session a.line.command)) (accepted names a.line.time a.line.command table) table refl started
+      let names = names_at a.line.time.0 (breaks_of run) (names_of run) in
+      ap (λ (t : Table). t.is_started) answered.step.made ∙ by_refusal (is_none (refusal names table a.line.session a.line.command)) (accepted names a.line.time.0 a.line.command table) table refl started
     where
       by_refusal : (b : Bool) (x y : Table) → x.is_started ≡ true → y.is_started ≡ true → (if b then x else y).is_started ≡ true
       by_refusal true x y one two = one
@@ -261,8 +262,8 @@ module _ (run : Run) (grammar : List ℕ → Option TimedCommand) (lines : List 
   exact_all n b at = exact_stays old new works.site (works.elapses told) run first.clock goes.now.later (stage_at run all n) (take n all) b (exact_more run first.clock old lines a goes.exact exact_now n b at)
 
   -- On a plant that keeps its past each moment bears, whether the reply is said whole or in part.
-  pub replies_fail : 0 < first.clock → BearsThroughout run grammar all first new
-  replies_fail up = keeps_says_throughout run grammar lines a.text first old new up (goes.keeps up) tells told works a says refl answered reply.asks during after mean
+  pub replies_fail : 0 < first.clock → BearsThroughout run all first new
+  replies_fail up = keeps_says_throughout run lines a.text first old new up (goes.keeps up) tells told works a says refl answered reply.asks during after mean
 
   reaches : old.clock ≤ new.clock
   reaches = ((works.elapses told).kept Control).later
@@ -272,20 +273,20 @@ module _ (run : Run) (grammar : List ℕ → Option TimedCommand) (lines : List 
   texts_all = sym (texts_more lines a) ∙ sym (append-nil (texts_of all))
 
   -- Behind the reply each choice bears a time at the stage behind the line.
-  bears_now : (stage_now run grammar first.script all []).table.is_started ≡ true → (c : Choice) → IsChoice new new.clock c → BearsTime run (stage_now run grammar first.script all []) (replies_of all) new c
+  bears_now : (stage_now run first.script all []).table.is_started ≡ true → (c : Choice) → IsChoice new new.clock c → BearsTime run (stage_now run first.script all []) (replies_of all) new c
   bears_now started c is =
-      let next_is = stage_answered run grammar first.script lines a in
+      let next_is = stage_answered run first.script lines a in
       let left = console_choice tells told old new new.clock c works reaches (omega arith) is in
-      bears_on run (stage_now run grammar first.script all []) (replies_of all) old new c works.site
+      bears_on run (stage_now run first.script all []) (replies_of all) old new c works.site
       (subst (λ (x : Stage). BearsTime run x (replies_of all) old c) (sym next_is)
       (subst (λ (l : List ℕ). BearsTime run behind l old c) (sym (replies_more lines a)) (after (subst (λ (x : Stage). x.table.is_started ≡ true) next_is started) c left)))
 
   -- Once it was said whole, the run goes on with one line more.
-  pub replies_go_on : new.said new.clock ≡ old.said old.clock ++ a.reply → RunGoesOn run grammar all [] first new
+  pub replies_go_on : new.said new.clock ≡ old.said old.clock ++ a.reply → RunGoesOn run all [] first new
   replies_go_on whole = record {
     now = record {
       course = course_more run lines a goes.now.course answered;
-      asked = asked_more grammar first.script lines a goes.now.asked (record { asks = reply.asks; one_line = goes.now.one_line });
+      asked = asked_more first.script lines a goes.now.asked (record { asks = reply.asks; one_line = goes.now.one_line });
       later = omega (arith, goes.now.later, reaches);
       site = site_trans first old new goes.now.site works.site;
       heard = says.heard new.clock reaches (omega arith) ∙ goes.now.heard ∙ ap (λ (l : List ℕ). first.heard first.clock ++ l) texts_all;
@@ -297,5 +298,5 @@ module _ (run : Run) (grammar : List ℕ → Option TimedCommand) (lines : List 
       short = subst (λ (x : Stage). x.replied < 2 ^ 64) (sym (stage_more run lines a)) short_behind;
     };
     exact = exact_all;
-    keeps = λ up. keeps_says run grammar lines a.text first old new up (goes.keeps up) tells told works a says refl answered reply.asks during after mean whole;
+    keeps = λ up. keeps_says run lines a.text first old new up (goes.keeps up) tells told works a says refl answered reply.asks during after mean whole;
   }

@@ -6,8 +6,8 @@ use Rattle.std.proofs.lemmas.Bool.{and_parts}
 use Rattle.std.proofs.lemmas.List.Elements.{All-cons, All-head, All-nil, All-tail}
 use Rattle.pair_table.specs.Tables.{Table}
 use Rattle.row_changes.specs.Changes.{Timed}
+use Rattle.xrc_command.specs.declared.line.Line.{Line}
 use Rattle.consistency.specs.Bears.{IsFlag, Run, Stage, accepts_end}
-use Rattle.consistency.specs.Steps.{TimedCommand}
 use Rattle.consistency.specs.Bearing.{IsFlagInTime, MayBeMeant, MayBeMeantInTime}
 use Rattle.consistency.specs.Leads.{Point}
 use Rattle.passages.specs.Points.{AreLinked}
@@ -29,7 +29,7 @@ module _ (run : Run) (s : Stage) (goes : s.table.is_ended ≡ false) where
   pub leg_in_time : (l : Leg) → IsLegOf run s l → MayBeMeant run s l.point → MayBeMeantInTime run s l.point
   leg_in_time l leg may = going_flag l.point (leg_goes run s goes l leg) may
 
-  pub ways_in_time : (asked : ℕ → Option TimedCommand) (l : Leg) (points : List PassedPoint) → IsLegOf run s l → list_all is_on_the_way points ≡ true → AreLinked (ComesNext run asked) leg_after l points
+  pub ways_in_time : (asked : ℕ → Option Line) (l : Leg) (points : List PassedPoint) → IsLegOf run s l → list_all is_on_the_way points ≡ true → AreLinked (ComesNext run asked) leg_after l points
       → All (λ n. MayBeMeant run s n.point) points → All (λ n. MayBeMeantInTime run s n.point) points
   ways_in_time asked l [] leg on linked may = All-nil (λ (n : PassedPoint). MayBeMeantInTime run s n.point)
   ways_in_time asked l (n ∷ points) leg on linked may =
@@ -53,6 +53,6 @@ module _ (run : Run) (s : Stage) (goes : s.table.is_ended ≡ false) where
       let accepted = subst (λ (x : Table). accepts_end run x s.next ≡ true) (sym leg.table) (ends_alike run q (stage_point s) s.next not_ended ending.accepted) in
       record { may = may; flag = inr (accepted, ending.ended, at_line s.next ending.at) }
     where
-      at_line : (o : Option TimedCommand) → IfSome o (λ line. q.time ≡ line.time) → IfSome o (λ line. r.time ≡ line.time)
+      at_line : (o : Option Line) → IfSome o (λ line. q.time ≡ line.time.0) → IfSome o (λ line. r.time ≡ line.time.0)
       at_line None at = tt
       at_line (Some line) at = ending.leads.at ∙ at

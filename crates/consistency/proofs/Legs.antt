@@ -2,6 +2,7 @@
 use Rattle.std.proofs.Common.{◌≡◌, ◌⊎◌, inl, inr, ℕ, ◌≤◌, Bool, true, false, not, ◌&&◌, List, ◌++◌, Option, Some, None, refl, sym, ap, subst, ◌∙◌, append_assoc, arith}
 use Rattle.std.specs.Prelude.{is_none}
 use Rattle.std.specs.List.{list_all}
+use Rattle.tod_stamp.specs.declared.stamp.Stamp.{Stamp}
 use Rattle.pair_table.specs.declared.command.Command.{Command}
 use Rattle.pair_table.specs.declared.command.Command.TheVariants.{Start, AddPair, DelPair, Suspend, Query, End}
 use Rattle.pair_table.specs.declared.row.PairRow.{PairRow}
@@ -9,8 +10,9 @@ use Rattle.pair_table.specs.Tables.{Table}
 use Rattle.row_changes.specs.Changes.{Due, Timed, after_changes, may_all_come, may_end}
 use Rattle.row_changes.specs.Changes.Due.{NoneDue}
 use Rattle.row_changes.specs.Toward.{AreCounted, Toward, all_broke, is_hit_at, is_settled}
+use Rattle.xrc_command.specs.declared.line.Line.{Line}
 use Rattle.consistency.specs.Bears.{AreAfterLine, AreOnTheWay, IsTime, Run, Stage, accepts_end, breaks_of, names_of}
-use Rattle.consistency.specs.Steps.{IsCommanded, IsLineStep, TimedCommand, commanded, is_active, table_after_line, table_on_the_way}
+use Rattle.consistency.specs.Steps.{IsCommanded, IsLineStep, commanded, is_active, table_after_line, table_on_the_way}
 use Rattle.consistency.specs.Bearing.{MayBeMeant}
 use Rattle.consistency.specs.Leads.{HitsLead, Point, may_rest}
 use Rattle.consistency.specs.Ways.{IsCommanding, IsEnding, IsLegOf, IsMarking, IsOnTheWay, Leg, TakesEffect, commanded_point, going_on, leg_at, leg_by, leg_to, table_at, stage_point}
@@ -47,7 +49,7 @@ leg_is_marked run s l q number hits leg = record { table = leg.table; replied = 
 -- ---- the end
 
 -- An end is accepted alike with any rows.
-end_alike : (run : Run) (p q : Point) (c : Command) (time : ℕ) (session : List ℕ) → p.is_ended ≡ q.is_ended → accepts_end run (table_at run p) (Some (record { time = time; session = session; command = c })) ≡ true
+end_alike : (run : Run) (p q : Point) (c : Command) (time : Stamp) (session : List ℕ) → p.is_ended ≡ q.is_ended → accepts_end run (table_at run p) (Some (record { time = time; session = session; command = c })) ≡ true
     → accepts_end run (table_at run q) (Some (record { time = time; session = session; command = c })) ≡ true
 end_alike run p q End time session same accepted = subst (λ (e : Bool). accepts_end run (table_at run (record q { is_ended = e })) (Some (record { time = time; session = session; command = End })) ≡ true) same accepted
 end_alike run p q (Start level) time session same accepted = absurd cc
@@ -56,7 +58,7 @@ end_alike run p q (DelPair choice) time session same accepted = absurd cc
 end_alike run p q (Suspend choice) time session same accepted = absurd cc
 end_alike run p q Query time session same accepted = absurd cc
 
-pub ends_alike : (run : Run) (p q : Point) (next : Option TimedCommand) → p.is_ended ≡ q.is_ended → accepts_end run (table_at run p) next ≡ true → accepts_end run (table_at run q) next ≡ true
+pub ends_alike : (run : Run) (p q : Point) (next : Option Line) → p.is_ended ≡ q.is_ended → accepts_end run (table_at run p) next ≡ true → accepts_end run (table_at run q) next ≡ true
 ends_alike run p q None same accepted = absurd cc
 ends_alike run p q (Some line) same accepted = end_alike run p q line.command line.time line.session same accepted
 
@@ -81,7 +83,7 @@ module _ (run : Run) (s : Stage) (goes : s.table.is_ended ≡ false) where
 
   -- ---- a command
 
-  module _ (l : Leg) (leg : IsLegOf run s l) (line : TimedCommand) (q : Point) (hits : List Timed) (effect : TakesEffect run line l q hits) where
+  module _ (l : Leg) (leg : IsLegOf run s l) (line : Line) (q : Point) (hits : List Timed) (effect : TakesEffect run line l q hits) where
     -- The table that the command finds is the one on the way.
     pub table_there : table_at run l.point ≡ table_on_the_way run.level l.changes s.table
     table_there =
@@ -99,7 +101,7 @@ module _ (run : Run) (s : Stage) (goes : s.table.is_ended ≡ false) where
     hits_come = comes_all run.level (breaks_of run) false l.point.due q.due l.point.time q.time (commanded_point run line l.point).rows hits
         (subst (λ (d : Due). may_end false q.time d ≡ true) (sym at_end) refl) effect.leads.leads.may_come
 
-    pub ends_there : q.time ≡ line.time
+    pub ends_there : q.time ≡ line.time.0
     ends_there = effect.leads.at ∙ effect.may.at
 
     pub is_commanded : IsCommanded run.level (breaks_of run) (names_of run) s.replied s.table line l.changes hits
@@ -110,8 +112,8 @@ module _ (run : Run) (s : Stage) (goes : s.table.is_ended ≡ false) where
       settled = subst (λ (r : List PairRow). list_all (λ r. is_settled r.state) r ≡ true) leg.whole.leads.rows effect.may.settled;
       are_hits = subst (λ (n : ℕ). list_all (is_hit_at n) hits ≡ true) effect.may.at effect.leads.are_hits;
       may_come =
-          subst (λ (x : Table). may_all_come run.level (breaks_of run) false NoneDue line.time line.time (commanded (breaks_of run) (names_of run) x line).rows hits ≡ true) table_there
-          (subst (λ (n : ℕ). may_all_come run.level (breaks_of run) false NoneDue n line.time (commanded_point run line l.point).rows hits ≡ true) effect.may.at
+          subst (λ (x : Table). may_all_come run.level (breaks_of run) false NoneDue line.time.0 line.time.0 (commanded (breaks_of run) (names_of run) x line).rows hits ≡ true) table_there
+          (subst (λ (n : ℕ). may_all_come run.level (breaks_of run) false NoneDue n line.time.0 (commanded_point run line l.point).rows hits ≡ true) effect.may.at
           (subst (λ (n : ℕ). may_all_come run.level (breaks_of run) false NoneDue l.point.time n (commanded_point run line l.point).rows hits ≡ true) ends_there
           (subst (λ (d : Due). may_all_come run.level (breaks_of run) false d l.point.time q.time (commanded_point run line l.point).rows hits ≡ true) effect.may.none_due hits_come)));
     }
@@ -126,11 +128,11 @@ module _ (run : Run) (s : Stage) (goes : s.table.is_ended ≡ false) where
     pub in_time_there : s.next ≡ Some line → IsTime s q.time
     in_time_there heard = (omega (arith, leads_rise run.level (breaks_of run) (stage_point s) l.point l.changes leg.whole.leads, effect.leads.at), timed s.next heard)
       where
-        timed : (n : Option TimedCommand) → n ≡ Some line → (let T : Type 0 = elim n [ None ↦ q.time ≡ s.replied | Some m ↦ elim s.table.is_ended [ true ↦ q.time ≡ s.replied | false ↦ q.time ≤ m.time ] ] in T)
+        timed : (n : Option Line) → n ≡ Some line → (let T : Type 0 = elim n [ None ↦ q.time ≡ s.replied | Some m ↦ elim s.table.is_ended [ true ↦ q.time ≡ s.replied | false ↦ q.time ≤ m.time.0 ] ] in T)
         timed None is = absurd cc
         timed (Some m) is =
             let same : m ≡ line = cc in
-            subst (λ (e : Bool). let T : Type 0 = elim e [ true ↦ q.time ≡ s.replied | false ↦ q.time ≤ m.time ] in T) (sym goes) (omega (arith, ends_there, ap (λ (x : TimedCommand). x.time) same))
+            subst (λ (e : Bool). let T : Type 0 = elim e [ true ↦ q.time ≡ s.replied | false ↦ q.time ≤ m.time.0 ] in T) (sym goes) (omega (arith, ends_there, ap (λ (x : Line). x.time.0) same))
 
     -- The line is a step from the stage.
     pub is_step : IsLineStep run.level (breaks_of run) (names_of run) s.replied s.table line l.changes hits (table_after_line run.level (breaks_of run) (names_of run) s.table line l.changes hits)
@@ -171,14 +173,14 @@ module _ (run : Run) (s : Stage) (goes : s.table.is_ended ≡ false) where
   -- ---- a mark that a command's record needs
 
   -- The time of a leg's point may be that of devices, where the next line's command may take effect there.
-  time_there : (l : Leg) → IsLegOf run s l → (line : TimedCommand) → s.next ≡ Some line → l.point.time ≡ line.time → (q : Point) → q.time ≡ l.point.time → IsTime s q.time
+  time_there : (l : Leg) → IsLegOf run s l → (line : Line) → s.next ≡ Some line → l.point.time ≡ line.time.0 → (q : Point) → q.time ≡ l.point.time → IsTime s q.time
   time_there l leg line heard at q same = (omega (arith, leads_rise run.level (breaks_of run) (stage_point s) l.point l.changes leg.whole.leads, same), timed s.next heard)
     where
-      timed : (n : Option TimedCommand) → n ≡ Some line → (let T : Type 0 = elim n [ None ↦ q.time ≡ s.replied | Some m ↦ elim s.table.is_ended [ true ↦ q.time ≡ s.replied | false ↦ q.time ≤ m.time ] ] in T)
+      timed : (n : Option Line) → n ≡ Some line → (let T : Type 0 = elim n [ None ↦ q.time ≡ s.replied | Some m ↦ elim s.table.is_ended [ true ↦ q.time ≡ s.replied | false ↦ q.time ≤ m.time.0 ] ] in T)
       timed None is = absurd cc
       timed (Some m) is =
           let line_is : m ≡ line = cc in
-          subst (λ (e : Bool). let T : Type 0 = elim e [ true ↦ q.time ≡ s.replied | false ↦ q.time ≤ m.time ] in T) (sym goes) (omega (arith, at, same, ap (λ (x : TimedCommand). x.time) line_is))
+          subst (λ (e : Bool). let T : Type 0 = elim e [ true ↦ q.time ≡ s.replied | false ↦ q.time ≤ m.time.0 ] in T) (sym goes) (omega (arith, at, same, ap (λ (x : Line). x.time.0) line_is))
 
   -- The point of the mark may be meant: the others that are due wait for the record.
   pub mark_may_be_meant : (l : Leg) (q : Point) (hits : List Timed) → IsLegOf run s l → IsMarking run s.next l q hits → AreCounted run.rises (s.past ++ l.changes ++ hits) → MayBeMeant run s q
@@ -186,12 +188,12 @@ module _ (run : Run) (s : Stage) (goes : s.table.is_ended ≡ false) where
       let whole = hits_whole run.level (breaks_of run) (stage_point s) l.point q l.changes hits leg.whole marking.leads.at marking.leads.leads in
       let come : IsLegOf run s (leg_to l q hits) = record { table = leg.table; replied = leg.replied; whole = whole; counted = leg.counted } in
       leg_may_be_meant (leg_to l q hits) come (time_there l leg marking.line marking.heard marking.may.at q marking.leads.at) (subst (λ (x : List Timed). AreCounted run.rises x) (append_assoc s.past l.changes hits) counted)
-      (ap (λ (o : Option TimedCommand). may_rest (not (is_none o)) q) marking.heard ∙ marks_rest run.level (breaks_of run) l.point q hits marking.may.none_due marking.leads)
+      (ap (λ (o : Option Line). may_rest (not (is_none o)) q) marking.heard ∙ marks_rest run.level (breaks_of run) l.point q hits marking.may.none_due marking.leads)
 
   -- ---- the end
 
   -- Hits behind a command's point are hits behind the command.
-  pub effect_is_hit : (line : TimedCommand) (l : Leg) (q r : Point) (hits more : List Timed) → TakesEffect run line l q hits → HitsLead run.level (breaks_of run) q r more → TakesEffect run line l r (hits ++ more)
+  pub effect_is_hit : (line : Line) (l : Leg) (q r : Point) (hits more : List Timed) → TakesEffect run line l q hits → HitsLead run.level (breaks_of run) q r more → TakesEffect run line l r (hits ++ more)
   effect_is_hit line l q r hits more effect hit = record {
     may = effect.may;
     leads = hits_on run.level (breaks_of run) (commanded_point run line l.point) q r hits more effect.leads hit;
@@ -217,6 +219,6 @@ ended_may_be_meant run s ended = record {
   rows = subst (λ (e : Bool). let T : Type 0 = elim e [ true ↦ s.table.rows ≡ s.table.rows | false ↦ AreOnTheWay run s s.replied s.table.rows ⊎ AreAfterLine run s s.replied s.table.rows ] in T) (sym ended) refl;
 }
   where
-    timed : (n : Option TimedCommand) → (let T : Type 0 = elim n [ None ↦ s.replied ≡ s.replied | Some m ↦ elim s.table.is_ended [ true ↦ s.replied ≡ s.replied | false ↦ s.replied ≤ m.time ] ] in T)
+    timed : (n : Option Line) → (let T : Type 0 = elim n [ None ↦ s.replied ≡ s.replied | Some m ↦ elim s.table.is_ended [ true ↦ s.replied ≡ s.replied | false ↦ s.replied ≤ m.time.0 ] ] in T)
     timed None = refl
-    timed (Some m) = subst (λ (e : Bool). let T : Type 0 = elim e [ true ↦ s.replied ≡ s.replied | false ↦ s.replied ≤ m.time ] in T) (sym ended) refl
+    timed (Some m) = subst (λ (e : Bool). let T : Type 0 = elim e [ true ↦ s.replied ≡ s.replied | false ↦ s.replied ≤ m.time.0 ] in T) (sym ended) refl

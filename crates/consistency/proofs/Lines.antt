@@ -6,9 +6,10 @@ use Rattle.std.proofs.lemmas.Bool.{and_left, and_parts, and_right, cond-false, l
 use Rattle.std.proofs.lemmas.List.{length_push, take-append-le, take_all}
 use Rattle.std.proofs.lemmas.List.Concat.{flat_map-append}
 use Rattle.std.proofs.lemmas.Option.{slice_get_cases, slice_get_within}
+use Rattle.xrc_command.specs.declared.line.Line.{Line}
+use Rattle.xrc_command.specs.Reading.{line_spelled}
 use Rattle.consistency.specs.Bears.{Run, Stage}
 use Rattle.consistency.specs.Courses.{Answered, AreAsked, IsAnswered, IsAsked, IsCourse, last_line_time, lines_begun_from, first_line, first_stage, is_whole_line, later_line, lines_begun, most_lines, next_line, replied_after, replies_of, stage_after, stage_at, texts_of}
-use Rattle.consistency.specs.Steps.{TimedCommand}
 use Rattle.consistency.specs.Times.{AreWhole}
 use Rattle.consistency.proofs.Pieces.{whole_append}
 use Rattle.consistency.proofs.Replies.{reply_whole}
@@ -47,7 +48,7 @@ stage_front run lines more n within = ap (λ (l : List Answered). fold stage_aft
 
 -- Nor do they change the time of the last of them.
 pub last_front : (lines more : List Answered) (n : ℕ) → n ≤ length lines → last_line_time (lines ++ more) n ≡ last_line_time lines n
-last_front lines more n within = ap (λ (l : List Answered). fold (λ (before : ℕ) (a : Answered). a.line.time) 0 l) (take-append-le n lines more within)
+last_front lines more n within = ap (λ (l : List Answered). fold (λ (before : ℕ) (a : Answered). a.line.time.0) 0 l) (take-append-le n lines more within)
 
 -- The stage behind all lines and one more.
 pub stage_more : (run : Run) (lines : List Answered) (a : Answered) → stage_at run (lines ++ a ∷ []) (length (lines ++ a ∷ [])) ≡ stage_after (stage_at run lines (length lines)) a
@@ -75,25 +76,25 @@ course_more run lines a course answered n b at = elim (at_or_last lines a n b at
 ]
 
 -- a line that was asked behind a time, with the texts up to it
-abbrev AskedAt : (grammar : List ℕ → Option TimedCommand) → (script : List ℕ) → (n before : ℕ) → (texts : List ℕ) → Answered → Type 0
-AskedAt grammar script n before texts a = IsAsked grammar n before (length texts == length script) a
+abbrev AskedAt : (script : List ℕ) → (n before : ℕ) → (texts : List ℕ) → Answered → Type 0
+AskedAt script n before texts a = IsAsked n before (length texts == length script) a
 
-pub asked_more : (grammar : List ℕ → Option TimedCommand) (script : List ℕ) (lines : List Answered) (a : Answered) → AreAsked grammar script lines
-    → IsAsked grammar (length lines) (last_line_time lines (length lines)) (length (texts_of lines ++ a.text) == length script) a → AreAsked grammar script (lines ++ a ∷ [])
-asked_more grammar script lines a are asked n b at = elim (at_or_last lines a n b at) [
+pub asked_more : (script : List ℕ) (lines : List Answered) (a : Answered) → AreAsked script lines
+    → IsAsked (length lines) (last_line_time lines (length lines)) (length (texts_of lines ++ a.text) == length script) a → AreAsked script (lines ++ a ∷ [])
+asked_more script lines a are asked n b at = elim (at_or_last lines a n b at) [
   | inl here ↦
       let below : n < length lines = slice_get_within lines n b here in
       let within : n ≤ length lines = omega (arith, below) in
       let next : suc n ≤ length lines = omega (arith, below) in
-      subst (λ (k : ℕ). AskedAt grammar script n k (texts_of (take (suc n) (lines ++ a ∷ []))) b) (sym (last_front lines (a ∷ []) n within))
-      (subst (λ (l : List Answered). AskedAt grammar script n (last_line_time lines n) (texts_of l) b) (sym (take-append-le (suc n) lines (a ∷ []) next)) (are n b here))
+      subst (λ (k : ℕ). AskedAt script n k (texts_of (take (suc n) (lines ++ a ∷ []))) b) (sym (last_front lines (a ∷ []) n within))
+      (subst (λ (l : List Answered). AskedAt script n (last_line_time lines n) (texts_of l) b) (sym (take-append-le (suc n) lines (a ∷ []) next)) (are n b here))
   | inr last ↦
       let within : n ≤ length lines = omega (arith, last.0) in
       let all : length (lines ++ a ∷ []) ≤ suc n = omega (arith, last.0, length_push lines a) in
-      subst (λ (k : ℕ). AskedAt grammar script n k (texts_of (take (suc n) (lines ++ a ∷ []))) b) (sym (last_front lines (a ∷ []) n within ∙ ap (last_line_time lines) last.0))
-      (subst (λ (l : List ℕ). AskedAt grammar script n (last_line_time lines (length lines)) l b) (sym (ap texts_of (take_all (suc n) (lines ++ a ∷ []) all) ∙ texts_more lines a))
-      (subst (λ (m : ℕ). AskedAt grammar script m (last_line_time lines (length lines)) (texts_of lines ++ a.text) b) (sym last.0)
-      (subst (λ (x : Answered). AskedAt grammar script (length lines) (last_line_time lines (length lines)) (texts_of lines ++ a.text) x) last.1 asked)))
+      subst (λ (k : ℕ). AskedAt script n k (texts_of (take (suc n) (lines ++ a ∷ []))) b) (sym (last_front lines (a ∷ []) n within ∙ ap (last_line_time lines) last.0))
+      (subst (λ (l : List ℕ). AskedAt script n (last_line_time lines (length lines)) l b) (sym (ap texts_of (take_all (suc n) (lines ++ a ∷ []) all) ∙ texts_more lines a))
+      (subst (λ (m : ℕ). AskedAt script m (last_line_time lines (length lines)) (texts_of lines ++ a.text) b) (sym last.0)
+      (subst (λ (x : Answered). AskedAt script (length lines) (last_line_time lines (length lines)) (texts_of lines ++ a.text) x) last.1 asked)))
 ]
 
 -- The replies of a course are whole lines.
@@ -107,34 +108,34 @@ replies_whole run lines course = replies_are_whole lines (λ n a at. reply_whole
 -- ---- the line that was heard
 
 -- It isn't before the last one.
-pub next_not_before : (grammar : List ℕ → Option TimedCommand) (answered before : ℕ) (at_end : Bool) (text : List ℕ) (line : TimedCommand) → next_line grammar answered before at_end text ≡ Some line → before ≤ line.time
-next_not_before grammar answered before at_end text line is = whole (is_whole_line at_end text) (grammar (first_line text)) is
+pub next_not_before : (answered before : ℕ) (at_end : Bool) (text : List ℕ) (line : Line) → next_line answered before at_end text ≡ Some line → before ≤ line.time.0
+next_not_before answered before at_end text line is = whole (is_whole_line at_end text) (line_spelled (first_line text)) is
   where
-    counted : (b : Bool) (l : TimedCommand) → nat_lt answered most_lines && nat_le before l.time ≡ b → cond b (Some l) None ≡ Some line → before ≤ line.time
-    counted true l counts is = let same : l ≡ line = same_some l line is in omega (arith, leb-true before l.time (and_parts (nat_lt answered most_lines) (nat_le before l.time) counts).1, ap (λ (x : TimedCommand). x.time) same)
+    counted : (b : Bool) (l : Line) → nat_lt answered most_lines && nat_le before l.time.0 ≡ b → cond b (Some l) None ≡ Some line → before ≤ line.time.0
+    counted true l counts is = let same : l ≡ line = same_some l line is in omega (arith, leb-true before l.time.0 (and_parts (nat_lt answered most_lines) (nat_le before l.time.0) counts).1, ap (λ (x : Line). x.time.0) same)
     counted false l counts is = absurd cc
 
-    later : (o : Option TimedCommand) → later_line answered before o ≡ Some line → before ≤ line.time
+    later : (o : Option Line) → later_line answered before o ≡ Some line → before ≤ line.time.0
     later None is = absurd cc
-    later (Some l) is = counted (nat_lt answered most_lines && nat_le before l.time) l refl is
+    later (Some l) is = counted (nat_lt answered most_lines && nat_le before l.time.0) l refl is
 
-    whole : (b : Bool) (o : Option TimedCommand) → cond b (later_line answered before o) None ≡ Some line → before ≤ line.time
+    whole : (b : Bool) (o : Option Line) → cond b (later_line answered before o) None ≡ Some line → before ≤ line.time.0
     whole true o is = later o is
     whole false o is = absurd cc
 
 -- The stamp of a reply isn't behind the line that it answers, also where it is that of the session's end.
-pub replied_by_last : (run : Run) (grammar : List ℕ → Option TimedCommand) (script : List ℕ) (lines : List Answered) (n : ℕ) → AreAsked grammar script lines → n ≤ length lines → (stage_at run lines n).replied ≤ last_line_time lines n
-replied_by_last run grammar script lines zero are within = omega arith
-replied_by_last run grammar script lines (suc n) are within = elim (slice_get_cases lines n).1 [
+pub replied_by_last : (run : Run) (script : List ℕ) (lines : List Answered) (n : ℕ) → AreAsked script lines → n ≤ length lines → (stage_at run lines n).replied ≤ last_line_time lines n
+replied_by_last run script lines zero are within = omega arith
+replied_by_last run script lines (suc n) are within = elim (slice_get_cases lines n).1 [
   | inl there ↦
       let a = there.0 in
       let at = there.2 in
       let s = stage_at run lines n in
-      let before = replied_by_last run grammar script lines n are (omega (arith, within)) in
-      let later = next_not_before grammar n (last_line_time lines n) (length (texts_of (take (suc n) lines)) == length script) a.text a.line (are n a at).asks in
-      let last : last_line_time lines (suc n) ≡ a.line.time = fold_more (λ (t : ℕ) (b : Answered). b.line.time) 0 lines n a at in
+      let before = replied_by_last run script lines n are (omega (arith, within)) in
+      let later = next_not_before n (last_line_time lines n) (length (texts_of (take (suc n) lines)) == length script) a.text a.line (are n a at).asks in
+      let last : last_line_time lines (suc n) ≡ a.line.time.0 = fold_more (λ (t : ℕ) (b : Answered). b.line.time.0) 0 lines n a at in
       let replied : (stage_at run lines (suc n)).replied ≡ replied_after s a.line = ap (λ (x : Stage). x.replied) (stage_then run lines n a at) in
-      let by : replied_after s a.line ≤ a.line.time = by_end s.table.is_ended s.replied a.line.time (omega (arith, before, later)) in
+      let by : replied_after s a.line ≤ a.line.time.0 = by_end s.table.is_ended s.replied a.line.time.0 (omega (arith, before, later)) in
       omega (arith, last, replied, by)
   | inr none ↦ absurd (omega (arith, within, none.0))
 ]
@@ -144,24 +145,24 @@ replied_by_last run grammar script lines (suc n) are within = elim (slice_get_ca
     by_end false old new le = omega arith
 
 -- Nothing is heard of a line before its first byte, and no line before it is whole.
-pub none_heard : (grammar : List ℕ → Option TimedCommand) (answered before : ℕ) (at_end : Bool) (text : List ℕ) → is_whole_line at_end text ≡ false → next_line grammar answered before at_end text ≡ None
-none_heard grammar answered before at_end text is = rw is refl
+pub none_heard : (answered before : ℕ) (at_end : Bool) (text : List ℕ) → is_whole_line at_end text ≡ false → next_line answered before at_end text ≡ None
+none_heard answered before at_end text is = rw is refl
 
-never_heard : (b : Bool) (o : Option TimedCommand) → o ≡ None → cond b o None ≡ None
+never_heard : (b : Bool) (o : Option Line) → o ≡ None → cond b o None ≡ None
 never_heard true o is = is
 never_heard false o is = refl
 
-pub time_falls : (grammar : List ℕ → Option TimedCommand) (answered before : ℕ) (at_end : Bool) (text : List ℕ) (line : TimedCommand) → grammar (first_line text) ≡ Some line → line.time < before → next_line grammar answered before at_end text ≡ None
-time_falls grammar answered before at_end text line asks falls =
-    never_heard (is_whole_line at_end text) (later_line answered before (grammar (first_line text)))
-    (ap (later_line answered before) asks ∙ cond-false (nat_lt answered most_lines && nat_le before line.time) (Some line) None (and_right (nat_lt answered most_lines) (nat_le before line.time) (lt-leb before line.time falls)))
+pub time_falls : (answered before : ℕ) (at_end : Bool) (text : List ℕ) (line : Line) → line_spelled (first_line text) ≡ Some line → line.time.0 < before → next_line answered before at_end text ≡ None
+time_falls answered before at_end text line asks falls =
+    never_heard (is_whole_line at_end text) (later_line answered before (line_spelled (first_line text)))
+    (ap (later_line answered before) asks ∙ cond-false (nat_lt answered most_lines && nat_le before line.time.0) (Some line) None (and_right (nat_lt answered most_lines) (nat_le before line.time.0) (lt-leb before line.time.0 falls)))
 
-pub too_many : (grammar : List ℕ → Option TimedCommand) (answered before : ℕ) (at_end : Bool) (text : List ℕ) → most_lines ≤ answered → next_line grammar answered before at_end text ≡ None
-too_many grammar answered before at_end text many = never_heard (is_whole_line at_end text) (later_line answered before (grammar (first_line text))) (none (grammar (first_line text)))
+pub too_many : (answered before : ℕ) (at_end : Bool) (text : List ℕ) → most_lines ≤ answered → next_line answered before at_end text ≡ None
+too_many answered before at_end text many = never_heard (is_whole_line at_end text) (later_line answered before (line_spelled (first_line text))) (none (line_spelled (first_line text)))
   where
-    none : (o : Option TimedCommand) → later_line answered before o ≡ None
+    none : (o : Option Line) → later_line answered before o ≡ None
     none None = refl
-    none (Some line) = cond-false (nat_lt answered most_lines && nat_le before line.time) (Some line) None (and_left (nat_lt answered most_lines) (nat_le before line.time) (le-ltb answered most_lines many))
+    none (Some line) = cond-false (nat_lt answered most_lines && nat_le before line.time.0) (Some line) None (and_left (nat_lt answered most_lines) (nat_le before line.time.0) (le-ltb answered most_lines many))
 
 -- The last line is whole with the script's end.
 pub whole_at_end : (line : List ℕ) → 0 < length line → list_any (λ x. nat_eq x 10) line ≡ false → (is_whole_line true line ≡ true) × (first_line line ≡ line)

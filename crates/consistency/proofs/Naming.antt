@@ -26,9 +26,10 @@ use Rattle.pair_table.specs.Tables.{Table, in_state, is_of}
 use Rattle.pair_table.proofs.FindLaws.{found_all}
 use Rattle.row_changes.specs.Changes.{RowChange, Timed, after_change, after_changes, hit_row, reached_row, row_after_change, since, suspended_by}
 use Rattle.row_changes.specs.Changes.RowChange.{Break, Hit, MarkedHit, Mature, Reached}
+use Rattle.xrc_command.specs.declared.line.Line.{Line}
 use Rattle.consistency.specs.Bears.{Run, Stage, breaks_of, names_of}
 use Rattle.consistency.specs.Courses.{Answered, IsAnswered, IsCourse, stage_at}
-use Rattle.consistency.specs.Steps.{TimedCommand, commanded, names_at, table_on_the_way}
+use Rattle.consistency.specs.Steps.{commanded, names_at, table_on_the_way}
 use Rattle.consistency.proofs.Lines.{stage_then}
 use Rattle.consistency.specs.Replying.{HasNames, HasRunNames, has_row_serials}
 use Rattle.consistency.proofs.Unhit.{found}
@@ -122,13 +123,13 @@ module _ (run : Run) (spoken : HasRunNames run) (rows : List PairRow) (all : lis
   command_serials time Query = all
   command_serials time End = all
 
-commanded_names : (run : Run) → HasRunNames run → (table : Table) (line : TimedCommand) → HasNames table → HasNames (commanded (breaks_of run) (names_of run) table line)
+commanded_names : (run : Run) → HasRunNames run → (table : Table) (line : Line) → HasNames table → HasNames (commanded (breaks_of run) (names_of run) table line)
 commanded_names run spoken table line names =
-    let naming = names_at line.time (breaks_of run) (names_of run) in
+    let naming = names_at line.time.0 (breaks_of run) (names_of run) in
     choose (is_none (refusal naming table line.session line.command))
   where
-    choose : (b : Bool) → HasNames (if b then accepted (names_at line.time (breaks_of run) (names_of run)) line.time line.command table else table)
-    choose true = record { named = names.named; serials = command_serials run spoken table.rows names.serials line.time line.command }
+    choose : (b : Bool) → HasNames (if b then accepted (names_at line.time.0 (breaks_of run) (names_of run)) line.time.0 line.command table else table)
+    choose true = record { named = names.named; serials = command_serials run spoken table.rows names.serials line.time.0 line.command }
     choose false = names
 
 -- ---- a course

@@ -13,10 +13,11 @@ use Rattle.pair_table.specs.declared.command.Command.TheVariants.{Start, AddPair
 use Rattle.pair_table.specs.declared.command.Refusal.{Refusal}
 use Rattle.pair_table.specs.declared.command.Refusal.TheVariants.{NoSession, SessionExists, NoPrimary, NoSecondary, SecondaryInUse, AlreadyPaired, TooSmall, OtherSecondary, NotPaired, Ended, ControlBroken}
 use Rattle.xquery_report.specs.Replies.{refusal_name, refusal_number}
+use Rattle.xrc_command.specs.declared.line.Line.{Line}
 use Rattle.consistency.specs.Bears.{Run, Stage}
 use Rattle.consistency.specs.Courses.{Answered}
 use Rattle.consistency.specs.Replies.{answer_word, command_word}
-use Rattle.consistency.specs.Steps.{TimedCommand, table_on_the_way}
+use Rattle.consistency.specs.Steps.{table_on_the_way}
 use Rattle.consistency.specs.Times.{times_of, whole_lines, words}
 use Rattle.consistency.proofs.Pieces.{line_ended}
 use Rattle.consistency.proofs.Spelled.{AreWords, no_feed_spelled, spelled, stamp_is_word, words_spelled}
@@ -226,41 +227,41 @@ answer_read c d (Ok change) (Err other) m n told late add ok tracks more refusal
 answer_read c d (Err one) (Ok change) m n told late add ok tracks more refusal why same = absurd (true≢false (sym ok))
 
 -- a reply's own line, without its line feed
-abbrev words_behind : TimedCommand → ReplyContent → List (List ℕ)
-words_behind a x = others a.time a.command x.answer x.tracks (option_map stamp x.time)
+abbrev words_behind : Line → ReplyContent → List (List ℕ)
+words_behind a x = others a.time.0 a.command x.answer x.tracks (option_map stamp x.time)
 
-abbrev own_words : TimedCommand → ReplyContent → List ℕ
-own_words a x = spelled (stamp_text a.time) (command_word a.command ∷ answer_word (is_ok x.answer) ∷ words_behind a x)
+abbrev own_words : Line → ReplyContent → List ℕ
+own_words a x = spelled (stamp_text a.time.0) (command_word a.command ∷ answer_word (is_ok x.answer) ∷ words_behind a x)
 
-own_is : (a : TimedCommand) (x : ReplyContent) → own_words a x ++ 10 ∷ [] ≡ own_line a x
-own_is a x = line_is a.time a.command x.answer x.tracks (option_map stamp x.time)
+own_is : (a : Line) (x : ReplyContent) → own_words a x ++ 10 ∷ [] ≡ own_line a x
+own_is a x = line_is a.time.0 a.command x.answer x.tracks (option_map stamp x.time)
 
-all_words : (a : TimedCommand) (x : ReplyContent) → AreWords (command_word a.command ∷ answer_word (is_ok x.answer) ∷ words_behind a x)
+all_words : (a : Line) (x : ReplyContent) → AreWords (command_word a.command ∷ answer_word (is_ok x.answer) ∷ words_behind a x)
 all_words a x =
-    one_more (command_is a.time a.command x.answer x.tracks (option_map stamp x.time))
-    (one_more (answer_is a.time a.command x.answer x.tracks (option_map stamp x.time) (is_ok x.answer)) (others_are a.time a.command x.answer x.tracks (option_map stamp x.time)))
+    one_more (command_is a.time.0 a.command x.answer x.tracks (option_map stamp x.time))
+    (one_more (answer_is a.time.0 a.command x.answer x.tracks (option_map stamp x.time) (is_ok x.answer)) (others_are a.time.0 a.command x.answer x.tracks (option_map stamp x.time)))
 
-own_read : (a : TimedCommand) (x : ReplyContent) → words (own_words a x) ≡ stamp_text a.time ∷ command_word a.command ∷ answer_word (is_ok x.answer) ∷ words_behind a x
-own_read a x = words_spelled (stamp_text a.time) (command_word a.command ∷ answer_word (is_ok x.answer) ∷ words_behind a x) (stamp_is_word a.time) (all_words a x)
+own_read : (a : Line) (x : ReplyContent) → words (own_words a x) ≡ stamp_text a.time.0 ∷ command_word a.command ∷ answer_word (is_ok x.answer) ∷ words_behind a x
+own_read a x = words_spelled (stamp_text a.time.0) (command_word a.command ∷ answer_word (is_ok x.answer) ∷ words_behind a x) (stamp_is_word a.time.0) (all_words a x)
 
 -- Lines of the same words tell the same.
-pub own_tell_apart : (a b : TimedCommand) (x y : ReplyContent) → HasShortNumbers a x → HasShortNumbers b y → own_words a x ≡ own_words b y → TellsTheSame a b x y
+pub own_tell_apart : (a b : Line) (x y : ReplyContent) → HasShortNumbers a x → HasShortNumbers b y → own_words a x ≡ own_words b y → TellsTheSame a b x y
 own_tell_apart a b x y short brief same = record {
-  time = stamp_read a.time b.time short.time brief.time first;
+  time = stamp_read a.time.0 b.time.0 short.time brief.time first;
   word = second;
   refusal = read.0;
   tracks = read.1;
   replied = told_same x.time y.time short.replied brief.replied read.2;
 }
   where
-    words_same : stamp_text a.time ∷ command_word a.command ∷ answer_word (is_ok x.answer) ∷ words_behind a x ≡ stamp_text b.time ∷ command_word b.command ∷ answer_word (is_ok y.answer) ∷ words_behind b y
+    words_same : stamp_text a.time.0 ∷ command_word a.command ∷ answer_word (is_ok x.answer) ∷ words_behind a x ≡ stamp_text b.time.0 ∷ command_word b.command ∷ answer_word (is_ok y.answer) ∷ words_behind b y
     words_same = sym (own_read a x) ∙ ap words same ∙ own_read b y
 
-    first : stamp_text a.time ≡ stamp_text b.time
-    first = head_same (stamp_text a.time) (stamp_text b.time) (command_word a.command ∷ answer_word (is_ok x.answer) ∷ words_behind a x) (command_word b.command ∷ answer_word (is_ok y.answer) ∷ words_behind b y) words_same
+    first : stamp_text a.time.0 ≡ stamp_text b.time.0
+    first = head_same (stamp_text a.time.0) (stamp_text b.time.0) (command_word a.command ∷ answer_word (is_ok x.answer) ∷ words_behind a x) (command_word b.command ∷ answer_word (is_ok y.answer) ∷ words_behind b y) words_same
 
     from_second : command_word a.command ∷ answer_word (is_ok x.answer) ∷ words_behind a x ≡ command_word b.command ∷ answer_word (is_ok y.answer) ∷ words_behind b y
-    from_second = tail_same (stamp_text a.time) (stamp_text b.time) (command_word a.command ∷ answer_word (is_ok x.answer) ∷ words_behind a x) (command_word b.command ∷ answer_word (is_ok y.answer) ∷ words_behind b y) words_same
+    from_second = tail_same (stamp_text a.time.0) (stamp_text b.time.0) (command_word a.command ∷ answer_word (is_ok x.answer) ∷ words_behind a x) (command_word b.command ∷ answer_word (is_ok y.answer) ∷ words_behind b y) words_same
 
     second : command_word a.command ≡ command_word b.command
     second = head_same (command_word a.command) (command_word b.command) (answer_word (is_ok x.answer) ∷ words_behind a x) (answer_word (is_ok y.answer) ∷ words_behind b y) from_second
@@ -279,7 +280,7 @@ own_tell_apart a b x y short brief same = record {
         answer_read a.command b.command x.answer y.answer x.tracks y.tracks (told_words (option_map stamp x.time)) (told_words (option_map stamp y.time))
         (sym (add_is a.command) ∙ ap (λ (w : List ℕ). bytes_eq w (codes "XADDPAIR")) second ∙ add_is b.command) (accepted_alike (is_ok x.answer) (is_ok y.answer) third) short.tracks brief.tracks short.refusal brief.refusal behind
 
-pub lines_tell_apart : (a b : TimedCommand) (x y : ReplyContent) → HasShortNumbers a x → HasShortNumbers b y → own_line a x ≡ own_line b y → TellsTheSame a b x y
+pub lines_tell_apart : (a b : Line) (x y : ReplyContent) → HasShortNumbers a x → HasShortNumbers b y → own_line a x ≡ own_line b y → TellsTheSame a b x y
 lines_tell_apart a b x y short brief same =
     own_tell_apart a b x y short brief (append_cancel_right (own_words a x) (own_words b y) (10 ∷ []) (own_is a x ∙ same ∙ sym (own_is b y)))
 
@@ -310,12 +311,12 @@ module _ (run other : Run) (s t : Stage) (first start : Point) (points passed : 
   lines_of : whole_lines (report ++ own_words a.line x ++ 10 ∷ []) ≡ whole_lines report ++ own_words a.line x ∷ []
   lines_of =
       line_ended report (own_words a.line x) (report_there run s first points number a names).whole
-      (no_feed_spelled (stamp_text a.line.time) (command_word a.line.command ∷ answer_word (is_ok x.answer) ∷ words_behind a.line x) (stamp_is_word a.line.time) (all_words a.line x))
+      (no_feed_spelled (stamp_text a.line.time.0) (command_word a.line.command ∷ answer_word (is_ok x.answer) ∷ words_behind a.line x) (stamp_is_word a.line.time.0) (all_words a.line x))
 
   lines_then : whole_lines (report_then ++ own_words b.line y ++ 10 ∷ []) ≡ whole_lines report_then ++ own_words b.line y ∷ []
   lines_then =
       line_ended report_then (own_words b.line y) (report_there other t start passed place b named).whole
-      (no_feed_spelled (stamp_text b.line.time) (command_word b.line.command ∷ answer_word (is_ok y.answer) ∷ words_behind b.line y) (stamp_is_word b.line.time) (all_words b.line y))
+      (no_feed_spelled (stamp_text b.line.time.0) (command_word b.line.command ∷ answer_word (is_ok y.answer) ∷ words_behind b.line y) (stamp_is_word b.line.time.0) (all_words b.line y))
 
   pub exact_tell_apart : HasShortNumbers a.line x → HasShortNumbers b.line y → IsExact run s first points number a → IsExact other t start passed place b → a.reply ≡ b.reply → TellsTheSame a.line b.line x y × (report ≡ report_then)
   exact_tell_apart short brief exact precise same = (own_tell_apart a.line b.line x y short brief own, append_cancel_right report report_then (own_line a.line x) reports)

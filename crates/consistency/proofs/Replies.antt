@@ -5,8 +5,8 @@ use Rattle.std.specs.List.{list_any}
 use Rattle.std.proofs.lemmas.Bool.{or_parts}
 use Rattle.std.proofs.lemmas.List.{append-nil, take-append-drop, take-append-le}
 use Rattle.std.proofs.lemmas.List.Folds.{list_any-append}
+use Rattle.xrc_command.specs.declared.line.Line.{Line}
 use Rattle.consistency.specs.Replies.{IsReply, has_reply, is_reply_line}
-use Rattle.consistency.specs.Steps.{TimedCommand}
 use Rattle.consistency.specs.Times.{AreWhole, ended_pieces, unended, whole_lines}
 use Rattle.consistency.proofs.Pieces.{feed_whole, line_ended, lines_append, no_pieces, pieces_append}
 
@@ -19,7 +19,7 @@ front_none a b none =
 pub take_none : (k : ℕ) (text : List ℕ) → has_reply text ≡ false → has_reply (take k text) ≡ false
 take_none k text none = front_none (take k text) (drop k text) (ap has_reply (take-append-drop k text) ∙ none)
 
-module _ (is_accepted : Bool) (line : TimedCommand) (reply : List ℕ) (r : IsReply is_accepted line reply) where
+module _ (is_accepted : Bool) (line : Line) (reply : List ℕ) (r : IsReply is_accepted line reply) where
   -- A reply ends with its line feed.
   pub reply_whole : AreWhole reply
   reply_whole = subst AreWhole (sym r.parts) (feed_whole (r.report ++ r.last))
@@ -51,5 +51,5 @@ last_fold : (first : List ℕ) (lines : List (List ℕ)) (line : List ℕ) → f
 last_fold first [] line = refl
 last_fold first (x ∷ lines) line = last_fold x lines line
 
-pub last_is : (is_accepted : Bool) (line : TimedCommand) (reply : List ℕ) (r : IsReply is_accepted line reply) → last_line (whole_lines reply) ≡ r.last
+pub last_is : (is_accepted : Bool) (line : Line) (reply : List ℕ) (r : IsReply is_accepted line reply) → last_line (whole_lines reply) ≡ r.last
 last_is is_accepted line reply r = ap last_line (reply_lines is_accepted line reply r) ∙ last_fold [] (whole_lines r.report) r.last

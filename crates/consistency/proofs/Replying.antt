@@ -19,11 +19,12 @@ use Rattle.row_changes.specs.Changes.{Timed}
 use Rattle.row_changes.specs.Toward.{AreCounted}
 use Rattle.xquery_report.specs.Replies.{answer_part, command_part, refusal_name, refusal_number, refusal_part, reply_line, told_part, tracks_part, value_part}
 use Rattle.xquery_report.specs.Reports.{report_text}
+use Rattle.xrc_command.specs.declared.line.Line.{Line}
 use Rattle.consistency.specs.Bears.{Run, Stage, accepts}
 use Rattle.consistency.specs.Courses.{Answered, IsAnswered, replied_after}
 use Rattle.consistency.specs.Moments.{AreUpTo}
 use Rattle.consistency.specs.Replies.{IsReply, answer_word, command_word}
-use Rattle.consistency.specs.Steps.{TimedCommand, is_active, table_on_the_way}
+use Rattle.consistency.specs.Steps.{is_active, table_on_the_way}
 use Rattle.consistency.specs.Times.{times_in_words, times_said}
 use Rattle.consistency.proofs.Pieces.{times_append}
 use Rattle.consistency.proofs.Spelled.{AreWords, IsWord, reply_spelled, spelled, stamp_is_word}
@@ -212,13 +213,13 @@ module _ (run : Run) (s : Stage) (first : Point) (points : List PassedPoint) (nu
   table = table_on_the_way run.level a.changes s.table
 
   abbrev text_if : Bool → List ℕ
-  text_if b = if b then report_text table run.level a.line.time (map (cause_at a.line.time) run.traces) else []
+  text_if b = if b then report_text table run.level a.line.time.0 (map (cause_at a.line.time.0) run.traces) else []
 
-  report_is : (b : Bool) → Tells a.line.time (if b then a.line.time ∷ [] else []) (text_if b)
-  report_is true = report_tells table run.level a.line.time (map (cause_at a.line.time) run.traces) (names_on_the_way run.level a.changes s.table names)
-  report_is false = nothing_tells a.line.time
+  report_is : (b : Bool) → Tells a.line.time.0 (if b then a.line.time.0 ∷ [] else []) (text_if b)
+  report_is true = report_tells table run.level a.line.time.0 (map (cause_at a.line.time.0) run.traces) (names_on_the_way run.level a.changes s.table names)
+  report_is false = nothing_tells a.line.time.0
 
-  pub report_there : Tells a.line.time (if is_reported run table a.line then a.line.time ∷ [] else []) (report_before run table a.line)
+  pub report_there : Tells a.line.time.0 (if is_reported run table a.line then a.line.time.0 ∷ [] else []) (report_before run table a.line)
   report_there = report_is (is_reported run table a.line)
 
   abbrev told : Option Stamp
@@ -231,20 +232,20 @@ module _ (run : Run) (s : Stage) (first : Point) (points : List PassedPoint) (nu
   exact_is_reply exact =
       let content = reply_content run s first points number a in
       let report = report_before run table a.line in
-      let behind = others a.line.time a.line.command content.answer content.tracks told in
-      let own = spelled (stamp_text a.line.time) (command_word a.line.command ∷ answer_word (is_ok content.answer) ∷ behind) in
+      let behind = others a.line.time.0 a.line.command content.answer content.tracks told in
+      let own = spelled (stamp_text a.line.time.0) (command_word a.line.command ∷ answer_word (is_ok content.answer) ∷ behind) in
       subst (λ (b : Bool). IsReply b a.line a.reply) accepted_as
       (subst (λ (l : List ℕ). IsReply (is_ok content.answer) a.line l)
-      (append_assoc report own (10 ∷ []) ∙ ap (λ (l : List ℕ). report ++ l) (line_is a.line.time a.line.command content.answer content.tracks told) ∙ sym exact)
-      (reply_spelled (is_ok content.answer) a.line report behind report_there.whole report_there.none (others_are a.line.time a.line.command content.answer content.tracks told)))
+      (append_assoc report own (10 ∷ []) ∙ ap (λ (l : List ℕ). report ++ l) (line_is a.line.time.0 a.line.command content.answer content.tracks told) ∙ sym exact)
+      (reply_spelled (is_ok content.answer) a.line report behind report_there.whole report_there.none (others_are a.line.time.0 a.line.command content.answer content.tracks told)))
 
   abbrev latest : ℕ
   latest = replied_after s a.line
 
-  latest_below : s.replied < 2 ^ 64 → a.line.time < 2 ^ 64 → latest < 2 ^ 64
+  latest_below : s.replied < 2 ^ 64 → a.line.time.0 < 2 ^ 64 → latest < 2 ^ 64
   latest_below old new = by_end s.table.is_ended
     where
-      by_end : (e : Bool) → (if e then s.replied else a.line.time) < 2 ^ 64
+      by_end : (e : Bool) → (if e then s.replied else a.line.time.0) < 2 ^ 64
       by_end true = old
       by_end false = new
 
@@ -256,43 +257,43 @@ module _ (run : Run) (s : Stage) (first : Point) (points : List PassedPoint) (nu
   told_are true = refl
   told_are false = refl
 
-  pub exact_says : s.replied < 2 ^ 64 → a.line.time < 2 ^ 64 → IsExact run s first points number a → times_said a.reply ≡ times_replied run s a
+  pub exact_says : s.replied < 2 ^ 64 → a.line.time.0 < 2 ^ 64 → IsExact run s first points number a → times_said a.reply ≡ times_replied run s a
   exact_says old new exact =
       let content = reply_content run s first points number a in
       let report = report_before run table a.line in
-      let own = reply_line a.line.time a.line.command content.answer content.tracks told in
+      let own = reply_line a.line.time.0 a.line.command content.answer content.tracks told in
       ap times_said exact ∙ times_append report own report_there.whole ∙ ap (λ (l : List ℕ). l ++ times_said own) (report_there.said new)
-      ∙ ap (λ (l : List ℕ). (if is_reported run table a.line then a.line.time ∷ [] else []) ++ l)
-      (line_says a.line.time a.line.command content.answer content.tracks told (told_short (latest_below old new) a.table.is_started) ∙ told_are a.table.is_started)
+      ∙ ap (λ (l : List ℕ). (if is_reported run table a.line then a.line.time.0 ∷ [] else []) ++ l)
+      (line_says a.line.time.0 a.line.command content.answer content.tracks told (told_short (latest_below old new) a.table.is_started) ∙ told_are a.table.is_started)
 
   -- A report comes before the end alone, so its time is that of the session.
-  report_time : (b : Bool) → is_reported run table a.line ≡ b → AreUpTo latest (if b then a.line.time ∷ [] else [])
+  report_time : (b : Bool) → is_reported run table a.line ≡ b → AreUpTo latest (if b then a.line.time.0 ∷ [] else [])
   report_time false is = All-nil (λ z. z ≤ latest)
   report_time true is = by_end s.table.is_ended refl
     where
-      by_end : (e : Bool) → s.table.is_ended ≡ e → AreUpTo latest (a.line.time ∷ [])
+      by_end : (e : Bool) → s.table.is_ended ≡ e → AreUpTo latest (a.line.time.0 ∷ [])
       by_end true ended =
           let refused : accepts run table a.line ≡ false = rw ended refl in
           absurd (true≢false (sym is ∙ and_right (is_query a.line.command) (accepts run table a.line) refused))
-      by_end false goes = let same : latest ≡ a.line.time = rw goes refl in All-cons (λ z. z ≤ latest) a.line.time [] (omega (arith, same)) (All-nil (λ z. z ≤ latest))
+      by_end false goes = let same : latest ≡ a.line.time.0 = rw goes refl in All-cons (λ z. z ≤ latest) a.line.time.0 [] (omega (arith, same)) (All-nil (λ z. z ≤ latest))
 
   told_time : (b : Bool) → AreUpTo latest (if b then latest ∷ [] else [])
   told_time true = All-cons (λ z. z ≤ latest) latest [] (omega arith) (All-nil (λ z. z ≤ latest))
   told_time false = All-nil (λ z. z ≤ latest)
 
-  pub exact_says_up_to : s.replied < 2 ^ 64 → a.line.time < 2 ^ 64 → IsExact run s first points number a → AreUpTo latest (times_said a.reply)
+  pub exact_says_up_to : s.replied < 2 ^ 64 → a.line.time.0 < 2 ^ 64 → IsExact run s first points number a → AreUpTo latest (times_said a.reply)
   exact_says_up_to old new exact =
       subst (AreUpTo latest) (sym (exact_says old new exact))
-      (All-append (λ z. z ≤ latest) (if is_reported run table a.line then a.line.time ∷ [] else []) (if a.table.is_started then latest ∷ [] else []) (report_time (is_reported run table a.line) refl) (told_time a.table.is_started))
+      (All-append (λ z. z ≤ latest) (if is_reported run table a.line then a.line.time.0 ∷ [] else []) (if a.table.is_started then latest ∷ [] else []) (report_time (is_reported run table a.line) refl) (told_time a.table.is_started))
 
 -- The reply to an accepted query begins with its report.
 pub report_first : (run : Run) (s : Stage) (first : Point) (points : List PassedPoint) (number : ℕ) (a : Answered) → (let table = table_on_the_way run.level a.changes s.table in
-    a.line.command ≡ Query → accepts run table a.line ≡ true → IsExact run s first points number a → (own : List ℕ) × (a.reply ≡ report_text table run.level a.line.time (map (cause_at a.line.time) run.traces) ++ own))
+    a.line.command ≡ Query → accepts run table a.line ≡ true → IsExact run s first points number a → (own : List ℕ) × (a.reply ≡ report_text table run.level a.line.time.0 (map (cause_at a.line.time.0) run.traces) ++ own))
 report_first run s first points number a query accepted exact =
     let content = reply_content run s first points number a in
     let table = table_on_the_way run.level a.changes s.table in
-    let own = reply_line a.line.time a.line.command content.answer content.tracks (option_map stamp content.time) in
-    (own, exact ∙ ap (λ (b : Bool). (if b then report_text table run.level a.line.time (map (cause_at a.line.time) run.traces) else []) ++ own) (ap (λ (b : Bool). is_query a.line.command && b) accepted ∙ ap (λ (c : Command). is_query c && true) query))
+    let own = reply_line a.line.time.0 a.line.command content.answer content.tracks (option_map stamp content.time) in
+    (own, exact ∙ ap (λ (b : Bool). (if b then report_text table run.level a.line.time.0 (map (cause_at a.line.time.0) run.traces) else []) ++ own) (ap (λ (b : Bool). is_query a.line.command && b) accepted ∙ ap (λ (c : Command). is_query c && true) query))
 
 -- ---- lines that are answered
 
@@ -303,7 +304,7 @@ module _ (run : Run) (s : Stage) (goes : s.table.is_ended ≡ false) (l : Leg) (
       (subst (λ (x : Table). IsReply (accepts run x c.line) c.line reply) (sym (table_there run s goes l leg c.line q hits (c.active (leg_goes run s goes l leg))))
       (exact_is_reply run s first points number (answered_by run s text reply c.line l.changes hits) names exact))
 
-pub inactive_exactly : (run : Run) (s : Stage) (text reply : List ℕ) (line : TimedCommand) (first : Point) (points : List PassedPoint) (number : ℕ) → is_active s.table ≡ false → AreCounted run.rises s.past
+pub inactive_exactly : (run : Run) (s : Stage) (text reply : List ℕ) (line : Line) (first : Point) (points : List PassedPoint) (number : ℕ) → is_active s.table ≡ false → AreCounted run.rises s.past
     → ((level : Level) → line.command ≡ Start level → accepts run s.table line ≡ true → level ≡ run.level) → HasNames s.table → IsExact run s first points number (answered_by run s text reply line [] [])
     → IsAnswered run s (answered_by run s text reply line [] [])
 inactive_exactly run s text reply line first points number off counted level names exact =

@@ -7,9 +7,9 @@ use Rattle.row_changes.proofs.Leading.{due_wider}
 use Rattle.crash_plant.specs.Choices.{Choice}
 use Rattle.crash_plant.specs.Moments.{PlantState}
 use Rattle.site_means.specs.Images.{Images, Shape, shape_of}
+use Rattle.xrc_command.specs.declared.line.Line.{Line}
 use Rattle.consistency.specs.Bears.{AreAfterLine, AreOnTheWay, Bears, IsFlag, IsTime, Run, Stage, breaks_of}
 use Rattle.consistency.specs.Moments.{BearsTime}
-use Rattle.consistency.specs.Steps.{TimedCommand}
 
 -- ---- a line is heard
 
@@ -17,12 +17,12 @@ use Rattle.consistency.specs.Steps.{TimedCommand}
 pub exact_time : (run : Run) (s : Stage) (shape : Shape) (images : Images) (time : ℕ) → s.next ≡ None → Bears run s shape images time → time ≡ s.replied
 exact_time run s shape images time none b = exact s.next none b.in_time
   where
-    exact : (n : Option TimedCommand) → n ≡ None → IsTime (record s { next = n }) time → time ≡ s.replied
+    exact : (n : Option Line) → n ≡ None → IsTime (record s { next = n }) time → time ≡ s.replied
     exact None is t = t.1
     exact (Some line) is t = absurd cc
 
 -- What is borne where no line was heard is borne with any line that isn't before the last reply.
-pub bears_heard : (run : Run) (s : Stage) (heard : Option TimedCommand) (shape : Shape) (images : Images) (time : ℕ) → s.next ≡ None → ((line : TimedCommand) → heard ≡ Some line → s.replied ≤ line.time) → Bears run s shape images time
+pub bears_heard : (run : Run) (s : Stage) (heard : Option Line) (shape : Shape) (images : Images) (time : ℕ) → s.next ≡ None → ((line : Line) → heard ≡ Some line → s.replied ≤ line.time.0) → Bears run s shape images time
     → Bears run (record s { next = heard }) shape images time
 bears_heard run s heard shape images time none later b = record {
   means = b.means;
@@ -39,21 +39,21 @@ bears_heard run s heard shape images time none later b = record {
     exactly : time ≡ s.replied
     exactly = exact_time run s shape images time none b
 
-    flagged : (n : Option TimedCommand) → n ≡ None → IsFlag run (record s { next = n }) b.means.ended → b.means.ended ≡ s.table.is_ended
+    flagged : (n : Option Line) → n ≡ None → IsFlag run (record s { next = n }) b.means.ended → b.means.ended ≡ s.table.is_ended
     flagged None is (inl accepted) = absurd cc
     flagged None is (inr same) = same
     flagged (Some line) is flag = absurd cc
 
-    timed : (n : Option TimedCommand) → ((line : TimedCommand) → n ≡ Some line → s.replied ≤ line.time) → (let T : Type 0 = elim n [ None ↦ time ≡ s.replied | Some line ↦ elim s.table.is_ended [ true ↦ time ≡ s.replied | false ↦ time ≤ line.time ] ] in T)
+    timed : (n : Option Line) → ((line : Line) → n ≡ Some line → s.replied ≤ line.time.0) → (let T : Type 0 = elim n [ None ↦ time ≡ s.replied | Some line ↦ elim s.table.is_ended [ true ↦ time ≡ s.replied | false ↦ time ≤ line.time.0 ] ] in T)
     timed None later = exactly
     timed (Some line) later = by_end s.table.is_ended
       where
-        by_end : (e : Bool) → (let T : Type 0 = elim e [ true ↦ time ≡ s.replied | false ↦ time ≤ line.time ] in T)
+        by_end : (e : Bool) → (let T : Type 0 = elim e [ true ↦ time ≡ s.replied | false ↦ time ≤ line.time.0 ] in T)
         by_end true = exactly
         by_end false = omega (arith, exactly, later line refl)
 
     none_due : not (is_none s.next) ≡ false
-    none_due = ap (λ (n : Option TimedCommand). not (is_none n)) none
+    none_due = ap (λ (n : Option Line). not (is_none n)) none
 
     rested : (e : Bool) → (let T : Type 0 = elim e [ true ↦ b.means.table.rows ≡ s.table.rows | false ↦ AreOnTheWay run s time b.means.table.rows ⊎ AreAfterLine run s time b.means.table.rows ] in T)
         → (let T : Type 0 = elim e [ true ↦ b.means.table.rows ≡ s.table.rows | false ↦ AreOnTheWay run (record s { next = heard }) time b.means.table.rows ⊎ AreAfterLine run (record s { next = heard }) time b.means.table.rows ] in T)
@@ -70,10 +70,10 @@ bears_heard run s heard shape images time none later b = record {
     })
     rested false (inr after) = absurd (differ s.next after.line none after.heard)
       where
-        differ : (n : Option TimedCommand) (line : TimedCommand) → n ≡ None → n ≡ Some line → ⊥
+        differ : (n : Option Line) (line : Line) → n ≡ None → n ≡ Some line → ⊥
         differ None line is heard = cc
         differ (Some l) line is heard = cc
 
-pub bears_time_heard : (run : Run) (s : Stage) (heard : Option TimedCommand) (said : List ℕ) (plant : PlantState) (c : Choice) → s.next ≡ None → ((line : TimedCommand) → heard ≡ Some line → s.replied ≤ line.time) → BearsTime run s said plant c
+pub bears_time_heard : (run : Run) (s : Stage) (heard : Option Line) (said : List ℕ) (plant : PlantState) (c : Choice) → s.next ≡ None → ((line : Line) → heard ≡ Some line → s.replied ≤ line.time.0) → BearsTime run s said plant c
     → BearsTime run (record s { next = heard }) said plant c
 bears_time_heard run s heard said plant c none later b = record { time = b.time; bears = bears_heard run s heard (shape_of plant) c b.time none later b.bears; not_earlier = b.not_earlier }

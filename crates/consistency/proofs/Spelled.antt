@@ -7,8 +7,8 @@ use Rattle.std.proofs.lemmas.List.Folds.{list_any-append}
 use Rattle.pair_table.specs.declared.command.Command.{Command}
 use Rattle.pair_table.specs.declared.command.Command.TheVariants.{Start, AddPair, DelPair, Suspend, Query, End}
 use Rattle.tod_stamp.specs.Stamps.{hex_digit, hex_digits, stamp_text}
+use Rattle.xrc_command.specs.declared.line.Line.{Line}
 use Rattle.consistency.specs.Replies.{IsReply, answer_word, command_word, has_reply}
-use Rattle.consistency.specs.Steps.{TimedCommand}
 use Rattle.consistency.specs.Times.{AreWhole, ended_pieces, unended, words}
 use Rattle.consistency.proofs.Pieces.{no_pieces, pieces_append}
 
@@ -80,17 +80,17 @@ answer_is_word true = (refl, refl)
 answer_is_word false = (refl, refl)
 
 -- A report and then a line of these words is the reply to a line.
-pub reply_spelled : (is_accepted : Bool) (line : TimedCommand) (report : List ℕ) (others : List (List ℕ)) → AreWhole report → has_reply report ≡ false → AreWords others
-    → IsReply is_accepted line (report ++ spelled (stamp_text line.time) (command_word line.command ∷ answer_word is_accepted ∷ others) ++ 10 ∷ [])
+pub reply_spelled : (is_accepted : Bool) (line : Line) (report : List ℕ) (others : List (List ℕ)) → AreWhole report → has_reply report ≡ false → AreWords others
+    → IsReply is_accepted line (report ++ spelled (stamp_text line.time.0) (command_word line.command ∷ answer_word is_accepted ∷ others) ++ 10 ∷ [])
 reply_spelled is_accepted line report others whole none are =
     let words_kept = one_more (command_is_word line.command) (one_more (answer_is_word is_accepted) are) in
     record {
       report = report;
       whole = whole;
       none = none;
-      last = spelled (stamp_text line.time) (command_word line.command ∷ answer_word is_accepted ∷ others);
-      one_line = no_feed_spelled (stamp_text line.time) (command_word line.command ∷ answer_word is_accepted ∷ others) (stamp_is_word line.time) words_kept;
+      last = spelled (stamp_text line.time.0) (command_word line.command ∷ answer_word is_accepted ∷ others);
+      one_line = no_feed_spelled (stamp_text line.time.0) (command_word line.command ∷ answer_word is_accepted ∷ others) (stamp_is_word line.time.0) words_kept;
       parts = refl;
       others = others;
-      words_are = words_spelled (stamp_text line.time) (command_word line.command ∷ answer_word is_accepted ∷ others) (stamp_is_word line.time) words_kept;
+      words_are = words_spelled (stamp_text line.time.0) (command_word line.command ∷ answer_word is_accepted ∷ others) (stamp_is_word line.time.0) words_kept;
     }

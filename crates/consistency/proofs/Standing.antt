@@ -1,5 +1,5 @@
 -- Moments of a run: one that stays when calls go on, and one that stands behind answered lines.
-use Rattle.std.proofs.Common.{◌≡◌, inl, inr, ℕ, ◌<◌, ◌≤◌, false, List, [], ◌∷◌, ◌++◌, length, take, Option, Some, sym, ap, subst, ◌∙◌, arith, slice_get}
+use Rattle.std.proofs.Common.{◌≡◌, inl, inr, ℕ, ◌<◌, ◌≤◌, false, List, [], ◌∷◌, ◌++◌, length, take, Some, sym, ap, subst, ◌∙◌, arith, slice_get}
 use Rattle.std.specs.Prelude.{◌==◌, fold, IsTrue}
 use Rattle.std.proofs.lemmas.List.{length_push, take-append-le, take_all}
 use Rattle.crash_plant.specs.Calls.{Elapses, SameSite, WorksOnConsole}
@@ -15,7 +15,6 @@ use Rattle.consistency.specs.Courses.{Answered, StandsAt, first_stage, lines_beg
 use Rattle.consistency.specs.Keeping.{stage_now}
 use Rattle.consistency.specs.Moments.{AllMeanTable, BearsTime, MeansTable, MomentBears}
 use Rattle.consistency.specs.Replies.{has_reply}
-use Rattle.consistency.specs.Steps.{TimedCommand}
 use Rattle.consistency.proofs.Lines.{at_or_last, last_front, stage_front}
 
 -- ---- plants of one shape
@@ -35,20 +34,20 @@ console_choice tells told old new t c works from to is d part =
 
 -- ---- a moment stays
 
-module _ (run : Run) (grammar : List ℕ → Option TimedCommand) (lines : List Answered) (old mid new : PlantState) (up : 0 < mid.clock) (site : SameSite mid new) (elapses : Elapses mid new) where
+module _ (run : Run) (lines : List Answered) (old mid new : PlantState) (up : 0 < mid.clock) (site : SameSite mid new) (elapses : Elapses mid new) where
   -- A moment of the past bears still, since the past doesn't change.
-  abbrev pub moment_still : (t : ℕ) → t ≤ mid.clock → MomentBears run grammar lines old mid t → MomentBears run grammar lines old new t
+  abbrev pub moment_still : (t : ℕ) → t ≤ mid.clock → MomentBears run lines old mid t → MomentBears run lines old new t
   moment_still t le m = record {
     heard = m.heard;
     said = m.said;
     heard_is = elapses.heard t up le ∙ m.heard_is;
     said_is = elapses.said t up le ∙ m.said_is;
     at = m.at;
-    bears = λ started c is. bears_on run (stage_there run grammar old.script m.at) m.said mid new c site (m.bears started c (past_choice mid new t c site elapses up le is));
+    bears = λ started c is. bears_on run (stage_there run old.script m.at) m.said mid new c site (m.bears started c (past_choice mid new t c site elapses up le is));
   }
 
   -- What all its choices mean they mean still.
-  pub table_still : (t : ℕ) (le : t ≤ mid.clock) (m : MomentBears run grammar lines old mid t) → AllMeanTable run grammar lines old mid t m → AllMeanTable run grammar lines old new t (moment_still t le m)
+  pub table_still : (t : ℕ) (le : t ≤ mid.clock) (m : MomentBears run lines old mid t) → AllMeanTable run lines old mid t m → AllMeanTable run lines old new t (moment_still t le m)
   table_still t le m mean started c is =
       let meant = mean started c (past_choice mid new t c site elapses up le is) in
       (meant.0, means_on mid new c meant.0 site meant.1, meant.2)
@@ -74,13 +73,13 @@ stands_longer lines heard said a some at unsaid =
       one_line = at.one_line;
     }
 
-module _ (run : Run) (grammar : List ℕ → Option TimedCommand) (lines : List Answered) (a : Answered) (some : 0 < length a.reply) (old new : PlantState) where
+module _ (run : Run) (lines : List Answered) (a : Answered) (some : 0 < length a.reply) (old new : PlantState) where
   -- It is the same stage.
-  pub stage_longer : (heard said : List ℕ) (at : StandsAt lines heard said) (unsaid : at.answered ≡ length lines → at.part ≡ []) → stage_there run grammar old.script (stands_longer lines heard said a some at unsaid) ≡ stage_there run grammar old.script at
+  pub stage_longer : (heard said : List ℕ) (at : StandsAt lines heard said) (unsaid : at.answered ≡ length lines → at.part ≡ []) → stage_there run old.script (stands_longer lines heard said a some at unsaid) ≡ stage_there run old.script at
   stage_longer heard said at unsaid =
-      λ i. record (stage_front run lines (a ∷ []) at.answered at.within i) { next = next_line grammar at.answered (last_front lines (a ∷ []) at.answered at.within i) (length heard == length old.script) at.text }
+      λ i. record (stage_front run lines (a ∷ []) at.answered at.within i) { next = next_line at.answered (last_front lines (a ∷ []) at.answered at.within i) (length heard == length old.script) at.text }
 
-  abbrev pub moment_longer : (t : ℕ) (m : MomentBears run grammar lines old new t) → (m.at.answered ≡ length lines → m.at.part ≡ []) → MomentBears run grammar (lines ++ a ∷ []) old new t
+  abbrev pub moment_longer : (t : ℕ) (m : MomentBears run lines old new t) → (m.at.answered ≡ length lines → m.at.part ≡ []) → MomentBears run (lines ++ a ∷ []) old new t
   moment_longer t m unsaid =
       let same = stage_longer m.heard m.said m.at unsaid in
       record {
@@ -92,7 +91,7 @@ module _ (run : Run) (grammar : List ℕ → Option TimedCommand) (lines : List 
         bears = λ started c is. subst (λ (s : Stage). BearsTime run s m.said new c) (sym same) (m.bears (subst (λ (s : Stage). IsTrue s.table.is_started) same started) c is);
       }
 
-  pub table_longer : (t : ℕ) (m : MomentBears run grammar lines old new t) (unsaid : m.at.answered ≡ length lines → m.at.part ≡ []) → AllMeanTable run grammar lines old new t m → AllMeanTable run grammar (lines ++ a ∷ []) old new t (moment_longer t m unsaid)
+  pub table_longer : (t : ℕ) (m : MomentBears run lines old new t) (unsaid : m.at.answered ≡ length lines → m.at.part ≡ []) → AllMeanTable run lines old new t m → AllMeanTable run (lines ++ a ∷ []) old new t (moment_longer t m unsaid)
   table_longer t m unsaid mean started c is =
       let same = stage_longer m.heard m.said m.at unsaid in
       let meant = mean (subst (λ (s : Stage). IsTrue s.table.is_started) same started) c is in
@@ -129,16 +128,16 @@ stands_behind all lines text part front may one = record {
   one_line = one;
 }
 
-module _ (run : Run) (grammar : List ℕ → Option TimedCommand) (all lines : List Answered) (text part : List ℕ) (front : IsFront lines all) (may : MayBePart lines all part) (one : lines_begun text ≤ 1) (old new : PlantState) where
+module _ (run : Run) (all lines : List Answered) (text part : List ℕ) (front : IsFront lines all) (may : MayBePart lines all part) (one : lines_begun text ≤ 1) (old new : PlantState) where
   -- The stage there is that of the lines and the text.
-  pub stage_behind : stage_there run grammar old.script (stands_behind all lines text part front may one) ≡ stage_now run grammar old.script lines text
+  pub stage_behind : stage_there run old.script (stands_behind all lines text part front may one) ≡ stage_now run old.script lines text
   stage_behind =
-      ap (λ (l : List Answered). record (fold stage_after (first_stage run) l) { next = next_line grammar (length lines) (fold (λ (before : ℕ) (a : Answered). a.line.time) 0 l) (length (texts_of lines ++ text) == length old.script) text })
+      ap (λ (l : List Answered). record (fold stage_after (first_stage run) l) { next = next_line (length lines) (fold (λ (before : ℕ) (a : Answered). a.line.time.0) 0 l) (length (texts_of lines ++ text) == length old.script) text })
       (front.front ∙ sym (take_all (length lines) lines (omega arith)))
 
   -- Such a moment bears where each of its choices bears a time at that stage.
   abbrev pub moment_behind : (t : ℕ) → new.heard t ≡ old.heard old.clock ++ (texts_of lines ++ text) → new.said t ≡ old.said old.clock ++ (replies_of lines ++ part)
-      → (IsTrue (stage_now run grammar old.script lines text).table.is_started → (c : Choice) → IsChoice new t c → BearsTime run (stage_now run grammar old.script lines text) (replies_of lines ++ part) new c) → MomentBears run grammar all old new t
+      → (IsTrue (stage_now run old.script lines text).table.is_started → (c : Choice) → IsChoice new t c → BearsTime run (stage_now run old.script lines text) (replies_of lines ++ part) new c) → MomentBears run all old new t
   moment_behind t heard said bears = record {
     heard = texts_of lines ++ text;
     said = replies_of lines ++ part;
@@ -150,9 +149,9 @@ module _ (run : Run) (grammar : List ℕ → Option TimedCommand) (all lines : L
   }
 
   pub table_behind : (t : ℕ) (heard : new.heard t ≡ old.heard old.clock ++ (texts_of lines ++ text)) (said : new.said t ≡ old.said old.clock ++ (replies_of lines ++ part))
-      (bears : IsTrue (stage_now run grammar old.script lines text).table.is_started → (c : Choice) → IsChoice new t c → BearsTime run (stage_now run grammar old.script lines text) (replies_of lines ++ part) new c)
-      → (IsTrue (stage_now run grammar old.script lines text).table.is_started → (c : Choice) → IsChoice new t c → (means : Means) × (means_of new c ≡ Some means) × MeansTable (stage_now run grammar old.script lines text) means)
-      → AllMeanTable run grammar all old new t (moment_behind t heard said bears)
+      (bears : IsTrue (stage_now run old.script lines text).table.is_started → (c : Choice) → IsChoice new t c → BearsTime run (stage_now run old.script lines text) (replies_of lines ++ part) new c)
+      → (IsTrue (stage_now run old.script lines text).table.is_started → (c : Choice) → IsChoice new t c → (means : Means) × (means_of new c ≡ Some means) × MeansTable (stage_now run old.script lines text) means)
+      → AllMeanTable run all old new t (moment_behind t heard said bears)
   table_behind t heard said bears mean started c is =
       let meant = mean (subst (λ (s : Stage). IsTrue s.table.is_started) stage_behind started) c is in
       (meant.0, meant.1, subst (λ (s : Stage). MeansTable s meant.0) (sym stage_behind) meant.2)

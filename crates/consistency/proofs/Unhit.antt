@@ -86,20 +86,20 @@ module _ (run : Run) (s : Stage) (a : Answered) (answered : IsAnswered run s a) 
   none_at_all : NoneHit (s.past ++ a.changes ++ a.hits)
   none_at_all device = omega (arith, answered.counted device, never device)
 
-  active_line : IsCommanded run.level (breaks_of run) (names_of run) s.replied s.table a.line a.changes a.hits → a.table ≡ commanded (breaks_of run) (names_of run) (with_rows s.table (map (next_row (breaks_of run) s.replied a.line.time) s.table.rows)) a.line
+  active_line : IsCommanded run.level (breaks_of run) (names_of run) s.replied s.table a.line a.changes a.hits → a.table ≡ commanded (breaks_of run) (names_of run) (with_rows s.table (map (next_row (breaks_of run) s.replied a.line.time.0) s.table.rows)) a.line
   active_line c =
       answered.step.made ∙ ap (λ (h : List Timed). table_on_the_way run.level h (commanded (breaks_of run) (names_of run) (table_on_the_way run.level a.changes s.table) a.line)) no_more
       ∙ ap (λ (r : List PairRow). commanded (breaks_of run) (names_of run) (with_rows s.table r) a.line) rows
     where
       plain : has_no_hit a.changes ≡ true
-      plain = none_hit run.level (breaks_of run) s.replied a.line.time s.table.rows a.changes c.toward.may_come (none_back s.past a.changes (none_front (s.past ++ a.changes) a.hits none_at_all))
+      plain = none_hit run.level (breaks_of run) s.replied a.line.time.0 s.table.rows a.changes c.toward.may_come (none_back s.past a.changes (none_front (s.past ++ a.changes) a.hits none_at_all))
 
       no_more : a.hits ≡ []
-      no_more = no_hits a.line.time a.hits c.are_hits
-          (none_hit run.level (breaks_of run) a.line.time a.line.time (commanded (breaks_of run) (names_of run) (table_on_the_way run.level a.changes s.table) a.line).rows a.hits c.may_come (none_back (s.past ++ a.changes) a.hits none_at_all))
+      no_more = no_hits a.line.time.0 a.hits c.are_hits
+          (none_hit run.level (breaks_of run) a.line.time.0 a.line.time.0 (commanded (breaks_of run) (names_of run) (table_on_the_way run.level a.changes s.table) a.line).rows a.hits c.may_come (none_back (s.past ++ a.changes) a.hits none_at_all))
 
-      rows : after_changes run.level a.changes s.table.rows ≡ map (next_row (breaks_of run) s.replied a.line.time) s.table.rows
-      rows = rows_determined run.level (breaks_of run) s.replied a.line.time a.changes s.table.rows apart c.toward.may_come c.toward.broken c.not_broken_yet c.settled plain
+      rows : after_changes run.level a.changes s.table.rows ≡ map (next_row (breaks_of run) s.replied a.line.time.0) s.table.rows
+      rows = rows_determined run.level (breaks_of run) s.replied a.line.time.0 a.changes s.table.rows apart c.toward.may_come c.toward.broken c.not_broken_yet c.settled plain
 
   still_line : is_active s.table ≡ false → a.table ≡ commanded (breaks_of run) (names_of run) s.table a.line
   still_line off =
@@ -108,10 +108,10 @@ module _ (run : Run) (s : Stage) (a : Answered) (answered : IsAnswered run s a) 
       ∙ ap (λ (x : List Timed). commanded (breaks_of run) (names_of run) (table_on_the_way run.level x s.table) a.line) none.0
 
   -- The table behind a line is the one that it asks for.
-  pub line_by_text : a.table ≡ commanded (breaks_of run) (names_of run) (table_by run s.replied a.line.time s.table) a.line
+  pub line_by_text : a.table ≡ commanded (breaks_of run) (names_of run) (table_by run s.replied a.line.time.0 s.table) a.line
   line_by_text = by_activity (is_active s.table) refl
     where
-      by_activity : (b : Bool) → is_active s.table ≡ b → a.table ≡ commanded (breaks_of run) (names_of run) (if b then with_rows s.table (map (next_row (breaks_of run) s.replied a.line.time) s.table.rows) else s.table) a.line
+      by_activity : (b : Bool) → is_active s.table ≡ b → a.table ≡ commanded (breaks_of run) (names_of run) (if b then with_rows s.table (map (next_row (breaks_of run) s.replied a.line.time.0) s.table.rows) else s.table) a.line
       by_activity true is = active_line (answered.step.active is)
       by_activity false is = still_line is
 
@@ -141,11 +141,11 @@ course_by_lines run lines course never apart (suc n) within =
     let asked : unhit_stage_at run lines (suc n) ≡ unhit_after run u a.line = fold_more (λ (x : Stage) (b : Answered). unhit_after run x b.line) (first_stage run) lines n a one.1 in (
       ap (λ (x : Stage). x.table) behind
           ∙ line_by_text run s a (course n a one.1) never (apart n)
-          ∙ ap (λ (r : ℕ). commanded (breaks_of run) (names_of run) (table_by run r a.line.time s.table) a.line) before.1
-          ∙ ap (λ (x : Table). commanded (breaks_of run) (names_of run) (table_by run u.replied a.line.time x) a.line) before.0
+          ∙ ap (λ (r : ℕ). commanded (breaks_of run) (names_of run) (table_by run r a.line.time.0 s.table) a.line) before.1
+          ∙ ap (λ (x : Table). commanded (breaks_of run) (names_of run) (table_by run u.replied a.line.time.0 x) a.line) before.0
           ∙ sym (ap (λ (x : Stage). x.table) asked),
       ap (λ (x : Stage). x.replied) behind
-          ∙ ap (λ (r : ℕ). if s.table.is_ended then r else a.line.time) before.1
-          ∙ ap (λ (x : Table). if x.is_ended then u.replied else a.line.time) before.0
+          ∙ ap (λ (r : ℕ). if s.table.is_ended then r else a.line.time.0) before.1
+          ∙ ap (λ (x : Table). if x.is_ended then u.replied else a.line.time.0) before.0
           ∙ sym (ap (λ (x : Stage). x.replied) asked),
     )

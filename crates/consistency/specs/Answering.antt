@@ -7,16 +7,17 @@ use Rattle.pair_table.specs.declared.command.Refusal.{Refusal}
 use Rattle.pair_table.specs.declared.row.PairRow.{PairRow}
 use Rattle.pair_table.specs.Commands.{answer}
 use Rattle.row_changes.specs.Changes.{Timed}
+use Rattle.xrc_command.specs.declared.line.Line.{Line}
 use Rattle.consistency.specs.Bears.{Run, Stage, breaks_of, names_of}
 use Rattle.consistency.specs.Courses.{Answered, replied_after}
-use Rattle.consistency.specs.Steps.{TimedCommand, names_at, table_after_line, table_on_the_way}
+use Rattle.consistency.specs.Steps.{names_at, table_after_line, table_on_the_way}
 use Rattle.consistency.specs.Leads.{Point}
 use Rattle.consistency.specs.Owing.{tracks_asked}
 use Rattle.consistency.specs.Ways.{PassedPoint, Way}
 use Rattle.consistency.specs.Ways.Way.{Commanded, Ending, MarkedFor, OnTheWay}
 
 -- a line that is answered at a stage, behind changes and before hits
-abbrev pub answered_by : Run → Stage → (text reply : List ℕ) → TimedCommand → (changes hits : List Timed) → Answered
+abbrev pub answered_by : Run → Stage → (text reply : List ℕ) → Line → (changes hits : List Timed) → Answered
 answered_by run s text reply line changes hits = record {
   text = text;
   line = line;
@@ -61,7 +62,7 @@ abbrev pub reply_content : Run → Stage → (first : Point) → List PassedPoin
 reply_content run s first points number a =
     let table = table_on_the_way run.level a.changes s.table in
     record {
-      answer = answer (names_at a.line.time (breaks_of run) (names_of run)) table a.line.session a.line.command;
-      tracks = tracks_of_command run first (points_before number points) table.rows a.line.time a.line.command;
+      answer = answer (names_at a.line.time.0 (breaks_of run) (names_of run)) table a.line.session a.line.command;
+      tracks = tracks_of_command run first (points_before number points) table.rows a.line.time.0 a.line.command;
       time = if a.table.is_started then Some (replied_after s a.line) else None;
     }

@@ -30,7 +30,7 @@ pub record MayBeMeant (run : Run) (s : Stage) (p : Point) : Type 0 where
 -- The flag is the stage's. Or it is 1, at the time of the next line, which is an end that the command table accepts: while the session works
 -- for the line's time it has not ended.
 abbrev pub IsFlagInTime : Run → Stage → (time : ℕ) → Bool → Type 0
-IsFlagInTime run s time flag = (flag ≡ s.table.is_ended) ⊎ (IsTrue (accepts_end run s.table s.next) × (flag ≡ true) × IfSome s.next (λ line. time ≡ line.time))
+IsFlagInTime run s time flag = (flag ≡ s.table.is_ended) ⊎ (IsTrue (accepts_end run s.table s.next) × (flag ≡ true) × IfSome s.next (λ line. time ≡ line.time.0))
 
 -- A point may be meant, and its flag is in time.
 pub record MayBeMeantInTime (run : Run) (s : Stage) (p : Point) : Type 0 where

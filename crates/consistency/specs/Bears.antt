@@ -19,7 +19,8 @@ use Rattle.row_changes.specs.Toward.{AreCounted, Toward}
 use Rattle.site_means.specs.declared.means.Means.{Means}
 use Rattle.site_means.specs.Images.{Images, Shape}
 use Rattle.site_means.specs.Sight.{content_in, means_in}
-use Rattle.consistency.specs.Steps.{IsCommanded, TimedCommand, names_at, table_after_line}
+use Rattle.xrc_command.specs.declared.line.Line.{Line}
+use Rattle.consistency.specs.Steps.{IsCommanded, names_at, table_after_line}
 
 -- What stays over a run: the session's name, the traces, the labels as the session's start read them, the level of that start, and by
 -- how much the count of faults of each volume rises over the run.
@@ -56,15 +57,15 @@ pub record Stage : Type 0 where
   pub table : Table
   pub replied : ℕ
   pub past : List Timed
-  pub next : Option TimedCommand
+  pub next : Option Line
 
 -- ---- the ended flag
 
-abbrev pub accepts : Run → Table → TimedCommand → Bool
-accepts run table line = is_none (refusal (names_at line.time (breaks_of run) (names_of run)) table line.session line.command)
+abbrev pub accepts : Run → Table → Line → Bool
+accepts run table line = is_none (refusal (names_at line.time.0 (breaks_of run) (names_of run)) table line.session line.command)
 
 -- whether the next line is an end that the command table accepts
-abbrev pub accepts_end : Run → Table → Option TimedCommand → Bool
+abbrev pub accepts_end : Run → Table → Option Line → Bool
 accepts_end run table None = false
 accepts_end run table (Some line) = elim (is_end line.command) [ true ↦ accepts run table line | false ↦ false ]
 
@@ -79,7 +80,7 @@ IsFlag run s flag = IsTrue (accepts_end run s.table s.next) ⊎ (flag ≡ s.tabl
 abbrev pub IsTime : Stage → ℕ → Type 0
 IsTime s time = (s.replied ≤ time) × elim s.next [
   | None ↦ time ≡ s.replied
-  | Some line ↦ elim s.table.is_ended [ true ↦ time ≡ s.replied | false ↦ time ≤ line.time ]
+  | Some line ↦ elim s.table.is_ended [ true ↦ time ≡ s.replied | false ↦ time ≤ line.time.0 ]
 ]
 
 -- ---- the rows
@@ -93,9 +94,9 @@ pub record AreOnTheWay (run : Run) (s : Stage) (time : ℕ) (rows : List PairRow
 
 -- At the time of the next line they are those after its command, or after hits that follow it.
 pub record AreAfterLine (run : Run) (s : Stage) (time : ℕ) (rows : List PairRow) : Type 0 where
-  pub line : TimedCommand
+  pub line : Line
   pub heard : s.next ≡ Some line
-  pub at : time ≡ line.time
+  pub at : time ≡ line.time.0
   pub changes : List Timed
   pub hits : List Timed
   pub commanded : IsCommanded run.level (breaks_of run) (names_of run) s.replied s.table line changes hits

@@ -6,15 +6,17 @@ use Rattle.pair_table.specs.declared.level.Level.{Level}
 use Rattle.pair_table.specs.Tables.{Table, new_table}
 use Rattle.row_changes.specs.Changes.{Timed}
 use Rattle.row_changes.specs.Toward.{AreCounted}
+use Rattle.xrc_command.specs.declared.line.Line.{Line}
+use Rattle.xrc_command.specs.Reading.{line_spelled}
 use Rattle.consistency.specs.Bears.{Run, Stage, accepts, breaks_of, names_of}
 use Rattle.consistency.specs.Replies.{IsReply, has_reply}
-use Rattle.consistency.specs.Steps.{IsLineStep, TimedCommand, table_on_the_way}
+use Rattle.consistency.specs.Steps.{IsLineStep, table_on_the_way}
 
 -- A line that was answered: its text as it was heard, what it asks, the reply as it was said, the changes of rows before its command
 -- and the hits after it, and the table then.
 pub record Answered : Type 0 where
   pub text : List ℕ
-  pub line : TimedCommand
+  pub line : Line
   pub reply : List ℕ
   pub changes : List Timed
   pub hits : List Timed
@@ -26,8 +28,8 @@ abbrev pub first_stage : Run → Stage
 first_stage run = record { table = new_table run.session; replied = 0; past = []; next = None }
 
 -- The stamp of a reply is its line's time, or that of the end of the session in later ones.
-abbrev pub replied_after : Stage → TimedCommand → ℕ
-replied_after s line = if s.table.is_ended then s.replied else line.time
+abbrev pub replied_after : Stage → Line → ℕ
+replied_after s line = if s.table.is_ended then s.replied else line.time.0
 
 abbrev pub stage_after : Stage → Answered → Stage
 stage_after s a = record { table = a.table; replied = replied_after s a.line; past = s.past ++ a.changes ++ a.hits; next = None }
@@ -81,26 +83,26 @@ most_lines = 100000
 
 -- the time of the last of so many lines; 0 where there is none
 abbrev pub last_line_time : List Answered → (answered : ℕ) → ℕ
-last_line_time lines n = fold (λ before a. a.line.time) 0 (take n lines)
+last_line_time lines n = fold (λ before a. a.line.time.0) 0 (take n lines)
 
 -- A line behind so many others counts where it isn't one too many and its time doesn't fall below that of the line before.
-abbrev pub later_line : (lines before : ℕ) → Option TimedCommand → Option TimedCommand
+abbrev pub later_line : (lines before : ℕ) → Option Line → Option Line
 later_line lines before None = None
-later_line lines before (Some line) = if nat_lt lines most_lines && nat_le before line.time then Some line else None
+later_line lines before (Some line) = if nat_lt lines most_lines && nat_le before line.time.0 then Some line else None
 
--- the line that was heard whole behind the answered ones, if one was and keeps the grammar of lines, which gives what a text asks
-abbrev pub next_line : (grammar : List ℕ → Option TimedCommand) → (answered before : ℕ) → (at_end : Bool) → (text : List ℕ) → Option TimedCommand
-next_line grammar answered before at_end text = if is_whole_line at_end text then later_line answered before (grammar (first_line text)) else None
+-- the line that was heard whole behind the answered ones, if one was that counts
+abbrev pub next_line : (answered before : ℕ) → (at_end : Bool) → (text : List ℕ) → Option Line
+next_line answered before at_end text = if is_whole_line at_end text then later_line answered before (line_spelled (first_line text)) else None
 
 -- A line was answered as what its text asks: one line that was heard whole.
-pub record IsAsked (grammar : List ℕ → Option TimedCommand) (answered before : ℕ) (at_end : Bool) (a : Answered) : Type 0 where
-  pub asks : next_line grammar answered before at_end a.text ≡ Some a.line
+pub record IsAsked (answered before : ℕ) (at_end : Bool) (a : Answered) : Type 0 where
+  pub asks : next_line answered before at_end a.text ≡ Some a.line
   pub one_line : lines_begun a.text ≤ 1
 
 -- Each line was, behind those before it. The script's end is heard with its last byte.
-abbrev pub AreAsked : (grammar : List ℕ → Option TimedCommand) → (script : List ℕ) → List Answered → Type 0
-AreAsked grammar script lines = (n : ℕ) (a : Answered) → slice_get lines n ≡ Some a
-    → IsAsked grammar n (last_line_time lines n) (length (texts_of (take (suc n) lines)) == length script) a
+abbrev pub AreAsked : (script : List ℕ) → List Answered → Type 0
+AreAsked script lines = (n : ℕ) (a : Answered) → slice_get lines n ≡ Some a
+    → IsAsked n (last_line_time lines n) (length (texts_of (take (suc n) lines)) == length script) a
 
 -- Where a run stands once so much was heard of its script and so much was said: so many lines are answered, part of the next reply
 -- or of a last line was said, in which no whole reply stands, and no byte of a line behind the next was heard.
@@ -116,7 +118,7 @@ pub record StandsAt (lines : List Answered) (heard said : List ℕ) : Type 0 whe
   pub one_line : lines_begun text ≤ 1
 
 -- the stage there; the script's end is heard with its last byte
-abbrev pub stage_there : {lines : List Answered} {heard said : List ℕ} → Run → (grammar : List ℕ → Option TimedCommand) → (script : List ℕ) → StandsAt lines heard said → Stage
-stage_there {lines} {heard} {said} run grammar script at = record (stage_at run lines at.answered) {
-  next = next_line grammar at.answered (last_line_time lines at.answered) (length heard == length script) at.text;
+abbrev pub stage_there : {lines : List Answered} {heard said : List ℕ} → Run → (script : List ℕ) → StandsAt lines heard said → Stage
+stage_there {lines} {heard} {said} run script at = record (stage_at run lines at.answered) {
+  next = next_line at.answered (last_line_time lines at.answered) (length heard == length script) at.text;
 }

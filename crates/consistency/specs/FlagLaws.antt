@@ -2,8 +2,8 @@
 use Rattle.std.specs.Prelude.{◌≡◌, ℕ, List, Bool, false, Option, IsTrue}
 use Rattle.std.specs.List.{All, list_all}
 use Rattle.row_changes.specs.Changes.{Timed}
+use Rattle.xrc_command.specs.declared.line.Line.{Line}
 use Rattle.consistency.specs.Bears.{IsFlag, Run, Stage}
-use Rattle.consistency.specs.Steps.{TimedCommand}
 use Rattle.consistency.specs.Bearing.{IsFlagInTime, MayBeMeant, MayBeMeantInTime}
 use Rattle.consistency.specs.Leads.{Point}
 use Rattle.passages.specs.Points.{AreLinked}
@@ -18,7 +18,7 @@ abbrev pub LegsMayBeMeantInTime : Type 0
 LegsMayBeMeantInTime = (run : Run) (s : Stage) (l : Leg) → s.table.is_ended ≡ false → IsLegOf run s l → MayBeMeant run s l.point → MayBeMeantInTime run s l.point
 
 abbrev pub WaysMayBeMeantInTime : Type 0
-WaysMayBeMeantInTime = (run : Run) (s : Stage) (asked : ℕ → Option TimedCommand) (l : Leg) (points : List PassedPoint) → s.table.is_ended ≡ false → IsLegOf run s l → IsTrue (list_all is_on_the_way points)
+WaysMayBeMeantInTime = (run : Run) (s : Stage) (asked : ℕ → Option Line) (l : Leg) (points : List PassedPoint) → s.table.is_ended ≡ false → IsLegOf run s l → IsTrue (list_all is_on_the_way points)
     → AreLinked (ComesNext run asked) leg_after l points → All (λ n. MayBeMeant run s n.point) points → All (λ n. MayBeMeantInTime run s n.point) points
 
 -- So may the point of the next line's command, that of a mark which its record needs first, and that of the end, which has the line's time.

@@ -6,10 +6,11 @@ use Rattle.pair_table.specs.Tables.{Table, none_clash}
 use Rattle.row_changes.specs.Changes.{Timed, after_changes}
 use Rattle.row_changes.specs.Toward.{has_no_hit, next_row}
 use Rattle.site_means.specs.Images.{Images, Shape}
+use Rattle.xrc_command.specs.declared.line.Line.{Line}
 use Rattle.consistency.specs.Bears.{Bears, Run, Stage}
 use Rattle.consistency.specs.Courses.{Answered, IsCourse, StandsAt}
 use Rattle.consistency.specs.Replies.{reply_count}
-use Rattle.consistency.specs.Steps.{IsCommanded, TimedCommand}
+use Rattle.consistency.specs.Steps.{IsCommanded}
 
 -- A choice of images bears one time at most.
 abbrev pub OneTime : Type 0
@@ -21,16 +22,16 @@ TimesAreNotEarlier = (run : Run) (s : Stage) (shape : Shape) (images : Images) (
 
 -- It bears no time past a line that was heard, where the session hasn't ended.
 abbrev pub TimesAreNotLater : Type 0
-TimesAreNotLater = (run : Run) (s : Stage) (shape : Shape) (images : Images) (time : ℕ) (line : TimedCommand) → s.next ≡ Some line → s.table.is_ended ≡ false
-    → Bears run s shape images time → time ≤ line.time
+TimesAreNotLater = (run : Run) (s : Stage) (shape : Shape) (images : Images) (time : ℕ) (line : Line) → s.next ≡ Some line → s.table.is_ended ≡ false
+    → Bears run s shape images time → time ≤ line.time.0
 
 -- Without a hit the rows before a line's command are determined: each row that wasn't suspended is duplex, or suspended since its
 -- control's break time where that lies between.
 abbrev pub StepsAreFunctions : Type 0
-StepsAreFunctions = (level : Level) (breaks : List (Option ℕ)) (names : Naming) (from : ℕ) (old : Table) (line : TimedCommand) (changes hits : List Timed) → IsTrue (none_clash old.rows)
+StepsAreFunctions = (level : Level) (breaks : List (Option ℕ)) (names : Naming) (from : ℕ) (old : Table) (line : Line) (changes hits : List Timed) → IsTrue (none_clash old.rows)
     → IsCommanded level breaks names from old line changes hits → IsTrue (has_no_hit changes)
-    → after_changes level changes old.rows ≡ map (next_row breaks from line.time) old.rows
+    → after_changes level changes old.rows ≡ map (next_row breaks from line.time.0) old.rows
 
 -- Where a run stands as many lines are answered as replies were said: the lines of its course are all that it replied to.
 abbrev pub RepliesAreAnswers : Type 0
-RepliesAreAnswers = (run : Run) (lines : List Answered) (heard said : List ℕ) → ((n : ℕ) (a : Answered) → slice_get lines n ≡ Some a → a.line.time < 2 ^ 64) → IsCourse run lines → (at : StandsAt lines heard said) → reply_count said ≡ at.answered
+RepliesAreAnswers = (run : Run) (lines : List Answered) (heard said : List ℕ) → ((n : ℕ) (a : Answered) → slice_get lines n ≡ Some a → a.line.time.0 < 2 ^ 64) → IsCourse run lines → (at : StandsAt lines heard said) → reply_count said ≡ at.answered

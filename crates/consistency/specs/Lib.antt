@@ -9,8 +9,6 @@ pub mod Unhit
 pub mod PointLaws
 pub mod FlagLaws
 pub mod ReplyLaws
-pub use Rattle.row_changes.specs.Changes
-pub use Rattle.row_changes.specs.Toward
 pub mod Steps
 pub mod Bears
 pub mod Times

@@ -18,10 +18,11 @@ use Rattle.row_changes.specs.Changes.Due.{NoneDue}
 use Rattle.row_changes.specs.Toward.{AreCounted, Toward, hit_count}
 use Rattle.site_means.specs.Images.{Images, Shape, shape_of}
 use Rattle.tod_stamp.specs.declared.stamp.Stamp.{Stamp}
+use Rattle.xrc_command.specs.declared.line.Line.{Line}
 use Rattle.consistency.specs.Bears.{Bears, IsTime, Run, Stage, accepts, accepts_end, breaks_of, names_of, tracks_of_row}
 use Rattle.consistency.specs.Courses.{Answered, IsAnswered, IsCourse, stage_after, stage_at}
 use Rattle.consistency.specs.Replies.{IsReply}
-use Rattle.consistency.specs.Steps.{IsLineStep, TimedCommand, is_active, table_after_line, table_on_the_way}
+use Rattle.consistency.specs.Steps.{IsLineStep, is_active, table_after_line, table_on_the_way}
 use Rattle.consistency.specs.Answering.{answered_by, points_before, reply_content}
 use Rattle.consistency.specs.Bearing.{GoesThroughPoints, MayBeMeant, ShowsPoint}
 use Rattle.consistency.specs.Between.{HasPassed}
@@ -90,7 +91,7 @@ LegsBegin = (run : Run) (s : Stage) (answered : ℕ) → s.table ≡ table_at ru
 
 -- It goes on over points on the way, each led to from the one before.
 abbrev pub LegsGoOn : Type 0
-LegsGoOn = (run : Run) (s : Stage) (asked : ℕ → Option TimedCommand) (l : Leg) (points : List PassedPoint) → IsLegOf run s l → IsTrue (list_all is_on_the_way points) → AreLinked (ComesNext run asked) leg_after l points
+LegsGoOn = (run : Run) (s : Stage) (asked : ℕ → Option Line) (l : Leg) (points : List PassedPoint) → IsLegOf run s l → IsTrue (list_all is_on_the_way points) → AreLinked (ComesNext run asked) leg_after l points
     → IsLegOf run s (fold leg_after l points)
 
 -- A leg stays one behind hits at its point's time, and behind a mark that a command's record needs first.
@@ -102,7 +103,7 @@ LegsAreMarked = (run : Run) (s : Stage) (l : Leg) (q : Point) (number : ℕ) (hi
 
 -- Times don't fall from point to point, whatever leads to them.
 abbrev pub PointsRise : Type 0
-PointsRise = (run : Run) (asked : ℕ → Option TimedCommand) (l : Leg) (points : List PassedPoint) → AreLinked (ComesNext run asked) leg_after l points → All (λ n. l.point.time ≤ n.point.time) points
+PointsRise = (run : Run) (asked : ℕ → Option Line) (l : Leg) (points : List PassedPoint) → AreLinked (ComesNext run asked) leg_after l points → All (λ n. l.point.time ≤ n.point.time) points
 
 -- The point of a leg may be meant, where its time may be, what is due may be, and each device is hit at most as often as it failed.
 abbrev pub LegsMayBeMeant : Type 0
@@ -111,8 +112,8 @@ LegsMayBeMeant = (run : Run) (s : Stage) (l : Leg) → s.table.is_ended ≡ fals
 
 -- So may each point on the way to the time of the next line.
 abbrev pub WaysMayBeMeant : Type 0
-WaysMayBeMeant = (run : Run) (s : Stage) (asked : ℕ → Option TimedCommand) (line : TimedCommand) (l : Leg) (points : List PassedPoint) → s.table.is_ended ≡ false → s.next ≡ Some line → IsLegOf run s l
-    → IsTrue (list_all is_on_the_way points) → AreLinked (ComesNext run asked) leg_after l points → All (λ n. (n.point.time ≤ line.time) × IsTrue (may_rest true n.point)) points
+WaysMayBeMeant = (run : Run) (s : Stage) (asked : ℕ → Option Line) (line : Line) (l : Leg) (points : List PassedPoint) → s.table.is_ended ≡ false → s.next ≡ Some line → IsLegOf run s l
+    → IsTrue (list_all is_on_the_way points) → AreLinked (ComesNext run asked) leg_after l points → All (λ n. (n.point.time ≤ line.time.0) × IsTrue (may_rest true n.point)) points
     → All (λ n. MayBeMeant run s n.point) points
 
 -- So may the point of a mark that the record of the next line's command needs first.
@@ -121,38 +122,38 @@ MarksMayBeMeant = (run : Run) (s : Stage) (l : Leg) (q : Point) (hits : List Tim
 
 -- Behind such a mark comes the command for which it was made, and nothing else.
 abbrev pub MarksAreCommanded : Type 0
-MarksAreCommanded = (run : Run) (asked : ℕ → Option TimedCommand) (l : Leg) (n m : PassedPoint) (line : ℕ) (hits : List Timed) → n.way ≡ MarkedFor line hits → ComesNext run asked l n → ComesNext run asked (leg_after l n) m
+MarksAreCommanded = (run : Run) (asked : ℕ → Option Line) (l : Leg) (n m : PassedPoint) (line : ℕ) (hits : List Timed) → n.way ≡ MarkedFor line hits → ComesNext run asked l n → ComesNext run asked (leg_after l n) m
     → (more : List Timed) × (m.way ≡ Commanded line more)
 
 -- Behind such a mark and the command each row whose device the mark hit stands as the hit left it, suspended by its device.
 abbrev pub MarkedRowsStand : Type 0
-MarkedRowsStand = (run : Run) (asked : Option TimedCommand) (l : Leg) (q : Point) (hits : List Timed) → l.point.is_ended ≡ false → IsCommanding run asked l q hits
+MarkedRowsStand = (run : Run) (asked : Option Line) (l : Leg) (q : Point) (hits : List Timed) → l.point.is_ended ≡ false → IsCommanding run asked l q hits
     → All (λ r. 0 < hit_count r.device l.marked → r.state ≡ since ByDevice l.point.time) q.rows
 
 -- Behind the command of an end that is accepted comes its ending point, and nothing else.
 abbrev pub EndsAreEnded : Type 0
-EndsAreEnded = (run : Run) (asked : ℕ → Option TimedCommand) (l : Leg) (n m : PassedPoint) (line : ℕ) (hits : List Timed) → n.way ≡ Commanded line hits → ComesNext run asked l n → IsTrue (accepts_end run (table_at run n.point) (asked line))
+EndsAreEnded = (run : Run) (asked : ℕ → Option Line) (l : Leg) (n m : PassedPoint) (line : ℕ) (hits : List Timed) → n.way ≡ Commanded line hits → ComesNext run asked l n → IsTrue (accepts_end run (table_at run n.point) (asked line))
     → ComesNext run asked (leg_after l n) m → (more : List Timed) × (m.way ≡ Ending line more)
 
 -- No ending point comes but behind its line's command.
 abbrev pub EndsAreCommanded : Type 0
-EndsAreCommanded = (run : Run) (asked : ℕ → Option TimedCommand) (l : Leg) (n m : PassedPoint) (line : ℕ) (more : List Timed) → ComesNext run asked l n → m.way ≡ Ending line more → ComesNext run asked (leg_after l n) m
+EndsAreCommanded = (run : Run) (asked : ℕ → Option Line) (l : Leg) (n m : PassedPoint) (line : ℕ) (more : List Timed) → ComesNext run asked l n → m.way ≡ Ending line more → ComesNext run asked (leg_after l n) m
     → (hits : List Timed) × (n.way ≡ Commanded line hits)
 
 -- Nothing changes once the session has ended: each point behind is the one at which it ended.
 abbrev pub EndedPointsStay : Type 0
-EndedPointsStay = (run : Run) (asked : ℕ → Option TimedCommand) (l : Leg) (points : List PassedPoint) → l.point.is_ended ≡ true → AreLinked (ComesNext run asked) leg_after l points → All (λ n. n.point ≡ l.point) points
+EndedPointsStay = (run : Run) (asked : ℕ → Option Line) (l : Leg) (points : List PassedPoint) → l.point.is_ended ≡ true → AreLinked (ComesNext run asked) leg_after l points → All (λ n. n.point ≡ l.point) points
 
 -- ---- hits are counted
 
 -- A device's hits up to a leg don't become fewer by the next point.
 abbrev pub HitsStayCounted : Type 0
-HitsStayCounted = (run : Run) (asked : ℕ → Option TimedCommand) (l : Leg) (q : Point) (way : Way) (device : ℕ) → ComesBy run asked l q way → hits_of_leg l device ≤ hits_of_leg (leg_by l q way) device
+HitsStayCounted = (run : Run) (asked : ℕ → Option Line) (l : Leg) (q : Point) (way : Way) (device : ℕ) → ComesBy run asked l q way → hits_of_leg l device ≤ hits_of_leg (leg_by l q way) device
 
 -- The hits of a mark that a command's record needs first are counted, also if the command takes away the row. Those that stand behind the
 -- command again are counted once.
 abbrev pub MarkedHitsAreCounted : Type 0
-MarkedHitsAreCounted = (run : Run) (asked : ℕ → Option TimedCommand) (l : Leg) (p q : Point) (number : ℕ) (hits more : List Timed) (device : ℕ) → ComesBy run asked l p (MarkedFor number hits)
+MarkedHitsAreCounted = (run : Run) (asked : ℕ → Option Line) (l : Leg) (p q : Point) (number : ℕ) (hits more : List Timed) (device : ℕ) → ComesBy run asked l p (MarkedFor number hits)
     → hits_of_leg (leg_by (leg_by l p (MarkedFor number hits)) q (Commanded number more)) device ≡ hits_of_leg l device + max (hit_count device hits) (hit_count device more)
 
 -- So a leg of which each hit is counted has no more hits of a device than it failed, and neither has a command or an end behind it.
@@ -201,7 +202,7 @@ CommandsAreAnswered = (run : Run) (s : Stage) (l : Leg) (q : Point) (hits : List
 
 -- So is any line before the session's start and behind its end, by its command alone.
 abbrev pub InactiveAreAnswered : Type 0
-InactiveAreAnswered = (run : Run) (s : Stage) (text reply : List ℕ) (line : TimedCommand) → is_active s.table ≡ false → AreCounted run.rises s.past
+InactiveAreAnswered = (run : Run) (s : Stage) (text reply : List ℕ) (line : Line) → is_active s.table ≡ false → AreCounted run.rises s.past
     → ((level : Level) → line.command ≡ Start level → IsTrue (accepts run s.table line) → level ≡ run.level) → IsReply (accepts run s.table line) line reply → IsAnswered run s (answered_by run s text reply line [] [])
 
 -- The next leg begins at the point of the command, at the stage behind the line, where the line isn't an end that is accepted.
@@ -221,7 +222,7 @@ UnhitCoursesAreFunctions = (run : Run) (lines : List Answered) → IsCourse run 
 
 -- A reply tells OK exactly where the command table accepts the command.
 abbrev pub RepliesTellAccepted : Type 0
-RepliesTellAccepted = (run : Run) (s : Stage) (first : Point) (points : List PassedPoint) (number : ℕ) (text reply : List ℕ) (line : TimedCommand) (changes hits : List Timed)
+RepliesTellAccepted = (run : Run) (s : Stage) (first : Point) (points : List PassedPoint) (number : ℕ) (text reply : List ℕ) (line : Line) (changes hits : List Timed)
     → is_ok (reply_content run s first points number (answered_by run s text reply line changes hits)).answer ≡ accepts run (table_on_the_way run.level changes s.table) line
 
 -- A reply tells of the points before the command of its line, or before the mark that the command's record needed first.
@@ -245,7 +246,7 @@ DuplexIsByMoments plant = (run : Run) (row : PairRow) (from to : ℕ) (first : P
 
 -- The points that a reply tells of are such a way, up to some moment. So its tracks are those that the moments say.
 abbrev pub ToldPointsAreWalked : PlantState → Type 0
-ToldPointsAreWalked plant = (run : Run) (asked : ℕ → Option TimedCommand) (first : Leg) (points : List PassedPoint) (number by : ℕ) (passed : HasPassed run asked first points plant by)
+ToldPointsAreWalked plant = (run : Run) (asked : ℕ → Option Line) (first : Leg) (points : List PassedPoint) (number by : ℕ) (passed : HasPassed run asked first points plant by)
     → ((t : ℕ) → passed.from ≤ t → t ≤ by → (c : Choice) × IsChoice plant t c) → (to : ℕ) × (to ≤ by) × IsWalked run plant passed.from to first.point (points_before number points)
 
 -- A suspended row whose own device hasn't failed owes exactly the tracks written since, where it has been duplex so. Else it owes all.

@@ -4,7 +4,7 @@ use Rattle.std.specs.List.{list_any}
 use Rattle.tod_stamp.specs.Stamps.{stamp_of_digits, stamp_text}
 use Rattle.pair_table.specs.declared.command.Command.{Command}
 use Rattle.pair_table.specs.declared.command.Command.TheVariants.{Start, AddPair, DelPair, Suspend, Query, End}
-use Rattle.consistency.specs.Steps.{TimedCommand}
+use Rattle.xrc_command.specs.declared.line.Line.{Line}
 use Rattle.consistency.specs.Times.{AreWhole, whole_lines, words}
 
 -- ---- lines that are replies
@@ -48,7 +48,7 @@ answer_word is_accepted = if is_accepted then codes "OK" else codes "REFUSED"
 
 -- A reply is whole lines of a report, of which none is a reply, and then one line: the time of the line that is answered, its command's
 -- word, and whether the command is accepted.
-pub record IsReply (is_accepted : Bool) (line : TimedCommand) (reply : List ℕ) : Type 0 where
+pub record IsReply (is_accepted : Bool) (line : Line) (reply : List ℕ) : Type 0 where
   pub report : List ℕ
   pub whole : AreWhole report
   pub none : has_reply report ≡ false
@@ -56,4 +56,4 @@ pub record IsReply (is_accepted : Bool) (line : TimedCommand) (reply : List ℕ)
   pub one_line : list_any (λ b. b == 10) last ≡ false
   pub parts : reply ≡ report ++ last ++ 10 ∷ []
   pub others : List (List ℕ)
-  pub words_are : words last ≡ stamp_text line.time ∷ command_word line.command ∷ answer_word is_accepted ∷ others
+  pub words_are : words last ≡ stamp_text line.time.0 ∷ command_word line.command ∷ answer_word is_accepted ∷ others

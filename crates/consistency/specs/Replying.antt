@@ -13,10 +13,11 @@ use Rattle.pair_table.specs.declared.row.PairRow.{PairRow}
 use Rattle.pair_table.specs.Tables.{Table}
 use Rattle.xquery_report.specs.Replies.{reply_line}
 use Rattle.xquery_report.specs.Reports.{report_text}
+use Rattle.xrc_command.specs.declared.line.Line.{Line}
 use Rattle.consistency.specs.Bears.{Run, Stage, accepts, names_of}
 use Rattle.consistency.specs.Courses.{Answered, replied_after}
 use Rattle.consistency.specs.Replies.{command_word}
-use Rattle.consistency.specs.Steps.{TimedCommand, table_on_the_way}
+use Rattle.consistency.specs.Steps.{table_on_the_way}
 use Rattle.consistency.specs.Answering.{ReplyContent, reply_content}
 use Rattle.consistency.specs.Leads.{Point}
 use Rattle.consistency.specs.Ways.{PassedPoint}
@@ -32,16 +33,16 @@ is_query (Suspend choice) = false
 is_query End = false
 
 -- A query that is accepted is answered with a report.
-abbrev pub is_reported : Run → Table → TimedCommand → Bool
+abbrev pub is_reported : Run → Table → Line → Bool
 is_reported run table line = is_query line.command && accepts run table line
 
 -- the report of a table at a line's time, with the causes of the controls that have broken by then; nothing before another line's reply
-abbrev pub report_before : Run → Table → TimedCommand → List ℕ
-report_before run table line = if is_reported run table line then report_text table run.level line.time (map (cause_at line.time) run.traces) else []
+abbrev pub report_before : Run → Table → Line → List ℕ
+report_before run table line = if is_reported run table line then report_text table run.level line.time.0 (map (cause_at line.time.0) run.traces) else []
 
 -- the reply's own line
-abbrev pub own_line : TimedCommand → ReplyContent → List ℕ
-own_line line content = reply_line line.time line.command content.answer content.tracks (option_map stamp content.time)
+abbrev pub own_line : Line → ReplyContent → List ℕ
+own_line line content = reply_line line.time.0 line.command content.answer content.tracks (option_map stamp content.time)
 
 -- the reply to the line with a number at a stage, if the session has passed these points
 abbrev pub reply_text : Run → Stage → (first : Point) → List PassedPoint → (number : ℕ) → Answered → List ℕ
@@ -56,7 +57,7 @@ IsExact run s first points number a = a.reply ≡ reply_text run s first points 
 -- The times that a reply says, in order: that of the journal in its report, which is the line's, and the one behind `T=`, once the session
 -- has started.
 abbrev pub times_replied : Run → Stage → Answered → List ℕ
-times_replied run s a = (if is_reported run (table_on_the_way run.level a.changes s.table) a.line then a.line.time ∷ [] else []) ++ (if a.table.is_started then replied_after s a.line ∷ [] else [])
+times_replied run s a = (if is_reported run (table_on_the_way run.level a.changes s.table) a.line then a.line.time.0 ∷ [] else []) ++ (if a.table.is_started then replied_after s a.line ∷ [] else [])
 
 -- ---- the names that a reply may show
 
@@ -93,8 +94,8 @@ told_tracks Query answer tracks = None
 told_tracks End answer tracks = None
 
 -- Two lines' replies tell the same.
-pub record TellsTheSame (a b : TimedCommand) (x y : ReplyContent) : Type 0 where
-  pub time : a.time ≡ b.time
+pub record TellsTheSame (a b : Line) (x y : ReplyContent) : Type 0 where
+  pub time : a.time.0 ≡ b.time.0
   pub word : command_word a.command ≡ command_word b.command
   pub refusal : told_refusal x.answer ≡ told_refusal y.answer
   pub tracks : told_tracks a.command x.answer x.tracks ≡ told_tracks b.command y.answer y.tracks
@@ -115,8 +116,8 @@ told_number NotPaired = 0
 told_number Ended = 0
 
 -- The times and numbers of a reply lie below 2^64.
-pub record HasShortNumbers (line : TimedCommand) (content : ReplyContent) : Type 0 where
-  pub time : line.time < 2 ^ 64
+pub record HasShortNumbers (line : Line) (content : ReplyContent) : Type 0 where
+  pub time : line.time.0 < 2 ^ 64
   pub tracks : IfSome (told_tracks line.command content.answer content.tracks) (λ n. n < 2 ^ 64)
   pub refusal : IfSome (told_refusal content.answer) (λ r. told_number r < 2 ^ 64)
   pub replied : IfSome content.time (λ t. t < 2 ^ 64)

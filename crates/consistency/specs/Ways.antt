@@ -6,8 +6,9 @@ use Rattle.pair_table.specs.Tables.{Table}
 use Rattle.row_changes.specs.Changes.{Timed}
 use Rattle.row_changes.specs.Changes.Due.{NoneDue}
 use Rattle.row_changes.specs.Toward.{all_broke, hit_count, is_break, is_settled}
+use Rattle.xrc_command.specs.declared.line.Line.{Line}
 use Rattle.consistency.specs.Bears.{Run, Stage, accepts_end, breaks_of, names_of}
-use Rattle.consistency.specs.Steps.{TimedCommand, commanded}
+use Rattle.consistency.specs.Steps.{commanded}
 use Rattle.consistency.specs.Leads.{HitsLead, Leads, LeadsWhole, MarkedHitsLead, Point}
 use Rattle.passages.specs.Points.{Passed}
 
@@ -82,19 +83,19 @@ abbrev pub table_at : Run → Point → Table
 table_at run p = record { session = run.session; is_started = true; is_ended = p.is_ended; rows = p.rows }
 
 -- the point with the rows after a line's command
-abbrev pub commanded_point : Run → TimedCommand → Point → Point
+abbrev pub commanded_point : Run → Line → Point → Point
 commanded_point run line p = record p { rows = (commanded (breaks_of run) (names_of run) (table_at run p) line).rows }
 
 -- A line's command may take effect at its time, where nothing is due, no control with that break time has broken, and no row is pending or
 -- copying.
-pub record MayTakeEffect (run : Run) (line : TimedCommand) (l : Leg) : Type 0 where
-  pub at : l.point.time ≡ line.time
+pub record MayTakeEffect (run : Run) (line : Line) (l : Leg) : Type 0 where
+  pub at : l.point.time ≡ line.time.0
   pub none_due : l.point.due ≡ NoneDue
-  pub not_broken_yet : IsTrue (list_all (λ t. not (is_break t && t.time == line.time)) l.changes)
+  pub not_broken_yet : IsTrue (list_all (λ t. not (is_break t && t.time == line.time.0)) l.changes)
   pub settled : IsTrue (list_all (λ r. is_settled r.state) l.point.rows)
 
 -- It takes effect. Hits may follow it.
-pub record TakesEffect (run : Run) (line : TimedCommand) (l : Leg) (q : Point) (hits : List Timed) : Type 0 where
+pub record TakesEffect (run : Run) (line : Line) (l : Leg) (q : Point) (hits : List Timed) : Type 0 where
   pub may : MayTakeEffect run line l
   pub leads : HitsLead run.level (breaks_of run) (commanded_point run line l.point) q hits
 
@@ -105,8 +106,8 @@ hits_stand marked hits rows = list_all (λ r. nat_le (hit_count r.device marked)
 -- The next point is that of a line's command. The hits of a mark that was made for it stand behind the command, but for those whose rows the
 -- command took away. A command that leaves the rows as they are writes no record, so no hit stands behind it. Once the session has ended a line
 -- changes nothing, and the time stands still.
-pub record IsCommanding (run : Run) (asked : Option TimedCommand) (l : Leg) (q : Point) (hits : List Timed) : Type 0 where
-  pub line : TimedCommand
+pub record IsCommanding (run : Run) (asked : Option Line) (l : Leg) (q : Point) (hits : List Timed) : Type 0 where
+  pub line : Line
   pub heard : asked ≡ Some line
   pub stand : IsTrue (hits_stand l.marked hits q.rows)
   pub recorded : l.point.is_ended ≡ false → (commanded_point run line l.point).rows ≡ l.point.rows → hits ≡ []
@@ -120,17 +121,17 @@ abbrev pub going_on : Point → Point
 going_on q = record q { is_ended = false }
 
 -- The next point is the end of the session, by a line at its time that ends it and is accepted.
-pub record IsEnding (run : Run) (asked : Option TimedCommand) (p q : Point) (hits : List Timed) : Type 0 where
+pub record IsEnding (run : Run) (asked : Option Line) (p q : Point) (hits : List Timed) : Type 0 where
   pub accepted : IsTrue (accepts_end run (table_at run p) asked)
-  pub at : IfSome asked (λ line. p.time ≡ line.time)
+  pub at : IfSome asked (λ line. p.time ≡ line.time.0)
   pub ended : q.is_ended ≡ true
   pub leads : HitsLead run.level (breaks_of run) p (going_on q) hits
 
 -- ---- a mark that a command's record needs
 
 -- The next point is that of a mark which the record of a line's command needs first. The command alters rows, and may take effect there.
-pub record IsMarking (run : Run) (asked : Option TimedCommand) (l : Leg) (q : Point) (hits : List Timed) : Type 0 where
-  pub line : TimedCommand
+pub record IsMarking (run : Run) (asked : Option Line) (l : Leg) (q : Point) (hits : List Timed) : Type 0 where
+  pub line : Line
   pub heard : asked ≡ Some line
   pub may : MayTakeEffect run line l
   pub alters : ¬ ((commanded_point run line l.point).rows ≡ l.point.rows)
@@ -151,16 +152,16 @@ pub record IsOnTheWay (run : Run) (l : Leg) (q : Point) (changes : List Timed) :
   pub broken : IsTrue (all_broke l.replied q.time 0 (breaks_of run) (l.changes ++ changes))
 
 -- the line answered last, if one was
-abbrev pub last_answered : (asked : ℕ → Option TimedCommand) → (answered : ℕ) → Option TimedCommand
+abbrev pub last_answered : (asked : ℕ → Option Line) → (answered : ℕ) → Option Line
 last_answered asked zero = None
 last_answered asked (suc n) = asked n
 
 -- whether an accepted end was the last line, and the mark that ends the session hasn't come
-abbrev pub is_ending : Run → (asked : ℕ → Option TimedCommand) → Leg → Bool
+abbrev pub is_ending : Run → (asked : ℕ → Option Line) → Leg → Bool
 is_ending run asked l = accepts_end run (table_at run l.point) (last_answered asked l.answered)
 
 -- The session works for its next line: it neither has ended nor is to end next, and no mark was made for the line's command.
-pub record IsAtWork (run : Run) (asked : ℕ → Option TimedCommand) (l : Leg) : Type 0 where
+pub record IsAtWork (run : Run) (asked : ℕ → Option Line) (l : Leg) : Type 0 where
   pub goes_on : l.point.is_ended ≡ false
   pub not_ending : is_ending run asked l ≡ false
   pub none_marked : l.marked ≡ []
@@ -172,14 +173,14 @@ pub record IsToEnd (line : ℕ) (l : Leg) : Type 0 where
   pub none_marked : l.marked ≡ []
 
 -- The next point comes by a way. `asked` is the line with a number, where it was heard whole.
-abbrev pub ComesBy : Run → (asked : ℕ → Option TimedCommand) → Leg → Point → Way → Type 0
+abbrev pub ComesBy : Run → (asked : ℕ → Option Line) → Leg → Point → Way → Type 0
 ComesBy run asked l q (OnTheWay changes) = IsAtWork run asked l × IsOnTheWay run l q changes
 ComesBy run asked l q (MarkedFor line hits) = (line ≡ l.answered) × IsAtWork run asked l × IsMarking run (asked line) l q hits
 ComesBy run asked l q (Commanded line hits) = (line ≡ l.answered) × (is_ending run asked l ≡ false) × IsCommanding run (asked line) l q hits
 ComesBy run asked l q (Ending line hits) = IsToEnd line l × IsEnding run (asked line) l.point q hits
 
 -- A point comes next by its way, and each device was hit at most as often as it failed.
-abbrev pub ComesNext : Run → (asked : ℕ → Option TimedCommand) → Leg → PassedPoint → Type 0
+abbrev pub ComesNext : Run → (asked : ℕ → Option Line) → Leg → PassedPoint → Type 0
 ComesNext run asked l n = ComesBy run asked l n.point n.way × HasCountedHits run (leg_after l n)
 
 -- ---- legs and stages

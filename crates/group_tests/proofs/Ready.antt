@@ -2,24 +2,22 @@
 use Rattle.std.proofs.Common.{◌≡◌, ℕ, ◌≤◌, ◌<◌, Bool, true, false, not, cond, ◌&&◌, nat_eq, nat_lt, nat_le, List, [], ◌∷◌, length, refl, sym, ap, subst, ◌∙◌, arith, length-set}
 use Rattle.std.specs.List.{list_all}
 use Rattle.std.proofs.lemmas.Bool.{and_parts, and_from, eqb-true, lt-ltb, le-leb, le-ltb}
-use Rattle.std.proofs.lemmas.List.{get_or-set_same, get_or-map, length-map, length-replicate}
+use Rattle.std.proofs.lemmas.List.{get_or-set_same, get_or-map, length-map}
 use Rattle.tod_stamp.specs.declared.stamp.Stamp.{Stamp}
 use Rattle.ckd_track.specs.declared.write.Batch.{Batch}
 use Rattle.ckd_track.specs.declared.write.Write.{Write}
 use Rattle.ckd_track.specs.Writes.{is_earlier}
 use Rattle.xrc_edge.specs.Order.{is_in_order}
-use Rattle.change_map.specs.Sets.{no_track}
-use Rattle.copy_plan.specs.Plans.{PlanState}
 use Rattle.pending_queue.specs.Entries.{WaitingEntry, copies}
 use Rattle.group_state.specs.declared.phase.Phase.{Phase}
 use Rattle.group_state.specs.declared.phase.Phase.TheVariants.{Telling, Broken, Reported}
 use Rattle.group_state.specs.declared.volume.Volume.{Volume}
 use Rattle.group_state.specs.Volumes.{with_write, with_writes, formed_track, with_formed_copy, with_formed_copies}
 use Rattle.group_state.specs.Controls.{ControlState, new_control, is_telling, phase_after, fits, joined, formed, due_of}
-use Rattle.group_state.specs.Groups.{Group, new_group, control_at, with_control, cut_of, formed_at}
+use Rattle.group_state.specs.Groups.{Group, control_at, with_control, cut_of, formed_at}
 use Rattle.group_state.specs.Sound.{is_track_within, MayJoin}
 use Rattle.group_state.specs.Machine.{group_after}
-use Rattle.group_state.specs.Machine.Call.{Join, Carry}
+use Rattle.group_state.specs.Machine.Call.{Join}
 use Rattle.group_state.proofs.VolumeLaws.{same_or_none}
 use Rattle.group_state.proofs.SoundLaws.{all_up, within_write}
 use Rattle.group_state.proofs.Kept.{least_within}
@@ -62,15 +60,6 @@ within_formed : (volumes : List Volume) (taken : List WaitingEntry) (v x : ℕ) 
 within_formed volumes [] v x = refl
 within_formed volumes (e ∷ taken) v x =
     within_formed (with_formed_copy volumes e) taken v x ∙ same_or_none (λ (u : Volume). nat_lt x (length u.map)) e.head.volume v formed_track (λ u. refl) (λ u. refl) volumes
-
-pub ready_first : (records blocks : ℕ) (plan : PlanState) → length plan.wanted ≡ 2 → CarriesFirst 0 (group_after (new_group 1 records blocks) (Carry 0 0 plan))
-ready_first records blocks plan two = record {
-  one = refl;
-  telling = refl;
-  told = omega arith;
-  within = lt-ltb 0 (length (no_track (length plan.wanted))) (omega (arith, length-replicate (length plan.wanted) false, two));
-  last = omega arith;
-}
 
 pub ready_joined : (before at : ℕ) (s : Group) (b : Batch) → CarriesFirst before s → before < at → b.control ≡ 0 → b.upto.0 ≡ at → CarriesFirst at (group_after s (Join b))
 ready_joined before at s b ready later control upto = choose (fits (control_at s b.control) b)

@@ -1,27 +1,18 @@
 -- What seats of a table of three controls may do, and what they know afterwards.
-use Rattle.std.proofs.Common.{◌≡◌, ℕ, zero, suc, ◌+◌, ◌<◌, ◌≤◌, Bool, true, nat_lt, nat_le, ◌&&◌, List, [], ◌∷◌, length, get_or, set, Option, Some, None, refl, sym, ap, ◌∙◌, subst, arith}
+use Rattle.std.proofs.Common.{◌≡◌, ℕ, zero, suc, ◌+◌, ◌<◌, Bool, true, nat_lt, nat_le, ◌&&◌, List, [], ◌∷◌, length, get_or, set, Option, Some, None, refl, sym, ap, ◌∙◌, subst, arith}
 use Rattle.std.specs.Prelude.{All}
 use Rattle.std.specs.List.{slice_get}
 use Rattle.std.proofs.lemmas.Bool.Decides.{nat_tests}
 use Rattle.std.proofs.lemmas.List.FromFn.{length-map-range_with_len, get_or-map-range_with_len}
-use Rattle.tod_stamp.specs.declared.stamp.Stamp.{Stamp}
 use Rattle.ckd_track.specs.declared.write.Batch.{Batch}
-use Rattle.pending_queue.specs.Groups.{FormedGroup}
-use Rattle.group_state.specs.declared.joining.RunJoin.{RunJoin}
-use Rattle.group_state.specs.declared.joining.RunJoin.TheVariants as runs
-use Rattle.group_state.specs.declared.joining.Forming.{Forming}
-use Rattle.group_state.specs.declared.joining.Forming.TheVariants as formings
-use Rattle.group_state.specs.Groups.{Group, control_at, shown_in}
+use Rattle.group_state.specs.Groups.{Group, control_at}
 use Rattle.group_state.specs.Sound.{is_track_within, are_within}
-use Rattle.group_state.specs.Machine.Call.{Join, Form}
-use Rattle.group_state.specs.Answers.{run_reply, form_reply}
 use Rattle.cut_core.specs.Legal.{are_in}
-use Rattle.turn_group.specs.Seats.{ReaderSeatState, MoverSeatState, SeatMayJoin, ReaderCalled, MoverCalled, IsSeated, new_reader, new_readers}
-use Rattle.turn_group.specs.Notes.{floor_after, last_after}
+use Rattle.turn_group.specs.Seats.{ReaderSeatState, SeatMayJoin, IsSeated, new_reader, new_readers}
 use Rattle.atomic_table.specs.Seated.{TableId}
 use Rattle.group_tests.specs.CutVectors.{whole_on}
 use Rattle.group_tests.specs.StateVectors.{batch}
-use Rattle.group_tests.specs.Turns.{started, ReadsUpTo, MovesUpTo}
+use Rattle.group_tests.specs.Turns.{started, ReadsUpTo}
 
 -- a write of the next time, on a track of the volume
 within_started : (k : ℕ) → k < 3 → (time : ℕ) → are_within (control_at started k).volumes (whole_on 1 time ∷ []) ≡ true
@@ -45,34 +36,6 @@ may_join_next table before seat control b reads own is =
       order = refl;
       tracks = subst (λ (s : Group). are_within (control_at s seat.control).volumes (whole_on 1 (before + 1) ∷ []) ≡ true) (sym reads.begun) (within_started seat.control reads.known (before + 1));
     })
-
-pub reads_next : (table : TableId) (before : ℕ) (old new : ReaderSeatState) (control : ℕ) (b : Batch) (done : RunJoin) → ReadsUpTo table before old → b ≡ batch control (whole_on 1 (before + 1) ∷ []) (before + 1) → done ≡ runs.Joined
-    → ReaderCalled old (Join b) (run_reply done) new → ReadsUpTo table (before + 1) new × (new.control ≡ old.control)
-reads_next table before old new control b done reads is did called =
-    let after = called.after in
-    let floor : new.floor ≡ b.upto = ap (λ (s : ReaderSeatState). s.floor) after ∙ ap (λ (r : RunJoin). floor_after (Join b) (run_reply r) old.floor) did in (
-      record {
-        here = ap (λ (s : ReaderSeatState). s.table) after ∙ reads.here;
-        begun = ap (λ (s : ReaderSeatState). s.first) after ∙ reads.begun;
-        known = subst (λ k. k < 3) (sym (ap (λ (s : ReaderSeatState). s.control) after)) reads.known;
-        tells = ap (λ (s : ReaderSeatState). s.telling) after ∙ reads.tells;
-        told = ap (λ (t : Stamp). t.0) floor ∙ ap (λ (c : Batch). c.upto.0) is;
-      },
-      ap (λ (s : ReaderSeatState). s.control) after,
-    )
-
-pub moves_next : (table : TableId) (limit : Stamp) (time : ℕ) (old new : MoverSeatState) (formed : Forming) (out : FormedGroup) → MovesUpTo table time old → limit.0 ≡ time → out.cut.0 ≤ limit.0 → MoverCalled old (Form limit) (form_reply formed (shown_in out)) new
-    → MovesUpTo table time new
-moves_next table limit time old new formed out moves is upto called = record {
-  here = ap (λ (s : MoverSeatState). s.table) called.after ∙ moves.here;
-  volumes = ap (λ (s : MoverSeatState). length s.known) called.after ∙ moves.volumes;
-  all = ap (λ (s : MoverSeatState). s.seats) called.after ∙ moves.all;
-  low = subst (λ (t : Stamp). t.0 ≤ time) (sym (ap (λ (s : MoverSeatState). s.last) called.after ∙ last formed)) (omega (arith, is, upto));
-}
-  where
-    last : (r : Forming) → last_after (Form limit) (form_reply r (shown_in out)) old.last ≡ out.cut
-    last formings.Formed = refl
-    last formings.Nothing = refl
 
 -- ---- a seat that was taken and put back
 

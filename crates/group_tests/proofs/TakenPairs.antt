@@ -1,5 +1,5 @@
 -- Names, a table and a state that take the changes of commands do so again behind a command, and behind a failure of a device.
-use Rattle.std.proofs.Common.{◌≡◌, ℕ, ◌+◌, ◌-◌, ◌<◌, Bool, true, false, cond, not, nat_le, ◌&&◌, List, [], ◌∷◌, ◌++◌, length, Option, Some, None, Ok, refl, sym, ap, subst, ◌∙◌, arith, true≢false, zero, suc, take, slice_get}
+use Rattle.std.proofs.Common.{◌≡◌, ℕ, ◌-◌, ◌<◌, Bool, true, false, cond, not, nat_le, ◌&&◌, List, [], ◌∷◌, ◌++◌, length, Option, Some, None, Ok, refl, sym, ap, subst, ◌∙◌, arith, true≢false, zero, suc, take, slice_get}
 use Rattle.std.specs.Prelude.{is_none, IfSome}
 use Rattle.std.specs.List.{list_all}
 use Rattle.std.proofs.lemmas.Bool.{and_parts, leb-true}
@@ -20,21 +20,15 @@ use Rattle.pair_table.specs.Rows.{is_row, is_suspended}
 use Rattle.pair_table.specs.Tables.{KeepsRows, Table, changed_row, in_state, is_of, row_of, with_rows, with_state}
 use Rattle.pair_table.proofs.MayLaws.{may_with_state}
 use Rattle.pair_table.proofs.RowRules.{row_keeps}
-use Rattle.group_state.specs.Controls.{ControlState, begun_volume, counts, dropped, forgotten, new_control, resumed}
-use Rattle.group_state.specs.Groups.{Group, control_at, new_controls, new_group, with_control}
-use Rattle.group_state.specs.Volumes.{passes, volume_of}
-use Rattle.group_state.proofs.GroupLaws.{length_new}
-use Rattle.group_state.proofs.Stands.{new_at}
-use Rattle.group_state.proofs.Kept.{kept_first}
+use Rattle.group_state.specs.Controls.{ControlState, begun_volume, counts, dropped, forgotten, resumed}
+use Rattle.group_state.specs.Groups.{Group, control_at, with_control}
 use Rattle.record_rows.specs.Hits.{hit_now, rows_hit}
 use Rattle.record_rows.specs.Records.{rows_with_hits}
 use Rattle.record_rows.specs.Told.{InPlaces}
 use Rattle.fed_logs.specs.Moves.{Plans}
 use Rattle.fed_logs.proofs.Standing.{at_with, same_count}
-use Rattle.mover.proofs.Copying.{kept_within}
-use Rattle.mover.proofs.Pairs.{Among, among_cases, among_of}
+use Rattle.mover.proofs.Pairs.{Among, among_of}
 use Rattle.mover.proofs.Pairs.Among.{Here, Later}
-use Rattle.mover.specs.Told.{is_volume_kept}
 use Rattle.xrc_session.specs.Taking.{IfAdds, IsSuspendedSince, KeepsForRows, MayTake, after_calls, calls_of_change, drop_by}
 use Rattle.xrc_session.proofs.Changed.{no_plans}
 use Rattle.xrc_session.proofs.KeptRows.{kept_added_row, kept_dropped_row, kept_forgotten_row, kept_resumed_row}
@@ -179,30 +173,3 @@ pub failed_again : (names : Naming) (table : Table) (device at : ℕ) (s : Group
     → TakesChanges names (with_rows table (with_state device (failed_state at) table.rows)) (after_calls (calls_of_change Nothing s table.rows (with_state device (failed_state at) table.rows)) s)
 failed_again names table device at s h live =
     taken_again names table (with_rows table (with_state device (failed_state at) table.rows)) s Nothing h (failure_taken names table device at s h live) (may_with_state names device (failed_state at) table.rows h.may) h.started
-
--- ---- a session that begins
-
-first_control : (records blocks k : ℕ) → k < MOST_CONTROLS → control_at (new_group MOST_CONTROLS records blocks) k ≡ new_control (0 + k) records blocks
-first_control records blocks k low = new_at MOST_CONTROLS 0 records blocks k (new_control 0 0 0) low
-
-first_low : (records blocks k : ℕ) → k < length (new_controls MOST_CONTROLS 0 records blocks) → k < MOST_CONTROLS
-first_low records blocks k low = omega (arith, low, length_new MOST_CONTROLS 0 records blocks)
-
-none_kept : (records blocks k v : ℕ) → is_volume_kept v (control_at (new_group MOST_CONTROLS records blocks) k) ≡ true → ⊥
-none_kept records blocks k v kept =
-    let low = first_low records blocks k (kept_within (new_group MOST_CONTROLS records blocks) k v kept) in
-    true≢false (sym kept ∙ ap (λ (c : ControlState). passes (λ u. true) (volume_of v c.volumes)) (first_control records blocks k low))
-
-pub first_taken : (names : Naming) (table : Table) → table.rows ≡ [] → table.is_started ≡ true → TakesChanges names table (new_group MOST_CONTROLS 1 1)
-first_taken names table none started = subst (λ (rows : List PairRow). TakesChanges names (with_rows table rows) (new_group MOST_CONTROLS 1 1)) (sym none) (record {
-  may = record { named = refl; below = refl };
-  started = started;
-  kept = record {
-    keeps = kept_first MOST_CONTROLS 1 1 (omega arith) (omega arith) (omega arith);
-    apart = refl;
-    each = λ r among. absurd (among_cases r [] (among_of [] r among));
-    rowed = λ k v kept. absurd (none_kept 1 1 k v kept);
-  };
-  many = refl;
-  counted = λ k low. ap (λ (c : ControlState). counts c.phase) (first_control 1 1 k (first_low 1 1 k low));
-})

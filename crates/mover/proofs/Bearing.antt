@@ -20,13 +20,13 @@ use Rattle.record_rows.proofs.Counting.{counts_append}
 use Rattle.site_means.specs.declared.means.Means.{Means}
 use Rattle.site_means.specs.Images.{shape_of}
 use Rattle.site_means.specs.Sight.{content_of, means_of}
+use Rattle.xrc_command.specs.declared.line.Line.{Line}
 use Rattle.site_store.specs.DeedChanges.{DeedOfChanges, changes_of, deeds_of}
 use Rattle.site_store.specs.Deeds.{content_behind, means_behind, means_by_deed}
 use Rattle.site_store.specs.Exceptions.{Exceptions, excepted_behind}
 use Rattle.site_store.specs.Seeing.{SeesBehind}
 use Rattle.site_store.proofs.Turning.{means_are}
 use Rattle.consistency.specs.Bears.{Bears, HoldsPrimaries, IsTime, Run, Stage, breaks_of, tracks_of_row}
-use Rattle.consistency.specs.Steps.{TimedCommand}
 use Rattle.fed_logs.specs.Deeds.{held_behind}
 use Rattle.fed_logs.specs.LogLaws.{ReportsBreak}
 use Rattle.fed_logs.specs.Logs.{Sizes}
@@ -80,7 +80,7 @@ module _ (start : PlantState) (k : Work) (w : WorkBegins start k) (n : ℕ) (le 
   abbrev stage : Stage
   stage = k.stage
 
-  abbrev line : TimedCommand
+  abbrev line : Line
   line = k.line
 
   abbrev l : Leg
@@ -206,18 +206,18 @@ module _ (start : PlantState) (k : Work) (w : WorkBegins start k) (n : ℕ) (le 
   -- ---- rows and breaks
 
   abbrev pub named : List DeedOfChanges
-  named = all_silent line.time (breaks_of run) (take n steps)
+  named = all_silent line.time.0 (breaks_of run) (take n steps)
 
   abbrev pub changes : List Timed
   changes = changes_of named
 
   leads : Leads run.level (breaks_of run) p shows changes
   leads =
-      subst (λ (q : Point). Leads run.level (breaks_of run) p q changes) (silent_points run.level line.time (breaks_of run) p (take n steps) each_first)
-      (lead_there run.level (breaks_of run) p named (silent_steps run.level line.time (breaks_of run) p (take n steps) each_first))
+      subst (λ (q : Point). Leads run.level (breaks_of run) p q changes) (silent_points run.level line.time.0 (breaks_of run) p (take n steps) each_first)
+      (lead_there run.level (breaks_of run) p named (silent_steps run.level line.time.0 (breaks_of run) p (take n steps) each_first))
 
-  within_line : shows.time ≤ line.time
-  within_line = let t = (times_rise p.time line.time s end log p.rows done deeds n n w.logged.fed.runs w.logged.kept w.logged.up w.logged.limited (omega arith) within).1 in omega (arith, t, time_is)
+  within_line : shows.time ≤ line.time.0
+  within_line = let t = (times_rise p.time line.time.0 s end log p.rows done deeds n n w.logged.fed.runs w.logged.kept w.logged.up w.logged.limited (omega arith) within).1 in omega (arith, t, time_is)
 
   -- A break whose time has passed was reported by a group, and is named there.
   break_is_named : (k b : ℕ) → break_time_of k (breaks_of run) ≡ Some b → p.time ≤ b → b < shows.time → list_any (breaks_control k) changes ≡ true
@@ -225,7 +225,7 @@ module _ (start : PlantState) (k : Work) (w : WorkBegins start k) (n : ℕ) (le 
       let t = trace_of_break run.traces k b is in
       let below : b < time_meant_behind first p.time = omega (arith, to, time_is) in
       let reports = breaks_come run.traces s end log p.time p.rows done deeds k b t.0 w.logged.fed w.logged.kept t.1 t.2 (w.logged.awaits k b is from) from n within below in
-      report_is_named log line.time (breaks_of run) k b is (let high = within_line in omega (arith, to, high)) p.rows (take n steps) (subst (ReportsBreak log k b p.rows) (sym (first_deeds n steps)) reports)
+      report_is_named log line.time.0 (breaks_of run) k b is (let high = within_line in omega (arith, to, high)) p.rows (take n steps) (subst (ReportsBreak log k b p.rows) (sym (first_deeds n steps)) reports)
 
   -- Each break since the last reply has come.
   pub broken : all_broke stage.replied shows.time 0 (breaks_of run) (l.changes ++ changes) ≡ true
@@ -251,7 +251,7 @@ module _ (start : PlantState) (k : Work) (w : WorkBegins start k) (n : ℕ) (le 
   pub counted : HasCountedHits run leg
   counted device =
       let all = w.at_line.counted device in
-      omega (arith, all, counts_append device l.changes changes, counts_append device l.changes (changes_of steps), fewer_hits device line.time (breaks_of run) n steps)
+      omega (arith, all, counts_append device l.changes changes, counts_append device l.changes (changes_of steps), fewer_hits device line.time.0 (breaks_of run) n steps)
 
   in_time : IsTime stage shows.time
   in_time = (up, timed stage.next w.at_line.heard)
@@ -259,16 +259,16 @@ module _ (start : PlantState) (k : Work) (w : WorkBegins start k) (n : ℕ) (le 
       up : stage.replied ≤ shows.time
       up = leads_rise run.level (breaks_of run) (stage_point stage) shows (l.changes ++ changes) leg_there.whole.leads
 
-      timed : (next : Option TimedCommand) → next ≡ Some line → (let T : Type 0 = elim next [ None ↦ shows.time ≡ stage.replied | Some m ↦ elim stage.table.is_ended [ true ↦ shows.time ≡ stage.replied | false ↦ shows.time ≤ m.time ] ] in T)
+      timed : (next : Option Line) → next ≡ Some line → (let T : Type 0 = elim next [ None ↦ shows.time ≡ stage.replied | Some m ↦ elim stage.table.is_ended [ true ↦ shows.time ≡ stage.replied | false ↦ shows.time ≤ m.time.0 ] ] in T)
       timed None is = absurd cc
       timed (Some m) is =
           let same : m ≡ line = cc in
-          subst (λ (e : Bool). let T : Type 0 = elim e [ true ↦ shows.time ≡ stage.replied | false ↦ shows.time ≤ m.time ] in T) (sym w.at_line.goes_on) (let high = within_line in omega (arith, high, ap (λ (x : TimedCommand). x.time) same))
+          subst (λ (e : Bool). let T : Type 0 = elim e [ true ↦ shows.time ≡ stage.replied | false ↦ shows.time ≤ m.time.0 ] in T) (sym w.at_line.goes_on) (let high = within_line in omega (arith, high, ap (λ (x : Line). x.time.0) same))
 
   pub may_be_meant : MayBeMeant run stage shows
   may_be_meant =
       leg_may_be_meant run stage w.at_line.goes_on leg leg_there in_time (leg_is_counted run stage leg leg_there counted)
-      (ap (λ (o : Option TimedCommand). may_rest (not (is_none o)) shows) w.at_line.heard ∙ rests_there run.level (breaks_of run) p (take n steps) w.at_line.rests each_first)
+      (ap (λ (o : Option Line). may_rest (not (is_none o)) shows) w.at_line.heard ∙ rests_there run.level (breaks_of run) p (take n steps) w.at_line.rests each_first)
 
   pub bears : (c : Choice) → SeesBehind start excepted p.rows first c → Bears run stage (shape_of start) c (time_meant_behind first p.time)
   bears c sees = subst (Bears run stage (shape_of start) c) time_is (points_bear run stage (shape_of start) shows c (shown c sees) may_be_meant)

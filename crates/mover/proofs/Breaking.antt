@@ -125,9 +125,6 @@ silent_comes level all limit time k (b ∷ breaks) rows h = choose (is_at time b
 
 -- ---- who is named
 
-some_time : (a b : ℕ) → (let x : Option ℕ = Some a in let y : Option ℕ = Some b in x ≡ y) → a ≡ b
-some_time a b e = cc
-
 -- A control without a live row, whose break time is the group's, is named.
 silent_names : (limit time k : ℕ) (breaks : List (Option ℕ)) (rows : List PairRow) (i j : ℕ) → j ≡ k + i → break_time_of i breaks ≡ Some time → time < limit → has_none_live j rows ≡ true → list_any (breaks_control j) (silent_from limit time k breaks rows) ≡ true
 silent_names limit time k [] rows i j is at below none = absurd cc

@@ -1,15 +1,11 @@
 -- The mover's seat drops volumes, one after another.
-use Rattle.std.proofs.Common.{◌≡◌, ℕ, zero, suc, ◌+◌, Bool, List, [], ◌∷◌, ◌++◌, length, get_or, map, take, Option, Some, None, refl, sym, ap, ◌∙◌, arith, append-nil, append_assoc, slice_get}
-use Rattle.std.proofs.lemmas.List.{length-set}
+use Rattle.std.proofs.Common.{◌≡◌, ℕ, zero, suc, ◌+◌, List, [], ◌∷◌, ◌++◌, get_or, map, take, Option, Some, None, refl, sym, ap, ◌∙◌, arith, append-nil, append_assoc, slice_get}
 use Rattle.std.proofs.lemmas.Option.{same_Some}
 use Rattle.pair_table.specs.declared.row.PairRow.{PairRow}
 use Rattle.pair_table.specs.declared.row.PairState.{PairState}
-use Rattle.group_state.specs.Machine.Call.{Drop}
-use Rattle.group_state.specs.Machine.Reply.{Made}
-use Rattle.turn.specs.Turn.{ticketed}
 use Rattle.turn_group.specs.Calls.{MadeCall, as_answer}
-use Rattle.turn_group.specs.Notes.{KnownVolume, without_carrying}
-use Rattle.turn_group.specs.Seats.{MoverCalled, MoverSeatState}
+use Rattle.turn_group.specs.Notes.{KnownVolume}
+use Rattle.turn_group.specs.Seats.{MoverSeatState}
 use Rattle.mover.specs.Dropping.{MakesDrops, VolumeDrop, answer_of_drop, drop_of, drops_from, known_behind, owes_since}
 use Rattle.mover.specs.Moves.{IsStillAt}
 
@@ -17,15 +13,6 @@ use Rattle.mover.specs.Moves.{IsStillAt}
 
 pub drops_none : (seat : MoverSeatState) → MakesDrops [] seat seat
 drops_none seat = record { gained = []; calls_are = sym (append-nil seat.calls); are = refl; last = refl; known = refl }
-
-pub drops_one : (k v : ℕ) (all : Bool) (old new : MoverSeatState) → MoverCalled old (Drop k v all) Made new → MakesDrops (record { control = k; volume = v; all = all } ∷ []) old new
-drops_one k v all old new called = record {
-  gained = ticketed called.ticket (Drop k v all) Made ∷ [];
-  calls_are = ap (λ (s : MoverSeatState). s.calls) called.after;
-  are = refl;
-  last = ap (λ (s : MoverSeatState). s.last) called.after;
-  known = ap (λ (s : MoverSeatState). s.known) called.after;
-}
 
 answers_in_turn : (a b : List MadeCall) → map as_answer (a ++ b) ≡ map as_answer a ++ map as_answer b
 answers_in_turn [] b = refl
@@ -66,11 +53,3 @@ stays_self seat = record { here = refl; begun = refl; all = refl; controls = ref
 
 pub stays_then : (old mid new : MoverSeatState) → IsStillAt old mid → IsStillAt mid new → IsStillAt old new
 stays_then old mid new first then = record { here = then.here ∙ first.here; begun = then.begun ∙ first.begun; all = then.all ∙ first.all; controls = then.controls ∙ first.controls }
-
-pub stays_dropped : (k v : ℕ) (all : Bool) (old new : MoverSeatState) → MoverCalled old (Drop k v all) Made new → IsStillAt old new
-stays_dropped k v all old new called = record {
-  here = ap (λ (s : MoverSeatState). s.table) called.after;
-  begun = ap (λ (s : MoverSeatState). s.first) called.after;
-  all = ap (λ (s : MoverSeatState). s.seats) called.after;
-  controls = ap (λ (s : MoverSeatState). length s.known) called.after ∙ length-set old.known k (without_carrying v (get_or old.known k []));
-}

@@ -21,11 +21,11 @@ use Rattle.row_changes.specs.Toward.{hit_count, is_break}
 use Rattle.record_rows.specs.Deeds.{rows_behind, time_meant_behind}
 use Rattle.record_rows.proofs.Counting.{counts_append}
 use Rattle.site_means.specs.Images.{shape_of}
+use Rattle.xrc_command.specs.declared.line.Line.{Line}
 use Rattle.site_store.specs.DeedChanges.{DeedOfChanges, changes_of, deeds_of}
 use Rattle.site_store.specs.Doing.{DoesDeeds}
 use Rattle.site_store.specs.Exceptions.{Exceptions, excepted_behind}
 use Rattle.consistency.specs.Bears.{Run, breaks_of}
-use Rattle.consistency.specs.Steps.{TimedCommand}
 use Rattle.fed_logs.specs.Feeds.{is_answer_of_mover, part_of_mover}
 use Rattle.fed_logs.specs.Logs.{BeginsLog, IsFedLog}
 use Rattle.fed_logs.specs.Moves.{MakesAllDeeds, Plans}
@@ -42,7 +42,7 @@ use Rattle.mover.specs.Working.{IsKeptToEnd, StandsForRows, excepted_last, last_
 use Rattle.mover.proofs.Bearing.{leg_there}
 use Rattle.mover.proofs.Ending.{stands_for_rows_again}
 use Rattle.mover.proofs.Leading.{count_deeds, fewer_hits, flag_there, rows_there, silent_points, time_there}
-use Rattle.mover.proofs.Passing.{done_deeds_pass_points}
+use Rattle.mover.proofs.Passing.{done_deeds_pass_points, points_are_on_the_way}
 use Rattle.site_store.specs.Applying.{excepted_by_apply}
 use Rattle.site_store.specs.Sites.{SiteState}
 use Rattle.site_store.proofs.RowRoom.{reads_choice}
@@ -108,8 +108,8 @@ still_early before time (t ∷ changes) up early =
 
 -- ---- at the limit
 
-module _ {S : Type 0} (tells : Type 0) (left : S → Option (List ℕ)) (faults : S → ℕ) (so : RunSoFar) (line : TimedCommand) (group next : Group) (old new : List (Lane S)) (site after : SiteState) (was is : PlantState) (e : IsEpochOf tells left faults so line group old new site after was is (ends.Reached next))
-    (r : ReachedBy tells left line.time group old new site next after is) (read : (d : Device) → IsThere is d → is.images is.clock d (is.bytes d)) where
+module _ {S : Type 0} (tells : Type 0) (left : S → Option (List ℕ)) (faults : S → ℕ) (so : RunSoFar) (line : Line) (group next : Group) (old new : List (Lane S)) (site after : SiteState) (was is : PlantState) (e : IsEpochOf tells left faults so line group old new site after was is (ends.Reached next))
+    (r : ReachedBy tells left line.time.0 group old new site next after is) (read : (d : Device) → IsThere is d → is.images is.clock d (is.bytes d)) where
   abbrev q : Point
   q = so.leg.point
 
@@ -123,7 +123,7 @@ module _ {S : Type 0} (tells : Type 0) (left : S → Option (List ℕ)) (faults 
   log = e.goes.ran.log
 
   abbrev named : List DeedOfChanges
-  named = all_silent line.time (breaks_of run) steps
+  named = all_silent line.time.0 (breaks_of run) steps
 
   abbrev job : Work
   job = work tells left faults so line group old new site after was is (ends.Reached next) e
@@ -219,10 +219,10 @@ module _ {S : Type 0} (tells : Type 0) (left : S → Option (List ℕ)) (faults 
   broke_then : BrokeAsTraces run.traces next
   broke_then = subst (BrokeAsTraces run.traces) same_end (logs_break_as_traces run.traces group e.goes.ran.end log fed e.stands.has_state.broke)
 
-  up : 0 < line.time
+  up : 0 < line.time.0
   up = let low = r.begins.rests.fast.fits.time in omega (arith, low, r.time.time)
 
-  awaits_then : BreaksAreToCome run.traces line.time next
+  awaits_then : BreaksAreToCome run.traces line.time.0 next
   awaits_then = r.awaits run.traces up e.stands.has_state.keeps e.for_line.turns e.stands.has_state.awaits
 
   -- ---- the leg
@@ -236,21 +236,21 @@ module _ {S : Type 0} (tells : Type 0) (left : S → Option (List ℕ)) (faults 
   leg_is_then : IsLegOf run so.stage leg_then
   leg_is_then =
       subst (λ (o : Point). IsLegOf run so.stage (leg_to so.leg o (changes_of named))) last_is
-      (subst (λ (l : List DeedOfChanges). IsLegOf run so.stage (leg_to so.leg (point_behind run.level q l) (changes_of (all_silent line.time (breaks_of run) l)))) all_steps
+      (subst (λ (l : List DeedOfChanges). IsLegOf run so.stage (leg_to so.leg (point_behind run.level q l) (changes_of (all_silent line.time.0 (breaks_of run) l)))) all_steps
       (leg_there was job began (length steps) (omega arith)))
 
-  early_then : list_all (is_early_break line.time) leg_then.changes ≡ true
+  early_then : list_all (is_early_break line.time.0) leg_then.changes ≡ true
   early_then =
-      list_all-append (is_early_break line.time) so.leg.changes (changes_of named)
-      ∙ and_from (list_all (is_early_break line.time) so.leg.changes) (list_all (is_early_break line.time) (changes_of named))
-      (still_early site.time line.time so.leg.changes (up_to_line tells left faults so line group old new site after was is (ends.Reached next) e) e.stands.early)
-      (named_early line.time (breaks_of run) steps
-      (made_early run.traces group e.goes.ran.end log (part_of_mover log) line.time fed e.stands.has_state.broke (subst (BreaksAreToCome run.traces line.time) (sym same_end) awaits_then) (contains_filtered is_answer_of_mover log) site.level false site.time site.told NoneDue steps NoneDue
+      list_all-append (is_early_break line.time.0) so.leg.changes (changes_of named)
+      ∙ and_from (list_all (is_early_break line.time.0) so.leg.changes) (list_all (is_early_break line.time.0) (changes_of named))
+      (still_early site.time line.time.0 so.leg.changes (up_to_line tells left faults so line group old new site after was is (ends.Reached next) e) e.stands.early)
+      (named_early line.time.0 (breaks_of run) steps
+      (made_early run.traces group e.goes.ran.end log (part_of_mover log) line.time.0 fed e.stands.has_state.broke (subst (BreaksAreToCome run.traces line.time.0) (sym same_end) awaits_then) (contains_filtered is_answer_of_mover log) site.level false site.time site.told NoneDue steps NoneDue
       (e.goes.ran.made e.stands.has_site.goes_on)))
 
   hits_then : (d : ℕ) → hits_of_leg leg_then d + so.counts d ≤ is.faults (Volume d)
   hits_then d =
-      let fewer = subst (λ (l : List DeedOfChanges). hit_count d (changes_of (all_silent line.time (breaks_of run) l)) ≤ hit_count d (changes_of steps)) all_steps (fewer_hits d line.time (breaks_of run) (length steps) steps) in
+      let fewer = subst (λ (l : List DeedOfChanges). hit_count d (changes_of (all_silent line.time.0 (breaks_of run) l)) ≤ hit_count d (changes_of steps)) all_steps (fewer_hits d line.time.0 (breaks_of run) (length steps) steps) in
       omega (arith, fewer, e.goes.ran.counted d (e.for_line.counted d).0, e.stands.hits d, counts_append d so.leg.changes (changes_of named))
 
   -- ---- all together
@@ -270,8 +270,8 @@ module _ {S : Type 0} (tells : Type 0) (left : S → Option (List ℕ)) (faults 
 
   leaves_leg : (moments : List ℕ) → length moments ≡ length (deeds_of steps) → fold leg_after so.leg (points_by run.level q moments named) ≡ leg_then
   leaves_leg moments each =
-      leg_behind run.level so.leg moments named (each ∙ count_deeds steps ∙ sym (length-map steps (with_silent line.time (breaks_of run))))
-      ∙ ap (λ (o : Point). leg_to so.leg o (changes_of named)) (silent_points run.level line.time (breaks_of run) q steps began.logged.each ∙ last_is)
+      leg_behind run.level so.leg moments named (each ∙ count_deeds steps ∙ sym (length-map steps (with_silent line.time.0 (breaks_of run))))
+      ∙ ap (λ (o : Point). leg_to so.leg o (changes_of named)) (silent_points run.level line.time.0 (breaks_of run) q steps began.logged.each ∙ last_is)
 
   pub stands_at_limit : StandsAtLimit so line next after was is
   stands_at_limit = record {
@@ -282,10 +282,10 @@ module _ {S : Type 0} (tells : Type 0) (left : S → Option (List ℕ)) (faults 
     passes = λ asked at_work.
         let found = done_deeds_pass_points was is job asked began at_work does in (
           points_in job does.moments (named_steps job),
-          record { goes = found.goes; linked = found.linked; may = found.may; may_next = tt; comes_next = tt; now = found.now },
+          record { goes = found.goes; linked = found.linked; on_the_way = points_are_on_the_way so.run.level so.leg.point does.moments (named_steps job); may = found.may; may_next = tt; comes_next = tt; now = found.now },
           leaves_leg does.moments does.each,
         );
-    effect = record { at = r.time.time; none_due = refl; not_broken_yet = none_at line.time leg_then.changes early_then; settled = r.settled };
+    effect = record { at = r.time.time; none_due = refl; not_broken_yet = none_at line.time.0 leg_then.changes early_then; settled = r.settled };
   }
 
 pub epochs_stand_again : {S : Type 0} → (tells : Type 0) → (left : S → Option (List ℕ)) → (faults : S → ℕ) → (was is : PlantState) → (tells → (d : Device) → IsThere is d → is.images is.clock d (is.bytes d)) → EpochsStandAgain tells left faults was is

@@ -12,11 +12,11 @@ use Rattle.record_rows.specs.Deeds.{Deed}
 use Rattle.record_rows.proofs.Counting.{counts_append}
 use Rattle.site_means.specs.Images.{Shape, shape_of}
 use Rattle.site_means.proofs.Goes.{shape_same}
+use Rattle.xrc_command.specs.declared.line.Line.{Line}
 use Rattle.site_store.specs.DeedChanges.{DeedOfChanges, changes_of, deeds_of}
 use Rattle.site_store.specs.Doing.{BeginsDeeds, with_next}
 use Rattle.site_store.specs.Seeing.{SeesBehind}
 use Rattle.consistency.specs.Bears.{Bears, breaks_of}
-use Rattle.consistency.specs.Steps.{TimedCommand}
 use Rattle.fed_logs.specs.Feeds.{part_of_mover}
 use Rattle.fed_logs.specs.Moves.{HasRowIn, IsDuplex, MakesDeeds}
 use Rattle.fed_logs.proofs.BreaksToCome.{breaks_to_come_are_awaited}
@@ -27,7 +27,7 @@ use Rattle.mover.specs.BorneLaws.{next_point}
 use Rattle.mover.specs.Working.{IsAtLine, IsLogOfWork, Work, WorkBegins, named_steps, points_in, time_then}
 use Rattle.mover.proofs.Bearing.{seen_deeds_bear}
 use Rattle.mover.proofs.Leading.{count_deeds, trace_of_break}
-use Rattle.mover.proofs.Passing.{begun_deeds_bear, begun_deeds_pass_points}
+use Rattle.mover.proofs.Passing.{begun_deeds_bear, begun_deeds_pass_points, points_are_on_the_way}
 use Rattle.site_store.specs.Sites.{SiteState}
 use Rattle.mover.specs.declared.ends.EpochEnd.{EpochEnd}
 use Rattle.mover.specs.declared.lane.Lane.{Lane}
@@ -36,7 +36,7 @@ use Rattle.mover.specs.Epochs.{AreStepsOf, point_of}
 use Rattle.mover.specs.Bearing.{BearsSome, BearsAtEachMoment, EpochsBear, IsEpochOf, RunSoFar}
 use Rattle.mover.proofs.LogParts.{up_to_limit}
 
-module _ {S : Type 0} (tells : Type 0) (left : S → Option (List ℕ)) (faults : S → ℕ) (so : RunSoFar) (line : TimedCommand) (group : Group) (old new : List (Lane S)) (site after : SiteState) (was is : PlantState) (result : EpochEnd)
+module _ {S : Type 0} (tells : Type 0) (left : S → Option (List ℕ)) (faults : S → ℕ) (so : RunSoFar) (line : Line) (group : Group) (old new : List (Lane S)) (site after : SiteState) (was is : PlantState) (result : EpochEnd)
     (e : IsEpochOf tells left faults so line group old new site after was is result) where
   abbrev pub p : Point
   p = so.leg.point
@@ -65,7 +65,7 @@ module _ {S : Type 0} (tells : Type 0) (left : S → Option (List ℕ)) (faults 
   pub steps_are : AreStepsOf so.run site steps
   steps_are = e.goes.bears.each so.run e.stands.has_site.level e.stands.has_site.goes_on apart e.stands.has_state.keeps e.for_line.turns e.stands.has_state.broke
 
-  pub up_to_line : site.time ≤ line.time
+  pub up_to_line : site.time ≤ line.time.0
   up_to_line = (e.goes.bears.times 0 0 (omega arith) (omega arith)).1
 
   -- ---- what the work begins with
@@ -91,7 +91,7 @@ module _ {S : Type 0} (tells : Type 0) (left : S → Option (List ℕ)) (faults 
     kept = subst (λ (r : Point). MakesDeeds r.time r.rows so.done (part_of_mover log) (deeds_of steps)) (sym e.stands.at) (e.goes.ran.makes so.done knows_duplex);
     each = subst (λ (r : Point). AreSteps so.run.level (breaks_of so.run) r steps) (sym e.stands.at) steps_are.each;
     up = omega (arith, up_to_line, same_time);
-    limited = up_to_limit line.time e.goes.ran.log e.goes.ran.limited;
+    limited = up_to_limit line.time.0 e.goes.ran.log e.goes.ran.limited;
     awaits = λ k b at from.
         let t = trace_of_break so.run.traces k b at in
         breaks_to_come_are_awaited group k b (e.stands.has_state.awaits k b t.0 t.1 t.2 (omega (arith, from, same_time)));
@@ -137,7 +137,7 @@ module _ {S : Type 0} (tells : Type 0) (left : S → Option (List ℕ)) (faults 
         let found = begun_deeds_pass_points was is work asked work_begins at_work begins in (
           points_in work begins.moments (named_steps work),
           next_point work begins.moments,
-          record { goes = found.goes; linked = found.linked; may = found.may; may_next = found.may_next; comes_next = found.comes_next; now = found.now },
+          record { goes = found.goes; linked = found.linked; on_the_way = points_are_on_the_way so.run.level p begins.moments (named_steps work); may = found.may; may_next = found.may_next; comes_next = found.comes_next; now = found.now },
         );
   }
 

@@ -176,9 +176,6 @@ none_excepted size traces held excepted s time rows done b h k v has x low = by 
 -- ---- a log
 
 module _ (size : Sizes) (traces : List Trace) where
-  abbrev Begins : HeldTracks → Group → (time : ℕ) → List PairRow → Plans → Type 0
-  Begins held s time rows done = BeginsLog size traces held s time rows done
-
   abbrev NoneExcepted : Exceptions → List PairRow → Type 0
   NoneExcepted excepted rows = (k v : ℕ) (has : HasRowIn IsDuplex k v rows) (x : ℕ) → x < size k v → excepted has.row.device x ≡ false
 

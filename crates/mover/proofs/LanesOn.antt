@@ -7,8 +7,6 @@ use Rattle.sidefile.specs.declared.hand.Halt.{Halt}
 use Rattle.sidefile.specs.declared.hand.Halt.TheVariants as halts
 use Rattle.group_state.specs.Runs.{Answer}
 use Rattle.fed_logs.specs.ShownBreaks.{is_break_below}
-use Rattle.fed_logs.specs.declared.reading.Reading.{Reading}
-use Rattle.fed_logs.specs.declared.reading.Reading.TheVariants as readings
 use Rattle.fed_logs.specs.LaneFeeds.{FeedState}
 use Rattle.fed_logs.specs.Reads.{ReadsOn}
 use Rattle.fed_logs.specs.Tellers.{BreaksBelow, HasFaultBy, TellerState, TellsOn, break_bound}
@@ -18,7 +16,7 @@ use Rattle.fed_logs.proofs.UpToLimit.{up_to_in_turn}
 use Rattle.turn_group.specs.Seats.{TurnState}
 use Rattle.mover.specs.declared.lane.Lane.{Lane}
 use Rattle.mover.specs.Readers.{LaneReaderState}
-use Rattle.mover.specs.Lanes.{AllLanesRead, BreaksInRound, HasFaultFrom, IsLaneSeated, MayGoOn, MayLaneRead, MayRead, ReadsInRound, Sits, SourceRead, StandsLast, answers_of, last_of}
+use Rattle.mover.specs.Lanes.{AllLanesRead, BreaksInRound, HasFaultFrom, IsLaneSeated, MayGoOn, MayLaneRead, MayRead, ReadsInRound, Sits, SourceRead, answers_of}
 use Rattle.mover.proofs.Parts.{fault_then, reads_none}
 
 -- ---- a reader
@@ -61,15 +59,6 @@ module _ (limit : ℕ) (before mid now : Option (List ℕ)) where
     fault = faults_then old.feed.halted turn.feed.halted new.feed.halted faults between risen (λ halt is. ap (λ (f : FeedState). f.halted) (first.reads_on.stays halt is).0) (λ halt is. ap (λ (f : FeedState). f.halted) (then.reads_on.stays halt is).0) first.fault then.fault;
   }
 
--- A reader that didn't lack memory in its last part may go on.
-pub goes_on : (last : Option Reading) (limit : ℕ) (feed : FeedState) → StandsLast last limit feed → ¬ (last ≡ Some readings.NoMemory) → MayGoOn feed
-goes_on None limit feed stands not = stands
-goes_on (Some readings.Joined) limit feed stands not = λ lack. let e : None ≡ Some halts.NoMemory = sym stands.0 ∙ lack in cc e
-goes_on (Some (readings.Held room)) limit feed stands not = λ lack. let e : None ≡ Some halts.NoMemory = sym stands.0 ∙ lack in cc e
-goes_on (Some readings.AtLimit) limit feed stands not = λ lack. let e : None ≡ Some halts.NoMemory = sym stands.0 ∙ lack in cc e
-goes_on (Some readings.Broken) limit feed stands not = λ lack. let e : Some (halts.Broken stands.0 stands.1) ≡ Some halts.NoMemory = sym stands.2 ∙ lack in cc e
-goes_on (Some readings.NoMemory) limit feed stands not = absurd (not refl)
-
 -- ---- lanes
 
 module _ {S : Type 0} (left : S → Option (List ℕ)) (faults : S → ℕ) (at : TurnState) (limit : ℕ) where
@@ -95,10 +84,6 @@ module _ {S : Type 0} (left : S → Option (List ℕ)) (faults : S → ℕ) (at 
   sits_and : (a : Option LaneReaderState) → IsSomeAnd a (Sits at limit) → IsSomeAnd a (λ r. MayGoOn r.feed) → IsSomeAnd a (MayRead at limit)
   sits_and None sits goes = absurd sits
   sits_and (Some r) sits goes = (sits, goes)
-
-  pub goes_by : (a : Option LaneReaderState) → IsSomeAnd a (Sits at limit) → ¬ (last_of a ≡ Some readings.NoMemory) → IsSomeAnd a (λ r. MayGoOn r.feed)
-  goes_by None sits not = absurd sits
-  goes_by (Some r) sits not = goes_on r.last limit r.feed sits.stands not
 
   -- No round.
   pub all_none : (lanes : List (Lane S)) → All (MayLaneRead at limit) lanes → AllLanesRead left faults at limit lanes lanes

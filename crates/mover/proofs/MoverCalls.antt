@@ -103,11 +103,6 @@ pub makes_of_all : (run : List Answer) (time : ℕ) (rows : List PairRow) (done 
 makes_of_all run time rows done deeds end last known all =
     subst (λ (l : List Deed). MakesDeeds time rows done run l) (append-nil deeds) (subst (λ (l : List Answer). MakesDeeds time rows done l (deeds ++ [])) (append-nil run) (all_then end last known [] [] (last, refl) run time rows done deeds all))
 
--- No drop shows a break.
-drops_show : (drops : List VolumeDrop) → are_shown_at_cuts (map answer_of_drop drops) ≡ true
-drops_show [] = refl
-drops_show (d ∷ drops) = drops_show drops
-
 -- ---- quiet deeds, and drops behind them
 
 duplex_before : (time : ℕ) (rows : List PairRow) (quiet : List Deed) (next : List PairRow) → AreQuiet time rows quiet next → (k v : ℕ) → HasRowIn IsDuplex k v next → HasRowIn IsDuplex k v rows

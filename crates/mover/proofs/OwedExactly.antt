@@ -25,10 +25,6 @@ then_none : (o : Option Bool) → owed_in_turn o None ≡ o
 then_none None = refl
 then_none (Some all) = refl
 
-or_true : (b : Bool) → (b || true) ≡ true
-or_true true = refl
-or_true false = refl
-
 or_false : (b : Bool) → (b || false) ≡ b
 or_false true = refl
 or_false false = refl

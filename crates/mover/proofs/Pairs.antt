@@ -40,9 +40,6 @@ either_row : (r : PairRow) (b : Bool) (x y : PairRow) → IsPairOf r x → IsPai
 either_row r true x y h k = h
 either_row r false x y h k = k
 
-in_state_pair : (r s : PairRow) (state : PairState) → IsPairOf r s → IsPairOf r (in_state state s)
-in_state_pair r s state h = h
-
 suspended_pair : (r s : PairRow) (cause : SuspendCause) (time : ℕ) → IsPairOf r s → IsPairOf r (suspended_by cause time s)
 suspended_pair r s cause time h = either_row r (is_suspended s.state) s (in_state (since cause time) s) h h
 

@@ -1,5 +1,5 @@
 -- A reader's part of a round, put together.
-use Rattle.std.proofs.Common.{◌≡◌, ◌≤◌, ℕ, true, false, List, [], ◌∷◌, ◌++◌, map, Option, Some, None, inl, inr, refl, sym, ap, ◌∙◌, subst, append-nil, append_assoc}
+use Rattle.std.proofs.Common.{◌≡◌, ℕ, false, List, [], ◌∷◌, ◌++◌, map, Option, Some, None, inl, inr, refl, sym, ap, ◌∙◌, subst, append-nil, append_assoc}
 use Rattle.std.specs.Option.{is_some}
 use Rattle.write_trace.specs.declared.header.VolumeHead.{VolumeHead}
 use Rattle.sidefile.specs.declared.hand.Halt.{Halt}
@@ -13,15 +13,15 @@ use Rattle.fed_logs.specs.declared.reading.Reading.{Reading}
 use Rattle.fed_logs.specs.declared.reading.Reading.TheVariants as readings
 use Rattle.fed_logs.specs.LaneFeeds.{FeedState}
 use Rattle.fed_logs.specs.Steps.{held_answer, wanted_answer}
-use Rattle.fed_logs.specs.Tellers.{IsToldBy, StandsAs, HasFaultBy, IsHaltBelow, IsCopiedBy, WasRefused, copying_answers}
+use Rattle.fed_logs.specs.Tellers.{IsToldBy, HasFaultBy, IsHaltBelow, IsCopiedBy, WasRefused, copying_answers}
 use Rattle.fed_logs.proofs.Below.{nothing_breaks, below_in_turn, copies_tell_no_break}
 use Rattle.fed_logs.proofs.InTurn.{reads_nothing}
 use Rattle.fed_logs.proofs.Telling.{tells_nothing, tells_in_turn}
 use Rattle.fed_logs.proofs.UpToLimit.{copies_go_up_to, none_up_to, nothing_up_to, tells_up_to_in_turn}
 use Rattle.turn_group.specs.Calls.{as_answer}
 use Rattle.turn_group.specs.Seats.{ReaderSeatState, TurnState, calls_at}
-use Rattle.mover.specs.Readers.{LaneReaderState, SitsAt, teller_of}
-use Rattle.mover.specs.Lanes.{AreLastCopies, AreLastOf, DidPart, EndsIn, HasFaultFrom, IsRefusal, MayGoOn, MayRead, ReadsInRound, SeatCopies, SeatTakesLimit, SeatTells, Sits, TellsFor, answers_at, answers_of}
+use Rattle.mover.specs.Readers.{LaneReaderState, teller_of}
+use Rattle.mover.specs.Lanes.{AreLastCopies, AreLastOf, DidPart, EndsIn, HasFaultFrom, IsRefusal, MayGoOn, MayRead, ReadsInRound, SeatCopies, SeatTakesLimit, SeatTells, TellsFor, answers_at, answers_of}
 
 -- ---- breaks
 
@@ -29,14 +29,6 @@ pub is_unbroken : (halted : Option Halt) → broken_in halted ≡ None → ¬ (h
 is_unbroken None none goes = refl
 is_unbroken (Some (halts.Broken cause upto)) none goes = absurd cc
 is_unbroken (Some halts.NoMemory) none goes = absurd (goes refl)
-
-pub stands_broken : (limit : ℕ) (feed : FeedState) → is_some (broken_in feed.halted) ≡ true → StandsAs readings.Broken limit feed
-stands_broken limit feed some = of feed.halted refl some
-  where
-    of : (halted : Option Halt) → feed.halted ≡ halted → is_some (broken_in halted) ≡ true → StandsAs readings.Broken limit feed
-    of None e s = absurd cc
-    of (Some (halts.Broken cause upto)) e s = (cause, upto, e)
-    of (Some halts.NoMemory) e s = absurd cc
 
 pub no_fault : (halted : Option Halt) (n : ℕ) → HasFaultFrom halted n n halted
 no_fault None n = refl
@@ -112,9 +104,6 @@ ends_behind Is before gained mid after same h = record {
   so = h.so;
 }
 
-pub ends_so : (Is So : List Answer → Type 0) (before after : List Answer) → ((last : List Answer) → Is last → So last) → EndsIn Is before after → EndsIn So before after
-ends_so Is So before after more h = record { earlier = h.earlier; last = h.last; answers = h.answers; so = more h.last h.so }
-
 -- The batch that is held was refused.
 pub ends_refused : (room : Room) (feed : FeedState) (heads : List VolumeHead) (told after : ReaderSeatState) → WasRefused room feed (teller_of heads told) (teller_of heads after) → EndsIn (IsRefusal room feed) (answers_at told) (answers_at after)
 ends_refused room feed heads told after was = ends_here (IsRefusal room feed) (answers_at told) (held_answer was.batch room ∷ []) (answers_at after) was.answers (was.batch, was.holds, refl)
@@ -149,26 +138,10 @@ seat_or seat (Some other) = other
 abbrev reader_with : FeedState → Option ReaderSeatState → Option Reading → LaneReaderState
 reader_with feed seat last = record { feed = feed; seat = seat; last = last }
 
--- What is told with the volumes that the feed had before is told with those that it has.
-pub tells_behind : (at : TurnState) (heads : List VolumeHead) (feed : FeedState) (seat : ReaderSeatState) → SitsAt at heads seat → IsToldBy feed (teller_of heads seat) → TellsFor at feed seat
-tells_behind at heads feed seat sits told = record {
-  sits = subst (λ (h : List VolumeHead). SitsAt at h seat) told.volumes sits;
-  told = subst (λ (h : List VolumeHead). IsToldBy feed (teller_of h seat)) told.volumes told;
-}
-
 module _ (at : TurnState) (limit : ℕ) (old : LaneReaderState) (may : MayRead at limit old) where
   -- The seat that a reader has tells for its feed.
   pub tells_of : (seat : ReaderSeatState) → old.seat ≡ Some seat → TellsFor at old.feed seat
   tells_of seat is = subst (λ (s : ReaderSeatState). TellsFor at old.feed s) (ap (seat_or seat) (sym may.0.has ∙ is)) may.0.tells_for
-
-  -- A reader that has broken stays as it is.
-  pub stays_broken : is_some (broken_in old.feed.halted) ≡ true → Sits at limit (reader_with old.feed old.seat (Some readings.Broken))
-  stays_broken some = record { seat = may.0.seat; has = may.0.has; tells_for = may.0.tells_for; within = may.0.within; stands = stands_broken limit old.feed some }
-
--- A reader that read in turns of its seat sits again.
-pub sits_again : (at : TurnState) (heads : List VolumeHead) (limit : ℕ) (feed : FeedState) (seat : ReaderSeatState) (reading : Reading) → SitsAt at heads seat → IsToldBy feed (teller_of heads seat) → feed.side.upto ≤ limit → StandsAs reading limit feed
-    → Sits at limit (reader_with feed (Some seat) (Some reading))
-sits_again at heads limit feed seat reading sits told within stands = record { seat = seat; has = refl; tells_for = tells_behind at heads feed seat sits told; within = within; stands = stands }
 
 pub reads_none : (limit : ℕ) (left : Option (List ℕ)) (n : ℕ) (old : LaneReaderState) (feed : FeedState) (seat : Option ReaderSeatState) (was last : Option Reading) → reader_with feed seat was ≡ old → ReadsInRound limit left left n n old (reader_with feed seat last)
 reads_none limit left n old feed seat was last is = subst (λ (r : LaneReaderState). ReadsInRound limit left left n n r (reader_with feed seat last)) is (record {
@@ -211,12 +184,4 @@ reads_part limit before now faults risen old seat next feed heads last is goes w
   up_to = takes.up_to reads.gained reads.answers;
   below = record { told = λ bytes there. takes.below.told_so bytes there reads.gained reads.answers; halts = takes.below.halts };
   fault = fault_from old.feed.halted feed.halted faults risen goes by;
-}
-
-pub did_part : (old : LaneReaderState) (seat next : ReaderSeatState) (feed : FeedState) (reading : Reading) → old.seat ≡ Some seat → EndsIn (AreLastOf reading feed.side.control feed) (answers_at seat) (answers_at next)
-    → DidPart old (reader_with feed (Some next) (Some reading))
-did_part old seat next feed reading is ends = record {
-  reading = reading;
-  is = refl;
-  ends = subst (λ (l : List Answer). EndsIn (AreLastOf reading feed.side.control feed) l (answers_at next)) (sym (ap (λ (s : Option ReaderSeatState). map as_answer (calls_at s)) is)) ends;
 }

@@ -1,6 +1,6 @@
 -- Calls that begin deeds pass the points of their steps.
 use Rattle.std.proofs.Common.{◌≡◌, ◌⊎◌, inl, inr, ℕ, suc, ◌≤◌, Bool, true, false, List, [], ◌∷◌, ◌++◌, length, take, drop, Option, Some, None, refl, sym, ap, subst, ◌∙◌, arith, append-nil, append_assoc, length-append, true≢false}
-use Rattle.std.specs.List.{All}
+use Rattle.std.specs.List.{All, list_all}
 use Rattle.std.proofs.Math.Seq.{take-append_seam}
 use Rattle.std.proofs.lemmas.Grind.{flat_map-append}
 use Rattle.std.specs.Prelude.{fold}
@@ -17,6 +17,7 @@ use Rattle.row_changes.specs.Toward.{all_broke}
 use Rattle.record_rows.specs.Deeds.{Deed, time_meant_behind}
 use Rattle.site_means.specs.Images.{Shape, shape_of}
 use Rattle.site_means.proofs.Goes.{shape_same}
+use Rattle.xrc_command.specs.declared.line.Line.{Line}
 use Rattle.site_store.specs.DeedChanges.{DeedOfChanges, changes_of, deeds_of}
 use Rattle.site_store.specs.Doing.{points_of, with_next}
 use Rattle.site_store.specs.Exceptions.{Exceptions}
@@ -24,12 +25,11 @@ use Rattle.site_store.specs.Seeing.{SeesBehind}
 use Rattle.site_store.proofs.Moments.{first_seen}
 use Rattle.passages.specs.Points.{AreLinked, GoesThrough, last_point}
 use Rattle.consistency.specs.Bears.{Bears, Run, Stage, breaks_of}
-use Rattle.consistency.specs.Steps.{TimedCommand}
 use Rattle.fed_logs.specs.Logs.{Sizes}
 use Rattle.fed_logs.specs.Moves.{Plans}
 use Rattle.consistency.specs.Bearing.{MayBeMeant, ShowsPoint}
 use Rattle.consistency.specs.Leads.{Point}
-use Rattle.consistency.specs.Ways.{ComesNext, HasCountedHits, IsAtWork, Leg, PassedPoint, Way, is_ending, last_answered, leg_after, leg_to}
+use Rattle.consistency.specs.Ways.{ComesNext, HasCountedHits, IsAtWork, Leg, PassedPoint, Way, is_ending, is_on_the_way, last_answered, leg_after, leg_to}
 use Rattle.consistency.specs.Ways.Way.{OnTheWay}
 use Rattle.consistency.proofs.Legs.{ends_alike}
 use Rattle.mover.specs.BorneLaws.{BegunDeedsBear, BegunDeedsPassPoints, DoneDeedsPassPoints, next_point}
@@ -46,6 +46,12 @@ last_by level p [] steps = refl
 last_by level p (t ∷ moments) [] = refl
 last_by level p (t ∷ moments) (step ∷ steps) = last_by level (point_by level p step) moments steps
 
+-- The points of deeds are on the way.
+pub points_are_on_the_way : (level : Level) (p : Point) (moments : List ℕ) (steps : List DeedOfChanges) → list_all is_on_the_way (points_by level p moments steps) ≡ true
+points_are_on_the_way level p [] steps = refl
+points_are_on_the_way level p (t ∷ moments) [] = refl
+points_are_on_the_way level p (t ∷ moments) (step ∷ steps) = points_are_on_the_way level (point_by level p step) moments steps
+
 module _ (old : PlantState) (k : Work) (w : WorkBegins old k) where
   abbrev run : Run
   run = k.run
@@ -53,7 +59,7 @@ module _ (old : PlantState) (k : Work) (w : WorkBegins old k) where
   abbrev stage : Stage
   stage = k.stage
 
-  abbrev line : TimedCommand
+  abbrev line : Line
   line = k.line
 
   abbrev l : Leg
@@ -84,7 +90,7 @@ module _ (old : PlantState) (k : Work) (w : WorkBegins old k) where
   p = l.point
 
   abbrev silent : List DeedOfChanges → List DeedOfChanges
-  silent front = all_silent line.time (breaks_of run) front
+  silent front = all_silent line.time.0 (breaks_of run) front
 
   abbrev point_of : List DeedOfChanges → Point
   point_of front = point_behind run.level p front
@@ -124,16 +130,16 @@ module _ (old : PlantState) (k : Work) (w : WorkBegins old k) where
   step_there front step rest is = steps_behind run.level (breaks_of run) p front (step ∷ rest) (subst (AreSteps run.level (breaks_of run) p) (sym is) w.logged.each)
 
   -- the point behind it
-  point_more : (front : List DeedOfChanges) (step : DeedOfChanges) (rest : List DeedOfChanges) → front ++ (step ∷ rest) ≡ steps → point_of (front ++ step ∷ []) ≡ point_by run.level (point_of front) (with_silent line.time (breaks_of run) step)
-  point_more front step rest is = behind_both run.level p front (step ∷ []) ∙ sym (same_point run.level line.time (breaks_of run) (point_of front) step (step_there front step rest is).0)
+  point_more : (front : List DeedOfChanges) (step : DeedOfChanges) (rest : List DeedOfChanges) → front ++ (step ∷ rest) ≡ steps → point_of (front ++ step ∷ []) ≡ point_by run.level (point_of front) (with_silent line.time.0 (breaks_of run) step)
+  point_more front step rest is = behind_both run.level p front (step ∷ []) ∙ sym (same_point run.level line.time.0 (breaks_of run) (point_of front) step (step_there front step rest is).0)
 
   deeds_more : (front : List DeedOfChanges) (step : DeedOfChanges) → deeds_of front ++ step.deed ∷ [] ≡ deeds_of (front ++ step ∷ [])
   deeds_more front step = sym (map-append (λ (d : DeedOfChanges). d.deed) front (step ∷ []))
 
-  changes_more : (front : List DeedOfChanges) (step : DeedOfChanges) → changes_of (silent (front ++ step ∷ [])) ≡ changes_of (silent front) ++ (with_silent line.time (breaks_of run) step).changes
+  changes_more : (front : List DeedOfChanges) (step : DeedOfChanges) → changes_of (silent (front ++ step ∷ [])) ≡ changes_of (silent front) ++ (with_silent line.time.0 (breaks_of run) step).changes
   changes_more front step =
-      let one = with_silent line.time (breaks_of run) step in
-      ap (λ (all : List DeedOfChanges). changes_of all) (map-append (with_silent line.time (breaks_of run)) front (step ∷ []))
+      let one = with_silent line.time.0 (breaks_of run) step in
+      ap (λ (all : List DeedOfChanges). changes_of all) (map-append (with_silent line.time.0 (breaks_of run)) front (step ∷ []))
       ∙ flat_map-append (λ (d : DeedOfChanges). d.changes) (silent front) (one ∷ [])
       ∙ ap (λ (cs : List Timed). changes_of (silent front) ++ cs) (append-nil one.changes)
 
@@ -176,7 +182,7 @@ module _ (old : PlantState) (k : Work) (w : WorkBegins old k) where
         let then = more front step rest is in
         let point = point_more front step rest is in
         let deeds = deeds_more front step in
-        let tell_then : (c : Choice) → Sees (deeds_of front ++ step.deed ∷ []) c → Shows (point_by run.level (point_of front) (with_silent line.time (breaks_of run) step)) c =
+        let tell_then : (c : Choice) → Sees (deeds_of front ++ step.deed ∷ []) c → Shows (point_by run.level (point_of front) (with_silent line.time.0 (breaks_of run) step)) c =
         λ c sees. subst (λ (q : Point). Shows q c) point (tell (front ++ step ∷ []) rest then c (subst (λ (d : List Deed). Sees d c) deeds sees)) in
         let rests : GoesThrough (IsChoice new) Sees t (deeds_of (front ++ step ∷ [])) (points_of (deeds_of (front ++ step ∷ [])) moments (deeds_of rest)) to next =
         subst (λ (d : List Deed). GoesThrough (IsChoice new) Sees t d (points_of d moments (deeds_of rest)) to next) deeds h.3 in (
@@ -192,7 +198,7 @@ module _ (old : PlantState) (k : Work) (w : WorkBegins old k) where
 
   -- ---- each comes next
 
-  module _ (asked : ℕ → Option TimedCommand) (work : IsAtWork run asked l) where
+  module _ (asked : ℕ → Option Line) (work : IsAtWork run asked l) where
     at_work : (front : List DeedOfChanges) → IsAtWork run asked (leg_of front)
     at_work front = record {
       goes_on = flag_there run.level p front ∙ work.goes_on;
@@ -210,24 +216,24 @@ module _ (old : PlantState) (k : Work) (w : WorkBegins old k) where
     abbrev passed : (moment : ℕ) → (front : List DeedOfChanges) → DeedOfChanges → PassedPoint
     passed t front step = record {
       moment = t;
-      point = point_by run.level (point_of front) (with_silent line.time (breaks_of run) step);
-      way = OnTheWay (with_silent line.time (breaks_of run) step).changes;
+      point = point_by run.level (point_of front) (with_silent line.time.0 (breaks_of run) step);
+      way = OnTheWay (with_silent line.time.0 (breaks_of run) step).changes;
     }
 
     leg_more : (t : ℕ) (front : List DeedOfChanges) (step : DeedOfChanges) (rest : List DeedOfChanges) → front ++ (step ∷ rest) ≡ steps → leg_of (front ++ step ∷ []) ≡ leg_after (leg_of front) (passed t front step)
     leg_more t front step rest is =
-        let one = with_silent line.time (breaks_of run) step in
+        let one = with_silent line.time.0 (breaks_of run) step in
         let changes : l.changes ++ changes_of (silent (front ++ step ∷ [])) ≡ (l.changes ++ changes_of (silent front)) ++ one.changes =
         ap (λ (cs : List Timed). l.changes ++ cs) (changes_more front step) ∙ sym (append_assoc l.changes (changes_of (silent front)) one.changes) in
         λ i. leg_with (point_more front step rest is i) (changes i)
 
     comes : (t : ℕ) (front : List DeedOfChanges) (step : DeedOfChanges) (rest : List DeedOfChanges) → front ++ (step ∷ rest) ≡ steps → ComesNext run asked (leg_of front) (passed t front step)
     comes t front step rest is =
-        let one = with_silent line.time (breaks_of run) step in
+        let one = with_silent line.time.0 (breaks_of run) step in
         let q = point_by run.level (point_of front) one in
         let f = facts (front ++ step ∷ []) rest (more front step rest is) in
         let same = leg_more t front step rest is in
-        let i = silent_step run.level line.time (breaks_of run) (point_of front) step (step_there front step rest is).0 in
+        let i = silent_step run.level line.time.0 (breaks_of run) (point_of front) step (step_there front step rest is).0 in
         let broke : all_broke l.replied q.time 0 (breaks_of run) ((l.changes ++ changes_of (silent front)) ++ one.changes) ≡ true =
         subst (λ (n : ℕ). all_broke n q.time 0 (breaks_of run) ((l.changes ++ changes_of (silent front)) ++ one.changes) ≡ true) (sym w.at_line.leg_is.replied)
         (subst (λ (m : Leg). all_broke stage.replied m.point.time 0 (breaks_of run) m.changes ≡ true) same f.broken_there) in (
@@ -247,7 +253,7 @@ module _ (old : PlantState) (k : Work) (w : WorkBegins old k) where
     comes_behind : (moments : List ℕ) (front rest : List DeedOfChanges) → front ++ rest ≡ steps
         → IsOnItsWay run asked (fold leg_after (leg_of front) (points_by run.level (point_of front) moments (silent rest))) (point_behind run.level (point_of front) (take (suc (length moments)) (silent rest)))
     comes_behind [] front [] is = inl refl
-    comes_behind [] front (step ∷ rest) is = inr (OnTheWay (with_silent line.time (breaks_of run) step).changes, (comes 0 front step rest is).0)
+    comes_behind [] front (step ∷ rest) is = inr (OnTheWay (with_silent line.time.0 (breaks_of run) step).changes, (comes 0 front step rest is).0)
     comes_behind (t ∷ moments) front [] is = inl refl
     comes_behind (t ∷ moments) front (step ∷ rest) is =
         subst (λ (m : Leg). IsOnItsWay run asked (fold leg_after m (points_by run.level m.point moments (silent rest))) (point_behind run.level m.point (take (suc (length moments)) (silent rest)))) (leg_more t front step rest is)
@@ -257,7 +263,7 @@ module _ (old : PlantState) (k : Work) (w : WorkBegins old k) where
   may_all [] front rest is = All-nil (λ (n : PassedPoint). MayBeMeant run stage n.point)
   may_all (t ∷ moments) front [] is = All-nil (λ (n : PassedPoint). MayBeMeant run stage n.point)
   may_all (t ∷ moments) front (step ∷ rest) is =
-      let one = with_silent line.time (breaks_of run) step in
+      let one = with_silent line.time.0 (breaks_of run) step in
       let q = point_by run.level (point_of front) one in
       let point = point_more front step rest is in
       let then = more front step rest is in
@@ -270,18 +276,18 @@ module _ (old : PlantState) (k : Work) (w : WorkBegins old k) where
   start_leg : leg_of [] ≡ l
   start_leg = ap (λ (cs : List Timed). record l { changes = cs }) (append-nil l.changes)
 
-  links_all : (asked : ℕ → Option TimedCommand) → IsAtWork run asked l → (moments : List ℕ) → AreLinked (ComesNext run asked) leg_after l (points_by run.level p moments (silent steps))
+  links_all : (asked : ℕ → Option Line) → IsAtWork run asked l → (moments : List ℕ) → AreLinked (ComesNext run asked) leg_after l (points_by run.level p moments (silent steps))
   links_all asked work moments = subst (λ (m : Leg). AreLinked (ComesNext run asked) leg_after m (points_by run.level p moments (silent steps))) start_leg (links asked work moments [] steps refl)
 
-  comes_all : (asked : ℕ → Option TimedCommand) → IsAtWork run asked l → (moments : List ℕ) → IsOnItsWay run asked (fold leg_after l (points_by run.level p moments (silent steps))) (point_behind run.level p (take (suc (length moments)) (silent steps)))
+  comes_all : (asked : ℕ → Option Line) → IsAtWork run asked l → (moments : List ℕ) → IsOnItsWay run asked (fold leg_after l (points_by run.level p moments (silent steps))) (point_behind run.level p (take (suc (length moments)) (silent steps)))
   comes_all asked work moments =
       subst (λ (m : Leg). IsOnItsWay run asked (fold leg_after m (points_by run.level p moments (silent steps))) (point_behind run.level p (take (suc (length moments)) (silent steps)))) start_leg (comes_behind asked work moments [] steps refl)
 
   -- the point of the first deeds, with the changes that are named
   first_named : (n : ℕ) → point_of (take n steps) ≡ point_of (take n (silent steps))
   first_named n =
-      sym (silent_points run.level line.time (breaks_of run) p (take n steps) (first_steps run.level (breaks_of run) n p steps w.logged.each))
-      ∙ ap (λ (all : List DeedOfChanges). point_of all) (sym (take_silent line.time (breaks_of run) n steps))
+      sym (silent_points run.level line.time.0 (breaks_of run) p (take n steps) (first_steps run.level (breaks_of run) n p steps w.logged.each))
+      ∙ ap (λ (all : List DeedOfChanges). point_of all) (sym (take_silent line.time.0 (breaks_of run) n steps))
 
   next_tells : (new : PlantState) → SameSite old new → (n : ℕ) → TellsNext new (Some (take n (deeds_of steps))) (Some (point_of (take n (silent steps))))
   next_tells new site n c sees =
@@ -317,7 +323,7 @@ pub begun_deeds_pass_points : (old new : PlantState) → BegunDeedsPassPoints ol
 begun_deeds_pass_points old new k asked w work begins =
     let n = suc (length begins.moments) in
     record {
-      same = same_deeds k.line.time (breaks_of k.run) k.steps;
+      same = same_deeds k.line.time.0 (breaks_of k.run) k.steps;
       goes = λ up. goes old k w new begins.site begins.moments [] k.steps refl old.clock new.clock (Some (with_next (length begins.moments) (deeds_of k.steps))) (next_point k begins.moments)
           (next_tells old k w new begins.site n) (begins.goes up);
       linked = links_all old k w asked work begins.moments;
@@ -329,7 +335,7 @@ begun_deeds_pass_points old new k asked w work begins =
 
 pub done_deeds_pass_points : (old new : PlantState) → DoneDeedsPassPoints old new
 done_deeds_pass_points old new k asked w work does = record {
-  same = same_deeds k.line.time (breaks_of k.run) k.steps;
+  same = same_deeds k.line.time.0 (breaks_of k.run) k.steps;
   goes = λ up. goes old k w new does.site does.moments [] k.steps refl old.clock new.clock None None tt (does.goes up);
   linked = links_all old k w asked work does.moments;
   may = may_all old k w does.moments [] k.steps refl;

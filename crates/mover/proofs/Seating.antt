@@ -1,21 +1,17 @@
 -- Lanes of an epoch: their readers take seats of a table that was just made, and give them back.
 use Rattle.std.proofs.Common.{◌≡◌, ◌<◌, ◌+◌, ℕ, true, List, [], length, map, Option, Some, None, refl, sym, ap, subst, ◌∙◌, arith}
-use Rattle.std.specs.Prelude.{IsSomeAnd, slice_index_or, is_some, ◌≤◌, ◌∷◌}
+use Rattle.std.specs.Prelude.{IsSomeAnd, slice_index_or, ◌∷◌}
 use Rattle.std.specs.List.{All, list_all}
-use Rattle.std.proofs.lemmas.List.{length-map}
 use Rattle.std.proofs.lemmas.List.FromFn.{get_or-map-range_with_len, length-map-range_with_len}
-use Rattle.tod_stamp.specs.declared.limits.TheConstants.{MOST_CONTROLS}
-use Rattle.group_state.specs.Groups.{Group}
 use Rattle.group_state.specs.Runs.{Answer}
 use Rattle.mover.specs.Groups.{is_at_limit}
 use Rattle.fed_logs.specs.Reads.{ReadsOn}
 use Rattle.fed_logs.specs.Limits.{GoesUpTo}
 use Rattle.turn_group.specs.Calls.{as_answer}
-use Rattle.turn_group.specs.Notes.{known_of}
 use Rattle.turn_group.specs.Seats.{MoverSeatState, ReaderSeatState, TurnState, calls_at, new_reader, new_readers, seat_at}
 use Rattle.mover.specs.declared.lane.Lane.{Lane}
 use Rattle.mover.specs.Readers.{LaneReaderState}
-use Rattle.mover.specs.Lanes.{AllLanesRead, BreaksInRound, HasFaultFrom, HasReader, HasSeatOf, IsReaderOf, LaneGivesSeat, LaneTakesSeat, MayLaneRead, MayRead, with_seat}
+use Rattle.mover.specs.Lanes.{AllLanesRead, BreaksInRound, HasFaultFrom, HasSeatOf, IsReaderOf, LaneGivesSeat, LaneTakesSeat, MayLaneRead, MayRead, with_seat}
 use Rattle.mover.specs.Moves.{IsStillAt}
 use Rattle.mover.specs.Rounds.{AllRead, AreLanesOf, AreNewSeats, HasReached, IsDone, Read, SeatsAreBack}
 use Rattle.site_store.specs.Sites.{SiteState}
@@ -113,10 +109,6 @@ pub done_back : (seat : Option ReaderSeatState) (did new : Option LaneReaderStat
 done_back seat None new gave done = absurd done
 done_back seat (Some r) new gave done = subst (λ (o : Option LaneReaderState). IsSomeAnd o IsDone) (sym gave.1) done
 
-has_reader : (first : Group) (k limit : ℕ) (reader : Option LaneReaderState) → IsSomeAnd reader (IsReaderOf first k limit) → is_some reader ≡ true
-has_reader first k limit None is = absurd is
-has_reader first k limit (Some r) is = refl
-
 first_lane : {S : Type 0} (lanes : List (Lane S)) (k : ℕ) → k < length lanes → Lane S
 first_lane [] k low = absurd (omega (arith, low))
 first_lane (lane ∷ lanes) k low = lane
@@ -130,15 +122,6 @@ pub record SeatsGoBack {S : Type 0} (left : S → Option (List ℕ)) (faults : S
   pub reached : HasReached limit did mover site → HasReached limit last mover site
 
 module _ {S : Type 0} (left : S → Option (List ℕ)) (faults : S → ℕ) (at : TurnState) (limit : ℕ) (first : List (Lane S)) (mover : MoverSeatState) (seats : List (Option ReaderSeatState)) (are : AreLanesOf at.first limit first) (new : AreNewSeats at mover seats) where
-  pub all_have_readers : (k : ℕ) (d : Lane S) → k < length first → HasReader (slice_index_or first k d)
-  all_have_readers k d low = has_reader at.first k limit (slice_index_or first k d).reader (are.each k d low)
-
-  pub few_lanes : length first ≤ MOST_CONTROLS
-  few_lanes = omega (arith, are.many, new.few)
-
-  pub known_many : length mover.known ≡ length first
-  known_many = ap (λ (s : MoverSeatState). length s.known) new.mover_is ∙ length-map at.first.controls known_of ∙ sym are.many
-
   pub at_table : mover.table ≡ at.table
   at_table = ap (λ (s : MoverSeatState). s.table) new.mover_is
 

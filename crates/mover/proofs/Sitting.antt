@@ -18,17 +18,13 @@ use Rattle.group_state.specs.Groups.{Group, control_at}
 use Rattle.group_state.specs.Sound.{passes_or_none, is_track_within, are_within}
 use Rattle.tod_stamp.specs.declared.stamp.Stamp.{Stamp}
 use Rattle.ckd_track.specs.declared.write.Batch.{Batch}
-use Rattle.ckd_track.specs.declared.write.Cause.{Cause}
-use Rattle.ckd_track.specs.declared.rec.Rec.{Rec}
 use Rattle.write_trace.specs.declared.header.VolumeHead.{VolumeHead}
 use Rattle.group_state.specs.declared.joining.RunJoin as running
 use Rattle.group_state.specs.declared.joining.RunJoin.TheVariants as runnings
-use Rattle.group_state.specs.declared.joining.CopyJoin as copying
-use Rattle.group_state.specs.declared.joining.CopyJoin.TheVariants as copyings
-use Rattle.group_state.specs.Answers.{run_reply, copy_reply}
+use Rattle.group_state.specs.Answers.{run_reply}
 use Rattle.group_state.specs.Machine.{Call, Reply}
-use Rattle.group_state.specs.Machine.Call.{Join, NextWanted, Copied, Raise, Break}
-use Rattle.group_state.specs.Machine.Reply.{Made, Wanted}
+use Rattle.group_state.specs.Machine.Call.{Join, NextWanted}
+use Rattle.group_state.specs.Machine.Reply.{Wanted}
 use Rattle.group_state.specs.Runs.{Answer}
 use Rattle.fed_logs.specs.Tellers.{TellerState, teller_after}
 use Rattle.turn.specs.Turn.{ticketed}
@@ -49,40 +45,15 @@ module _ (heads : List VolumeHead) (old : ReaderSeatState) where
   run_is t batch runnings.Joined = ap (with_answers (teller_of heads (record old { floor = batch.upto }))) (answers_behind t (Join batch) (run_reply runnings.Joined) old.calls)
   run_is t batch (runnings.Held room) = ap (with_answers (teller_of heads old)) (answers_behind t (Join batch) (run_reply (runnings.Held room)) old.calls)
 
-  raise_is : (t : ℕ) (upto : Stamp) → teller_of heads (reader_after t (Raise old.control upto) Made old) ≡ teller_after (Raise old.control upto) Made (teller_of heads old)
-  raise_is t upto = ap (with_answers (teller_of heads (record old { floor = upto }))) (answers_behind t (Raise old.control upto) Made old.calls)
-
-  break_is : (t : ℕ) (upto : Stamp) (cause : Cause) → teller_of heads (reader_after t (Break old.control upto cause) Made old) ≡ teller_after (Break old.control upto cause) Made (teller_of heads old)
-  break_is t upto cause = ap (with_answers (teller_of heads (record old { floor = upto; telling = false }))) (answers_behind t (Break old.control upto cause) Made old.calls)
-
   wanted_is : (t : ℕ) (found : Option (ℕ × ℕ)) → teller_of heads (reader_after t (NextWanted old.control) (Wanted found) old) ≡ teller_after (NextWanted old.control) (Wanted found) (teller_of heads old)
   wanted_is t found = ap (with_answers (teller_of heads old)) (answers_behind t (NextWanted old.control) (Wanted found) old.calls)
-
-  copied_is : (t v x : ℕ) (at : Stamp) (slot : List Rec) (joined : copying.CopyJoin) → teller_of heads (reader_after t (Copied old.control v x at slot) (copy_reply joined) old) ≡ teller_after (Copied old.control v x at slot) (copy_reply joined) (teller_of heads old)
-  copied_is t v x at slot copyings.Joined = ap (with_answers (teller_of heads old)) (answers_behind t (Copied old.control v x at slot) (copy_reply copyings.Joined) old.calls)
-  copied_is t v x at slot (copyings.Held room) = ap (with_answers (teller_of heads old)) (answers_behind t (Copied old.control v x at slot) (copy_reply (copyings.Held room)) old.calls)
-  copied_is t v x at slot copyings.Stale = ap (with_answers (teller_of heads old)) (answers_behind t (Copied old.control v x at slot) (copy_reply copyings.Stale) old.calls)
 
   module _ (new : ReaderSeatState) where
     pub wanted : (found : Option (ℕ × ℕ)) → ReaderCalled old (NextWanted old.control) (Wanted found) new → teller_of heads new ≡ teller_after (NextWanted old.control) (Wanted found) (teller_of heads old)
     wanted found called = ap (teller_of heads) called.after ∙ wanted_is called.ticket found
 
-    pub did_copy : (v x : ℕ) (at : Stamp) (slot : List Rec) (joined : copying.CopyJoin) → ReaderCalled old (Copied old.control v x at slot) (copy_reply joined) new
-        → teller_of heads new ≡ teller_after (Copied old.control v x at slot) (copy_reply joined) (teller_of heads old)
-    did_copy v x at slot joined called = ap (teller_of heads) called.after ∙ copied_is called.ticket v x at slot joined
-
     pub ran : (batch : Batch) (joined : running.RunJoin) → ReaderCalled old (Join batch) (run_reply joined) new → teller_of heads new ≡ teller_after (Join batch) (run_reply joined) (teller_of heads old)
     ran batch joined called = ap (teller_of heads) called.after ∙ run_is called.ticket batch joined
-
-    pub raised : (upto : Stamp) → ReaderCalled old (Raise old.control upto) Made new → teller_of heads new ≡ teller_after (Raise old.control upto) Made (teller_of heads old)
-    raised upto called = ap (teller_of heads) called.after ∙ raise_is called.ticket upto
-
-    pub broke : (upto : Stamp) (cause : Cause) → ReaderCalled old (Break old.control upto cause) Made new → teller_of heads new ≡ teller_after (Break old.control upto cause) Made (teller_of heads old)
-    broke upto cause called = ap (teller_of heads) called.after ∙ break_is called.ticket upto cause
-
-    -- A seat stays at its table.
-    pub sits_still : (at : TurnState) (call : Call) (reply : Reply) → ReaderCalled old call reply new → SitsAt at heads old → SitsAt at heads new
-    sits_still at call reply called sits = subst (λ (seat : ReaderSeatState). SitsAt at heads seat) (sym called.after) (record { here = sits.here; begun = sits.begun; sized = sits.sized })
 
 -- ---- a run may be joined
 

@@ -10,16 +10,16 @@ use Rattle.group_state.specs.Sound.{KeepsGroup}
 use Rattle.row_changes.specs.Changes.{Timed}
 use Rattle.row_changes.specs.Toward.{is_break}
 use Rattle.site_means.specs.Images.{shape_of}
+use Rattle.xrc_command.specs.declared.line.Line.{Line}
 use Rattle.site_store.specs.Exceptions.{Exceptions}
 use Rattle.passages.specs.Points.{AreLinked, last_point}
 use Rattle.consistency.specs.Bears.{Bears, Run, Stage}
-use Rattle.consistency.specs.Steps.{TimedCommand}
 use Rattle.fed_logs.specs.Logs.{Sizes}
 use Rattle.fed_logs.specs.Moves.{Plans}
 use Rattle.fed_logs.specs.ShownBreaks.{BreaksAreToCome, BrokeAsTraces}
 use Rattle.consistency.specs.Bearing.{GoesThroughPoints, MayBeMeant, ShowsPoint}
 use Rattle.consistency.specs.Leads.{Point}
-use Rattle.consistency.specs.Ways.{ComesNext, IsAtWork, IsLegOf, Leg, MayTakeEffect, PassedPoint, hits_of_leg, leg_after}
+use Rattle.consistency.specs.Ways.{ComesNext, IsAtWork, IsLegOf, Leg, MayTakeEffect, PassedPoint, hits_of_leg, is_on_the_way, leg_after}
 use Rattle.mover.specs.Working.{Asked, IsOnItsWay, ShowsLast, StandsForRows}
 use Rattle.site_store.specs.Sites.{SiteState}
 use Rattle.site_store.specs.Standing.{SiteStands}
@@ -89,17 +89,17 @@ pub record StandsSoFar (so : RunSoFar) (group : Group) (site : SiteState) (plant
 
 -- A line was heard whole, and the run's traces turn out so behind the readers. No count of faults stands at its end, and each volume
 -- fails so often in the run as its count has risen by then.
-pub record IsForLine {S : Type 0} (left : S → Option (List ℕ)) (so : RunSoFar) (line : TimedCommand) (old new : List (Lane S)) (now : PlantState) : Type 0 where
+pub record IsForLine {S : Type 0} (left : S → Option (List ℕ)) (so : RunSoFar) (line : Line) (old new : List (Lane S)) (now : PlantState) : Type 0 where
   pub heard : so.stage.next ≡ Some line
   pub turns : AllTurnOut left so.run.traces old new
   pub counted : (d : ℕ) → (now.faults (Volume d) < most_faults) × (now.faults (Volume d) ≤ so.run.rises d + so.counts d)
 
 -- An epoch is for a line of a run: up to the line's time, from what a session has between two epochs.
-pub record IsEpochOf {S : Type 0} (tells : Type 0) (left : S → Option (List ℕ)) (faults : S → ℕ) (so : RunSoFar) (line : TimedCommand) (group : Group) (old new : List (Lane S)) (site after : SiteState) (was is : PlantState) (result : EpochEnd) : Type 0 where
+pub record IsEpochOf {S : Type 0} (tells : Type 0) (left : S → Option (List ℕ)) (faults : S → ℕ) (so : RunSoFar) (line : Line) (group : Group) (old new : List (Lane S)) (site after : SiteState) (was is : PlantState) (result : EpochEnd) : Type 0 where
   pub told : tells
   pub stands : StandsSoFar so group site was
   pub for_line : IsForLine left so line old new is
-  pub goes : EpochGoes tells left faults line.time group old new site after was is result
+  pub goes : EpochGoes tells left faults line.time.0 group old new site after was is result
 
 -- ---- what it bears
 
@@ -109,11 +109,13 @@ BearsSome so plant c = (time : ℕ) × Bears so.run so.stage (shape_of plant) c 
 
 -- From the leg on points were passed, and one may be on its way. Each comes next on the way to the line's time, and may be meant. The past of a
 -- plant that keeps one tells the points' moments.
+--   on_the_way: none of those passed comes by a line's command
 --   comes_next: the one on its way comes next behind the others, if it isn't the last of these
 --   now: whatever a crash leaves now shows the last of the others, or the one on its way
 pub record PassesOn (so : RunSoFar) (asked : Asked) (old new : PlantState) (points : List PassedPoint) (next : Option Point) : Type 0 where
   pub goes : 0 < old.clock → GoesThroughPoints so.run new old.clock so.leg.point points new.clock next
   pub linked : AreLinked (ComesNext so.run asked) leg_after so.leg points
+  pub on_the_way : IsTrue (list_all is_on_the_way points)
   pub may : All (λ n. MayBeMeant so.run so.stage n.point) points
   pub may_next : IfSome next (MayBeMeant so.run so.stage)
   pub comes_next : IfSome next (IsOnItsWay so.run asked (fold leg_after so.leg points))
@@ -128,7 +130,7 @@ pub record BearsAtEachMoment (so : RunSoFar) (was is : PlantState) : Type 0 wher
 -- Each moment of an epoch for a line bears, whatever the epoch answers.
 abbrev pub EpochsBear : {S : Type 0} → (tells : Type 0) → (left : S → Option (List ℕ)) → (faults : S → ℕ) → (was is : PlantState) → Type 0
 EpochsBear {S} tells left faults was is =
-    (so : RunSoFar) (line : TimedCommand) (group : Group) (old new : List (Lane S)) (site after : SiteState) (result : EpochEnd) → IsEpochOf tells left faults so line group old new site after was is result
+    (so : RunSoFar) (line : Line) (group : Group) (old new : List (Lane S)) (site after : SiteState) (result : EpochEnd) → IsEpochOf tells left faults so line group old new site after was is result
     → BearsAtEachMoment so was is
 
 -- ---- at the limit
@@ -136,7 +138,7 @@ EpochsBear {S} tells left faults was is =
 -- Behind an epoch that reached its limit a session has again what an epoch begins with, for the next group and the site after it.
 --   passes: while the session works for the line, all points are passed, and leave the leg
 --   effect: the line's command may take effect
-pub record StandsAtLimit (so : RunSoFar) (line : TimedCommand) (next : Group) (after : SiteState) (was is : PlantState) : Type 0 where
+pub record StandsAtLimit (so : RunSoFar) (line : Line) (next : Group) (after : SiteState) (was is : PlantState) : Type 0 where
   pub leg : Leg
   pub excepted : Exceptions
   pub done : Plans
@@ -147,5 +149,5 @@ pub record StandsAtLimit (so : RunSoFar) (line : TimedCommand) (next : Group) (a
 -- Where an epoch for a line reaches its limit, the session may take the line's command, and the next line's epoch may begin.
 abbrev pub EpochsStandAgain : {S : Type 0} → (tells : Type 0) → (left : S → Option (List ℕ)) → (faults : S → ℕ) → (was is : PlantState) → Type 0
 EpochsStandAgain {S} tells left faults was is =
-    (so : RunSoFar) (line : TimedCommand) (group next : Group) (old new : List (Lane S)) (site after : SiteState) → IsEpochOf tells left faults so line group old new site after was is (ends.Reached next)
-    → ReachedBy tells left line.time group old new site next after is → StandsAtLimit so line next after was is
+    (so : RunSoFar) (line : Line) (group next : Group) (old new : List (Lane S)) (site after : SiteState) → IsEpochOf tells left faults so line group old new site after was is (ends.Reached next)
+    → ReachedBy tells left line.time.0 group old new site next after is → StandsAtLimit so line next after was is

@@ -10,12 +10,12 @@ use Rattle.group_state.specs.Runs.{Answer}
 use Rattle.row_changes.specs.Changes.{break_time_of}
 use Rattle.record_rows.specs.Deeds.{Deed, time_meant_behind}
 use Rattle.site_means.specs.Images.{shape_of}
+use Rattle.xrc_command.specs.declared.line.Line.{Line}
 use Rattle.site_store.specs.DeedChanges.{DeedOfChanges, changes_of, deeds_of}
 use Rattle.site_store.specs.Exceptions.{Exceptions, excepted_behind}
 use Rattle.site_store.specs.Seeing.{SeesBehind}
 use Rattle.passages.specs.Points.{AreLinked, last_point}
 use Rattle.consistency.specs.Bears.{Run, Stage, breaks_of, tracks_of_row}
-use Rattle.consistency.specs.Steps.{TimedCommand}
 use Rattle.fed_logs.specs.Feeds.{part_of_mover}
 use Rattle.fed_logs.specs.LogLaws.{is_limited}
 use Rattle.fed_logs.specs.Logs.{AwaitsBreak, BeginsLog, IsFedLog, Sizes}
@@ -36,7 +36,7 @@ use Rattle.mover.specs.Told.{CarriedAsLive, ExceptedAreOwed, FailedAreOwed, Kept
 pub record Work : Type 0 where
   pub run : Run
   pub stage : Stage
-  pub line : TimedCommand
+  pub line : Line
   pub leg : Leg
   pub size : Sizes
   pub excepted : Exceptions
@@ -104,8 +104,8 @@ pub record IsLogOfWork (work : Work) : Type 0 where
   pub fed : IsFedLog work.run.traces work.begun work.ended work.log
   pub kept : MakesDeeds work.leg.point.time work.leg.point.rows work.done (part_of_mover work.log) (deeds_of work.steps)
   pub each : AreSteps work.run.level (breaks_of work.run) work.leg.point work.steps
-  pub up : work.leg.point.time ≤ work.line.time
-  pub limited : IsTrue (list_all (is_limited work.line.time) work.log)
+  pub up : work.leg.point.time ≤ work.line.time.0
+  pub limited : IsTrue (list_all (is_limited work.line.time.0) work.log)
   pub awaits : (k b : ℕ) → break_time_of k (breaks_of work.run) ≡ Some b → work.leg.point.time ≤ b → AwaitsBreak work.begun k b
 
 -- The work begins at a plant's state, which shows the leg's point.
@@ -124,11 +124,11 @@ IsKeptToEnd work time rows known =
 
 -- the line with a number, if it was heard whole
 abbrev pub Asked : Type 0
-Asked = (number : ℕ) → Option TimedCommand
+Asked = (number : ℕ) → Option Line
 
 -- the work's deeds with the changes by which points come: those of its steps, and the silent breaks below the line's time
 abbrev pub named_steps : Work → List DeedOfChanges
-named_steps work = all_silent work.line.time (breaks_of work.run) work.steps
+named_steps work = all_silent work.line.time.0 (breaks_of work.run) work.steps
 
 -- the points of the first deeds at moments, where deeds come by these changes
 abbrev pub points_in : Work → (moments : List ℕ) → (named : List DeedOfChanges) → List PassedPoint

@@ -16,14 +16,14 @@ use Rattle.script_lines.specs.Texts.{bytes_of, has_feed}
 
 -- A run goes on through one call more.
 pub keeps_more : (tells : Type 0) (told : tells) (text : List ℕ) (heard : Heard) (first old new : PlantState) → has_feed text ≡ false → WorksOnConsole tells old new → Listens old new → Hears old new heard → KeepsHearing text (text ++ bytes_of heard) first old new
-keeps_more tells told text (Byte b) first old new none works listens hears run grammar lines up kept =
-    keeps_hears run grammar lines text first old new up kept tells told works listens b hears (one_line_more text b none)
-keeps_more tells told text End first old new none works listens hears run grammar lines up kept =
-    subst (λ (l : List ℕ). Keeps run grammar lines l first new) (sym (append-nil text)) (keeps_hears_end run grammar lines text first old new up kept tells told works listens hears)
+keeps_more tells told text (Byte b) first old new none works listens hears run lines up kept =
+    keeps_hears run lines text first old new up kept tells told works listens b hears (one_line_more text b none)
+keeps_more tells told text End first old new none works listens hears run lines up kept =
+    subst (λ (l : List ℕ). Keeps run lines l first new) (sym (append-nil text)) (keeps_hears_end run lines text first old new up kept tells told works listens hears)
 
 -- And through one that failed.
 pub keeps_still : (tells : Type 0) (told : tells) (text : List ℕ) (first old new : PlantState) → WorksOnConsole tells old new → Listens old new → HearsNothing old new → KeepsHearing text text first old new
-keeps_still tells told text first old new works listens nothing run grammar lines up kept = keeps_hears_nothing run grammar lines text first old new up kept tells told works listens nothing
+keeps_still tells told text first old new works listens nothing run lines up kept = keeps_hears_nothing run lines text first old new up kept tells told works listens nothing
 
 -- ---- what is said
 

@@ -1,4 +1,3 @@
 pub mod Texts
 pub mod Hearing
-pub mod Grammars
 pub mod NextLines

@@ -3,14 +3,12 @@
 
 mod asking;
 mod hearing;
-mod laws;
 mod line_end;
 mod line_text;
 mod next;
 
 pub use asking::asked_line;
 pub use hearing::hear_line;
-pub use laws::line_grammar_is_one;
 pub use line_end::LineEnd;
 pub use line_text::LineText;
 pub use next::{Next, next_line};

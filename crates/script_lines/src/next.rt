@@ -1,9 +1,8 @@
 ghost use Rattle.std.specs.Prelude.{◌≡◌, ◌≤◌, ◌-◌, [], IfOk, OnErr};
-ghost use Rattle.std.specs.Option.{option_map};
 ghost use Rattle.xrc_edge.specs.Causes.{HasCause};
 ghost use Rattle.crash_plant.specs.Calls.{WorksOnConsole};
+ghost use Rattle.xrc_command.specs.Reading.{line_spelled};
 ghost use Rattle.consistency.specs.Courses.{first_line, later_line};
-ghost use Rattle.script_lines.specs.Grammars.{asked_by, line_grammar};
 ghost use Rattle.script_lines.specs.Hearing.{HearsText, KeepsHearing, SaysNothing};
 ghost use Rattle.script_lines.specs.NextLines.{IsNextInRuns, IsNextLine, asked_next};
 ghost use Rattle.script_lines.specs.Texts.{IsFront};
@@ -34,7 +33,7 @@ pub enum Next {
 // What the line of this number asks that was heard whole, unless it is one too many or falls in time.
 fn later_line(text: &LineText, number: u32, before: Stamp) -> Option<Line>
     requires { 1 ≤ number }
-    ensures { later_line (number - 1) before.0 (line_grammar (first_line text.now)) ≡ option_map asked_by result }
+    ensures { result ≡ later_line (number - 1) before.0 (line_spelled (first_line text.now)) }
 {
     let line = asked_line(text)?;
     if number <= MOST_LINES && before <= line.time {

@@ -3,10 +3,10 @@ use Rattle.std.specs.Prelude.{ℕ, List, [], ◌∷◌, ◌++◌, Option, codes,
 use Rattle.pair_table.specs.declared.command.Command.TheVariants.{End, Query}
 use Rattle.pair_table.specs.declared.level.Level.TheVariants.{Volume as VolumeLevel}
 use Rattle.pair_table.specs.Tables.{Table}
+use Rattle.xrc_command.specs.declared.line.Line.{Line}
 use Rattle.site_tests.specs.ChangeVectors.{no_rises}
 use Rattle.consistency.specs.Bears.{Run, Stage}
 use Rattle.consistency.specs.Courses.{Answered}
-use Rattle.consistency.specs.Steps.{TimedCommand}
 
 -- ---- the session ABC, begun at 50 without pairs
 
@@ -16,18 +16,18 @@ begun_table = record { session = codes "ABC"; is_started = true; is_ended = fals
 abbrev pub run_of_none : Run
 run_of_none = record { session = codes "ABC"; traces = []; labels = []; level = VolumeLevel; rises = no_rises }
 
-abbrev pub begun_stage : Option TimedCommand → Stage
+abbrev pub begun_stage : Option Line → Stage
 begun_stage next = record { table = begun_table; replied = 0x50; past = []; next = next }
 
-abbrev pub query_at : (time : ℕ) → TimedCommand
-query_at time = record { time = time; session = codes "ABC"; command = Query }
+abbrev pub query_at : (time : ℕ) → Line
+query_at time = record { time = record { 0 = time }; session = codes "ABC"; command = Query }
 
-abbrev pub ending_at : (time : ℕ) → TimedCommand
-ending_at time = record { time = time; session = codes "ABC"; command = End }
+abbrev pub ending_at : (time : ℕ) → Line
+ending_at time = record { time = record { 0 = time }; session = codes "ABC"; command = End }
 
 -- ---- the lines of a session that has ended: its end at 90, and a query at 99
 
-abbrev pub ended_by : TimedCommand → Answered
+abbrev pub ended_by : Line → Answered
 ended_by line = record { text = []; line = line; reply = []; changes = []; hits = []; table = record begun_table { is_ended = true } }
 
 abbrev pub lines_past_end : List Answered

@@ -18,8 +18,8 @@ use Rattle.write_trace.specs.declared.entry.Entry.TheVariants.{Written}
 use Rattle.write_trace.specs.declared.trace.Trace.{Trace}
 use Rattle.write_trace.specs.declared.trace.TraceEnd.{TraceEnd}
 use Rattle.write_trace.specs.declared.trace.TraceEnd.TheVariants.{BadTrace, Ended}
+use Rattle.xrc_command.specs.declared.line.Line.{Line}
 use Rattle.consistency.specs.Bears.{Run}
-use Rattle.consistency.specs.Steps.{TimedCommand}
 use Rattle.consistency.specs.Leads.{Point}
 use Rattle.consistency.specs.Owing.{tracks_asked, tracks_owed}
 use Rattle.passages.specs.Points.{AreLinked}
@@ -56,8 +56,8 @@ passed moment time rows way = record { moment = moment; point = point_of_rows ti
 abbrev pub timed_change : (time : ℕ) → RowChange → Timed
 timed_change time change = record { time = time; change = change }
 
-abbrev pub line_asking : (time : ℕ) → Command → TimedCommand
-line_asking time command = record { time = time; session = codes "ABC"; command = command }
+abbrev pub line_asking : (time : ℕ) → Command → Line
+line_asking time command = record { time = record { 0 = time }; session = codes "ABC"; command = command }
 
 -- a leg that begins at a point, behind so many lines, before any device was hit
 abbrev pub worked_leg : (answered : ℕ) → Point → Leg
@@ -71,7 +71,7 @@ resumed_run = worked_session VolumeLevel (one_volume_trace (codes "PRIM01")
     (Written (record { volume = 0; track = 3; stamp = record { 0 = 0x64 }; kind = Whole [] }) ∷ Written (record { volume = 0; track = 3; stamp = record { 0 = 0x110 }; kind = Update 1 [] })
     ∷ Written (record { volume = 0; track = 3; stamp = record { 0 = 0x120 }; kind = Update 1 [] }) ∷ []) Ended ∷ [])
 
-abbrev pub resumed_asked : (line : ℕ) → Option TimedCommand
+abbrev pub resumed_asked : (line : ℕ) → Option Line
 resumed_asked line =
     if line == 1 then Some (line_asking 0x60 (AddPair (codes "PRIM01") (codes "SEC001")))
     else if line == 2 then Some (line_asking 0x100 (Suspend (One (codes "PRIM01") (codes "SEC001"))))
@@ -170,7 +170,7 @@ pub record ResumedMarkIsWorked : Type 0 where
 
 -- ---- the end
 
-abbrev pub ending_asked : (line : ℕ) → Option TimedCommand
+abbrev pub ending_asked : (line : ℕ) → Option Line
 ending_asked line = if nat_lt line 3 then None else Some (line_asking 0x80 End)
 
 abbrev pub ended_point : Point

@@ -1,10 +1,10 @@
 //! Worked times, lines, replies and images: what the definitions give for them.
 
-ghost use Rattle.std.specs.Prelude.{◌≡◌, ◌∷◌, ◌++◌, [], ℕ, codes, slice_set, Bool, List, true, false, Option, Some, None};
+ghost use Rattle.std.specs.Prelude.{◌≡◌, ◌∷◌, ◌++◌, [], ℕ, codes, slice_set, Bool, true, false, Some, None};
+ghost use Rattle.xrc_command.specs.declared.line.Line.{Line};
 ghost use Rattle.consistency.specs.Bears.{Bears};
 ghost use Rattle.consistency.specs.Courses.{Answered, IsAsked, StandsAt, first_line, is_whole_line, last_line_time, later_line, lines_begun, stage_at};
 ghost use Rattle.consistency.specs.Replies.{IsReply, has_reply};
-ghost use Rattle.consistency.specs.Steps.{TimedCommand};
 ghost use Rattle.consistency.specs.Times.{times_said};
 ghost use Rattle.site_tests.specs.CourseVectors.{begun_stage, line_feed, lines_past_end, query_at, query_reply, query_report, run_of_none, start_reply, status_18, worked_replies};
 ghost use Rattle.site_tests.specs.SiteVectors.{site, small};
@@ -46,14 +46,14 @@ pub fn replies()
     ensures query { IsReply true (query_at 0x80) query_reply }
     ensures other_time { IsReply true (query_at 0x81) query_reply → ⊥ }
     ensures other_answer { IsReply false (query_at 0x80) query_reply → ⊥ }
-    ensures nothing { (accepted : Bool) (line : TimedCommand) → IsReply accepted line [] → ⊥ }
+    ensures nothing { (accepted : Bool) (line : Line) → IsReply accepted line [] → ⊥ }
 {}
 
 /// Behind the replies to a run's lines a status may be said, but no reply to another line. Nothing asks nothing.
 pub fn standing()
     ensures status { StandsAt [] [] status_18 }
     ensures reply { StandsAt [] [] start_reply → ⊥ }
-    ensures nothing { (grammar : List ℕ → Option TimedCommand) (answered before : ℕ) (at_end : Bool) (a : Answered) → a.text ≡ [] → IsAsked grammar answered before at_end a → ⊥ }
+    ensures nothing { (answered before : ℕ) (at_end : Bool) (a : Answered) → a.text ≡ [] → IsAsked answered before at_end a → ⊥ }
 {}
 
 /// A session that was begun at 50 bears this time until a line is heard; then a group up to the line's time may stand in the journal.

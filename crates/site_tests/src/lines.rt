@@ -9,7 +9,7 @@ use test_fixtures::{fail_at, failing, zeros};
 use tod_stamp::{Session, Stamp};
 use xrc_command::{Line, read_line};
 use xrc_edge::Failed;
-use xrc_status::{Stop, say_stop, say_three};
+use xrc_status::{Stop, say_stop, say_text};
 
 /// The choice of one pair.
 fn one(rt: &impl Abort, primary: &[u8], secondary: &[u8]) -> Choice {
@@ -133,13 +133,13 @@ fn stops_say_their_last_line(rt: HostRuntime) {
 }
 
 #[test]
-fn texts_are_said_up_to_the_first_that_fails(rt: HostRuntime) {
+fn a_text_is_said_in_part_if_the_console_fails(rt: HostRuntime) {
     let alloc = rt.alloc();
     let plain = zeros(alloc, (0, 0), (0, 0), b"").expect(&rt, "memory");
     let failed = failing(alloc, plain, &[fail_at(None, 0, false)]);
     let mut plant = failed.expect(&rt, "memory");
-    for (said, text) in [(Err(Failed), b"ab".as_slice()), (Ok(()), b"ababcdefg")] {
-        let three = say_three(&mut plant, b"abcd", b"ef", b"g");
-        assert_same(&rt, &(three, plant.said()), &(said, text), &"said");
+    for (outcome, said) in [(Err(Failed), b"ab".as_slice()), (Ok(()), b"ababcd")] {
+        let text = say_text(&mut plant, b"abcd");
+        assert_same(&rt, &(text, plant.said()), &(outcome, said), &"said");
     }
 }

@@ -15,4 +15,5 @@ mod tracks;
 
 pub use input::generate;
 pub use laws::{scripts_are_read, traces_are_good};
+pub use layout::CONTROLS;
 pub use summing::summary;

@@ -5,7 +5,7 @@ use Rattle.crash_plant.specs.declared.device.Device.TheVariants.{Control, Journa
 use Rattle.crash_plant.specs.Moments.{PlantState}
 use Rattle.mover.specs.declared.lane.Lane.{Lane}
 use Rattle.xrc_status.specs.declared.stop.Stop.{Stop}
-use Rattle.xrc_status.specs.declared.stop.Stop.TheVariants.{BadHeader, BadLine, BadSite, BadWords, ConsoleFault, ControlFault, Damaged, EarlyBreak, EarlyVolume, HeaderFault, JournalEnd, JournalFault, NoMemory, NoSession, NotBuilt, OtherSession, Spent, StateFault, TooSmall, VolumeFault}
+use Rattle.xrc_status.specs.declared.stop.Stop.TheVariants.{BadHeader, BadLine, BadSite, BadWords, ConsoleFault, ControlFault, Damaged, HeaderFault, JournalFault, NoMemory, NoSession, OtherSession, Spent, StateFault, TooSmall, VolumeFault}
 use Rattle.xrc_status.specs.Stops.{status_of}
 use Rattle.xrc_session.specs.Lanes.{AllTold, SourceBytes}
 use Rattle.xrc_session.specs.Openings.{opening_stop, stop_of_headers, stop_of_site}
@@ -36,11 +36,7 @@ bad_line_is (OtherSession name) is = absurd (omega (arith, is))
 bad_line_is (Damaged d place) is = absurd (omega (arith, is))
 bad_line_is VolumeFault is = absurd (omega (arith, is))
 bad_line_is (TooSmall d needed) is = absurd (omega (arith, is))
-bad_line_is JournalEnd is = absurd (omega (arith, is))
 bad_line_is BadSite is = absurd (omega (arith, is))
-bad_line_is NotBuilt is = absurd (omega (arith, is))
-bad_line_is EarlyBreak is = absurd (omega (arith, is))
-bad_line_is EarlyVolume is = absurd (omega (arith, is))
 bad_line_is Spent is = absurd (omega (arith, is))
 
 -- ---- the law

@@ -1,38 +1,39 @@
 -- How a run ends: done, or by a stop whose line is said last.
 use Rattle.std.proofs.Common.{◌≡◌, ◌⊎◌, inl, inr, ℕ, ◌+◌, ◌<◌, ◌≤◌, List, [], ◌∷◌, ◌++◌, length, take, drop, false, Option, Some, None, Result, Ok, Err, refl, sym, ap, subst, ◌∙◌, append_assoc, append-nil, arith}
-use Rattle.std.specs.Prelude.{IfErr}
+use Rattle.std.specs.Prelude.{◌≢◌, IfErr}
 use Rattle.std.proofs.Math.Seq.{take-append_seam}
 use Rattle.xrc_edge.specs.Causes.{Rose}
 use Rattle.crash_plant.specs.declared.device.Device.TheVariants.{Control, Volume}
 use Rattle.crash_plant.specs.Calls.{Says, WorksOnConsole}
 use Rattle.crash_plant.specs.Moments.{PlantState}
+use Rattle.xrc_command.specs.declared.line.Line.{Line}
 use Rattle.consistency.specs.Bears.{Run}
 use Rattle.consistency.specs.Between.{RunGoesOn}
 use Rattle.consistency.specs.Courses.{Answered, replies_of, texts_of}
 use Rattle.consistency.specs.Leads.{Point}
-use Rattle.consistency.specs.Steps.{TimedCommand}
 use Rattle.consistency.proofs.Keeping.{keeps_says_status, keeps_throughout}
-use Rattle.script_lines.specs.Grammars.{line_grammar}
 use Rattle.script_lines.specs.NextLines.{IsNextLine}
 use Rattle.script_lines.specs.Texts.{has_feed}
 use Rattle.script_lines.specs.declared.next.Next.TheVariants.{Bad}
 use Rattle.mover.specs.declared.lane.Lane.{Lane}
 use Rattle.xrc_status.specs.declared.stop.Stop.{Stop}
 use Rattle.xrc_status.specs.declared.stop.Stop.TheVariants.{BadLine, ConsoleFault, NoMemory, Spent}
-use Rattle.xrc_status.specs.Saying.{SaysLast}
+use Rattle.xrc_status.specs.Saying.{SaidWhole, SaysLast}
 use Rattle.xrc_status.specs.Stops.{last_line, status_of}
 use Rattle.xrc_session.specs.Between.{stage_behind}
 use Rattle.xrc_session.specs.Frames.{ChangesRows, KeepsPlant, rows_passed}
 use Rattle.xrc_session.specs.Lanes.{AllTold, SourceBytes}
 use Rattle.xrc_session.specs.Openings.{ComesEarly, IsOfSite, OpensInOrder, opening_stop, stop_of_headers, stop_of_site}
 use Rattle.xrc_session.specs.Runs.{AreCountsBelow, IsBadBehind, IsRunOfScript, RunsScript, RunsTold, StopsAtLine}
-use Rattle.xrc_session.specs.Starting.{BeginsRun}
-use Rattle.xrc_session.specs.Stops.{HasRunCause, IsSpentNow, RepliesInPart, StandsStopped, StopsByCount, line_asked, lines_said}
+use Rattle.xrc_session.specs.AppliedEnds.{AppliesEnds}
+use Rattle.xrc_session.proofs.AppliedEnds.{applies_on, applies_so_far}
+use Rattle.xrc_session.specs.Starting.{AreOwnSpent, BeginsRun}
+use Rattle.xrc_session.specs.Stops.{HasRunCause, RepliesInPart, StandsStopped, StopsByCount, line_asked, lines_said}
 use Rattle.xrc_session.specs.Trails.{AreExact, GoesForth, Trail, HasBegunTrail, StandsOnTrail}
 use Rattle.xrc_session.proofs.Made.{site_stop_is}
 use Rattle.xrc_cli.specs.Statuses.{EndsScriptRun, IsHeardBehind, OpensFirst, Ran, SaidBehind, SaysLineOnly, StopsWith}
 use Rattle.xrc_cli.specs.Statuses.SaidInPart.{AllReplies, LastInPart}
-use Rattle.xrc_cli.proofs.Lasting.{begins_still, cause_still, forth_still, keeps_still, rows_still, script_still, spent_still, along_still, bears_still}
+use Rattle.xrc_cli.proofs.Lasting.{begins_still, cause_still, forth_still, keeps_still, rows_still, script_still, own_spent_still, along_still, bears_still}
 use Rattle.xrc_cli.proofs.StatusLines.{stop_says_none}
 use Rattle.xrc_cli.proofs.Stopping.{EndsBy, ends_by, is_console, is_of_headers, is_of_site, is_spent, not_done, status_cause, status_known, StoresAsWere}
 
@@ -79,7 +80,7 @@ none_bad tells number before left (inr long) = omega (arith, long.size)
 module _ (tells : Type 0) (told : tells) (session : List ℕ) (sources : List SourceBytes) (stop : Stop) (old mid : PlantState) (run : Run) (lines : List Answered) (trail : Trail) (next : Option Point) where
   -- The console failed within the reply to a line.
   module _ (a : Answered) (none : trail.started ≡ 0 → trail.points ≡ []) (over : IsRunOfScript session sources old mid run) (is : stop ≡ ConsoleFault) (cause : HasRunCause old mid stop) (part : RepliesInPart run lines a old mid) (exact : AreExact run (lines ++ a ∷ []) trail) (begun : HasBegunTrail run (lines ++ a ∷ []) trail)
-      (along : 0 < trail.started → StandsOnTrail run (lines ++ a ∷ []) None trail next mid) (forth : 0 < old.clock → 0 < trail.started → GoesForth run (lines ++ a ∷ []) None trail next old mid) (volumes : ChangesRows (rows_passed trail.points) old mid) (as_were : StoresAsWere old mid stop) where
+      (along : 0 < trail.started → StandsOnTrail run (lines ++ a ∷ []) None trail next mid) (forth : 0 < old.clock → 0 < trail.started → GoesForth run (lines ++ a ∷ []) None trail next old mid) (volumes : ChangesRows (rows_passed trail.points) old mid) (as_were : StoresAsWere old mid stop) (applied : AppliesEnds run lines old mid) where
     pub ran_in_part : Ran tells session sources old mid (status_of stop)
     ran_in_part = record {
       run = run;
@@ -94,6 +95,7 @@ module _ (tells : Type 0) (told : tells) (session : List ℕ) (sources : List So
       begun = begun;
       forth = λ up some. (None, tt, (next, forth up some));
       along = λ some. (None, tt, (next, along some));
+      ends = applies_so_far run lines a old mid part.applied applied;
       others = volumes;
       done = λ zero. absurd (omega (arith, zero, ap status_of is));
       stopped = λ not. record {
@@ -104,6 +106,7 @@ module _ (tells : Type 0) (told : tells) (session : List ℕ) (sources : List So
         text = [];
         heard = part.heard ∙ ap (λ (l : List ℕ). old.heard old.clock ++ l) (sym (append-nil (texts_of (lines ++ a ∷ []))));
         script = part.script ∙ ap (λ (l : List ℕ). l ++ mid.script) (sym (append-nil (texts_of (lines ++ a ∷ []))));
+        one_line = omega arith;
         said = λ other. absurd (other (ap status_of is));
         last = λ three. LastInPart lines a part.front.0 refl part.front.1 part.front.2;
         bad = λ bad. absurd (none_bad tells _ _ mid.script bad);
@@ -114,10 +117,10 @@ module _ (tells : Type 0) (told : tells) (session : List ℕ) (sources : List So
     }
 
   -- It stopped between replies, and its line was said.
-  module _ (text : List ℕ) (new : PlantState) (none : trail.started ≡ 0 → trail.points ≡ []) (ends : EndsBy old new stop) (keeps : KeepsPlant tells old mid) (last : SaysLast tells (last_line stop) mid new) (console : old.console_faults ≤ mid.console_faults) (over : IsRunOfScript session sources old new run) (cause : HasRunCause old new stop)
-      (goes : RunGoesOn run line_grammar lines text old mid) (exact : AreExact run lines trail) (begun : HasBegunTrail run lines trail) (along : 0 < trail.started → StandsOnTrail run lines (stage_behind run lines text old).next trail next mid) (forth : 0 < old.clock → 0 < trail.started → GoesForth run lines (stage_behind run lines text old).next trail next old mid) (volumes : ChangesRows (rows_passed trail.points) old mid)
-      (spent : stop ≡ Spent → IsSpentNow mid) (bad : IsBadBehind tells lines text mid.script → (stop ≡ BadLine (length lines + 1)) ⊎ ((stop ≡ ConsoleFault) × (has_feed text ≡ false))) (of_bad : (n : ℕ) → stop ≡ BadLine n → (n ≡ length lines + 1) × IsBadBehind tells lines text mid.script)
-      (silent : stop ≡ ConsoleFault → new.said new.clock ≡ mid.said mid.clock) (as_were : StoresAsWere old new stop) where
+  module _ (text : List ℕ) (new : PlantState) (none : trail.started ≡ 0 → trail.points ≡ []) (ends : EndsBy old new stop) (keeps : KeepsPlant tells old mid) (last : SaysLast tells (last_line stop) mid new) (unfailed : stop ≢ ConsoleFault → mid.console_faults ≡ old.console_faults) (over : IsRunOfScript session sources old new run) (cause : HasRunCause old new stop)
+      (goes : RunGoesOn run lines text old mid) (exact : AreExact run lines trail) (begun : HasBegunTrail run lines trail) (along : 0 < trail.started → StandsOnTrail run lines (stage_behind run lines text old).next trail next mid) (forth : 0 < old.clock → 0 < trail.started → GoesForth run lines (stage_behind run lines text old).next trail next old mid) (volumes : ChangesRows (rows_passed trail.points) old mid)
+      (spent : stop ≡ Spent → AreOwnSpent run (stage_behind run lines text old) old mid) (bad : IsBadBehind tells lines text mid.script → (stop ≡ BadLine (length lines + 1)) ⊎ ((stop ≡ ConsoleFault) × (has_feed text ≡ false))) (of_bad : (n : ℕ) → stop ≡ BadLine n → (n ≡ length lines + 1) × IsBadBehind tells lines text mid.script)
+      (silent : stop ≡ ConsoleFault → new.said new.clock ≡ mid.said mid.clock) (as_were : StoresAsWere old new stop) (applied : AppliesEnds run lines old mid) where
     works : WorksOnConsole tells mid new
     works = last.front.only
 
@@ -133,22 +136,25 @@ module _ (tells : Type 0) (told : tells) (session : List ℕ) (sources : List So
     heard_is : new.heard new.clock ≡ old.heard old.clock ++ (texts_of lines ++ text)
     heard_is = says.heard new.clock later (omega arith) ∙ goes.now.heard
 
-    said_behind : SaidBehind lines (last_line stop) stop old new
-    said_behind =
+    said_behind : stop ≢ ConsoleFault → SaidBehind lines (last_line stop) stop old new
+    said_behind other =
         let front = says.front new.clock later (omega arith) in
         record {
           said = (front.0, front.1, front.2 ∙ ap (λ (l : List ℕ). l ++ take front.0 (last_line stop)) goes.now.said ∙ append_assoc (old.said old.clock) (replies_of lines) (take front.0 (last_line stop)));
-          whole = elim (last.whole told) [
-            | inl whole ↦ inl (whole ∙ ap (λ (l : List ℕ). l ++ last_line stop) goes.now.said ∙ append_assoc (old.said old.clock) (replies_of lines) (last_line stop))
-            | inr rose ↦ inr (rose_before rose)
-          ];
+          whole = by_sides (last.whole told) last.count;
+          by_one = (let same = unfailed other in let one = last.by_one in omega (arith, same, one));
         }
       where
         rose_before : Rose mid.console_faults new.console_faults → Rose old.console_faults new.console_faults
-        rose_before (inl less) = inl (omega (arith, less, console))
-        rose_before (inr most) = inr most
+        rose_before rose = subst (λ (n : ℕ). Rose n new.console_faults) (unfailed other) rose
 
-    heard_behind : (o : Option TimedCommand) → (stage_behind run lines text old).next ≡ o → IsHeardBehind run lines old new o
+        by_sides : SaidWhole (last_line stop) mid new ⊎ Rose mid.console_faults new.console_faults → (new.console_faults ≡ mid.console_faults) ⊎ Rose mid.console_faults new.console_faults
+            → ((new.said new.clock ≡ old.said old.clock ++ (replies_of lines ++ last_line stop)) × (new.console_faults ≡ old.console_faults)) ⊎ Rose old.console_faults new.console_faults
+        by_sides (inr rose) count = inr (rose_before rose)
+        by_sides (inl whole) (inr rose) = inr (rose_before rose)
+        by_sides (inl whole) (inl same) = inl (whole ∙ ap (λ (l : List ℕ). l ++ last_line stop) goes.now.said ∙ append_assoc (old.said old.clock) (replies_of lines) (last_line stop), same ∙ unfailed other)
+
+    heard_behind : (o : Option Line) → (stage_behind run lines text old).next ≡ o → IsHeardBehind run lines old new o
     heard_behind None is = tt
     heard_behind (Some line) is = (text, heard_is, is)
 
@@ -161,11 +167,12 @@ module _ (tells : Type 0) (told : tells) (session : List ℕ) (sources : List So
       text = text;
       heard = heard_is;
       script = goes.now.script ∙ ap (λ (l : List ℕ). texts_of lines ++ text ++ l) (sym says.script);
-      said = λ other. said_behind;
+      one_line = goes.now.one_line;
+      said = λ other. said_behind (λ is. other (ap status_of is));
       last = λ three. AllReplies (silent (is_console old new stop ends three) ∙ goes.now.said);
       bad = λ is. bad (subst (λ (l : List ℕ). IsBadBehind tells lines text l) says.script is);
       of_bad = λ n is. let line = of_bad n is in (line.0, subst (λ (l : List ℕ). IsBadBehind tells lines text l) (sym says.script) line.1);
-      spent = λ is. spent_still tells told mid new works (spent (is_spent old new stop ends is));
+      spent = λ is. own_spent_still tells told mid new works run (stage_behind run lines text old) old (spent (is_spent old new stop ends is));
       now = λ started. bears_still tells told mid new works run (stage_behind run lines text old) (replies_of lines) (goes.now.bears started);
     }
 
@@ -179,7 +186,7 @@ module _ (tells : Type 0) (told : tells) (session : List ℕ) (sources : List So
       asked = goes.now.asked;
       bears = λ up.
           let none = stop_says_none stop (status_known old new stop ends) in
-          keeps_says_status run line_grammar lines text old mid new up (goes.keeps up) tells told works (last_line stop) says none.0 none.1;
+          keeps_says_status run lines text old mid new up (goes.keeps up) tells told works (last_line stop) says none.0 none.1;
       exact = exact;
       none = none;
       begun = begun;
@@ -189,6 +196,7 @@ module _ (tells : Type 0) (told : tells) (session : List ℕ) (sources : List So
       along = λ some.
           let heard = (stage_behind run lines text old).next in
           (heard, heard_behind heard refl, (next, along_still tells told mid new works run lines heard trail next (along some)));
+      ends = λ up number below ended. inl (applies_on run lines old mid new goes.now.later works.site (works.elapses told) applied up number below ended);
       others = rows_still tells told mid new works (rows_passed trail.points) old goes.now.site goes.now.later volumes;
       done = λ zero. absurd (not_done old new stop ends zero);
       stopped = λ not. stops_with;
@@ -230,12 +238,13 @@ module _ {S P : Type 0} (tells : Type 0) (state : P → PlantState) (left : S �
           trail = trail;
           course = is.goes.now.course;
           asked = is.goes.now.asked;
-          bears = λ up. keeps_throughout runs.run line_grammar runs.lines [] (state old) (state mid) (is.goes.keeps up);
+          bears = λ up. keeps_throughout runs.run runs.lines [] (state old) (state mid) (is.goes.keeps up);
           exact = is.exact;
           none = is.none;
           begun = is.begun;
           forth = λ up some. (None, tt, (None, is.forth up some));
           along = λ some. (None, tt, (None, is.along some));
+          ends = λ up number below ended. inl (runs.ends.2 up number below ended);
           others = is.volumes;
           done = λ zero. is;
           stopped = λ not. absurd (not refl);
@@ -319,11 +328,11 @@ module _ {S P : Type 0} (tells : Type 0) (state : P → PlantState) (left : S �
           → (0 < (state old).clock → 0 < trail.started → GoesForth runs.run (lines_said runs.lines part) (line_asked (stage_behind runs.run runs.lines runs.text (state old)).next part) trail next (state old) (state mid))
           → Ran tells session sources (state old) (state new) (status_of stop)
       by_part None goes exact begun along forth =
-          ran_to_stop tells told session sources stop (state old) (state mid) runs.run runs.lines trail next runs.text (state new) at_line.stops.stopped.none ends r.keeps last r.counts.console_later over_now late_now goes exact begun along forth at_line.stops.volumes
-          at_line.stops.spent at_line.bad at_line.of_bad (λ is. ap (λ (p : P). (state p).said (state p).clock) (silent is)) as_were
+          ran_to_stop tells told session sources stop (state old) (state mid) runs.run runs.lines trail next runs.text (state new) at_line.stops.stopped.none ends r.keeps last (λ other. r.counts.console (λ is. other (err_is stop ConsoleFault is))) over_now late_now goes exact begun along forth at_line.stops.volumes
+          at_line.stops.spent at_line.bad at_line.of_bad (λ is. ap (λ (p : P). (state p).said (state p).clock) (silent is)) as_were at_line.applied
       by_part (Some a) stands exact begun along forth =
           subst (λ (p : P). Ran tells session sources (state old) (state p) (status_of stop)) (sym (silent stands.0))
-          (ran_in_part tells told session sources stop (state old) (state mid) runs.run runs.lines trail next a at_line.stops.stopped.none runs.over stands.0 late stands.2 exact begun along forth at_line.stops.volumes as_were_mid)
+          (ran_in_part tells told session sources stop (state old) (state mid) runs.run runs.lines trail next a at_line.stops.stopped.none runs.over stands.0 late stands.2 exact begun along forth at_line.stops.volumes as_were_mid at_line.applied)
 
       ran_now : Ran tells session sources (state old) (state new) (status_of stop)
       ran_now = by_part at_line.stops.stopped.part at_line.stops.stopped.stands at_line.stops.stopped.exact at_line.stops.stopped.begun at_line.stops.stopped.along at_line.stops.stopped.forth

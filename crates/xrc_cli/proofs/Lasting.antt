@@ -3,7 +3,7 @@ use Rattle.xrc_session.proofs.Growing.{says_grows}
 use Rattle.mover.specs.Working.{ShowsLast}
 use Rattle.consistency.specs.Moments.{BearsTime}
 use Rattle.std.proofs.Common.{◌≡◌, ◌⊎◌, inl, inr, ℕ, zero, suc, ◌+◌, ◌<◌, ◌≤◌, ◌^◌, List, [], ◌∷◌, ◌++◌, take, Option, Some, None, refl, sym, ap, subst, ◌∙◌, append_assoc, append-nil, arith}
-use Rattle.std.specs.Prelude.{◌-◌, codes}
+use Rattle.std.specs.Prelude.{◌-◌, codes, IsSomeAnd}
 use Rattle.std.proofs.lemmas.Bool.{cases_lt}
 use Rattle.xrc_edge.specs.Causes.{Rose}
 use Rattle.crash_plant.specs.declared.device.Device.{Device}
@@ -18,24 +18,24 @@ use Rattle.pair_table.specs.declared.row.PairRow.{PairRow}
 use Rattle.site_means.specs.Images.{Shape, shape_of}
 use Rattle.site_means.specs.Meaning.{chosen_in, meaning_in}
 use Rattle.site_means.proofs.Goes.{shape_same}
+use Rattle.xrc_command.specs.declared.line.Line.{Line}
 use Rattle.passages.specs.Points.{GoesThrough, Throughout, last_point}
 use Rattle.passages.proofs.InARow.{moments_rise}
 use Rattle.consistency.specs.Bearing.{ShowsPoint}
 use Rattle.consistency.specs.Bears.{Run, Stage}
 use Rattle.consistency.specs.Courses.{Answered, texts_of}
 use Rattle.consistency.specs.Leads.{Point}
-use Rattle.consistency.specs.Steps.{TimedCommand}
 use Rattle.consistency.specs.Ways.{PassedPoint, Way}
 use Rattle.consistency.proofs.Standing.{console_choice, bears_on}
 use Rattle.xrc_status.specs.declared.stop.Stop.{Stop}
-use Rattle.xrc_status.specs.declared.stop.Stop.TheVariants.{BadHeader, BadLine, BadSite, BadWords, ConsoleFault, ControlFault, Damaged, EarlyBreak, EarlyVolume, HeaderFault, JournalEnd, JournalFault, NoMemory, NoSession, NotBuilt, OtherSession, Spent, StateFault, TooSmall, VolumeFault}
+use Rattle.xrc_status.specs.declared.stop.Stop.TheVariants.{BadHeader, BadLine, BadSite, BadWords, ConsoleFault, ControlFault, Damaged, HeaderFault, JournalFault, NoMemory, NoSession, OtherSession, Spent, StateFault, TooSmall, VolumeFault}
 use Rattle.xrc_status.specs.Saying.{SaysLast}
 use Rattle.xrc_status.specs.Stops.{last_line}
 use Rattle.xrc_session.specs.Frames.{ChangesRows, KeepsPlant}
 use Rattle.xrc_session.specs.Runs.{AreLabels, GivesLabel, IsRunOfScript}
 use Rattle.xrc_session.specs.Runs.AreLabels.{Given, Last}
 use Rattle.xrc_session.specs.Lanes.{SourceBytes}
-use Rattle.xrc_session.specs.Starting.{BeginsRun, HearsStart, IsUnsaid, LeavesVolumes, MeansStart, ShutsOrStarts, StartsBehind, reply_to_start}
+use Rattle.xrc_session.specs.Starting.{AreOwnSpent, BeginsRun, FormatsFirst, HearsStart, IsUnsaid, LeavesVolumes, MeansStart, ShutsOrStarts, StartsBehind, level_started, reply_to_start}
 use Rattle.xrc_session.specs.Starting.BeginsRun.{Starting, Unstarted}
 use Rattle.xrc_session.specs.Stops.{HasRunCause, HasStopCause, IsSpentNow}
 use Rattle.xrc_session.specs.Trails.{GoesForth, Trail, first_leg, StandsOnTrail}
@@ -43,6 +43,7 @@ use Rattle.xrc_session.proofs.InTurn.{keeps_console, keeps_then}
 use Rattle.xrc_session.proofs.RowFrames.{changes_rows_none, changes_rows_then}
 use Rattle.xrc_session.proofs.WrittenLines.{written_still}
 use Rattle.xrc_session.proofs.SafeStarts.{leaves_console, leaves_then}
+use Rattle.xrc_session.proofs.Started.{formats_on}
 
 -- ---- counts
 
@@ -74,11 +75,7 @@ module _ (old mid new : PlantState) (faults : (d : Device) → new.faults d ≡ 
   stop_still (Damaged d place) same cause = absurd cause
   stop_still VolumeFault same cause = absurd cause
   stop_still (TooSmall d needed) same cause = absurd cause
-  stop_still JournalEnd same cause = absurd cause
   stop_still BadSite same cause = absurd cause
-  stop_still NotBuilt same cause = absurd cause
-  stop_still EarlyBreak same cause = absurd cause
-  stop_still EarlyVolume same cause = absurd cause
 
   -- A stop has its cause still; of a failed console no line is said.
   pub cause_still : (stop : Stop) → (stop ≡ ConsoleFault → new.console_faults ≡ mid.console_faults) → HasRunCause old mid stop → HasRunCause old new stop
@@ -114,7 +111,7 @@ module _ (tells : Type 0) (told : tells) (old new : PlantState) (works : WorksOn
   now_still so was c is = was c (console_choice tells told old new new.clock c works later (omega arith) is)
 
   -- Numbers that are spent are so still.
-  pub spent_still : IsSpentNow old → IsSpentNow new
+  spent_still : IsSpentNow old → IsSpentNow new
   spent_still spent c is =
       let was = spent c (console_choice tells told old new new.clock c works later (omega arith) is) in
       record {
@@ -126,12 +123,24 @@ module _ (tells : Type 0) (told : tells) (old new : PlantState) (works : WorksOn
         spent = was.spent;
       }
 
+  pub own_spent_still : (run : Run) (s : Stage) (began : PlantState) → AreOwnSpent run s began old → AreOwnSpent run s began new
+  own_spent_still run s began own = record { spent = spent_still own.spent; own = elim own.own [ inl is ↦ inl is | inr starts ↦ inr (by_next s.next starts) ] }
+    where
+      by_level : (line : Line) (o : Option Level) → IsSomeAnd o (λ level. AtNow (MeansStart run.session level line.time.0 began) old) → IsSomeAnd o (λ level. AtNow (MeansStart run.session level line.time.0 began) new)
+      by_level line None none = absurd none
+      by_level line (Some level) means = now_still (MeansStart run.session level line.time.0 began) means
+
+      by_next : (o : Option Line) → IsSomeAnd o (λ line. IsSomeAnd (level_started run.session line) (λ level. AtNow (MeansStart run.session level line.time.0 began) old))
+          → IsSomeAnd o (λ line. IsSomeAnd (level_started run.session line) (λ level. AtNow (MeansStart run.session level line.time.0 began) new))
+      by_next None none = absurd none
+      by_next (Some line) starts = by_level line (level_started run.session line) starts
+
   -- Where each choice bore a time, it does still.
   pub bears_still : (run : Run) (s : Stage) (said : List ℕ) → AtNow (BearsTime run s said old) old → AtNow (BearsTime run s said new) new
   bears_still run s said was c is = bears_on run s said old new c works.site (now_still (BearsTime run s said old) was c is)
 
   -- A session stands on its trail still.
-  pub along_still : (run : Run) (lines : List Answered) (heard : Option TimedCommand) (trail : Trail) (next : Option Point) → StandsOnTrail run lines heard trail next old → StandsOnTrail run lines heard trail next new
+  pub along_still : (run : Run) (lines : List Answered) (heard : Option Line) (trail : Trail) (next : Option Point) → StandsOnTrail run lines heard trail next old → StandsOnTrail run lines heard trail next new
   along_still run lines heard trail next stands = record {
     rowless = stands.rowless;
     linked = stands.linked;
@@ -170,7 +179,7 @@ module _ (tells : Type 0) (told : tells) (old new : PlantState) (works : WorksOn
         (goes.0, throughout_past (λ c. shows p c ⊎ shows n.point c) from n.moment there goes.1, throughout_past (shows n.point) n.moment n.moment there goes.2, through_still shows n.moment n.point more next goes.3)
 
     -- The devices go on as they went.
-    pub forth_still : (run : Run) (lines : List Answered) (heard : Option TimedCommand) (trail : Trail) (next : Option Point) (began : PlantState) → GoesForth run lines heard trail next began old → GoesForth run lines heard trail next began new
+    pub forth_still : (run : Run) (lines : List Answered) (heard : Option Line) (trail : Trail) (next : Option Point) (began : PlantState) → GoesForth run lines heard trail next began old → GoesForth run lines heard trail next began new
     forth_still run lines heard trail next began forth =
         let first = (first_leg run lines trail).point in
         let before = moments_rise Point Way Choice (IsChoice old) (ShowsPoint run (shape_of old)) forth.from old.clock first trail.points next forth.goes in
@@ -217,11 +226,7 @@ front_of_stop (OtherSession name) k = front_of_line k _
 front_of_stop (Damaged d place) k = front_of_line k _
 front_of_stop VolumeFault k = front_of_line k _
 front_of_stop (TooSmall d needed) k = front_of_line k _
-front_of_stop JournalEnd k = front_of_line k _
 front_of_stop BadSite k = front_of_line k _
-front_of_stop NotBuilt k = front_of_line k _
-front_of_stop EarlyBreak k = front_of_line k _
-front_of_stop EarlyVolume k = front_of_line k _
 front_of_stop Spent k = front_of_line k _
 
 -- Nothing of a reply is said by it.
@@ -288,12 +293,18 @@ module _ (tells : Type 0) (told : tells) (stop : Stop) (session : List ℕ) (old
       safe = safe_before;
       volumes = volumes_before;
       means = by_means b.means;
+      formats = by_formats b.formats;
     }
       where
         by_means : IsUnsaid (mid.said b.heard_at) (mid.said b.replied_at) ⊎ AtMoment (MeansStart session level at old) mid b.replied_at → IsUnsaid (new.said b.heard_at) (new.said b.replied_at) ⊎ AtMoment (MeansStart session level at old) new b.replied_at
         by_means (inl unsaid) =
             inl (subst (λ (l : List ℕ). IsUnsaid l (new.said b.replied_at)) (sym said_before) (subst (λ (l : List ℕ). IsUnsaid (mid.said b.heard_at) l) (sym (gone.said b.replied_at now b.within)) unsaid))
         by_means (inr mean) = inr (λ c is. mean c (past_choice mid new b.replied_at c works.site gone now b.within is))
+
+        by_formats : IsUnsaid (mid.said b.heard_at) (mid.said b.replied_at) ⊎ FormatsFirst session level at old mid b.replied_at → IsUnsaid (new.said b.heard_at) (new.said b.replied_at) ⊎ FormatsFirst session level at old new b.replied_at
+        by_formats (inl unsaid) =
+            inl (subst (λ (l : List ℕ). IsUnsaid l (new.said b.replied_at)) (sym said_before) (subst (λ (l : List ℕ). IsUnsaid (mid.said b.heard_at) l) (sym (gone.said b.replied_at now b.within)) unsaid))
+        by_formats (inr first) = inr (formats_on session level at old mid new b.replied_at b.replied_at works.site gone now b.within (omega arith) first)
 
     -- It wasn't, and it is safe to the end.
     unreplied : b.replied_at ≡ mid.clock → StartsBehind session level at old new
@@ -312,6 +323,7 @@ module _ (tells : Type 0) (told : tells) (stop : Stop) (session : List ℕ) (old
       safe = safe;
       volumes = volumes;
       means = by_means b.means;
+      formats = by_formats b.formats;
     }
       where
         safe : (t : ℕ) → old.clock ≤ t → t ≤ new.clock → (c : Choice) → IsChoice new t c → (x : Choice) × IsChoice old old.clock x × ShutsOrStarts session level at old x c
@@ -333,6 +345,14 @@ module _ (tells : Type 0) (told : tells) (stop : Stop) (session : List ℕ) (old
             let still = unsaid_still (mid.said b.heard_at) (mid.said mid.clock) more here (front_of_stop stop ((last.front.moments told).front new.clock on_to (omega arith)).0) in
             inl (subst (λ (l : List ℕ). IsUnsaid l (new.said new.clock)) (sym said_before) (subst (λ (l : List ℕ). IsUnsaid (mid.said b.heard_at) l) (sym said_now) still))
         by_means (inr mean) = inr (λ c is. subst (λ (t : ℕ). AtMoment (MeansStart session level at old) mid t) end mean c (console_choice tells told mid new new.clock c works on_to (omega arith) is))
+
+        by_formats : IsUnsaid (mid.said b.heard_at) (mid.said b.replied_at) ⊎ FormatsFirst session level at old mid b.replied_at → IsUnsaid (new.said b.heard_at) (new.said new.clock) ⊎ FormatsFirst session level at old new new.clock
+        by_formats (inl unsaid) =
+            let here = subst (λ (t : ℕ). IsUnsaid (mid.said b.heard_at) (mid.said t)) end unsaid in
+            let more = take ((last.front.moments told).front new.clock on_to (omega arith)).0 (last_line stop) in
+            let still = unsaid_still (mid.said b.heard_at) (mid.said mid.clock) more here (front_of_stop stop ((last.front.moments told).front new.clock on_to (omega arith)).0) in
+            inl (subst (λ (l : List ℕ). IsUnsaid l (new.said new.clock)) (sym said_before) (subst (λ (l : List ℕ). IsUnsaid (mid.said b.heard_at) l) (sym said_now) still))
+        by_formats (inr first) = inr (formats_on session level at old mid new b.replied_at new.clock works.site gone now b.within (omega (arith, b.within, on_to)) first)
 
     pub behind_still : StartsBehind session level at old new
     behind_still = elim b.reached [ inl whole ↦ replied_before whole | inr end ↦ unreplied end ]

@@ -1,4 +1,8 @@
 pub mod Worded
+pub mod Numbers
+pub mod LabelEnds
+pub mod Generated
+pub mod Commands
 pub mod ScriptTexts
 pub mod Complete
 pub mod StatusLines

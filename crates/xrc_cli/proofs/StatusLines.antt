@@ -8,7 +8,7 @@ use Rattle.std.proofs.lemmas.Bool.Decides.{nat_tests}
 use Rattle.crash_plant.specs.declared.device.Device.{Device}
 use Rattle.crash_plant.specs.declared.device.Device.TheVariants.{Control, State, Journal, Volume}
 use Rattle.xrc_status.specs.declared.stop.Stop.{Stop}
-use Rattle.xrc_status.specs.declared.stop.Stop.TheVariants.{NoMemory, BadWords, ConsoleFault, BadLine, JournalFault, ControlFault, StateFault, BadHeader, HeaderFault, NoSession, OtherSession, Damaged, VolumeFault, TooSmall, JournalEnd, BadSite, NotBuilt, EarlyBreak, EarlyVolume, Spent}
+use Rattle.xrc_status.specs.declared.stop.Stop.TheVariants.{NoMemory, BadWords, ConsoleFault, BadLine, JournalFault, ControlFault, StateFault, BadHeader, HeaderFault, NoSession, OtherSession, Damaged, VolumeFault, TooSmall, BadSite, Spent}
 use Rattle.xrc_status.specs.Stops.{details, device_text, last_line, status_line, status_of}
 use Rattle.consistency.specs.Replies.{are_reply, has_reply, is_reply_line}
 use Rattle.consistency.specs.Times.{time_behind, time_in_word, times_in_words, times_said, words}
@@ -109,11 +109,7 @@ words_behind ControlFault = []
 words_behind StateFault = []
 words_behind NoSession = []
 words_behind VolumeFault = []
-words_behind JournalEnd = []
 words_behind BadSite = []
-words_behind NotBuilt = []
-words_behind EarlyBreak = []
-words_behind EarlyVolume = []
 words_behind Spent = []
 
 -- words, each behind a space
@@ -142,11 +138,7 @@ details_spaced ControlFault = refl
 details_spaced StateFault = refl
 details_spaced NoSession = refl
 details_spaced VolumeFault = refl
-details_spaced JournalEnd = refl
 details_spaced BadSite = refl
-details_spaced NotBuilt = refl
-details_spaced EarlyBreak = refl
-details_spaced EarlyVolume = refl
 details_spaced Spent = refl
 
 -- They tell no time.
@@ -174,11 +166,7 @@ words_quiet ControlFault told = no_more
 words_quiet StateFault told = no_more
 words_quiet NoSession told = no_more
 words_quiet VolumeFault told = no_more
-words_quiet JournalEnd told = no_more
 words_quiet BadSite told = no_more
-words_quiet NotBuilt told = no_more
-words_quiet EarlyBreak told = no_more
-words_quiet EarlyVolume told = no_more
 words_quiet Spent told = no_more
 
 module _ (status : ℕ) (others : List (List ℕ)) (quiet : AreQuiet others) where
@@ -232,9 +220,5 @@ stop_says_none ControlFault told = by_words ControlFault told
 stop_says_none StateFault told = by_words StateFault told
 stop_says_none NoSession told = by_words NoSession told
 stop_says_none VolumeFault told = by_words VolumeFault told
-stop_says_none JournalEnd told = by_words JournalEnd told
 stop_says_none BadSite told = by_words BadSite told
-stop_says_none NotBuilt told = by_words NotBuilt told
-stop_says_none EarlyBreak told = by_words EarlyBreak told
-stop_says_none EarlyVolume told = by_words EarlyVolume told
 stop_says_none Spent told = by_words Spent told

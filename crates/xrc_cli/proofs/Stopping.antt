@@ -44,11 +44,7 @@ module _ (old new : PlantState) where
   ends_late (stops.Damaged d place) cause = absurd cause
   ends_late stops.VolumeFault cause = absurd cause
   ends_late (stops.TooSmall d needed) cause = absurd cause
-  ends_late stops.JournalEnd cause = absurd cause
   ends_late stops.BadSite cause = absurd cause
-  ends_late stops.NotBuilt cause = absurd cause
-  ends_late stops.EarlyBreak cause = absurd cause
-  ends_late stops.EarlyVolume cause = absurd cause
 
   -- A run's stop is one of these.
   pub ends_by : (stop : Stop) → ComesEarly stop ⊎ HasRunCause old new stop → EndsBy old new stop

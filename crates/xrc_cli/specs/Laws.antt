@@ -5,7 +5,6 @@ use Rattle.crash_plant.specs.declared.device.Device.{Device}
 use Rattle.crash_plant.specs.Moments.{PlantState}
 use Rattle.site_store.specs.Records.{IsStore}
 use Rattle.consistency.specs.Courses.{Answered, AreAsked, texts_of}
-use Rattle.script_lines.specs.Grammars.{line_grammar}
 use Rattle.mover.specs.declared.lane.Lane.{Lane}
 use Rattle.xrc_session.specs.Lanes.{AllTold, SourceBytes}
 use Rattle.xrc_session.specs.Openings.{opening_stop}
@@ -16,7 +15,7 @@ use Rattle.xrc_cli.specs.Statuses.{EndsScriptRun}
 pub record IsGoodScript (script : List ℕ) : Type 0 where
   pub lines : List Answered
   pub whole : texts_of lines ≡ script
-  pub asked : AreAsked line_grammar script lines
+  pub asked : AreAsked script lines
 
 -- No count of the console, the control, the state or a journal rose. Those of volumes may have risen.
 pub record NoStoreRose (old new : PlantState) : Type 0 where

@@ -1,3 +1,6 @@
 pub mod Words
 pub mod Statuses
+pub mod Saying
+pub mod Labelling
+pub mod Generating
 pub mod Laws

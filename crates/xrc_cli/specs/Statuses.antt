@@ -5,12 +5,11 @@ use Rattle.xrc_edge.specs.Causes.{Rose}
 use Rattle.crash_plant.specs.declared.device.Device.{Device}
 use Rattle.crash_plant.specs.declared.device.Device.TheVariants.{Control, State, Journal}
 use Rattle.crash_plant.specs.Moments.{PlantState}
+use Rattle.xrc_command.specs.declared.line.Line.{Line}
 use Rattle.site_store.specs.Records.{IsStore}
 use Rattle.consistency.specs.Bears.{Run}
-use Rattle.consistency.specs.Courses.{Answered, AreAsked, IsCourse, replies_of, texts_of}
+use Rattle.consistency.specs.Courses.{Answered, AreAsked, IsCourse, lines_begun, replies_of, texts_of}
 use Rattle.consistency.specs.Moments.{BearsThroughout, BearsTime}
-use Rattle.consistency.specs.Steps.{TimedCommand}
-use Rattle.script_lines.specs.Grammars.{line_grammar}
 use Rattle.script_lines.specs.Texts.{has_feed}
 use Rattle.consistency.specs.Leads.{Point}
 use Rattle.mover.specs.declared.lane.Lane.{Lane}
@@ -18,14 +17,15 @@ use Rattle.xrc_status.specs.declared.stop.Stop.{Stop}
 use Rattle.xrc_status.specs.declared.stop.Stop.TheVariants.{BadLine, ConsoleFault, HeaderFault, NoMemory}
 use Rattle.xrc_status.specs.Saying.{SaysLast}
 use Rattle.xrc_status.specs.Stops.{last_line, status_of}
+use Rattle.xrc_session.specs.AppliedEnds.{AppliesEndsSoFar}
 use Rattle.xrc_session.specs.Between.{stage_behind}
 use Rattle.xrc_session.specs.Ends.{IsRunDone}
 use Rattle.xrc_session.specs.Frames.{ChangesRows, KeepsPlant, rows_passed}
 use Rattle.xrc_session.specs.Lanes.{AllTold, SourceBytes}
 use Rattle.xrc_session.specs.Openings.{IsOfHeaders, IsOfSite, opening_stop, stop_of_site}
 use Rattle.xrc_session.specs.Runs.{AreCountsBelow, IsBadBehind, IsRunOfScript}
-use Rattle.xrc_session.specs.Starting.{BeginsRun}
-use Rattle.xrc_session.specs.Stops.{HasRunCause, IsSpentNow, stop_of_device}
+use Rattle.xrc_session.specs.Starting.{AreOwnSpent, BeginsRun}
+use Rattle.xrc_session.specs.Stops.{HasRunCause, stop_of_device}
 use Rattle.xrc_session.specs.Trails.{AreExact, GoesForth, Trail, HasBegunTrail, StandsOnTrail}
 
 -- ---- causes
@@ -65,18 +65,21 @@ pub record OpensFirst {S : Type 0} (tells : Type 0) (left : S → Option (List �
 
 -- ---- the end of a run
 
--- A stop's line was said behind the replies, whole, or in part where the console's count rose.
+-- A stop's line was said behind the replies, whole, or in part where the console's count rose. No other call on the console failed.
 pub record SaidBehind (lines : List Answered) (text : List ℕ) (stop : Stop) (old new : PlantState) : Type 0 where
   pub said : (k : ℕ) × (k ≤ length text) × (new.said new.clock ≡ old.said old.clock ++ (replies_of lines ++ take k text))
-  pub whole : (new.said new.clock ≡ old.said old.clock ++ (replies_of lines ++ text)) ⊎ Rose old.console_faults new.console_faults
+  pub whole : ((new.said new.clock ≡ old.said old.clock ++ (replies_of lines ++ text)) × (new.console_faults ≡ old.console_faults)) ⊎ Rose old.console_faults new.console_faults
+  pub by_one : new.console_faults ≤ old.console_faults + 1
 
 -- Nothing was said behind the replies to these lines. Or of the last reply a front was said, and nothing else.
 pub data SaidInPart (lines : List Answered) (old new : PlantState) : Type 0 where
   AllReplies : new.said new.clock ≡ old.said old.clock ++ replies_of lines → SaidInPart lines old new
   LastInPart : (before : List Answered) (a : Answered) (k : ℕ) → lines ≡ before ++ a ∷ [] → k ≤ length a.reply → new.said new.clock ≡ old.said old.clock ++ (replies_of before ++ take k a.reply) → SaidInPart lines old new
 
--- A run that isn't done ended by a stop, with its own cause. Behind the answered lines so much was heard, and this is left of the script.
+-- A run that isn't done ended by a stop, with its own cause. Behind the answered lines so much was heard, of one line at most, and this is left of
+-- the script.
 --   counts: no count of the control, the state or a journal changes but with its own stop
+--   spent: 24 comes only once the session has started, or in the work for its start, where its own numbers are spent
 --   now: whatever a crash leaves bears a time, not before any that the replies tell, also on a plant that keeps no past
 --   last: at 3 the console failed in hearing, or in saying the reply to the last of the lines
 pub record StopsWith (tells : Type 0) (run : Run) (lines : List Answered) (old new : PlantState) (status : ℕ) : Type 0 where
@@ -87,17 +90,18 @@ pub record StopsWith (tells : Type 0) (run : Run) (lines : List Answered) (old n
   pub text : List ℕ
   pub heard : new.heard new.clock ≡ old.heard old.clock ++ (texts_of lines ++ text)
   pub script : old.script ≡ texts_of lines ++ text ++ new.script
+  pub one_line : lines_begun text ≤ 1
   pub said : status ≢ 3 → SaidBehind lines (last_line stop) stop old new
   pub last : status ≡ 3 → SaidInPart lines old new
   pub bad : IsBadBehind tells lines text new.script → (stop ≡ BadLine (length lines + 1)) ⊎ ((stop ≡ ConsoleFault) × (has_feed text ≡ false))
   pub of_bad : (n : ℕ) → stop ≡ BadLine n → (n ≡ length lines + 1) × IsBadBehind tells lines text new.script
-  pub spent : status ≡ 24 → IsSpentNow new
+  pub spent : status ≡ 24 → AreOwnSpent run (stage_behind run lines text old) old new
   pub now : let s = stage_behind run lines text old in IsTrue s.table.is_started → AtNow (BearsTime run s (replies_of lines) new) new
 
 -- ---- the whole
 
 -- A line is the one that was heard whole behind the answered ones, if there is one.
-abbrev pub IsHeardBehind : Run → List Answered → (old new : PlantState) → Option TimedCommand → Type 0
+abbrev pub IsHeardBehind : Run → List Answered → (old new : PlantState) → Option Line → Type 0
 IsHeardBehind run lines old new heard = IfSome heard (λ line. (text : List ℕ) × (new.heard new.clock ≡ old.heard old.clock ++ (texts_of lines ++ text)) × ((stage_behind run lines text old).next ≡ Some line))
 
 -- What a session has done when its run ends with a status: over the traces of what the sources gave, the labels that volumes had, and as many
@@ -108,18 +112,20 @@ pub record Ran (tells : Type 0) (session : List ℕ) (sources : List SourceBytes
   pub lines : List Answered
   pub trail : Trail
   pub course : IsCourse run lines
-  pub asked : AreAsked line_grammar old.script lines
+  pub asked : AreAsked old.script lines
   -- At every moment whatever a crash leaves bears one time, not before any that was said.
-  pub bears : 0 < old.clock → BearsThroughout run line_grammar lines old new
-  -- Each reply is exactly its line's.
+  pub bears : 0 < old.clock → BearsThroughout run lines old new
+  -- Each reply is exactly its line's, and the points before its command bring the changes that are said of the line.
   pub exact : AreExact run lines trail
   -- Once the session has started, its trail begins with the line that started it. Without a start no point was passed.
   pub none : trail.started ≡ 0 → trail.points ≡ []
   pub begun : HasBegunTrail run lines trail
   -- From the start's reply on the devices go from point to point and never back.
-  pub forth : 0 < old.clock → 0 < trail.started → (heard : Option TimedCommand) × IsHeardBehind run lines old new heard × ((next : Option Point) × GoesForth run lines heard trail next old new)
+  pub forth : 0 < old.clock → 0 < trail.started → (heard : Option Line) × IsHeardBehind run lines old new heard × ((next : Option Point) × GoesForth run lines heard trail next old new)
   -- So they stand at its end, also on a plant that keeps no past.
-  pub along : 0 < trail.started → (heard : Option TimedCommand) × IsHeardBehind run lines old new heard × ((next : Option Point) × StandsOnTrail run lines heard trail next new)
+  pub along : 0 < trail.started → (heard : Option Line) × IsHeardBehind run lines old new heard × ((next : Option Point) × StandsOnTrail run lines heard trail next new)
+  -- Behind each line behind which the session has ended all is applied and marked.
+  pub ends : AppliesEndsSoFar run lines old new
   -- Of the volumes only the slots of pairs that had a row are written.
   pub others : ChangesRows (rows_passed trail.points) old new
   -- Done: the script was heard to its end, so much was said, and all is applied.

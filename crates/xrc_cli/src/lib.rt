@@ -2,9 +2,12 @@
 #![tactic(auto)]
 
 mod command;
+mod generating;
+mod labelling;
 mod laws;
 mod opening;
 mod run;
+mod saying;
 mod words;
 
 pub use command::xrc;

@@ -14,7 +14,9 @@ pub fn wanted(_alloc: Global, words: &[String]) -> Result<Wanted, NoMemory>
 {
     Ok(match asked_in(words) {
         Some(Asked::Run(_, storage)) => Wanted::Traces(storage),
-        Some(Asked::Recover(_)) => Wanted::Devices,
-        None => Wanted::Nothing,
+        Some(Asked::Recover(_) | Asked::Advance(_) | Asked::Query(_) | Asked::Init(_, _, _)) => {
+            Wanted::Devices
+        }
+        Some(Asked::Generate(_)) | None => Wanted::Nothing,
     })
 }

@@ -5,6 +5,7 @@ ghost use Rattle.crash_plant.specs.Calls.{NoneLent};
 ghost use Rattle.xrc_session.specs.Lanes.{HaveNoReader};
 ghost use Rattle.xrc_cli.specs.Statuses.{EndsScriptRun};
 
+use crate::saying::DONE;
 use crash_plant::Plant;
 use mover::Lane;
 use std::alloc::Global;
@@ -14,9 +15,6 @@ use tod_stamp::Session;
 use xrc_edge::Source;
 use xrc_session::run_script;
 use xrc_status::say_stop;
-
-/// The status of a command that was done.
-const DONE: u8 = 0;
 
 /// Runs the script of a session over so many traces, and gives the status that the command ends with. One that was not done says the
 /// line of its status last, but where the console failed; if that fails, the status stands.

@@ -1,12 +1,12 @@
 -- What is read as a line is one, and no bytes are another.
-use Rattle.std.proofs.Common.{◌≡◌, ℕ, List, Option, Some, None, refl, sym, ap, ◌∙◌, append_assoc}
+use Rattle.std.proofs.Common.{◌≡◌, ℕ, List, Option, Some, None, refl, sym, ap, subst, ◌∙◌, append_assoc}
 use Rattle.std.specs.Prelude.{codes}
 use Rattle.tod_stamp.specs.declared.stamp.Stamp.{Stamp}
 use Rattle.pair_table.specs.declared.command.Command.{Command}
 use Rattle.xrc_command.specs.declared.line.Line.{Line}
 use Rattle.xrc_command.specs.Lines.{IsLine, LinesAreToldApart}
-use Rattle.xrc_command.specs.Reading.{time_at, command_at}
-use Rattle.xrc_command.proofs.PartReading.{time_takes, time_again}
+use Rattle.xrc_command.specs.Reading.{LinesAreRead, command_at, line_spelled, time_at}
+use Rattle.xrc_command.proofs.PartReading.{bind_some, time_takes, time_again}
 use Rattle.xrc_command.proofs.CommandReading.{command_takes, command_again}
 
 pub line_takes : (bytes text : List ℕ) (line : Line) → time_at bytes ≡ Some (line.time, text) → command_at text ≡ Some (line.session, line.command) → IsLine line bytes
@@ -45,6 +45,36 @@ no_command bytes text time e none line k =
   where
     clash : (read : List ℕ × Command) → None ≡ Some read → ⊥
     clash read e = cc
+
+-- ---- the line that bytes spell
+
+pub spelled_from : (bytes text : List ℕ) (line : Line) → time_at bytes ≡ Some (line.time, text) → command_at text ≡ Some (line.session, line.command) → line_spelled bytes ≡ Some line
+unfolding line_spelled
+spelled_from bytes text line e f = rw (e, f) refl
+
+pub none_spelled : (bytes : List ℕ) → time_at bytes ≡ None → line_spelled bytes ≡ None
+unfolding line_spelled
+none_spelled bytes e = rw e refl
+
+pub no_command_spelled : (bytes text : List ℕ) (time : Stamp) → time_at bytes ≡ Some (time, text) → command_at text ≡ None → line_spelled bytes ≡ None
+unfolding line_spelled
+no_command_spelled bytes text time e f = rw (e, f) refl
+
+pub line_is_spelled : (bytes : List ℕ) (line : Line) → IsLine line bytes → line_spelled bytes ≡ Some line
+line_is_spelled bytes line k = spelled_from bytes k.command line (time_of_line bytes line k) (command_of_line bytes line k)
+
+pub spelled_is_line : (bytes : List ℕ) (line : Line) → line_spelled bytes ≡ Some line → IsLine line bytes
+unfolding line_spelled
+spelled_is_line bytes line e =
+    let timed = bind_some (time_at bytes) _ line e in
+    let asked = bind_some (command_at timed.0.1) _ line timed.2 in
+    let same : record { time = timed.0.0; session = asked.0.0; command = asked.0.1 } ≡ line = (let h = asked.2 in cc) in
+    subst (λ (l : Line). IsLine l bytes) same (line_takes bytes timed.0.1 (record { time = timed.0.0; session = asked.0.0; command = asked.0.1 }) timed.1 asked.1)
+
+pub lines_read : LinesAreRead
+lines_read bytes line = (spelled_is_line bytes line, line_is_spelled bytes line)
+
+-- ---- one line
 
 abbrev line_with : Stamp → List ℕ → Command → Line
 line_with time session command = record { time = time; session = session; command = command }

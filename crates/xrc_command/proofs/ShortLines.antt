@@ -1,5 +1,5 @@
 -- A line has 56 bytes at most.
-use Rattle.std.proofs.Common.{◌≡◌, ◌≤◌, ℕ, ◌+◌, true, ◌&&◌, nat_le, List, ◌++◌, length, sym, ap, subst, ◌∙◌, arith, inl, inr, length-append}
+use Rattle.std.proofs.Common.{◌≡◌, ◌<◌, ◌≤◌, ℕ, ◌+◌, true, ◌&&◌, nat_le, List, ◌++◌, length, Option, Some, None, refl, sym, ap, subst, ◌∙◌, arith, inl, inr, length-append}
 use Rattle.std.specs.Prelude.{codes}
 use Rattle.std.specs.List.{list_all}
 use Rattle.std.proofs.lemmas.Bool.{leb-true}
@@ -13,6 +13,8 @@ use Rattle.pair_table.specs.declared.command.Command.TheVariants.{Start, AddPair
 use Rattle.pair_table.specs.declared.level.Level.TheVariants.{Volume, Session}
 use Rattle.xrc_command.specs.declared.line.Line.{Line}
 use Rattle.xrc_command.specs.Lines.{IsLine, IsCommandText, command_text, choice_text, pair_text, has_serials, names_serials}
+use Rattle.xrc_command.specs.Reading.{line_spelled}
+use Rattle.xrc_command.proofs.LineReading.{spelled_is_line}
 use Rattle.xrc_command.proofs.PartReading.{digits_length}
 
 name_short : (most : ℕ) (name : List ℕ) → is_name most name ≡ true → length name ≤ most
@@ -65,3 +67,11 @@ line_short bytes line k =
     let command = text_short line.session line.command k.command session k.serials k.spells in
     let digits = digits_length k.digits line.time k.reads in
     subst (λ (t : List ℕ). length t ≤ 56) (sym k.parts) (omega (arith, command, digits, around k.digits (codes " ") k.command))
+
+-- Longer bytes spell none.
+pub long_spells_none : (bytes : List ℕ) → 56 < length bytes → line_spelled bytes ≡ None
+long_spells_none bytes long = by_line (line_spelled bytes) refl
+  where
+    by_line : (o : Option Line) → line_spelled bytes ≡ o → o ≡ None
+    by_line None is = refl
+    by_line (Some line) is = absurd (omega (arith, long, line_short bytes line (spelled_is_line bytes line is)))

@@ -1,5 +1,5 @@
 -- How a line is read from the front: each step gives what it read and the bytes that follow.
-use Rattle.std.specs.Prelude.{ℕ, ◌+◌, ◌==◌, ◌||◌, List, [], length, take, drop, Option, Some, None, Result, Ok, Err, if◌then◌else◌, nat_lt, bytes_eq, codes}
+use Rattle.std.specs.Prelude.{◌≡◌, ◌↔◌, ℕ, ◌+◌, ◌==◌, ◌||◌, List, [], length, take, drop, Option, Some, None, Result, Ok, Err, if◌then◌else◌, nat_lt, bytes_eq, codes}
 use Rattle.std.specs.List.{position, position_or_len}
 use Rattle.std.specs.Option.{option_map}
 use Rattle.tod_stamp.specs.declared.name_error.NameError.{NameError}
@@ -14,6 +14,8 @@ use Rattle.pair_table.specs.declared.command.Command.TheVariants.{Start, AddPair
 use Rattle.pair_table.specs.declared.level.Level.{Level}
 use Rattle.pair_table.specs.declared.level.Level.TheVariants.{Volume, Session}
 use Rattle.tod_stamp.specs.Options.{◌>>=◌}
+use Rattle.xrc_command.specs.declared.line.Line.{Line}
+use Rattle.xrc_command.specs.Lines.{IsLine}
 
 -- the next step, if this one read something
 -- ---- parts
@@ -110,3 +112,16 @@ command_at text = do
   session ← session_of (before_space word.1)
   command ← command_of word.0 (from_space word.1)
   Some (session, command)
+
+-- ---- lines
+
+-- the line that the bytes spell, where they spell one
+unfoldable pub line_spelled : (bytes : List ℕ) → Option Line
+line_spelled bytes = do
+  timed ← time_at bytes
+  asked ← command_at timed.1
+  Some (record { time = timed.0; session = asked.0; command = asked.1 })
+
+-- The law: what is read of some bytes is a line, exactly where they spell it.
+abbrev pub LinesAreRead : Type 0
+LinesAreRead = (bytes : List ℕ) (line : Line) → (line_spelled bytes ≡ Some line) ↔ IsLine line bytes

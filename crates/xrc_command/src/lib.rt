@@ -19,5 +19,5 @@ mod laws;
 mod line;
 mod parts;
 
-pub use laws::lines_are_told_apart;
+pub use laws::{lines_are_read, lines_are_told_apart};
 pub use line::{Line, read_line};

@@ -1,6 +1,6 @@
 ghost use Rattle.std.specs.Prelude.{◌≡◌, ◌≤◌, length, None, Some, IfSome, IsSome, MatchOption};
 ghost use Rattle.xrc_command.specs.Lines.{IsLine};
-ghost use Rattle.xrc_command.specs.Reading.{time_at};
+ghost use Rattle.xrc_command.specs.Reading.{line_spelled, time_at};
 
 use crate::command::read_command;
 use crate::parts::strip;
@@ -19,6 +19,7 @@ pub struct Line {
 
 /// The line that the bytes spell, without its line feed; None exactly where the grammar does not hold.
 pub fn read_line(bytes: &[u8]) -> Option<Line>
+    ensures spelled { result ≡ line_spelled bytes.now }
     ensures read { IfSome result (λ line. IsLine line bytes.now) }
     ensures every { (line : _) → IsLine line bytes.now → result ≡ Some line }
     ensures short { IsSome result → length bytes.now ≤ 56 }

@@ -16,10 +16,12 @@ use Rattle.xrc_journal.specs.Items.{Item}
 use Rattle.xrc_journal.specs.Jobs.{FailsByCount}
 use Rattle.site_means.proofs.ReadAll.{reads_none}
 use Rattle.xrecover.specs.Pairs.{AreFaulty, duplex_devices, is_duplex}
-use Rattle.xrecover.specs.Redone.{Draws, IsRedone, Recovers, Redone}
+use Rattle.xrecover.specs.declared.labelling.Labelling.{Labelling}
+use Rattle.xrecover.specs.declared.labelling.Labelling.TheVariants.{AsPrimary, AsItIs}
+use Rattle.xrecover.specs.Redone.{BearsLabel, Draws, IsRedone, Recovers, Redone}
 use Rattle.xrecover.specs.Works.{Nothing, Works}
-use Rattle.xrecover.specs.Labels.{AreNamed, LabelsLast}
-use Rattle.xrecover.proofs.Labels.{last_before, named_still}
+use Rattle.xrecover.specs.Labels.{AreNamed, LabelsLast, TreatsLabels}
+use Rattle.xrecover.proofs.Labels.{keeps_same, keeps_then, last_before, named_still}
 use Rattle.xrecover.proofs.Relations.{recovers_same}
 use Rattle.xrecover.proofs.Works.{works_more, works_reads}
 use Rattle.xrc_recovery.specs.Reports.{Changes, IsDoneBefore}
@@ -103,14 +105,20 @@ follow_then R tells a b c told later f o t from to z is = elim (cases_lt t b.clo
       subst (λ (l : List ℕ). b.images b.clock d l) (sym start.2) start.1)
 ]
 
--- Calls on the console change no label.
-pub labels_then : (tells : Type 0) (items : List Item) (a b c : PlantState) → tells → a.clock ≤ b.clock → ((v : ℕ) → LabelsLast v items (on a (Volume v)) (on b (Volume v))) → WorksOnConsole tells b c → (v : ℕ) → LabelsLast v items (on a (Volume v)) (on c (Volume v))
+labels_then : (tells : Type 0) (items : List Item) (a b c : PlantState) → tells → a.clock ≤ b.clock → ((v : ℕ) → LabelsLast v items (on a (Volume v)) (on b (Volume v))) → WorksOnConsole tells b c → (v : ℕ) → LabelsLast v items (on a (Volume v)) (on c (Volume v))
 labels_then tells items a b c told later last o v = last_before v items (on a (Volume v)) (on b (Volume v)) (on c (Volume v)) later (last v) ((o.elapses told).kept (Volume v)) (o.devices told (Volume v)).images (o.devices told (Volume v)).bytes
 
-pub named_console : (tells : Type 0) (rows : List PairRow) (a b c : PlantState) → tells → AreNamed rows a b → WorksOnConsole tells b c → AreNamed rows a c
+named_console : (tells : Type 0) (rows : List PairRow) (a b c : PlantState) → tells → AreNamed rows a b → WorksOnConsole tells b c → AreNamed rows a c
 named_console tells rows a b c told named o k d lt duplex =
     let row = slice_index_or rows k d in
     named_still row a b c (o.devices told (Volume row.device)).bytes (o.faults (Volume row.device)) (named k d lt duplex)
+
+-- Calls on the console change no label.
+pub treats_console : (labelling : Labelling) (tells : Type 0) (rows : List PairRow) (items : List Item) (a b c : PlantState) → tells → a.clock ≤ b.clock → TreatsLabels labelling rows items a b → WorksOnConsole tells b c → TreatsLabels labelling rows items a c
+treats_console AsPrimary tells rows items a b c told later treats o = (labels_then tells items a b c told later treats.0 o, named_console tells rows a b c told treats.1 o)
+treats_console AsItIs tells rows items a b c told later treats o = λ v.
+    let stays = o.devices told (Volume v) in
+    keeps_then (on a (Volume v)) (on b (Volume v)) (on c (Volume v)) later (treats v) ((o.elapses told).kept (Volume v)) (keeps_same (on b (Volume v)) (on c (Volume v)) stays.bytes stays.images)
 
 -- ---- what was redone
 
@@ -120,34 +128,34 @@ module _ (a b c : PlantState) (devices : (d : Device) → Stays (on b d) (on c d
       let start = (devices d).images t late to x left in
       start.2 ∙ durable start.0 start.1 ∙ sym (devices d).bytes
 
-  pub redone_then : (rows : List PairRow) (items : List Item) (failed : List ℕ) → b.clock ≤ c.clock → Redone rows items failed a b → Redone rows items failed a c
-  redone_then rows items failed later redone = All-weaker
-      (λ row. is_duplex row.state ≡ true → ¬ Contains failed row.device → IsRedone row items a b)
-      (λ row. is_duplex row.state ≡ true → ¬ Contains failed row.device → IsRedone row items a c)
+  pub redone_then : (labelling : Labelling) (rows : List PairRow) (items : List Item) (failed : List ℕ) → b.clock ≤ c.clock → Redone labelling rows items failed a b → Redone labelling rows items failed a c
+  redone_then labelling rows items failed later redone = All-weaker
+      (λ row. is_duplex row.state ≡ true → ¬ Contains failed row.device → IsRedone labelling row items a b)
+      (λ row. is_duplex row.state ≡ true → ¬ Contains failed row.device → IsRedone labelling row items a c)
       (λ row was duplex good.
       let r = was duplex good in
       let same = sym (devices (Volume row.device)).bytes in
       record {
         draws = subst (λ (l : List ℕ). Draws row.device items (a.bytes (Volume row.device)) l) same r.draws;
-        label = ap (λ (l : List ℕ). take 14 l) (sym same) ∙ r.label;
+        label = subst (λ (l : List ℕ). BearsLabel labelling row (a.bytes (Volume row.device)) l) same r.label;
         durable = λ x left. durable_then (Volume row.device) r.durable c.clock later (omega arith) x left;
       })
       rows redone
 
-  pub done_before : (rows : List PairRow) (items : List Item) (failed : List ℕ) → Elapses b c → Silent a b → Redone rows items failed a b → IsDoneBefore rows failed a c
-  done_before rows items failed past quiet redone t from to differs = elim (cases_lt t b.clock) [
+  pub done_before : (labelling : Labelling) (rows : List PairRow) (items : List Item) (failed : List ℕ) → Elapses b c → Silent a b → Redone labelling rows items failed a b → IsDoneBefore rows failed a c
+  done_before labelling rows items failed past quiet redone t from to differs = elim (cases_lt t b.clock) [
     | inl early ↦ absurd (differs (past.said t (omega (arith, early)) (omega (arith, early)) ∙ quiet.said t from (omega (arith, early))))
     | inr late ↦
         All-weaker
-        (λ row. is_duplex row.state ≡ true → ¬ Contains failed row.device → IsRedone row items a b)
+        (λ row. is_duplex row.state ≡ true → ¬ Contains failed row.device → IsRedone labelling row items a b)
         (λ row. is_duplex row.state ≡ true → ¬ Contains failed row.device → (x : List ℕ) → c.images t (Volume row.device) x → x ≡ c.bytes (Volume row.device))
         (λ row was duplex good x left. durable_then (Volume row.device) (was duplex good).durable t late to x left)
         rows redone
   ]
 
   -- What was so before more is said stays so.
-  pub done_more : (rows : List PairRow) (items : List Item) (failed : List ℕ) → Elapses b c → Redone rows items failed a b → IsDoneBefore rows failed a b → IsDoneBefore rows failed a c
-  done_more rows items failed past redone done t from to differs = elim (cases_lt t b.clock) [
+  pub done_more : (labelling : Labelling) (rows : List PairRow) (items : List Item) (failed : List ℕ) → Elapses b c → Redone labelling rows items failed a b → IsDoneBefore rows failed a b → IsDoneBefore rows failed a c
+  done_more labelling rows items failed past redone done t from to differs = elim (cases_lt t b.clock) [
     | inl early ↦
         All-weaker
         (λ row. is_duplex row.state ≡ true → ¬ Contains failed row.device → (x : List ℕ) → b.images t (Volume row.device) x → x ≡ b.bytes (Volume row.device))
@@ -157,7 +165,7 @@ module _ (a b c : PlantState) (devices : (d : Device) → Stays (on b d) (on c d
         rows (done t from (omega (arith, early)) (λ same. differs (past.said t (omega (arith, early)) (omega (arith, early)) ∙ same)))
     | inr late ↦
         All-weaker
-        (λ row. is_duplex row.state ≡ true → ¬ Contains failed row.device → IsRedone row items a b)
+        (λ row. is_duplex row.state ≡ true → ¬ Contains failed row.device → IsRedone labelling row items a b)
         (λ row. is_duplex row.state ≡ true → ¬ Contains failed row.device → (x : List ℕ) → c.images t (Volume row.device) x → x ≡ c.bytes (Volume row.device))
         (λ row was duplex good x left. durable_then (Volume row.device) (was duplex good).durable t late to x left)
         rows redone

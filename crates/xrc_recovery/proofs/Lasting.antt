@@ -1,6 +1,6 @@
 -- The status of a recovery, and the line that is said last.
 use Rattle.std.proofs.Common.{◌≡◌, ◌≢◌, ◌≤◌, ◌+◌, ◌++◌, inl, inr, ℕ, List, [], Ok, Err, IsTrue, length, take, refl, sym, ◌∙◌, ap, subst, arith, append_assoc, length-append}
-use Rattle.std.proofs.lemmas.Bool.{cases_lt}
+use Rattle.std.proofs.lemmas.Bool.{cases_eq, cases_lt}
 use Rattle.std.proofs.lemmas.List.{take-append-le}
 use Rattle.std.proofs.Math.Seq.{take-append-add}
 use Rattle.xrc_edge.specs.Causes.{Rose}
@@ -10,19 +10,20 @@ use Rattle.crash_plant.specs.Moments.{PlantState}
 use Rattle.crash_plant.specs.Calls.{Elapses, NoneRose, Says, WorksOnConsole}
 use Rattle.site_means.specs.Answers.{need}
 use Rattle.site_means.specs.Sight.{walked}
+use Rattle.xrecover.specs.declared.labelling.Labelling.{Labelling}
 use Rattle.xrecover.specs.Redone.{meant_rows}
 use Rattle.xrecover.specs.Sees.{SeesSame}
 use Rattle.xrecover.specs.Works.{Nothing, Works}
 use Rattle.xrecover.proofs.Works.{rose_later}
 use Rattle.xrc_status.specs.declared.stop.Stop.{Stop}
-use Rattle.xrc_status.specs.declared.stop.Stop.TheVariants.{NoMemory, BadWords, ConsoleFault, BadLine, JournalFault, ControlFault, StateFault, BadHeader, HeaderFault, NoSession, OtherSession, Damaged, VolumeFault, TooSmall, JournalEnd, BadSite, NotBuilt, EarlyBreak, EarlyVolume, Spent}
+use Rattle.xrc_status.specs.declared.stop.Stop.TheVariants.{NoMemory, BadWords, ConsoleFault, BadLine, JournalFault, ControlFault, StateFault, BadHeader, HeaderFault, NoSession, OtherSession, Damaged, VolumeFault, TooSmall, BadSite, Spent}
 use Rattle.xrc_status.specs.Saying.{SaidWhole, SaysLast}
 use Rattle.xrc_status.specs.Stops.{last_line, status_of}
-use Rattle.xrc_recovery.specs.Stops.{HasRisen, StopsEarly}
+use Rattle.xrc_recovery.specs.Stops.{HasRisen, StopsEarly, fault_of}
 use Rattle.xrc_recovery.specs.Reports.{Reports, ReportsAll, report_of}
 use Rattle.xrc_recovery.specs.Recoveries.{RecoversMeant, RecoversSession}
 use Rattle.xrc_recovery.specs.Statuses.{EndsRecovery, EndsSo, ReportsThen, SaysThen, ends_recovery}
-use Rattle.xrc_recovery.proofs.Changing.{changes_more, changes_of, done_more, faulty_then, follow_then, labels_then, named_console, redone_then, says_after}
+use Rattle.xrc_recovery.proofs.Changing.{changes_more, changes_of, done_more, faulty_then, follow_then, redone_then, says_after, treats_console}
 
 -- ---- statuses of stops
 
@@ -42,11 +43,7 @@ is_known a b (OtherSession name) risen = refl
 is_known a b (Damaged d place) risen = refl
 is_known a b VolumeFault risen = refl
 is_known a b (TooSmall d needed) risen = refl
-is_known a b JournalEnd risen = absurd risen
 is_known a b BadSite risen = refl
-is_known a b NotBuilt risen = absurd risen
-is_known a b EarlyBreak risen = absurd risen
-is_known a b EarlyVolume risen = absurd risen
 is_known a b Spent risen = absurd risen
 
 pub not_done : (stop : Stop) → status_of stop ≢ 0
@@ -64,11 +61,7 @@ not_done (OtherSession name) = λ is. omega (arith, is)
 not_done (Damaged d place) = λ is. omega (arith, is)
 not_done VolumeFault = λ is. omega (arith, is)
 not_done (TooSmall d needed) = λ is. omega (arith, is)
-not_done JournalEnd = λ is. omega (arith, is)
 not_done BadSite = λ is. omega (arith, is)
-not_done NotBuilt = λ is. omega (arith, is)
-not_done EarlyBreak = λ is. omega (arith, is)
-not_done EarlyVolume = λ is. omega (arith, is)
 not_done Spent = λ is. omega (arith, is)
 
 pub is_console : (stop : Stop) → status_of stop ≡ 3 → stop ≡ ConsoleFault
@@ -86,11 +79,7 @@ is_console (OtherSession name) is = absurd (omega (arith, is))
 is_console (Damaged d place) is = absurd (omega (arith, is))
 is_console VolumeFault is = absurd (omega (arith, is))
 is_console (TooSmall d needed) is = absurd (omega (arith, is))
-is_console JournalEnd is = absurd (omega (arith, is))
 is_console BadSite is = absurd (omega (arith, is))
-is_console NotBuilt is = absurd (omega (arith, is))
-is_console EarlyBreak is = absurd (omega (arith, is))
-is_console EarlyVolume is = absurd (omega (arith, is))
 is_console Spent is = absurd (omega (arith, is))
 
 pub is_volume : (stop : Stop) → status_of stop ≡ 13 → stop ≡ VolumeFault
@@ -108,11 +97,7 @@ is_volume (OtherSession name) is = absurd (omega (arith, is))
 is_volume (Damaged d place) is = absurd (omega (arith, is))
 is_volume VolumeFault is = refl
 is_volume (TooSmall d needed) is = absurd (omega (arith, is))
-is_volume JournalEnd is = absurd (omega (arith, is))
 is_volume BadSite is = absurd (omega (arith, is))
-is_volume NotBuilt is = absurd (omega (arith, is))
-is_volume EarlyBreak is = absurd (omega (arith, is))
-is_volume EarlyVolume is = absurd (omega (arith, is))
 is_volume Spent is = absurd (omega (arith, is))
 
 pub is_site : (stop : Stop) → status_of stop ≡ 16 → stop ≡ BadSite
@@ -130,11 +115,7 @@ is_site (OtherSession name) is = absurd (omega (arith, is))
 is_site (Damaged d place) is = absurd (omega (arith, is))
 is_site VolumeFault is = absurd (omega (arith, is))
 is_site (TooSmall d needed) is = absurd (omega (arith, is))
-is_site JournalEnd is = absurd (omega (arith, is))
 is_site BadSite is = refl
-is_site NotBuilt is = absurd (omega (arith, is))
-is_site EarlyBreak is = absurd (omega (arith, is))
-is_site EarlyVolume is = absurd (omega (arith, is))
 is_site Spent is = absurd (omega (arith, is))
 
 -- Stops of other statuses than these come before anything is written.
@@ -153,11 +134,7 @@ is_early_stop (OtherSession name) three five thirteen = tt
 is_early_stop (Damaged d place) three five thirteen = tt
 is_early_stop VolumeFault three five thirteen = absurd (thirteen refl)
 is_early_stop (TooSmall d needed) three five thirteen = tt
-is_early_stop JournalEnd three five thirteen = tt
 is_early_stop BadSite three five thirteen = tt
-is_early_stop NotBuilt three five thirteen = tt
-is_early_stop EarlyBreak three five thirteen = tt
-is_early_stop EarlyVolume three five thirteen = tt
 is_early_stop Spent three five thirteen = tt
 
 -- ---- counts
@@ -189,11 +166,7 @@ module _ (a b c : PlantState) (faults : (d : Device) → c.faults d ≡ b.faults
   risen_still (Damaged d place) risen = tt
   risen_still VolumeFault risen = (risen.0, device_still (Volume risen.0) risen.1)
   risen_still (TooSmall d needed) risen = tt
-  risen_still JournalEnd risen = absurd risen
   risen_still BadSite risen = tt
-  risen_still NotBuilt risen = absurd risen
-  risen_still EarlyBreak risen = absurd risen
-  risen_still EarlyVolume risen = absurd risen
   risen_still Spent risen = absurd risen
 
   pub none_before : NoneRose a c → NoneRose a b
@@ -201,6 +174,13 @@ module _ (a b c : PlantState) (faults : (d : Device) → c.faults d ≡ b.faults
     devices = λ d rose. none.devices d (device_still d rose);
     console = λ rose. none.console (rose_still a.console_faults b.console_faults c.console_faults first later rose);
   }
+
+-- One call on the console at most failed: behind one that did, no line is said.
+pub console_calls : (a b c : PlantState) (stop : Stop) → c.console_faults ≤ b.console_faults + 1 → (stop ≢ ConsoleFault → b.console_faults ≡ a.console_faults) → b.console_faults ≤ a.console_faults + 1 → (stop ≡ ConsoleFault → c.console_faults ≡ b.console_faults) → c.console_faults ≤ a.console_faults + 1
+console_calls a b c stop by_one same once quiet = elim (cases_eq (status_of stop) 3) [
+  | inl is ↦ omega (arith, once, quiet (is_console stop is))
+  | inr differs ↦ omega (arith, by_one, same (λ is. differs (ap status_of is)))
+]
 
 -- ---- what is said
 
@@ -278,8 +258,8 @@ module _ (tells : Type 0) (line : List ℕ) (a b c : PlantState) (last : SaysLas
       }
 
   -- It behind a report.
-  pub report_then : (session failed : List ℕ) → a.clock ≤ b.clock → a.console_faults ≤ b.console_faults → ReportsAll session failed a b → ReportsThen session failed line a c
-  report_then session failed later counts all =
+  pub report_then : (labelling : Labelling) (session failed : List ℕ) → a.clock ≤ b.clock → a.console_faults ≤ b.console_faults → ReportsAll labelling session failed a b → ReportsThen labelling session failed line a c
+  report_then labelling session failed later counts all =
       let pairs = all.report.pairs in
       let rows = pairs.means.table.rows in
       let o = last.front.only in
@@ -288,17 +268,17 @@ module _ (tells : Type 0) (line : List ℕ) (a b c : PlantState) (last : SaysLas
           means = pairs.means;
           is_meant = pairs.is_meant;
           faulty = faulty_then rows a.faults b.faults c.faults failed o.faults pairs.faulty;
-          redone = redone_then a b c (o.devices told) rows (walked a a.bytes) failed ((o.elapses told).kept Control).later pairs.redone;
-          done_before = done_more a b c (o.devices told) rows (walked a a.bytes) failed (o.elapses told) pairs.redone pairs.done_before;
+          redone = redone_then a b c (o.devices told) labelling rows (walked a a.bytes) failed ((o.elapses told).kept Control).later pairs.redone;
+          done_before = done_more a b c (o.devices told) labelling rows (walked a a.bytes) failed (o.elapses told) pairs.redone pairs.done_before;
         };
-        says = says_then_last (report_of session failed pairs) later counts all.whole all.report.says;
+        says = says_then_last (report_of labelling session failed pairs) later counts all.whole all.report.says;
       }
 
 -- ---- the end
 
 -- Done, it says no last line.
-pub ends_done : (tells : Type 0) (session : List ℕ) (a b : PlantState) (v : Unit {0}) → RecoversSession tells session a b (Ok v) → EndsRecovery tells session a b 0
-ends_done tells session a b v e = record {
+pub ends_done : (tells : Type 0) (labelling : Labelling) (session : List ℕ) (a b : PlantState) (v : Unit {0}) → RecoversSession tells labelling session a b (Ok v) → EndsRecovery tells labelling session a b 0
+ends_done tells labelling session a b v e = record {
   known = refl;
   site = (λ is. absurd (omega (arith, is)), λ no. absurd (let bad = e.site.1 no in cc));
   untouched = λ is. absurd (omega (arith, is));
@@ -306,23 +286,24 @@ ends_done tells session a b v e = record {
   stopped = λ other. absurd (other refl);
   complete = λ told site ready none. inl refl;
   done = λ told is. e.done told;
+  counts = λ is d here. e.counts d here (λ no. cc);
   failed = λ told is. absurd (omega (arith, is));
   cut = λ told is. absurd (omega (arith, is));
   console_count = λ is. e.console_count (λ is. cc);
+  console_once = e.console_once;
   once = e.once;
   changes = e.changes;
   labels = e.labels;
-  named = e.named;
   moments = e.moments;
   unwritten = λ other. absurd (other refl);
 }
 
 -- Each stop has its status, and its line behind what was said.
-module _ (tells : Type 0) (session : List ℕ) (a b c : PlantState) (stop : Stop) (e : RecoversSession tells session a b (Err stop)) (last : SaysLast tells (last_line stop) b c) where
+module _ (tells : Type 0) (labelling : Labelling) (session : List ℕ) (a b c : PlantState) (stop : Stop) (e : RecoversSession tells labelling session a b (Err stop)) (last : SaysLast tells (last_line stop) b c) where
   ends_so : EndsSo tells stop a c (status_of stop)
   ends_so = record { is = refl; says = λ told quiet. says_last_alone tells (last_line stop) a b c last told (RecoversMeant a) (e.silent quiet) }
 
-  pub ends_stopped : (stop ≡ BadSite → b ≡ a) → (stop ≡ ConsoleFault → c ≡ b) → EndsRecovery tells session a c (status_of stop)
+  pub ends_stopped : (stop ≡ BadSite → b ≡ a) → (stop ≡ ConsoleFault → c ≡ b) → EndsRecovery tells labelling session a c (status_of stop)
   ends_stopped here quiet =
       let o = last.front.only in
       let counts = e.changes.console_faults in
@@ -334,22 +315,29 @@ module _ (tells : Type 0) (session : List ℕ) (a b c : PlantState) (stop : Stop
             let small = e.short site d first in
             let same : stop ≡ TooSmall d (need d) = cc in
             subst (λ (s : Stop). EndsSo tells s a c (status_of stop)) same ends_so;
-        stopped = λ other. record { stop = stop; ends = ends_so; called_for = λ told. e.called_for told; risen = risen_still a b c o.faults counts last.later stop e.causes };
+        stopped = λ other. record {
+          stop = stop;
+          ends = ends_so;
+          called_for = λ told. e.called_for told;
+          risen = risen_still a b c o.faults counts last.later stop e.causes;
+          counts = λ d here no. o.faults d ∙ e.counts d here (λ is. no (let same : stop ≡ fault_of d = cc in same));
+        };
         complete = λ told site ready none. inr (ap status_of (e.complete told site ready (none_before a b c o.faults counts last.later none)));
         done = λ told is. absurd (not_done stop is);
+        counts = λ is. absurd (not_done stop is);
         failed = λ told is.
             let same = is_volume stop is in
             let f = e.failed told (ap (λ (s : Stop). Err s) same) in
-            (f.0, f.1, report_then tells (last_line VolumeFault) a b c (subst (λ (s : Stop). SaysLast tells (last_line s) b c) same last) told session f.0 ((e.changes.elapses told).kept Control).later counts f.2);
+            (f.0, f.1, report_then tells (last_line VolumeFault) a b c (subst (λ (s : Stop). SaysLast tells (last_line s) b c) same last) told labelling session f.0 ((e.changes.elapses told).kept Control).later counts f.2);
         cut = λ told is.
             let same = is_console stop is in
             let f = e.stopped told (ap (λ (s : Stop). Err s) same) in
-            (f.0, subst (λ (s : PlantState). Reports session f.0 a s) (sym (quiet same)) f.1);
+            (f.0, subst (λ (s : PlantState). Reports labelling session f.0 a s) (sym (quiet same)) f.1);
         console_count = λ is. absurd (not_done stop is);
+        console_once = console_calls a b c stop last.by_one (λ no. e.console_count (λ is. no (let same : stop ≡ ConsoleFault = cc in same))) e.console_once (λ is. ap (λ (s : PlantState). s.console_faults) (quiet is));
         once = λ v. omega (arith, e.once v, o.faults (Volume v));
         changes = changes_more tells (RecoversMeant a) a b c e.changes o last.later;
-        labels = λ told. labels_then tells (walked a a.bytes) a b c told ((e.changes.elapses told).kept Control).later (e.labels told) o;
-        named = λ told. named_console tells (meant_rows a a.bytes) a b c told (e.named told) o;
+        labels = λ told. treats_console labelling tells (meant_rows a a.bytes) (walked a a.bytes) a b c told ((e.changes.elapses told).kept Control).later (e.labels told) o;
         moments = λ told settled. follow_then (SeesSame a) tells a b c told ((e.changes.elapses told).kept Control).later (e.moments told settled) o;
         unwritten = λ other three five thirteen. changes_more tells Nothing a b c (changes_of tells Nothing a b (e.unwritten (is_early_stop stop three five thirteen))) o last.later;
       }

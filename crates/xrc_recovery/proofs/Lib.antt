@@ -3,3 +3,4 @@ pub mod Changing
 pub mod Stopping
 pub mod Ending
 pub mod Lasting
+pub mod Querying

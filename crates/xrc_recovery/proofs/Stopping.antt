@@ -1,5 +1,5 @@
 -- The stops of what a recovery answers.
-use Rattle.std.proofs.Common.{◌≡◌, ◌≢◌, inl, inr, ℕ, List, Some, None, Err, refl, sym, ◌∙◌, ap}
+use Rattle.std.proofs.Common.{◌≡◌, ◌≢◌, ◌⊎◌, inl, inr, ℕ, List, Some, None, Err, refl, sym, ◌∙◌, ap}
 use Rattle.xrc_edge.specs.Causes.{Rose}
 use Rattle.crash_plant.specs.declared.device.Device.{Device}
 use Rattle.crash_plant.specs.declared.device.Device.TheVariants.{Control, State, Journal, Volume}
@@ -13,11 +13,11 @@ use Rattle.site_means.specs.Meaning.{Meaning}
 use Rattle.site_means.specs.Sight.{meant_by}
 use Rattle.xrecover.specs.declared.recover_error.RecoverError.{RecoverError}
 use Rattle.xrecover.specs.declared.recover_error.RecoverError.TheVariants.{Site, Other}
-use Rattle.xrecover.specs.Answers.{EndsLate, IsOther, IsRecoverable, IsTooSmall, IsGoodOrCalledFor}
+use Rattle.xrecover.specs.Answers.{EndsLate, IsGoodOrCalledFor, IsMeant, IsOther, IsRecoverable, IsTooSmall}
 use Rattle.xrecover.specs.Pairs.{first_small}
 use Rattle.xrecover.specs.Redone.{meant_rows, rows_of}
 use Rattle.xrc_status.specs.declared.stop.Stop.{Stop}
-use Rattle.xrc_status.specs.declared.stop.Stop.TheVariants.{NoMemory, BadWords, ConsoleFault, BadLine, JournalFault, ControlFault, StateFault, BadHeader, HeaderFault, NoSession, OtherSession, Damaged, VolumeFault, TooSmall, JournalEnd, BadSite, NotBuilt, EarlyBreak, EarlyVolume, Spent}
+use Rattle.xrc_status.specs.declared.stop.Stop.TheVariants.{NoMemory, BadWords, ConsoleFault, BadLine, JournalFault, ControlFault, StateFault, BadHeader, HeaderFault, NoSession, OtherSession, Damaged, VolumeFault, TooSmall, BadSite, Spent}
 use Rattle.xrc_recovery.specs.Stops.{CallsFor, HasRisen, StopsEarly, IsReady, stop_of}
 
 -- An error's stop is called for where what reads give calls for the error.
@@ -95,16 +95,37 @@ not_volume plant session good (Site NoMemoryError) says = λ is. cc
 
 -- ---- where nothing calls for a stop
 
-module _ (old new : PlantState) (session : List ℕ) (ready : IsReady old session) (none : NoneRose old new) where
+module _ (old new : PlantState) (session : List ℕ) (long : first_short old ≡ None) (means : Means) (meant : IsMeant old session means) (none : NoneRose old new) where
   no_other : (name : List ℕ) → IsOther old session name → ⊥
   no_other name other =
-      let of = ready.is_meant.of in
+      let of = meant.of in
       let same : of.mark ≡ other.mark = let p = of.chosen in let q = other.chosen in cc in
       other.differs (ap (λ (m : Mark). m.session) (sym same) ∙ of.same)
 
+  -- A stop is for want of memory, or there is a volume that is too small.
+  pub memory_or_small : (stop : Stop) → stop ≢ BadSite → CallsFor old session stop → HasRisen old new stop → (stop ≡ NoMemory) ⊎ ((d : Device) × (needed : ℕ) × (stop ≡ TooSmall d needed) × IsTooSmall old session d needed)
+  memory_or_small NoMemory site calls risen = inl refl
+  memory_or_small BadWords site calls risen = absurd calls
+  memory_or_small ConsoleFault site calls risen = absurd (none.console risen)
+  memory_or_small (BadLine n) site calls risen = absurd calls
+  memory_or_small (JournalFault j) site calls risen = absurd (none.devices (Journal j) risen)
+  memory_or_small ControlFault site calls risen = absurd (none.devices Control risen)
+  memory_or_small StateFault site calls risen = absurd (none.devices State risen)
+  memory_or_small (BadHeader trace place) site calls risen = absurd calls
+  memory_or_small (HeaderFault trace) site calls risen = absurd calls
+  memory_or_small NoSession site calls risen = absurd (let mean = meant.mean.1 in cc)
+  memory_or_small (OtherSession name) site calls risen = absurd (no_other name calls)
+  memory_or_small (Damaged d place) site calls risen = absurd (let mean = meant.mean.1 in let damaged = calls.0 in cc)
+  memory_or_small VolumeFault site calls risen = absurd (none.devices (Volume risen.0) risen.1)
+  memory_or_small (TooSmall d needed) site (inl short) risen = absurd (let none = long in let first = short.first in cc)
+  memory_or_small (TooSmall d needed) site (inr small) risen = inr (d, needed, refl, small)
+  memory_or_small BadSite site calls risen = absurd (site refl)
+  memory_or_small Spent site calls risen = absurd calls
+
+module _ (old new : PlantState) (session : List ℕ) (ready : IsReady old session) (none : NoneRose old new) where
   no_small : (d : Device) (needed : ℕ) → IsTooSmall old session d needed → ⊥
   no_small d needed small =
-      let mean = ready.is_meant.mean in
+      let mean = ready.is_meant.meant.mean in
       let found = small.mean in
       let same : Some ready.means ≡ Some small.means = sym (ap meant_by mean.1) ∙ ap meant_by found.1 in
       let means_are : ready.means ≡ small.means = cc in
@@ -113,28 +134,11 @@ module _ (old new : PlantState) (session : List ℕ) (ready : IsReady old sessio
       cc
 
   pub only_memory : (stop : Stop) → stop ≢ BadSite → CallsFor old session stop → HasRisen old new stop → stop ≡ NoMemory
-  only_memory NoMemory site calls risen = refl
-  only_memory BadWords site calls risen = absurd calls
-  only_memory ConsoleFault site calls risen = absurd (none.console risen)
-  only_memory (BadLine n) site calls risen = absurd calls
-  only_memory (JournalFault j) site calls risen = absurd (none.devices (Journal j) risen)
-  only_memory ControlFault site calls risen = absurd (none.devices Control risen)
-  only_memory StateFault site calls risen = absurd (none.devices State risen)
-  only_memory (BadHeader trace place) site calls risen = absurd calls
-  only_memory (HeaderFault trace) site calls risen = absurd calls
-  only_memory NoSession site calls risen = absurd (let mean = ready.is_meant.mean.1 in cc)
-  only_memory (OtherSession name) site calls risen = absurd (no_other name calls)
-  only_memory (Damaged d place) site calls risen = absurd (let mean = ready.is_meant.mean.1 in let damaged = calls.0 in cc)
-  only_memory VolumeFault site calls risen = absurd (none.devices (Volume risen.0) risen.1)
-  only_memory (TooSmall d needed) site (inl short) risen = absurd (let long = ready.long in let first = short.first in cc)
-  only_memory (TooSmall d needed) site (inr small) risen = absurd (no_small d needed small)
-  only_memory JournalEnd site calls risen = absurd calls
-  only_memory BadSite site calls risen = absurd (site refl)
-  only_memory NotBuilt site calls risen = absurd calls
-  only_memory EarlyBreak site calls risen = absurd calls
-  only_memory EarlyVolume site calls risen = absurd calls
-  only_memory Spent site calls risen = absurd calls
+  only_memory stop site calls risen = elim (memory_or_small old new session ready.long ready.means ready.is_meant.meant none stop site calls risen) [
+    | inl memory ↦ memory
+    | inr small ↦ absurd (no_small small.0 small.1 small.3)
+  ]
 
 -- The rows of what is meant.
 pub rows_meant : (plant : PlantState) (session : List ℕ) (means : Means) → IsRecoverable plant session means → meant_rows plant plant.bytes ≡ means.table.rows
-rows_meant plant session means is = ap (λ (m : Meaning). rows_of (meant_by m)) is.mean.1
+rows_meant plant session means is = ap (λ (m : Meaning). rows_of (meant_by m)) is.meant.mean.1

@@ -3,3 +3,4 @@ pub mod Stops
 pub mod Reports
 pub mod Recoveries
 pub mod Statuses
+pub mod Queries

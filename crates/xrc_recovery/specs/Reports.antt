@@ -7,6 +7,7 @@ use Rattle.crash_plant.specs.Calls.{Elapses, NoneLent, SameSite, Says}
 use Rattle.pair_table.specs.declared.row.PairRow.{PairRow}
 use Rattle.site_means.specs.declared.means.Means.{Means}
 use Rattle.site_means.specs.Sight.{walked}
+use Rattle.xrecover.specs.declared.labelling.Labelling.{Labelling}
 use Rattle.xrecover.specs.Pairs.{AreFaulty, is_duplex}
 use Rattle.xrecover.specs.Redone.{Redone}
 use Rattle.xrecover.specs.Answers.{IsRecoverable}
@@ -31,23 +32,23 @@ IsDoneBefore rows failed old new = (t : ℕ) → old.clock ≤ t → t ≤ new.c
     → All (λ row. is_duplex row.state ≡ true → ¬ Contains failed row.device → (c : List ℕ) → new.images t (Volume row.device) c → c ≡ new.bytes (Volume row.device)) rows
 
 -- The duplex pairs were redone but those of these devices, whose counts rose, before anything was said.
-pub record RedoesPairs (session : List ℕ) (failed : List ℕ) (old new : PlantState) : Type 0 where
+pub record RedoesPairs (labelling : Labelling) (session : List ℕ) (failed : List ℕ) (old new : PlantState) : Type 0 where
   pub means : Means
   pub is_meant : IsRecoverable old session means
   pub faulty : AreFaulty means.table.rows old.faults new.faults failed
-  pub redone : Redone means.table.rows (walked old old.bytes) failed old new
+  pub redone : Redone labelling means.table.rows (walked old old.bytes) failed old new
   pub done_before : IsDoneBefore means.table.rows failed old new
 
 -- what is to be said of it
-abbrev pub report_of : (session failed : List ℕ) {old new : PlantState} → RedoesPairs session failed old new → List ℕ
-report_of session failed pairs = recovered_text session pairs.means.time.0 pairs.means.table.rows failed
+abbrev pub report_of : (labelling : Labelling) (session failed : List ℕ) {old new : PlantState} → RedoesPairs labelling session failed old new → List ℕ
+report_of labelling session failed pairs = recovered_text labelling session pairs.means.time.0 pairs.means.table.rows failed
 
 -- So it was, and at every moment a front of what is to be said of it was said.
-pub record Reports (session : List ℕ) (failed : List ℕ) (old new : PlantState) : Type 0 where
-  pub pairs : RedoesPairs session failed old new
-  pub says : Says (report_of session failed pairs) old new
+pub record Reports (labelling : Labelling) (session : List ℕ) (failed : List ℕ) (old new : PlantState) : Type 0 where
+  pub pairs : RedoesPairs labelling session failed old new
+  pub says : Says (report_of labelling session failed pairs) old new
 
 -- It was said whole.
-pub record ReportsAll (session : List ℕ) (failed : List ℕ) (old new : PlantState) : Type 0 where
-  pub report : Reports session failed old new
-  pub whole : SaidWhole (report_of session failed report.pairs) old new
+pub record ReportsAll (labelling : Labelling) (session : List ℕ) (failed : List ℕ) (old new : PlantState) : Type 0 where
+  pub report : Reports labelling session failed old new
+  pub whole : SaidWhole (report_of labelling session failed report.pairs) old new

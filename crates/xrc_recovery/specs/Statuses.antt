@@ -1,22 +1,23 @@
--- The status that a recovery ends with: what it stands for, and what was done and said by then.
+-- The status that a recovery or an advance ends with: what it stands for, and what was done and said by then.
 use Rattle.std.specs.Prelude.{◌≡◌, ◌≢◌, ◌≤◌, ◌+◌, ◌↔◌, ◌⊎◌, ◌++◌, ◌==◌, ◌||◌, ℕ, List, [], Bool, IsTrue, Some, length, take}
 use Rattle.xrc_edge.specs.Causes.{Rose}
 use Rattle.crash_plant.specs.declared.device.Device.{Device}
 use Rattle.crash_plant.specs.declared.device.Device.TheVariants.{Volume}
-use Rattle.crash_plant.specs.Moments.{PlantState, on}
+use Rattle.crash_plant.specs.Moments.{PlantState}
 use Rattle.crash_plant.specs.Calls.{NoneRose, Says, WorksOnConsole}
 use Rattle.crash_plant.specs.Choices.{AllFollow}
-use Rattle.site_means.specs.Answers.{first_short, need}
+use Rattle.site_means.specs.Answers.{IsExamined, first_short, need}
 use Rattle.site_means.specs.Sight.{walked}
+use Rattle.xrecover.specs.declared.labelling.Labelling.{Labelling}
 use Rattle.xrecover.specs.Redone.{Recovers, meant_rows}
 use Rattle.xrecover.specs.Sees.{IsSettled, SeesSame}
 use Rattle.xrecover.specs.Works.{Nothing}
-use Rattle.xrecover.specs.Labels.{AreNamed, LabelsLast}
+use Rattle.xrecover.specs.Labels.{TreatsLabels}
 use Rattle.xrc_status.specs.declared.stop.Stop.{Stop}
 use Rattle.xrc_status.specs.declared.stop.Stop.TheVariants.{TooSmall, VolumeFault}
 use Rattle.xrc_status.specs.Saying.{SaidWhole}
 use Rattle.xrc_status.specs.Stops.{last_line, status_of}
-use Rattle.xrc_recovery.specs.Stops.{CallsFor, HasLines, HasRisen, IsReady, IsSite}
+use Rattle.xrc_recovery.specs.Stops.{CallsFor, HasLines, HasRisen, IsReady, IsSite, fault_of}
 use Rattle.xrc_recovery.specs.Reports.{Changes, RedoesPairs, Reports, ReportsAll, report_of}
 
 -- ---- what was said
@@ -31,9 +32,9 @@ pub record SaysThen (text line : List ℕ) (old new : PlantState) : Type 0 where
   pub whole : SaidWhole (text ++ line) old new ⊎ (SaidUpTo text line old new × Rose old.console_faults new.console_faults)
 
 -- The pairs were redone but those of these devices; so it was said whole, and a line behind it.
-pub record ReportsThen (session failed line : List ℕ) (old new : PlantState) : Type 0 where
-  pub pairs : RedoesPairs session failed old new
-  pub says : SaysThen (report_of session failed pairs) line old new
+pub record ReportsThen (labelling : Labelling) (session failed line : List ℕ) (old new : PlantState) : Type 0 where
+  pub pairs : RedoesPairs labelling session failed old new
+  pub says : SaysThen (report_of labelling session failed pairs) line old new
 
 -- ---- stops
 
@@ -42,12 +43,14 @@ pub record EndsSo (tells : Type 0) (stop : Stop) (old new : PlantState) (status 
   pub is : status ≡ status_of stop
   pub says : tells → ¬ HasLines stop → SaysThen [] (last_line stop) old new
 
--- It ends by a stop that what reads gave calls for, and the count of what failed rose.
-pub record EndsBy (tells : Type 0) (session : List ℕ) (old new : PlantState) (status : ℕ) : Type 0 where
+-- It ends by a stop that what reads gave calls for. The count of what failed rose, and no other of the control, the state and the
+-- journals changed.
+pub record EndsBy (tells : Type 0) (calls_for : Stop → Type 0) (old new : PlantState) (status : ℕ) : Type 0 where
   pub stop : Stop
   pub ends : EndsSo tells stop old new status
-  pub called_for : tells → CallsFor old session stop
+  pub called_for : tells → calls_for stop
   pub risen : HasRisen old new stop
+  pub counts : (d : Device) → IsExamined d → stop ≢ fault_of d → new.faults d ≡ old.faults d
 
 -- ---- the whole
 
@@ -55,30 +58,32 @@ pub record EndsBy (tells : Type 0) (session : List ℕ) (old new : PlantState) (
 abbrev pub ends_recovery : (status : ℕ) → Bool
 ends_recovery status = status == 0 || status == 1 || status == 3 || status == 5 || status == 6 || status == 7 || status == 10 || status == 11 || status == 12 || status == 13 || status == 14 || status == 16
 
--- What is so where a recovery of a session has ended with a status.
-pub record EndsRecovery (tells : Type 0) (session : List ℕ) (old new : PlantState) (status : ℕ) : Type 0 where
+-- What is so where a recovery of a session has ended with a status. One that leaves labels as they are is an advance.
+pub record EndsRecovery (tells : Type 0) (labelling : Labelling) (session : List ℕ) (old new : PlantState) (status : ℕ) : Type 0 where
   pub known : IsTrue (ends_recovery status)
   -- The numbers of journals and volumes come first, and then the lengths of the control, the state and the journals.
   pub site : (status ≡ 16) ↔ ¬ IsSite old
   pub untouched : status ≡ 16 → WorksOnConsole tells old new
   pub short : IsSite old → (d : Device) → first_short old ≡ Some d → EndsSo tells (TooSmall d (need d)) old new status
   -- Each other status than 0 has its stop, and where nothing calls for one it is 0, but for want of memory.
-  pub stopped : status ≢ 0 → EndsBy tells session old new status
+  pub stopped : status ≢ 0 → EndsBy tells (CallsFor old session) old new status
   pub complete : tells → IsSite old → IsReady old session → NoneRose old new → (status ≡ 0) ⊎ (status ≡ 1)
   -- Done: every duplex pair is redone, and so it was said. Where volumes failed the others are redone, and so it was said. Where the
   -- console failed it was said in part.
-  pub done : tells → status ≡ 0 → ReportsAll session [] old new
-  pub failed : tells → status ≡ 13 → (failed : List ℕ) × (failed ≢ []) × ReportsThen session failed (last_line VolumeFault) old new
-  pub cut : tells → status ≡ 3 → (failed : List ℕ) × Reports session failed old new
+  pub done : tells → status ≡ 0 → ReportsAll labelling session [] old new
+  pub failed : tells → status ≡ 13 → (failed : List ℕ) × (failed ≢ []) × ReportsThen labelling session failed (last_line VolumeFault) old new
+  pub cut : tells → status ≡ 3 → (failed : List ℕ) × Reports labelling session failed old new
+  -- Done, no count rose but those of volumes. No call on the console comes behind one that failed.
+  pub counts : status ≡ 0 → (d : Device) → IsExamined d → new.faults d ≡ old.faults d
   pub console_count : status ≡ 0 → new.console_faults ≡ old.console_faults
+  pub console_once : new.console_faults ≤ old.console_faults + 1
   -- A volume is left at its first fault.
   pub once : (v : ℕ) → new.faults (Volume v) ≤ old.faults (Volume v) + 1
   -- At every moment only labels of duplex pairs' volumes, and slots of tracks of which the walk has an item, differ; a crash leaves
   -- what means the same, with the same tracks. At most statuses nothing was written.
   pub changes : Changes tells (Recovers (meant_rows old old.bytes) (walked old old.bytes)) old new
   pub moments : tells → IsSettled old → AllFollow (SeesSame old) old new
-  -- A label is written once the slots of its volume are redone and durable, and at each status a duplex pair's volume has the label that
-  -- it had, or its primary's, but where its count rose.
-  pub labels : tells → (v : ℕ) → LabelsLast v (walked old old.bytes) (on old (Volume v)) (on new (Volume v))
-  pub named : tells → AreNamed (meant_rows old old.bytes) old new
+  -- A recovery writes a label once the slots of its volume are redone and durable, and at each status a duplex pair's volume has the
+  -- label that it had, or its primary's, but where its count rose. In an advance each label stays.
+  pub labels : tells → TreatsLabels labelling (meant_rows old old.bytes) (walked old old.bytes) old new
   pub unwritten : status ≢ 0 → status ≢ 3 → status ≢ 5 → status ≢ 13 → Changes tells Nothing old new

@@ -14,7 +14,7 @@ use Rattle.xrecover.specs.declared.recover_error.RecoverError.{RecoverError}
 use Rattle.xrecover.specs.declared.recover_error.RecoverError.TheVariants.{Site, Other}
 use Rattle.xrecover.specs.Answers.{Behind, IsOf, IsOther, IsRecoverable, IsTooSmall}
 use Rattle.xrc_status.specs.declared.stop.Stop.{Stop}
-use Rattle.xrc_status.specs.declared.stop.Stop.TheVariants.{NoMemory, BadWords, ConsoleFault, BadLine, JournalFault, ControlFault, StateFault, BadHeader, HeaderFault, NoSession, OtherSession, Damaged, VolumeFault, TooSmall, JournalEnd, BadSite, NotBuilt, EarlyBreak, EarlyVolume, Spent}
+use Rattle.xrc_status.specs.declared.stop.Stop.TheVariants.{NoMemory, BadWords, ConsoleFault, BadLine, JournalFault, ControlFault, StateFault, BadHeader, HeaderFault, NoSession, OtherSession, Damaged, VolumeFault, TooSmall, BadSite, Spent}
 
 -- A site has 2 to 16 journals, and at most 64 volumes.
 pub record IsSite (plant : PlantState) : Type 0 where
@@ -67,10 +67,6 @@ CallsFor plant session BadWords = ⊥
 CallsFor plant session (BadLine n) = ⊥
 CallsFor plant session (BadHeader trace place) = ⊥
 CallsFor plant session (HeaderFault trace) = ⊥
-CallsFor plant session JournalEnd = ⊥
-CallsFor plant session NotBuilt = ⊥
-CallsFor plant session EarlyBreak = ⊥
-CallsFor plant session EarlyVolume = ⊥
 CallsFor plant session Spent = ⊥
 
 -- The count of some volume rose.
@@ -94,10 +90,6 @@ HasRisen old new BadWords = ⊥
 HasRisen old new (BadLine n) = ⊥
 HasRisen old new (BadHeader trace place) = ⊥
 HasRisen old new (HeaderFault trace) = ⊥
-HasRisen old new JournalEnd = ⊥
-HasRisen old new NotBuilt = ⊥
-HasRisen old new EarlyBreak = ⊥
-HasRisen old new EarlyVolume = ⊥
 HasRisen old new Spent = ⊥
 
 -- It says lines before it ends so.

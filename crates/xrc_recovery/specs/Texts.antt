@@ -1,4 +1,5 @@
--- What is said of a recovery: a line of the session and the time, and one line of each pair in the order of the rows.
+-- What is said of a site that was recovered or advanced: a line of the session and the time, and one line of each pair in the order of
+-- the rows.
 use Rattle.std.specs.Prelude.{ℕ, List, [], ◌∷◌, ◌++◌, Bool, true, false, codes}
 use Rattle.tod_stamp.specs.Stamps.{stamp_text}
 use Rattle.pair_table.specs.declared.row.SuspendCause.{SuspendCause}
@@ -7,10 +8,17 @@ use Rattle.pair_table.specs.declared.row.PairState.{PairState}
 use Rattle.pair_table.specs.declared.row.PairState.TheVariants.{Pending, Copy, Duplex, Suspended}
 use Rattle.pair_table.specs.declared.row.PairRow.{PairRow}
 use Rattle.pair_table.specs.Devices.{is_among}
+use Rattle.xrecover.specs.declared.labelling.Labelling.{Labelling}
+use Rattle.xrecover.specs.declared.labelling.Labelling.TheVariants.{AsPrimary, AsItIs}
+
+-- A site whose labels stay is advanced.
+abbrev pub site_word : Labelling → List ℕ
+site_word AsPrimary = codes "RECOVERED "
+site_word AsItIs = codes "ADVANCED "
 
 -- Each line ends with a line feed.
-abbrev pub recovered_line : (session : List ℕ) → (time : ℕ) → List ℕ
-recovered_line session time = codes "RECOVERED " ++ session ++ codes " T=" ++ stamp_text time ++ 10 ∷ []
+abbrev pub site_line : Labelling → (session : List ℕ) → (time : ℕ) → List ℕ
+site_line labelling session time = site_word labelling ++ session ++ codes " T=" ++ stamp_text time ++ 10 ∷ []
 
 abbrev pub cause_text : SuspendCause → List ℕ
 cause_text Command = codes "COMMAND"
@@ -33,5 +41,5 @@ abbrev pub pair_lines : (failed : List ℕ) → List PairRow → List ℕ
 pair_lines failed [] = []
 pair_lines failed (row ∷ rows) = pair_line failed row ++ pair_lines failed rows
 
-abbrev pub recovered_text : (session : List ℕ) → (time : ℕ) → List PairRow → (failed : List ℕ) → List ℕ
-recovered_text session time rows failed = recovered_line session time ++ pair_lines failed rows
+abbrev pub recovered_text : Labelling → (session : List ℕ) → (time : ℕ) → List PairRow → (failed : List ℕ) → List ℕ
+recovered_text labelling session time rows failed = site_line labelling session time ++ pair_lines failed rows

@@ -1,11 +1,12 @@
-//! The command that recovers a site: its order of stops, and what it says of each pair.
+//! The commands that recover, advance and query a site: their order of stops, and what they say of each pair.
 #![tactic(auto)]
 
 mod command;
 mod lines;
+mod query;
 mod recovery;
 mod reporting;
 mod stops;
 
-pub use command::recover_site;
-pub use recovery::run_recover;
+pub use command::{advance_site, query_site, recover_site};
+pub use stops::is_site;

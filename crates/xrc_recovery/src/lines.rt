@@ -1,20 +1,31 @@
-//! The lines that are said of a recovery.
+//! The lines that are said of a site that was recovered or advanced.
 
 ghost use Rattle.std.specs.Prelude.{◌≡◌, ◌≤◌, ◌+◌, ◌++◌, ◌∷◌, [], length};
-ghost use Rattle.xrc_recovery.specs.Texts.{cause_text, pair_line, recovered_line, state_text};
+ghost use Rattle.xrc_recovery.specs.Texts.{cause_text, pair_line, site_line, site_word, state_text};
 ghost use Rattle.pair_table.specs.Devices.{is_among};
 
 use pair_table::{PairRow, PairState, SuspendCause};
 use tod_stamp::{Serial, Session, Stamp};
 use xrc_status::Line;
-use xrecover::Outcome;
+use xrecover::{Labelling, Outcome};
+
+/// The first word of what is said of a site, and a space.
+fn site_word(labelling: Labelling) -> &'static [u8]
+    ensures text { result.now ≡ site_word labelling }
+    ensures short { length result.now ≤ 10 }
+{
+    match labelling {
+        Labelling::AsPrimary => b"RECOVERED ",
+        Labelling::AsItIs => b"ADVANCED ",
+    }
+}
 
 /// The first line.
-pub(crate) fn recovered_line(session: Session, time: Stamp) -> Line
-    ensures { result ≡ recovered_line session time.0 }
+pub(crate) fn site_line(labelling: Labelling, session: Session, time: Stamp) -> Line
+    ensures { result ≡ site_line labelling session time.0 }
 {
     let mut line = Line::make();
-    line.add(b"RECOVERED ");
+    line.add(site_word(labelling));
     line.add(session.as_bytes());
     line.add(b" T=");
     line.add(&time.text());

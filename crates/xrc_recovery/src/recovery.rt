@@ -1,9 +1,9 @@
-//! The command.
+//! The commands that redo a site, up to their stops.
 
 ghost use Rattle.std.specs.Prelude.{◌≡◌, Err};
 ghost use Rattle.crash_plant.specs.Calls.{NoneLent};
 ghost use Rattle.xrc_status.specs.declared.stop.Stop.TheVariants.{BadSite};
-ghost use Rattle.xrc_recovery.specs.Recoveries.{RecoversSession};
+ghost use Rattle.xrc_recovery.specs.Recoveries.{RecoversSession, RedoesSession};
 
 use crate::reporting::report;
 use crate::stops::{is_site, stop_of};
@@ -12,25 +12,43 @@ use std::alloc::Global;
 use std::thread::Threads;
 use tod_stamp::Session;
 use xrc_status::Stop;
-use xrecover::recover;
+use xrecover::{Labelling, Outcome, RecoverError, advance, recover};
 
-/// Recovers a session's site, and says of each pair how far it is. The lines come after the last volume was synced or has failed. A
-/// pair whose volume failed is named so, and then the command ends with that stop; the other pairs are done.
-pub fn run_recover<R: Threads + Sync, P: Plant>(
+/// Redoes a session's site.
+fn redo<R: Threads + Sync, P: Plant>(
     rt: &R,
     alloc: Global,
     plant: &mut P,
     session: Session,
+    labelling: Labelling,
+) -> Result<Outcome, RecoverError>
+    requires { NoneLent (P.state plant.old) }
+    ensures { RedoesSession P.tells labelling session (P.state plant.old) (P.state plant.new) result }
+{
+    match labelling {
+        Labelling::AsPrimary => recover(rt, alloc, plant, session),
+        Labelling::AsItIs => advance(rt, alloc, plant, session),
+    }
+}
+
+/// Redoes a session's site, and says of each pair how far it is. The lines come after the last volume was synced or has failed. A
+/// pair whose volume failed is named so, and then the command ends with that stop; the other pairs are done.
+pub(crate) fn run_recovery<R: Threads + Sync, P: Plant>(
+    rt: &R,
+    alloc: Global,
+    plant: &mut P,
+    session: Session,
+    labelling: Labelling,
 ) -> Result<(), Stop>
     requires home { NoneLent (P.state plant.old) }
     ensures untouched { result ≡ Err BadSite → plant.new ≡ plant.old }
-    ensures recovers { RecoversSession P.tells session (P.state plant.old) (P.state plant.new) result }
+    ensures recovers { RecoversSession P.tells labelling session (P.state plant.old) (P.state plant.new) result }
 {
     if !is_site(plant) {
         return Err(Stop::BadSite);
     }
-    match recover(rt, alloc, plant, session) {
-        Ok(outcome) => report(plant, session, &outcome),
+    match redo(rt, alloc, plant, session, labelling) {
+        Ok(outcome) => report(plant, labelling, session, &outcome),
         Err(error) => Err(stop_of(error)),
     }
 }

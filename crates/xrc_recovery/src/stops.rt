@@ -1,4 +1,4 @@
-//! How a recovery ends.
+//! How a recovery, an advance or a query ends.
 
 ghost use Rattle.std.specs.Prelude.{◌≡◌, ◌↔◌, IsTrue};
 ghost use Rattle.xrc_recovery.specs.Stops.{IsSite, fault_of, site_stop, stop_of};
@@ -9,7 +9,7 @@ use xrc_status::Stop;
 use xrecover::RecoverError;
 
 /// Whether there are as many journals and volumes as a site has.
-pub(crate) fn is_site<P: Plant>(plant: &P) -> bool
+pub fn is_site<P: Plant>(plant: &P) -> bool
     ensures { IsTrue result ↔ IsSite (P.state plant.now) }
 {
     (2..=16).contains(&plant.journals()) && plant.volumes() <= 64

@@ -52,13 +52,6 @@ module _ (run : Run) (stage : Stage) (asked : Asked) where
   ahead_meant (t ∷ moments) (n ∷ ahead) l are =
       All-cons (λ (m : PassedPoint). MayBeMeant run stage m.point) (passed_at t n) (passed_by moments ahead) are.1 (ahead_meant moments ahead (leg_next l n) are.2)
 
-  -- Behind all of them the leg is the one behind.
-  pub behind_all : (moments : List ℕ) (ahead : List NextPoint) (l : Leg) → length moments ≡ length ahead → fold leg_after l (passed_by moments ahead) ≡ leg_behind l ahead
-  behind_all [] [] l each = refl
-  behind_all [] (n ∷ ahead) l each = absurd (omega (arith, each))
-  behind_all (t ∷ moments) [] l each = absurd (omega (arith, each))
-  behind_all (t ∷ moments) (n ∷ ahead) l each = behind_all moments ahead (leg_next l n) (omega (arith, each))
-
 -- ---- points that tell of deeds
 
 -- Points ahead tell of deeds, where some were done before: the first of the points of the first of the deeds, and so on.
@@ -79,12 +72,6 @@ module _ (told : List Deed → Point) (way : PassedDeed → Way) where
   points_told (t ∷ moments) done (deed ∷ deeds) (n ∷ ahead) tell =
       (λ i. record { moment = t; point = tell.0 i; way = tell.1 t i } ∷ map (told_by told way) (points_of (done ++ deed ∷ []) moments deeds))
       ∙ ap (λ (rest : List PassedPoint). passed_at t n ∷ rest) (points_told moments (done ++ deed ∷ []) deeds ahead tell.2)
-
-  as_many : (done deeds : List Deed) (ahead : List NextPoint) → TellOf told way done deeds ahead → length deeds ≡ length ahead
-  as_many done [] [] tell = refl
-  as_many done [] (n ∷ ahead) tell = absurd tell
-  as_many done (deed ∷ deeds) [] tell = absurd tell
-  as_many done (deed ∷ deeds) (n ∷ ahead) tell = let rest = as_many (done ++ deed ∷ []) deeds ahead tell.2 in omega (arith, rest)
 
   -- The last of the first ones is told by the first deeds.
   pub last_told : (moments : List ℕ) (done deeds : List Deed) (ahead : List NextPoint) → TellOf told way done deeds ahead → length moments ≤ length deeds

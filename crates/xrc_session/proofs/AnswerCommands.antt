@@ -7,13 +7,13 @@ use Rattle.pair_table.specs.declared.row.PairRow.{PairRow}
 use Rattle.pair_table.specs.Tables.{is_of}
 use Rattle.row_changes.specs.Changes.{Due, Timed, may_end}
 use Rattle.row_changes.specs.Toward.{hit_count}
+use Rattle.xrc_command.specs.declared.line.Line.{Line}
 use Rattle.record_rows.specs.Hits.{due_behind_mark, hit_changes, hit_now, marked_changes, rows_marked}
 use Rattle.record_rows.specs.Records.{rows_with_hits}
 use Rattle.record_rows.proofs.HitRows.{hit_have_rows}
 use Rattle.consistency.specs.Bears.{IsTime, Run, Stage, accepts_end, breaks_of}
 use Rattle.consistency.specs.Bearing.{MayBeMeant}
 use Rattle.consistency.specs.Leads.{HitsLead, Point}
-use Rattle.consistency.specs.Steps.{TimedCommand}
 use Rattle.consistency.specs.Ways.{HasCountedHits, IsAtWork, IsCommanding, IsLegOf, IsMarking, Leg, MayTakeEffect, Way, commanded_point, hits_stand, leg_to, stage_point, table_at}
 use Rattle.consistency.specs.Ways.Way.{Commanded, MarkedFor, OnTheWay}
 use Rattle.consistency.proofs.Answering.{leg_behind_command}
@@ -38,13 +38,13 @@ no_hits_lead run p = record { are_hits = refl; at = refl; leads = leads_itself r
 -- ---- the points
 
 -- the point with the rows that a line's command leaves, and the one behind the hits of jobs that have failed
-abbrev pub command_left : Run → Leg → TimedCommand → Point
+abbrev pub command_left : Run → Leg → Line → Point
 command_left run l line = commanded_point run line l.point
 
-abbrev pub command_hit : Run → Leg → TimedCommand → List Bool → Point
+abbrev pub command_hit : Run → Leg → Line → List Bool → Point
 command_hit run l line failed = record (command_left run l line) { rows = rows_with_hits run.level l.point.time failed (command_left run l line).rows }
 
-abbrev pub command_hits : Run → Leg → TimedCommand → List Bool → List Timed
+abbrev pub command_hits : Run → Leg → Line → List Bool → List Timed
 command_hits run l line failed = hit_changes l.point.time (hit_now failed (command_left run l line).rows)
 
 -- the point of a mark in which these devices are hit, and the way to it
@@ -56,10 +56,10 @@ abbrev pub mark_by : Leg → (hit : List ℕ) → Way
 mark_by l [] = OnTheWay []
 mark_by l (d ∷ hit) = MarkedFor l.answered (marked_changes l.point.time (d ∷ hit))
 
-abbrev pub next_command : Run → Leg → TimedCommand → List Bool → NextPoint
+abbrev pub next_command : Run → Leg → Line → List Bool → NextPoint
 next_command run l line failed = record { point = command_hit run l line failed; way = Commanded l.answered (command_hits run l line failed) }
 
-abbrev pub next_quiet : Run → Leg → TimedCommand → NextPoint
+abbrev pub next_quiet : Run → Leg → Line → NextPoint
 next_quiet run l line = record { point = command_left run l line; way = Commanded l.answered [] }
 
 abbrev pub next_mark : Run → Leg → (hit : List ℕ) → NextPoint
@@ -67,7 +67,7 @@ next_mark run l hit = record { point = mark_there run l hit; way = mark_by l hit
 
 -- ---- each comes next
 
-module _ (run : Run) (stage : Stage) (asked : Asked) (l : Leg) (line : TimedCommand) (leg : IsLegOf run stage l) (heard : stage.next ≡ Some line) (asked_is : asked l.answered ≡ Some line)
+module _ (run : Run) (stage : Stage) (asked : Asked) (l : Leg) (line : Line) (leg : IsLegOf run stage l) (heard : stage.next ≡ Some line) (asked_is : asked l.answered ≡ Some line)
     (at_work : IsAtWork run asked l) (may : MayTakeEffect run line l) where
   goes : stage.table.is_ended ≡ false
   goes = sym leg.whole.leads.goes_on ∙ at_work.goes_on
@@ -102,7 +102,7 @@ module _ (run : Run) (stage : Stage) (asked : Asked) (l : Leg) (line : TimedComm
 
   -- ---- the command
 
-  commanding : (marked : List Timed) (o : Option TimedCommand) → o ≡ Some line → (failed : List Bool) → hits_stand marked (hits_of failed) (hit_point failed).rows ≡ true → (left.rows ≡ l.point.rows → ⊥)
+  commanding : (marked : List Timed) (o : Option Line) → o ≡ Some line → (failed : List Bool) → hits_stand marked (hits_of failed) (hit_point failed).rows ≡ true → (left.rows ≡ l.point.rows → ⊥)
       → IsCommanding run o (marked_leg marked) (hit_point failed) (hits_of failed)
   commanding marked o is failed stand differ = record {
     line = line;
@@ -114,7 +114,7 @@ module _ (run : Run) (stage : Stage) (asked : Asked) (l : Leg) (line : TimedComm
   }
 
   -- A command behind which no hit stands.
-  quiet_commanding : (o : Option TimedCommand) → o ≡ Some line → IsCommanding run o l left []
+  quiet_commanding : (o : Option Line) → o ≡ Some line → IsCommanding run o l left []
   quiet_commanding o is = record {
     line = line;
     heard = is;
@@ -150,7 +150,7 @@ module _ (run : Run) (stage : Stage) (asked : Asked) (l : Leg) (line : TimedComm
 
   -- ---- a mark before it
 
-  marking : (o : Option TimedCommand) → o ≡ Some line → (left.rows ≡ l.point.rows → ⊥) → (d : ℕ) (hit : List ℕ) → list_all (λ e. list_any (is_of e) l.point.rows) (d ∷ hit) ≡ true
+  marking : (o : Option Line) → o ≡ Some line → (left.rows ≡ l.point.rows → ⊥) → (d : ℕ) (hit : List ℕ) → list_all (λ e. list_any (is_of e) l.point.rows) (d ∷ hit) ≡ true
       → IsMarking run o l (mark_point (d ∷ hit)) (marked_changes l.point.time (d ∷ hit))
   marking o is differ d hit have =
       record { line = line; heard = is; may = may; alters = differ; some = λ none. absurd cc; leads = marked_lead run.level (breaks_of run) l.point may.none_due d hit have }
@@ -158,11 +158,11 @@ module _ (run : Run) (stage : Stage) (asked : Asked) (l : Leg) (line : TimedComm
   time_there : IsTime stage l.point.time
   time_there = (let rise = leads_rise run.level (breaks_of run) (stage_point stage) l.point l.changes leg.whole.leads in rise, timed stage.next heard)
     where
-      timed : (n : Option TimedCommand) → n ≡ Some line → (let T : Type 0 = elim n [ None ↦ l.point.time ≡ stage.replied | Some m ↦ elim stage.table.is_ended [ true ↦ l.point.time ≡ stage.replied | false ↦ l.point.time ≤ m.time ] ] in T)
+      timed : (n : Option Line) → n ≡ Some line → (let T : Type 0 = elim n [ None ↦ l.point.time ≡ stage.replied | Some m ↦ elim stage.table.is_ended [ true ↦ l.point.time ≡ stage.replied | false ↦ l.point.time ≤ m.time.0 ] ] in T)
       timed None is = absurd cc
       timed (Some m) is =
           let same : m ≡ line = cc in
-          subst (λ (e : Bool). let T : Type 0 = elim e [ true ↦ l.point.time ≡ stage.replied | false ↦ l.point.time ≤ m.time ] in T) (sym goes) (let at = may.at in let times = ap (λ (x : TimedCommand). x.time) same in omega (arith, at, times))
+          subst (λ (e : Bool). let T : Type 0 = elim e [ true ↦ l.point.time ≡ stage.replied | false ↦ l.point.time ≤ m.time.0 ] in T) (sym goes) (let at = may.at in let times = ap (λ (x : Line). x.time.0) same in omega (arith, at, times))
 
   -- The leg's own point may be meant still.
   pub here_meant : HasCountedHits run l → MayBeMeant run stage l.point
@@ -219,7 +219,7 @@ module _ (run : Run) (stage : Stage) (asked : Asked) (l : Leg) (line : TimedComm
 
 -- ---- the points are of the line
 
-module _ (run : Run) (l : Leg) (line : TimedCommand) where
+module _ (run : Run) (l : Leg) (line : Line) where
   pub quiet_is_of_line : (t : ℕ) → AreOfCommand l.answered [] (passed_by (t ∷ []) (next_quiet run l line ∷ []))
   quiet_is_of_line t = OfCommand (passed_at t (next_quiet run l line)) refl
 

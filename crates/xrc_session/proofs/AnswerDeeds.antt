@@ -27,9 +27,11 @@ use Rattle.xrc_session.specs.BetweenEpochs.{Between}
 use Rattle.xrc_session.specs.Frames.{ChangesRows, DiffersInRows, rows_passed}
 use Rattle.xrc_session.specs.Resting.{ArePointsBehind, IsPointBehind, ShowsBefore}
 use Rattle.xrc_session.specs.Steps.{BeginsToPass, PassesPointsOn}
+use Rattle.xrc_session.specs.WrittenParts.{PassesInParts}
 use Rattle.xrc_session.proofs.AnswerAhead.{AreAhead, NextPoint, TellOf, ahead_linked, ahead_meant, last_told, leg_behind, next_on_its_way, passed_by, points_told}
 use Rattle.xrc_session.proofs.RestingPoints.{deeds_pass_points, done_deeds_pass_all, done_deeds_show_last, first_ones, step}
 use Rattle.xrc_session.proofs.RowFrames.{changes_rows_then, last_rows, rows_append}
+use Rattle.xrc_session.proofs.WrittenParts.{no_parts, part_quiet, part_unwritten, parts_then, passed_parts_stay, passed_within}
 
 -- ---- volumes
 
@@ -64,19 +66,26 @@ module _ (old new : PlantState) (b : Between) (stage : Stage) (asked : Asked) (l
   last_is : (moments : List ℕ) → length moments ≤ length deeds → last_point l.point (passed_by moments ahead) ≡ told (take (length moments) deeds)
   last_is moments few = ap (λ (p : Point). last_point p (passed_by moments ahead)) (sym first_told) ∙ last_told told way moments [] deeds ahead tell few
 
+  none_written_by : SameSite old new → Elapses old new → (points : List PassedPoint) (next : Option Point) → (0 < old.clock → GoesThroughPoints b.run new old.clock l.point points new.clock next) → 0 < old.clock → PassesInParts new old.clock new.clock l.point points
+  none_written_by site elapses points next goes up = part_unwritten old new site elapses up l.point points (passed_within b.run new old.clock new.clock l.point points next (goes up)) (volumes [])
+
   -- Calls that do them all pass all points.
   pub done_passes : (does : DoesDeeds b.excepted rows deeds old new) → PassesPointsOn b.run stage asked l (passed_by does.moments ahead) None old new
   done_passes does = record {
-    goes = λ up.
-        subst (λ (p : Point). GoesThroughPoints b.run new old.clock p (passed_by does.moments ahead) new.clock None) (sym here)
-        (subst (λ (points : List PassedPoint). GoesThroughPoints b.run new old.clock b.point points new.clock None) (points_told told way does.moments [] deeds ahead tell) (done_deeds_pass_all old new b rows deeds before told way are up does));
+    goes = goes;
     linked = ahead_linked b.run stage asked does.moments ahead l comes;
     may = ahead_meant b.run stage asked does.moments ahead l comes;
     on_its_way = tt;
     now = λ c is. subst (λ (p : Point). ShowsPoint b.run (shape_of new) p c) (sym all) (done_deeds_show_last old new b rows deeds before does (told deeds) behind c is);
     volumes = volumes (l.point.rows ++ rows_passed (passed_by does.moments ahead));
+    written = none_written_by does.site does.elapses (passed_by does.moments ahead) None goes;
   }
     where
+      goes : 0 < old.clock → GoesThroughPoints b.run new old.clock l.point (passed_by does.moments ahead) new.clock None
+      goes up =
+          subst (λ (p : Point). GoesThroughPoints b.run new old.clock p (passed_by does.moments ahead) new.clock None) (sym here)
+          (subst (λ (points : List PassedPoint). GoesThroughPoints b.run new old.clock b.point points new.clock None) (points_told told way does.moments [] deeds ahead tell) (done_deeds_pass_all old new b rows deeds before told way are up does))
+
       all : last_point l.point (passed_by does.moments ahead) ≡ told deeds
       all = last_is does.moments (let each = does.each in omega (arith, each)) ∙ ap told (ap (λ (n : ℕ). take n deeds) does.each ∙ take_all (length deeds) deeds (omega arith))
 
@@ -90,21 +99,25 @@ module _ (old new : PlantState) (b : Between) (stage : Stage) (asked : Asked) (l
     (
       Some (told (with_next (length begins.moments) deeds)),
       record {
-        goes = λ up.
-            subst (λ (p : Point). GoesThroughPoints b.run new old.clock p (passed_by begins.moments ahead) new.clock (Some (told (with_next (length begins.moments) deeds)))) (sym here)
-            (subst (λ (points : List PassedPoint). GoesThroughPoints b.run new old.clock b.point points new.clock (Some (told (with_next (length begins.moments) deeds)))) (points_told told way begins.moments [] deeds ahead tell)
-            (deeds_pass_points old new b rows deeds before told way are up begins));
+        goes = goes;
         linked = ahead_linked b.run stage asked begins.moments ahead l comes;
         may = ahead_meant b.run stage asked begins.moments ahead l comes;
         on_its_way = next_on_its_way told way b.run stage asked begins.moments [] deeds ahead l tell comes (subst (MayBeMeant b.run stage) (sym first_told) may) ends begins.few;
         now = λ c is. shown c (begins.now c is);
         volumes = volumes (l.point.rows ++ rows_passed (passed_by begins.moments ahead));
+        written = none_written_by begins.site begins.elapses (passed_by begins.moments ahead) (Some (told (with_next k deeds))) goes;
       },
     ),
   )
     where
       k : ℕ
       k = length begins.moments
+
+      goes : 0 < old.clock → GoesThroughPoints b.run new old.clock l.point (passed_by begins.moments ahead) new.clock (Some (told (with_next k deeds)))
+      goes up =
+          subst (λ (p : Point). GoesThroughPoints b.run new old.clock p (passed_by begins.moments ahead) new.clock (Some (told (with_next k deeds)))) (sym here)
+          (subst (λ (points : List PassedPoint). GoesThroughPoints b.run new old.clock b.point points new.clock (Some (told (with_next k deeds)))) (points_told told way begins.moments [] deeds ahead tell)
+          (deeds_pass_points old new b rows deeds before told way are up begins))
 
       shown : (c : Choice) → SeesBehind old b.excepted rows (take k deeds) c ⊎ SeesBehind old b.excepted rows (with_next k deeds) c → ShowsLast b.run new (last_point l.point (passed_by begins.moments ahead)) (Some (told (with_next k deeds))) c
       shown c (inl sees) = inl (subst (λ (p : Point). ShowsPoint b.run (shape_of new) p c) (sym (last_is begins.moments begins.few)) (step old new b rows deeds before begins.site told way are (take k deeds) c (first_ones k deeds) sees))
@@ -130,6 +143,7 @@ module _ (plant : PlantState) (run : Run) (stage : Stage) (asked : Asked) (l : L
         on_its_way = tt;
         now = shows;
         volumes = none_written plant (l.point.rows ++ []);
+        written = λ up. no_parts plant l.point;
       },
     ),
   )
@@ -143,6 +157,7 @@ module _ (plant : PlantState) (run : Run) (stage : Stage) (asked : Asked) (l : L
     on_its_way = tt;
     now = λ c is. subst (λ (q : Point). ShowsPoint run (shape_of plant) q c) (sym same) (shows c is);
     volumes = none_written plant (l.point.rows ++ rows_passed (passed_by (plant.clock ∷ []) (n ∷ [])));
+    written = λ up. part_quiet plant l.point (passed_by (plant.clock ∷ []) (n ∷ [])) (omega arith, omega arith, tt);
   }
 
 -- ---- calls in turn
@@ -165,6 +180,10 @@ passes_then run stage asked l points more next a b c site past on_site on_past l
   may = All-append (λ (n : PassedPoint). MayBeMeant run stage n.point) points more first.may second.may;
   on_its_way = subst (λ (x : Leg). IfSome next (λ q. IsOnItsWay run asked x q × MayBeMeant run stage q)) (sym (legs_append l points more)) second.on_its_way;
   now = λ e is. subst (λ (p : Point). ShowsLast run c p next e) (ap (λ (p : Point). last_point p more) last ∙ sym (last_append l.point points more)) (second.now e is);
+  written = λ up.
+      let later : 0 < b.clock = (let rise = (past.kept Control).later in omega (arith, up, rise)) in
+      parts_then c a.clock b.clock c.clock l.point points more (passed_parts_stay b c on_site on_past later a.clock b.clock l.point points (omega arith) (first.written up))
+      (subst (λ (p : Point). PassesInParts c b.clock c.clock p more) last (second.written later));
   volumes = changes_rows_then (l.point.rows ++ rows_passed points) ((fold leg_after l points).point.rows ++ rows_passed more) (l.point.rows ++ rows_passed (points ++ more)) a b c site ((past.kept Control).later) on_past front back first.volumes second.volumes;
 }
   where

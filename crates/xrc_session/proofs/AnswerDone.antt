@@ -19,7 +19,6 @@ use Rattle.pair_table.specs.Refusals.{refusal}
 use Rattle.pair_table.specs.Tables.{KeepsRows, with_rows}
 use Rattle.group_state.specs.Groups.{Group}
 use Rattle.xrc_command.specs.declared.line.Line.{Line}
-use Rattle.script_lines.specs.Grammars.{asked_by}
 use Rattle.site_store.specs.Changing.{changed_items}
 use Rattle.site_store.specs.Commands.{IsToLog, MayDo, behind_command}
 use Rattle.site_store.specs.Jobs.{has_device}
@@ -119,7 +118,7 @@ module _ (tells : Type 0) (names : Naming) (line : Line) (site : SiteState) (pla
     controls = refl;
     level = refl;
     time = refl;
-    table = λ i. with_rows (sym (refused_stays names site.table (asked_by line) why refused) i) (sym may.idle.same i);
+    table = λ i. with_rows (sym (refused_stays names site.table line why refused) i) (sym may.idle.same i);
     flag = refl;
     marked = λ none. none;
     same = λ ended. refl;
@@ -128,14 +127,14 @@ module _ (tells : Type 0) (names : Naming) (line : Line) (site : SiteState) (pla
 
   -- In each run the line is answered with the refusal.
   pub refused_ends : (flag : site.mark.ended ≡ site.table.is_ended) (run : Run) (stage : Stage) (asked : Asked) (l : Leg) (first : Point) (points : List PassedPoint) (group : Option Group) (began : PlantState)
-      → MayAnswer run stage (asked_by line) asked l first points names site group began plant → RisesCover run began plant
-      → EndsCommand run stage (asked_by line) asked l first points site group began plant plant (Ok (record { answer = Err why; tracks = 0 }))
+      → MayAnswer run stage line asked l first points names site group began plant → RisesCover run began plant
+      → EndsCommand run stage line asked l first points site group began plant plant (Ok (record { answer = Err why; tracks = 0 }))
   refused_ends flag run stage asked l first points group began m cover = by_flag site.table.is_ended refl
     where
-      goes : site.table.is_ended ≡ false → (o : Option Group) → MayAnswer run stage (asked_by line) asked l first points names site o began plant
-          → EndsCommand run stage (asked_by line) asked l first points site o began plant plant (Ok (record { answer = Err why; tracks = 0 }))
+      goes : site.table.is_ended ≡ false → (o : Option Group) → MayAnswer run stage line asked l first points names site o began plant
+          → EndsCommand run stage line asked l first points site o began plant plant (Ok (record { answer = Err why; tracks = 0 }))
       goes on None m = absurd (m.goes_on on)
-      goes on (Some g) m = refused_goes run stage (asked_by line) asked l first points names site (Some g) began plant m cover flag why on may.idle.same may.commands.started refused_answer g (m.goes_on on)
+      goes on (Some g) m = refused_goes run stage line asked l first points names site (Some g) began plant m cover flag why on may.idle.same may.commands.started refused_answer g (m.goes_on on)
 
       ended_why : site.table.is_ended ≡ true → Ended ≡ why
       ended_why ended = same_why (sym (ended_answer names site.table line.session line.command ended) ∙ refused_answer)
@@ -143,11 +142,11 @@ module _ (tells : Type 0) (names : Naming) (line : Line) (site : SiteState) (pla
           same_why : (let r : Result Change Refusal = Err Ended in r ≡ Err why) → Ended ≡ why
           same_why is = cc
 
-      by_flag : (b : Bool) → site.table.is_ended ≡ b → EndsCommand run stage (asked_by line) asked l first points site group began plant plant (Ok (record { answer = Err why; tracks = 0 }))
+      by_flag : (b : Bool) → site.table.is_ended ≡ b → EndsCommand run stage line asked l first points site group began plant plant (Ok (record { answer = Err why; tracks = 0 }))
       by_flag false on = goes on group m
       by_flag true ended =
-          subst (λ (w : Refusal). EndsCommand run stage (asked_by line) asked l first points site group began plant plant (Ok (record { answer = Err w; tracks = 0 }))) (ended_why ended)
-          (refused_at_end run stage (asked_by line) asked l first points names site group began plant m cover flag ended group)
+          subst (λ (w : Refusal). EndsCommand run stage line asked l first points site group began plant plant (Ok (record { answer = Err w; tracks = 0 }))) (ended_why ended)
+          (refused_at_end run stage line asked l first points names site group began plant m cover flag ended group)
 
 -- ---- a change
 

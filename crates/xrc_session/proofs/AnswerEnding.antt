@@ -16,7 +16,6 @@ use Rattle.row_changes.specs.Changes.{Timed}
 use Rattle.group_state.specs.Groups.{Group}
 use Rattle.site_means.specs.Images.{shape_of}
 use Rattle.xrc_command.specs.declared.line.Line.{Line}
-use Rattle.script_lines.specs.Grammars.{asked_by}
 use Rattle.site_store.specs.Sites.{SiteState}
 use Rattle.consistency.specs.Answering.{answered_by, points_before, reply_content, tracks_of_command}
 use Rattle.consistency.specs.Bears.{Run, Stage, accepts}
@@ -24,7 +23,7 @@ use Rattle.consistency.specs.Bearing.{ShowsPoint}
 use Rattle.consistency.specs.Courses.{stage_after}
 use Rattle.consistency.specs.Leads.{Point}
 use Rattle.consistency.specs.Replying.{is_query, told_tracks}
-use Rattle.consistency.specs.Steps.{TimedCommand, table_on_the_way}
+use Rattle.consistency.specs.Steps.{table_on_the_way}
 use Rattle.consistency.specs.Ways.{ComesBy, IsCommanding, IsEnding, IsLegOf, Leg, PassedPoint, leg_after, leg_by}
 use Rattle.consistency.specs.Ways.Way.{Commanded, Ending}
 use Rattle.consistency.proofs.Answering.{leg_behind_end}
@@ -44,11 +43,8 @@ use Rattle.xrc_session.proofs.AnswerEnds.{end_comes, ends_no_query, next_ended, 
 -- ---- in a run
 
 module _ (run : Run) (stage : Stage) (asked : Asked) (l : Leg) (first : Point) (points : List PassedPoint) (names : Naming) (line : Line) (group now : Option Group) (answered : LineAnswer) (tells : Type 0) (was site next : SiteState) (began old mid new : PlantState)
-    (m : MayAnswer run stage (asked_by line) asked l first points names was group began old) (c : IsSiteCommanded tells names line answered.answer was site mid) (flag : was.mark.ended ≡ was.table.is_ended) (ends : is_end_accepted answered.answer ≡ true)
-    (more : List PassedPoint) (passes : PassesPointsOn run stage asked l more None old mid) (h : HasCommanded run stage (asked_by line) asked l first points more answered site began mid now) where
-  abbrev tl : TimedCommand
-  tl = asked_by line
-
+    (m : MayAnswer run stage line asked l first points names was group began old) (c : IsSiteCommanded tells names line answered.answer was site mid) (flag : was.mark.ended ≡ was.table.is_ended) (ends : is_end_accepted answered.answer ≡ true)
+    (more : List PassedPoint) (passes : PassesPointsOn run stage asked l more None old mid) (h : HasCommanded run stage line asked l first points more answered site began mid now) where
   abbrev behind : Leg
   behind = fold leg_after l more
 
@@ -101,26 +97,26 @@ module _ (run : Run) (stage : Stage) (asked : Asked) (l : Leg) (first : Point) (
       heard_there = m.asked_is ∙ sym m.heard
 
       commanding : IsCommanding run stage.next own.before behind.point h.hits
-      commanding = subst (λ (o : Option TimedCommand). IsCommanding run o own.before behind.point h.hits) heard_there own.comes.2
+      commanding = subst (λ (o : Option Line). IsCommanding run o own.before behind.point h.hits) heard_there own.comes.2
 
-      same_line : commanding.line ≡ tl
-      same_line = of_some commanding.line tl (sym commanding.heard ∙ m.heard)
+      same_line : commanding.line ≡ line
+      same_line = of_some commanding.line line (sym commanding.heard ∙ m.heard)
         where
-          of_some : (a b : TimedCommand) → (let o : Option TimedCommand = Some a in o ≡ Some b) → a ≡ b
+          of_some : (a b : Line) → (let o : Option Line = Some a in o ≡ Some b) → a ≡ b
           of_some a b is = cc
 
       ending : IsEnding run stage.next behind.point n.point late
-      ending = subst (λ (o : Option TimedCommand). IsEnding run o behind.point n.point late) (ap asked of_line ∙ heard_there) comes.1
+      ending = subst (λ (o : Option Line). IsEnding run o behind.point n.point late) (ap asked of_line ∙ heard_there) comes.1
 
       stage_goes : stage.table.is_ended ≡ false
       stage_goes =
           sym m.at.leg.whole.leads.goes_on ∙ ap (λ (p : Point). p.is_ended) m.at.here ∙ flag
           ∙ end_comes names was.table line.session line.command line.time.0 (ap (λ (r : Result Change Refusal). is_end_accepted r) (sym c.answer_is) ∙ ends)
 
-      leg : IsLegOf run (stage_then run stage tl l hits) (leg_after behind n)
+      leg : IsLegOf run (stage_then run stage line l hits) (leg_after behind n)
       leg =
-          subst (IsLegOf run (stage_then run stage tl l hits)) (ap (λ (x : Leg). leg_by x n.point (Ending l.answered late)) (sym own.is) ∙ ap (leg_by behind n.point) (sym way_of_line))
-          (subst (λ (x : TimedCommand). IsLegOf run (stage_after stage (answered_by run stage [] [] x l.changes hits)) leg_there) same_line
+          subst (IsLegOf run (stage_then run stage line l hits)) (ap (λ (x : Leg). leg_by x n.point (Ending l.answered late)) (sym own.is) ∙ ap (leg_by behind n.point) (sym way_of_line))
+          (subst (λ (x : Line). IsLegOf run (stage_after stage (answered_by run stage [] [] x l.changes hits)) leg_there) same_line
           (subst (λ (changes : List Timed). IsLegOf run (stage_after stage (answered_by run stage [] [] commanding.line changes hits)) leg_there) own.changes
           (leg_behind_end run stage stage_goes own.before own.leg behind.point h.hits commanding [] [] n.point late l.answered ending)))
         where
@@ -135,17 +131,17 @@ module _ (run : Run) (stage : Stage) (asked : Asked) (l : Leg) (first : Point) (
           ∙ ap (λ (ps : List PassedPoint). points ++ ps) (told_by_first l.answered more (n ∷ []) (command_is_there l.answered h.hits more h.by))
           ∙ sym (none_of_line l.answered points more m.fresh)
 
-      tells_all : (text reply : List ℕ) → TellsAnswer tl (reply_content run stage first (points ++ all) l.answered (answered_by run stage text reply tl l.changes hits)) answered
+      tells_all : (text reply : List ℕ) → TellsAnswer line (reply_content run stage first (points ++ all) l.answered (answered_by run stage text reply line l.changes hits)) answered
       tells_all text reply =
-          let content = reply_content run stage first (points ++ more) l.answered (answered_by run stage text reply tl l.changes h.hits) in
+          let content = reply_content run stage first (points ++ more) l.answered (answered_by run stage text reply line l.changes h.hits) in
           let told = h.tells text reply in
           record {
             is = told.is;
-            tracks = ap (λ (ps : List PassedPoint). told_tracks tl.command content.answer (tracks_of_command run first ps (table_on_the_way run.level l.changes stage.table).rows tl.time tl.command)) before_is ∙ told.tracks;
+            tracks = ap (λ (ps : List PassedPoint). told_tracks line.command content.answer (tracks_of_command run first ps (table_on_the_way run.level l.changes stage.table).rows line.time.0 line.command)) before_is ∙ told.tracks;
           }
 
       -- The line is answered by the command and the mark.
-      end_ends : EndsCommand run stage tl asked l first points next now began old new (Ok answered)
+      end_ends : EndsCommand run stage line asked l first points next now began old new (Ok answered)
       end_ends = (
         all,
         passed,
@@ -155,13 +151,13 @@ module _ (run : Run) (stage : Stage) (asked : Asked) (l : Leg) (first : Point) (
           at = λ same. record {
             here = ap (λ (x : Leg). x.point) leg_is ∙ has.here;
             shows = subst (λ (p : Point). AtNow (ShowsPoint run (shape_of new) p) new) has.here has.shows;
-            leg = subst (IsLegOf run (stage_then run stage tl l hits)) (sym leg_is) leg;
+            leg = subst (IsLegOf run (stage_then run stage line l hits)) (sym leg_is) leg;
             counted = subst (λ (x : Leg). AreHitsOfFaults x began new) (sym leg_is) has.counted;
           };
           ending = λ ended unmarked. absurd (true≢false (sym marked.flag ∙ unmarked));
           unhit = λ reported.
               absurd (ends_no_query names was.table line.session line.command line.time.0 (ap (λ (r : Result Change Refusal). is_end_accepted r) (sym c.answer_is) ∙ ends)
-              (and_parts (is_query tl.command) (accepts run (table_on_the_way run.level l.changes stage.table) tl) reported).0);
+              (and_parts (is_query line.command) (accepts run (table_on_the_way run.level l.changes stage.table) line) reported).0);
           tells = tells_all;
           goes_on = λ goes. absurd (true≢false (sym (next_ended tells names line answered.answer was site mid c flag ends next new marked) ∙ goes));
           wants = λ device is goes. absurd (true≢false (sym (next_ended tells names line answered.answer was site mid c flag ends next new marked) ∙ goes));
@@ -169,8 +165,8 @@ module _ (run : Run) (stage : Stage) (asked : Asked) (l : Leg) (first : Point) (
       )
 
     -- By the mark's own ends.
-    end_of_mark : IsMarkedSite tells true site next new → EndsMark run stage asked behind true next began mid new (Ok tt) → EndsCommand run stage tl asked l first points next now began old new (Ok answered)
-    end_of_mark marked (n, (number, (late, way)), passes_mark, has) = end_ends marked n number late way passes_mark has
+    end_of_mark : IsMarkedSite tells true site next new → EndsMark run stage asked behind true next began mid new (Ok tt) → EndsCommand run stage line asked l first points next now began old new (Ok answered)
+    end_of_mark marked (n, (number, (late, way, are)), passes_mark, has) = end_ends marked n number late way passes_mark has
 
 -- ---- in each run
 
@@ -179,16 +175,16 @@ rises_before : (run : Run) (began mid new : PlantState) → ((d : Device) → mi
 rises_before run began mid new up cover d = let rises = cover d in let higher = up (Volume d) in (omega (arith, rises, higher), omega (arith, rises, higher))
 
 module _ (tells : Type 0) (told : tells) (line : Line) (kept now : Kept) (was site next : SiteState) (began old mid new : PlantState) (answered : LineAnswer) (c : IsSiteCommanded tells kept.names line answered.answer was site mid) (flag : was.mark.ended ≡ was.table.is_ended)
-    (ends : is_end_accepted answered.answer ≡ true) (first_works : WorksOnLent tells (IsOfMover was) old mid) (works : WorksOnLent tells (IsOfMover site) mid new) (commands : AnswersCommands (asked_by line) kept now was site began old mid (Ok answered)) where
+    (ends : is_end_accepted answered.answer ≡ true) (first_works : WorksOnLent tells (IsOfMover was) old mid) (works : WorksOnLent tells (IsOfMover site) mid new) (commands : AnswersCommands line kept now was site began old mid (Ok answered)) where
   -- Where the mark of an end fails the line's points begin to be passed.
-  pub end_stops : (stop : Stop) → MarksOn true site next began mid new (Err stop) → AnswersCommands (asked_by line) kept now was next began old new (Err stop)
+  pub end_stops : (stop : Stop) → MarksOn true site next began mid new (Err stop) → AnswersCommands line kept now was next began old new (Err stop)
   end_stops stop marks run stage asked l first points m cover =
       let found = commands run stage asked l first points m (rises_before run began mid new works.faults cover) in
       end_begins run stage asked l first points kept.names line kept.group now.group answered tells was site next began old mid new m c flag ends found.0 found.1 found.2 first_works.site (first_works.elapses told) works.site (works.elapses told)
       (marks run stage asked (fold leg_after l found.0) (may_end run stage asked l first points kept.names line kept.group now.group answered tells was site next began old mid new m c flag ends found.0 found.1 found.2) cover)
 
   -- Where it counts the line is answered.
-  pub end_done : IsMarkedSite tells true site next new → MarksOn true site next began mid new (Ok tt) → AnswersCommands (asked_by line) kept now was next began old new (Ok answered)
+  pub end_done : IsMarkedSite tells true site next new → MarksOn true site next began mid new (Ok tt) → AnswersCommands line kept now was next began old new (Ok answered)
   end_done marked marks run stage asked l first points m cover =
       let found = commands run stage asked l first points m (rises_before run began mid new works.faults cover) in
       end_of_mark run stage asked l first points kept.names line kept.group now.group answered tells was site next began old mid new m c flag ends found.0 found.1 found.2 first_works.site (first_works.elapses told) works.site (works.elapses told) marked

@@ -173,11 +173,7 @@ cause_before old mid new (stops.OtherSession name) up console cause = absurd cau
 cause_before old mid new (stops.Damaged d place) up console cause = absurd cause
 cause_before old mid new stops.VolumeFault up console cause = absurd cause
 cause_before old mid new (stops.TooSmall d needed) up console cause = absurd cause
-cause_before old mid new stops.JournalEnd up console cause = absurd cause
 cause_before old mid new stops.BadSite up console cause = absurd cause
-cause_before old mid new stops.NotBuilt up console cause = absurd cause
-cause_before old mid new stops.EarlyBreak up console cause = absurd cause
-cause_before old mid new stops.EarlyVolume up console cause = absurd cause
 
 module _ (tells : Type 0) (was site next : SiteState) (old mid new : PlantState) (answered : LineAnswer) (told : site.told ≡ was.told) (written : site.written ≡ was.written) (waiting : site.waiting ≡ was.waiting)
     (first : (let r : Result LineAnswer Stop = Ok answered in IsWorkOfStore tells was site old mid r)) where

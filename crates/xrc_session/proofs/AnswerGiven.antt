@@ -13,7 +13,6 @@ use Rattle.pair_table.specs.Refusals.{refusal}
 use Rattle.pair_table.specs.Tables.{KeepsRows}
 use Rattle.group_state.specs.Groups.{Group}
 use Rattle.xrc_command.specs.declared.line.Line.{Line}
-use Rattle.script_lines.specs.Grammars.{asked_by}
 use Rattle.site_store.specs.Commands.{IsToLog, behind_command}
 use Rattle.site_store.specs.Sites.{SiteState}
 use Rattle.xrc_status.specs.declared.stop.Stop.{Stop}
@@ -88,8 +87,8 @@ module _ (tells : Type 0) (line : Line) (kept kept_now : Kept) (was site : SiteS
       subst (λ (s : SiteState). let r : Result LineAnswer Stop = Err stop in IsWorkOfStore tells was s plant plant r) (sym same)
       (subst (λ (stop : Stop). let r : Result LineAnswer Stop = Err stop in IsWorkOfStore tells was was plant plant r) is no_memory_work)
 
-  pub stops_in_runs : (stop : Stop) (began : PlantState) → AnswersCommands (asked_by line) kept kept_now was site began plant plant (Err stop)
-  stops_in_runs stop began run stage asked l first points m cover = command_stops run stage (asked_by line) asked l first points kept.names was kept.group began plant m cover flag
+  pub stops_in_runs : (stop : Stop) (began : PlantState) → AnswersCommands line kept kept_now was site began plant plant (Err stop)
+  stops_in_runs stop began run stage asked l first points m cover = command_stops run stage line asked l first points kept.names was kept.group began plant m cover flag
 
   module _ (why : Refusal) (refused : refusal kept.names was.table line.session line.command ≡ Some why) (answered : LineAnswer) (is : answered ≡ record { answer = Err why; tracks = 0 }) where
     pub refused_stands : IsSiteCommanded tells kept.names line answered.answer was site plant
@@ -116,17 +115,17 @@ module _ (tells : Type 0) (line : Line) (kept kept_now : Kept) (was site : SiteS
         (subst (λ (s : SiteState). IsSomeAnd kept.group (λ g. KeepsForRows g s.told)) (sym same)
         (some_first (λ g. KeepsForRows g was.told) A kept.group (keeps (ap (λ (s : SiteState). s.table.is_ended) (sym same) ∙ goes))))
 
-    pub refused_in_runs : (began : PlantState) → AnswersCommands (asked_by line) kept kept_now was site began plant plant (Ok answered)
+    pub refused_in_runs : (began : PlantState) → AnswersCommands line kept kept_now was site began plant plant (Ok answered)
     refused_in_runs began run stage asked l first points m cover =
-        subst (λ (s : SiteState). EndsCommand run stage (asked_by line) asked l first points s kept_now.group began plant plant (Ok answered)) (sym same)
-        (subst (λ (o : Option Group). EndsCommand run stage (asked_by line) asked l first points was o began plant plant (Ok answered)) (sym same_group)
-        (subst (λ (a : LineAnswer). EndsCommand run stage (asked_by line) asked l first points was kept.group began plant plant (Ok a)) (sym is)
+        subst (λ (s : SiteState). EndsCommand run stage line asked l first points s kept_now.group began plant plant (Ok answered)) (sym same)
+        (subst (λ (o : Option Group). EndsCommand run stage line asked l first points was o began plant plant (Ok answered)) (sym same_group)
+        (subst (λ (a : LineAnswer). EndsCommand run stage line asked l first points was kept.group began plant plant (Ok a)) (sym is)
         (refused_ends tells kept.names line was plant may why refused flag run stage asked l first points kept.group began m cover)))
 
 -- ---- where a change is logged
 
 -- By what logging leaves in each run the line is answered.
 pub answers_logged : (line : Line) (change : Change) (kept kept_now : Kept) (was site next : SiteState) (began old new : PlantState) → IsDoneFrom kept.names line change was site old → (logged : Result ℕ Stop) (result : Result LineAnswer Stop)
-    → change_result change logged ≡ result → LogsCommands line change kept kept_now site next began old new (change_result change logged) → AnswersCommands (asked_by line) kept kept_now was next began old new result
+    → change_result change logged ≡ result → LogsCommands line change kept kept_now site next began old new (change_result change logged) → AnswersCommands line kept kept_now was next began old new result
 answers_logged line change kept kept_now was site next began old new from logged result is logs =
-    subst (λ (r : Result LineAnswer Stop). AnswersCommands (asked_by line) kept kept_now was next began old new r) is (logs was from)
+    subst (λ (r : Result LineAnswer Stop). AnswersCommands line kept kept_now was next began old new r) is (logs was from)

@@ -27,7 +27,6 @@ use Rattle.fed_logs.specs.ShownBreaks.{BreaksAreToCome}
 use Rattle.record_rows.specs.Records.{rows_with_hits}
 use Rattle.site_means.specs.Images.{shape_of}
 use Rattle.xrc_command.specs.declared.line.Line.{Line}
-use Rattle.script_lines.specs.Grammars.{asked_by}
 use Rattle.site_store.specs.Changing.{DoesChange, LogsChange, MayChange}
 use Rattle.site_store.specs.Sites.{SiteState}
 use Rattle.site_store.specs.Standing.{Leaves}
@@ -36,7 +35,7 @@ use Rattle.consistency.specs.Bears.{Run, Stage, accepts, accepts_end, breaks_of,
 use Rattle.consistency.specs.Bearing.{ShowsPoint}
 use Rattle.consistency.specs.Leads.{Point}
 use Rattle.consistency.specs.Replying.{is_query, told_tracks}
-use Rattle.consistency.specs.Steps.{TimedCommand, names_at, table_on_the_way}
+use Rattle.consistency.specs.Steps.{names_at, table_on_the_way}
 use Rattle.consistency.specs.Ways.{IsCommanding, Leg, PassedPoint, leg_after, table_at}
 use Rattle.consistency.proofs.Legs.{ends_alike}
 use Rattle.mover.specs.Working.{Asked}
@@ -65,10 +64,7 @@ change_of_ok a b is = cc
 module _ (tells : Type 0) (run : Run) (stage : Stage) (asked : Asked) (l : Leg) (first : Point) (points : List PassedPoint) (names : Naming) (line : Line) (change : Change) (was site next : SiteState) (began old new : PlantState) (g : Group)
     (h : IsLoggedIn tells run stage asked l first points names line change was site next began old new g) {P : Type 0} (was_plant is_plant : P) (logs : LogsChange line.time.0 change site next old was_plant is_plant (Ok tt))
     (does : DoesChange tells line.time.0 change site next old new (Ok tt)) (may_change : MayChange tells line.time.0 change site old) (leaves : Leaves tells (λ e. e) site next old new) (same_plant : is_plant ≡ was_plant → new ≡ old)
-    (p : IsLinePassed run stage (asked_by line) asked l next began old new) (some : (c : Choice) × IsChoice new new.clock c) (kept : KeepsForRows g was.told) where
-  abbrev tl : TimedCommand
-  tl = asked_by line
-
+    (p : IsLinePassed run stage line asked l next began old new) (some : (c : Choice) × IsChoice new new.clock c) (kept : KeepsForRows g was.told) where
   abbrev behind : Leg
   behind = fold leg_after l p.more
 
@@ -84,7 +80,7 @@ module _ (tells : Type 0) (run : Run) (stage : Stage) (asked : Asked) (l : Leg) 
   here_goes : l.point.is_ended ≡ false
   here_goes = (h.may.active goes).1.goes_on
 
-  names_are : names ≡ names_at tl.time (breaks_of run) (names_of run)
+  names_are : names ≡ names_at line.time.0 (breaks_of run) (names_of run)
   names_are = (h.may.active goes).2
 
   abbrev found : Table
@@ -97,7 +93,7 @@ module _ (tells : Type 0) (run : Run) (stage : Stage) (asked : Asked) (l : Leg) 
   of_answer = answered names was.table line.session line.command change h.from.done
 
   -- The run accepts the command.
-  accepted : accepts run found tl ≡ true
+  accepted : accepts run found line ≡ true
   accepted = (λ i. is_none (refusal (sym names_are i) (sym table_is i) line.session line.command)) ∙ ap (λ o. is_none o) of_answer.accepts
 
   logged : IsLoggedSite line.time.0 site next
@@ -121,20 +117,20 @@ module _ (tells : Type 0) (run : Run) (stage : Stage) (asked : Asked) (l : Leg) 
   -- ---- the leg behind it
 
   -- The session stands behind the line, if the command is no end.
-  at_leg : next.mark.ended ≡ next.table.is_ended → StandsAtLeg run (stage_then run stage tl l p.hits) behind next began new
+  at_leg : next.mark.ended ≡ next.table.is_ended → StandsAtLeg run (stage_then run stage line l p.hits) behind next began new
   at_leg flag = record {
     here = p.point;
     shows = shows;
-    leg = p.leg (ap (accepts_end run found) h.may.heard ∙ no_end run found tl (sym next_ended ∙ sym flag ∙ next_flag));
+    leg = p.leg (ap (accepts_end run found) h.may.heard ∙ no_end run found line (sym next_ended ∙ sym flag ∙ next_flag));
     counted = p.counted;
   }
 
   -- Or the mark of the end may come.
   may_end : next.table.is_ended ≡ true → next.mark.ended ≡ false → MayEndBy run stage asked behind true next began new
   may_end ended unmarked = record {
-    marked = IsAtEnd l.answered own.before p.hits own.leg (h.may.asked_is ∙ sym h.may.heard) (subst (λ (o : Option TimedCommand). IsCommanding run o own.before behind.point p.hits) (h.may.asked_is ∙ sym h.may.heard) own.comes.2) own.is
+    marked = IsAtEnd l.answered own.before p.hits own.leg (h.may.asked_is ∙ sym h.may.heard) (subst (λ (o : Option Line). IsCommanding run o own.before behind.point p.hits) (h.may.asked_is ∙ sym h.may.heard) own.comes.2) own.is
         (record { last = command_answered l.answered p.hits p.more p.by l; unchanged = ap (λ (x : Leg). x.changes) own.is; none_marked = ap (λ (x : Leg). x.marked) own.is })
-        (ends_alike run l.point behind.point stage.next (here_goes ∙ sym behind_goes) (ap (accepts_end run found) h.may.heard ∙ accepted_end run found tl (sym next_ended ∙ ended) accepted));
+        (ends_alike run l.point behind.point stage.next (here_goes ∙ sym behind_goes) (ap (accepts_end run found) h.may.heard ∙ accepted_end run found line (sym next_ended ∙ ended) accepted));
     here = p.point;
     shows = subst (λ (q : Point). AtNow (ShowsPoint run (shape_of new) q) new) (sym p.point) shows;
     counted = p.counted;
@@ -159,14 +155,14 @@ module _ (tells : Type 0) (run : Run) (stage : Stage) (asked : Asked) (l : Leg) 
   way_is : way_table ≡ was.table
   way_is = sym (table_of_leg run stage l h.may.at.leg) ∙ sym table_is
 
-  answer_is : answer (names_at tl.time (breaks_of run) (names_of run)) way_table tl.session tl.command ≡ Ok change
+  answer_is : answer (names_at line.time.0 (breaks_of run) (names_of run)) way_table line.session line.command ≡ Ok change
   answer_is = (λ i. answer (sym names_are i) (way_is i) line.session line.command) ∙ h.from.done
 
   own_rows : Own names was.table.rows line.command
   own_rows = own_of names was.table line.session line.command h.from.started of_answer.accepts
 
   -- A pair that is added again is suspended.
-  pair_taken : (primary secondary : List ℕ) (r : PairRow) → tl.command ≡ AddPair primary secondary → row_of_primary primary was.told ≡ Some r → is_suspended r.state ≡ true
+  pair_taken : (primary secondary : List ℕ) (r : PairRow) → line.command ≡ AddPair primary secondary → row_of_primary primary was.told ≡ Some r → is_suspended r.state ≡ true
   pair_taken primary secondary r is there =
       row_taken names was.told primary secondary r (primary_of primary names)
       (subst (λ (command : Command). refuses_command names was.told command ≡ None) is (ap (λ (rows : List PairRow). refuses_command names rows line.command) h.from.same ∙ own_rows.own)) there
@@ -180,17 +176,17 @@ module _ (tells : Type 0) (run : Run) (stage : Stage) (asked : Asked) (l : Leg) 
   marks_are : All (λ n. n.point.rows ≡ was.told) (points_before l.answered p.more)
   marks_are = subst (λ (rows : List PairRow). All (λ n. n.point.rows ≡ rows) (points_before l.answered p.more)) rows_here (marks_leave run asked l.answered p.hits p.more p.by l p.passes.linked)
 
-  asked_tracks : tracks_of_command run first before way_table.rows tl.time tl.command ≡ tracks_of_command run first points was.told tl.time tl.command
+  asked_tracks : tracks_of_command run first before way_table.rows line.time.0 line.command ≡ tracks_of_command run first points was.told line.time.0 line.command
   asked_tracks =
-      (λ i. tracks_of_command run first (before_is i) ((ap (λ (t : Table). t.rows) way_is ∙ sym h.from.same) i) tl.time tl.command)
-      ∙ asked_still run first points (points_before l.answered p.more) was.told tl.time tl.command h.apart marks_are pair_taken
+      (λ i. tracks_of_command run first (before_is i) ((ap (λ (t : Table). t.rows) way_is ∙ sym h.from.same) i) line.time.0 line.command)
+      ∙ asked_still run first points (points_before l.answered p.more) was.told line.time.0 line.command h.apart marks_are pair_taken
 
   tells_answer : (text reply : List ℕ)
-      → TellsAnswer tl (reply_content run stage first (points ++ p.more) l.answered (answered_by run stage text reply tl l.changes p.hits)) (record { answer = Ok change; tracks = tracks_to_copy change g was.told next.told })
+      → TellsAnswer line (reply_content run stage first (points ++ p.more) l.answered (answered_by run stage text reply line l.changes p.hits)) (record { answer = Ok change; tracks = tracks_to_copy change g was.told next.told })
   tells_answer text reply = record {
     is = answer_is;
     tracks =
-        (λ i. told_tracks tl.command (answer_is i) (asked_tracks i))
+        (λ i. told_tracks line.command (answer_is i) (asked_tracks i))
         ∙ tracks_are_owed run names first points was old g next.told line.time.0 (on tells run stage asked l first points names line change was site next began old new g h) (ap (λ (n : Naming). n.primaries) names_are) was_at kept site.level line.time.0 logged.failed
         line.command change (ap (λ (rows : List PairRow). refuses_command names rows line.command) h.from.same ∙ own_rows.own) (change_is names line change was site old h.from)
         (takes_there tells run stage asked l first points names line change was site next began old new g h was_plant is_plant logs does may_change leaves same_plant)
@@ -232,12 +228,12 @@ module _ (tells : Type 0) (run : Run) (stage : Stage) (asked : Asked) (l : Leg) 
   way_rows : way_table.rows ≡ was.told
   way_rows = ap (λ (t : Table). t.rows) way_is ∙ sym h.from.same
 
-  wants_before : (device : ℕ) → change ≡ Resumed device → WantsOwed run first before device way_table.rows next.told tl.time taken
+  wants_before : (device : ℕ) → change ≡ Resumed device → WantsOwed run first before device way_table.rows next.told line.time.0 taken
   wants_before device is r z in_way in_next of_r of_z live x low =
       is_wanted_there ∙ ap (λ (time : ℕ). owes_track run first points r time x) was_at
-      ∙ sym (ap (λ (ps : List PassedPoint). owes_track run first ps r tl.time x) before_is ∙ owes_still r was.told (among_of was.told r in_was) h.apart resumes.0 run first points (points_before l.answered p.more) tl.time x marks_are)
+      ∙ sym (ap (λ (ps : List PassedPoint). owes_track run first ps r line.time.0 x) before_is ∙ owes_still r was.told (among_of was.told r in_was) h.apart resumes.0 run first points (points_before l.answered p.more) line.time.0 x marks_are)
     where
-      was_at : was.time ≡ tl.time
+      was_at : was.time ≡ line.time.0
       was_at = ap (λ (q : Point). q.time) (sym here) ∙ (h.may.active goes).0.at
 
       in_was : Contains was.told r
@@ -263,13 +259,13 @@ module _ (tells : Type 0) (run : Run) (stage : Stage) (asked : Asked) (l : Leg) 
           ∙ wants_owed run first points (site_point was) next.told g kept maps r z take in_was in_next (of_z ∙ sym of_r) live x low
 
   -- The command was done, and its change is logged.
-  pub has_logged : HasCommanded run stage tl asked l first points p.more (record { answer = Ok change; tracks = tracks_to_copy change g was.told next.told }) next began new (Some taken)
+  pub has_logged : HasCommanded run stage line asked l first points p.more (record { answer = Ok change; tracks = tracks_to_copy change g was.told next.told }) next began new (Some taken)
   has_logged = record {
     hits = p.hits;
     by = p.by;
     at = at_leg;
     ending = may_end;
-    unhit = λ reported. p.unhit (and_parts (is_query tl.command) (accepts run way_table tl) reported).0;
+    unhit = λ reported. p.unhit (and_parts (is_query line.command) (accepts run way_table line) reported).0;
     tells = tells_answer;
     goes_on = λ goes. goes_on_there;
     wants = λ device is goes. wants_before device (change_of_ok change (Resumed device) is);

@@ -13,7 +13,6 @@ use Rattle.pair_table.specs.Tables.{are_below}
 use Rattle.group_state.specs.Groups.{Group}
 use Rattle.record_rows.specs.Records.{rows_with_hits}
 use Rattle.xrc_command.specs.declared.line.Line.{Line}
-use Rattle.script_lines.specs.Grammars.{asked_by}
 use Rattle.site_store.specs.declared.store_error.StoreError.{StoreError}
 use Rattle.site_store.specs.Causes.{FailByCounts}
 use Rattle.site_store.specs.Changing.{DoesChange, LogsChange, MayChange}
@@ -41,7 +40,7 @@ use Rattle.xrc_session.proofs.RestingSites.{hits_pass}
 module _ (tells : Type 0) (told : tells) (names : Naming) (line : Line) (change : Change) (before : List PairRow) (site next : SiteState) (began old new : PlantState) (h : MayLogChange tells names line change before site old)
     (fails : FailByCounts site.failed next.failed old.faults new.faults) (up : NoneFalls old new) (volumes : VolumesStay tells old new) where
   module _ (g : Group) (kept : KeepsForRows g before) (count : ControlsCount names g) (run : Run) (stage : Stage) (asked : Asked) (l : Leg) (first : Point) (points : List PassedPoint) (was : SiteState) (d : IsDoneFrom names line change was site old)
-      (may : MayAnswer run stage (asked_by line) asked l first points names was (Some g) began old) (cover : RisesCover run began new) where
+      (may : MayAnswer run stage line asked l first points names was (Some g) began old) (cover : RisesCover run began new) where
     before_is : before ≡ was.told
     before_is = h.rows ∙ sym (site_told names line change h.was site old h.from) ∙ site_told names line change was site old d
 
@@ -89,7 +88,7 @@ module _ (tells : Type 0) (told : tells) (names : Naming) (line : Line) (change 
       may_log : MayChange tells line.time.0 change site old
       may_log = may_change tells names line change before site next old new was_plant is_plant h
 
-      passed : IsLinePassed run stage (asked_by line) asked l next began old new
+      passed : IsLinePassed run stage line asked l next began old new
       passed = line_passed tells run stage asked l first points names line change was site next began old new g in_run was_plant is_plant logs does may_log leaves same_plant
 
       -- Where the change isn't taken over the points are passed.
@@ -98,7 +97,7 @@ module _ (tells : Type 0) (told : tells) (names : Naming) (line : Line) (change 
 
       -- Where it is the command was done.
       logging_ends : (some : (c : Choice) × IsChoice new new.clock c) (now : Option Group) (tracks : ℕ) → now ≡ option_map (group_taken (Ok change) before next.told) (Some g) → tracks ≡ tracks_to_copy change g before next.told
-          → EndsCommand run stage (asked_by line) asked l first points next now began old new (Ok (record { answer = Ok change; tracks = tracks }))
+          → EndsCommand run stage line asked l first points next now began old new (Ok (record { answer = Ok change; tracks = tracks }))
       logging_ends some now tracks taken copied = (
         passed.more,
         passed.passes,
@@ -108,14 +107,14 @@ module _ (tells : Type 0) (told : tells) (names : Naming) (line : Line) (change 
       )
         where
           HasDone : Option Group → ℕ → Type 0
-          HasDone o tracks = HasCommanded run stage (asked_by line) asked l first points passed.more (record { answer = Ok change; tracks = tracks }) next began new o
+          HasDone o tracks = HasCommanded run stage line asked l first points passed.more (record { answer = Ok change; tracks = tracks }) next began new o
 
   -- ---- with the shared state that is there
 
   -- Where logging fails the points begin to be passed.
   pub logging_stops : {P : Type 0} (was_plant is_plant : P) (error : StoreError) → LogsChange line.time.0 change site next old was_plant is_plant (Err error) → DoesChange tells line.time.0 change site next old new (Err error) → (o : Option Group)
       → IsSomeAnd o (λ g. KeepsForRows g before) → IsSomeAnd o (ControlsCount names) → (run : Run) (stage : Stage) (asked : Asked) (l : Leg) (first : Point) (points : List PassedPoint) (was : SiteState) → IsDoneFrom names line change was site old
-      → MayAnswer run stage (asked_by line) asked l first points names was o began old → RisesCover run began new → BeginsToPass run stage asked l old new
+      → MayAnswer run stage line asked l first points names was o began old → RisesCover run began new → BeginsToPass run stage asked l old new
   logging_stops was_plant is_plant error logs does None kept count run stage asked l first points was d may cover = absurd kept
   logging_stops was_plant is_plant error logs does (Some g) kept count run stage asked l first points was d may cover =
       logging_begins g kept count run stage asked l first points was d may cover was_plant is_plant error logs does
@@ -128,10 +127,10 @@ module _ (tells : Type 0) (told : tells) (names : Naming) (line : Line) (change 
     count_there : ControlsCount names g
     count_there = subst (λ (x : Option Group). IsSomeAnd x (ControlsCount names)) is count
 
-    module _ (run : Run) (stage : Stage) (asked : Asked) (l : Leg) (first : Point) (points : List PassedPoint) (was : SiteState) (d : IsDoneFrom names line change was site old) (may : MayAnswer run stage (asked_by line) asked l first points names was o began old)
+    module _ (run : Run) (stage : Stage) (asked : Asked) (l : Leg) (first : Point) (points : List PassedPoint) (was : SiteState) (d : IsDoneFrom names line change was site old) (may : MayAnswer run stage line asked l first points names was o began old)
         (cover : RisesCover run began new) where
-      may_there : MayAnswer run stage (asked_by line) asked l first points names was (Some g) began old
-      may_there = subst (λ (x : Option Group). MayAnswer run stage (asked_by line) asked l first points names was x began old) is may
+      may_there : MayAnswer run stage line asked l first points names was (Some g) began old
+      may_there = subst (λ (x : Option Group). MayAnswer run stage line asked l first points names was x began old) is may
 
       -- Where the change isn't taken over the points are passed.
       pub taking_stops : BeginsToPass run stage asked l old new
@@ -139,5 +138,5 @@ module _ (tells : Type 0) (told : tells) (names : Naming) (line : Line) (change 
 
       -- Where it is the line is answered.
       pub taking_ends : (some : (c : Choice) × IsChoice new new.clock c) (now : Option Group) (tracks : ℕ) → now ≡ option_map (group_taken (Ok change) before next.told) (Some g) → tracks ≡ tracks_to_copy change g before next.told
-          → EndsCommand run stage (asked_by line) asked l first points next now began old new (Ok (record { answer = Ok change; tracks = tracks }))
+          → EndsCommand run stage line asked l first points next now began old new (Ok (record { answer = Ok change; tracks = tracks }))
       taking_ends some now tracks taken copied = logging_ends g kept_there count_there run stage asked l first points was d may_there cover was_plant is_plant logs does leaves same_plant some now tracks taken copied

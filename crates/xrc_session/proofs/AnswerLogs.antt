@@ -23,7 +23,6 @@ use Rattle.record_rows.specs.Records.{rows_with_hits}
 use Rattle.record_rows.proofs.HitRows.{marks_are_changes}
 use Rattle.site_means.specs.Images.{shape_of}
 use Rattle.xrc_command.specs.declared.line.Line.{Line}
-use Rattle.script_lines.specs.Grammars.{asked_by}
 use Rattle.site_store.specs.declared.store_error.StoreError.{StoreError}
 use Rattle.site_store.specs.Causes.{FailByCounts}
 use Rattle.site_store.specs.Changing.{DoesChange, LogsChange, MayChange, change_deeds_of, changed_items, table_with_hits, told_by_mark}
@@ -39,7 +38,7 @@ use Rattle.consistency.specs.Bears.{Run, Stage, accepts_end, breaks_of, names_of
 use Rattle.consistency.specs.Bearing.{MayBeMeant, ShowsPoint}
 use Rattle.consistency.specs.Leads.{Point}
 use Rattle.consistency.specs.Replying.{is_query}
-use Rattle.consistency.specs.Steps.{TimedCommand, names_at}
+use Rattle.consistency.specs.Steps.{names_at}
 use Rattle.consistency.specs.Ways.{HasCountedHits, hits_stand, IsAtWork, IsLegOf, Leg, MayTakeEffect, PassedPoint, Way, commanded_point, leg_after, leg_by, table_at}
 use Rattle.consistency.specs.Ways.Way.{OnTheWay}
 use Rattle.mover.specs.Working.{Asked}
@@ -82,7 +81,7 @@ pub record IsLoggedIn (tells : Type 0) (run : Run) (stage : Stage) (asked : Aske
   pub told : tells
   pub from : IsDoneFrom names line change was site old
   pub apart : none_clash was.told ≡ true
-  pub may : MayAnswer run stage (asked_by line) asked l first points names was (Some g) began old
+  pub may : MayAnswer run stage line asked l first points names was (Some g) began old
   pub fails : FailByCounts site.failed next.failed old.faults new.faults
   pub up : NoneFalls old new
   pub cover : RisesCover run began new
@@ -93,7 +92,7 @@ pub record IsLoggedIn (tells : Type 0) (run : Run) (stage : Stage) (asked : Aske
 
 -- A line's points were passed, with hits behind its command, up to the site's point.
 --   leg: the leg of the stage behind the line is there, if the command is no end that is accepted
-pub record IsLinePassed (run : Run) (stage : Stage) (line : TimedCommand) (asked : Asked) (l : Leg) (site : SiteState) (began old new : PlantState) : Type 0 where
+pub record IsLinePassed (run : Run) (stage : Stage) (line : Line) (asked : Asked) (l : Leg) (site : SiteState) (began old new : PlantState) : Type 0 where
   pub more : List PassedPoint
   pub hits : List Timed
   pub passes : PassesPointsOn run stage asked l more None old new
@@ -105,16 +104,13 @@ pub record IsLinePassed (run : Run) (stage : Stage) (line : TimedCommand) (asked
 
 module _ (tells : Type 0) (run : Run) (stage : Stage) (asked : Asked) (l : Leg) (first : Point) (points : List PassedPoint) (names : Naming) (line : Line) (change : Change) (was site next : SiteState) (began old new : PlantState) (g : Group)
     (h : IsLoggedIn tells run stage asked l first points names line change was site next began old new g) where
-  abbrev tl : TimedCommand
-  tl = asked_by line
-
   abbrev cut : ℕ
   cut = line.time.0
 
   goes : was.table.is_ended ≡ false
   goes = was_goes names line change was site old h.from
 
-  active : MayTakeEffect run tl l × IsAtWork run asked l × (names ≡ names_at tl.time (breaks_of run) (names_of run))
+  active : MayTakeEffect run line l × IsAtWork run asked l × (names ≡ names_at line.time.0 (breaks_of run) (names_of run))
   active = h.may.active goes
 
   pub on : GoesOnFrom run first points was old g
@@ -139,9 +135,9 @@ module _ (tells : Type 0) (run : Run) (stage : Stage) (asked : Asked) (l : Leg) 
   }
 
   -- Its rows behind the command are those of the command's point.
-  left_rows : (commanded_point run tl l.point).rows ≡ site.table.rows
+  left_rows : (commanded_point run line l.point).rows ≡ site.table.rows
   left_rows =
-      ap (λ (t : Table). (table_after (names_at tl.time (breaks_of run) (names_of run)) t tl.session tl.command tl.time).rows) (sym table_here)
+      ap (λ (t : Table). (table_after (names_at line.time.0 (breaks_of run) (names_of run)) t line.session line.command line.time.0).rows) (sym table_here)
       ∙ ap (λ (n : Naming). (table_after n was.table line.session line.command cut).rows) (sym active.2)
       ∙ ap (λ (s : SiteState). s.table.rows) (sym h.from.site_is)
 
@@ -164,16 +160,16 @@ module _ (tells : Type 0) (run : Run) (stage : Stage) (asked : Asked) (l : Leg) 
   hit = hit_now next.failed l.point.rows
 
   abbrev command : NextPoint
-  command = next_command run l tl failed
+  command = next_command run l line failed
 
   abbrev mark : NextPoint
   mark = next_mark run l hit
 
   abbrev quiet : NextPoint
-  quiet = next_quiet run l tl
+  quiet = next_quiet run l line
 
   abbrev hits : List Timed
-  hits = command_hits run l tl failed
+  hits = command_hits run l line failed
 
   -- ---- counts
 
@@ -252,7 +248,7 @@ module _ (tells : Type 0) (run : Run) (stage : Stage) (asked : Asked) (l : Leg) 
   stays all = rows_unwritten tells h.told old new h.volumes all
 
   meant_here : MayBeMeant run stage l.point
-  meant_here = here_meant run stage asked l tl h.may.at.leg h.may.heard h.may.asked_is active.1 active.0 (counts l counted_here)
+  meant_here = here_meant run stage asked l line h.may.at.leg h.may.heard h.may.asked_is active.1 active.0 (counts l counted_here)
 
   flag_here : l.point.is_ended ≡ was.mark.ended
   flag_here = ap (λ (p : Point). p.is_ended) here
@@ -265,7 +261,7 @@ module _ (tells : Type 0) (run : Run) (stage : Stage) (asked : Asked) (l : Leg) 
   command_rows = λ i. rows_with_hits (sym site_level i) (time_here i) failed (left_rows i)
 
   module _ (some : changed_items change site.table.rows ≢ []) where
-    differ : (command_left run l tl).rows ≡ l.point.rows → ⊥
+    differ : (command_left run l line).rows ≡ l.point.rows → ⊥
     differ same = rows_altered names line change was site old h.from h.apart some (sym left_rows ∙ same ∙ rows_here)
 
     -- ---- a record alone
@@ -289,7 +285,7 @@ module _ (tells : Type 0) (run : Run) (stage : Stage) (asked : Asked) (l : Leg) 
         behind (suc (suc n)) few = absurd (omega (arith, few))
 
     alone_ahead : AreAhead run stage asked l (command ∷ [])
-    alone_ahead = command_ahead run stage asked l tl h.may.at.leg h.may.heard h.may.asked_is active.1 active.0 failed differ (counts (leg_next l command) command_counts)
+    alone_ahead = command_ahead run stage asked l line h.may.at.leg h.may.heard h.may.asked_is active.1 active.0 failed differ (counts (leg_next l command) command_counts)
 
     -- ---- a mark before it
 
@@ -345,7 +341,7 @@ module _ (tells : Type 0) (run : Run) (stage : Stage) (asked : Asked) (l : Leg) 
 
     both_ahead : AreAhead run stage asked l (mark ∷ command ∷ [])
     both_ahead =
-        command_behind_mark run stage asked l tl h.may.at.leg h.may.heard h.may.asked_is active.1 active.0 failed hit refl differ stand (counts l counted_here)
+        command_behind_mark run stage asked l line h.may.at.leg h.may.heard h.may.asked_is active.1 active.0 failed hit refl differ stand (counts l counted_here)
         (counts (record l { marked = marked_changes l.point.time hit }) marked_counts) (counts (leg_next (record l { marked = marked_changes l.point.time hit }) command) behind_counts)
 
     -- ---- they begin
@@ -404,16 +400,16 @@ module _ (tells : Type 0) (run : Run) (stage : Stage) (asked : Asked) (l : Leg) 
       never : is_query line.command ≡ true → hits ≡ []
       never query = absurd (some (quiet_command query))
 
-      passed_alone : DoesDeeds e site.told (alone some) old new → Keep (alone some) → IsLinePassed run stage tl asked l next began old new
+      passed_alone : DoesDeeds e site.told (alone some) old new → Keep (alone some) → IsLinePassed run stage line asked l next began old new
       passed_alone did are = record {
         more = passed_by (moment.0 ∷ []) (command ∷ []);
         hits = hits;
         passes = subst (λ (moments : List ℕ). PassesPointsOn run stage asked l (passed_by moments (command ∷ [])) None old new) moment.1
             (done_passes old new b stage asked l site.told (alone some) (command ∷ []) (told_alone some) (way_alone some) here (before (alone some) are) (alone_are some) (refl, (λ t. refl), tt) (alone_ahead some) stays did);
-        by = command_is_of_line run l tl failed moment.0;
+        by = command_is_of_line run l line failed moment.0;
         point = there;
         counted = command_counts;
-        leg = leg_then run stage asked l tl h.may.at.leg h.may.heard h.may.asked_is active.1 active.0 failed (differ some);
+        leg = leg_then run stage asked l line h.may.at.leg h.may.heard h.may.asked_is active.1 active.0 failed (differ some);
         unhit = never;
       }
         where
@@ -425,33 +421,33 @@ module _ (tells : Type 0) (run : Run) (stage : Stage) (asked : Asked) (l : Leg) 
           subst (λ (x : Leg). AreHitsOfFaults (leg_next x command) began new) (λ i. record l { changes = sym (append-nil l.changes) i; marked = sym active.1.none_marked i }) are
       behind_mark (d ∷ hs) are = are
 
-      passed_both : DoesDeeds e site.told (both some) old new → Keep (both some) → IsLinePassed run stage tl asked l next began old new
+      passed_both : DoesDeeds e site.told (both some) old new → Keep (both some) → IsLinePassed run stage line asked l next began old new
       passed_both did are = record {
         more = passed_by (moments.0 ∷ moments.1 ∷ []) (mark ∷ command ∷ []);
         hits = hits;
         passes = subst (λ (times : List ℕ). PassesPointsOn run stage asked l (passed_by times (mark ∷ command ∷ [])) None old new) moments.2
             (done_passes old new b stage asked l site.told (both some) (mark ∷ command ∷ []) (told_both some) (way_both some) here (before (both some) are) (both_are some) (refl, (λ t. refl), (refl, (λ t. refl), tt)) (both_ahead some) stays did);
-        by = both_are_of_line run l tl failed hit moments.0 moments.1;
+        by = both_are_of_line run l line failed hit moments.0 moments.1;
         point = there;
         counted = behind_mark hit behind_counts;
-        leg = leg_then_behind_mark run stage asked l tl h.may.at.leg h.may.heard h.may.asked_is active.1 active.0 failed hit (differ some) (stand some);
+        leg = leg_then_behind_mark run stage asked l line h.may.at.leg h.may.heard h.may.asked_is active.1 active.0 failed hit (differ some) (stand some);
         unhit = never;
       }
         where
           moments : (t : ℕ) × (u : ℕ) × (did.moments ≡ t ∷ u ∷ [])
           moments = two_moments did.moments did.each
 
-    passed_quiet : changed_items change site.table.rows ≡ [] → IsLinePassed run stage tl asked l next began old new
+    passed_quiet : changed_items change site.table.rows ≡ [] → IsLinePassed run stage line asked l next began old new
     passed_quiet none = record {
       more = passed_by (old.clock ∷ []) (quiet ∷ []);
       hits = [];
       passes = subst (λ (plant : PlantState). PassesPointsOn run stage asked l (passed_by (old.clock ∷ []) (quiet ∷ [])) None old plant) (sym (same_plant (logs.nothing none).2))
           (quiet_passes old run stage asked l (subst (λ (p : Point). AtNow (ShowsPoint run (shape_of old) p) old) (sym here) h.may.at.shows) quiet still
-          (quiet_ahead run stage asked l tl h.may.at.leg h.may.heard h.may.asked_is active.1 active.0 (counts (leg_next l quiet) quiet_counts)));
-      by = quiet_is_of_line run l tl old.clock;
+          (quiet_ahead run stage asked l line h.may.at.leg h.may.heard h.may.asked_is active.1 active.0 (counts (leg_next l quiet) quiet_counts)));
+      by = quiet_is_of_line run l line old.clock;
       point = point_there quiet.point.rows (left_rows ∙ unaltered ∙ sym told_still);
       counted = quiet_counts;
-      leg = quiet_leg_then run stage asked l tl h.may.at.leg h.may.heard h.may.asked_is active.1 active.0;
+      leg = quiet_leg_then run stage asked l line h.may.at.leg h.may.heard h.may.asked_is active.1 active.0;
       unhit = λ query. refl;
     }
       where
@@ -465,9 +461,9 @@ module _ (tells : Type 0) (run : Run) (stage : Stage) (asked : Asked) (l : Leg) 
         still = λ i. record l.point { rows = (left_rows ∙ unaltered ∙ sym rows_here) i }
 
     -- The points of the line are passed.
-    pub line_passed : IsLinePassed run stage tl asked l next began old new
+    pub line_passed : IsLinePassed run stage line asked l next began old new
     line_passed =
-        deeds_cases tells cut change site next old new (Ok tt) does (λ deeds. DoesDeeds e site.told deeds old new → Keep deeds → IsLinePassed run stage tl asked l next began old new)
+        deeds_cases tells cut change site next old new (Ok tt) does (λ deeds. DoesDeeds e site.told deeds old new → Keep deeds → IsLinePassed run stage line asked l next began old new)
         (λ none did are. passed_quiet none) (λ some. passed_alone some) (λ some. passed_both some) (does.does h.told e site_stands) (keep (Ok tt) does)
 
     -- ---- what stands behind them

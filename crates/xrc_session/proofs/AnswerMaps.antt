@@ -16,9 +16,9 @@ use Rattle.pair_table.specs.Commands.{change_of, rows_after}
 use Rattle.pair_table.specs.Devices.{is_among}
 use Rattle.pair_table.specs.Naming.{Naming}
 use Rattle.pair_table.specs.Refusals.{is_pair}
-use Rattle.pair_table.specs.Tables.{in_state, is_of, none_clash}
+use Rattle.pair_table.specs.Tables.{in_state, is_of}
 use Rattle.group_state.specs.Groups.{Group}
-use Rattle.row_changes.specs.Changes.{RowChange, Timed, after_change, after_changes, hit_row, row_after_change, since}
+use Rattle.row_changes.specs.Changes.{RowChange, Timed, after_change, after_changes, hit_row, since}
 use Rattle.row_changes.specs.Changes.RowChange.{Break, Hit, MarkedHit, Mature, Reached}
 use Rattle.row_changes.specs.Toward.{hit_count, hits}
 use Rattle.record_rows.specs.Hits.{is_device_suspended}
@@ -29,7 +29,7 @@ use Rattle.site_store.specs.Sites.{SiteState}
 use Rattle.consistency.specs.Bears.{Run, breaks_of}
 use Rattle.consistency.specs.Leads.{MarkedHitsLead, Point, is_marked_at}
 use Rattle.consistency.specs.Owing.{has_pair_in, is_same_state}
-use Rattle.consistency.specs.Ways.{ComesBy, ComesNext, IsAtWork, IsCommanding, Leg, PassedPoint, Way, leg_after, leg_by}
+use Rattle.consistency.specs.Ways.{ComesNext, IsAtWork, IsCommanding, Leg, PassedPoint, Way, leg_after, leg_by}
 use Rattle.consistency.specs.Ways.Way.{Commanded, Ending, MarkedFor, OnTheWay}
 use Rattle.consistency.proofs.Hits.{no_other}
 use Rattle.consistency.proofs.Marked.{marked_rows_stand}

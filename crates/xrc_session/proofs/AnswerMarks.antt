@@ -1,15 +1,18 @@
 -- A mark in a run passes its point, by which the session ends or goes on.
 use Rattle.std.proofs.Common.{◌≡◌, ℕ, zero, suc, ◌≤◌, Bool, true, false, not, List, [], ◌∷◌, length, take, Option, Some, None, Result, Ok, refl, sym, ap, subst, ◌∙◌, arith, true≢false}
-use Rattle.std.specs.Prelude.{IfSome, is_none}
+use Rattle.std.specs.Prelude.{IfSome, IsTrue, is_none}
+use Rattle.std.specs.List.{list_all}
 use Rattle.crash_plant.specs.Choices.{AtNow}
 use Rattle.crash_plant.specs.Moments.{PlantState}
 use Rattle.pair_table.specs.declared.level.Level.{Level}
 use Rattle.pair_table.specs.declared.row.PairRow.{PairRow}
 use Rattle.row_changes.specs.Changes.{Timed, may_end}
+use Rattle.row_changes.specs.Toward.{is_hit_at}
 use Rattle.record_rows.specs.Deeds.{Deed}
 use Rattle.record_rows.specs.Deeds.Deed.{Marked}
 use Rattle.record_rows.specs.Hits.{hit_changes, hit_now}
 use Rattle.site_means.specs.Images.{shape_of}
+use Rattle.xrc_command.specs.declared.line.Line.{Line}
 use Rattle.site_store.specs.declared.store_error.StoreError.{StoreError}
 use Rattle.site_store.specs.Between.{IsSiteIdle}
 use Rattle.site_store.specs.Causes.{FailByCounts}
@@ -19,7 +22,6 @@ use Rattle.site_store.specs.Sites.{SiteState}
 use Rattle.consistency.specs.Bears.{IsTime, Run, Stage, accepts_end, breaks_of}
 use Rattle.consistency.specs.Bearing.{MayBeMeant, ShowsPoint}
 use Rattle.consistency.specs.Leads.{HitsLead, Point}
-use Rattle.consistency.specs.Steps.{TimedCommand}
 use Rattle.consistency.specs.Ways.{ComesBy, HasCountedHits, IsAtWork, IsCommanding, IsEnding, IsLegOf, IsToEnd, Leg, PassedPoint, Way, leg_after, leg_by, leg_to, table_at}
 use Rattle.consistency.specs.Ways.Way.{Commanded, Ending}
 use Rattle.consistency.proofs.CountingHits.{command_is_counted, end_is_counted, leg_is_counted}
@@ -71,7 +73,7 @@ told_are ended failed site = record { first = refl; behind = behind }
 
 -- ---- it comes next
 
--- A mark's point comes next at a leg, may be meant, and each of its hits has a fault.
+-- A mark's point comes next at a leg, may be meant, and each of its hits has a fault and comes at the leg's time.
 pub record IsMarkNext (run : Run) (stage : Stage) (asked : Asked) (l : Leg) (ended : Bool) (failed : List Bool) (site : SiteState) (began new : PlantState) : Type 0 where
   pub line : ℕ
   pub comes : ComesBy run asked l (marked_point ended failed site) (way_of_mark ended line (marked_hits failed site))
@@ -79,6 +81,7 @@ pub record IsMarkNext (run : Run) (stage : Stage) (asked : Asked) (l : Leg) (end
   pub counted : AreHitsOfFaults (leg_next l (marked_next ended line failed site)) began new
   pub here_meant : MayBeMeant run stage l.point
   pub point : (leg_next l (marked_next ended line failed site)).point ≡ marked_point ended failed site
+  pub are_hits : IsTrue (list_all (is_hit_at l.point.time) (marked_hits failed site))
 
 module _ (run : Run) (stage : Stage) (asked : Asked) (l : Leg) (failed : List Bool) (site : SiteState) (began old new : PlantState) (here : l.point ≡ site_point site) (of_run : IsSiteOfRun run site) (up : NoneFalls old new)
     (before : AreHitsOfFaults l began old) (cover : RisesCover run began new) (own : AreOfFaults (marked_hits failed site) old new) where
@@ -101,7 +104,7 @@ module _ (run : Run) (stage : Stage) (asked : Asked) (l : Leg) (failed : List Bo
     time_here : (time : ℕ) → time ≡ stage.replied → IsTime stage time
     time_here time is = (omega (arith, is), timed stage.next heard)
       where
-        timed : (n : Option TimedCommand) → n ≡ None → (let T : Type 0 = elim n [ None ↦ time ≡ stage.replied | Some m ↦ elim stage.table.is_ended [ true ↦ time ≡ stage.replied | false ↦ time ≤ m.time ] ] in T)
+        timed : (n : Option Line) → n ≡ None → (let T : Type 0 = elim n [ None ↦ time ≡ stage.replied | Some m ↦ elim stage.table.is_ended [ true ↦ time ≡ stage.replied | false ↦ time ≤ m.time.0 ] ] in T)
         timed None none = is
         timed (Some m) none = absurd cc
 
@@ -113,6 +116,7 @@ module _ (run : Run) (stage : Stage) (asked : Asked) (l : Leg) (failed : List Bo
       counted = counted;
       here_meant = leg_may_be_meant run stage goes l leg (time_here l.point.time at) (leg_is_counted run stage l leg counts) (ap (λ (p : Point). may_end (not (is_none stage.next)) p.time p.due) here);
       point = refl;
+      are_hits = (lead false at_work.goes_on).are_hits;
     }
       where
         q : Point
@@ -142,8 +146,8 @@ module _ (run : Run) (stage : Stage) (asked : Asked) (l : Leg) (failed : List Bo
     here_goes : l.point.is_ended ≡ false
     here_goes = (commanding.active from_goes).leads.leads.goes_on ∙ from_goes
 
-    at_line : IfSome stage.next (λ line. l.point.time ≡ line.time)
-    at_line = subst (λ (o : Option TimedCommand). IfSome o (λ line. l.point.time ≡ line.time)) (sym commanding.heard) (let effect = commanding.active from_goes in effect.leads.at ∙ effect.may.at)
+    at_line : IfSome stage.next (λ line. l.point.time ≡ line.time.0)
+    at_line = subst (λ (o : Option Line). IfSome o (λ line. l.point.time ≡ line.time.0)) (sym commanding.heard) (let effect = commanding.active from_goes in effect.leads.at ∙ effect.may.at)
 
     ending : IsEnding run stage.next l.point (marked_point true failed site) (marked_hits failed site)
     ending = record { accepted = accepted; at = at_line; ended = refl; leads = lead false here_goes }
@@ -154,12 +158,13 @@ module _ (run : Run) (stage : Stage) (asked : Asked) (l : Leg) (failed : List Bo
     at_end : IsMarkNext run stage asked l true failed site began new
     at_end = record {
       line = number;
-      comes = (to_end, subst (λ (o : Option TimedCommand). IsEnding run o l.point q hits) (sym asked_is) ending);
+      comes = (to_end, subst (λ (o : Option Line). IsEnding run o l.point q hits) (sym asked_is) ending);
       meant = ending_may_be_meant run stage stage_goes from l.point q behind hits leg commanding ending
           (end_is_counted run stage from leg l.point q number behind hits (subst (λ (x : Leg). HasCountedHits run (leg_by x q (Ending number hits))) is (counted_hits run (leg_by l q (Ending number hits)) began new counted cover)));
       counted = counted;
       here_meant = command_may_be_meant run stage stage_goes from l.point behind leg commanding (command_is_counted run stage from leg l.point number behind (subst (HasCountedHits run) is counts));
       point = refl;
+      are_hits = ending.leads.are_hits;
     }
       where
         q : Point
@@ -223,7 +228,7 @@ module _ (tells : Type 0) (told : tells) (site next : SiteState) (ended : Bool) 
 
   -- Where it counts it is passed.
   pub mark_passes : {P : Type 0} (was is : P) → Marks site next ended was is (Ok tt) → DoesMark tells site next ended old new (Ok tt) → EndsMark run stage asked l ended next began old new (Ok tt)
-  mark_passes was is marks does = (n, (found.line, (marked_hits next.failed site, refl)), passes, record { here = here; shows = shows; counted = found.counted })
+  mark_passes was is marks does = (n, (found.line, (marked_hits next.failed site, refl, found.are_hits)), passes, record { here = here; shows = shows; counted = found.counted })
     where
       done : DoesDeeds may.rows.excepted site.told deeds old new
       done = (idle_marks_except_no_more old new may.rows.excepted site site.told deeds idle.may.idle).0 (does.does told may.rows.excepted may.rows.stands)

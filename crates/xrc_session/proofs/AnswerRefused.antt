@@ -16,13 +16,14 @@ use Rattle.row_changes.specs.Changes.{Timed}
 use Rattle.row_changes.specs.Changes.Due.{NoneDue}
 use Rattle.group_state.specs.Groups.{Group}
 use Rattle.site_means.specs.Images.{shape_of}
+use Rattle.xrc_command.specs.declared.line.Line.{Line}
 use Rattle.site_store.specs.Sites.{SiteState}
 use Rattle.consistency.specs.Answering.{answered_by, reply_content}
 use Rattle.consistency.specs.Bears.{Run, Stage, accepts_end, breaks_of, names_of}
 use Rattle.consistency.specs.Bearing.{MayBeMeant, ShowsPoint}
 use Rattle.consistency.specs.Courses.{replied_after}
 use Rattle.consistency.specs.Leads.{LeadsWhole, Point}
-use Rattle.consistency.specs.Steps.{TimedCommand, names_at, table_after_line, table_on_the_way}
+use Rattle.consistency.specs.Steps.{names_at, table_after_line, table_on_the_way}
 use Rattle.consistency.specs.Ways.{HasCountedHits, IsAtWork, IsCommanding, IsLegOf, Leg, MayTakeEffect, PassedPoint, hits_stand, is_ending, last_answered, leg_by, stage_point, table_at}
 use Rattle.consistency.specs.Ways.Way.{Commanded}
 use Rattle.consistency.proofs.CountingHits.{counted_through}
@@ -44,20 +45,20 @@ use Rattle.xrc_session.proofs.LastPoints.{last_rows_then}
 use Rattle.xrc_session.proofs.AnswerTells.{ended_answer, owes_still, refused_end, refused_tells, table_of_leg}
 
 -- A command that is answered with a refusal is refused for it, and leaves the table.
-pub refused_by : (names : Naming) (table : Table) (line : TimedCommand) (why : Refusal) → answer names table line.session line.command ≡ Err why → refusal names table line.session line.command ≡ Some why
+pub refused_by : (names : Naming) (table : Table) (line : Line) (why : Refusal) → answer names table line.session line.command ≡ Err why → refusal names table line.session line.command ≡ Some why
 refused_by names table line why is = by_refusal (refusal names table line.session line.command) is
   where
     by_refusal : (o : Option Refusal) → answer_by o (change_of names line.command table.rows) ≡ Err why → o ≡ Some why
     by_refusal None is = absurd cc
     by_refusal (Some other) is = let same : other ≡ why = cc in ap (λ (r : Refusal). Some r) same
 
-pub refused_stays : (names : Naming) (table : Table) (line : TimedCommand) (why : Refusal) → refusal names table line.session line.command ≡ Some why → table_after names table line.session line.command line.time ≡ table
-refused_stays names table line why is = λ i. if is_none (is i) then accepted names line.time line.command table else table
+pub refused_stays : (names : Naming) (table : Table) (line : Line) (why : Refusal) → refusal names table line.session line.command ≡ Some why → table_after names table line.session line.command line.time.0 ≡ table
+refused_stays names table line why is = λ i. if is_none (is i) then accepted names line.time.0 line.command table else table
 
 none_resumed : (why : Refusal) (device : ℕ) → (let r : Result Change Refusal = Err why in r ≡ Ok (Resumed device)) → ⊥
 none_resumed why device is = cc
 
-module _ (run : Run) (stage : Stage) (line : TimedCommand) (asked : Asked) (l : Leg) (first : Point) (points : List PassedPoint) (names : Naming) (site : SiteState) (group : Option Group) (began plant : PlantState)
+module _ (run : Run) (stage : Stage) (line : Line) (asked : Asked) (l : Leg) (first : Point) (points : List PassedPoint) (names : Naming) (site : SiteState) (group : Option Group) (began plant : PlantState)
     (m : MayAnswer run stage line asked l first points names site group began plant) (cover : RisesCover run began plant) (flag : site.mark.ended ≡ site.table.is_ended) where
   here : l.point ≡ site_point site
   here = m.at.here
@@ -89,7 +90,7 @@ module _ (run : Run) (stage : Stage) (line : TimedCommand) (asked : Asked) (l : 
   -- ---- while the session goes on
 
   module _ (why : Refusal) (goes : site.table.is_ended ≡ false) (same : site.told ≡ site.table.rows) (started : site.table.is_started ≡ true) (refused : answer names site.table line.session line.command ≡ Err why) (g : Group) (on : GoesOnFrom run first points site plant g) where
-    active : MayTakeEffect run line l × IsAtWork run asked l × (names ≡ names_at line.time (breaks_of run) (names_of run))
+    active : MayTakeEffect run line l × IsAtWork run asked l × (names ≡ names_at line.time.0 (breaks_of run) (names_of run))
     active = m.active goes
 
     of_run : IsSiteOfRun run site
@@ -104,17 +105,17 @@ module _ (run : Run) (stage : Stage) (line : TimedCommand) (asked : Asked) (l : 
     }
 
     -- The run refuses it too.
-    refused_there : answer (names_at line.time (breaks_of run) (names_of run)) (table_at run l.point) line.session line.command ≡ Err why
+    refused_there : answer (names_at line.time.0 (breaks_of run) (names_of run)) (table_at run l.point) line.session line.command ≡ Err why
     refused_there = (λ i. answer (sym active.2 i) (sym table_here i) line.session line.command) ∙ refused
 
-    refuses : refusal (names_at line.time (breaks_of run) (names_of run)) (table_at run l.point) line.session line.command ≡ Some why
-    refuses = refused_by (names_at line.time (breaks_of run) (names_of run)) (table_at run l.point) line why refused_there
+    refuses : refusal (names_at line.time.0 (breaks_of run) (names_of run)) (table_at run l.point) line.session line.command ≡ Some why
+    refuses = refused_by (names_at line.time.0 (breaks_of run) (names_of run)) (table_at run l.point) line why refused_there
 
     abbrev quiet : NextPoint
     quiet = next_quiet run l line
 
     still : quiet.point ≡ l.point
-    still = λ i. record l.point { rows = (ap (λ (t : Table). t.rows) (refused_stays (names_at line.time (breaks_of run) (names_of run)) (table_at run l.point) line why refuses)) i }
+    still = λ i. record l.point { rows = (ap (λ (t : Table). t.rows) (refused_stays (names_at line.time.0 (breaks_of run) (names_of run)) (table_at run l.point) line why refuses)) i }
 
     none_accepted : accepts_end run (table_at run l.point) stage.next ≡ false
     none_accepted = ap (accepts_end run (table_at run l.point)) m.heard ∙ refused_end run (table_at run l.point) line (ap (λ (o : Option Refusal). is_none o) refuses)
@@ -147,8 +148,8 @@ module _ (run : Run) (stage : Stage) (line : TimedCommand) (asked : Asked) (l : 
         ending = λ ended unmarked. absurd (true≢false (sym ended ∙ sym flag ∙ unmarked));
         unhit = λ reported. refl;
         tells = λ text reply. let content = reply_content run stage first (points ++ passed_by (plant.clock ∷ []) (quiet ∷ [])) l.answered (answered_by run stage text reply line l.changes []) in record {
-          is = (λ i. answer (names_at line.time (breaks_of run) (names_of run)) (sym way_rows i) line.session line.command) ∙ refused_there;
-          tracks = refused_tells line.command content.answer why ((λ i. answer (names_at line.time (breaks_of run) (names_of run)) (sym way_rows i) line.session line.command) ∙ refused_there) content.tracks 0;
+          is = (λ i. answer (names_at line.time.0 (breaks_of run) (names_of run)) (sym way_rows i) line.session line.command) ∙ refused_there;
+          tracks = refused_tells line.command content.answer why ((λ i. answer (names_at line.time.0 (breaks_of run) (names_of run)) (sym way_rows i) line.session line.command) ∙ refused_there) content.tracks 0;
         };
         goes_on = λ on_still. goes_on_still;
         wants = λ device is. absurd (none_resumed why device is);
@@ -193,13 +194,13 @@ module _ (run : Run) (stage : Stage) (line : TimedCommand) (asked : Asked) (l : 
     table_stays : (table_after_line run.level (breaks_of run) (names_of run) stage.table line l.changes []) ≡ stage.table
     table_stays =
         (λ i. table_after_line run.level (breaks_of run) (names_of run) stage.table line (at_end.1 i) [])
-        ∙ refused_stays (names_at line.time (breaks_of run) (names_of run)) stage.table line Ended (refused_by (names_at line.time (breaks_of run) (names_of run)) stage.table line Ended (ended_answer (names_at line.time (breaks_of run) (names_of run)) stage.table line.session line.command stage_ended))
+        ∙ refused_stays (names_at line.time.0 (breaks_of run) (names_of run)) stage.table line Ended (refused_by (names_at line.time.0 (breaks_of run) (names_of run)) stage.table line Ended (ended_answer (names_at line.time.0 (breaks_of run) (names_of run)) stage.table line.session line.command stage_ended))
 
     abbrev then_stage : Stage
     then_stage = stage_then run stage line l []
 
     replied_there : replied_after stage line ≡ stage.replied
-    replied_there = ap (λ (b : Bool). if b then stage.replied else line.time) stage_ended
+    replied_there = ap (λ (b : Bool). if b then stage.replied else line.time.0) stage_ended
 
     point_then : stage_point then_stage ≡ l.point
     point_then = (λ i. record { time = replied_there i; rows = (table_stays i).rows; due = NoneDue; is_ended = (table_stays i).is_ended }) ∙ sym at_end.0
@@ -223,8 +224,8 @@ module _ (run : Run) (stage : Stage) (line : TimedCommand) (asked : Asked) (l : 
         ending = λ is unmarked. absurd (true≢false (sym is ∙ sym flag ∙ unmarked));
         unhit = λ reported. refl;
         tells = λ text reply. let content = reply_content run stage first (points ++ passed_by (plant.clock ∷ []) (end_next ∷ [])) l.answered (answered_by run stage text reply line l.changes []) in record {
-          is = ended_answer (names_at line.time (breaks_of run) (names_of run)) (table_on_the_way run.level l.changes stage.table) line.session line.command way_ended;
-          tracks = refused_tells line.command content.answer Ended (ended_answer (names_at line.time (breaks_of run) (names_of run)) (table_on_the_way run.level l.changes stage.table) line.session line.command way_ended) content.tracks 0;
+          is = ended_answer (names_at line.time.0 (breaks_of run) (names_of run)) (table_on_the_way run.level l.changes stage.table) line.session line.command way_ended;
+          tracks = refused_tells line.command content.answer Ended (ended_answer (names_at line.time.0 (breaks_of run) (names_of run)) (table_on_the_way run.level l.changes stage.table) line.session line.command way_ended) content.tracks 0;
         };
         goes_on = λ goes. absurd (true≢false (sym ended ∙ goes));
         wants = λ device is. absurd (none_resumed Ended device is);

@@ -19,6 +19,7 @@ use Rattle.record_rows.specs.Told.{InPlaces}
 use Rattle.site_means.specs.declared.means.Means.{Means}
 use Rattle.site_means.specs.Images.{shape_of}
 use Rattle.site_means.specs.Sight.{meant_by}
+use Rattle.xrc_command.specs.declared.line.Line.{Line}
 use Rattle.site_store.specs.Between.{IsSiteIdle}
 use Rattle.site_store.specs.Exceptions.{Exceptions}
 use Rattle.site_store.specs.Marking.{Marks}
@@ -29,7 +30,7 @@ use Rattle.site_store.proofs.Between.{may_mark}
 use Rattle.consistency.specs.Bears.{Run, accepts_end, breaks_of, names_of}
 use Rattle.consistency.specs.Bearing.{ShowsPoint}
 use Rattle.consistency.specs.Leads.{Point}
-use Rattle.consistency.specs.Steps.{TimedCommand, names_at}
+use Rattle.consistency.specs.Steps.{names_at}
 use Rattle.mover.specs.Epochs.{IsSamePair}
 use Rattle.mover.specs.Moves.{IsOfMover}
 use Rattle.mover.proofs.Pairs.{IsPairOf, changed_pair}
@@ -54,11 +55,11 @@ site_of_run run plant excepted site p stands shows some =
 -- ---- an end
 
 -- Once a session has ended no end is accepted.
-pub ended_accepts_none : (run : Run) (table : Table) (next : Option TimedCommand) → table.is_ended ≡ true → accepts_end run table next ≡ false
+pub ended_accepts_none : (run : Run) (table : Table) (next : Option Line) → table.is_ended ≡ true → accepts_end run table next ≡ false
 ended_accepts_none run table None ended = refl
 ended_accepts_none run table (Some line) ended = by_command line.command
   where
-    refused : (command : Command) → is_none (refusal (names_at line.time (breaks_of run) (names_of run)) table line.session command) ≡ false
+    refused : (command : Command) → is_none (refusal (names_at line.time.0 (breaks_of run) (names_of run)) table line.session command) ≡ false
     refused command = rw ended refl
 
     by_command : (command : Command) → accepts_end run table (Some (record line { command = command })) ≡ false

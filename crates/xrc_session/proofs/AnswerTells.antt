@@ -20,12 +20,13 @@ use Rattle.pair_table.specs.Rows.{is_suspended, state_numbers}
 use Rattle.pair_table.specs.Tables.{Table, is_of, none_clash}
 use Rattle.passages.specs.Points.{AreLinked}
 use Rattle.row_changes.specs.Changes.{Timed, after_changes}
+use Rattle.xrc_command.specs.declared.line.Line.{Line}
 use Rattle.consistency.specs.Answering.{is_command_of, points_before, tracks_of_command}
 use Rattle.consistency.specs.Bears.{Run, Stage, accepts, accepts_end, tracks_of_row}
 use Rattle.consistency.specs.Leads.{Point}
 use Rattle.consistency.specs.Owing.{has_pair_in, is_same_state, owes_in, owes_track, tracks_asked, was_duplex}
 use Rattle.consistency.specs.Replying.{told_tracks}
-use Rattle.consistency.specs.Steps.{TimedCommand, table_on_the_way}
+use Rattle.consistency.specs.Steps.{table_on_the_way}
 use Rattle.consistency.specs.Ways.{ComesBy, ComesNext, IsLegOf, Leg, PassedPoint, Way, leg_after, leg_by, table_at}
 use Rattle.consistency.specs.Ways.Way.{Commanded, MarkedFor, OnTheWay}
 use Rattle.mover.specs.Working.{Asked}
@@ -51,21 +52,21 @@ ended_answer names table session command ended = rw ended refl
 
 -- ---- an end
 
-pub no_end : (run : Run) (table : Table) (line : TimedCommand) → is_end line.command ≡ false → accepts_end run table (Some line) ≡ false
+pub no_end : (run : Run) (table : Table) (line : Line) → is_end line.command ≡ false → accepts_end run table (Some line) ≡ false
 no_end run table line none = by_flag (is_end line.command) none
   where
     by_flag : (b : Bool) → b ≡ false → (let a : Bool = elim b [ true ↦ accepts run table line | false ↦ false ] in a) ≡ false
     by_flag true none = absurd (true≢false none)
     by_flag false none = refl
 
-pub refused_end : (run : Run) (table : Table) (line : TimedCommand) → accepts run table line ≡ false → accepts_end run table (Some line) ≡ false
+pub refused_end : (run : Run) (table : Table) (line : Line) → accepts run table line ≡ false → accepts_end run table (Some line) ≡ false
 refused_end run table line none = by_flag (is_end line.command)
   where
     by_flag : (b : Bool) → (let a : Bool = elim b [ true ↦ accepts run table line | false ↦ false ] in a) ≡ false
     by_flag true = none
     by_flag false = refl
 
-pub accepted_end : (run : Run) (table : Table) (line : TimedCommand) → is_end line.command ≡ true → accepts run table line ≡ true → accepts_end run table (Some line) ≡ true
+pub accepted_end : (run : Run) (table : Table) (line : Line) → is_end line.command ≡ true → accepts run table line ≡ true → accepts_end run table (Some line) ≡ true
 accepted_end run table line is accepted = by_flag (is_end line.command) is
   where
     by_flag : (b : Bool) → b ≡ true → (let a : Bool = elim b [ true ↦ accepts run table line | false ↦ false ] in a) ≡ true

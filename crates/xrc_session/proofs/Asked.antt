@@ -8,12 +8,12 @@ use Rattle.std.proofs.lemmas.List.{length_push}
 use Rattle.std.proofs.lemmas.List.Elements.{All-cons, All-nil}
 use Rattle.std.proofs.lemmas.Option.{slice_get_past}
 use Rattle.row_changes.specs.Changes.{Timed}
+use Rattle.xrc_command.specs.declared.line.Line.{Line}
 use Rattle.consistency.specs.Answering.{is_command_of, points_before}
 use Rattle.consistency.specs.Bears.{Run, accepts_end}
 use Rattle.consistency.specs.Between.{asked_in}
 use Rattle.consistency.specs.Courses.{Answered}
 use Rattle.consistency.specs.Leads.{Point}
-use Rattle.consistency.specs.Steps.{TimedCommand}
 use Rattle.consistency.specs.Ways.{ComesBy, ComesNext, IsAtWork, IsEnding, Leg, PassedPoint, Way, is_ending, last_answered, leg_after, leg_by, table_at}
 use Rattle.consistency.specs.Ways.Way.{Commanded, Ending, MarkedFor, OnTheWay}
 use Rattle.consistency.proofs.Lines.{last_at}
@@ -34,10 +34,10 @@ before_last (x ∷ lines) a (suc n) below = before_last lines a n (omega (arith,
 pub none_behind : (lines : List Answered) (n : ℕ) → length lines ≤ n → asked_in lines n ≡ None
 none_behind lines n past = ap (option_map (λ a. a.line)) (slice_get_past lines n past)
 
-pub asked_there : (lines : List Answered) (next : Option TimedCommand) (n : ℕ) → n ≡ length lines → asked_with lines next n ≡ next
+pub asked_there : (lines : List Answered) (next : Option Line) (n : ℕ) → n ≡ length lines → asked_with lines next n ≡ next
 asked_there lines next n is = cond-true (n == length lines) next (asked_in lines n) (eq-eqb n (length lines) is)
 
-asked_else : (lines : List Answered) (next : Option TimedCommand) (n : ℕ) → ¬ (n ≡ length lines) → asked_with lines next n ≡ asked_in lines n
+asked_else : (lines : List Answered) (next : Option Line) (n : ℕ) → ¬ (n ≡ length lines) → asked_with lines next n ≡ asked_in lines n
 asked_else lines next n differ = cond-false (n == length lines) next (asked_in lines n) (ne_eqb n (length lines) differ)
 
 -- The line behind others is asked there, and then it is one of them.
@@ -77,7 +77,7 @@ asked_of_none lines = λ i n. at n i
             none false is = sym is
 
 -- None is asked behind it.
-pub asked_number : (lines : List Answered) (line : TimedCommand) (n : ℕ) → length lines ≤ n → asked_with lines (Some line) n ≡ Some line → n ≡ length lines
+pub asked_number : (lines : List Answered) (line : Line) (n : ℕ) → length lines ≤ n → asked_with lines (Some line) n ≡ Some line → n ≡ length lines
 asked_number lines line n le is = by_side (cases_lt (length lines) n)
   where
     by_side : (length lines < n) ⊎ (n ≤ length lines) → n ≡ length lines
@@ -87,7 +87,7 @@ asked_number lines line n le is = by_side (cases_lt (length lines) n)
     by_side (inr up) = omega (arith, le, up)
 
 -- Lines before are asked alike, whatever was heard of the next one.
-pub asked_alike : (lines : List Answered) (next other : Option TimedCommand) (n : ℕ) → n < length lines → asked_with lines other n ≡ asked_with lines next n
+pub asked_alike : (lines : List Answered) (next other : Option Line) (n : ℕ) → n < length lines → asked_with lines other n ≡ asked_with lines next n
 asked_alike lines next other n below = asked_else lines other n differ ∙ sym (asked_else lines next n differ)
   where
     differ : ¬ (n ≡ length lines)
@@ -129,7 +129,7 @@ module _ (run : Run) (asked other : Asked) (m : ℕ) (same : (k : ℕ) → k < m
       (way.0, same_ending run asked other l m le same ∙ way.1, record { line = way.2.line; heard = here ∙ way.2.heard; stand = way.2.stand; recorded = way.2.recorded; active = way.2.active; ended = way.2.ended })
   link_back l q (Ending line hits) le marked up way =
       let here = same line (omega (arith, le, way.0.last)) in
-      (way.0, subst (λ (o : Option TimedCommand). IsEnding run o l.point q hits) (sym here) way.1)
+      (way.0, subst (λ (o : Option Line). IsEnding run o l.point q hits) (sym here) way.1)
 
 -- The number of the lines behind a mark that a command's record needs, if a point comes behind it.
 pub marked_below : (run : Run) (asked : Asked) (l : Leg) (n : PassedPoint) (points : List PassedPoint) → (fold leg_after l (n ∷ points)).marked ≡ [] → AreLinked (ComesNext run asked) leg_after l (n ∷ points)

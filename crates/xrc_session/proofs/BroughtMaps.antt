@@ -4,6 +4,7 @@ use Rattle.crash_plant.specs.Moments.{PlantState}
 use Rattle.pair_table.specs.declared.level.Level.{Level}
 use Rattle.pair_table.specs.declared.row.PairRow.{PairRow}
 use Rattle.pair_table.specs.Tables.{none_clash}
+use Rattle.xrc_command.specs.declared.line.Line.{Line}
 use Rattle.group_state.specs.Groups.{Group}
 use Rattle.record_rows.specs.Deeds.{rows_by_deed}
 use Rattle.passages.specs.Points.{last_point}
@@ -11,7 +12,6 @@ use Rattle.site_store.specs.DeedChanges.{DeedOfChanges, deeds_of}
 use Rattle.site_store.specs.Sites.{SiteState}
 use Rattle.consistency.specs.Bears.{breaks_of}
 use Rattle.consistency.specs.Leads.{Point}
-use Rattle.consistency.specs.Steps.{TimedCommand}
 use Rattle.consistency.specs.Ways.{PassedPoint}
 use Rattle.fed_logs.specs.Logs.{BeginsLog}
 use Rattle.mover.specs.declared.ends.EpochEnd.TheVariants as ends
@@ -47,13 +47,13 @@ rows_by limit breaks level p (t ∷ moments) (step ∷ steps) each =
 
 -- ---- an epoch of a run
 
-module _ {S : Type 0} (tells : Type 0) (left : S → Option (List ℕ)) (faults : S → ℕ) (was is : PlantState) (so : RunSoFar) (line : TimedCommand) (group next : Group) (old new : List (Lane S)) (site after : SiteState)
-    (e : IsEpochOf tells left faults so line group old new site after was is (ends.Reached next)) (reached : ReachedBy tells left line.time group old new site next after is) where
+module _ {S : Type 0} (tells : Type 0) (left : S → Option (List ℕ)) (faults : S → ℕ) (was is : PlantState) (so : RunSoFar) (line : Line) (group next : Group) (old new : List (Lane S)) (site after : SiteState)
+    (e : IsEpochOf tells left faults so line group old new site after was is (ends.Reached next)) (reached : ReachedBy tells left line.time.0 group old new site next after is) where
   going : site.mark.ended ≡ false
   going = e.stands.has_site.goes_on
 
   -- It reached its limit.
-  abbrev reaches : ReachesLimit tells left faults line.time so.run group next old new site after was is
+  abbrev reaches : ReachesLimit tells left faults line.time.0 so.run group next old new site after was is
   reaches = record {
     goes = e.goes;
     reached = reached;
@@ -83,7 +83,7 @@ module _ {S : Type 0} (tells : Type 0) (left : S → Option (List ℕ)) (faults 
 
   -- The points are those of the epoch's deeds, with the silent breaks among their changes.
   abbrev pub points_of_epoch : (moments : List ℕ) → List PassedPoint
-  points_of_epoch moments = points_by so.run.level so.leg.point moments (all_silent line.time (breaks_of so.run) e.goes.ran.steps)
+  points_of_epoch moments = points_by so.run.level so.leg.point moments (all_silent line.time.0 (breaks_of so.run) e.goes.ran.steps)
 
   -- Where the maps had what rows owe, they do so behind it.
   pub maps_over_epoch : (first : Point) (points : List PassedPoint) (moments : List ℕ) → length moments ≡ length (deeds_of e.goes.ran.steps) → (last_point first points).rows ≡ site.told → MapsRest (site_point site) group
@@ -91,7 +91,7 @@ module _ {S : Type 0} (tells : Type 0) (left : S → Option (List ℕ)) (faults 
       → MapsOwed so.run first (points ++ points_of_epoch moments) (site_point after) next × MapsRest (site_point after) next
   maps_over_epoch first points moments each here rest cut maps =
       let more = points_of_epoch moments in
-      let have = rows_by line.time (breaks_of so.run) so.run.level so.leg.point moments e.goes.ran.steps (each ∙ count_deeds e.goes.ran.steps) in
+      let have = rows_by line.time.0 (breaks_of so.run) so.run.level so.leg.point moments e.goes.ran.steps (each ∙ count_deeds e.goes.ran.steps) in
       subst (λ (p : Point). MapsOwed so.run first (points ++ more) p next × MapsRest p next) after_is
-      (maps_owed_behind_epochs tells left faults was is line.time so.run group next old new site after first points more reaches entries have here (subst (λ (p : Point). MapsRest p group) site_is rest) cut
+      (maps_owed_behind_epochs tells left faults was is line.time.0 so.run group next old new site after first points more reaches entries have here (subst (λ (p : Point). MapsRest p group) site_is rest) cut
       (subst (λ (p : Point). MapsOwed so.run first points p group) site_is maps))

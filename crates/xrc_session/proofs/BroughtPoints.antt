@@ -20,12 +20,12 @@ use Rattle.record_rows.specs.Deeds.{rows_behind, time_meant_behind}
 use Rattle.record_rows.proofs.Counting.{counts_append}
 use Rattle.passages.specs.Points.{last_point}
 use Rattle.site_means.specs.Images.{shape_of}
+use Rattle.xrc_command.specs.declared.line.Line.{Line}
 use Rattle.site_store.specs.DeedChanges.{DeedOfChanges, changes_of, deeds_of}
 use Rattle.site_store.specs.Doing.{DoesDeeds}
 use Rattle.site_store.specs.Exceptions.{Exceptions}
 use Rattle.site_store.specs.Sites.{SiteState}
 use Rattle.consistency.specs.Bears.{Run, Stage, breaks_of}
-use Rattle.consistency.specs.Steps.{TimedCommand}
 use Rattle.consistency.specs.Bearing.{MayBeMeant, ShowsPoint}
 use Rattle.consistency.specs.Leads.{Point}
 use Rattle.consistency.specs.Ways.{IsAtWork, IsLegOf, Leg, MayTakeEffect, PassedPoint, hits_of_leg, is_ending, last_answered, leg_after, leg_to}
@@ -49,15 +49,16 @@ use Rattle.mover.proofs.EpochStands.{epochs_stand_again}
 use Rattle.mover.proofs.EpochWork.{epochs_bear, steps_are, work, work_begins}
 use Rattle.mover.proofs.Leading.{count_deeds, fewer_hits, flag_there, rows_there, silent_points, time_there}
 use Rattle.mover.proofs.LogParts.{contains_filtered}
-use Rattle.mover.proofs.Passing.{done_deeds_pass_points}
+use Rattle.mover.proofs.Passing.{done_deeds_pass_points, points_are_on_the_way}
 use Rattle.xrc_session.specs.Between.{GoesOnFrom, RisesCover, StandsForSite, site_point}
 use Rattle.xrc_session.specs.MapsOwed.{MapsOwed, MapsRest}
 use Rattle.xrc_session.specs.Frames.{rows_passed}
 use Rattle.xrc_session.specs.Lanes.{sizes_of}
 use Rattle.xrc_session.specs.Steps.{BeginsToPass, HasBrought, MayBring, PassesPointsOn}
-use Rattle.xrc_session.proofs.BroughtSlots.{writes_rows}
+use Rattle.xrc_session.proofs.BroughtSlots.{writes_followed, writes_rows}
 use Rattle.xrc_session.proofs.BroughtMaps.{last_by, maps_over_epoch}
 use Rattle.xrc_session.proofs.LastPoints.{last_rows_then}
+use Rattle.xrc_session.proofs.WrittenParts.{part_on_the_way, passed_within}
 
 -- ---- legs
 
@@ -89,7 +90,7 @@ pub record IsInRun {S : Type 0} (tells : Type 0) (left : S → Option (List ℕ)
   pub told : tells
   pub run : Run
   pub stage : Stage
-  pub line : TimedCommand
+  pub line : Line
   pub asked : Asked
   pub leg : Leg
   pub first : Point
@@ -101,7 +102,7 @@ pub record IsInRun {S : Type 0} (tells : Type 0) (left : S → Option (List ℕ)
   pub turns : AllTurnOut left run.traces old new
   pub rises : RisesCover run began is
   pub works : MoverWorks tells site after was is (end_result result)
-  pub goes : EpochGoes tells left faults line.time group old new site after was is result
+  pub goes : EpochGoes tells left faults line.time.0 group old new site after was is result
 
 module _ {S : Type 0} (tells : Type 0) (left : S → Option (List ℕ)) (faults : S → ℕ) (group : Group) (old new : List (Lane S)) (site after : SiteState) (began was is : PlantState) (result : EpochEnd) (b : IsInRun tells left faults group old new site after began was is result) where
   abbrev here : StandsForSite b.run site group was
@@ -146,7 +147,10 @@ module _ {S : Type 0} (tells : Type 0) (left : S → Option (List ℕ)) (faults 
     may = p.may;
     on_its_way = both next p.comes_next p.may_next;
     now = p.now;
-    volumes = writes_rows site b.leg.point.rows b.idle rows_are tells b.told (rows_passed more) after was is (end_result result) b.works.slots;
+    volumes = writes_rows site b.leg.point.rows b.idle rows_are tells b.told after was is (end_result result) b.works.slots (rows_passed more);
+    written = λ up.
+        part_on_the_way was is b.works.others.site (b.works.others.elapses b.told) up b.leg.point more (passed_within b.run is was.clock is.clock b.leg.point more next (p.goes up)) p.on_the_way
+        (writes_followed site b.leg.point.rows b.idle rows_are tells b.told after was is (end_result result) b.works.slots);
   }
     where
       both : (o : Option Point) → IfSome o (IsOnItsWay b.run b.asked (fold leg_after b.leg more)) → IfSome o (MayBeMeant b.run b.stage) → IfSome o (λ q. IsOnItsWay b.run b.asked (fold leg_after b.leg more) q × MayBeMeant b.run b.stage q)
@@ -162,7 +166,7 @@ module _ {S : Type 0} (tells : Type 0) (left : S → Option (List ℕ)) (faults 
 -- ---- at the line's time
 
 module _ {S : Type 0} (tells : Type 0) (left : S → Option (List ℕ)) (faults : S → ℕ) (group next : Group) (old new : List (Lane S)) (site after : SiteState) (began was is : PlantState) (b : IsInRun tells left faults group old new site after began was is (ends.Reached next))
-    (r : ReachedBy tells left b.line.time group old new site next after is) (read : tells → (d : Device) → IsThere is d → is.images is.clock d (is.bytes d)) where
+    (r : ReachedBy tells left b.line.time.0 group old new site next after is) (read : tells → (d : Device) → IsThere is d → is.images is.clock d (is.bytes d)) where
   abbrev so : RunSoFar
   so = so_far tells left faults group old new site after began was is (ends.Reached next) b
 
@@ -185,7 +189,7 @@ module _ {S : Type 0} (tells : Type 0) (left : S → Option (List ℕ)) (faults 
   log = b.goes.ran.log
 
   abbrev named : List DeedOfChanges
-  named = all_silent b.line.time (breaks_of run) steps
+  named = all_silent b.line.time.0 (breaks_of run) steps
 
   abbrev job : Work
   job = work tells left faults so b.line group old new site after was is (ends.Reached next) e
@@ -218,7 +222,7 @@ module _ {S : Type 0} (tells : Type 0) (left : S → Option (List ℕ)) (faults 
   more = points_by run.level leg.point does.moments named
 
   passes : PassesOn so b.asked was is more None
-  passes = record { goes = found.goes; linked = found.linked; may = found.may; may_next = tt; comes_next = tt; now = found.now }
+  passes = record { goes = found.goes; linked = found.linked; on_the_way = points_are_on_the_way run.level leg.point does.moments named; may = found.may; may_next = tt; comes_next = tt; now = found.now }
 
   -- ---- the leg
 
@@ -234,12 +238,12 @@ module _ {S : Type 0} (tells : Type 0) (left : S → Option (List ℕ)) (faults 
   leg_then = leg_to leg (point_of after) (changes_of named)
 
   every : length does.moments ≡ length named
-  every = does.each ∙ count_deeds steps ∙ sym (length-map steps (with_silent b.line.time (breaks_of run)))
+  every = does.each ∙ count_deeds steps ∙ sym (length-map steps (with_silent b.line.time.0 (breaks_of run)))
 
   leaves_leg : fold leg_after leg more ≡ leg_then
   leaves_leg =
       leg_behind run.level leg does.moments named every
-      ∙ ap (λ (o : Point). leg_to leg o (changes_of named)) (silent_points run.level b.line.time (breaks_of run) leg.point steps began_job.logged.each ∙ last_is)
+      ∙ ap (λ (o : Point). leg_to leg o (changes_of named)) (silent_points run.level b.line.time.0 (breaks_of run) leg.point steps began_job.logged.each ∙ last_is)
 
   all_steps : take (length steps) steps ≡ steps
   all_steps = take_all (length steps) steps (omega arith)
@@ -247,31 +251,31 @@ module _ {S : Type 0} (tells : Type 0) (left : S → Option (List ℕ)) (faults 
   leg_is_then : IsLegOf run b.stage leg_then
   leg_is_then =
       subst (λ (o : Point). IsLegOf run b.stage (leg_to leg o (changes_of named))) last_is
-      (subst (λ (l : List DeedOfChanges). IsLegOf run b.stage (leg_to leg (point_behind run.level leg.point l) (changes_of (all_silent b.line.time (breaks_of run) l)))) all_steps
+      (subst (λ (l : List DeedOfChanges). IsLegOf run b.stage (leg_to leg (point_behind run.level leg.point l) (changes_of (all_silent b.line.time.0 (breaks_of run) l)))) all_steps
       (leg_there was job began_job (length steps) (omega arith)))
 
   hits_then : (d : ℕ) → hits_of_leg leg_then d + began.faults (Volume d) ≤ is.faults (Volume d)
   hits_then d =
-      let fewer = subst (λ (l : List DeedOfChanges). hit_count d (changes_of (all_silent b.line.time (breaks_of run) l)) ≤ hit_count d (changes_of steps)) all_steps (fewer_hits d b.line.time (breaks_of run) (length steps) steps) in
+      let fewer = subst (λ (l : List DeedOfChanges). hit_count d (changes_of (all_silent b.line.time.0 (breaks_of run) l)) ≤ hit_count d (changes_of steps)) all_steps (fewer_hits d b.line.time.0 (breaks_of run) (length steps) steps) in
       omega (arith, fewer, b.goes.ran.counted d (b.rises d).0, e.stands.hits d, counts_append d leg.changes (changes_of named))
 
   fed : IsFedLog run.traces group b.goes.ran.end log
   fed = b.goes.bears.fed run.traces e.stands.has_state.keeps b.turns
 
-  to_come : BreaksAreToCome run.traces b.line.time b.goes.ran.end
-  to_come = subst (BreaksAreToCome run.traces b.line.time) b.goes.ran.ended (subst (λ (n : ℕ). BreaksAreToCome run.traces n next) r.time.time stand.stands.has_state.awaits)
+  to_come : BreaksAreToCome run.traces b.line.time.0 b.goes.ran.end
+  to_come = subst (BreaksAreToCome run.traces b.line.time.0) b.goes.ran.ended (subst (λ (n : ℕ). BreaksAreToCome run.traces n next) r.time.time stand.stands.has_state.awaits)
 
-  early_then : list_all (is_early_break b.line.time) (changes_of named) ≡ true
+  early_then : list_all (is_early_break b.line.time.0) (changes_of named) ≡ true
   early_then =
-      named_early b.line.time (breaks_of run) steps
-      (made_early run.traces group b.goes.ran.end log (part_of_mover log) b.line.time fed e.stands.has_state.broke to_come (contains_filtered is_answer_of_mover log) site.level false site.time site.told NoneDue steps NoneDue
+      named_early b.line.time.0 (breaks_of run) steps
+      (made_early run.traces group b.goes.ran.end log (part_of_mover log) b.line.time.0 fed e.stands.has_state.broke to_come (contains_filtered is_answer_of_mover log) site.level false site.time site.told NoneDue steps NoneDue
       (b.goes.ran.made b.goes_on))
 
   effect_then : MayTakeEffect run b.line leg_then
   effect_then = record {
     at = r.time.time;
     none_due = refl;
-    not_broken_yet = none_at b.line.time leg_then.changes (ap (λ (changes : List Timed). list_all (is_early_break b.line.time) (changes ++ changes_of named)) b.may.unchanged ∙ early_then);
+    not_broken_yet = none_at b.line.time.0 leg_then.changes (ap (λ (changes : List Timed). list_all (is_early_break b.line.time.0) (changes ++ changes_of named)) b.may.unchanged ∙ early_then);
     settled = r.settled;
   }
 
@@ -306,7 +310,7 @@ module _ {S : Type 0} (tells : Type 0) (left : S → Option (List ℕ)) (faults 
   last_there : (last_point b.first (b.points ++ more)).rows ≡ after.told
   last_there =
       last_rows_then b.first leg.point b.points more (b.may.goes_on.last ∙ ap (λ (p : Point). p.rows) (sym e.stands.at))
-      ∙ ap (λ (p : Point). p.rows) (last_by run.level leg.point does.moments named every ∙ silent_points run.level b.line.time (breaks_of run) leg.point steps began_job.logged.each ∙ last_is)
+      ∙ ap (λ (p : Point). p.rows) (last_by run.level leg.point does.moments named every ∙ silent_points run.level b.line.time.0 (breaks_of run) leg.point steps began_job.logged.each ∙ last_is)
 
   maps_there : MapsOwed run b.first (b.points ++ more) (site_point after) next × MapsRest (site_point after) next
   maps_there = maps_over_epoch tells left faults was is so b.line group next old new site after e r b.first b.points does.moments does.each b.may.goes_on.last b.may.goes_on.maps_rest b.may.cut b.may.goes_on.maps

@@ -154,7 +154,7 @@ among_kept keep s (t ∷ rows) there = choose (keep t) refl there (among_kept ke
       | inr later ↦ let h = others later in (Later t rows h.0, h.1)
     ]
 
-kept_among : (keep : PairRow → Bool) (s : PairRow) (rows : List PairRow) → keep s ≡ true → Among s rows → Among s (filter keep rows)
+pub kept_among : (keep : PairRow → Bool) (s : PairRow) (rows : List PairRow) → keep s ≡ true → Among s rows → Among s (filter keep rows)
 kept_among keep s _ is (Here rows) = ap_cond (keep s) is
   where
     ap_cond : (b : Bool) → b ≡ true → Among s (cond b (s ∷ filter keep rows) (filter keep rows))

@@ -17,6 +17,7 @@ use Rattle.pair_table.specs.Tables.{are_below}
 use Rattle.site_means.specs.Images.{Shape, shape_of}
 use Rattle.site_means.specs.Meaning.{chosen_in, meaning_in}
 use Rattle.site_means.proofs.Goes.{shape_same}
+use Rattle.xrc_command.specs.declared.line.Line.{Line}
 use Rattle.group_state.specs.Groups.{Group}
 use Rattle.site_store.specs.Between.{IsSiteIdle}
 use Rattle.site_store.specs.Commands.{LabelsFit, label_has_volume}
@@ -29,7 +30,6 @@ use Rattle.consistency.specs.Bearing.{ShowsPoint}
 use Rattle.consistency.specs.Bears.{Run, Stage}
 use Rattle.consistency.specs.Courses.{Answered, replies_of, texts_of}
 use Rattle.consistency.specs.Leads.{Point}
-use Rattle.consistency.specs.Steps.{TimedCommand}
 use Rattle.consistency.specs.Ways.{IsLegOf, Leg, PassedPoint}
 use Rattle.consistency.proofs.Standing.{console_choice}
 use Rattle.fed_logs.specs.Logs.{BeginsLog, Sizes}
@@ -244,11 +244,11 @@ module _ (tells : Type 0) (old new : PlantState) (works : WorksOnConsole tells o
 -- ---- a line is heard
 
 -- A leg of a stage is one whatever was heard.
-pub leg_heard : (run : Run) (s : Stage) (heard : Option TimedCommand) (l : Leg) → IsLegOf run s l → IsLegOf run (record s { next = heard }) l
+pub leg_heard : (run : Run) (s : Stage) (heard : Option Line) (l : Leg) → IsLegOf run s l → IsLegOf run (record s { next = heard }) l
 leg_heard run s heard l leg = record { table = leg.table; replied = leg.replied; whole = leg.whole; counted = leg.counted }
 
 -- What a session has come to behind its lines stays when a line is heard.
-pub behind_heard : (run : Run) (lines : List Answered) (stage : Stage) (heard : Option TimedCommand) (trail : Trail) (s : SessionState) (began now : PlantState) → now.heard now.clock ≡ began.heard began.clock ++ texts_of lines → now.said now.clock ≡ began.said began.clock ++ replies_of lines → StandsBehindLines run lines stage trail s began now
+pub behind_heard : (run : Run) (lines : List Answered) (stage : Stage) (heard : Option Line) (trail : Trail) (s : SessionState) (began now : PlantState) → now.heard now.clock ≡ began.heard began.clock ++ texts_of lines → now.said now.clock ≡ began.said began.clock ++ replies_of lines → StandsBehindLines run lines stage trail s began now
     → StandsBehindLines run lines (record stage { next = heard }) trail s began now
 behind_heard run lines stage heard trail s began now all said stands = record { its = stands.its; table = stands.table; volumes = stands.volumes; place = by_place s.site stands.place }
   where

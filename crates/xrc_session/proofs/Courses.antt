@@ -1,5 +1,5 @@
 -- The stages of a course: until the session starts, and behind its last line.
-use Rattle.std.proofs.Common.{◌≡◌, ◌⊎◌, inl, inr, ℕ, zero, suc, ◌<◌, ◌≤◌, Bool, true, false, true≢false, cond, List, [], ◌∷◌, ◌++◌, length, Option, Some, None, refl, sym, ap, subst, ◌∙◌, append-nil, arith, get_or, slice_get}
+use Rattle.std.proofs.Common.{◌≡◌, ◌⊎◌, inl, inr, ℕ, zero, suc, ◌<◌, ◌≤◌, Bool, true, false, true≢false, cond, List, [], ◌∷◌, ◌++◌, length, Some, None, refl, sym, ap, subst, ◌∙◌, append-nil, arith, get_or, slice_get}
 use Rattle.std.specs.Prelude.{◌==◌, ◌&&◌, ◌||◌, is_none, nat_lt, if◌then◌else◌}
 use Rattle.std.proofs.lemmas.Bool.{and_right, cases_lt}
 use Rattle.std.proofs.lemmas.Option.{slice_get_cases}
@@ -11,7 +11,7 @@ use Rattle.row_changes.specs.Toward.{AreCounted}
 use Rattle.consistency.specs.Bears.{Run, Stage, breaks_of, names_of}
 use Rattle.consistency.specs.Courses.{Answered, IsAnswered, IsCourse, is_whole_line, last_line_time, next_line, stage_after, stage_at, texts_of}
 use Rattle.consistency.specs.Keeping.{stage_now}
-use Rattle.consistency.specs.Steps.{TimedCommand, is_active, names_at, table_on_the_way}
+use Rattle.consistency.specs.Steps.{is_active, names_at, table_on_the_way}
 use Rattle.consistency.proofs.Lines.{none_heard, stage_then}
 
 -- ---- one line
@@ -20,8 +20,8 @@ use Rattle.consistency.proofs.Lines.{none_heard, stage_then}
 pub stays_started : (run : Run) (s : Stage) (a : Answered) → IsAnswered run s a → s.table.is_started ≡ true → a.table.is_started ≡ true
 stays_started run s a answered started =
     let table = table_on_the_way run.level a.changes s.table in
-    let names = names_at a.line.time (breaks_of run) (names_of run) in
-    ap (λ (t : Table). t.is_started) answered.step.made ∙ by_refusal (is_none (refusal names table a.line.session a.line.command)) (accepted names a.line.time a.line.command table) table refl started
+    let names = names_at a.line.time.0 (breaks_of run) (names_of run) in
+    ap (λ (t : Table). t.is_started) answered.step.made ∙ by_refusal (is_none (refusal names table a.line.session a.line.command)) (accepted names a.line.time.0 a.line.command table) table refl started
   where
     by_refusal : (b : Bool) (x y : Table) → x.is_started ≡ true → y.is_started ≡ true → (if b then x else y).is_started ≡ true
     by_refusal true x y one two = one
@@ -84,6 +84,6 @@ module _ (run : Run) (lines : List Answered) (course : IsCourse run lines) where
 -- ---- what was heard
 
 -- No line was heard where nothing was.
-pub none_next : (run : Run) (grammar : List ℕ → Option TimedCommand) (script : List ℕ) (lines : List Answered) → (stage_now run grammar script lines []).next ≡ None
-none_next run grammar script lines =
-    none_heard grammar (length lines) (last_line_time lines (length lines)) (length (texts_of lines ++ []) == length script) [] (and_right (length (texts_of lines ++ []) == length script) false refl)
+pub none_next : (run : Run) (script : List ℕ) (lines : List Answered) → (stage_now run script lines []).next ≡ None
+none_next run script lines =
+    none_heard (length lines) (last_line_time lines (length lines)) (length (texts_of lines ++ []) == length script) [] (and_right (length (texts_of lines ++ []) == length script) false refl)

@@ -40,7 +40,6 @@ use Rattle.consistency.specs.Bears.{Run, Stage, tracks_of_row}
 use Rattle.consistency.specs.Between.{RunGoesOn}
 use Rattle.consistency.specs.Courses.{Answered, stage_at}
 use Rattle.consistency.specs.Leads.{Point}
-use Rattle.consistency.specs.Steps.{TimedCommand}
 use Rattle.consistency.specs.Ways.{Leg, PassedPoint, stage_point}
 use Rattle.consistency.proofs.Lines.{same_some}
 use Rattle.xrc_session.specs.Between.{GoesOnFrom, RestsAtSite, StandsForSite, site_point, stage_behind}

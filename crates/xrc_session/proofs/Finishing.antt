@@ -2,6 +2,7 @@
 use Rattle.xrc_session.proofs.OnTrail.{rests_on_trail}
 use Rattle.std.proofs.Common.{◌≡◌, ◌⊎◌, inl, inr, ℕ, ◌<◌, ◌≤◌, Bool, true, false, true≢false, List, [], ◌∷◌, ◌++◌, length, Option, Some, None, Result, Ok, Err, refl, sym, ap, subst, ◌∙◌, arith, slice_get}
 use Rattle.std.specs.Prelude.{IfSome, IsErrOf, IsSomeAnd, MatchOption, OnOk, fold}
+use Rattle.std.specs.List.{list_all}
 use Rattle.crash_plant.specs.declared.device.Device.TheVariants.{Control, Volume}
 use Rattle.crash_plant.specs.Calls.{Elapses, SameSite, Silent}
 use Rattle.crash_plant.specs.Choices.{AtNow, IsChoice}
@@ -12,8 +13,12 @@ use Rattle.pair_table.specs.Tables.{Table}
 use Rattle.ckd_track.specs.SlotPlaces.{slot_track}
 use Rattle.primary_ctl.specs.Primaries.{primary}
 use Rattle.record_rows.specs.Hits.{hit_now}
+use Rattle.row_changes.specs.Changes.{Timed, after_changes}
+use Rattle.row_changes.specs.Toward.{is_hit_at}
+use Rattle.passages.specs.Points.{last_point}
 use Rattle.site_means.specs.Images.{shape_of}
 use Rattle.site_means.specs.Sight.{walked}
+use Rattle.xrc_command.specs.declared.line.Line.{Line}
 use Rattle.site_store.specs.Between.{IsSiteIdle}
 use Rattle.site_store.specs.Records.{VolumesStay}
 use Rattle.site_store.specs.Sites.{SiteState}
@@ -23,9 +28,8 @@ use Rattle.consistency.specs.Bears.{Run, Stage, tracks_of_row}
 use Rattle.consistency.specs.Between.{RunGoesOn}
 use Rattle.consistency.specs.Courses.{Answered, stage_at}
 use Rattle.consistency.specs.Leads.{Point}
-use Rattle.consistency.specs.Steps.{TimedCommand}
 use Rattle.consistency.specs.Ways.{IsAtWork, Leg, PassedPoint, leg_after, stage_point}
-use Rattle.script_lines.specs.Grammars.{line_grammar}
+use Rattle.consistency.specs.Ways.Way.{OnTheWay}
 use Rattle.mover.specs.Working.{Asked}
 use Rattle.xrc_status.specs.declared.stop.Stop.{Stop}
 use Rattle.xrc_status.specs.declared.stop.Stop.TheVariants.{Spent}
@@ -38,7 +42,9 @@ use Rattle.xrc_session.specs.States.{SessionState}
 use Rattle.xrc_session.specs.Steps.{BeginsToPass, EndsFinishing, FinishesRuns, PassesPointsOn}
 use Rattle.xrc_session.specs.Stops.{IsSpentNow}
 use Rattle.xrc_session.specs.Trails.{AreExact, AreNext, GoesForth, Trail, asked_with, first_leg, last_leg, with_points, StandsOnTrail}
-use Rattle.xrc_session.proofs.Asked.{asked_there}
+use Rattle.xrc_session.proofs.AnswerLegs.{comes_by}
+use Rattle.xrc_session.proofs.Asked.{asked_there, last_of_leg}
+use Rattle.xrc_session.proofs.LastPoints.{last_append}
 use Rattle.xrc_session.proofs.Courses.{none_next, past_counted}
 use Rattle.xrc_session.proofs.Finished.{all_applied, slot_holds, slot_is_meant}
 use Rattle.xrc_session.proofs.LinesBrought.{some_value}
@@ -47,7 +53,7 @@ use Rattle.xrc_session.proofs.RestingMarks.{nothing_is_walked}
 use Rattle.xrc_session.proofs.Trails.{rest_is_meant}
 
 -- A run that has answered its lines and heard the script's end, with a session behind them.
-module _ (run : Run) (lines : List Answered) (trail : Trail) (s : SessionState) (began old : PlantState) (at_end : old.script ≡ []) (goes : RunGoesOn run line_grammar lines [] began old) (exact : AreExact run lines trail)
+module _ (run : Run) (lines : List Answered) (trail : Trail) (s : SessionState) (began old : PlantState) (at_end : old.script ≡ []) (goes : RunGoesOn run lines [] began old) (exact : AreExact run lines trail)
     (stands : StandsBehindLines run lines (stage_behind run lines [] began) trail s began old) where
   abbrev stage : Stage
   stage = stage_behind run lines [] began
@@ -56,7 +62,7 @@ module _ (run : Run) (lines : List Answered) (trail : Trail) (s : SessionState) 
   stage_table = stands.table
 
   nothing_next : stage.next ≡ None
-  nothing_next = none_next run line_grammar began.script lines
+  nothing_next = none_next run began.script lines
 
   -- ---- before the start
 
@@ -68,6 +74,7 @@ module _ (run : Run) (lines : List Answered) (trail : Trail) (s : SessionState) 
     none = λ unstarted. not_begun.points;
     begun = λ on. absurd (true≢false (sym on ∙ ap (λ (t : Table). t.is_started) stage_table ∙ off));
     along = λ some. absurd (omega (arith, some, not_begun.started));
+    rows = λ some. absurd (omega (arith, some, not_begun.started));
     forth = λ past some. absurd (omega (arith, some, not_begun.started));
     volumes = stands.volumes;
     applied = λ on. absurd (true≢false (sym on ∙ ap (λ (t : Table). t.is_started) stage_table ∙ off));
@@ -94,6 +101,9 @@ module _ (run : Run) (lines : List Answered) (trail : Trail) (s : SessionState) 
     shows_site : AtNow (ShowsPoint run (shape_of old) (site_point site)) old
     shows_site = rests.under_way.at.shows
 
+    last_is : l.point ≡ last_point (first_leg run lines trail).point trail.points
+    last_is = last_of_leg run (asked_with lines stage.next) (first_leg run lines trail) trail.points rests.rest.marked rests.under_way.next
+
     -- Once the session has ended, nothing is walked.
     pub ended_finishes : (tells : Type 0) → tells → IsSiteIdle tells site old → site.at ≡ site.mark.at → IsRunDone run lines trail began old
     ended_finishes tells told idle empty =
@@ -105,8 +115,9 @@ module _ (run : Run) (lines : List Answered) (trail : Trail) (s : SessionState) 
           exact = exact;
           none = λ unstarted. absurd (omega (arith, unstarted, rests.under_way.some));
           begun = λ on. (rests.under_way.some, rests.under_way.begins);
-          along = λ some. subst (λ (o : Option TimedCommand). StandsOnTrail run lines o trail None old) nothing_next (rests_on_trail run lines stage trail s began old site rests);
-          forth = λ past some. subst (λ (o : Option TimedCommand). GoesForth run lines o trail None began old) nothing_next (rests.under_way.forth (omega (arith, past, goes.now.later)));
+          along = λ some. subst (λ (o : Option Line). StandsOnTrail run lines o trail None old) nothing_next (rests_on_trail run lines stage trail s began old site rests);
+          rows = λ some. ([], refl, ap (λ (p : Point). p.rows) (sym last_is ∙ rests.rest.point));
+          forth = λ past some. subst (λ (o : Option Line). GoesForth run lines o trail None began old) nothing_next (rests.under_way.forth (omega (arith, past, goes.now.later)));
           volumes = stands.volumes;
           applied = λ on. all_applied run lines site old old point_is (slot_is_meant run site old read shows_site walk) (λ d. refl) walk;
         }
@@ -146,12 +157,12 @@ module _ (run : Run) (lines : List Answered) (trail : Trail) (s : SessionState) 
         started = rests.under_way.started;
         begins = rests.under_way.begins;
         rowless = rests.under_way.rowless;
-        next = subst (λ (o : Option TimedCommand). AreNext run lines o trail) nothing_next rests.under_way.next;
-        forth = λ up. subst (λ (o : Option TimedCommand). GoesForth run lines o trail None began old) nothing_next (rests.under_way.forth up);
+        next = subst (λ (o : Option Line). AreNext run lines o trail) nothing_next rests.under_way.next;
+        forth = λ up. subst (λ (o : Option Line). GoesForth run lines o trail None began old) nothing_next (rests.under_way.forth up);
         marked = rests.rest.marked;
         answered = omega (arith, rests.rest.answered);
         volumes = stands.volumes;
-        may = rest_is_meant run line_grammar began.script lines [] goes.now.asked (past_counted run lines goes.now.course (length lines) (omega arith)) l rests.under_way.at.leg rests.rest.point rests.rest.changes;
+        may = rest_is_meant run began.script lines [] goes.now.asked (past_counted run lines goes.now.course (length lines) (omega arith)) l rests.under_way.at.leg rests.rest.point rests.rest.changes;
       }
 
       module _ (new : PlantState) (same : SameSite old new) (past : Elapses old new) (silent : Silent old new) where
@@ -159,9 +170,10 @@ module _ (run : Run) (lines : List Answered) (trail : Trail) (s : SessionState) 
         finishing_stops stop spent begins = within_stops run lines trail [] None began old new nothing_next within same past silent stop spent begins
 
         pub finishing_ends : (tells : Type 0) → tells → site.waiting ≡ [] → hit_now site.failed site.told ≡ [] → VolumesStay tells old new → (next : SiteState) → IsMarkedSite tells false site next new
-            → (n : PassedPoint) → PassesPointsOn run stage asked l (n ∷ []) None old new → IsRunDone run lines (with_points (n ∷ []) trail) began new
-        finishing_ends tells told idle none_hit volumes next marked n passes =
+            → (n : PassedPoint) (hits : List Timed) → n.way ≡ OnTheWay hits → list_all (is_hit_at l.point.time) hits ≡ true → PassesPointsOn run stage asked l (n ∷ []) None old new → IsRunDone run lines (with_points (n ∷ []) trail) began new
+        finishing_ends tells told idle none_hit volumes next marked n hits way are passes =
             let stand = marked.idle.may.fast.stands told in
+            let comes = comes_by run asked l n (OnTheWay hits) way passes.linked.0 in
             record {
               goes = goes_still run lines trail [] None began old new nothing_next within same past silent (n ∷ []) None passes;
               at_end = silent.script ∙ at_end;
@@ -169,6 +181,11 @@ module _ (run : Run) (lines : List Answered) (trail : Trail) (s : SessionState) 
               none = λ unstarted. absurd (omega (arith, unstarted, within.some));
               begun = λ on. (within.some, record { within = within.begins.within; before = within.begins.before; after = within.begins.after });
               along = λ some. along_still run lines trail [] None began old new nothing_next within same past silent (n ∷ []) None passes;
+              rows = λ some. (
+                hits,
+                subst (λ (t : ℕ). list_all (is_hit_at t) hits ≡ true) (ap (λ (p : Point). p.time) rests.rest.point) are,
+                ap (λ (p : Point). p.rows) (last_append (first_leg run lines trail).point trail.points (n ∷ [])) ∙ comes.1.leads.rows ∙ ap (λ (p : Point). after_changes run.level hits p.rows) rests.rest.point,
+              );
               forth = λ up started. forth_still run lines trail [] None began old new nothing_next within same past silent (n ∷ []) None passes (omega (arith, up, goes.now.later));
               volumes = volumes_still run lines trail [] None began old new nothing_next within same past silent (n ∷ []) None passes;
               applied = λ on.
@@ -192,7 +209,7 @@ pub finishes_by_mark : (tells : Type 0) → tells → (s : SessionState) (site n
     → s.table ≡ site.table → SameSite old new → Elapses old new → Silent old new → VolumesStay tells old new → (IsErrOf result Spent → IsSpentNow new) → OnOk result (IsMarkedSite tells false site next new) → MarksOn false site next began old new result → FinishesRuns s began old new result
 finishes_by_mark tells told s site next began old new (Ok done) read idle none_hit is on own same past silent volumes spent marked marks run lines trail rises at_end goes exact stands =
     let ends = marks run (stage_behind run lines [] began) (asked_with lines None) (last_leg run lines trail) (may_finish run lines trail s began old at_end goes exact stands site is read on own) rises in
-    (with_points (ends.0 ∷ []) trail, finishing_ends run lines trail s began old at_end goes exact stands site is read on own new same past silent tells told idle.may.idle none_hit volumes next marked ends.0 ends.2)
+    (with_points (ends.0 ∷ []) trail, finishing_ends run lines trail s began old at_end goes exact stands site is read on own new same past silent tells told idle.may.idle none_hit volumes next marked ends.0 ends.1.1.0 ends.1.1.1 ends.1.1.2 ends.2)
 finishes_by_mark tells told s site next began old new (Err stop) read idle none_hit is on own same past silent volumes spent marked marks run lines trail rises at_end goes exact stands =
     finishing_stops run lines trail s began old at_end goes exact stands site is read on own new same past silent stop (λ is_spent. spent (ap (λ (x : Stop). let r : Result (Unit {0}) Stop = Err x in r) is_spent))
     (marks run (stage_behind run lines [] began) (asked_with lines None) (last_leg run lines trail) (may_finish run lines trail s began old at_end goes exact stands site is read on own) rises)

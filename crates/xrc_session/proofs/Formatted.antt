@@ -1,15 +1,16 @@
 -- What stands once a site is formatted and the labels are read.
-use Rattle.std.proofs.Common.{◌≡◌, inl, inr, ℕ, ◌+◌, ◌*◌, nat_lt, nat_le, true, List, [], ◌∷◌, length, Some, Result, Ok, Err, refl, sym, ap, subst, ◌∙◌, arith}
+use Rattle.std.proofs.Common.{◌≡◌, inl, inr, ◌⊎◌, ℕ, zero, suc, ◌<◌, ◌≤◌, ◌+◌, ◌*◌, nat_lt, nat_le, true, List, [], ◌∷◌, length, Some, Result, Ok, Err, refl, sym, ap, subst, ◌∙◌, arith}
 use Rattle.std.specs.List.{list_all}
 use Rattle.std.proofs.lemmas.Bool.{and_from, and_parts}
 use Rattle.tod_stamp.specs.declared.stamp.Stamp.{Stamp}
 use Rattle.crash_plant.specs.declared.device.Device.{Device}
 use Rattle.crash_plant.specs.declared.device.Device.TheVariants.{Control, State, Journal, Volume}
 use Rattle.crash_plant.specs.Calls.{NoneLent, SameSite, WorksOn}
-use Rattle.crash_plant.specs.Choices.{Choice}
-use Rattle.crash_plant.specs.Moments.{Follows, PlantState, Same, on}
+use Rattle.crash_plant.specs.Choices.{Choice, IsChoice}
+use Rattle.crash_plant.specs.Moments.{Follows, IsDurable, PlantState, Same, on}
 use Rattle.crash_plant.proofs.Behind.{same_after}
-use Rattle.crash_plant.proofs.Choices.{choices_then}
+use Rattle.crash_plant.proofs.Choices.{choices_then, part_still, past_choice}
+use Rattle.control_set.specs.Slots.{lengths_of}
 use Rattle.applier.specs.Back.{WorksOnLent}
 use Rattle.applier.proofs.Works.{lent_of_works, none_lent_lent, works_lent_more, works_lent_trans}
 use Rattle.pair_table.specs.declared.level.Level.{Level}
@@ -18,7 +19,10 @@ use Rattle.pair_table.specs.Commands.{has_named_primary}
 use Rattle.pair_table.specs.Naming.{Naming}
 use Rattle.pair_table.specs.Tables.{are_below, most_rows}
 use Rattle.record_rows.specs.Hits.{hit_now}
+use Rattle.site_means.specs.Images.{Shape}
+use Rattle.site_means.specs.Meaning.{chosen_in}
 use Rattle.site_means.specs.Sight.{means_of}
+use Rattle.site_means.proofs.Goes.{shape_same}
 use Rattle.site_store.specs.Commands.{LabelsFit, label_has_volume}
 use Rattle.site_store.specs.declared.store_error.StoreError.{StoreError}
 use Rattle.site_store.specs.declared.store_error.StoreError.TheVariants as store
@@ -26,13 +30,13 @@ use Rattle.site_store.specs.Formats.{AllShutOrMean, HasStartCause, IsFormatted, 
 use Rattle.site_store.specs.Records.{IsStore, IsVolume, VolumesStay}
 use Rattle.site_store.specs.Sites.{SiteState, new_site}
 use Rattle.site_store.specs.Standing.{FitsPlant, SiteStands, none_excepted}
-use Rattle.site_store.proofs.Calls.{all_same, all_weaker}
+use Rattle.site_store.proofs.Calls.{all_same}
 use Rattle.site_store.proofs.LogReads.{fits_still, stands_read}
 use Rattle.xrc_status.specs.declared.stop.Stop.{Stop}
 use Rattle.xrc_status.specs.declared.stop.Stop.TheVariants as stops
 use Rattle.xrc_session.specs.Between.{MayCommandSite}
 use Rattle.xrc_session.specs.Runs.{AreLabels}
-use Rattle.xrc_session.specs.Starting.{IsSafeThroughout, IsWorkOfStart, MeansStart, ShutsOrStarts}
+use Rattle.xrc_session.specs.Starting.{FormatsFirst, IsSafeThroughout, IsWorkOfStart, MeansStart, ShutsOrStarts, ShutsSite}
 use Rattle.xrc_session.specs.Stops.{HasStopCause, StopsByCount, stop_of_store}
 use Rattle.xrc_session.proofs.BroughtWorks.{cause_of_device, spent_store}
 use Rattle.xrc_session.proofs.Labelled.{labels_since}
@@ -56,11 +60,46 @@ labels_before old mid new site bytes faults from labels are = labels_since old m
 pub starts_of : (session : List ℕ) (level : Level) (at : Stamp) (plant : PlantState) (c : Choice) → means_of plant c ≡ Some (started_means session level at) → MeansStart session level at.0 plant c
 starts_of session level at plant c meant = record { means = started_means session level at; defined = meant; session_is = refl; level_is = refl; time = refl; rows = refl; ended = refl }
 
-pub shuts_or_starts : (session : List ℕ) (level : Level) (at : Stamp) (old new : PlantState) → AllShutOrMean (started_means session level at) old new → IsSafeThroughout session level at.0 old new
-shuts_or_starts session level at old new all durable = all_weaker old new (ShutsOrMeans old (started_means session level at)) (ShutsOrStarts session level at.0 old) (all durable) (λ x y was step. elim step [
-  | inl shuts ↦ inl shuts
-  | inr means ↦ inr (starts_of session level at old y means)
-])
+-- a choice that has the journals behind the first of another one
+abbrev with_journals : (b c : Choice) → Choice
+with_journals b c Control = b Control
+with_journals b c State = b State
+with_journals b c (Journal zero) = b (Journal zero)
+with_journals b c (Journal (suc j)) = c (Journal (suc j))
+with_journals b c (Volume v) = b (Volume v)
+
+journals_are : (b c : Choice) (j : ℕ) → 1 ≤ j → c (Journal j) ≡ with_journals b c (Journal j)
+journals_are b c zero behind = absurd (omega (arith, behind))
+journals_are b c (suc j) behind = refl
+
+-- The format leaves the journals behind the first alone. So what a crash leaves of them it could leave before.
+journals_could : (tells : Type 0) → tells → (old new : PlantState) → WorksOn tells IsFormatted old new → (t : ℕ) → old.clock ≤ t → t ≤ new.clock → (b c : Choice) → IsChoice old old.clock b → IsChoice new t c → IsChoice old old.clock (with_journals b c)
+journals_could tells told old new works t from to b c was is Control part = was Control part
+journals_could tells told old new works t from to b c was is State part = was State part
+journals_could tells told old new works t from to b c was is (Journal zero) part = was (Journal zero) part
+journals_could tells told old new works t from to b c was is (Journal (suc j)) part =
+    let stays = works.others told (Journal (suc j)) (λ (first : suc j ≡ 0). absurd (omega (arith, first))) in
+    let start = stays.images t from to (c (Journal (suc j))) (is (Journal (suc j)) (part_still old new (Journal (suc j)) works.site part)) in
+    subst (λ (l : List ℕ). old.images old.clock (Journal (suc j)) l) (sym start.2) start.1
+journals_could tells told old new works t from to b c was is (Volume v) part = was (Volume v) part
+
+shuts_or_means : (session : List ℕ) (level : Level) (at : Stamp) (tells : Type 0) → tells → (old new : PlantState) → WorksOn tells IsFormatted old new → AllShutOrMean (started_means session level at) old new → IsDurable (on old Control) → (t : ℕ) → old.clock ≤ t → t ≤ new.clock → (c : Choice) → IsChoice new t c
+    → (x : Choice) × IsChoice old old.clock x × (ShutsSite (lengths_of old) x c ⊎ (means_of old c ≡ Some (started_means session level at)))
+shuts_or_means session level at tells told old new works all durable t from to c is =
+    let was = all durable t from to c is in by_step was.0 was.1 was.2
+  where
+    by_step : (b : Choice) → IsChoice old old.clock b → ShutsOrMeans old (started_means session level at) b c → (x : Choice) × IsChoice old old.clock x × (ShutsSite (lengths_of old) x c ⊎ (means_of old c ≡ Some (started_means session level at)))
+    by_step b was (inl shuts) = (
+      with_journals b c,
+      journals_could tells told old new works t from to b c was is,
+      inl (record { first = record { control = shuts.control; before = shuts.before }; journals = journals_are b c }),
+    )
+    by_step b was (inr means) = (b, was, inr means)
+
+pub shuts_or_starts : (session : List ℕ) (level : Level) (at : Stamp) (tells : Type 0) → tells → (old new : PlantState) → WorksOn tells IsFormatted old new → AllShutOrMean (started_means session level at) old new → IsSafeThroughout session level at.0 old new
+shuts_or_starts session level at tells told old new works all durable t from to c is =
+    let was = shuts_or_means session level at tells told old new works all durable t from to c is in
+    (was.0, was.1, elim was.2 [ inl shuts ↦ inl shuts | inr means ↦ inr (starts_of session level at old c means) ])
 
 -- ---- the format's own stop
 
@@ -88,6 +127,10 @@ volumes_of tells among old new out works = record {
 not_formatted : (v : ℕ) → ¬ IsFormatted (Volume v)
 not_formatted v = λ is. is
 
+-- Numbers of a start aren't spent by its format.
+pub format_unspent : (old new : PlantState) (r : Result SiteState StoreError) (error : StoreError) → r ≡ Err error → HasStartCause old new r → stop_of_store error ≡ stops.Spent → ⊥
+format_unspent old new r error is cause stop = cause.spent (is ∙ ap (λ (e : StoreError). Err e) (spent_store error stop))
+
 -- A start that its format stops.
 pub format_stops : (tells : Type 0) (old new : PlantState) (r : Result SiteState StoreError) (error : StoreError) → r ≡ Err error → NoneLent old → WorksOn tells IsFormatted old new → HasStartCause old new r → {T : Type 0} → IsWorkOfStart {T = T} tells old new (Err (stop_of_store error))
 format_stops tells old new r error is home works cause = record {
@@ -103,7 +146,7 @@ format_stops tells old new r error is home works cause = record {
     later = works.faults;
     console_later = (let same = works.console_faults in omega (arith, same));
   };
-  spent = λ told spent. let stop : stop_of_store error ≡ stops.Spent = cc spent in absurd (cause.spent (is ∙ ap (λ (e : StoreError). Err e) (spent_store error stop)));
+  spent = λ told spent. let stop : stop_of_store error ≡ stops.Spent = cc spent in absurd (format_unspent old new r error is cause stop);
 }
 
 -- ---- behind the labels
@@ -185,8 +228,23 @@ module _ (tells : Type 0) (session : List ℕ) (level : Level) (controls : ℕ) 
   pub safe_new : tells → AllShutOrMean (started_means session level at) old mid → IsSafeThroughout session level at.0 old new
   safe_new told all durable =
       choices_then old mid new (ShutsOrStarts session level at.0 old) (λ y z. (d : Device) → z d ≡ y d) (ShutsOrStarts session level at.0 old)
-      ((formats.elapses told).kept Control).later (shuts_or_starts session level at old mid all durable) reads.site (reads.elapses told) (all_same mid new reads.site (read_moments told))
+      ((formats.elapses told).kept Control).later (shuts_or_starts session level at tells told old mid formats all durable) reads.site (reads.elapses told) (all_same mid new reads.site (read_moments told))
       (λ x y was step. step) (λ x y z was here step same. subst (λ (c : Choice). ShutsOrStarts session level at.0 old x c) (λ i d. sym (same d) i) step)
+
+  -- It was formatted first.
+  pub formats_new : (told : tells) → AllShutOrMean (started_means session level at) old mid → (site : SiteState) → site ≡ new_site controls old.volumes session level at → SiteStands none_excepted site mid → 0 < old.clock → IsDurable (on old Control) → FormatsFirst session level at.0 old new new.clock
+  formats_new told all site is stands up durable =
+      let later = ((formats.elapses told).kept Control).later in
+      let now : 0 < mid.clock = omega (arith, up, later) in
+      record {
+        formatted_at = mid.clock;
+        since = later;
+        within = ((reads.elapses told).kept Control).later;
+        before = λ t from to c left. shuts_or_means session level at tells told old mid formats all durable t from to c (past_choice mid new t c reads.site (reads.elapses told) now to left);
+        first = λ c left.
+            ap (λ (s : Shape). chosen_in s c) (sym (shape_same old mid formats.site)) ∙ stands.chosen c (past_choice mid new mid.clock c reads.site (reads.elapses told) now (omega arith) left)
+            ∙ ap (λ (s : SiteState). Ok (Some s.mark)) is;
+      }
 
   -- A start goes on, if the format ended well.
   counts_new : {T : Type 0} → (result : Result T Stop) → ((d : Device) → mid.faults d ≡ old.faults d) → StopsByCount old new result

@@ -11,13 +11,13 @@ use Rattle.crash_plant.proofs.Choices.{past_choice}
 use Rattle.crash_plant.proofs.Steps.{site_trans}
 use Rattle.site_means.specs.Images.{Shape, shape_of}
 use Rattle.site_means.proofs.Goes.{shape_same}
+use Rattle.xrc_command.specs.declared.line.Line.{Line}
 use Rattle.consistency.specs.Bearing.{GoesThroughPoints, ShowsPoint}
 use Rattle.consistency.specs.Bears.{Run, Stage}
 use Rattle.consistency.specs.Between.{AreToldOf, HadExactReply, HasPassed, RunGoesOn, asked_in}
 use Rattle.consistency.specs.Courses.{Answered, last_line_time, lines_begun, lines_begun_from, next_line, replies_of, stage_at, texts_of}
 use Rattle.consistency.specs.Keeping.{stage_now}
 use Rattle.consistency.specs.Moments.{BearsTime}
-use Rattle.consistency.specs.Steps.{TimedCommand}
 use Rattle.consistency.specs.Ways.{Leg, PassedPoint, Way}
 use Rattle.consistency.specs.Leads.{Point}
 use Rattle.consistency.proofs.Lines.{next_not_before, one_line_more, replied_by_last}
@@ -67,7 +67,7 @@ next_one tells number before text left next.Nothing is = subst (λ (l : List ℕ
 
 -- A reply that was exact is so still.
 module _ (old new : PlantState) (site : SameSite old new) (elapses : Elapses old new) (run : Run) where
-  passed_stay : (up : 0 < old.clock) (asked : ℕ → Option TimedCommand) (first : Leg) (points : List PassedPoint) (to : ℕ) → to ≤ old.clock → HasPassed run asked first points old to → HasPassed run asked first points new to
+  passed_stay : (up : 0 < old.clock) (asked : ℕ → Option Line) (first : Leg) (points : List PassedPoint) (to : ℕ) → to ≤ old.clock → HasPassed run asked first points old to → HasPassed run asked first points new to
   passed_stay up asked first points to le passed = record {
     rowless = passed.rowless;
     from = passed.from;
@@ -91,29 +91,29 @@ module _ (old new : PlantState) (site : SameSite old new) (elapses : Elapses old
         record { passed = passed_stay (omega (arith, up, le)) (asked_in (before ++ a ∷ [])) had.first had.points had.by had.within told.passed; answered = told.answered; changes = told.changes; rows = told.rows };
   }
 
-module _ (first old new : PlantState) (run : Run) (grammar : List ℕ → Option TimedCommand) (lines : List Answered) (text : List ℕ) (goes : RunGoesOn run grammar lines [] first old) (tells : Type 0) (told : tells) (works : WorksOnConsole tells old new)
+module _ (first old new : PlantState) (run : Run) (lines : List Answered) (text : List ℕ) (goes : RunGoesOn run lines [] first old) (tells : Type 0) (told : tells) (works : WorksOnConsole tells old new)
     (heard : HearsText text old new) (silent : SaysNothing old new) where
   abbrev before : Stage
-  before = stage_now run grammar first.script lines []
+  before = stage_now run first.script lines []
 
   abbrev behind : Stage
-  behind = stage_now run grammar first.script lines text
+  behind = stage_now run first.script lines text
 
   reaches : old.clock ≤ new.clock
   reaches = ((works.elapses told).kept Control).later
 
-  not_before : (line : TimedCommand) → behind.next ≡ Some line → before.replied ≤ line.time
+  not_before : (line : Line) → behind.next ≡ Some line → before.replied ≤ line.time.0
   not_before line is =
-      let later = next_not_before grammar (length lines) (last_line_time lines (length lines)) (length (texts_of lines ++ text) == length first.script) text line is in
-      omega (arith, later, replied_by_last run grammar first.script lines (length lines) goes.now.asked (omega arith))
+      let later = next_not_before (length lines) (last_line_time lines (length lines)) (length (texts_of lines ++ text) == length first.script) text line is in
+      omega (arith, later, replied_by_last run first.script lines (length lines) goes.now.asked (omega arith))
 
   bears : before.table.is_started ≡ true → (c : Choice) → IsChoice new new.clock c → BearsTime run behind (replies_of lines) new c
   bears started c is =
-      bears_time_heard run before behind.next (replies_of lines) new c (none_next run grammar first.script lines) not_before
+      bears_time_heard run before behind.next (replies_of lines) new c (none_next run first.script lines) not_before
       (bears_on run before (replies_of lines) old new c works.site (goes.now.bears started c (console_choice tells told old new new.clock c works reaches (omega arith) is)))
 
   -- A run goes on while a line is heard.
-  pub hearing_goes_on : lines_begun text ≤ 1 → KeepsHearing [] text first old new → RunGoesOn run grammar lines text first new
+  pub hearing_goes_on : lines_begun text ≤ 1 → KeepsHearing [] text first old new → RunGoesOn run lines text first new
   hearing_goes_on one keeps = record {
     now = record {
       course = goes.now.course;
@@ -131,5 +131,5 @@ module _ (first old new : PlantState) (run : Run) (grammar : List ℕ → Option
       short = goes.now.short;
     };
     exact = λ n a at. had_exact old new works.site (works.elapses told) run first.clock goes.now.later (stage_at run lines n) (take n lines) a (goes.exact n a at);
-    keeps = λ up. keeps run grammar lines up (goes.keeps up);
+    keeps = λ up. keeps run lines up (goes.keeps up);
   }

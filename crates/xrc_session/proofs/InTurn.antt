@@ -65,11 +65,7 @@ cause_before old mid new (stops.OtherSession name) fell cause = cause
 cause_before old mid new (stops.Damaged d place) fell cause = cause
 cause_before old mid new stops.VolumeFault fell cause = cause
 cause_before old mid new (stops.TooSmall d needed) fell cause = cause
-cause_before old mid new stops.JournalEnd fell cause = cause
 cause_before old mid new stops.BadSite fell cause = cause
-cause_before old mid new stops.NotBuilt fell cause = cause
-cause_before old mid new stops.EarlyBreak fell cause = cause
-cause_before old mid new stops.EarlyVolume fell cause = cause
 
 pub run_cause_before : (old mid new : PlantState) (stop : Stop) → NoneFell old mid → HasRunCause mid new stop → HasRunCause old new stop
 run_cause_before old mid new stop fell (inl cause) = inl (cause_before old mid new stop fell cause)

@@ -6,13 +6,13 @@ use Rattle.std.proofs.lemmas.Bool.{and_from, and_parts, cases_eq, lt-ltb}
 use Rattle.std.proofs.lemmas.List.Folds.{list_all-append}
 use Rattle.crash_plant.specs.declared.device.Device.TheVariants.{Volume}
 use Rattle.crash_plant.specs.Calls.{SameSite, WorksOn}
-use Rattle.crash_plant.proofs.Steps.{works_on_here, works_on_more, works_on_trans}
+use Rattle.crash_plant.proofs.Steps.{works_on_more, works_on_trans}
 use Rattle.crash_plant.specs.Moments.{Follows, PlantState, Same, on}
 use Rattle.pair_table.specs.declared.names.NamedDevice.{NamedDevice}
 use Rattle.pair_table.specs.Naming.{Naming, with_label}
 use Rattle.site_store.specs.Commands.{LabelsFit, label_has_volume}
 use Rattle.site_store.specs.Records.{IsVolume, VolumesStay}
-use Rattle.site_store.proofs.VolumesStaying.{stay_here, stay_then}
+use Rattle.site_store.proofs.VolumesStaying.{stay_then}
 use Rattle.volume_label.specs.Labels.{holds_cylinders, label_of}
 use Rattle.xrc_session.specs.Runs.{AreLabels, GivesLabel, NamesLabel, front_of_volume, named_by}
 use Rattle.xrc_session.specs.Runs.AreLabels.{Given, Last}
@@ -101,16 +101,6 @@ pub record IsLabelled (tells : Type 0) (old now : PlantState) (was names : Namin
   pub stay : VolumesStay tells old now
   pub works : WorksOn tells IsVolume old now
   pub gave : tells → Gave old now below names.labels
-
-pub labelled_first : (tells : Type 0) (plant : PlantState) (names : Naming) → names.labels ≡ [] → IsLabelled tells plant plant names names 0
-labelled_first tells plant names none = record {
-  primaries = refl;
-  broken = refl;
-  fit = subst (λ (l : List NamedDevice). IsTrue (list_all (label_has_volume plant) l)) (sym none) refl;
-  stay = stay_here tells plant;
-  works = works_on_here tells IsVolume plant;
-  gave = λ told. none;
-}
 
 module _ (tells : Type 0) (old mid new : PlantState) (was names : Naming) (n : ℕ) (so_far : IsLabelled tells old mid was names n) (stay : VolumesStay tells mid new) (works : WorksOn tells (λ d. d ≡ Volume n) mid new) where
   abbrev step : WorksOn tells IsVolume mid new

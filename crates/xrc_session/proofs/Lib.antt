@@ -50,9 +50,10 @@ pub mod NamedVolumes
 pub mod OpenedLane
 pub mod OpenedLanes
 pub mod TurnedOut
-pub mod GoodHeaders
 pub mod HeardLines
+pub mod AppliedEnds
 pub mod WrittenLines
+pub mod WrittenParts
 pub mod NamedBroken
 pub mod Readying
 pub mod Names

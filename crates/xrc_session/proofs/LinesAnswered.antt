@@ -15,6 +15,7 @@ use Rattle.pair_table.specs.Tables.{Table}
 use Rattle.row_changes.specs.Changes.{Due, Timed, after_changes}
 use Rattle.row_changes.specs.Changes.Due.{NoneDue}
 use Rattle.site_means.specs.Images.{shape_of}
+use Rattle.xrc_command.specs.declared.line.Line.{Line}
 use Rattle.site_store.specs.Sites.{SiteState}
 use Rattle.group_state.specs.Groups.{Group}
 use Rattle.consistency.specs.Answering.{answered_by, reply_content, points_before}
@@ -24,7 +25,7 @@ use Rattle.consistency.specs.Between.{AreToldOf, HasPassed, MayReply, asked_in}
 use Rattle.consistency.specs.Courses.{Answered, IsAnswered, stage_after, stage_at}
 use Rattle.consistency.specs.Leads.{Comes, Point}
 use Rattle.consistency.specs.Replying.{HasNames, HasRunNames, IsExact}
-use Rattle.consistency.specs.Steps.{TimedCommand, commanded, is_active, names_at, table_on_the_way}
+use Rattle.consistency.specs.Steps.{commanded, is_active, names_at, table_on_the_way}
 use Rattle.consistency.specs.Ways.{ComesBy, ComesNext, IsLegOf, Leg, PassedPoint, Way, is_ending, last_answered, leg_after, leg_by, stage_point, table_at}
 use Rattle.consistency.specs.Ways.Way.{Commanded, Ending, MarkedFor, OnTheWay}
 use Rattle.consistency.proofs.Keeping.{stage_answered}
@@ -33,7 +34,6 @@ use Rattle.consistency.proofs.Lines.{stage_front, stage_more}
 use Rattle.consistency.proofs.Naming.{course_has_names}
 use Rattle.consistency.proofs.Replying.{inactive_exactly}
 use Rattle.passages.specs.Points.{AreLinked}
-use Rattle.script_lines.specs.Grammars.{line_grammar}
 use Rattle.mover.specs.declared.lane.Lane.{Lane}
 use Rattle.mover.specs.Epochs.{LanesBrokeAs}
 use Rattle.mover.specs.Working.{Asked}
@@ -41,24 +41,25 @@ use Rattle.xrc_status.specs.declared.stop.Stop.TheVariants.{NoMemory}
 use Rattle.xrc_session.specs.declared.answering.LineAnswer.{LineAnswer}
 use Rattle.xrc_session.specs.Answering.{AreOfCommand, HasCommanded, stage_then}
 use Rattle.xrc_session.specs.Answering.AreOfCommand.{BehindMark, OfCommand, OfEnd}
+use Rattle.xrc_session.specs.AppliedEnds.{IsAllApplied}
 use Rattle.xrc_session.specs.Between.{GoesOnFrom, HasComeToRest, HasNotBegun, IsRunOfSession, RestsAtSite, StandsAtLeg, StandsBehindLines, site_point, stage_behind}
 use Rattle.xrc_session.specs.Ends.{StopsInLine}
 use Rattle.xrc_session.specs.States.{SessionState, site_time}
 use Rattle.xrc_session.specs.Steps.{IsExactBehind, IsToReply, PassesPointsOn, TellsAnswer, line_answered}
-use Rattle.xrc_session.specs.Trails.{AreNext, BeginsAtStart, GoesForth, Trail, asked_with, first_leg, last_leg, with_points, StandsOnTrail}
+use Rattle.xrc_session.specs.Trails.{AreNext, BeginsAtStart, BringsChanges, GoesForth, Trail, asked_with, first_leg, last_leg, with_points, StandsOnTrail}
 use Rattle.xrc_session.proofs.Asked.{asked_of_lines, asked_there, fold_append}
 use Rattle.xrc_session.proofs.Courses.{none_next, past_counted}
 use Rattle.xrc_session.proofs.LinesWithin.{IsWithin}
-use Rattle.xrc_session.proofs.OfCommands.{HasJustBegun, just_begun, line_answers, told_of_line}
+use Rattle.xrc_session.proofs.OfCommands.{AreOfLine, HasJustBegun, brings_of_line, just_begun, line_answers, told_of_line}
 use Rattle.xrc_session.proofs.Trails.{asked_then, first_then, forth_answered, next_answered}
 
 -- ---- an ended session
 
 -- It accepts no end.
-never_ended : (run : Run) (p : Point) (o : Option TimedCommand) → p.is_ended ≡ true → accepts_end run (table_at run p) o ≡ true → ⊥
+never_ended : (run : Run) (p : Point) (o : Option Line) → p.is_ended ≡ true → accepts_end run (table_at run p) o ≡ true → ⊥
 never_ended run p o ended accepted = never o (subst (λ (e : Bool). accepts_end run (table_at run (record p { is_ended = e })) o ≡ true) ended accepted)
   where
-    never : (o : Option TimedCommand) → accepts_end run (table_at run (record p { is_ended = true })) o ≡ true → ⊥
+    never : (o : Option Line) → accepts_end run (table_at run (record p { is_ended = true })) o ≡ true → ⊥
     never None is = absurd cc
     never (Some m) is = by_end (is_end m.command) is
       where
@@ -67,7 +68,7 @@ never_ended run p o ended accepted = never o (subst (λ (e : Bool). accepts_end 
         by_end false e = cc
 
 -- It stays ended.
-ended_stays : (run : Run) (table : Table) (line : TimedCommand) → table.is_ended ≡ true → (commanded (breaks_of run) (names_of run) table line).is_ended ≡ true
+ended_stays : (run : Run) (table : Table) (line : Line) → table.is_ended ≡ true → (commanded (breaks_of run) (names_of run) table line).is_ended ≡ true
 ended_stays run table line ended = subst (λ (e : Bool). (commanded (breaks_of run) (names_of run) (record table { is_ended = e }) line).is_ended ≡ true) (sym ended) refl
 
 -- Its lines change nothing.
@@ -98,7 +99,7 @@ begun_at run s before l leg begun =
 -- ---- behind the command
 
 -- What a session has that stands behind the command of a line.
-pub record IsBehindCommand {S : Type 0} (run : Run) (s : SessionState) (lanes : List (Lane S)) (site : SiteState) : Type 0 where
+pub record IsBehindCommand {S : Type 0} (run : Run) (s : SessionState) (lanes : List (Lane S)) (site : SiteState) (now : PlantState) : Type 0 where
   pub its : IsRunOfSession s run
   pub site_is : s.site ≡ Some site
   pub table : s.table ≡ site.table
@@ -108,6 +109,7 @@ pub record IsBehindCommand {S : Type 0} (run : Run) (s : SessionState) (lanes : 
   pub started : site.table.is_started ≡ true
   pub named : site.table.is_ended ≡ false → s.names ≡ names_at site.time (breaks_of run) (names_of run)
   pub broke : LanesBrokeAs site.time run.traces lanes
+  pub applied : site.table.is_ended ≡ true → IsAllApplied now now.clock
 
 -- What a line finds at a leg: it is at the point of the stage, where the session has ended.
 pub record IsAtLeg (run : Run) (lines : List Answered) (stage : Stage) (l : Leg) : Type 0 where
@@ -115,11 +117,11 @@ pub record IsAtLeg (run : Run) (lines : List Answered) (stage : Stage) (l : Leg)
   pub answered : l.answered ≡ length lines
   pub ended : stage.table.is_ended ≡ true → (l.point ≡ stage_point stage) × (l.changes ≡ [])
 
-module _ {S : Type 0} (run : Run) (lines : List Answered) (trail : Trail) (more : List PassedPoint) (text : List ℕ) (line : TimedCommand) (began mid new : PlantState) (heard : (stage_behind run lines text began).next ≡ Some line)
+module _ {S : Type 0} (run : Run) (lines : List Answered) (trail : Trail) (more : List PassedPoint) (text : List ℕ) (line : Line) (began mid new : PlantState) (heard : (stage_behind run lines text began).next ≡ Some line)
     (before : IsWithin run lines trail text (Some line) began mid) (at_leg : IsAtLeg run lines (stage_behind run lines text began) (last_leg run lines trail)) (behind : IsWithin run lines (with_points more trail) text (Some line) began new)
     (passes : PassesPointsOn run (stage_behind run lines text began) (asked_with lines (Some line)) (last_leg run lines trail) more None mid new) (answered : LineAnswer) (s : SessionState) (lanes : List (Lane S)) (site : SiteState)
-    (stands : IsBehindCommand run s lanes site)
-    (done : HasCommanded run (stage_behind run lines text began) line (asked_with lines (Some line)) (last_leg run lines trail) (first_leg run lines trail).point trail.points more answered site began new s.group) (short : line.time < 2 ^ 64) where
+    (stands : IsBehindCommand run s lanes site new)
+    (done : HasCommanded run (stage_behind run lines text began) line (asked_with lines (Some line)) (last_leg run lines trail) (first_leg run lines trail).point trail.points more answered site began new s.group) (short : line.time.0 < 2 ^ 64) where
   abbrev stage : Stage
   stage = stage_behind run lines text began
 
@@ -158,6 +160,9 @@ module _ {S : Type 0} (run : Run) (lines : List Answered) (trail : Trail) (more 
 
   has_names : HasNames stage.table
   has_names = course_has_names run lines stands.its.names before.goes.now.course (length lines) (omega arith)
+
+  of_line : AreOfLine run stage asked first trail.points more l.answered done.hits
+  of_line = record { before = before.next; leg = at_leg.leg; none_marked = before.marked; answered = refl; behind = passes.linked; by = done.by }
 
   -- ---- the answer
 
@@ -210,8 +215,12 @@ module _ {S : Type 0} (run : Run) (lines : List Answered) (trail : Trail) (more 
     told : 0 < new.clock → AreToldOf run stage lines (first_leg run (lines ++ a ∷ []) after) after.points a new new.clock
     told up =
         subst (λ (k : Leg). AreToldOf run stage lines k after.points a new new.clock) (sym first_is)
-        (told_of_line run stage asked first trail.points more l.answered done.hits
-        (record { before = before.next; leg = at_leg.leg; none_marked = before.marked; answered = refl; behind = passes.linked; by = done.by }) lines a new new.clock at_leg.answered refl (passed up))
+        (told_of_line run stage asked first trail.points more l.answered done.hits of_line lines a new new.clock at_leg.answered refl (passed up))
+
+    brings : BringsChanges run stage (first_leg run (lines ++ a ∷ []) after) after.points (length lines) a
+    brings =
+        subst (λ (k : Leg). BringsChanges run stage k after.points (length lines) a) (sym first_is)
+        (brings_of_line run stage asked first trail.points more l.answered done.hits of_line lines a at_leg.answered refl)
 
     may_reply : IsExactBehind run lines after text began a → MayReply run stage lines (first_leg run (lines ++ a ∷ []) after) after.points a new
     may_reply exact = record {
@@ -231,7 +240,7 @@ module _ {S : Type 0} (run : Run) (lines : List Answered) (trail : Trail) (more 
     behind_stage = stage_behind run (lines ++ a ∷ []) [] began
 
     stage_is : behind_stage ≡ then_stage
-    stage_is = stage_answered run line_grammar began.script lines a
+    stage_is = stage_answered run began.script lines a
 
     -- The session's table is that of its point.
     site_table : site.table ≡ table_at run (site_point site)
@@ -295,9 +304,9 @@ module _ {S : Type 0} (run : Run) (lines : List Answered) (trail : Trail) (more 
         started = omega (arith, before.started, length_push lines a);
         begins = begins_behind;
         rowless = ap (λ (k : Leg). k.point.rows) first_is ∙ before.rowless;
-        next = subst (λ (o : Option TimedCommand). AreNext run (lines ++ a ∷ []) o after) (sym nothing_next) (next_answered run lines after a before.started behind.next);
+        next = subst (λ (o : Option Line). AreNext run (lines ++ a ∷ []) o after) (sym nothing_next) (next_answered run lines after a before.started behind.next);
         forth = λ up.
-            subst (λ (o : Option TimedCommand). GoesForth run (lines ++ a ∷ []) o after None began new) (sym nothing_next)
+            subst (λ (o : Option Line). GoesForth run (lines ++ a ∷ []) o after None began new) (sym nothing_next)
             (forth_answered run lines after a before.started began new (behind.forth up));
         at =
             subst (λ (k : Leg). StandsAtLeg run behind_stage k site began new) (sym last_is)
@@ -309,7 +318,7 @@ module _ {S : Type 0} (run : Run) (lines : List Answered) (trail : Trail) (more 
     }
       where
         nothing_next : behind_stage.next ≡ None
-        nothing_next = none_next run line_grammar began.script (lines ++ a ∷ [])
+        nothing_next = none_next run began.script (lines ++ a ∷ [])
 
     stands_behind : StandsBehindLines run (lines ++ a ∷ []) behind_stage after s began new
     stands_behind = record {
@@ -336,10 +345,10 @@ module _ {S : Type 0} (run : Run) (lines : List Answered) (trail : Trail) (more 
       begun = λ on. (behind.some, behind.begins);
       next = None;
       along = λ some.
-          subst (λ (o : Option TimedCommand). StandsOnTrail run lines o after None new) (sym heard)
+          subst (λ (o : Option Line). StandsOnTrail run lines o after None new) (sym heard)
           (shown_on_trail run lines (Some line) after new behind.rowless behind.next behind.marked
           (subst (λ (p : Point). AtNow (ShowsPoint run (shape_of new) p) new) (sym (ap (λ (k : Leg). k.point) joined ∙ at.here)) at.shows));
-      forth = λ past some. subst (λ (o : Option TimedCommand). GoesForth run lines o after None began new) (sym heard) (behind.forth (omega (arith, past, behind.goes.now.later)));
+      forth = λ past some. subst (λ (o : Option Line). GoesForth run lines o after None began new) (sym heard) (behind.forth (omega (arith, past, behind.goes.now.later)));
     };
     volumes = behind.volumes;
     spent = λ is. absurd cc;
@@ -353,15 +362,17 @@ module _ {S : Type 0} (run : Run) (lines : List Answered) (trail : Trail) (more 
     hits = done.hits;
     begins = behind.begins;
     exact = behind.exact;
+    brings = λ reply on. brings reply;
     stops = stops;
     unhit = done.unhit;
     tells = tells;
     may = may_reply;
     stands = stands_behind;
     broke = subst (λ (o : Option SiteState). LanesBrokeAs (site_time o) run.traces lanes) (sym stands.site_is) stands.broke;
+    applied = λ reply ended. stands.applied (sym (ap (λ (t : Table). t.is_ended) (table_is reply ∙ stands.table)) ∙ ended);
     wants = λ reply device is on.
         let told = done.wants device (sym (tells reply).is ∙ is) (ap (λ (t : Table). t.is_ended) (sym stands.table) ∙ on) in
-        subst (λ (rows : List PairRow). IsSomeAnd s.group (WantsOwed run (first_leg run (lines ++ a reply ∷ []) after).point (points_before (length lines) after.points) device (table_on_the_way run.level l.changes stage.table).rows rows line.time)) (stands.told ∙ ap (λ (t : Table). t.rows) (sym stands.table))
-        (subst (λ (k : Leg). IsSomeAnd s.group (WantsOwed run k.point (points_before (length lines) after.points) device (table_on_the_way run.level l.changes stage.table).rows site.told line.time)) (sym (first_is reply))
-        (subst (λ (n : ℕ). IsSomeAnd s.group (WantsOwed run first.point (points_before n after.points) device (table_on_the_way run.level l.changes stage.table).rows site.told line.time)) at_leg.answered told));
+        subst (λ (rows : List PairRow). IsSomeAnd s.group (WantsOwed run (first_leg run (lines ++ a reply ∷ []) after).point (points_before (length lines) after.points) device (table_on_the_way run.level l.changes stage.table).rows rows line.time.0)) (stands.told ∙ ap (λ (t : Table). t.rows) (sym stands.table))
+        (subst (λ (k : Leg). IsSomeAnd s.group (WantsOwed run k.point (points_before (length lines) after.points) device (table_on_the_way run.level l.changes stage.table).rows site.told line.time.0)) (sym (first_is reply))
+        (subst (λ (n : ℕ). IsSomeAnd s.group (WantsOwed run first.point (points_before n after.points) device (table_on_the_way run.level l.changes stage.table).rows site.told line.time.0)) at_leg.answered told));
   }

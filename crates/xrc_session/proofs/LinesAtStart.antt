@@ -19,7 +19,6 @@ use Rattle.pair_table.specs.Naming.{Naming}
 use Rattle.pair_table.specs.Refusals.{refusal}
 use Rattle.pair_table.specs.Tables.{Table}
 use Rattle.site_store.specs.Sites.{SiteState}
-use Rattle.consistency.specs.Steps.{TimedCommand}
 use Rattle.mover.specs.declared.lane.Lane.{Lane}
 use Rattle.xrc_command.specs.declared.line.Line.{Line}
 use Rattle.xrc_session.specs.declared.answering.LineAnswer.{LineAnswer}
@@ -68,7 +67,7 @@ pub same_here : (old : PlantState) → SameSite old old
 same_here old = (works_on_here (Unit {0}) (λ d. ⊥) old).site
 
 -- A line that starts nothing, or that stops before anything is done, begins nothing.
-pub begins_here : (session : List ℕ) (line : TimedCommand) (old : PlantState) → BeginsByLine session line old old
+pub begins_here : (session : List ℕ) (line : Line) (old : PlantState) → BeginsByLine session line old old
 begins_here session line old = begins_none session line old old (same_here old) (leaves_here old) (λ t from to. let now : t ≡ old.clock = omega (arith, from, to) in ap old.said now)
 
 -- ---- the table has taken a start
@@ -104,10 +103,10 @@ module _ {S : Type 0} (tells : Type 0) (s next : SessionState) (lanes : List (La
       by_site (Some site) there is at_site = started_means tells told s.session level at site next.names old new same there.may (sym there.table ∙ started.table) is.0 is.1 there.flag
 
   -- The line is answered as a start.
-  pub start_answered : (line : TimedCommand) (answered : LineAnswer) → level_started s.session line ≡ Some level → line.time ≡ at → answered.answer ≡ Ok changes.Started → answered.tracks ≡ 0
-      → IfSome (level_started s.session line) (λ l. IsStartAnswered next.site line.time answered)
+  pub start_answered : (line : Line) (answered : LineAnswer) → level_started s.session line ≡ Some level → line.time.0 ≡ at → answered.answer ≡ Ok changes.Started → answered.tracks ≡ 0
+      → IfSome (level_started s.session line) (λ l. IsStartAnswered next.site line.time.0 answered)
   start_answered line answered starts time is none =
-      subst (λ (o : Option Level). IfSome o (λ l. IsStartAnswered next.site line.time answered)) (sym starts)
+      subst (λ (o : Option Level). IfSome o (λ l. IsStartAnswered next.site line.time.0 answered)) (sym starts)
       (record { is = is; tracks = none; time = subst (λ (n : ℕ). IsSomeAnd next.site (λ site. site.time ≡ n)) (sym time) (by_time next.site started.started) })
     where
       by_time : (o : Option SiteState) → IsSomeAnd o (λ site. (site.level ≡ level) × (site.time ≡ at)) → IsSomeAnd o (λ site. site.time ≡ at)

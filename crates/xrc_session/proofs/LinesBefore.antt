@@ -22,8 +22,6 @@ use Rattle.site_store.specs.Records.{VolumesStay}
 use Rattle.site_store.specs.Sites.{SiteState}
 use Rattle.consistency.specs.Bears.{Run, Stage}
 use Rattle.consistency.specs.Courses.{Answered}
-use Rattle.consistency.specs.Steps.{TimedCommand}
-use Rattle.script_lines.specs.Grammars.{asked_by}
 use Rattle.mover.specs.declared.lane.Lane.{Lane}
 use Rattle.mover.specs.Epochs.{LanesBrokeAs}
 use Rattle.xrc_command.specs.declared.line.Line.{Line}
@@ -31,10 +29,10 @@ use Rattle.xrc_status.specs.declared.stop.Stop.{Stop}
 use Rattle.xrc_status.specs.declared.stop.Stop.TheVariants.{NoMemory, Spent}
 use Rattle.xrc_session.specs.declared.answering.LineAnswer.{LineAnswer}
 use Rattle.xrc_session.specs.Answering.{answer_told}
-use Rattle.xrc_session.specs.Between.{AreCountsFrom, IsAtSite, IsBetween, IsRunOver, IsUnstarted}
+use Rattle.xrc_session.specs.Between.{AreCountsFrom, IsAtSite, IsBetween, IsRunOver, IsUnstarted, stage_behind}
 use Rattle.xrc_session.specs.Lines.{IsDoneLine, IsStartedAt, StandsStartedAt}
 use Rattle.xrc_session.specs.Replying.{level_in}
-use Rattle.xrc_session.specs.Starting.{level_started}
+use Rattle.xrc_session.specs.Starting.{MeansStart, level_started}
 use Rattle.xrc_session.specs.States.{SessionState, session_time, site_time}
 use Rattle.xrc_session.specs.Steps.{DoesLine, HasHeard, known_by}
 use Rattle.xrc_session.specs.Stops.{IsSpentNow}
@@ -42,6 +40,7 @@ use Rattle.xrc_session.proofs.LinesBegun.{just_started, unstarted_is}
 use Rattle.xrc_session.proofs.LinesDone.{known_unstarted, unstarted_done}
 use Rattle.xrc_session.proofs.LinesStarted.{started_to_reply}
 use Rattle.xrc_session.proofs.LinesUnstarted.{level_is_started, not_begun, refused_to_reply, table_by_level, table_unstarted, unstarted_stops}
+use Rattle.xrc_session.proofs.SafeStarts.{means_same}
 use Rattle.xrc_session.proofs.StartWorks.{volumes_here}
 
 -- ---- a table's command
@@ -69,7 +68,7 @@ told_memory (Err (errors.Refused why)) stop same = absurd cc
 told_memory (Err errors.NoMemory) stop same = cc
 
 -- A start that is accepted is a start.
-pub started_command : (session : List ℕ) (line : TimedCommand) (level : Level) → level_started session line ≡ Some level → line.command ≡ Start level
+pub started_command : (session : List ℕ) (line : Line) (level : Level) → level_started session line ≡ Some level → line.command ≡ Start level
 started_command session line level is = by_command line.command is
   where
     by_command : (c : Command) → level_started session (record line { command = c }) ≡ Some level → c ≡ Start level
@@ -100,25 +99,25 @@ module _ {S : Type 0} (tells : Type 0) (left : S → Option (List ℕ)) (s : Ses
   past_here = (works_on_here tells (λ d. ⊥) old).elapses
 
   -- It stops where there is no memory.
-  pub memory_does : tells → (next : SessionState) (began : PlantState) → (let r : Result LineAnswer Stop = Err NoMemory in DoesLine left (asked_by line) s next lanes lanes began old old r)
+  pub memory_does : tells → (next : SessionState) (began : PlantState) → (let r : Result LineAnswer Stop = Err NoMemory in DoesLine left line s next lanes lanes began old old r)
   memory_does told next began run lines trail text over heard = unstarted_stops run lines trail text line s lanes began old heard unstarted fresh old same_here (past_here told) ((works_on_here tells (λ d. ⊥) old).silent told) tells told (volumes_here tells old) NoMemory (λ is. absurd cc)
 
   module _ (names : Naming) (answered : LineAnswer) (is : answered.answer ≡ answer names s.table line.session line.command) where
-    level_is : level_started s.session (asked_by line) ≡ level_in answered.answer line.command
+    level_is : level_started s.session line ≡ level_in answered.answer line.command
     level_is =
-        sym (level_is_started names s.session (asked_by line)) ∙ ap (λ (t : Table). level_in (answer names t line.session line.command) line.command) (sym fresh)
+        sym (level_is_started names s.session line) ∙ ap (λ (t : Table). level_in (answer names t line.session line.command) line.command) (sym fresh)
         ∙ ap (λ (r : Result Change Refusal). level_in r line.command) (sym is)
 
     -- ---- it starts nothing
 
     module _ (refused : level_in answered.answer line.command ≡ None) (next : SessionState) (next_is : next ≡ record s { table = table_after names s.table line.session line.command line.time.0 }) where
-      pub none_starts : level_started s.session (asked_by line) ≡ None
+      pub none_starts : level_started s.session line ≡ None
       none_starts = level_is ∙ refused
 
-      table_then : table_after names s.table line.session line.command line.time.0 ≡ table_by_level s.session (level_started s.session (asked_by line))
-      table_then = ap (λ (t : Table). table_after names t line.session line.command line.time.0) fresh ∙ table_unstarted names s.session (asked_by line)
+      table_then : table_after names s.table line.session line.command line.time.0 ≡ table_by_level s.session (level_started s.session line)
+      table_then = ap (λ (t : Table). table_after names t line.session line.command line.time.0) fresh ∙ table_unstarted names s.session line
 
-      next_then : next ≡ record s { table = table_by_level s.session (level_started s.session (asked_by line)) }
+      next_then : next ≡ record s { table = table_by_level s.session (level_started s.session line) }
       next_then = next_is ∙ (λ i. record s { table = table_then i })
 
       pub refused_same : next ≡ s
@@ -127,7 +126,7 @@ module _ {S : Type 0} (tells : Type 0) (left : S → Option (List ℕ)) (s : Ses
       pub refused_done : IsDoneLine tells s next line lanes old answered
       refused_done = unstarted_done tells s next lanes old line answered between unstarted refused_same none_starts
 
-      pub refused_does : tells → line.time.0 < 2 ^ 64 → (began : PlantState) → (let r : Result LineAnswer Stop = Ok answered in DoesLine left (asked_by line) s next lanes lanes began old old r)
+      pub refused_does : tells → line.time.0 < 2 ^ 64 → (began : PlantState) → (let r : Result LineAnswer Stop = Ok answered in DoesLine left line s next lanes lanes began old old r)
       refused_does told short began run lines trail text over heard = (
         trail,
         refused_to_reply run lines trail text line s lanes began old heard unstarted fresh names answered is none_starts next next_then short lanes
@@ -138,22 +137,38 @@ module _ {S : Type 0} (tells : Type 0) (left : S → Option (List ℕ)) (s : Ses
     -- ---- it starts the session
 
     module _ (level : Level) (starts_it : level_in answered.answer line.command ≡ Some level) where
-      pub start_level : level_started s.session (asked_by line) ≡ Some level
+      pub start_level : level_started s.session line ≡ Some level
       start_level = level_is ∙ starts_it
 
       module _ (next : SessionState) (after : List (Lane S)) (new : PlantState) (same : SameSite old new) (past : tells → Elapses old new) (silent : tells → Silent old new) (volumes : VolumesStay tells old new) where
-        pub start_stops : tells → (stop : Stop) → (stop ≡ Spent → IsSpentNow new) → (began : PlantState) → (let r : Result LineAnswer Stop = Err stop in DoesLine left (asked_by line) s next lanes after began old new r)
-        start_stops told stop spent began run lines trail text over heard =
-            unstarted_stops run lines trail text line s lanes began old heard unstarted fresh new same (past told) (silent told) tells told volumes stop spent
+        pub start_stops : tells → (stop : Stop) → (stop ≡ Spent → IsSpentNow new) → (stop ≡ Spent → AtNow (MeansStart s.session level line.time.0 old) new) → (began : PlantState) → (let r : Result LineAnswer Stop = Err stop in DoesLine left line s next lanes after began old new r)
+        start_stops told stop spent means began run lines trail text over heard =
+            unstarted_stops run lines trail text line s lanes began old heard unstarted fresh new same (past told) (silent told) tells told volumes stop (λ is. record { spent = spent is; own = inr (by_next (means is)) })
+          where
+            session_is : run.session ≡ s.session
+            session_is = heard.answered.stands.its.session
+
+            by_level : AtNow (MeansStart run.session level line.time.0 began) new → IsSomeAnd (level_started run.session line) (λ l. AtNow (MeansStart run.session l line.time.0 began) new)
+            by_level mean =
+                subst (λ (o : Option Level). IsSomeAnd o (λ l. AtNow (MeansStart run.session l line.time.0 began) new))
+                (sym (ap (λ (n : List ℕ). level_started n line) session_is ∙ start_level)) mean
+
+            by_next : AtNow (MeansStart s.session level line.time.0 old) new
+                → IsSomeAnd (stage_behind run lines text began).next (λ l. IsSomeAnd (level_started run.session l) (λ k. AtNow (MeansStart run.session k l.time.0 began) new))
+            by_next mean =
+                subst (λ (o : Option Line). IsSomeAnd o (λ l. IsSomeAnd (level_started run.session l) (λ k. AtNow (MeansStart run.session k l.time.0 began) new))) (sym heard.next)
+                (by_level
+                (subst (λ (n : List ℕ). AtNow (MeansStart n level line.time.0 began) new) (sym session_is)
+                (λ c left. means_same s.session level line.time.0 began old heard.answered.goes.now.site c (mean c left))))
 
         pub start_does : tells → line.time.0 < 2 ^ 64 → (began : PlantState) → IsBetween tells next after new → IsStartedAt level line.time.0 s next → ((d : ℕ) → old.faults (Volume d) ≤ new.faults (Volume d))
-            → ((run : Run) → IsRunOver left run next lanes after began new → AreCountsFrom began old → StandsStartedAt run next after new) → (let r : Result LineAnswer Stop = Ok answered in DoesLine left (asked_by line) s next lanes after began old new r)
+            → ((run : Run) → IsRunOver left run next lanes after began new → AreCountsFrom began old → StandsStartedAt run next after new) → (let r : Result LineAnswer Stop = Ok answered in DoesLine left line s next lanes after began old new r)
         start_does told short began between_now started later stands run lines trail text over heard =
             let over_next = subst (λ (x : SessionState). IsRunOver left run x lanes after began new) (known_unstarted s next unstarted) over in
             let none = not_begun run lines trail text line s lanes began old heard unstarted fresh in
             let counts : AreCountsFrom began old = λ d. omega (arith, (none.devices (Volume d)).faults) in
             let just = just_started tells run s next after level line.time.0 began new between_now started over_next.its (stands run over_next counts) (λ d. omega (arith, counts d, later d)) in (
               record { started = suc (length lines); points = [] },
-              started_to_reply run lines trail text line s lanes began old heard unstarted fresh new same (past told) (silent told) tells told volumes names answered is level start_level (started_command s.session (asked_by line) level start_level) next after just.0
+              started_to_reply run lines trail text line s lanes began old heard unstarted fresh new same (past told) (silent told) tells told volumes names answered is level start_level (started_command s.session line level start_level) next after just.0
                   just.1 short,
             )

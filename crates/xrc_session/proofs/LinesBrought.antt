@@ -1,13 +1,12 @@
 -- A line that is answered from the start on, in memory and on the devices.
-use Rattle.std.proofs.Common.{◌≡◌, ◌⊎◌, inl, inr, ℕ, ◌<◌, ◌≤◌, Bool, true, false, true≢false, List, [], ◌∷◌, ◌++◌, length, Option, Some, None, refl, sym, ap, subst, ◌∙◌, arith}
-use Rattle.std.specs.Prelude.{◌||◌, IfSome, IsSomeAnd, IsTrue, MatchOption, Result, Ok, Err, is_none, if◌then◌else◌}
+use Rattle.std.proofs.Common.{◌≡◌, ◌⊎◌, inl, inr, ℕ, ◌≤◌, Bool, true, false, true≢false, List, length, Option, Some, None, refl, sym, ap, subst, ◌∙◌, arith}
+use Rattle.std.specs.Prelude.{◌||◌, IsSomeAnd, IsTrue, MatchOption, Result, Ok, Err, is_none, if◌then◌else◌}
 use Rattle.std.specs.Option.{option_map}
 use Rattle.std.proofs.lemmas.List.{length-map}
 use Rattle.tod_stamp.specs.declared.stamp.Stamp.{Stamp}
 use Rattle.crash_plant.specs.Calls.{NoneLent, SameSite}
 use Rattle.crash_plant.specs.Moments.{PlantState}
 use Rattle.pair_table.specs.declared.command.Change.{Change}
-use Rattle.pair_table.specs.declared.command.Change.TheVariants as changes
 use Rattle.pair_table.specs.declared.command.Command.{Command}
 use Rattle.pair_table.specs.declared.command.Command.TheVariants.{Start, AddPair, DelPair, Suspend, Query, End}
 use Rattle.pair_table.specs.declared.command.Refusal.{Refusal}
@@ -24,18 +23,17 @@ use Rattle.site_store.specs.Sites.{SiteState}
 use Rattle.site_store.specs.Standing.{HasLengths}
 use Rattle.site_store.proofs.MarkFits.{lengths_still}
 use Rattle.mover.specs.declared.lane.Lane.{Lane}
-use Rattle.mover.specs.Epochs.{AreSameLanes, MayBeginEpoch}
-use Rattle.mover.specs.Moves.{KnowsRows}
+use Rattle.mover.specs.Epochs.{AreSameLanes}
 use Rattle.mover.specs.Rounds.{AreLanesOf}
 use Rattle.mover.specs.TurningOut.{AllMayGoOn}
 use Rattle.xrc_command.specs.declared.line.Line.{Line}
 use Rattle.xrc_session.specs.Answering.{ControlsCount, IsSiteAnswered, group_taken, is_end_accepted}
 use Rattle.xrc_session.specs.Between.{HasCut, IsAtSite, IsBetween, IsReadyForEpoch, IsUnstarted, MayCommandSite}
 use Rattle.xrc_session.specs.Bringing.{IsSiteBrought}
-use Rattle.xrc_session.specs.Joins.{AreNamedOfLanes, StaysForReaders}
+use Rattle.xrc_session.specs.Joins.{StaysForReaders}
 use Rattle.xrc_session.specs.Lanes.{HaveVolumes, primaries_in, with_lanes_broken}
 use Rattle.xrc_session.specs.States.{SessionState}
-use Rattle.xrc_session.specs.Taking.{IfAdds, KeepsForRows, after_calls, calls_of_change}
+use Rattle.xrc_session.specs.Taking.{KeepsForRows}
 use Rattle.xrc_session.proofs.JoinsCommands.{added_of_lane}
 use Rattle.xrc_session.proofs.JoinsLanes.{changes_stay, lanes_behind}
 use Rattle.xrc_session.proofs.JoinsRows.{kept_known}

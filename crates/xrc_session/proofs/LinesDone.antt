@@ -7,8 +7,6 @@ use Rattle.pair_table.specs.Naming.{Naming}
 use Rattle.pair_table.specs.Tables.{Table, new_table}
 use Rattle.site_store.specs.Sites.{SiteState}
 use Rattle.group_state.specs.Groups.{Group}
-use Rattle.consistency.specs.Steps.{TimedCommand}
-use Rattle.script_lines.specs.Grammars.{asked_by}
 use Rattle.mover.specs.declared.lane.Lane.{Lane}
 use Rattle.xrc_command.specs.declared.line.Line.{Line}
 use Rattle.xrc_session.specs.declared.answering.LineAnswer.{LineAnswer}
@@ -37,7 +35,7 @@ between_told {S} tells s lanes plant between = record { unstarted = unstarted; s
 -- ---- before the start
 
 -- A line that starts nothing leaves the session.
-pub unstarted_done : {S : Type 0} (tells : Type 0) (s next : SessionState) (lanes : List (Lane S)) (plant : PlantState) (line : Line) (answered : LineAnswer) → IsBetween tells s lanes plant → s.site ≡ None → next ≡ s → level_started s.session (asked_by line) ≡ None
+pub unstarted_done : {S : Type 0} (tells : Type 0) (s next : SessionState) (lanes : List (Lane S)) (plant : PlantState) (line : Line) (answered : LineAnswer) → IsBetween tells s lanes plant → s.site ≡ None → next ≡ s → level_started s.session line ≡ None
     → IsDoneLine tells s next line lanes plant answered
 unstarted_done {S} tells s next lanes plant line answered between none same refused =
     subst (λ (x : SessionState). IsDoneLine tells s x line lanes plant answered) (sym same)
@@ -52,7 +50,7 @@ unstarted_done {S} tells s next lanes plant line answered between none same refu
 
 -- One that starts it leaves it at its time.
 pub started_done : {S : Type 0} (tells : Type 0) (s next : SessionState) (lanes : List (Lane S)) (plant : PlantState) (line : Line) (level : Level) (answered : LineAnswer) → IsBetween tells next lanes plant → s.site ≡ None → IsStartedAt level line.time.0 s next
-    → level_started s.session (asked_by line) ≡ Some level → IsDoneLine tells s next line lanes plant answered
+    → level_started s.session line ≡ Some level → IsDoneLine tells s next line lanes plant answered
 started_done {S} tells s next lanes plant line level answered between none started starts = record {
   between = between;
   same = started.same;

@@ -15,9 +15,8 @@ use Rattle.consistency.specs.Answering.{is_command_of}
 use Rattle.consistency.specs.Bears.{Run, Stage, breaks_of, names_of}
 use Rattle.consistency.specs.Courses.{Answered}
 use Rattle.consistency.specs.Leads.{Point}
-use Rattle.consistency.specs.Steps.{TimedCommand, names_at}
+use Rattle.consistency.specs.Steps.{names_at}
 use Rattle.consistency.specs.Ways.{IsAtWork, Leg, PassedPoint, leg_after, stage_point}
-use Rattle.script_lines.specs.Grammars.{asked_by}
 use Rattle.mover.specs.declared.lane.Lane.{Lane}
 use Rattle.mover.specs.Epochs.{AllTurnOut, LanesBrokeAs}
 use Rattle.mover.specs.Working.{Asked}
@@ -33,6 +32,7 @@ use Rattle.xrc_session.specs.States.{SessionState, session_time, site_time}
 use Rattle.xrc_session.specs.Steps.{EndsBringing, EndsDoing, HasBrought, HasHeard, MayBring, PassesPointsOn}
 use Rattle.xrc_session.specs.Stops.{IsSpentNow}
 use Rattle.xrc_session.specs.Trails.{Trail, asked_with, first_leg, last_leg, with_points}
+use Rattle.xrc_session.proofs.RestingMarks.{nothing_is_walked}
 use Rattle.xrc_session.proofs.Asked.{answered_rises, asked_alike, asked_number, asked_there, fold_append, fresh_points, none_of_number, same_ending}
 use Rattle.xrc_session.proofs.LinesAnswered.{IsAtLeg, IsBehindCommand, line_to_reply}
 use Rattle.xrc_session.proofs.LinesBrought.{some_value, started_behind}
@@ -41,13 +41,13 @@ use Rattle.xrc_session.proofs.OfCommands.{just_begun}
 
 -- ---- before the command
 
-module _ {S : Type 0} (tells : Type 0) (run : Run) (lines : List Answered) (trail : Trail) (text : List ℕ) (line : Line) (s : SessionState) (lanes : List (Lane S)) (began old : PlantState) (heard : HasHeard run lines trail text (asked_by line) s lanes began old) (site : SiteState)
+module _ {S : Type 0} (tells : Type 0) (run : Run) (lines : List Answered) (trail : Trail) (text : List ℕ) (line : Line) (s : SessionState) (lanes : List (Lane S)) (began old : PlantState) (heard : HasHeard run lines trail text line s lanes began old) (site : SiteState)
     (is : s.site ≡ Some site) (at_site : IsAtSite tells s lanes old site) where
   abbrev stage : Stage
   stage = stage_behind run lines text began
 
   abbrev asked : Asked
-  asked = asked_with lines (Some (asked_by line))
+  asked = asked_with lines (Some line)
 
   abbrev l : Leg
   l = last_leg run lines trail
@@ -56,10 +56,10 @@ module _ {S : Type 0} (tells : Type 0) (run : Run) (lines : List Answered) (trai
   first = (first_leg run lines trail).point
 
   rests : RestsAtSite run lines stage trail s began old site
-  rests = rests_at run lines trail text (asked_by line) s lanes began old heard site is
+  rests = rests_at run lines trail text line s lanes began old heard site is
 
-  asked_is : asked l.answered ≡ Some (asked_by line)
-  asked_is = asked_there lines (Some (asked_by line)) l.answered rests.rest.answered
+  asked_is : asked l.answered ≡ Some line
+  asked_is = asked_there lines (Some line) l.answered rests.rest.answered
 
   table_is : stage.table ≡ site.table
   table_is = heard.answered.stands.table ∙ at_site.table
@@ -70,13 +70,13 @@ module _ {S : Type 0} (tells : Type 0) (run : Run) (lines : List Answered) (trai
   fresh : All (λ n. is_command_of l.answered n.way ≡ false) trail.points
   fresh =
       fresh_points l.answered trail.points
-      (none_of_number run asked (first_leg run lines trail) trail.points l.answered rests.rest.marked (omega arith) (within_first run lines trail text (asked_by line) s lanes began old heard site is).next)
+      (none_of_number run asked (first_leg run lines trail) trail.points l.answered rests.rest.marked (omega arith) (within_first run lines trail text line s lanes began old heard site is).next)
 
   pub rest_at_leg : IsAtLeg run lines stage l
   rest_at_leg = record { leg = rests.under_way.at.leg; answered = rests.rest.answered; ended = λ ended. (rests.rest.point, rests.rest.changes) }
 
   -- A session that has ended may answer.
-  pub ended_may_answer : site.table.is_ended ≡ true → MayAnswer run stage (asked_by line) asked l first trail.points s.names site s.group began old
+  pub ended_may_answer : site.table.is_ended ≡ true → MayAnswer run stage line asked l first trail.points s.names site s.group began old
   ended_may_answer ended = record {
     heard = heard.next;
     asked_is = asked_is;
@@ -97,11 +97,11 @@ module _ {S : Type 0} (tells : Type 0) (run : Run) (lines : List Answered) (trai
     at_work = record {
       goes_on = ap (λ (p : Point). p.is_ended) rests.under_way.at.here ∙ at_site.flag ∙ goes;
       not_ending =
-          same_ending run (asked_with lines None) asked l (length lines) (omega (arith, rests.rest.answered)) (λ k below. asked_alike lines None (Some (asked_by line)) k below) ∙ rests.rest.not_ending;
+          same_ending run (asked_with lines None) asked l (length lines) (omega (arith, rests.rest.answered)) (λ k below. asked_alike lines None (Some line) k below) ∙ rests.rest.not_ending;
       none_marked = rests.rest.marked;
     }
 
-    may_bring_group : (o : Option Group) → IsSomeAnd o (GoesOnFrom run first trail.points site old) → IsSomeAnd o (HasCut site.time) → IsSomeAnd o (MayBring run stage (asked_by line) asked l first trail.points site began old)
+    may_bring_group : (o : Option Group) → IsSomeAnd o (GoesOnFrom run first trail.points site old) → IsSomeAnd o (HasCut site.time) → IsSomeAnd o (MayBring run stage line asked l first trail.points site began old)
     may_bring_group None is_on cut = absurd is_on
     may_bring_group (Some group) is_on cut = record {
       heard = heard.next;
@@ -115,44 +115,44 @@ module _ {S : Type 0} (tells : Type 0) (run : Run) (lines : List Answered) (trai
     }
 
     -- It may be brought to the line's time.
-    pub may_bring : IsSomeAnd s.group (MayBring run stage (asked_by line) asked l first trail.points site began old)
+    pub may_bring : IsSomeAnd s.group (MayBring run stage line asked l first trail.points site began old)
     may_bring = may_bring_group s.group (rests.under_way.goes_on goes) (at_site.cut goes)
 
     -- Where it stopped on the way the run stops.
     pub bring_stops : (mid : PlantState) → SameSite old mid → Elapses old mid → Silent old mid → (stop : Stop) → (stop ≡ Spent → IsSpentNow mid) → (next : SiteState) (group : Option Group)
-        → EndsBringing run stage (asked_by line) asked l first trail.points next group began old mid (Err stop) → StopsInLine run lines text began mid stop
+        → EndsBringing run stage line asked l first trail.points next group began old mid (Err stop) → StopsInLine run lines text began mid stop
     bring_stops mid same past silent stop spent next group ends =
-        within_stops run lines trail text (Some (asked_by line)) began old mid heard.next (within_first run lines trail text (asked_by line) s lanes began old heard site is) same past silent stop spent ends
+        within_stops run lines trail text (Some line) began old mid heard.next (within_first run lines trail text line s lanes began old heard site is) same past silent stop spent ends
 
     -- Once it was brought there it may answer.
     module _ (mid : PlantState) (same : SameSite old mid) (past : Elapses old mid) (silent : Silent old mid) (next : SiteState) (group : Option Group) (names : Naming) (named : names ≡ names_at line.time.0 (breaks_of run) (names_of run)) (same_level : next.level ≡ site.level)
         (still_goes : next.table.is_ended ≡ false) (cut : IsSomeAnd group (HasCut next.time)) (more : List PassedPoint) (passes : PassesPointsOn run stage asked l more None old mid)
-        (brought : IsSomeAnd group (HasBrought run stage (asked_by line) asked (fold leg_after l more) first (trail.points ++ more) next began mid)) where
+        (brought : IsSomeAnd group (HasBrought run stage line asked (fold leg_after l more) first (trail.points ++ more) next began mid)) where
       abbrev behind : Trail
       behind = with_points more trail
 
-      some : (g : Group) × (group ≡ Some g) × HasBrought run stage (asked_by line) asked (fold leg_after l more) first (trail.points ++ more) next began mid g
-      some = some_value {P = HasBrought run stage (asked_by line) asked (fold leg_after l more) first (trail.points ++ more) next began mid} group brought
+      some : (g : Group) × (group ≡ Some g) × HasBrought run stage line asked (fold leg_after l more) first (trail.points ++ more) next began mid g
+      some = some_value {P = HasBrought run stage line asked (fold leg_after l more) first (trail.points ++ more) next began mid} group brought
 
       joined : last_leg run lines behind ≡ fold leg_after l more
       joined = fold_append (first_leg run lines trail) trail.points more
 
       -- It is answered as many lines as before.
       same_answered : (fold leg_after l more).answered ≡ length lines
-      same_answered = asked_number lines (asked_by line) (fold leg_after l more).answered (omega (arith, answered_rises l more, rests.rest.answered)) some.2.asked_is
+      same_answered = asked_number lines line (fold leg_after l more).answered (omega (arith, answered_rises l more, rests.rest.answered)) some.2.asked_is
 
-      pub brought_within : IsWithin run lines behind text (Some (asked_by line)) began mid
-      brought_within = within_on run lines trail text (Some (asked_by line)) began old mid heard.next (within_first run lines trail text (asked_by line) s lanes began old heard site is) same past silent more passes some.2.at_work.none_marked (omega (arith, same_answered))
+      pub brought_within : IsWithin run lines behind text (Some line) began mid
+      brought_within = within_on run lines trail text (Some line) began old mid heard.next (within_first run lines trail text line s lanes began old heard site is) same past silent more passes some.2.at_work.none_marked (omega (arith, same_answered))
 
       brought_fresh : All (λ n. is_command_of (last_leg run lines behind).answered n.way ≡ false) behind.points
       brought_fresh =
           fresh_points (last_leg run lines behind).answered behind.points
           (none_of_number run asked (first_leg run lines trail) behind.points (last_leg run lines behind).answered brought_within.marked (omega arith) brought_within.next)
 
-      here : HasBrought run stage (asked_by line) asked (last_leg run lines behind) first behind.points next began mid some.0
-      here = subst (λ (k : Leg). HasBrought run stage (asked_by line) asked k first behind.points next began mid some.0) (sym joined) some.2
+      here : HasBrought run stage line asked (last_leg run lines behind) first behind.points next began mid some.0
+      here = subst (λ (k : Leg). HasBrought run stage line asked k first behind.points next began mid some.0) (sym joined) some.2
 
-      pub brought_may_answer : MayAnswer run stage (asked_by line) asked (last_leg run lines behind) first behind.points names next group began mid
+      pub brought_may_answer : MayAnswer run stage line asked (last_leg run lines behind) first behind.points names next group began mid
       brought_may_answer = record {
         heard = heard.next;
         asked_is = here.asked_is;
@@ -176,9 +176,9 @@ module _ {S : Type 0} (tells : Type 0) (run : Run) (lines : List Answered) (trai
 -- ---- the command
 
 -- How a line ends behind the command of a session that was brought to its time, or that has ended.
-module _ {S : Type 0} (run : Run) (lines : List Answered) (trail : Trail) (text : List ℕ) (line : TimedCommand) (began mid new : PlantState) (heard : (stage_behind run lines text began).next ≡ Some line) (within : IsWithin run lines trail text (Some line) began mid)
-    (at_leg : IsAtLeg run lines (stage_behind run lines text began) (last_leg run lines trail)) (same : SameSite mid new) (past : Elapses mid new) (silent : Silent mid new) (short : line.time < 2 ^ 64) where
-  pub command_ends : (s : SessionState) (lanes : List (Lane S)) (site : SiteState) (result : Result LineAnswer Stop) → (IsErrOf result Spent → IsSpentNow new) → OnOk result (IsBehindCommand run s lanes site)
+module _ {S : Type 0} (run : Run) (lines : List Answered) (trail : Trail) (text : List ℕ) (line : Line) (began mid new : PlantState) (heard : (stage_behind run lines text began).next ≡ Some line) (within : IsWithin run lines trail text (Some line) began mid)
+    (at_leg : IsAtLeg run lines (stage_behind run lines text began) (last_leg run lines trail)) (same : SameSite mid new) (past : Elapses mid new) (silent : Silent mid new) (short : line.time.0 < 2 ^ 64) where
+  pub command_ends : (s : SessionState) (lanes : List (Lane S)) (site : SiteState) (result : Result LineAnswer Stop) → (IsErrOf result Spent → IsSpentNow new) → OnOk result (IsBehindCommand run s lanes site new)
       → EndsCommand run (stage_behind run lines text began) line (asked_with lines (Some line)) (last_leg run lines trail) (first_leg run lines trail).point trail.points site s.group began mid new result → EndsDoing run lines text line s lanes began new result
   command_ends s lanes site (Err stop) spent stands ends =
       within_stops run lines trail text (Some line) began mid new heard within same past silent stop (λ is. spent (ap (λ (x : Stop). let r : Result LineAnswer Stop = Err x in r) is)) ends
@@ -193,8 +193,9 @@ module _ {S : Type 0} (run : Run) (lines : List Answered) (trail : Trail) (text 
 -- What a session is to its run behind the command.
 pub behind_command_is : {S : Type 0} (tells : Type 0) (run : Run) (s : SessionState) (lanes_now : List (Lane S)) (names names_now : Naming) (site next : SiteState) (line : Line) (answered : Result Change Refusal) (new : PlantState) (group : Option Group) (flag : Bool) → IsRunOfSession s run → run.level ≡ site.level → run.labels ≡ names.labels
     → names_now ≡ names → site.table.session ≡ s.session → site.table.is_started ≡ true → IsSiteAnswered tells names line answered site next new → (next.table.is_ended ≡ false → names ≡ names_at site.time (breaks_of run) (names_of run)) → LanesBrokeAs site.time run.traces lanes_now
-    → IsBehindCommand run (record { session = s.session; controls = s.controls; names = names_now; group = group; table = next.table; site = Some next; is_ended = flag }) lanes_now next
-behind_command_is {S} tells run s lanes_now names names_now site next line answered new group flag its level labels same session started behind named broke = record {
+    → tells → (next.table.is_ended ≡ true → next.at ≡ next.mark.at)
+    → IsBehindCommand run (record { session = s.session; controls = s.controls; names = names_now; group = group; table = next.table; site = Some next; is_ended = flag }) lanes_now next new
+behind_command_is {S} tells run s lanes_now names names_now site next line answered new group flag its level labels same session started behind named broke told empty = record {
   its = record { names = its.names; session = its.session; level = level ∙ sym behind.level; labels = labels ∙ sym (ap (λ (n : Naming). n.labels) same) };
   site_is = refl;
   table = refl;
@@ -204,6 +205,7 @@ behind_command_is {S} tells run s lanes_now names names_now site next line answe
   started = ap (λ (t : Table). t.is_started) behind.table ∙ facts.1;
   named = λ on. same ∙ named on ∙ ap (λ (n : ℕ). names_at n (breaks_of run) (names_of run)) (sym behind.time);
   broke = subst (λ (n : ℕ). LanesBrokeAs n run.traces lanes_now) (sym behind.time) broke;
+  applied = λ ended. let stand = behind.may.idle.may.fast.stands told in nothing_is_walked new stand.0 next stand.1 (empty ended);
 }
   where
     facts : ((table_after names site.table line.session line.command line.time.0).session ≡ site.table.session) × ((table_after names site.table line.session line.command line.time.0).is_started ≡ true)

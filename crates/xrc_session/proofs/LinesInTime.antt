@@ -18,9 +18,8 @@ use Rattle.site_store.specs.Sites.{SiteState}
 use Rattle.consistency.specs.Bears.{Run, Stage, breaks_of, names_of}
 use Rattle.consistency.specs.Courses.{Answered}
 use Rattle.consistency.specs.Leads.{Point}
-use Rattle.consistency.specs.Steps.{TimedCommand, names_at}
+use Rattle.consistency.specs.Steps.{names_at}
 use Rattle.consistency.specs.Ways.{Leg, PassedPoint, leg_after}
-use Rattle.script_lines.specs.Grammars.{asked_by}
 use Rattle.mover.specs.declared.lane.Lane.{Lane}
 use Rattle.mover.specs.Epochs.{AllTurnOut, AreSameLanes, LanesBrokeAs}
 use Rattle.mover.specs.Working.{Asked}
@@ -110,24 +109,28 @@ module _ {S : Type 0} (tells : Type 0) (told : tells) (left : S → Option (List
   site_ended : site.table.is_ended ≡ true
   site_ended = sym stands_at.ended ∙ ended
 
-  pub end_does : (before : Kept) → before.names ≡ s.names → before.group ≡ s.group → (began : PlantState) → AnswersCommands (asked_by line) before kept site next began old new result → DoesLine left (asked_by line) s end_now lanes lanes began old new result
+  pub end_does : (before : Kept) → before.names ≡ s.names → before.group ≡ s.group → (began : PlantState) → AnswersCommands line before kept site next began old new result → DoesLine left line s end_now lanes lanes began old new result
   end_does before same_names same_group began answers run lines trail text over heard =
-      command_ends run lines trail text (asked_by line) began old new heard.next (within_first run lines trail text (asked_by line) s lanes began old heard site is) (rest_at_leg tells run lines trail text line s lanes began old heard site is stands_at) same past silent short end_now lanes
-      next result spent (ok_then (λ a. IsSiteAnswered tells s.names line a.answer site next new) (IsBehindCommand run end_now lanes next) result of_answer behind)
-      (answers run (stage_behind run lines text began) (asked_with lines (Some (asked_by line))) (last_leg run lines trail) (first_leg run lines trail).point trail.points
-      (subst (λ (n : Naming). MayAnswer run (stage_behind run lines text began) (asked_by line) (asked_with lines (Some (asked_by line))) (last_leg run lines trail) (first_leg run lines trail).point trail.points n site before.group began old) (sym same_names)
-      (subst (λ (g : Option Group). MayAnswer run (stage_behind run lines text began) (asked_by line) (asked_with lines (Some (asked_by line))) (last_leg run lines trail) (first_leg run lines trail).point trail.points s.names site g began old) (sym same_group)
+      command_ends run lines trail text line began old new heard.next (within_first run lines trail text line s lanes began old heard site is) (rest_at_leg tells run lines trail text line s lanes began old heard site is stands_at) same past silent short end_now lanes
+      next result spent (ok_then (λ a. IsSiteAnswered tells s.names line a.answer site next new) (IsBehindCommand run end_now lanes next new) result of_answer behind)
+      (answers run (stage_behind run lines text began) (asked_with lines (Some line)) (last_leg run lines trail) (first_leg run lines trail).point trail.points
+      (subst (λ (n : Naming). MayAnswer run (stage_behind run lines text began) line (asked_with lines (Some line)) (last_leg run lines trail) (first_leg run lines trail).point trail.points n site before.group began old) (sym same_names)
+      (subst (λ (g : Option Group). MayAnswer run (stage_behind run lines text began) line (asked_with lines (Some line)) (last_leg run lines trail) (first_leg run lines trail).point trail.points s.names site g began old) (sym same_group)
       (ended_may_answer tells run lines trail text line s lanes began old heard site is stands_at site_ended)))
       over.rises)
     where
-      of_answer : (a : LineAnswer) → IsSiteAnswered tells s.names line a.answer site next new → IsBehindCommand run end_now lanes next
+      empty_still : (next.at ≡ next.mark.at) ⊎ (next ≡ site) → next.at ≡ next.mark.at
+      empty_still (inl is_empty) = is_empty
+      empty_still (inr still) = ap (λ (x : SiteState). x.at) still ∙ stands_at.empty site_ended ∙ sym (ap (λ (x : SiteState). x.mark.at) still)
+
+      of_answer : (a : LineAnswer) → IsSiteAnswered tells s.names line a.answer site next new → IsBehindCommand run end_now lanes next new
       of_answer a answered =
           let its = heard.answered.stands.its in
           let still : next.table.is_ended ≡ true =
           ap (λ (t : Table). t.is_ended) answered.table ∙ ended_behind s.names site.table line.session line.command line.time.0 ∙ ap (λ (e : Bool). e || is_end_accepted (answer s.names site.table line.session line.command)) site_ended in
           behind_command_is tells run s lanes s.names kept.names site next line a.answer new kept.group s.is_ended its (level_is tells run lines trail text line s lanes began old heard site is stands_at)
           (subst (λ (o : Option SiteState). IfSome o (λ x. run.labels ≡ s.names.labels)) is its.labels) names_are stands_at.session stands_at.may.commands.started answered (λ on. absurd (true≢false (sym still ∙ on)))
-          (subst (λ (o : Option SiteState). LanesBrokeAs (site_time o) run.traces lanes) is heard.answered.broke)
+          (subst (λ (o : Option SiteState). LanesBrokeAs (site_time o) run.traces lanes) is heard.answered.broke) told (λ on. empty_still (answered.empty on))
 
 -- ---- in time
 
@@ -141,20 +144,20 @@ module _ {S : Type 0} (tells : Type 0) (told : tells) (left : S → Option (List
 
   abbrev Ends : (run : Run) → List Answered → Trail → (text : List ℕ) → Result (Unit {0}) Stop → Type 0
   Ends run lines trail text r =
-      EndsBringing run (stage_behind run lines text began) (asked_by line) (asked_with lines (Some (asked_by line))) (last_leg run lines trail) (first_leg run lines trail).point trail.points brought between_kept.group began old mid r
+      EndsBringing run (stage_behind run lines text began) line (asked_with lines (Some line)) (last_leg run lines trail) (first_leg run lines trail).point trail.points brought between_kept.group began old mid r
 
-  bringing : (run : Run) (lines : List Answered) (trail : Trail) (text : List ℕ) → HasHeard run lines trail text (asked_by line) s lanes began old → AllTurnOut left run.traces lanes after → RisesCover run began mid
+  bringing : (run : Run) (lines : List Answered) (trail : Trail) (text : List ℕ) → HasHeard run lines trail text line s lanes began old → AllTurnOut left run.traces lanes after → RisesCover run began mid
       → (r : Result (Unit {0}) Stop) → BringsOn left line.time.0 lanes after before between_kept site brought began old mid r → Ends run lines trail text r
   bringing run lines trail text heard traces rises r brings =
-      brings run (stage_behind run lines text began) (asked_by line) (asked_with lines (Some (asked_by line))) (last_leg run lines trail) (first_leg run lines trail).point trail.points refl
+      brings run (stage_behind run lines text began) line (asked_with lines (Some line)) (last_leg run lines trail) (first_leg run lines trail).point trail.points refl
       (level_is tells run lines trail text line s lanes began old heard site is site_at)
-      (subst (λ (g : Option Group). IsSomeAnd g (MayBring run (stage_behind run lines text began) (asked_by line) (asked_with lines (Some (asked_by line))) (last_leg run lines trail) (first_leg run lines trail).point trail.points site began old)) (sym same_group)
+      (subst (λ (g : Option Group). IsSomeAnd g (MayBring run (stage_behind run lines text began) line (asked_with lines (Some line)) (last_leg run lines trail) (first_leg run lines trail).point trail.points site began old)) (sym same_group)
       (may_bring tells run lines trail text line s lanes began old heard site is site_at site_goes))
       traces rises
 
   -- It stops on the way.
   pub bring_does : (next : SessionState) (stop : Stop) → (stop ≡ Spent → IsSpentNow mid) → (let r : Result (Unit {0}) Stop = Err stop in BringsOn left line.time.0 lanes after before between_kept site brought began old mid r)
-      → (let r : Result LineAnswer Stop = Err stop in DoesLine left (asked_by line) s next lanes after began old mid r)
+      → (let r : Result LineAnswer Stop = Err stop in DoesLine left line s next lanes after began old mid r)
   bring_does next stop spent brings run lines trail text over heard =
       bring_stops tells run lines trail text line s lanes began old heard site is site_at site_goes mid same past silent stop spent brought between_kept.group
       (bringing run lines trail text heard over.traces over.rises (Err stop) brings)
@@ -163,20 +166,20 @@ module _ {S : Type 0} (tells : Type 0) (told : tells) (left : S → Option (List
   module _ (short : line.time.0 < 2 ^ 64) (lanes_same : AreSameLanes lanes after) (broke : BreakOnAsTraces left line.time.0 lanes after) (at : IsAtLine tells s after between_kept.names between_kept.group brought line.time.0 mid) (site_is : IsSiteBrought line.time.0 site brought)
       (names_are : between_kept.names ≡ with_lanes_broken 0 after s.names) (labels_are : between_kept.names.labels ≡ s.names.labels) (brings : let r : Result (Unit {0}) Stop = Ok tt in BringsOn left line.time.0 lanes after before between_kept site brought began old mid r)
       (new : PlantState) (fell : NoneFell mid new) (same_then : SameSite mid new) (past_then : Elapses mid new) (silent_then : Silent mid new) (kept : Kept) (kept_names : kept.names ≡ between_kept.names) (next : SiteState) (flag : Bool) (result : Result LineAnswer Stop)
-      (behind : IfOk result (λ a. IsSiteAnswered tells between_kept.names line a.answer brought next new)) (spent : IsErrOf result Spent → IsSpentNow new) (answers : AnswersCommands (asked_by line) between_kept kept brought next began mid new result) where
+      (behind : IfOk result (λ a. IsSiteAnswered tells between_kept.names line a.answer brought next new)) (spent : IsErrOf result Spent → IsSpentNow new) (answers : AnswersCommands line between_kept kept brought next began mid new result) where
     abbrev then_now : SessionState
     then_now = record { session = s.session; controls = s.controls; names = kept.names; group = kept.group; table = next.table; site = Some next; is_ended = flag }
 
     brought_goes : brought.table.is_ended ≡ false
     brought_goes = ap (λ (t : Table). t.is_ended) site_is.table ∙ site_goes
 
-    pub in_time_does : DoesLine left (asked_by line) s then_now lanes after began old new result
+    pub in_time_does : DoesLine left line s then_now lanes after began old new result
     in_time_does run lines trail text over heard =
-        command_ends run lines (with_points ends.0 trail) text (asked_by line) began mid new heard.next
+        command_ends run lines (with_points ends.0 trail) text line began mid new heard.next
         (brought_within tells run lines trail text line s lanes began old heard site is site_at site_goes mid same past silent brought between_kept.group between_kept.names named_now site_is.level brought_goes cut_mid ends.0 ends.1 ends.2)
         (brought_at_leg tells run lines trail text line s lanes began old heard site is site_at site_goes mid same past silent brought between_kept.group between_kept.names named_now site_is.level brought_goes cut_mid ends.0 ends.1 ends.2)
-        same_then past_then silent_then short then_now after next result spent (ok_then (λ a. IsSiteAnswered tells between_kept.names line a.answer brought next new) (IsBehindCommand run then_now after next) result of_answer behind)
-        (answers run (stage_behind run lines text began) (asked_with lines (Some (asked_by line))) (last_leg run lines (with_points ends.0 trail)) (first_leg run lines trail).point (trail.points ++ ends.0)
+        same_then past_then silent_then short then_now after next result spent (ok_then (λ a. IsSiteAnswered tells between_kept.names line a.answer brought next new) (IsBehindCommand run then_now after next new) result of_answer behind)
+        (answers run (stage_behind run lines text began) (asked_with lines (Some line)) (last_leg run lines (with_points ends.0 trail)) (first_leg run lines trail).point (trail.points ++ ends.0)
         (brought_may_answer tells run lines trail text line s lanes began old heard site is site_at site_goes mid same past silent brought between_kept.group between_kept.names named_now site_is.level brought_goes cut_mid ends.0 ends.1 ends.2) over.rises)
       where
         cut_mid : IsSomeAnd between_kept.group (HasCut brought.time)
@@ -189,7 +192,7 @@ module _ {S : Type 0} (tells : Type 0) (told : tells) (left : S → Option (List
         ends = bringing run lines trail text heard over.traces rises_mid (Ok tt) brings
 
         rests : RestsAtSite run lines (stage_behind run lines text began) trail s began old site
-        rests = rests_at run lines trail text (asked_by line) s lanes began old heard site is
+        rests = rests_at run lines trail text line s lanes began old heard site is
 
         broke_now : LanesBrokeAs line.time.0 run.traces after
         broke_now = broke run.traces site.time up over.traces (subst (λ (o : Option SiteState). LanesBrokeAs (site_time o) run.traces lanes) is heard.answered.broke)
@@ -197,9 +200,14 @@ module _ {S : Type 0} (tells : Type 0) (told : tells) (left : S → Option (List
         named_now : between_kept.names ≡ names_at line.time.0 (breaks_of run) (names_of run)
         named_now = names_at_time run after site.time line.time.0 s.names between_kept.names up broke_now (heads_stay lanes after run.traces lanes_same over.heads) at.headed (rests.named site_goes) names_are
 
-        of_answer : (a : LineAnswer) → IsSiteAnswered tells between_kept.names line a.answer brought next new → IsBehindCommand run then_now after next
+        empty_now : next.table.is_ended ≡ true → (next.at ≡ next.mark.at) ⊎ (next ≡ brought) → next.at ≡ next.mark.at
+        empty_now on (inl is_empty) = is_empty
+        empty_now on (inr still) = absurd (true≢false (sym on ∙ ap (λ (x : SiteState). x.table.is_ended) still ∙ brought_goes))
+
+        of_answer : (a : LineAnswer) → IsSiteAnswered tells between_kept.names line a.answer brought next new → IsBehindCommand run then_now after next new
         of_answer a answered =
             let its = heard.answered.stands.its in
             behind_command_is tells run s after between_kept.names kept.names brought next line a.answer new kept.group flag its (level_is tells run lines trail text line s lanes began old heard site is site_at ∙ sym site_is.level)
             (subst (λ (o : Option SiteState). IfSome o (λ x. run.labels ≡ s.names.labels)) is its.labels ∙ sym labels_are) kept_names at.session at.may.commands.started answered
-            (λ on. named_now ∙ ap (λ (n : ℕ). names_at n (breaks_of run) (names_of run)) (sym site_is.at)) (subst (λ (n : ℕ). LanesBrokeAs n run.traces after) (sym site_is.at) broke_now)
+            (λ on. named_now ∙ ap (λ (n : ℕ). names_at n (breaks_of run) (names_of run)) (sym site_is.at)) (subst (λ (n : ℕ). LanesBrokeAs n run.traces after) (sym site_is.at) broke_now) told
+            (λ on. empty_now on (answered.empty on))

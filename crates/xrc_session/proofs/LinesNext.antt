@@ -14,7 +14,6 @@ use Rattle.consistency.specs.Bears.{Run}
 use Rattle.consistency.specs.Courses.{Answered, last_line_time, lines_begun}
 use Rattle.consistency.proofs.Between.{runs_begin}
 use Rattle.script_lines.specs.declared.next.Next.TheVariants as next
-use Rattle.script_lines.specs.Grammars.{line_grammar}
 use Rattle.script_lines.specs.Hearing.{HearsText, KeepsHearing, SaysNothing}
 use Rattle.script_lines.specs.NextLines.{IsNextLine}
 use Rattle.script_lines.specs.Texts.{IsFront}
@@ -52,7 +51,7 @@ module _ {S : Type 0} (tells : Type 0) (left : S → Option (List ℕ)) (faults 
 
   none_answered : (run : Run) → IsRunOver left run s lanes lanes began began → HasAnswered run [] no_trail [] s lanes began began
   none_answered run over = record {
-    goes = runs_begin began run line_grammar;
+    goes = runs_begin began run;
     exact = λ n a at. absurd cc;
     stands = record {
       its = over.its;
@@ -61,6 +60,7 @@ module _ {S : Type 0} (tells : Type 0) (left : S → Option (List ℕ)) (faults 
       place = by_place s.site unstarted;
     };
     broke = subst (λ (o : Option SiteState). LanesBrokeAs (site_time o) run.traces lanes) (sym unstarted) (unbroken_at_start s lanes run.traces not_started (as_many lanes run.traces over.heads));
+    applied = λ up number below. absurd (omega (arith, below));
   }
     where
       by_place : (o : Option SiteState) → o ≡ None → MatchOption o (HasNotBegun no_trail began began) (RestsAtSite run [] (stage_behind run [] [] began) no_trail s began began)
@@ -158,6 +158,7 @@ module _ {S : Type 0} {tells : Type 0} {left : S → Option (List ℕ)} {faults 
               stops = hearing_stops run at.0 at.1.0 text s lanes_now began mid ConsoleFault at.1.1 (between_told tells s lanes_now old h.running.between).unstarted (λ is. absurd cc);
               bad = λ bad. inr (refl, front.no_feed);
               of_bad = λ n is. absurd cc;
+              applied = at.1.1.applied;
             },
           ),
         );
@@ -196,6 +197,7 @@ module _ {S : Type 0} {tells : Type 0} {left : S → Option (List ℕ)} {faults 
                 stops = hearing_stops run at.0 at.1.0 text s lanes_now began mid (BadLine number) at.1.1 (between_told tells s lanes_now old h.running.between).unstarted (λ is. absurd cc);
                 bad = λ is. inl (ap (λ (n : ℕ). BadLine n) at.2);
                 of_bad = λ n is. (sym (bad_number number n is) ∙ at.2, same);
+                applied = at.1.1.applied;
               },
             ),
           );

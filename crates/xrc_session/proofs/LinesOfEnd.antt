@@ -8,7 +8,6 @@ use Rattle.pair_table.specs.declared.row.PairRow.{PairRow}
 use Rattle.pair_table.specs.Tables.{Table}
 use Rattle.group_state.specs.Groups.{Group}
 use Rattle.site_store.specs.Sites.{SiteState}
-use Rattle.script_lines.specs.Grammars.{asked_by}
 use Rattle.mover.specs.declared.lane.Lane.{Lane}
 use Rattle.mover.specs.Moves.{IsOfMover}
 use Rattle.xrc_command.specs.declared.line.Line.{Line}
@@ -93,7 +92,7 @@ module _ {S : Type 0} (tells : Type 0) (session : List ℕ) (controls : ℕ) (ke
             (ended_is ∙ sym (ap (λ (b : Bool). b || is_end_accepted a.answer) ended_is)) works.works.site end_keeps.home
         by_result (Err stop) is rows took = tt
 
-    pub end_does_line : (left : S → Option (List ℕ)) → line.time.0 < 2 ^ 64 → tells → (began : PlantState) → AnswersCommands (asked_by line) kept kept_now site next began old new result → DoesLine left (asked_by line) s now lanes lanes began old new result
+    pub end_does_line : (left : S → Option (List ℕ)) → line.time.0 < 2 ^ 64 → tells → (began : PlantState) → AnswersCommands line kept kept_now site next began old new result → DoesLine left line s now lanes lanes began old new result
     end_does_line left short told began answers =
-        subst (λ (x : SessionState). DoesLine left (asked_by line) x now lanes lanes began old new result) same
+        subst (λ (x : SessionState). DoesLine left line x now lanes lanes began old new result) same
         (end_does tells told left was lanes old stands site refl line short ended_is new works.works.site (works.works.elapses told) (works.works.silent told) kept_now next result names_are behind (works.spent told) kept refl refl began answers)

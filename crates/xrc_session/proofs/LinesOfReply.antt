@@ -3,13 +3,10 @@ use Rattle.std.proofs.Common.{◌≡◌, ℕ, ◌≤◌, List, length, Option, S
 use Rattle.std.specs.Prelude.{IfErr, IfSome}
 use Rattle.xrc_edge.specs.Causes.{Rose}
 use Rattle.crash_plant.specs.Calls.{Elapses, HearsNothing, Silent}
-use Rattle.crash_plant.specs.Choices.{AtNow}
 use Rattle.crash_plant.specs.declared.device.Device.TheVariants.{Control}
 use Rattle.crash_plant.specs.Moments.{PlantState}
 use Rattle.pair_table.specs.declared.level.Level.{Level}
 use Rattle.site_store.specs.Sites.{SiteState}
-use Rattle.consistency.specs.Steps.{TimedCommand}
-use Rattle.script_lines.specs.Grammars.{asked_by}
 use Rattle.mover.specs.declared.lane.Lane.{Lane}
 use Rattle.xrc_command.specs.declared.line.Line.{Line}
 use Rattle.xrc_status.specs.Saying.{SaidWhole, SaysText}
@@ -21,7 +18,7 @@ use Rattle.xrc_session.specs.Frames.{KeepsPlant, SuspendsByCounts}
 use Rattle.xrc_session.specs.Lines.{IsDoneLine, IsSameSession, IsStartAnswered, KeepsStart, StartsByLine}
 use Rattle.xrc_session.specs.Replying.{reply_composed}
 use Rattle.xrc_session.specs.Runs.{AreLabels}
-use Rattle.xrc_session.specs.Starting.{BeginsByLine, MeansStart, RepliesToStart, level_started}
+use Rattle.xrc_session.specs.Starting.{BeginsByLine, RepliesToStart, StandsBehindStart, level_started}
 use Rattle.xrc_session.specs.States.{SessionState, session_time}
 use Rattle.xrc_session.specs.Steps.{AnswersLine, DoesLine}
 use Rattle.xrc_session.specs.Stops.{HasStopCause, StopsByCount}
@@ -36,12 +33,12 @@ pub silent_unheard : (old new : PlantState) → Elapses old new → Silent old n
 silent_unheard old new past silent = record { script = silent.script; heard = silent.heard new.clock (past.kept Control).later (omega arith) }
 
 -- A line stops where its command does.
-pub answers_stopped : {S : Type 0} (left : S → Option (List ℕ)) (line : TimedCommand) (s next : SessionState) (lanes after : List (Lane S)) (began old new : PlantState) (stop : Stop) (result : Result (Unit {0}) Stop) → result ≡ Err stop
+pub answers_stopped : {S : Type 0} (left : S → Option (List ℕ)) (line : Line) (s next : SessionState) (lanes after : List (Lane S)) (began old new : PlantState) (stop : Stop) (result : Result (Unit {0}) Stop) → result ≡ Err stop
     → (let r : Result LineAnswer Stop = Err stop in DoesLine left line s next lanes after began old new r) → AnswersLine left line s next lanes after began old new result
 answers_stopped {S} left line s next lanes after began old new stop result is does = subst (λ (r : Result (Unit {0}) Stop). AnswersLine left line s next lanes after began old new r) (sym is) does
 
 -- So it does where there is no memory for its reply.
-pub answers_unsaid : {S : Type 0} (left : S → Option (List ℕ)) (line : TimedCommand) (s next now : SessionState) → now ≡ next → (lanes after : List (Lane S)) (began old new : PlantState) (a : LineAnswer) (result : Result (Unit {0}) Stop) → result ≡ Err NoMemory
+pub answers_unsaid : {S : Type 0} (left : S → Option (List ℕ)) (line : Line) (s next now : SessionState) → now ≡ next → (lanes after : List (Lane S)) (began old new : PlantState) (a : LineAnswer) (result : Result (Unit {0}) Stop) → result ≡ Err NoMemory
     → (let r : Result LineAnswer Stop = Ok a in DoesLine left line s next lanes after began old new r) → AnswersLine left line s now lanes after began old new result
 answers_unsaid {S} left line s next now same lanes after began old new a result is does =
     subst (λ (x : SessionState). AnswersLine left line s x lanes after began old new result) (sym same)
@@ -76,8 +73,8 @@ module _ {S T E : Type 0} (tells : Type 0) (left : S → Option (List ℕ)) (s n
   pub reply_time : session_time now ≤ line.time.0
   reply_time = subst (λ (x : SessionState). session_time x ≤ line.time.0) (sym is) done.upto
 
-  pub reply_start : KeepsStart s now × StartsByLine (asked_by line) s now
-  reply_start = subst (λ (x : SessionState). KeepsStart s x × StartsByLine (asked_by line) s x) (sym is) (done.start, done.starts)
+  pub reply_start : KeepsStart s now × StartsByLine line s now
+  reply_start = subst (λ (x : SessionState). KeepsStart s x × StartsByLine line s x) (sym is) (done.start, done.starts)
 
   pub reply_same : IsSameSession s now
   reply_same = subst (λ (x : SessionState). IsSameSession s x) (sym is) done.same
@@ -98,21 +95,21 @@ module _ {S T E : Type 0} (tells : Type 0) (left : S → Option (List ℕ)) (s n
   pub reply_unheard : tells → HearsNothing old new
   reply_unheard = spoken_unheard tells left s next lanes after line answered old mid done keeps silent none reply composed_next new T E result says
 
-  pub reply_begins : tells → BeginsByLine s.session (asked_by line) old mid → IfSome (level_started s.session (asked_by line)) (λ level. AtNow (MeansStart s.session level line.time.0 old) mid) → BeginsByLine s.session (asked_by line) old new
+  pub reply_begins : tells → BeginsByLine s.session line old mid → IfSome (level_started s.session line) (λ level. StandsBehindStart s.session level line.time.0 old mid) → BeginsByLine s.session line old new
   reply_begins told begins means = spoken_begins tells left s next lanes after line answered old mid done keeps silent none reply composed_next new T E result says told s.session begins means
 
   -- ---- said whole
 
-  pub whole_replies : tells → IfSome (level_started s.session (asked_by line)) (λ level. IsStartAnswered next.site line.time.0 answered) → SaidWhole reply mid new → RepliesToStart s.session (asked_by line) old new
+  pub whole_replies : tells → IfSome (level_started s.session line) (λ level. IsStartAnswered next.site line.time.0 answered) → SaidWhole reply mid new → RepliesToStart s.session line old new
   whole_replies told starts whole = spoken_start tells left s next lanes after line answered old mid done keeps silent none reply composed_next new T E result says told s.session starts whole
 
   pub whole_counts : new.console_faults ≡ mid.console_faults → (let r : Result (Unit {0}) Stop = Ok tt in StopsByCount old new r)
   whole_counts quiet = none_stop old new (let r : Result (Unit {0}) Stop = Ok tt in r) (spoken_counts tells left s next lanes after line answered old mid done keeps silent none reply composed_next new T E result says quiet)
 
-  pub whole_answers : tells → (began : PlantState) → length after ≡ length lanes → (let r : Result LineAnswer Stop = Ok answered in DoesLine left (asked_by line) s next lanes after began old mid r) → SaidWhole reply mid new
-      → (let r : Result (Unit {0}) Stop = Ok tt in AnswersLine left (asked_by line) s now lanes after began old new r)
+  pub whole_answers : tells → (began : PlantState) → length after ≡ length lanes → (let r : Result LineAnswer Stop = Ok answered in DoesLine left line s next lanes after began old mid r) → SaidWhole reply mid new
+      → (let r : Result (Unit {0}) Stop = Ok tt in AnswersLine left line s now lanes after began old new r)
   whole_answers told began many does whole =
-      subst (λ (x : SessionState). let r : Result (Unit {0}) Stop = Ok tt in AnswersLine left (asked_by line) s x lanes after began old new r) (sym is)
+      subst (λ (x : SessionState). let r : Result (Unit {0}) Stop = Ok tt in AnswersLine left line s x lanes after began old new r) (sym is)
       (spoken_whole tells left s next lanes after line answered old mid done keeps silent none reply composed_next new T E result says told began many does whole)
 
   -- ---- said in part
@@ -123,8 +120,8 @@ module _ {S T E : Type 0} (tells : Type 0) (left : S → Option (List ℕ)) (s n
   pub part_counts : let r : Result (Unit {0}) Stop = Err ConsoleFault in StopsByCount old new r
   part_counts = fault_counts tells left s next lanes after line answered old mid done keeps silent none reply composed_next new T E result says
 
-  pub part_answers : tells → (began : PlantState) → length after ≡ length lanes → (let r : Result LineAnswer Stop = Ok answered in DoesLine left (asked_by line) s next lanes after began old mid r)
-      → (let r : Result (Unit {0}) Stop = Err ConsoleFault in AnswersLine left (asked_by line) s now lanes after began old new r)
+  pub part_answers : tells → (began : PlantState) → length after ≡ length lanes → (let r : Result LineAnswer Stop = Ok answered in DoesLine left line s next lanes after began old mid r)
+      → (let r : Result (Unit {0}) Stop = Err ConsoleFault in AnswersLine left line s now lanes after began old new r)
   part_answers told began many does =
-      subst (λ (x : SessionState). let r : Result (Unit {0}) Stop = Err ConsoleFault in AnswersLine left (asked_by line) s x lanes after began old new r) (sym is)
+      subst (λ (x : SessionState). let r : Result (Unit {0}) Stop = Err ConsoleFault in AnswersLine left line s x lanes after began old new r) (sym is)
       (spoken_part tells left s next lanes after line answered old mid done keeps silent none reply composed_next new T E result says told began many does)

@@ -11,7 +11,6 @@ use Rattle.pair_table.specs.Naming.{Naming}
 use Rattle.pair_table.specs.Tables.{Table}
 use Rattle.group_state.specs.Groups.{Group}
 use Rattle.site_store.specs.Sites.{SiteState}
-use Rattle.script_lines.specs.Grammars.{asked_by}
 use Rattle.mover.specs.declared.lane.Lane.{Lane}
 use Rattle.mover.specs.Epochs.{AreSameLanes}
 use Rattle.mover.specs.Moves.{IsOfMover}
@@ -86,10 +85,10 @@ module _ {S : Type 0} (tells : Type 0) (session : List ℕ) (controls : ℕ) (ke
     pub way_counts : StopsByCount old mid result
     way_counts = counts_of old mid result stop is works.counts
 
-    pub way_does : (left : S → Option (List ℕ)) → tells → (began : PlantState) → (let r : Result (Unit {0}) Stop = Err stop in BringsOn left line.time.0 lanes after kept kept_mid site next began old mid r) → DoesLine left (asked_by line) s stopped lanes after began old mid result
+    pub way_does : (left : S → Option (List ℕ)) → tells → (began : PlantState) → (let r : Result (Unit {0}) Stop = Err stop in BringsOn left line.time.0 lanes after kept kept_mid site next began old mid r) → DoesLine left line s stopped lanes after began old mid result
     way_does left told began brings =
-        subst (λ (r : Result LineAnswer Stop). DoesLine left (asked_by line) s stopped lanes after began old mid r) (sym is)
-        (subst (λ (x : SessionState). let r : Result LineAnswer Stop = Err stop in DoesLine left (asked_by line) x stopped lanes after began old mid r) same
+        subst (λ (r : Result LineAnswer Stop). DoesLine left line s stopped lanes after began old mid r) (sym is)
+        (subst (λ (x : SessionState). let r : Result LineAnswer Stop = Err stop in DoesLine left line x stopped lanes after began old mid r) same
         (bring_does tells told left was lanes old stands site refl line off up after mid works.works.site (works.works.elapses told) (works.works.silent told) began kept kept_mid refl next stopped stop
         (λ spent. works.spent told (ap (λ (x : Stop). let r : Result (Unit {0}) Stop = Err x in r) spent)) brings))
 
@@ -125,9 +124,9 @@ module _ {S : Type 0} (tells : Type 0) (session : List ℕ) (controls : ℕ) (ke
     module _ (new : PlantState) (kept_now : Kept) (next : SiteState) (names_are : kept_now.names ≡ kept_mid.names) where
       -- In each run the line is done.
       line_does : (left : S → Option (List ℕ)) → tells → (began : PlantState) → line.time.0 < 2 ^ 64 → BreakOnAsTraces left line.time.0 lanes after → (let r : Result (Unit {0}) Stop = Ok tt in BringsOn left line.time.0 lanes after kept kept_mid site brought began old mid r) → (flag : Bool) (result : Result LineAnswer Stop)
-          → IfOk result (λ a. IsSiteAnswered tells kept_mid.names line a.answer brought next new) → IsWorkOfStore tells brought next mid new result → AnswersCommands (asked_by line) kept_mid kept_now brought next began mid new result → DoesLine left (asked_by line) s (session_on session controls kept_now next flag) lanes after began old new result
+          → IfOk result (λ a. IsSiteAnswered tells kept_mid.names line a.answer brought next new) → IsWorkOfStore tells brought next mid new result → AnswersCommands line kept_mid kept_now brought next began mid new result → DoesLine left line s (session_on session controls kept_now next flag) lanes after began old new result
       line_does left told began short broke brings flag result behind worked answers =
-          subst (λ (x : SessionState). DoesLine left (asked_by line) x (session_on session controls kept_now next flag) lanes after began old new result) same
+          subst (λ (x : SessionState). DoesLine left line x (session_on session controls kept_now next flag) lanes after began old new result) same
           (in_time_does tells told left was lanes old stands site refl line off up after mid works.works.site (works.works.elapses told) (works.works.silent told) began kept kept_mid refl brought short lanes_same broke at_line site_is names_is labels brings new
           (counts_fell mid new result worked.counts) worked.works.site (worked.works.elapses told) (worked.works.silent told) kept_now names_are next flag result behind (worked.spent told) answers)
 
@@ -159,9 +158,9 @@ module _ {S : Type 0} (tells : Type 0) (session : List ℕ) (controls : ℕ) (ke
         then_counts = counts_of {T = LineAnswer} {U = LineAnswer} old new result stop is (counts_behind old mid new (let r : Result LineAnswer Stop = Err stop in r) none_mid worked.counts)
 
         pub then_does : (left : S → Option (List ℕ)) → line.time.0 < 2 ^ 64 → BreakOnAsTraces left line.time.0 lanes after → tells → (began : PlantState) → (let r : Result (Unit {0}) Stop = Ok tt in BringsOn left line.time.0 lanes after kept kept_mid site brought began old mid r)
-            → (let r : Result LineAnswer Stop = Err stop in AnswersCommands (asked_by line) kept_mid kept_now brought next began mid new r) → DoesLine left (asked_by line) s halted lanes after began old new result
+            → (let r : Result LineAnswer Stop = Err stop in AnswersCommands line kept_mid kept_now brought next began mid new r) → DoesLine left line s halted lanes after began old new result
         then_does left short broke told began brings answers =
-            subst (λ (r : Result LineAnswer Stop). DoesLine left (asked_by line) s halted lanes after began old new r) (sym is)
+            subst (λ (r : Result LineAnswer Stop). DoesLine left line s halted lanes after began old new r) (sym is)
             (line_does left told began short broke brings ended (let r : Result LineAnswer Stop = Err stop in r) tt worked answers)
 
       -- ---- done
@@ -197,5 +196,5 @@ module _ {S : Type 0} (tells : Type 0) (session : List ℕ) (controls : ℕ) (ke
             (flag_is ∙ sym (ap (λ (b : Bool). b || is_end_accepted a.answer) off)) worked.works.site done_keeps.home)
 
         pub done_does : (left : S → Option (List ℕ)) → line.time.0 < 2 ^ 64 → BreakOnAsTraces left line.time.0 lanes after → tells → (began : PlantState) → (let r : Result (Unit {0}) Stop = Ok tt in BringsOn left line.time.0 lanes after kept kept_mid site brought began old mid r)
-            → (let r : Result LineAnswer Stop = Ok a in AnswersCommands (asked_by line) kept_mid kept_now brought next began mid new r) → (let r : Result LineAnswer Stop = Ok a in DoesLine left (asked_by line) s now lanes after began old new r)
+            → (let r : Result LineAnswer Stop = Ok a in AnswersCommands line kept_mid kept_now brought next began mid new r) → (let r : Result LineAnswer Stop = Ok a in DoesLine left line s now lanes after began old new r)
         done_does left short broke told began brings answers = line_does left told began short broke brings flag (let r : Result LineAnswer Stop = Ok a in r) behind worked answers

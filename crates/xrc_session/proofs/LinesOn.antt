@@ -3,28 +3,25 @@ use Rattle.std.proofs.Common.{◌≡◌, inl, ℕ, zero, ◌<◌, ◌≤◌, Boo
 use Rattle.std.specs.Prelude.{◌+◌, ◌-◌, ◌&&◌, IfSome, IsSomeAnd, MatchOption, fold, if◌then◌else◌, nat_le, nat_lt}
 use Rattle.std.proofs.lemmas.Bool.{leb-true, ltb-true}
 use Rattle.std.proofs.lemmas.List.{length_push, take_all}
-use Rattle.tod_stamp.specs.declared.stamp.Stamp.{Stamp}
 use Rattle.crash_plant.specs.declared.device.Device.TheVariants.{Control}
 use Rattle.crash_plant.specs.Calls.{HearsNothing}
 use Rattle.crash_plant.specs.Moments.{IsDurable, PlantState, on}
-use Rattle.pair_table.specs.declared.command.Command.{Command}
 use Rattle.pair_table.specs.declared.level.Level.{Level}
 use Rattle.pair_table.specs.declared.names.NamedDevice.{NamedDevice}
 use Rattle.site_store.specs.Sites.{SiteState}
 use Rattle.consistency.specs.Bears.{Run}
 use Rattle.consistency.specs.Courses.{Answered, first_line, last_line_time, later_line, most_lines}
-use Rattle.consistency.specs.Steps.{TimedCommand}
 use Rattle.script_lines.specs.declared.next.Next.TheVariants as next
-use Rattle.script_lines.specs.Grammars.{asked_at, asked_by, asked_from, line_grammar}
 use Rattle.script_lines.specs.NextLines.{IsNextLine}
 use Rattle.xrc_command.specs.declared.line.Line.{Line}
-use Rattle.xrc_command.specs.Reading.{command_at, time_at}
-use Rattle.xrc_command.proofs.PartReading.{time_takes}
+use Rattle.xrc_command.specs.Reading.{line_spelled}
+use Rattle.xrc_command.proofs.LineReading.{spelled_is_line}
 use Rattle.mover.specs.declared.lane.Lane.{Lane}
 use Rattle.mover.specs.Epochs.{AllTurnOut, AreSameLanes}
 use Rattle.mover.proofs.TurningOut.{traces_turn_out}
 use Rattle.xrc_status.specs.declared.stop.Stop.{Stop}
 use Rattle.xrc_status.specs.declared.stop.Stop.TheVariants.{BadLine}
+use Rattle.xrc_session.specs.AppliedEnds.{AppliesEnds}
 use Rattle.xrc_session.specs.Between.{IsBetween, IsRunOfSession, IsRunOver, LeavesAll}
 use Rattle.xrc_session.specs.Frames.{KeepsPlant}
 use Rattle.xrc_session.specs.Lanes.{AllWent}
@@ -36,6 +33,7 @@ use Rattle.xrc_session.specs.States.{SessionState, session_time}
 use Rattle.xrc_session.specs.Steps.{AnswersLine, EndsLine, known_by}
 use Rattle.xrc_session.specs.Stops.{HasRunCause, HasStopCause, StopsByCount}
 use Rattle.xrc_session.proofs.HeardLines.{HasHeardLines, heard_now, last_more, lines_heard, start_heard}
+use Rattle.xrc_session.proofs.AppliedEnds.{applies_on}
 use Rattle.xrc_session.proofs.Hearings.{next_one}
 use Rattle.xrc_session.proofs.InTurn.{NoneFell, NoneRisen, cause_before, counts_behind, fell_then, keeps_then, none_risen_then, rises_before, went_read, went_then}
 use Rattle.xrc_session.proofs.LinesDone.{known_started, known_unstarted}
@@ -48,40 +46,30 @@ use Rattle.xrc_session.proofs.SafeStarts.{begins_by_start, begun_run, has_starte
 -- ---- a line that counts
 
 -- What counts at a number and behind a time.
-line_counts : (number before : ℕ) (o : Option TimedCommand) (line : TimedCommand) → later_line number before o ≡ Some line → (number < most_lines) × (before ≤ line.time) × (o ≡ Some line)
+line_counts : (number before : ℕ) (o : Option Line) (line : Line) → later_line number before o ≡ Some line → (number < most_lines) × (before ≤ line.time.0) × (o ≡ Some line)
 line_counts number before None line is = absurd cc
-line_counts number before (Some l) line is = by_bound (nat_lt number most_lines) (nat_le before l.time) refl refl is
+line_counts number before (Some l) line is = by_bound (nat_lt number most_lines) (nat_le before l.time.0) refl refl is
   where
-    by_bound : (b c : Bool) → nat_lt number most_lines ≡ b → nat_le before l.time ≡ c → (if b && c then Some l else None) ≡ Some line → (number < most_lines) × (before ≤ line.time) × (Some l ≡ Some line)
+    by_bound : (b c : Bool) → nat_lt number most_lines ≡ b → nat_le before l.time.0 ≡ c → (if b && c then Some l else None) ≡ Some line → (number < most_lines) × (before ≤ line.time.0) × (Some l ≡ Some line)
     by_bound true true low late same =
         let line_is : l ≡ line = cc in
-        (ltb-true number most_lines low, subst (λ (x : TimedCommand). before ≤ x.time) line_is (leb-true before l.time late), same)
+        (ltb-true number most_lines low, subst (λ (x : Line). before ≤ x.time.0) line_is (leb-true before l.time.0 late), same)
     by_bound true false low late same = absurd cc
     by_bound false c low late same = absurd cc
 
 -- The time of a line isn't zero.
-line_late : (bytes : List ℕ) (line : TimedCommand) → line_grammar bytes ≡ Some line → 1 ≤ line.time
-line_late bytes line is = by_time (time_at bytes) refl is
-  where
-    by_command : (time : Stamp) → 1 ≤ time.0 → (c : Option (List ℕ × Command)) → asked_at time c ≡ Some line → 1 ≤ line.time
-    by_command time late None same = absurd cc
-    by_command time late (Some read) same =
-        let line_is : record { time = time.0; session = read.0; command = read.1 } ≡ line = cc in
-        subst (λ (x : TimedCommand). 1 ≤ x.time) line_is late
-
-    by_time : (t : Option (Stamp × List ℕ)) → time_at bytes ≡ t → asked_from t ≡ Some line → 1 ≤ line.time
-    by_time None found same = absurd cc
-    by_time (Some (time, rest)) found same = by_command time (time_takes bytes time rest found).positive (command_at rest) same
+line_late : (bytes : List ℕ) (line : Line) → line_spelled bytes ≡ Some line → 1 ≤ line.time.0
+line_late bytes line is = (spelled_is_line bytes line is).positive
 
 -- ---- a line
 
 module _ {S : Type 0} {tells : Type 0} {left : S → Option (List ℕ)} {faults : S → ℕ} {first s : SessionState} {lanes lanes_now : List (Lane S)} {began old : PlantState} {number before : ℕ} {mid : PlantState} {text : List ℕ}
     (h : Heard tells left faults first s lanes lanes_now began old number before mid text) (line : Line) (is : IsNextLine tells number before text mid.script (next.Line line)) where
-  line_at : (number - 1 < most_lines) × (before ≤ line.time.0) × (line_grammar (first_line text) ≡ Some (asked_by line))
-  line_at = line_counts (number - 1) before (line_grammar (first_line text)) (asked_by line) is.1
+  line_at : (number - 1 < most_lines) × (before ≤ line.time.0) × (line_spelled (first_line text) ≡ Some line)
+  line_at = line_counts (number - 1) before (line_spelled (first_line text)) line is.1
 
   pub line_time : (1 ≤ line.time.0) × (session_time s ≤ line.time.0)
-  line_time = (line_late (first_line text) (asked_by line) line_at.2, omega (arith, h.running.time, line_at.1))
+  line_time = (line_late (first_line text) line line_at.2, omega (arith, h.running.time, line_at.1))
 
 -- What a line that was heard made of a session, of its lanes and of the plant.
 pub record LineWent {S : Type 0} (tells : Type 0) (left : S → Option (List ℕ)) (faults : S → ℕ) (s nxt : SessionState) (lanes after : List (Lane S)) (old mid new : PlantState) (number before : ℕ) (text : List ℕ) (line : Line) : Type 0 where
@@ -92,12 +80,12 @@ pub record LineWent {S : Type 0} (tells : Type 0) (left : S → Option (List ℕ
   pub fell : NoneFell mid new
   pub went : AllWent left faults lanes after
   pub unheard : tells → HearsNothing mid new
-  pub begins : tells → s.site ≡ None → BeginsByLine s.session (asked_by line) mid new
+  pub begins : tells → s.site ≡ None → BeginsByLine s.session line mid new
   pub labels : tells → s.site ≡ None → IfSome nxt.site (λ site. AreLabels mid new 0 nxt.names.labels)
 
 pub line_went_by : {S : Type 0} {tells : Type 0} {left : S → Option (List ℕ)} {faults : S → ℕ} {first s : SessionState} {lanes lanes_now : List (Lane S)} {began old : PlantState} {number before : ℕ} {mid : PlantState} {text : List ℕ} {nxt : SessionState} {after : List (Lane S)} {new : PlantState} → Heard tells left faults first s lanes lanes_now began old number before mid text
     → (line : Line) → IsNextLine tells number before text mid.script (next.Line line) → mid.console_faults ≡ old.console_faults → IsSameSession s nxt → KeepsPlant tells mid new → NoneFell mid new → AllWent left faults lanes_now after → (tells → HearsNothing mid new)
-    → (tells → s.site ≡ None → BeginsByLine s.session (asked_by line) mid new) → (tells → s.site ≡ None → IfSome nxt.site (λ site. AreLabels mid new 0 nxt.names.labels)) → LineWent tells left faults s nxt lanes_now after old mid new number before text line
+    → (tells → s.site ≡ None → BeginsByLine s.session line mid new) → (tells → s.site ≡ None → IfSome nxt.site (λ site. AreLabels mid new 0 nxt.names.labels)) → LineWent tells left faults s nxt lanes_now after old mid new number before text line
 line_went_by h line is quiet same keeps fell went unheard begins labels =
     record { is = is; quiet = quiet; same = same; keeps_line = keeps; fell = fell; went = went; unheard = unheard; begins = begins; labels = labels }
 
@@ -112,8 +100,8 @@ module _ {S : Type 0} {tells : Type 0} {left : S → Option (List ℕ)} {faults 
   pub line_went : AllWent left faults lanes after
   line_went = went_then left faults lanes lanes_now after h.running.went d.went
 
-  begins_first : tells → s.site ≡ None → BeginsByLine first.session (asked_by line) mid new
-  begins_first told none = subst (λ (n : List ℕ). BeginsByLine n (asked_by line) mid new) h.running.same.session (d.begins told none)
+  begins_first : tells → s.site ≡ None → BeginsByLine first.session line mid new
+  begins_first told none = subst (λ (n : List ℕ). BeginsByLine n line mid new) h.running.same.session (d.begins told none)
 
   unstarted_mid : tells → s.site ≡ None → LeavesAll began mid
   unstarted_mid told none = subst (λ (o : Option SiteState). HasBegunRun first.session o began mid) none (heard_begun h told)
@@ -129,26 +117,26 @@ module _ {S : Type 0} {tells : Type 0} {left : S → Option (List ℕ)} {faults 
   up_to_mid told = (((heard_keeps h).elapses told).kept Control).later
 
   -- Whether the line starts the session.
-  starts_none : tells → s.site ≡ None → level_started first.session (asked_by line) ≡ None → LeavesAll began new
+  starts_none : tells → s.site ≡ None → level_started first.session line ≡ None → LeavesAll began new
   starts_none told none refused =
       leaves_then began mid new (up_to_mid told) (unstarted_mid told none) (d.keeps_line.elapses told)
       (subst (λ (o : Option Level). MatchOption o (LeavesAll mid new) (λ level. 0 < mid.clock → IsDurable (on mid Control) → StartsSafely first.session level line.time.0 mid new)) refused (begins_first told none))
 
-  starts_some : tells → s.site ≡ None → (level : Level) → level_started first.session (asked_by line) ≡ Some level → BeginsRun first.session began new
+  starts_some : tells → s.site ≡ None → (level : Level) → level_started first.session line ≡ Some level → BeginsRun first.session began new
   starts_some told none level starts =
       let was = h.running.heard told none in
-      begins_by_start first.session (asked_by line) level began mid new was.lines text (unstarted_mid told none) (heard_keeps h).site ((heard_keeps h).elapses told) (start_heard first.session tells told began old mid number before text line was (h.hears told) d.is level starts)
+      begins_by_start first.session line level began mid new was.lines text (unstarted_mid told none) (heard_keeps h).site ((heard_keeps h).elapses told) (start_heard first.session tells told began old mid number before text line was (h.hears told) d.is level starts)
       (heard_now first.session tells told began old mid number before text line was (h.hears told) d.is) d.keeps_line.site (d.keeps_line.elapses told) (d.unheard told).heard starts (begins_first told none)
 
   pub line_begins : tells → BeginsRun first.session began new
   line_begins told = by_site s.site refl
     where
-      by_level : s.site ≡ None → (o : Option Level) → level_started first.session (asked_by line) ≡ o → BeginsRun first.session began new
+      by_level : s.site ≡ None → (o : Option Level) → level_started first.session line ≡ o → BeginsRun first.session began new
       by_level none None refused = Unstarted (starts_none told none refused)
       by_level none (Some level) starts = starts_some told none level starts
 
       by_site : (o : Option SiteState) → s.site ≡ o → BeginsRun first.session began new
-      by_site None none = by_level none (level_started first.session (asked_by line)) refl
+      by_site None none = by_level none (level_started first.session line) refl
       by_site (Some site) some = begun_run first.session (Some site) began new (started_new told (started_mid told site some))
 
   -- ---- the session by which its runs are known
@@ -198,19 +186,19 @@ module _ {S : Type 0} {tells : Type 0} {left : S → Option (List ℕ)} {faults 
   over_line run over = record { its = over.its; heads = h.running.heads run.traces over.heads; traces = (turned run over.traces).1; rises = over.rises }
 
   -- In such a run the line was answered, or the session stopped in it.
-  module _ (told : tells) (result : Result (Unit {0}) Stop) (answers : AnswersLine left (asked_by line) s nxt lanes_now after began mid new result) where
+  module _ (told : tells) (result : Result (Unit {0}) Stop) (answers : AnswersLine left line s nxt lanes_now after began mid new result) where
     line_in_run : (run : Run) → IsRunOver left run (known_by s nxt) lanes after began new
-        → (lines : List Answered) × EndsLine run lines text (asked_by line) nxt after began new result × (number ≡ length lines + 1) × (last_line_time lines (length lines) ≡ before)
+        → (lines : List Answered) × EndsLine run lines text line nxt after began new result × (number ≡ length lines + 1) × (last_line_time lines (length lines) ≡ before) × AppliesEnds run lines began mid
     line_in_run run over =
         let one = next_one tells number before text mid.script (next.Line line) d.is in
         let was = h.running.runs told run (over_first run over) in
         let heard = hears_on run was.0 was.1.0 text s lanes_now began old mid tells told h.works (h.hears told) (h.silent told) one (h.keeps told) was.1.1 in
         let asks = hears_line run was.0 was.1.0 text s lanes_now began old mid tells told h.works (h.hears told) (h.silent told) one (h.keeps told) was.1.1 line number before d.is was.2 was.3 in
-        (was.0, answers run was.0 was.1.0 text (over_line run over) (record { answered = heard; next = asks }), was.2, was.3)
+        (was.0, answers run was.0 was.1.0 text (over_line run over) (record { answered = heard; next = asks }), was.2, was.3, heard.applied)
 
   -- ---- it stops
 
-  pub line_stops : (told : tells) (stop : Stop) → HasStopCause mid new stop → (let r : Result (Unit {0}) Stop = Err stop in AnswersLine left (asked_by line) s nxt lanes_now after began mid new r → RunsLines tells left first.session nxt lanes after began new r)
+  pub line_stops : (told : tells) (stop : Stop) → HasStopCause mid new stop → (let r : Result (Unit {0}) Stop = Err stop in AnswersLine left line s nxt lanes_now after began mid new r → RunsLines tells left first.session nxt lanes after began new r)
   line_stops told stop cause answers = record {
     known = known_by s nxt;
     is_known = line_known told;
@@ -224,6 +212,7 @@ module _ {S : Type 0} {tells : Type 0} {left : S → Option (List ℕ)} {faults 
               stops = at.1;
               bad = λ bad. absurd (whole_not_bad tells number before text mid.script line d.is (bad_here at.0 at.2 at.3 bad));
               of_bad = λ n same_stop. absurd (no_bad n (subst (λ (x : Stop). HasStopCause mid new x) same_stop cause));
+              applied = applies_on run at.0 began mid new (up_to_mid told) d.keeps_line.site (d.keeps_line.elapses told) at.4;
             },
           ),
         );
@@ -246,19 +235,19 @@ module _ {S : Type 0} {tells : Type 0} {left : S → Option (List ℕ)} {faults 
 
   -- ---- it is answered
 
-  module _ (counts : NoneRisen mid new) (between_new : IsBetween tells nxt after new) (keeps_start : KeepsStart s nxt) (starts : StartsByLine (asked_by line) s nxt) (time_new : session_time nxt ≤ line.time.0) (lanes_same : AreSameLanes lanes_now after)
-      (answers : tells → (let r : Result (Unit {0}) Stop = Ok tt in AnswersLine left (asked_by line) s nxt lanes_now after began mid new r)) (replies : tells → s.site ≡ None → RepliesToStart s.session (asked_by line) mid new) where
+  module _ (counts : NoneRisen mid new) (between_new : IsBetween tells nxt after new) (keeps_start : KeepsStart s nxt) (starts : StartsByLine line s nxt) (time_new : session_time nxt ≤ line.time.0) (lanes_same : AreSameLanes lanes_now after)
+      (answers : tells → (let r : Result (Unit {0}) Stop = Ok tt in AnswersLine left line s nxt lanes_now after began mid new r)) (replies : tells → s.site ≡ None → RepliesToStart s.session line mid new) where
     started_then : tells → (o p : Option SiteState) → s.site ≡ o → nxt.site ≡ p → HasBegunRun first.session p began new
     started_then told (Some site) None some none =
         absurd (subst (λ (q : Option SiteState). IsSomeAnd q (λ now. (now.level ≡ site.level) × (nxt.names.labels ≡ s.names.labels))) none
         (subst (λ (q : Option SiteState). IfSome q (λ x. IsSomeAnd nxt.site (λ now. (now.level ≡ x.level) × (nxt.names.labels ≡ s.names.labels)))) some keeps_start))
     started_then told (Some site) (Some now) some is_now = started_new told (started_mid told site some)
-    started_then told None p none is_now = by_level (level_started first.session (asked_by line)) refl p is_now
+    started_then told None p none is_now = by_level (level_started first.session line) refl p is_now
       where
-        named : (o : Option Level) → level_started first.session (asked_by line) ≡ o → level_started s.session (asked_by line) ≡ o
-        named o is_level = ap (λ (n : List ℕ). level_started n (asked_by line)) h.running.same.session ∙ is_level
+        named : (o : Option Level) → level_started first.session line ≡ o → level_started s.session line ≡ o
+        named o is_level = ap (λ (n : List ℕ). level_started n line) h.running.same.session ∙ is_level
 
-        by_level : (o : Option Level) → level_started first.session (asked_by line) ≡ o → (p : Option SiteState) → nxt.site ≡ p → HasBegunRun first.session p began new
+        by_level : (o : Option Level) → level_started first.session line ≡ o → (p : Option SiteState) → nxt.site ≡ p → HasBegunRun first.session p began new
         by_level None refused None is_none = starts_none told none refused
         by_level None refused (Some now) is_some =
             let never : nxt.site ≡ None = subst (λ (o : Option Level). MatchOption o (nxt.site ≡ None) (λ level. IsSomeAnd nxt.site (λ site. site.level ≡ level))) (named None refused) (starts none) in
@@ -269,19 +258,19 @@ module _ {S : Type 0} {tells : Type 0} {left : S → Option (List ℕ)} {faults 
             (subst (λ (o : Option Level). MatchOption o (nxt.site ≡ None) (λ l. IsSomeAnd nxt.site (λ site. site.level ≡ l))) (named (Some level) starts_it) (starts none)))
         by_level (Some level) starts_it (Some now) is_some =
             let was = h.running.heard told none in
-            has_started first.session (asked_by line) level began mid new was.lines text (unstarted_mid told none) (heard_keeps h).site ((heard_keeps h).elapses told) (start_heard first.session tells told began old mid number before text line was (h.hears told) d.is level starts_it)
+            has_started first.session line level began mid new was.lines text (unstarted_mid told none) (heard_keeps h).site ((heard_keeps h).elapses told) (start_heard first.session tells told began old mid number before text line was (h.hears told) d.is level starts_it)
             (heard_now first.session tells told began old mid number before text line was (h.hears told) d.is) d.keeps_line.site (d.keeps_line.elapses told) (d.unheard told).heard starts_it (begins_first told none)
             (subst (λ (o : Option Level). IfSome o (λ l. new.said new.clock ≡ mid.said mid.clock ++ reply_to_start l line.time.0)) (named (Some level) starts_it) (replies told none))
 
     -- Where the session hasn't started yet, neither this line nor one before it starts it.
-    heard_on : tells → (o : Option SiteState) → s.site ≡ o → nxt.site ≡ None → (l : Option Level) → level_started first.session (asked_by line) ≡ l → HasHeardLines first.session began new (number + 1) line.time.0
+    heard_on : tells → (o : Option SiteState) → s.site ≡ o → nxt.site ≡ None → (l : Option Level) → level_started first.session line ≡ l → HasHeardLines first.session began new (number + 1) line.time.0
     heard_on told (Some site) some none l is_level =
         absurd (subst (λ (q : Option SiteState). IsSomeAnd q (λ now. (now.level ≡ site.level) × (nxt.names.labels ≡ s.names.labels))) none
         (subst (λ (q : Option SiteState). IfSome q (λ x. IsSomeAnd nxt.site (λ now. (now.level ≡ x.level) × (nxt.names.labels ≡ s.names.labels)))) some keeps_start))
     heard_on told None none still None refused = lines_heard first.session tells told began old mid number before text line (h.running.heard told none) (h.hears told) d.is new (d.unheard told) refused
     heard_on told None none still (Some level) starts_it =
         absurd (subst (λ (q : Option SiteState). IsSomeAnd q (λ site. site.level ≡ level)) still
-        (subst (λ (o : Option Level). MatchOption o (nxt.site ≡ None) (λ l. IsSomeAnd nxt.site (λ site. site.level ≡ l))) (ap (λ (n : List ℕ). level_started n (asked_by line)) h.running.same.session ∙ starts_it) (starts none)))
+        (subst (λ (o : Option Level). MatchOption o (nxt.site ≡ None) (λ l. IsSomeAnd nxt.site (λ site. site.level ≡ l))) (ap (λ (n : List ℕ). level_started n line) h.running.same.session ∙ starts_it) (starts none)))
 
     -- A run over what the session has come to is known by the session before it.
     known_run : (run : Run) (o : Option SiteState) → s.site ≡ o → IsRunOver left run nxt lanes after began new → IsRunOver left run (known_by s nxt) lanes after began new
@@ -317,9 +306,9 @@ module _ {S : Type 0} {tells : Type 0} {left : S → Option (List ℕ)} {faults 
       heads = λ traces heads. heads_stay lanes_now after traces lanes_same (h.running.heads traces heads);
       labels = λ told. labels_on told s.site nxt.site refl refl;
       begun = λ told. started_then told s.site nxt.site refl refl;
-      heard = λ told none. heard_on told s.site refl none (level_started first.session (asked_by line)) refl;
+      heard = λ told none. heard_on told s.site refl none (level_started first.session line) refl;
       runs = λ told run over.
           let at = line_in_run told (Ok tt) (answers told) run (known_run run s.site refl over) in
           let a = at.1.0 in
-          (at.0 ++ a ∷ [], (at.1.3.0, at.1.3.1), omega (arith, at.2, length_push at.0 a), last_more at.0 a ∙ ap (λ (l : TimedCommand). l.time) at.1.1);
+          (at.0 ++ a ∷ [], (at.1.3.0, at.1.3.1), omega (arith, at.2, length_push at.0 a), last_more at.0 a ∙ ap (λ (l : Line). l.time.0) at.1.1);
     }

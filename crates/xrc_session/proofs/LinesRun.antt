@@ -14,7 +14,6 @@ use Rattle.consistency.specs.Bears.{Run}
 use Rattle.consistency.specs.Courses.{Answered, first_line, is_whole_line, last_line_time, later_line, lines_begun, most_lines, texts_of, stage_at}
 use Rattle.consistency.proofs.Lines.{whole_at_end}
 use Rattle.script_lines.specs.declared.next.Next.TheVariants as next
-use Rattle.script_lines.specs.Grammars.{asked_by, line_grammar}
 use Rattle.script_lines.specs.Hearing.{HearsText, KeepsHearing, SaysNothing}
 use Rattle.script_lines.specs.NextLines.{IsNextLine}
 use Rattle.script_lines.specs.Texts.{IsWhole, has_feed}
@@ -37,6 +36,7 @@ use Rattle.xrc_session.specs.States.{SessionState, session_time}
 use Rattle.xrc_session.specs.Trails.{GoesForth, Trail, BeginsAtStart, StandsOnTrail}
 use Rattle.xrc_session.proofs.Consoles.{behind_heard, behind_on}
 use Rattle.xrc_session.proofs.HeardLines.{HasHeardLines, next_is_line}
+use Rattle.xrc_session.proofs.AppliedEnds.{applies_on}
 use Rattle.xrc_session.proofs.Hearings.{hearing_goes_on}
 use Rattle.xrc_session.proofs.Labelled.{labels_since, labels_still}
 use Rattle.xrc_session.proofs.InTurn.{NoneFell, NoneRisen, rises_before}
@@ -58,16 +58,17 @@ module _ {S : Type 0} (run : Run) (lines : List Answered) (trail : Trail) (text 
   -- So much was heard behind the lines that a session has answered.
   pub hears_on : HasAnswered run lines trail text s lanes began new
   hears_on = record {
-    goes = hearing_goes_on began old new run line_grammar lines text answered.goes tells told works heard silent one keeps;
+    goes = hearing_goes_on began old new run lines text answered.goes tells told works heard silent one keeps;
     exact = answered.exact;
     stands =
         behind_on tells old new works told run lines (stage_behind run lines text began) trail s began answered.goes.now.site answered.goes.now.later
         (behind_heard run lines (stage_behind run lines [] began) (stage_behind run lines text began).next trail s began old (answered.goes.now.heard ∙ ap (λ (l : List ℕ). began.heard began.clock ++ l) (append-nil (texts_of lines))) answered.goes.now.said answered.stands);
     broke = answered.broke;
+    applied = applies_on run lines began old new answered.goes.now.later works.site (works.elapses told) answered.applied;
   }
 
   -- A line that was heard whole is the next one.
-  pub hears_line : (line : Line) (number before : ℕ) → IsNextLine tells number before text new.script (next.Line line) → number ≡ length lines + 1 → last_line_time lines (length lines) ≡ before → (stage_behind run lines text began).next ≡ Some (asked_by line)
+  pub hears_line : (line : Line) (number before : ℕ) → IsNextLine tells number before text new.script (next.Line line) → number ≡ length lines + 1 → last_line_time lines (length lines) ≡ before → (stage_behind run lines text began).next ≡ Some line
   hears_line line number before is counted time =
       next_is_line tells told began.script lines text new.script line number before
       (answered.goes.now.script ∙ ap (λ (l : List ℕ). l ++ old.script) (append-nil (texts_of lines)) ∙ ap (λ (l : List ℕ). texts_of lines ++ l) heard.script ∙ sym (append_assoc (texts_of lines) text new.script)) is counted time
@@ -113,7 +114,7 @@ hearing_stops {S} run lines trail text s lanes began now stop answered unstarted
 
 -- No line that counts is bad.
 pub whole_not_bad : (tells : Type 0) (number before : ℕ) (text left : List ℕ) (line : Line) → IsNextLine tells number before text left (next.Line line) → IsNextLine tells number before text left next.Bad → ⊥
-whole_not_bad tells number before text left line is (inl bad) = let clash : Some (asked_by line) ≡ None = sym is.1 ∙ bad.1 in cc
+whole_not_bad tells number before text left line is (inl bad) = let clash : Some line ≡ None = sym is.1 ∙ bad.1 in cc
 whole_not_bad tells number before text left line (inl fed, asks) (inr long) = true≢false (sym (fed_has text fed) ∙ long.no_feed)
 whole_not_bad tells number before text left line (inr last, asks) (inr long) = absurd (omega (arith, last.front.short, long.size))
 

@@ -2,7 +2,7 @@
 use Rattle.xrc_session.proofs.RepliesNow.{bears_behind}
 use Rattle.xrc_session.proofs.OnTrail.{rests_on_trail}
 use Rattle.pair_table.specs.Tables.{Table}
-use Rattle.std.proofs.Common.{◌≡◌, ◌⊎◌, inl, inr, ℕ, suc, ◌<◌, ◌≤◌, List, [], ◌∷◌, ◌++◌, length, take, Option, Some, None, refl, sym, ap, subst, ◌∙◌, append_assoc, append-nil, arith, true≢false}
+use Rattle.std.proofs.Common.{◌≡◌, ◌⊎◌, inl, inr, ℕ, suc, ◌<◌, ◌≤◌, true, List, [], ◌∷◌, ◌++◌, length, take, Option, Some, None, refl, sym, ap, subst, ◌∙◌, append_assoc, append-nil, arith, true≢false}
 use Rattle.std.specs.Prelude.{MatchOption, IsTrue}
 use Rattle.std.proofs.lemmas.Bool.{cases_lt}
 use Rattle.crash_plant.specs.declared.device.Device.TheVariants.{Control}
@@ -13,15 +13,14 @@ use Rattle.consistency.specs.Bears.{Run, Stage}
 use Rattle.consistency.specs.Between.{MayReply, RunGoesOn}
 use Rattle.consistency.specs.Courses.{Answered, AreAsked, IsAnswered, IsCourse, replies_of, stage_at, texts_of}
 use Rattle.consistency.specs.Moments.{BearsThroughout}
-use Rattle.consistency.specs.Steps.{TimedCommand}
 use Rattle.consistency.proofs.Between.{replies_fail, replies_go_on}
 use Rattle.consistency.proofs.Lines.{asked_more, course_more, replies_more, texts_more}
-use Rattle.script_lines.specs.Grammars.{asked_by, line_grammar}
 use Rattle.mover.specs.declared.lane.Lane.{Lane}
 use Rattle.xrc_command.specs.declared.line.Line.{Line}
 use Rattle.xrc_status.specs.Saying.{SaidWhole}
 use Rattle.xrc_status.specs.declared.stop.Stop.TheVariants.{ConsoleFault}
 use Rattle.xrc_session.specs.declared.answering.LineAnswer.{LineAnswer}
+use Rattle.xrc_session.specs.AppliedEnds.{AppliesEnds, IsAllApplied}
 use Rattle.xrc_session.specs.Between.{HasAnswered, HasNotBegun, RestsAtSite, StandsBehindLines, stage_behind}
 use Rattle.xrc_session.specs.Ends.{StopsInLine}
 use Rattle.xrc_session.specs.Replying.{reply_composed}
@@ -29,16 +28,17 @@ use Rattle.xrc_session.specs.States.{SessionState}
 use Rattle.xrc_session.specs.Steps.{IsExactBehind, IsToReply, line_answered}
 use Rattle.xrc_session.specs.Stops.{RepliesInPart}
 use Rattle.xrc_session.specs.Trails.{AreExact, GoesForth, Trail, first_leg, BeginsAtStart, StandsOnTrail}
+use Rattle.xrc_session.proofs.AppliedEnds.{applied_still, applies_more, applies_on}
 use Rattle.xrc_session.proofs.Consoles.{behind_on}
 use Rattle.xrc_session.proofs.Courses.{none_next}
 use Rattle.xrc_session.proofs.Exactly.{exact_more}
 use Rattle.xrc_session.proofs.Replied.{IsAsTold, reply_is_exact}
 
 module _ {S : Type 0} (run : Run) (lines : List Answered) (trail : Trail) (text : List ℕ) (line : Line) (answer : LineAnswer) (s : SessionState) (lanes : List (Lane S)) (began mid new : PlantState)
-    (to : IsToReply run lines trail text (asked_by line) answer s lanes began mid) (as_told : IsAsTold s) (many : length run.traces ≡ length lanes) (reply : List ℕ) (composed : reply ≡ reply_composed s.site lanes line answer)
+    (to : IsToReply run lines trail text line answer s lanes began mid) (as_told : IsAsTold s) (many : length run.traces ≡ length lanes) (reply : List ℕ) (composed : reply ≡ reply_composed s.site lanes line answer)
     (tells : Type 0) (told : tells) (works : WorksOnConsole tells mid new) (says : Says reply mid new) where
   abbrev a : Answered
-  a = line_answered run lines text (asked_by line) to.changes to.hits began reply
+  a = line_answered run lines text line to.changes to.hits began reply
 
   exact : IsExactBehind run lines trail text began a
   exact = reply_is_exact run lines trail text line answer s lanes began mid to as_told many reply composed
@@ -50,19 +50,25 @@ module _ {S : Type 0} (run : Run) (lines : List Answered) (trail : Trail) (text 
   answered = record { step = may.answered.step; counted = may.answered.counted; level = may.answered.level; is_reply = may.answered.is_reply }
 
   exact_all : AreExact run (lines ++ a ∷ []) trail
-  exact_all = exact_more run lines trail to.begins a to.exact exact
+  exact_all = exact_more run lines trail to.begins a to.exact (record { exact = exact; brings = λ on. let b = to.brings reply on in record { changes = b.changes; rows = b.rows } })
 
   stands : StandsBehindLines run (lines ++ a ∷ []) (stage_behind run (lines ++ a ∷ []) [] began) trail s began new
   stands = behind_on tells mid new works told run (lines ++ a ∷ []) (stage_behind run (lines ++ a ∷ []) [] began) trail s began to.goes.now.site to.goes.now.later (to.stands reply)
 
+  applied_now : (stage_behind run (lines ++ a ∷ []) [] began).table.is_ended ≡ true → IsAllApplied new new.clock
+  applied_now ended = applied_still tells told mid new works (to.applied reply ended)
+
   -- Once it was said whole, the line is answered.
-  pub said_whole : SaidWhole reply mid new → HasAnswered run (lines ++ a ∷ []) trail [] s lanes began new
-  said_whole whole = record {
-    goes = replies_go_on run line_grammar lines (first_leg run (lines ++ a ∷ []) trail) trail.points a began mid new to.goes may tells told works says whole;
-    exact = exact_all;
-    stands = stands;
-    broke = to.broke;
-  }
+  pub said_whole : AppliesEnds run lines began mid → SaidWhole reply mid new → HasAnswered run (lines ++ a ∷ []) trail [] s lanes began new
+  said_whole ends whole =
+      let on = replies_go_on run lines (first_leg run (lines ++ a ∷ []) trail) trail.points a began mid new to.goes may tells told works says whole in
+      record {
+        goes = on;
+        exact = exact_all;
+        stands = stands;
+        broke = to.broke;
+        applied = applies_more run lines a began new on.now.later on.now.said applied_now (applies_on run lines began mid new to.goes.now.later works.site (works.elapses told) ends);
+      }
 
   later : mid.clock ≤ new.clock
   later = ((works.elapses told).kept Control).later
@@ -72,11 +78,12 @@ module _ {S : Type 0} (run : Run) (lines : List Answered) (trail : Trail) (text 
       let said = says.front new.clock later (omega arith) in
       record {
         course = course_more run lines a to.goes.now.course answered;
-        asked = asked_more line_grammar began.script lines a to.goes.now.asked (record { asks = may.asks; one_line = to.goes.now.one_line });
+        asked = asked_more began.script lines a to.goes.now.asked (record { asks = may.asks; one_line = to.goes.now.one_line });
         heard = says.heard new.clock later (omega arith) ∙ to.goes.now.heard ∙ ap (λ (l : List ℕ). began.heard began.clock ++ l) (sym (texts_more lines a));
         script = to.goes.now.script ∙ ap (λ (l : List ℕ). texts_of lines ++ text ++ l) (sym says.script) ∙ ap (λ (l : List ℕ). l ++ new.script) (sym (texts_more lines a));
         front = (said.0, said.1, said.2 ∙ ap (λ (l : List ℕ). l ++ take said.0 reply) to.goes.now.said ∙ append_assoc (began.said began.clock) (replies_of lines) (take said.0 reply));
-        bears = λ up. replies_fail run line_grammar lines (first_leg run (lines ++ a ∷ []) trail) trail.points a began mid new to.goes may tells told works says up;
+        applied = applied_now;
+        bears = λ up. replies_fail run lines (first_leg run (lines ++ a ∷ []) trail) trail.points a began mid new to.goes may tells told works says up;
         behind = bears_behind run lines (first_leg run (lines ++ a ∷ []) trail) trail.points a began mid new to.goes may tells told works;
       }
 
@@ -111,11 +118,11 @@ module _ {S : Type 0} (run : Run) (lines : List Answered) (trail : Trail) (text 
           → StandsOnTrail run (lines ++ a ∷ []) None trail None new
       by_along None some none = absurd (omega (arith, some, none.started))
       by_along (Some site) some rests =
-          subst (λ (o : Option TimedCommand). StandsOnTrail run (lines ++ a ∷ []) o trail None new) (none_next run line_grammar began.script (lines ++ a ∷ []))
+          subst (λ (o : Option Line). StandsOnTrail run (lines ++ a ∷ []) o trail None new) (none_next run began.script (lines ++ a ∷ []))
           (rests_on_trail run (lines ++ a ∷ []) (stage_behind run (lines ++ a ∷ []) [] began) trail s began new site rests)
 
       by_place : (o : Option SiteState) → 0 < new.clock → 0 < trail.started → MatchOption o (HasNotBegun trail began new) (RestsAtSite run (lines ++ a ∷ []) (stage_behind run (lines ++ a ∷ []) [] began) trail s began new)
           → GoesForth run (lines ++ a ∷ []) None trail None began new
       by_place None up some none = absurd (omega (arith, some, none.started))
       by_place (Some site) up some rests =
-          subst (λ (o : Option TimedCommand). GoesForth run (lines ++ a ∷ []) o trail None began new) (none_next run line_grammar began.script (lines ++ a ∷ [])) (rests.under_way.forth up)
+          subst (λ (o : Option Line). GoesForth run (lines ++ a ∷ []) o trail None began new) (none_next run began.script (lines ++ a ∷ [])) (rests.under_way.forth up)

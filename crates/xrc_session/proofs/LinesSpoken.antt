@@ -4,7 +4,6 @@ use Rattle.std.proofs.Common.{◌≡◌, ◌⊎◌, inl, inr, ℕ, ◌<◌, ◌�
 use Rattle.std.specs.Prelude.{IfSome, IsErrOf, IsSomeAnd, OnOk}
 use Rattle.xrc_edge.specs.Causes.{HasCause, Rose}
 use Rattle.crash_plant.specs.Calls.{Elapses, HearsNothing, SameSite, Silent, WorksOnConsole}
-use Rattle.crash_plant.specs.Choices.{AtNow}
 use Rattle.crash_plant.specs.declared.device.Device.{Device}
 use Rattle.crash_plant.specs.declared.device.Device.TheVariants.{Control, Volume}
 use Rattle.crash_plant.specs.Moments.{PlantState}
@@ -23,8 +22,6 @@ use Rattle.ckd_track.specs.declared.write.Cause.{Cause}
 use Rattle.xquery_report.specs.Replies.{reply_line}
 use Rattle.consistency.specs.Bears.{Run}
 use Rattle.consistency.specs.Courses.{Answered}
-use Rattle.consistency.specs.Steps.{TimedCommand}
-use Rattle.script_lines.specs.Grammars.{asked_by}
 use Rattle.mover.specs.declared.lane.Lane.{Lane}
 use Rattle.xrc_command.specs.declared.line.Line.{Line}
 use Rattle.xrc_status.specs.Saying.{SaidWhole, SaysText}
@@ -36,11 +33,12 @@ use Rattle.xrc_session.specs.Frames.{KeepsPlant, SuspendsByCounts}
 use Rattle.xrc_session.specs.Lines.{IsDoneLine, IsStartAnswered}
 use Rattle.xrc_session.specs.Replying.{causes_in, reply_composed, report_in, reported_site, time_told}
 use Rattle.xrc_session.specs.Runs.{AreLabels}
-use Rattle.xrc_session.specs.Starting.{BeginsByLine, MeansStart, RepliesToStart, level_started, reply_to_start}
+use Rattle.xrc_session.specs.Starting.{BeginsByLine, RepliesToStart, StandsBehindStart, level_started, reply_to_start}
 use Rattle.xrc_session.specs.States.{SessionState}
 use Rattle.xrc_session.specs.Steps.{AnswersLine, DoesLine, EndsDoing, HasHeard, known_by, line_answered}
 use Rattle.xrc_session.specs.Stops.{HasStopCause, StopsByCount}
 use Rattle.xrc_session.specs.Trails.{Trail}
+use Rattle.xrc_session.proofs.AppliedEnds.{applies_on}
 use Rattle.xrc_session.proofs.Consoles.{between_on}
 use Rattle.xrc_session.proofs.InTurn.{NoneFell, NoneRisen, cause_before, fell_then, keeps_console, keeps_then, none_risen_then, none_stop, suspends_same, suspends_then}
 use Rattle.xrc_session.proofs.LinesBefore.{started_command}
@@ -94,24 +92,24 @@ module _ {S : Type 0} (tells : Type 0) (left : S → Option (List ℕ)) (s next 
   pub spoken_labels : (labels : List NamedDevice) → AreLabels old mid 0 labels → AreLabels old new 0 labels
   spoken_labels labels are = labels_later old mid new labels none.fell on are
 
-  pub spoken_begins : (told : tells) (session : List ℕ) → BeginsByLine session (asked_by line) old mid → IfSome (level_started session (asked_by line)) (λ level. AtNow (MeansStart session level line.time.0 old) mid) → BeginsByLine session (asked_by line) old new
-  spoken_begins told session begins means = begins_said session (asked_by line) tells old mid new told keeps.site (keeps.elapses told) works begins means
+  pub spoken_begins : (told : tells) (session : List ℕ) → BeginsByLine session line old mid → IfSome (level_started session line) (λ level. StandsBehindStart session level line.time.0 old mid) → BeginsByLine session line old new
+  spoken_begins told session begins means = begins_said session line tells old mid new told keeps.site (keeps.elapses told) works begins means
 
   -- ---- in a run
 
-  module _ (told : tells) (began : PlantState) (went : length after ≡ length lanes) (does : let r : Result LineAnswer Stop = Ok answered in DoesLine left (asked_by line) s next lanes after began old mid r) where
-    pub spoken_whole : SaidWhole reply mid new → (let r : Result (Unit {0}) Stop = Ok tt in AnswersLine left (asked_by line) s next lanes after began old new r)
+  module _ (told : tells) (began : PlantState) (went : length after ≡ length lanes) (does : let r : Result LineAnswer Stop = Ok answered in DoesLine left line s next lanes after began old mid r) where
+    pub spoken_whole : SaidWhole reply mid new → (let r : Result (Unit {0}) Stop = Ok tt in AnswersLine left line s next lanes after began old new r)
     spoken_whole whole run lines trail text over heard =
         let over_mid : IsRunOver left run (known_by s next) lanes after began mid = record { its = over.its; heads = over.heads; traces = over.traces; rises = λ d. let both = over.rises d in let same = works.faults (Volume d) in (omega (arith, both.0, same), omega (arith, both.1, same)) } in
         let ends = does run lines trail text over_mid heard in
         let many : length run.traces ≡ length after = as_many lanes run.traces over.heads ∙ sym went in (
-          line_answered run lines text (asked_by line) ends.1.changes ends.1.hits began reply,
+          line_answered run lines text line ends.1.changes ends.1.hits began reply,
           refl,
           refl,
-          (ends.0, said_whole run lines ends.0 text line answered next after began mid new ends.1 (between_told tells next after mid done.between) many reply composed tells told works (says.front.moments told) whole, ends.1.wants reply),
+          (ends.0, said_whole run lines ends.0 text line answered next after began mid new ends.1 (between_told tells next after mid done.between) many reply composed tells told works (says.front.moments told) (applies_on run lines began old mid heard.answered.goes.now.later keeps.site (keeps.elapses told) heard.answered.applied) whole, ends.1.wants reply),
         )
 
-    pub spoken_part : (let r : Result (Unit {0}) Stop = Err ConsoleFault in AnswersLine left (asked_by line) s next lanes after began old new r)
+    pub spoken_part : (let r : Result (Unit {0}) Stop = Err ConsoleFault in AnswersLine left line s next lanes after began old new r)
     spoken_part run lines trail text over heard =
         let over_mid : IsRunOver left run (known_by s next) lanes after began mid = record { its = over.its; heads = over.heads; traces = over.traces; rises = λ d. let both = over.rises d in let same = works.faults (Volume d) in (omega (arith, both.0, same), omega (arith, both.1, same)) } in
         let ends = does run lines trail text over_mid heard in
@@ -120,21 +118,21 @@ module _ {S : Type 0} (tells : Type 0) (left : S → Option (List ℕ)) (s next 
 
   -- ---- the start
 
-  pub spoken_start : tells → (session : List ℕ) → IfSome (level_started session (asked_by line)) (λ level. IsStartAnswered next.site line.time.0 answered) → SaidWhole reply mid new → RepliesToStart session (asked_by line) old new
-  spoken_start told session starts whole = by_level (level_started session (asked_by line)) refl starts
+  pub spoken_start : tells → (session : List ℕ) → IfSome (level_started session line) (λ level. IsStartAnswered next.site line.time.0 answered) → SaidWhole reply mid new → RepliesToStart session line old new
+  spoken_start told session starts whole = by_level (level_started session line) refl starts
     where
       said : new.said new.clock ≡ old.said old.clock ++ reply
       said = whole ∙ ap (λ (l : List ℕ). l ++ reply) ((silent told).said mid.clock (later_mid told) (omega arith))
 
-      by_site : (level : Level) → level_started session (asked_by line) ≡ Some level → (o : Option SiteState) → next.site ≡ o → IsSomeAnd o (λ site. site.time ≡ line.time.0) → answered.answer ≡ Ok changes.Started → answered.tracks ≡ 0
+      by_site : (level : Level) → level_started session line ≡ Some level → (o : Option SiteState) → next.site ≡ o → IsSomeAnd o (λ site. site.time ≡ line.time.0) → answered.answer ≡ Ok changes.Started → answered.tracks ≡ 0
           → new.said new.clock ≡ old.said old.clock ++ reply_to_start level line.time.0
       by_site level is None site_is time start tracks = absurd time
       by_site level is (Some site) site_is time start tracks =
           said ∙ ap (λ (l : List ℕ). old.said old.clock ++ l)
           (composed ∙ ap (λ (o : Option SiteState). report_in (reported_site o line.command answered.answer) (causes_in after) ++ reply_line line.time.0 line.command answered.answer answered.tracks (time_told o)) site_is
-          ∙ start_reply site (causes_in after) line.time.0 line.command answered.answer answered.tracks level (started_command session (asked_by line) level is) start tracks time)
+          ∙ start_reply site (causes_in after) line.time.0 line.command answered.answer answered.tracks level (started_command session line level is) start tracks time)
 
-      by_level : (o : Option Level) → level_started session (asked_by line) ≡ o → IfSome o (λ level. IsStartAnswered next.site line.time.0 answered) → IfSome o (λ level. new.said new.clock ≡ old.said old.clock ++ reply_to_start level line.time.0)
+      by_level : (o : Option Level) → level_started session line ≡ o → IfSome o (λ level. IsStartAnswered next.site line.time.0 answered) → IfSome o (λ level. new.said new.clock ≡ old.said old.clock ++ reply_to_start level line.time.0)
       by_level None is none_starts = tt
       by_level (Some level) is start = by_site level is next.site refl start.time start.is start.tracks
 

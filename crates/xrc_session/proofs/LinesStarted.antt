@@ -24,13 +24,12 @@ use Rattle.consistency.specs.Bearing.{ShowsPoint}
 use Rattle.consistency.specs.Bears.{Run, Stage, accepts_end, breaks_of, names_of}
 use Rattle.consistency.specs.Courses.{Answered, replies_of, stage_after, stage_at}
 use Rattle.consistency.specs.Leads.{Point}
-use Rattle.consistency.specs.Steps.{TimedCommand, names_at}
+use Rattle.consistency.specs.Steps.{names_at}
 use Rattle.consistency.specs.Between.{RunGoesOn}
 use Rattle.consistency.specs.Ways.{Leg, PassedPoint, is_ending, leg_at, stage_point, table_at}
 use Rattle.consistency.proofs.Keeping.{stage_answered}
 use Rattle.consistency.proofs.Legs.{leg_begins}
 use Rattle.consistency.proofs.Lines.{stage_front, stage_more}
-use Rattle.script_lines.specs.Grammars.{asked_by, line_grammar}
 use Rattle.mover.specs.declared.lane.Lane.{Lane}
 use Rattle.mover.specs.Epochs.{LanesBrokeAs}
 use Rattle.mover.specs.Working.{Asked}
@@ -46,7 +45,7 @@ use Rattle.xrc_session.specs.Trails.{AreExact, AreHitsOfFaults, BeginsAtStart, G
 use Rattle.xrc_session.proofs.WrittenLines.{written_first}
 use Rattle.xrc_session.proofs.Asked.{asked_of_none, asked_of_lines, asked_there}
 use Rattle.xrc_session.proofs.Courses.{none_next}
-use Rattle.xrc_session.proofs.Exactly.{exact_any}
+use Rattle.xrc_session.proofs.Exactly.{exactly_any}
 use Rattle.xrc_session.proofs.LinesUnstarted.{has_names, none_past, none_started, not_begun, off, table_by_level, table_is, unstarted_answers, unstarted_goes, unstarted_stops, unstarted_table, unstarted_tells, unstarted_volumes, unstarted_wants}
 
 -- A session that has just started, in a run.
@@ -66,26 +65,23 @@ pub record IsJustStarted {S : Type 0} (run : Run) (s next : SessionState) (lanes
   pub broke : LanesBrokeAs site.time run.traces lanes
   pub faults : (d : ℕ) → began.faults (Volume d) ≤ new.faults (Volume d)
 
-module _ {S : Type 0} (run : Run) (lines : List Answered) (trail : Trail) (text : List ℕ) (line : Line) (s : SessionState) (lanes : List (Lane S)) (began old : PlantState) (heard : HasHeard run lines trail text (asked_by line) s lanes began old) (unstarted : s.site ≡ None)
+module _ {S : Type 0} (run : Run) (lines : List Answered) (trail : Trail) (text : List ℕ) (line : Line) (s : SessionState) (lanes : List (Lane S)) (began old : PlantState) (heard : HasHeard run lines trail text line s lanes began old) (unstarted : s.site ≡ None)
     (fresh : s.table ≡ new_table s.session) (new : PlantState) (same : SameSite old new) (elapses : Elapses old new) (silent : Silent old new) (tells : Type 0) (told : tells) (volumes : VolumesStay tells old new) (names : Naming) (answered : LineAnswer)
-    (is : answered.answer ≡ answer names s.table line.session line.command) (level : Level) (starts : level_started s.session (asked_by line) ≡ Some level) (command : line.command ≡ Start level) (next : SessionState) (lanes_now : List (Lane S)) (site : SiteState)
+    (is : answered.answer ≡ answer names s.table line.session line.command) (level : Level) (starts : level_started s.session line ≡ Some level) (command : line.command ≡ Start level) (next : SessionState) (lanes_now : List (Lane S)) (site : SiteState)
     (started : IsJustStarted run s next lanes_now site line.time.0 level began new) (short : line.time.0 < 2 ^ 64) where
   abbrev stage : Stage
   stage = stage_behind run lines text began
 
-  abbrev asked : TimedCommand
-  asked = asked_by line
-
   abbrev begun : Trail
   begun = record { started = suc (length lines); points = [] }
 
-  goes_now : RunGoesOn run line_grammar lines text began new
+  goes_now : RunGoesOn run lines text began new
   goes_now = unstarted_goes run lines trail text line s lanes began old heard unstarted fresh new same elapses silent tells told volumes
 
   level_is : level ≡ run.level
   level_is = sym started.level_is ∙ sym (subst (λ (o : Option SiteState). IfSome o (λ x. run.level ≡ x.level)) started.site_is started.its.level)
 
-  levels : IfSome (level_started s.session asked) (λ l. l ≡ run.level)
+  levels : IfSome (level_started s.session line) (λ l. l ≡ run.level)
   levels = subst (λ (o : Option Level). IfSome o (λ l. l ≡ run.level)) (sym starts) level_is
 
   none_before : (n : ℕ) → n ≤ length lines → (stage_at run lines n).table.is_started ≡ false
@@ -99,14 +95,14 @@ module _ {S : Type 0} (run : Run) (lines : List Answered) (trail : Trail) (text 
 
   exact_here : AreExact run lines begun
   exact_here n a at =
-      exact_any run (stage_at run lines n) (first_leg run lines trail).point (first_leg run lines begun).point trail.points [] n n a (none_before n (omega (arith, slice_get_within lines n a at))) (heard.answered.exact n a at)
+      exactly_any run (stage_at run lines n) (first_leg run lines trail) (first_leg run lines begun) trail.points [] n n a (none_before n (omega (arith, slice_get_within lines n a at))) (heard.answered.exact n a at)
 
   session_is : run.session ≡ s.session
   session_is = heard.answered.stands.its.session
 
   module _ (reply : List ℕ) where
     abbrev a : Answered
-    a = line_answered run lines text asked [] [] began reply
+    a = line_answered run lines text line [] [] began reply
 
     table_then : a.table ≡ started_table s.session []
     table_then = unstarted_table run lines trail text line s lanes began old heard unstarted fresh reply ∙ ap (table_by_level s.session) starts
@@ -115,7 +111,7 @@ module _ {S : Type 0} (run : Run) (lines : List Answered) (trail : Trail) (text 
     behind = stage_behind run (lines ++ a ∷ []) [] began
 
     stage_is : behind ≡ stage_after (stage_at run lines (length lines)) a
-    stage_is = stage_answered run line_grammar began.script lines a
+    stage_is = stage_answered run began.script lines a
 
     not_ended : stage.table.is_ended ≡ false
     not_ended = ap (λ (t : Table). t.is_ended) (table_is run lines trail text line s lanes began old heard unstarted fresh)
@@ -123,7 +119,7 @@ module _ {S : Type 0} (run : Run) (lines : List Answered) (trail : Trail) (text 
     -- The site's point is the one behind the line.
     point_is : stage_point (stage_after stage a) ≡ site_point site
     point_is = λ i. record {
-      time = (ap (λ (e : Bool). if e then stage.replied else asked.time) not_ended ∙ sym started.time) i;
+      time = (ap (λ (e : Bool). if e then stage.replied else line.time.0) not_ended ∙ sym started.time) i;
       rows = (ap (λ (t : Table). t.rows) (table_then ∙ sym started.table ∙ started.site_table) ∙ sym started.told) i;
       due = NoneDue;
       is_ended = (ap (λ (t : Table). t.is_ended) (table_then ∙ sym started.table ∙ started.site_table) ∙ sym started.flag) i;
@@ -192,8 +188,8 @@ module _ {S : Type 0} (run : Run) (lines : List Answered) (trail : Trail) (text 
     not_ending : is_ending run (asked_with (lines ++ a ∷ []) None) first ≡ false
     not_ending =
         ap (λ (f : Asked). accepts_end run (table_at run first.point) (f (length lines))) (sym (sym (asked_of_lines lines a) ∙ asked_of_none (lines ++ a ∷ [])))
-        ∙ ap (accepts_end run (table_at run first.point)) (asked_there lines (Some asked) (length lines) refl)
-        ∙ ap (λ (c : Command). accepts_end run (table_at run first.point) (Some (record asked { command = c }))) command
+        ∙ ap (accepts_end run (table_at run first.point)) (asked_there lines (Some line) (length lines) refl)
+        ∙ ap (λ (c : Command). accepts_end run (table_at run first.point) (Some (record line { command = c }))) command
 
     rests : RestsAtSite run (lines ++ a ∷ []) behind begun next began new site
     rests = record {
@@ -207,7 +203,7 @@ module _ {S : Type 0} (run : Run) (lines : List Answered) (trail : Trail) (text 
         };
         rowless = rowless;
         next = tt;
-        forth = λ up. subst (λ (o : Option TimedCommand). GoesForth run (lines ++ a ∷ []) o begun None began new) (sym (none_next run line_grammar began.script (lines ++ a ∷ []))) (forth up);
+        forth = λ up. subst (λ (o : Option Line). GoesForth run (lines ++ a ∷ []) o begun None began new) (sym (none_next run began.script (lines ++ a ∷ []))) (forth up);
         at = at;
         goes_on = λ on.
             subst (λ (o : Option Group). IsSomeAnd o (GoesOnFrom run first.point [] site new)) (sym started.group_is)
@@ -233,13 +229,15 @@ module _ {S : Type 0} (run : Run) (lines : List Answered) (trail : Trail) (text 
     }
 
   -- The line may be replied to.
-  pub started_to_reply : IsToReply run lines begun text asked answered next lanes_now began new
+  pub started_to_reply : IsToReply run lines begun text line answered next lanes_now began new
   started_to_reply = record {
     goes = goes_now;
     changes = [];
     hits = [];
     begins = begins_here;
     exact = exact_here;
+    brings = λ reply on. absurd (true≢false (sym on ∙ stage_off));
+    applied = λ reply ended. absurd (true≢false (sym ended ∙ ap (λ (x : Stage). x.table.is_ended) (stage_is reply) ∙ ap (λ (t : Table). t.is_ended) (table_then reply)));
     stops = unstarted_stops run lines trail text line s lanes began old heard unstarted fresh new same elapses silent tells told volumes NoMemory (λ is. absurd cc);
     unhit = λ reported. refl;
     tells = λ reply. unstarted_tells run lines trail text line s lanes began old heard unstarted fresh names answered is reply (first_leg run (lines ++ a reply ∷ []) begun).point [] (length lines);

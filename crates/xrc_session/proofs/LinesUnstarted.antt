@@ -23,12 +23,11 @@ use Rattle.consistency.specs.Between.{RunGoesOn}
 use Rattle.consistency.specs.Courses.{Answered, IsAnswered, stage_at}
 use Rattle.consistency.specs.Leads.{Point}
 use Rattle.consistency.specs.Replying.{HasNames, IsExact, told_tracks}
-use Rattle.consistency.specs.Steps.{TimedCommand, names_at}
+use Rattle.consistency.specs.Steps.{names_at}
 use Rattle.consistency.specs.Ways.{PassedPoint}
 use Rattle.consistency.proofs.Keeping.{stage_answered}
 use Rattle.consistency.proofs.Naming.{course_has_names}
 use Rattle.consistency.proofs.Replying.{inactive_exactly}
-use Rattle.script_lines.specs.Grammars.{asked_by, line_grammar}
 use Rattle.mover.specs.declared.lane.Lane.{Lane}
 use Rattle.mover.specs.Epochs.{LanesBrokeAs}
 use Rattle.xrc_command.specs.declared.line.Line.{Line}
@@ -39,10 +38,9 @@ use Rattle.xrc_session.specs.Between.{HasNotBegun, RestsAtSite, StandsBehindLine
 use Rattle.xrc_session.specs.Ends.{StopsInLine}
 use Rattle.xrc_session.specs.Frames.{ChangesRows, rows_passed}
 use Rattle.xrc_session.specs.Replying.{level_in}
-use Rattle.xrc_session.specs.Starting.{level_started}
+use Rattle.xrc_session.specs.Starting.{AreOwnSpent, level_started}
 use Rattle.xrc_session.specs.States.{SessionState, session_time, site_time}
 use Rattle.xrc_session.specs.Steps.{HasHeard, IsToReply, TellsAnswer, line_answered, WantsAsOwed}
-use Rattle.xrc_session.specs.Stops.{IsSpentNow}
 use Rattle.xrc_session.specs.Trails.{Trail, first_leg}
 use Rattle.xrc_session.proofs.Courses.{past_counted, unstarted_before, unstarted_past}
 use Rattle.xrc_session.proofs.Exactly.{unstarted_told}
@@ -98,7 +96,7 @@ err_level Query why = refl
 err_level End why = refl
 
 -- A start is done exactly if the line asks for one of the session.
-pub level_is_started : (names : Naming) (name : List ℕ) (line : TimedCommand) → level_in (answer names (new_table name) line.session line.command) line.command ≡ level_started name line
+pub level_is_started : (names : Naming) (name : List ℕ) (line : Line) → level_in (answer names (new_table name) line.session line.command) line.command ≡ level_started name line
 level_is_started names name line = by_answer line.command (answers_unstarted names name line.session line.command)
   where
     none_started : (c : Command) → ((level : Level) → c ≡ Start level → bytes_eq line.session name ≡ false) → None ≡ level_started name (record line { command = c })
@@ -122,20 +120,20 @@ table_by_level name None = new_table name
 table_by_level name (Some level) = started_table name []
 
 -- A line leaves the table, unless it is a start that is done.
-pub table_unstarted : (names : Naming) (name : List ℕ) (line : TimedCommand) → table_after names (new_table name) line.session line.command line.time ≡ table_by_level name (level_started name line)
+pub table_unstarted : (names : Naming) (name : List ℕ) (line : Line) → table_after names (new_table name) line.session line.command line.time.0 ≡ table_by_level name (level_started name line)
 table_unstarted names name line = by_answer line.command (answers_unstarted names name line.session line.command) (level_is_started names name line)
   where
     by_answer : (c : Command) → AnswersUnstarted names name line.session c → level_in (answer names (new_table name) line.session c) c ≡ level_started name (record line { command = c })
-        → table_after names (new_table name) line.session c line.time ≡ table_by_level name (level_started name (record line { command = c }))
+        → table_after names (new_table name) line.session c line.time.0 ≡ table_by_level name (level_started name (record line { command = c }))
     by_answer c (Starts level named none) is =
-        ap (λ (o : Option Refusal). if is_none o then accepted names line.time (Start level) (new_table name) else new_table name) none
+        ap (λ (o : Option Refusal). if is_none o then accepted names line.time.0 (Start level) (new_table name) else new_table name) none
         ∙ ap (table_by_level name) (sym (ap (λ (o : Option Refusal). level_in (answer_by o (change_of names (Start level) [])) (Start level)) none) ∙ is)
     by_answer c (Refuses d why some other) is =
-        ap (λ (o : Option Refusal). if is_none o then accepted names line.time d (new_table name) else new_table name) some
+        ap (λ (o : Option Refusal). if is_none o then accepted names line.time.0 d (new_table name) else new_table name) some
         ∙ ap (table_by_level name) (sym (err_level d why) ∙ sym (ap (λ (o : Option Refusal). level_in (answer_by o (change_of names d [])) d) some) ∙ is)
 
 -- A start that is accepted is the one that is done.
-pub accepted_level : (names : Naming) (name : List ℕ) (line : TimedCommand) (level : Level) → line.command ≡ Start level → is_none (refusal names (new_table name) line.session line.command) ≡ true → level_started name line ≡ Some level
+pub accepted_level : (names : Naming) (name : List ℕ) (line : Line) (level : Level) → line.command ≡ Start level → is_none (refusal names (new_table name) line.session line.command) ≡ true → level_started name line ≡ Some level
 accepted_level names name line level is none = by_answer line.command (answers_unstarted names name line.session line.command) is none
   where
     by_answer : (c : Command) → AnswersUnstarted names name line.session c → c ≡ Start level → is_none (refusal names (new_table name) line.session c) ≡ true → level_started name (record line { command = c }) ≡ Some level
@@ -156,13 +154,10 @@ none_resumes names name session c device is = by_answer c (answers_unstarted nam
 
 -- ---- in a run
 
-module _ {S : Type 0} (run : Run) (lines : List Answered) (trail : Trail) (text : List ℕ) (line : Line) (s : SessionState) (lanes : List (Lane S)) (began old : PlantState) (heard : HasHeard run lines trail text (asked_by line) s lanes began old) (unstarted : s.site ≡ None)
+module _ {S : Type 0} (run : Run) (lines : List Answered) (trail : Trail) (text : List ℕ) (line : Line) (s : SessionState) (lanes : List (Lane S)) (began old : PlantState) (heard : HasHeard run lines trail text line s lanes began old) (unstarted : s.site ≡ None)
     (fresh : s.table ≡ new_table s.session) where
   abbrev stage : Stage
   stage = stage_behind run lines text began
-
-  abbrev asked : TimedCommand
-  asked = asked_by line
 
   pub not_begun : HasNotBegun trail began old
   not_begun = subst (λ (o : Option SiteState). MatchOption o (HasNotBegun trail began old) (RestsAtSite run lines stage trail s began old)) unstarted heard.answered.stands.place
@@ -183,23 +178,23 @@ module _ {S : Type 0} (run : Run) (lines : List Answered) (trail : Trail) (text 
   has_names = course_has_names run lines heard.answered.stands.its.names heard.answered.goes.now.course (length lines) (omega arith)
 
   -- What the line is answered with, whatever the names are.
-  pub content_is : (names : Naming) → answer (names_at asked.time (breaks_of run) (names_of run)) stage.table line.session line.command ≡ answer names s.table line.session line.command
+  pub content_is : (names : Naming) → answer (names_at line.time.0 (breaks_of run) (names_of run)) stage.table line.session line.command ≡ answer names s.table line.session line.command
   content_is names =
-      answers_alike (names_at asked.time (breaks_of run) (names_of run)) names stage.table line.session line.command (inl off)
+      answers_alike (names_at line.time.0 (breaks_of run) (names_of run)) names stage.table line.session line.command (inl off)
       ∙ ap (λ (t : Table). answer names t line.session line.command) (table_is ∙ sym fresh)
 
   -- ---- a stop in the work for it
 
   module _ (new : PlantState) (site : SameSite old new) (elapses : Elapses old new) (silent : Silent old new) (tells : Type 0) (told : tells) (volumes : VolumesStay tells old new) where
-    pub unstarted_goes : RunGoesOn run line_grammar lines text began new
-    unstarted_goes = unstarted_to_run began old new run line_grammar lines text heard.answered.goes site elapses silent off
+    pub unstarted_goes : RunGoesOn run lines text began new
+    unstarted_goes = unstarted_to_run began old new run lines text heard.answered.goes site elapses silent off
 
     pub unstarted_volumes : ChangesRows (rows_passed trail.points) began new
     unstarted_volumes =
         changes_rows_then (rows_passed trail.points) [] (rows_passed trail.points) began old new heard.answered.goes.now.site heard.answered.goes.now.later elapses (λ r has. has) (λ r has. absurd (omega (arith, has.1))) heard.answered.stands.volumes
         (changes_rows_stay [] tells old new told volumes)
 
-    pub unstarted_stops : (stop : Stop) → (stop ≡ Spent → IsSpentNow new) → StopsInLine run lines text began new stop
+    pub unstarted_stops : (stop : Stop) → (stop ≡ Spent → AreOwnSpent run stage began new) → StopsInLine run lines text began new stop
     unstarted_stops stop spent = record {
       trail = trail;
       stopped = record {
@@ -219,46 +214,46 @@ module _ {S : Type 0} (run : Run) (lines : List Answered) (trail : Trail) (text 
   -- ---- the reply
 
   -- The level of the start that the line is, if it is one that is done, is the run's.
-  module _ (levels : IfSome (level_started s.session asked) (λ level. level ≡ run.level)) where
-    level_of_start : (level : Level) → asked.command ≡ Start level → accepts run stage.table asked ≡ true → level ≡ run.level
+  module _ (levels : IfSome (level_started s.session line) (λ level. level ≡ run.level)) where
+    level_of_start : (level : Level) → line.command ≡ Start level → accepts run stage.table line ≡ true → level ≡ run.level
     level_of_start level is accepts_it =
-        let started = accepted_level (names_at asked.time (breaks_of run) (names_of run)) s.session asked level is
-        (ap (λ (t : Table). is_none (refusal (names_at asked.time (breaks_of run) (names_of run)) t asked.session asked.command)) (sym table_is) ∙ accepts_it) in
+        let started = accepted_level (names_at line.time.0 (breaks_of run) (names_of run)) s.session line level is
+        (ap (λ (t : Table). is_none (refusal (names_at line.time.0 (breaks_of run) (names_of run)) t line.session line.command)) (sym table_is) ∙ accepts_it) in
         subst (λ (o : Option Level). IfSome o (λ x. x ≡ run.level)) started levels
 
-    pub unstarted_answers : (reply : List ℕ) (p : Point) (points : List PassedPoint) (number : ℕ) → (let a = answered_by run stage text reply asked [] [] in IsExact run stage p points number a → IsAnswered run stage a)
+    pub unstarted_answers : (reply : List ℕ) (p : Point) (points : List PassedPoint) (number : ℕ) → (let a = answered_by run stage text reply line [] [] in IsExact run stage p points number a → IsAnswered run stage a)
     unstarted_answers reply p points number =
-        inactive_exactly run stage text reply asked p points number (ap (λ (b : Bool). b && not stage.table.is_ended) off) (past_counted run lines heard.answered.goes.now.course (length lines) (omega arith)) level_of_start has_names
+        inactive_exactly run stage text reply line p points number (ap (λ (b : Bool). b && not stage.table.is_ended) off) (past_counted run lines heard.answered.goes.now.course (length lines) (omega arith)) level_of_start has_names
 
   abbrev then_table : Table
-  then_table = table_by_level s.session (level_started s.session asked)
+  then_table = table_by_level s.session (level_started s.session line)
 
   -- The table behind the line.
-  pub unstarted_table : (reply : List ℕ) → (line_answered run lines text asked [] [] began reply).table ≡ then_table
+  pub unstarted_table : (reply : List ℕ) → (line_answered run lines text line [] [] began reply).table ≡ then_table
   unstarted_table reply =
-      ap (λ (t : Table). table_after (names_at asked.time (breaks_of run) (names_of run)) t line.session line.command asked.time) table_is ∙ table_unstarted (names_at asked.time (breaks_of run) (names_of run)) s.session asked
+      ap (λ (t : Table). table_after (names_at line.time.0 (breaks_of run) (names_of run)) t line.session line.command line.time.0) table_is ∙ table_unstarted (names_at line.time.0 (breaks_of run) (names_of run)) s.session line
 
   module _ (names : Naming) (answered : LineAnswer) (is : answered.answer ≡ answer names s.table line.session line.command) where
-    pub unstarted_tells : (reply : List ℕ) (p : Point) (points : List PassedPoint) (number : ℕ) → TellsAnswer asked (reply_content run stage p points number (line_answered run lines text asked [] [] began reply)) answered
+    pub unstarted_tells : (reply : List ℕ) (p : Point) (points : List PassedPoint) (number : ℕ) → TellsAnswer line (reply_content run stage p points number (line_answered run lines text line [] [] began reply)) answered
     unstarted_tells reply p points number =
-        let a = line_answered run lines text asked [] [] began reply in
+        let a = line_answered run lines text line [] [] began reply in
         let content = reply_content run stage p points number a in
         record {
           is = content_is names ∙ sym is;
           tracks =
-              unstarted_told (names_at asked.time (breaks_of run) (names_of run)) stage.table line.session line.command off content.tracks answered.tracks
+              unstarted_told (names_at line.time.0 (breaks_of run) (names_of run)) stage.table line.session line.command off content.tracks answered.tracks
               ∙ ap (λ (r : Result Change Refusal). told_tracks line.command r answered.tracks) (content_is names ∙ sym is);
         }
 
     -- It resumes nothing.
-    pub unstarted_wants : (trail_now : Trail) (next : SessionState) (reply : List ℕ) → WantsAsOwed run lines trail_now text began (line_answered run lines text asked [] [] began reply) next
+    pub unstarted_wants : (trail_now : Trail) (next : SessionState) (reply : List ℕ) → WantsAsOwed run lines trail_now text began (line_answered run lines text line [] [] began reply) next
     unstarted_wants trail_now next reply device resumes on =
         absurd (none_resumes names s.session line.session line.command device (ap (λ (t : Table). answer names t line.session line.command) (sym fresh) ∙ sym (content_is names) ∙ resumes))
 
     -- ---- a line that starts nothing
 
-    module _ (refused : level_started s.session asked ≡ None) (next : SessionState) (next_is : next ≡ record s { table = then_table }) (short : asked.time < 2 ^ 64) (lanes_now : List (Lane S)) (broke : LanesBrokeAs 0 run.traces lanes_now) (stops : StopsInLine run lines text began old NoMemory) where
-      none_level : IfSome (level_started s.session asked) (λ level. level ≡ run.level)
+    module _ (refused : level_started s.session line ≡ None) (next : SessionState) (next_is : next ≡ record s { table = then_table }) (short : line.time.0 < 2 ^ 64) (lanes_now : List (Lane S)) (broke : LanesBrokeAs 0 run.traces lanes_now) (stops : StopsInLine run lines text began old NoMemory) where
+      none_level : IfSome (level_started s.session line) (λ level. level ≡ run.level)
       none_level = subst (λ (o : Option Level). IfSome o (λ level. level ≡ run.level)) (sym refused) tt
 
       table_stays : then_table ≡ s.table
@@ -267,20 +262,23 @@ module _ {S : Type 0} (run : Run) (lines : List Answered) (trail : Trail) (text 
       same : next ≡ s
       same = next_is ∙ (λ i. record s { table = table_stays i })
 
-      not_started : (reply : List ℕ) → (line_answered run lines text asked [] [] began reply).table.is_started ≡ false
+      not_started : (reply : List ℕ) → (line_answered run lines text line [] [] began reply).table.is_started ≡ false
       not_started reply = ap (λ (t : Table). t.is_started) (unstarted_table reply ∙ ap (table_by_level s.session) refused)
 
-      pub refused_to_reply : IsToReply run lines trail text asked answered next lanes_now began old
+      pub refused_to_reply : IsToReply run lines trail text line answered next lanes_now began old
       refused_to_reply = record {
         goes = heard.answered.goes;
         changes = [];
         hits = [];
         begins = record { within = omega (arith, not_begun.started); before = λ n early within. none_started n within; after = λ some there. absurd (omega (arith, some, not_begun.started)) };
         exact = heard.answered.exact;
+        brings = λ reply on. absurd (true≢false (sym on ∙ off));
+        applied = λ reply ended. let a = line_answered run lines text line [] [] began reply in
+            absurd (true≢false (sym ended ∙ ap (λ (x : Stage). x.table.is_ended) (stage_answered run began.script lines a) ∙ ap (λ (t : Table). t.is_ended) (unstarted_table reply ∙ table_stays ∙ fresh)));
         stops = stops;
         unhit = λ reported. refl;
-        tells = λ reply. unstarted_tells reply (first_leg run (lines ++ line_answered run lines text asked [] [] began reply ∷ []) trail).point trail.points (length lines);
-        may = λ reply exact. let a = line_answered run lines text asked [] [] began reply in record {
+        tells = λ reply. unstarted_tells reply (first_leg run (lines ++ line_answered run lines text line [] [] began reply ∷ []) trail).point trail.points (length lines);
+        may = λ reply exact. let a = line_answered run lines text line [] [] began reply in record {
           asks = heard.next;
           answered = unstarted_answers none_level reply (first_leg run (lines ++ a ∷ []) trail).point trail.points (length lines) exact;
           exact = exact;
@@ -290,11 +288,11 @@ module _ {S : Type 0} (run : Run) (lines : List Answered) (trail : Trail) (text 
           may = λ started. absurd (true≢false (sym started ∙ off));
           shows = λ started. absurd (true≢false (sym started ∙ not_started reply));
         };
-        stands = λ reply. let a = line_answered run lines text asked [] [] began reply in
+        stands = λ reply. let a = line_answered run lines text line [] [] began reply in
             subst (λ (x : SessionState). StandsBehindLines run (lines ++ a ∷ []) (stage_behind run (lines ++ a ∷ []) [] began) trail x began old) (sym same)
             (record {
               its = heard.answered.stands.its;
-              table = ap (λ (x : Stage). x.table) (stage_answered run line_grammar began.script lines a) ∙ unstarted_table reply ∙ table_stays;
+              table = ap (λ (x : Stage). x.table) (stage_answered run began.script lines a) ∙ unstarted_table reply ∙ table_stays;
               volumes = heard.answered.stands.volumes;
               place =
                   subst (λ (o : Option SiteState). MatchOption o (HasNotBegun trail began old) (RestsAtSite run (lines ++ a ∷ []) (stage_behind run (lines ++ a ∷ []) [] began) trail s began old)) (sym unstarted)

@@ -1,23 +1,22 @@
 -- A started session within a line: behind what it heard, and behind points that it has passed since.
 use Rattle.xrc_session.proofs.OnTrail.{passed_on_trail}
-use Rattle.std.proofs.Common.{◌≡◌, ◌⊎◌, inl, inr, ℕ, suc, ◌<◌, ◌≤◌, Bool, true, false, List, [], ◌∷◌, ◌++◌, length, Option, Some, None, refl, sym, ap, subst, ◌∙◌, arith}
+use Rattle.std.proofs.Common.{◌≡◌, ◌⊎◌, inl, inr, ℕ, suc, ◌<◌, ◌≤◌, Bool, true, false, true≢false, List, [], ◌∷◌, ◌++◌, length, Option, Some, None, refl, sym, ap, subst, ◌∙◌, arith}
 use Rattle.std.specs.Prelude.{fold, IfSome, IsTrue, MatchOption}
 use Rattle.std.proofs.lemmas.Bool.{cases_lt}
 use Rattle.crash_plant.specs.declared.device.Device.TheVariants.{Control}
 use Rattle.crash_plant.specs.Calls.{Elapses, SameSite, Silent}
 use Rattle.crash_plant.specs.Moments.{PlantState}
 use Rattle.pair_table.specs.Tables.{Table}
+use Rattle.xrc_command.specs.declared.line.Line.{Line}
 use Rattle.site_store.specs.Sites.{SiteState}
 use Rattle.consistency.specs.Bearing.{MayBeMeant}
 use Rattle.consistency.specs.Bears.{Run, Stage}
 use Rattle.consistency.specs.Between.{RunGoesOn}
 use Rattle.consistency.specs.Courses.{Answered, stage_at}
 use Rattle.consistency.specs.Leads.{Point}
-use Rattle.consistency.specs.Steps.{TimedCommand}
 use Rattle.consistency.specs.Ways.{ComesNext, Leg, PassedPoint, leg_after, stage_point}
 use Rattle.passages.specs.Points.{AreLinked, last_point}
 use Rattle.passages.proofs.InARow.{links_go_on}
-use Rattle.script_lines.specs.Grammars.{line_grammar}
 use Rattle.mover.specs.declared.lane.Lane.{Lane}
 use Rattle.xrc_status.specs.declared.stop.Stop.{Stop}
 use Rattle.xrc_status.specs.declared.stop.Stop.TheVariants.{Spent}
@@ -29,15 +28,15 @@ use Rattle.xrc_session.specs.Steps.{BeginsToPass, HasHeard, PassesPointsOn}
 use Rattle.xrc_session.specs.Stops.{IsSpentNow}
 use Rattle.xrc_session.specs.Trails.{AreExact, AreNext, BeginsAtStart, GoesForth, Trail, asked_with, first_leg, last_leg, with_points, StandsOnTrail}
 use Rattle.xrc_session.proofs.Asked.{fold_append, last_of_leg}
-use Rattle.xrc_session.proofs.Courses.{past_counted}
+use Rattle.xrc_session.proofs.Courses.{past_counted, unstarted_before}
 use Rattle.xrc_session.proofs.Exactly.{exact_stays}
 use Rattle.xrc_session.proofs.RowFrames.{changes_rows_on}
 use Rattle.xrc_session.proofs.Trails.{goes_forth_on, last_meant, rest_is_meant, works_to_run}
 
 -- A session that has started is within a line that it heard behind others, or behind them where it heard none: its devices have gone to the last leg
 -- of its trail, whose point may be meant. All lines before were answered there, and no mark was made for the line's command alone.
-pub record IsWithin (run : Run) (lines : List Answered) (trail : Trail) (text : List ℕ) (line : Option TimedCommand) (began now : PlantState) : Type 0 where
-  pub goes : RunGoesOn run line_grammar lines text began now
+pub record IsWithin (run : Run) (lines : List Answered) (trail : Trail) (text : List ℕ) (line : Option Line) (began now : PlantState) : Type 0 where
+  pub goes : RunGoesOn run lines text began now
   pub exact : AreExact run lines trail
   pub some : 0 < trail.started
   pub started : trail.started ≤ length lines
@@ -50,7 +49,7 @@ pub record IsWithin (run : Run) (lines : List Answered) (trail : Trail) (text : 
   pub volumes : ChangesRows (rows_passed trail.points) began now
   pub may : MayBeMeant run (stage_behind run lines text began) (last_leg run lines trail).point
 
-module _ (run : Run) (lines : List Answered) (trail : Trail) (text : List ℕ) (line : Option TimedCommand) (began old new : PlantState) (heard : (stage_behind run lines text began).next ≡ line) (within : IsWithin run lines trail text line began old)
+module _ (run : Run) (lines : List Answered) (trail : Trail) (text : List ℕ) (line : Option Line) (began old new : PlantState) (heard : (stage_behind run lines text began).next ≡ line) (within : IsWithin run lines trail text line began old)
     (site : SameSite old new) (elapses : Elapses old new) (silent : Silent old new) where
   abbrev stage : Stage
   stage = stage_behind run lines text began
@@ -65,8 +64,8 @@ module _ (run : Run) (lines : List Answered) (trail : Trail) (text : List ℕ) (
   here = last_of_leg run (asked_with lines line) first trail.points within.marked within.next
 
   module _ (more : List PassedPoint) (next : Option Point) (passes : PassesPointsOn run stage (asked_with lines line) l more next old new) where
-    pub goes_still : RunGoesOn run line_grammar lines text began new
-    goes_still = works_to_run began old new run line_grammar lines text within.goes site elapses silent (asked_with lines line) l more next (λ started. (within.may, passes))
+    pub goes_still : RunGoesOn run lines text began new
+    goes_still = works_to_run began old new run lines text within.goes site elapses silent (asked_with lines line) l more next (λ started. (within.may, passes))
 
     past_before : 0 < new.clock → 0 < old.clock
     past_before up = by_past (cases_lt 0 old.clock)
@@ -89,6 +88,16 @@ module _ (run : Run) (lines : List Answered) (trail : Trail) (text : List ℕ) (
     pub exact_still : AreExact run lines (with_points more trail)
     exact_still = exact_stays run lines trail within.begins line more within.next within.answered within.exact
 
+  -- It has started.
+  has_started : stage.table.is_started ≡ true
+  has_started = by_started stage.table.is_started refl
+    where
+      by_started : (b : Bool) → stage.table.is_started ≡ b → stage.table.is_started ≡ true
+      by_started true is = is
+      by_started false is =
+          let before = unstarted_before run lines within.goes.now.course (length lines) trail.started within.started (omega arith) is in
+          absurd (true≢false (sym (within.begins.after within.some within.started) ∙ before))
+
   -- It goes on by points, and stops behind some.
   pub within_stops : (stop : Stop) → (stop ≡ Spent → IsSpentNow new) → BeginsToPass run stage (asked_with lines line) l old new → StopsInLine run lines text began new stop
   within_stops stop spent begins =
@@ -104,11 +113,11 @@ module _ (run : Run) (lines : List Answered) (trail : Trail) (text : List ℕ) (
           none = λ unstarted. absurd (omega (arith, unstarted, within.some));
           begun = λ on. (within.some, record { within = within.begins.within; before = within.begins.before; after = within.begins.after });
           next = next;
-          along = λ some. subst (λ (o : Option TimedCommand). StandsOnTrail run lines o (with_points more trail) next new) (sym heard) (along_still more next passes);
-          forth = λ past some. subst (λ (o : Option TimedCommand). GoesForth run lines o (with_points more trail) next began new) (sym heard) (forth_still more next passes (omega (arith, past, within.goes.now.later)));
+          along = λ some. subst (λ (o : Option Line). StandsOnTrail run lines o (with_points more trail) next new) (sym heard) (along_still more next passes);
+          forth = λ past some. subst (λ (o : Option Line). GoesForth run lines o (with_points more trail) next began new) (sym heard) (forth_still more next passes (omega (arith, past, within.goes.now.later)));
         };
         volumes = volumes_still more next passes;
-        spent = spent;
+        spent = λ is. record { spent = spent is; own = inl has_started };
       }
 
   pub within_on : (more : List PassedPoint) → PassesPointsOn run stage (asked_with lines line) l more None old new → (fold leg_after l more).marked ≡ [] → length lines ≤ (fold leg_after l more).answered → IsWithin run lines (with_points more trail) text line began new
@@ -136,7 +145,7 @@ module _ (run : Run) (lines : List Answered) (trail : Trail) (text : List ℕ) (
 -- ---- at first
 
 -- A started session that heard a line at rest is within it.
-module _ {S : Type 0} (run : Run) (lines : List Answered) (trail : Trail) (text : List ℕ) (line : TimedCommand) (s : SessionState) (lanes : List (Lane S)) (began old : PlantState) (heard : HasHeard run lines trail text line s lanes began old) (site : SiteState) (is : s.site ≡ Some site) where
+module _ {S : Type 0} (run : Run) (lines : List Answered) (trail : Trail) (text : List ℕ) (line : Line) (s : SessionState) (lanes : List (Lane S)) (began old : PlantState) (heard : HasHeard run lines trail text line s lanes began old) (site : SiteState) (is : s.site ≡ Some site) where
   pub rests_at : RestsAtSite run lines (stage_behind run lines text began) trail s began old site
   rests_at = subst (λ (o : Option SiteState). MatchOption o (HasNotBegun trail began old) (RestsAtSite run lines (stage_behind run lines text began) trail s began old)) is heard.answered.stands.place
 
@@ -148,12 +157,12 @@ module _ {S : Type 0} (run : Run) (lines : List Answered) (trail : Trail) (text 
     started = rests_at.under_way.started;
     begins = rests_at.under_way.begins;
     rowless = rests_at.under_way.rowless;
-    next = subst (λ (o : Option TimedCommand). AreNext run lines o trail) heard.next rests_at.under_way.next;
-    forth = λ up. subst (λ (o : Option TimedCommand). GoesForth run lines o trail None began old) heard.next (rests_at.under_way.forth up);
+    next = subst (λ (o : Option Line). AreNext run lines o trail) heard.next rests_at.under_way.next;
+    forth = λ up. subst (λ (o : Option Line). GoesForth run lines o trail None began old) heard.next (rests_at.under_way.forth up);
     marked = rests_at.rest.marked;
     answered = omega (arith, rests_at.rest.answered);
     volumes = heard.answered.stands.volumes;
     may =
-        rest_is_meant run line_grammar began.script lines text heard.answered.goes.now.asked (past_counted run lines heard.answered.goes.now.course (length lines) (omega arith)) (last_leg run lines trail)
+        rest_is_meant run began.script lines text heard.answered.goes.now.asked (past_counted run lines heard.answered.goes.now.course (length lines) (omega arith)) (last_leg run lines trail)
         rests_at.under_way.at.leg rests_at.rest.point rests_at.rest.changes;
   }

@@ -7,7 +7,6 @@ use Rattle.ckd_track.specs.declared.layout.TheConstants.{BLOCKS_OF_QUEUE, WRITES
 use Rattle.crash_plant.specs.declared.device.Device.{Device}
 use Rattle.crash_plant.specs.Calls.{NoneLent}
 use Rattle.crash_plant.specs.Moments.{PlantState}
-use Rattle.sidefile.specs.declared.hand.Halt.TheVariants as halts
 use Rattle.group_state.specs.Controls.{ControlState, is_telling, new_control}
 use Rattle.group_state.specs.Groups.{Group, control_at, new_controls, new_group}
 use Rattle.pair_table.specs.Naming.{Naming, no_names, none_alike}
@@ -75,16 +74,6 @@ module _ {S T : Type 0} (left : S → Option (List ℕ)) (faults : S → ℕ) (c
   module _ (now : List (Lane S)) (right : stop_of_site controls (length before) plant ≡ None) where
     never_by_site : (stop : Stop) → stop_of_site controls (length before) plant ≡ Some stop → ⊥
     never_by_site stop due = cc (right, due)
-
-    -- Memory is wanting.
-    pub opens_for_memory : result ≡ Err NoMemory → OpensInOrder left faults controls before now plant result
-    opens_for_memory is = record {
-      site = λ stop due. absurd (never_by_site stop due);
-      of_site = λ stop kind stopped. absurd (not_of_both stop kind (inr (cc (is, stopped))));
-      headers = λ sources stop told due. inr is;
-      of_headers = λ sources stop told kind stopped. absurd (not_memory stop kind (cc (is, stopped)));
-      fault = λ k d stopped. absurd (let clash : NoMemory ≡ HeaderFault k = cc (is, stopped) in cc clash);
-    }
 
     module _ {U : Type 0} (opening : Result U Stop) (by_headers : StopsByHeaders left faults 0 [] before now opening) where
       -- A header stops it.

@@ -177,9 +177,6 @@ module _ (run : Run) (size : Sizes) (held : HeldTracks) (s end : Group) (log : L
         ∙ h.owed place r z at now
         ∙ ap (λ (state : PairState). owes_through r.state state (stood_duplex place p.rows deeds)) is
 
-    abbrev Owes : (was : Bool) → (to : ℕ) → Bool
-    Owes was to = is_by_device cause || not was || is_changed run r.control r.volume since.0 to x
-
     owes_is : (to : ℕ) (all : List PassedPoint) → owes_track run first all z to x ≡ (is_by_device cause || not (was_duplex z first all) || is_changed run r.control r.volume since.0 to x)
     owes_is to all =
         ap (λ (state : PairState). owes_in run (was_duplex z first all) z state to x) is

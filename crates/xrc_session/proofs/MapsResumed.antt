@@ -3,7 +3,6 @@ use Rattle.std.proofs.Common.{◌≡◌, ℕ, ◌<◌, Bool, true, false, cond, 
 use Rattle.std.specs.Prelude.{IfSome}
 use Rattle.std.specs.List.{Contains, flat_map}
 use Rattle.std.specs.Option.{option_map}
-use Rattle.std.proofs.lemmas.Bool.{eq-eqb}
 use Rattle.change_map.specs.Sets.{has_track}
 use Rattle.pair_table.specs.declared.command.Change.{Change}
 use Rattle.pair_table.specs.declared.command.Change.TheVariants.{Resumed}
@@ -17,7 +16,6 @@ use Rattle.group_state.specs.Controls.{ControlState, counts, resumed}
 use Rattle.group_state.specs.Groups.{Group, control_at}
 use Rattle.group_state.specs.Machine.{Call, group_after}
 use Rattle.group_state.specs.Machine.Call.{Drop, Resume}
-use Rattle.group_state.specs.Sound.{KeepsGroup}
 use Rattle.group_state.specs.Volumes.{is_wanted, passes, resumed_volume, volume_of, wants}
 use Rattle.group_state.proofs.Kept.{kept_next}
 use Rattle.consistency.specs.Bears.{Run, tracks_of_row}
@@ -25,15 +23,14 @@ use Rattle.consistency.specs.Leads.{Point}
 use Rattle.consistency.specs.Owing.{owes_track}
 use Rattle.consistency.specs.Ways.{PassedPoint}
 use Rattle.fed_logs.proofs.Standing.{same_count}
-use Rattle.mover.proofs.Pairs.{Among, among_of, apart_still, contains_of, found_of_device}
+use Rattle.mover.proofs.Pairs.{Among, among_of, apart_still, found_of_device}
 use Rattle.xrc_session.specs.MapsOwed.{MapsOwed}
-use Rattle.xrc_session.specs.MapsTaken.{WantsOwed}
 use Rattle.xrc_session.specs.Taking.{AllMay, KeepsForRows, MayTake, after_calls, calls_of_change, command_calls, drop_between, drop_call, drop_calls, owes_again, resume_calls, rows_by_command, stands_again, state_by_command, tracks_owed_to}
 use Rattle.xrc_session.proofs.Calls.{own_is, resume_itself}
 use Rattle.xrc_session.proofs.CarriedRows.{one_of_device, stated_among}
 use Rattle.xrc_session.proofs.Changed.{Kept, no_plans, taken}
 use Rattle.xrc_session.proofs.JoinsLanes.{Each}
-use Rattle.xrc_session.proofs.MapsCommands.{ComesFrom, SplitAt, all_off, came_from, split_at}
+use Rattle.xrc_session.proofs.MapsCommands.{all_off, came_from, split_at}
 use Rattle.xrc_session.proofs.MapsOff.{IsLeft, IsOff, calls_left}
 use Rattle.xrc_session.proofs.Walking.{Walked, same_behind}
 

@@ -1,5 +1,5 @@
 -- A row in its place, through deeds that suspend rows at their times.
-use Rattle.std.proofs.Common.{◌≡◌, ℕ, zero, suc, Bool, true, false, nat_eq, ◌||◌, List, [], ◌∷◌, ◌++◌, Option, Some, ◌⊎◌, inl, inr, refl, sym, ap, subst, ◌∙◌, true≢false}
+use Rattle.std.proofs.Common.{◌≡◌, ℕ, zero, suc, Bool, true, false, nat_eq, ◌||◌, List, [], ◌∷◌, Option, Some, ◌⊎◌, inl, inr, refl, sym, ap, subst, ◌∙◌, true≢false}
 use Rattle.std.specs.Prelude.{slice_get}
 use Rattle.std.specs.List.{Contains}
 use Rattle.std.proofs.lemmas.Bool.{and_from, eq-eqb, or_cases, or_left}
@@ -9,7 +9,7 @@ use Rattle.pair_table.specs.declared.row.PairState.{PairState}
 use Rattle.pair_table.specs.declared.row.PairState.TheVariants.{Pending, Copy, Duplex, Suspended}
 use Rattle.pair_table.specs.Rows.{is_suspended}
 use Rattle.pair_table.specs.Tables.{in_state, none_clash}
-use Rattle.record_rows.specs.Deeds.{Deed, rows_behind, rows_by_deed, time_by_deed, time_meant_behind}
+use Rattle.record_rows.specs.Deeds.{Deed, rows_behind, rows_by_deed, time_by_deed}
 use Rattle.record_rows.specs.Hits.{is_device_suspended}
 use Rattle.record_rows.specs.Told.{InPlaces}
 use Rattle.fed_logs.specs.Moves.{HasRowIn}
@@ -74,12 +74,6 @@ duplex_of Pending e = absurd cc
 duplex_of Copy e = absurd cc
 duplex_of Duplex e = refl
 duplex_of (Suspended cause since) e = absurd cc
-
-failed_suspended : (state : PairState) → is_device_suspended state ≡ true → is_suspended state ≡ true
-failed_suspended Pending e = absurd cc
-failed_suspended Copy e = absurd cc
-failed_suspended Duplex e = absurd cc
-failed_suspended (Suspended cause since) e = refl
 
 -- A row that is suspended isn't live behind a deed.
 pub stays_suspended : (time : ℕ) (r s : PairRow) → BecomesAt time r s → is_suspended r.state ≡ true → is_suspended s.state ≡ true
@@ -161,11 +155,3 @@ stood_before time rows deed deeds place r s go at next is stood = elim (or_cases
   | inl now ↦ duplex_of r.state (ap is_duplex_row (sym at) ∙ now)
   | inr later ↦ absurd (true≢false (sym later ∙ never_stands (time_by_deed time deed) (rows_by_deed deed) deeds place s go.1 next is))
 ]
-
--- ---- deeds in two parts
-
-pub go_parts : (time : ℕ) (rows : List PairRow) (first then : List Deed) → RowsGo time rows (first ++ then) → RowsGo time rows first × RowsGo (time_meant_behind first time) (rows_behind first rows) then
-go_parts time rows [] then go = (tt, go)
-go_parts time rows (deed ∷ first) then go =
-    let parts = go_parts (time_by_deed time deed) (rows_by_deed deed) first then go.1 in
-    ((go.0, parts.0), parts.1)

@@ -114,10 +114,6 @@ any_carried k v x time volumes (w ∷ writes) live = choose (is_on v x w) refl (
     choose true at false is rest = absurd (true≢false (sym (on at) ∙ is))
     choose false at false is rest = rest
 
-none_later_writes : (k v x time : ℕ) (writes : List Write) → has_no_later_copy v x time (entries_of k writes) ≡ true
-none_later_writes k v x time [] = refl
-none_later_writes k v x time (w ∷ writes) = none_later_writes k v x time writes
-
 pub waits_joined : (t : Trace) (last : ℕ) (b : Batch) (c : ControlState) → c.floor.0 ≤ b.upto.0 → b.writes ≡ writes_of (entries_between t c.floor.0 b.upto.0) → WaitsAsWritten t last c → WaitsAsWritten t last (joined b c)
 waits_joined t last b c up writes h = record {
   waits = λ v x time live copies from.

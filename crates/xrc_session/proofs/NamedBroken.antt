@@ -1,5 +1,5 @@
 -- Names, once controls were named that have broken.
-use Rattle.std.proofs.Common.{◌≡◌, ℕ, zero, suc, ◌+◌, ◌<◌, nat_lt, nat_eq, Bool, true, false, cond, ◌&&◌, ◌||◌, not, List, [], ◌∷◌, ◌++◌, length, take, refl, sym, ap, subst, ◌∙◌, arith, append_assoc, true≢false, inl, inr}
+use Rattle.std.proofs.Common.{◌≡◌, ℕ, zero, suc, ◌+◌, ◌<◌, nat_lt, nat_eq, Bool, true, false, cond, ◌&&◌, ◌||◌, not, List, [], ◌∷◌, ◌++◌, length, refl, sym, ap, subst, ◌∙◌, arith, append_assoc, true≢false, inl, inr}
 use Rattle.std.specs.Prelude.{slice_index_or}
 use Rattle.std.specs.List.{list_all, list_any}
 use Rattle.std.proofs.lemmas.Bool.{and_from, and_parts, eq-eqb, le-ltb, lt-ltb, ltb-true, ne_eqb, or_cases, or_left, or_right}
@@ -13,19 +13,6 @@ use Rattle.pair_table.specs.Naming.{Naming, has_volumes, is_broken, numbers_set,
 abbrev pub with_flags : (control : ℕ) → List Bool → Naming → Naming
 with_flags k [] names = names
 with_flags k (flag ∷ flags) names = with_flags (k + 1) flags (cond flag (with_broken k names) names)
-
--- One control more.
-pub flags_more : (k n : ℕ) (flags : List Bool) (d : Bool) (names : Naming) → n < length flags
-    → with_flags k (take (suc n) flags) names ≡ cond (slice_index_or flags n d) (with_broken (k + n) (with_flags k (take n flags) names)) (with_flags k (take n flags) names)
-flags_more k n [] d names low = absurd (omega (arith, low))
-flags_more k zero (flag ∷ flags) d names low =
-    let here : k + 0 ≡ k = omega arith in
-    ap (λ (i : ℕ). cond flag (with_broken i names) names) (sym here)
-flags_more k (suc n) (flag ∷ flags) d names low =
-    let next = cond flag (with_broken k names) names in
-    let here : (k + 1) + n ≡ k + suc n = omega arith in
-    let before = with_flags (k + 1) (take n flags) next in
-    flags_more (k + 1) n flags d next (omega (arith, low)) ∙ ap (λ (i : ℕ). cond (slice_index_or flags n d) (with_broken i before) before) here
 
 -- ---- numbers in order
 

@@ -193,15 +193,6 @@ serials_next heads before named next v head inside is behind pushed =
     let serials = ap serials_in_header (take_more heads v head inside ∙ ap (λ (h : VolumeHead). take v heads ++ h ∷ []) (sym is)) ∙ serials_more (take v heads) head in
     pushed ∙ ap (λ (l : List (List ℕ)). l ++ head.serial ∷ []) behind ∙ append_assoc before (serials_in_header (take v heads)) (head.serial ∷ []) ∙ ap (λ (l : List (List ℕ)). before ++ l) (sym serials)
 
--- All of them were.
-pub named_all : (control : ℕ) (heads : List VolumeHead) (before names : Naming) (old named : List (List ℕ)) (v : ℕ) → length heads ≤ v → names ≡ names_behind control heads v before → named ≡ old ++ serials_in_header (take v heads)
-    → (names ≡ record before { primaries = before.primaries ++ volumes_named control 0 heads }) × (named ≡ old ++ serials_in_header heads)
-named_all control heads before names old named v all behind serials =
-    let whole = take_all v heads all in (
-      behind ∙ ap (λ (l : List VolumeHead). record before { primaries = before.primaries ++ volumes_named control 0 l }) whole,
-      serials ∙ ap (λ (l : List VolumeHead). old ++ serials_in_header l) whole,
-    )
-
 -- ---- the names behind a header
 
 below_more : (control : ℕ) (volumes : List NamedVolume) → list_all (λ v. nat_lt v.control control) volumes ≡ true → list_all (λ v. nat_lt v.control (control + 1)) volumes ≡ true

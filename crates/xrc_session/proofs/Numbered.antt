@@ -40,15 +40,6 @@ module _ (controls : ℕ) (plant : PlantState) where
   pub next_long : (n : ℕ) → n < plant.journals → session_need controls (Journal n) ≤ plant.lengths (Journal n) → short_from n ≡ short_from (n + 1)
   next_long n lt long = one_more n lt ∙ ap (λ (b : Bool). cond b (Some (Journal n)) (short_from (suc n))) (is_long (Journal n) long) ∙ ap short_from (omega arith)
 
-  pub none_left : (n : ℕ) → plant.journals ≤ n → short_from n ≡ None
-  none_left n past = let none : plant.journals - n ≡ 0 = omega (arith, past) in ap (λ (k : ℕ). find short (journals_from n k)) none
-
-  pub past_both : session_need controls Control ≤ plant.lengths Control → session_need controls State ≤ plant.lengths State → first_too_short controls plant ≡ short_from 0
-  past_both control state =
-      ap (λ (b : Bool). cond b (Some Control) (cond (short State) (Some State) (find short (journals_from 0 plant.journals)))) (is_long Control control)
-      ∙ ap (λ (b : Bool). cond b (Some State) (find short (journals_from 0 plant.journals))) (is_long State state)
-      ∙ ap (λ (k : ℕ). find short (journals_from 0 k)) (omega arith)
-
   -- A stop is that of a device exactly if it is the first that is too short.
   pub stops_by : {T : Type 0} (result : Result T Stop) (d : Device) (e : Stop) → first_too_short controls plant ≡ Some d → e ≡ TooSmall d (session_need controls d) → result ≡ Err e
       → (stop : Stop) → IsErrOf result stop ↔ (stop_of_length controls (first_too_short controls plant) ≡ Some stop)

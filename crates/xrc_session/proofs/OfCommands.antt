@@ -10,6 +10,7 @@ use Rattle.pair_table.specs.Tables.{Table}
 use Rattle.crash_plant.specs.Moments.{PlantState}
 use Rattle.row_changes.specs.Changes.{Timed, after_changes}
 use Rattle.row_changes.specs.Toward.{AreCounted}
+use Rattle.xrc_command.specs.declared.line.Line.{Line}
 use Rattle.consistency.specs.Answering.{answered_by, is_command_of, points_before}
 use Rattle.consistency.specs.Bears.{Run, Stage, accepts, accepts_end, breaks_of}
 use Rattle.consistency.specs.Between.{AreToldOf, HasPassed, asked_in}
@@ -17,7 +18,6 @@ use Rattle.consistency.specs.Courses.{Answered, IsAnswered}
 use Rattle.consistency.specs.Leads.{Point}
 use Rattle.consistency.specs.Replies.{IsReply}
 use Rattle.consistency.specs.Replying.{HasNames, IsExact}
-use Rattle.consistency.specs.Steps.{TimedCommand}
 use Rattle.consistency.specs.Ways.{ComesBy, ComesNext, HasCountedHits, IsCommanding, IsEnding, IsLegOf, Leg, PassedPoint, Way, going_on, is_on_the_way, leg_after, leg_by, table_at}
 use Rattle.consistency.specs.Ways.Way.{Commanded, Ending, MarkedFor, OnTheWay}
 use Rattle.consistency.proofs.Answering.{line_is_answered}
@@ -30,6 +30,7 @@ use Rattle.passages.specs.Points.{AreLinked, last_point}
 use Rattle.mover.specs.Working.{Asked}
 use Rattle.xrc_session.specs.Answering.{AreOfCommand}
 use Rattle.xrc_session.specs.Answering.AreOfCommand.{BehindMark, OfCommand, OfEnd}
+use Rattle.xrc_session.specs.Trails.{BringsChanges}
 use Rattle.xrc_session.proofs.Asked.{fold_append, last_of_leg, none_of_number}
 
 -- ---- a line that ends the session
@@ -47,7 +48,7 @@ module _ (run : Run) (s : Stage) (goes : s.table.is_ended ≡ false) (l : Leg) (
 -- ---- a line by the points of its command
 
 -- A line with these changes before its command and these hits behind it is answered with its exact reply.
-abbrev pub AnswersExactly : Run → Stage → TimedCommand → (changes hits : List Timed) → Type 0
+abbrev pub AnswersExactly : Run → Stage → Line → (changes hits : List Timed) → Type 0
 AnswersExactly run s line changes hits = (text reply : List ℕ) (first : Point) (points : List PassedPoint) (number : ℕ) → (let a = answered_by run s text reply line changes hits in IsExact run s first points number a → IsAnswered run s a)
 
 -- A mark before a command leaves the changes.
@@ -55,12 +56,12 @@ marks_change_none : (number : ℕ) (l : Leg) (n : PassedPoint) → (n.way ≡ On
 marks_change_none number l n (inl way) = ap (λ (w : Way). (leg_by l n.point w).changes) way ∙ append-nil l.changes
 marks_change_none number l n (inr marked) = ap (λ (w : Way). (leg_by l n.point w).changes) marked.1
 
-module _ (run : Run) (s : Stage) (goes : s.table.is_ended ≡ false) (names : HasNames s.table) (asked : Asked) (number : ℕ) (line : TimedCommand) (heard : s.next ≡ Some line) (same : asked number ≡ s.next) where
+module _ (run : Run) (s : Stage) (goes : s.table.is_ended ≡ false) (names : HasNames s.table) (asked : Asked) (number : ℕ) (line : Line) (heard : s.next ≡ Some line) (same : asked number ≡ s.next) where
   -- What comes by the command of the line.
   by_command : (l : Leg) (n : PassedPoint) (hits : List Timed) → n.way ≡ Commanded number hits → ComesNext run asked l n → IsCommanding run s.next l n.point hits
   by_command l n hits is next =
       let come = subst (λ (w : Way). ComesBy run asked l n.point w) is next.0 in
-      subst (λ (o : Option TimedCommand). IsCommanding run o l n.point hits) same come.2
+      subst (λ (o : Option Line). IsCommanding run o l n.point hits) same come.2
 
   of_line : (l : Leg) (q : Point) (hits : List Timed) (c : IsCommanding run s.next l q hits) → c.line ≡ line
   of_line l q hits c = same_some c.line line (sym c.heard ∙ heard)
@@ -69,7 +70,7 @@ module _ (run : Run) (s : Stage) (goes : s.table.is_ended ≡ false) (names : Ha
   command_answers l leg n hits is next text reply first points place =
       let c = by_command l n hits is next in
       let counted = command_is_counted run s l leg n.point number hits (subst (λ (w : Way). HasCountedHits run (leg_by l n.point w)) is next.1) in
-      subst (λ (x : TimedCommand). let a = answered_by run s text reply x l.changes hits in IsExact run s first points place a → IsAnswered run s a) (of_line l n.point hits c)
+      subst (λ (x : Line). let a = answered_by run s text reply x l.changes hits in IsExact run s first points place a → IsAnswered run s a) (of_line l n.point hits c)
       (command_exactly run s goes l leg n.point hits c text reply first points place names counted)
 
   end_answers : (l : Leg) → IsLegOf run s l → (n m : PassedPoint) (own more : List Timed) → n.way ≡ Commanded number own → m.way ≡ Ending number more → ComesNext run asked l n → ComesNext run asked (leg_after l n) m
@@ -78,9 +79,9 @@ module _ (run : Run) (s : Stage) (goes : s.table.is_ended ≡ false) (names : Ha
       let c = by_command l n own is next in
       let there = subst (λ (w : Way). ComesNext run asked (leg_by l n.point w) m) is last in
       let come = subst (λ (w : Way). ComesBy run asked (leg_by l n.point (Commanded number own)) m.point w) ends there.0 in
-      let ending = subst (λ (o : Option TimedCommand). IsEnding run o n.point m.point more) same come.1 in
+      let ending = subst (λ (o : Option Line). IsEnding run o n.point m.point more) same come.1 in
       let counted = end_is_counted run s l leg n.point m.point number own more (subst (λ (w : Way). HasCountedHits run (leg_by (leg_by l n.point (Commanded number own)) m.point w)) ends there.1) in
-      subst (λ (x : TimedCommand). let a = answered_by run s text reply x l.changes (own ++ more) in IsExact run s first points place a → IsAnswered run s a) (of_line l n.point own c)
+      subst (λ (x : Line). let a = answered_by run s text reply x l.changes (own ++ more) in IsExact run s first points place a → IsAnswered run s a) (of_line l n.point own c)
       (ending_exactly run s goes l leg n.point m.point own more c ending text reply first points place names counted)
 
   -- A mark before the command leaves the leg one of the stage, and its changes.
@@ -186,7 +187,7 @@ pub record AreOfLine (run : Run) (s : Stage) (asked : Asked) (first : Leg) (poin
   pub behind : AreLinked (ComesNext run asked) leg_after (fold leg_after first points) more
   pub by : AreOfCommand number hits more
 
--- The reply tells of them.
+-- The reply tells of them, and they bring its changes.
 module _ (run : Run) (s : Stage) (asked : Asked) (first : Leg) (points more : List PassedPoint) (number : ℕ) (hits : List Timed) (are : AreOfLine run s asked first points more number hits) where
   abbrev l : Leg
   l = fold leg_after first points
@@ -203,11 +204,8 @@ module _ (run : Run) (s : Stage) (asked : Asked) (first : Leg) (points more : Li
   here : l.point ≡ last_point first.point points
   here = last_of_leg run asked first points are.none_marked are.before
 
-  pub told_of_line : (lines : List Answered) (a : Answered) (plant : PlantState) (to : ℕ) → number ≡ length lines → a.changes ≡ l.changes → HasPassed run (asked_in (lines ++ a ∷ [])) first (points ++ more) plant to
-      → AreToldOf run s lines first (points ++ more) a plant to
-  told_of_line lines a plant to is changes passed = record {
-    passed = passed;
-    answered = ap (λ (k : Leg). k.answered) (fold_append first points more) ∙ (just_begun number hits l more are.by).answered ∙ ap suc (are.answered ∙ is);
+  pub brings_of_line : (lines : List Answered) (a : Answered) → number ≡ length lines → a.changes ≡ l.changes → BringsChanges run s first (points ++ more) (length lines) a
+  brings_of_line lines a is changes = record {
     changes =
         subst (λ (m : ℕ). (fold leg_after first (points_before m (points ++ more))).changes ≡ a.changes) is
         (ap (λ (xs : List PassedPoint). (fold leg_after first xs).changes) cut ∙ ap (λ (k : Leg). k.changes) (fold_append first points (points_before number more)) ∙ there.changes ∙ sym changes);
@@ -216,3 +214,14 @@ module _ (run : Run) (s : Stage) (asked : Asked) (first : Leg) (points more : Li
         (ap (λ (xs : List PassedPoint). (last_point first.point xs).rows) cut ∙ ap (λ (p : Point). p.rows) (last_append first.point points (points_before number more))
         ∙ ap (λ (p : Point). (last_point p (points_before number more)).rows) (sym here) ∙ there.rows ∙ are.leg.whole.leads.rows ∙ ap (λ (c : List Timed). after_changes run.level c s.table.rows) (sym changes));
   }
+
+  pub told_of_line : (lines : List Answered) (a : Answered) (plant : PlantState) (to : ℕ) → number ≡ length lines → a.changes ≡ l.changes → HasPassed run (asked_in (lines ++ a ∷ [])) first (points ++ more) plant to
+      → AreToldOf run s lines first (points ++ more) a plant to
+  told_of_line lines a plant to is changes passed =
+      let brings = brings_of_line lines a is changes in
+      record {
+        passed = passed;
+        answered = ap (λ (k : Leg). k.answered) (fold_append first points more) ∙ (just_begun number hits l more are.by).answered ∙ ap suc (are.answered ∙ is);
+        changes = brings.changes;
+        rows = brings.rows;
+      }

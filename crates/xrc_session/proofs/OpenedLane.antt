@@ -1,6 +1,5 @@
 -- One lane is opened, or its header stops the call.
 use Rattle.std.proofs.Common.{◌≡◌, ◌⊎◌, inl, inr, ℕ, ◌+◌, ◌-◌, not, Bool, true, false, cond, List, [], ◌∷◌, ◌++◌, length, take, Option, Some, None, Result, Ok, Err, refl, sym, ap, subst, ◌∙◌, arith}
-use Rattle.std.specs.Prelude.{IsErrOf}
 use Rattle.std.proofs.lemmas.Bool.{eq-eqb, le-leb, ne_eqb}
 use Rattle.std.proofs.lemmas.List.{length-append}
 use Rattle.std.proofs.Math.Seq.{take-append_seam}
@@ -20,7 +19,7 @@ use Rattle.mover.specs.declared.lane.Lane.{Lane}
 use Rattle.xrc_status.specs.declared.stop.Stop.{Stop}
 use Rattle.xrc_status.specs.declared.stop.Stop.TheVariants.{BadHeader, HeaderFault, NoMemory}
 use Rattle.xrc_session.specs.Lanes.{AllTold, SourceBytes, SourceTold, trace_given}
-use Rattle.xrc_session.specs.Openings.{IsOfControl, StopsByHeaders, first_named_again, serial_place, serials_in_header, stop_of_header, stop_of_headers}
+use Rattle.xrc_session.specs.Openings.{StopsByHeaders, first_named_again, serial_place, serials_in_header, stop_of_header, stop_of_headers}
 
 -- ---- whether a source failed
 
@@ -158,16 +157,3 @@ pub lane_passes_on : {S T : Type 0} (left : S → Option (List ℕ)) (faults : S
     → ReadsHeader (left before.source) (left source) head reader → faults source ≡ faults before.source → first_named_again named 0 head.volumes ≡ None → (let result : Result T Stop = Ok x in StopsByHeaders left faults k named (before ∷ []) (opened ∷ []) result)
 lane_passes_on left faults k named before opened source head reader x is reads quiet fresh =
     lane_passes left faults k named before opened head reader (subst (λ s. ReadsHeader (left before.source) (left s) head reader) (sym is) reads) (ap faults is ∙ quiet) x fresh
-
--- ---- its other clauses
-
--- Only a fault in the header is told as one.
-pub fault_rose : {T : Type 0} (before now : Option (List ℕ)) (faults risen k : ℕ) (error : HeaderError) (result : Result T Stop) → Starts before now faults risen (Err error) → result ≡ Err (stop_of_header k error) → IsErrOf result (HeaderFault k) → Rose faults risen
-fault_rose before now faults risen k (header.BadHeader place) result starts is stopped = absurd (cc (is, stopped))
-fault_rose before now faults risen k header.HeaderFault result starts is stopped = starts.1
-fault_rose before now faults risen k header.NoMemory result starts is stopped = absurd (cc (is, stopped))
-
-pub is_of_control : (k : ℕ) (error : HeaderError) (stop : Stop) → stop ≡ stop_of_header k error → IsOfControl k stop ⊎ (stop ≡ NoMemory)
-is_of_control k (header.BadHeader place) stop is = inl (inl (place, is))
-is_of_control k header.HeaderFault stop is = inl (inr is)
-is_of_control k header.NoMemory stop is = inr is

@@ -1,7 +1,7 @@
 -- Lanes are opened one after another.
-use Rattle.std.proofs.Common.{◌≡◌, ◌⊎◌, inl, inr, ℕ, zero, suc, ◌+◌, ◌<◌, ◌≤◌, List, [], ◌∷◌, ◌++◌, length, map, take, drop, get_or, set, Option, Some, None, Result, Ok, Err, refl, sym, ap, subst, ◌∙◌, append-nil, append_assoc, arith, slice_get}
-use Rattle.std.specs.Prelude.{IsSomeAnd, IsTrue, nat_lt}
-use Rattle.std.specs.List.{All, list_all}
+use Rattle.std.proofs.Common.{◌≡◌, ◌⊎◌, inl, inr, ℕ, zero, suc, ◌+◌, ◌<◌, ◌≤◌, List, [], ◌∷◌, ◌++◌, length, take, drop, get_or, set, Option, Some, None, Result, Ok, Err, refl, sym, ap, subst, ◌∙◌, append-nil, append_assoc, arith, slice_get}
+use Rattle.std.specs.Prelude.{IsSomeAnd, IsTrue}
+use Rattle.std.specs.List.{All}
 use Rattle.std.proofs.lemmas.List.Elements.{All-get_or}
 use Rattle.std.proofs.lemmas.List.{drop-set-lt, drop_more, length-append, length-set, length-take-le, set_split, take-append-drop, take_all, take_more, take_more_set}
 use Rattle.write_trace.specs.declared.header.Header.{Header}
@@ -233,16 +233,6 @@ pub record HasOpened {S : Type 0} (left : S → Option (List ℕ)) (faults : S �
   pub named_are : named ≡ serials_of (take below now)
   pub names_are : names ≡ record before { primaries = primaries_in 0 (take below now) }
   pub serials : AreSerialsNamed below named names
-
-pub opened_first : {S : Type 0} (left : S → Option (List ℕ)) (faults : S → ℕ) (lanes : List (Lane S)) (names : Naming) → names.primaries ≡ [] → HasOpened left faults lanes lanes 0 [] names names
-opened_first left faults lanes names none = record {
-  many = refl;
-  rest = refl;
-  opened = tt;
-  named_are = refl;
-  names_are = ap (λ (l : List NamedVolume). record names { primaries = l }) none;
-  serials = record { serials = ap (map (λ v. v.serial)) (sym none); below = ap (list_all (λ v. nat_lt v.control 0)) none; apart = ap none_alike none };
-}
 
 module _ {S : Type 0} (left : S → Option (List ℕ)) (faults : S → ℕ) (initial now : List (Lane S)) (k : ℕ) (named : List (List ℕ)) (before names : Naming) (so_far : HasOpened left faults initial now k named before names) (inside : k < length initial) where
   seam : (d : Lane S) → initial ≡ take k initial ++ get_or initial k d ∷ drop (k + 1) initial

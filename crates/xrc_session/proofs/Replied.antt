@@ -27,11 +27,10 @@ use Rattle.consistency.specs.Bears.{Run, Stage, accepts, breaks_of, names_of}
 use Rattle.consistency.specs.Courses.{Answered, replied_after, stage_after, stage_at}
 use Rattle.consistency.specs.Leads.{Point}
 use Rattle.consistency.specs.Replying.{is_query, is_reported, own_line, report_before, told_tracks}
-use Rattle.consistency.specs.Steps.{TimedCommand, commanded, names_at, table_after_line, table_on_the_way}
+use Rattle.consistency.specs.Steps.{commanded, names_at, table_after_line, table_on_the_way}
 use Rattle.consistency.proofs.Answering.{content_as_accepted}
 use Rattle.consistency.proofs.Keeping.{stage_answered}
 use Rattle.consistency.proofs.Lines.{stage_more}
-use Rattle.script_lines.specs.Grammars.{asked_by, line_grammar}
 use Rattle.mover.specs.declared.lane.Lane.{Lane}
 use Rattle.mover.specs.Epochs.{LanesBrokeAs, break_below}
 use Rattle.mover.specs.Lanes.{broken_by, reader_in}
@@ -68,10 +67,10 @@ causes_are time (t ∷ traces) (lane ∷ lanes) same each =
 -- ---- an accepted query
 
 -- A query that is accepted is one of a session that has started and not ended.
-query_of_active : (run : Run) (table : Table) (line : TimedCommand) → line.command ≡ Query → accepts run table line ≡ true → (table.is_started ≡ true) × (table.is_ended ≡ false)
+query_of_active : (run : Run) (table : Table) (line : Line) → line.command ≡ Query → accepts run table line ≡ true → (table.is_started ≡ true) × (table.is_ended ≡ false)
 query_of_active run table line query accepted =
     by_flags table.is_ended table.is_started (bytes_eq line.session table.session)
-    (subst (λ (c : Command). is_none (refusal (names_at line.time (breaks_of run) (names_of run)) table line.session c) ≡ true) query accepted)
+    (subst (λ (c : Command). is_none (refusal (names_at line.time.0 (breaks_of run) (names_of run)) table line.session c) ≡ true) query accepted)
   where
     by_flags : (e st same : Bool) → is_none (if e then Some Ended else if not same || (not st && true) then Some NoSession else None) ≡ true → (st ≡ true) × (e ≡ false)
     by_flags true st same is = absurd cc
@@ -80,11 +79,11 @@ query_of_active run table line query accepted =
     by_flags false false false is = absurd cc
 
 -- It leaves the table.
-query_leaves : (run : Run) (table : Table) (line : TimedCommand) → line.command ≡ Query → accepts run table line ≡ true → commanded (breaks_of run) (names_of run) table line ≡ table
+query_leaves : (run : Run) (table : Table) (line : Line) → line.command ≡ Query → accepts run table line ≡ true → commanded (breaks_of run) (names_of run) table line ≡ table
 query_leaves run table line query accepts_it =
-    let names = names_at line.time (breaks_of run) (names_of run) in
+    let names = names_at line.time.0 (breaks_of run) (names_of run) in
     let flags = query_of_active run table line query accepts_it in
-    ap (λ (b : Bool). if b then accepted names line.time line.command table else table) accepts_it ∙ ap (λ (c : Command). accepted names line.time c table) query
+    ap (λ (b : Bool). if b then accepted names line.time.0 line.command table else table) accepts_it ∙ ap (λ (c : Command). accepted names line.time.0 c table) query
     ∙ (λ i. record table { is_started = sym flags.0 i; is_ended = sym flags.1 i })
 
 of_query : (c : Command) → is_query c ≡ true → c ≡ Query
@@ -117,16 +116,13 @@ pub record IsAsTold (s : SessionState) : Type 0 where
   pub unstarted : s.site ≡ None → s.table.is_started ≡ false
   pub started : IfSome s.site (λ site. (site.table ≡ s.table) × (s.table.is_started ≡ true))
 
-module _ {S : Type 0} (run : Run) (lines : List Answered) (trail : Trail) (text : List ℕ) (line : Line) (answer : LineAnswer) (s : SessionState) (lanes : List (Lane S)) (began now : PlantState) (to : IsToReply run lines trail text (asked_by line) answer s lanes began now) (as_told : IsAsTold s)
+module _ {S : Type 0} (run : Run) (lines : List Answered) (trail : Trail) (text : List ℕ) (line : Line) (answer : LineAnswer) (s : SessionState) (lanes : List (Lane S)) (began now : PlantState) (to : IsToReply run lines trail text line answer s lanes began now) (as_told : IsAsTold s)
     (many : length run.traces ≡ length lanes) (reply : List ℕ) where
   abbrev stage : Stage
   stage = stage_behind run lines text began
 
-  abbrev asked : TimedCommand
-  asked = asked_by line
-
   abbrev a : Answered
-  a = line_answered run lines text asked to.changes to.hits began reply
+  a = line_answered run lines text line to.changes to.hits began reply
 
   abbrev table : Table
   table = table_on_the_way run.level to.changes stage.table
@@ -139,10 +135,10 @@ module _ {S : Type 0} (run : Run) (lines : List Answered) (trail : Trail) (text 
 
   -- The line's table is the session's.
   table_is : a.table ≡ s.table
-  table_is = sym (ap (λ (x : Stage). x.table) (stage_answered run line_grammar began.script lines a)) ∙ stands.table
+  table_is = sym (ap (λ (x : Stage). x.table) (stage_answered run began.script lines a)) ∙ stands.table
 
-  accepted_as : is_ok answer.answer ≡ accepts run table asked
-  accepted_as = ap is_ok (sym (to.tells reply).is) ∙ content_as_accepted run stage (first_leg run (lines ++ a ∷ []) trail).point trail.points (length lines) text reply asked to.changes to.hits
+  accepted_as : is_ok answer.answer ≡ accepts run table line
+  accepted_as = ap is_ok (sym (to.tells reply).is) ∙ content_as_accepted run stage (first_leg run (lines ++ a ∷ []) trail).point trail.points (length lines) text reply line to.changes to.hits
 
   -- ---- a session that has started
 
@@ -153,7 +149,7 @@ module _ {S : Type 0} (run : Run) (lines : List Answered) (trail : Trail) (text 
     facts : (site.table ≡ s.table) × (s.table.is_started ≡ true)
     facts = subst (λ (o : Option SiteState). IfSome o (λ x. (x.table ≡ s.table) × (s.table.is_started ≡ true))) is as_told.started
 
-    time_is : site.time ≡ replied_after stage asked
+    time_is : site.time ≡ replied_after stage line
     time_is =
         sym (ap (λ (p : Point). p.time) rests.under_way.at.here) ∙ ap (λ (p : Point). p.time) rests.rest.point
         ∙ ap (λ (x : Stage). x.replied) (stage_more run lines a)
@@ -163,19 +159,19 @@ module _ {S : Type 0} (run : Run) (lines : List Answered) (trail : Trail) (text 
 
     told_is : option_map stamp content.time ≡ time_told s.site
     told_is =
-        ap (λ (b : Bool). option_map stamp (if b then Some (replied_after stage asked) else None)) (ap (λ (x : Table). x.is_started) table_is ∙ facts.1)
+        ap (λ (b : Bool). option_map stamp (if b then Some (replied_after stage line) else None)) (ap (λ (x : Table). x.is_started) table_is ∙ facts.1)
         ∙ ap (λ (n : ℕ). Some (stamp n)) (sym time_is) ∙ ap time_told (sym is)
 
     -- Behind a line that is answered with a report the table is the one that the line finds.
-    reported_table : is_reported run table asked ≡ true → (site.table ≡ table) × (site.time ≡ asked.time)
+    reported_table : is_reported run table line ≡ true → (site.table ≡ table) × (site.time ≡ line.time.0)
     reported_table reported =
-        let parts = and_parts (is_query asked.command) (accepts run table asked) reported in
-        let query = of_query asked.command parts.0 in
-        let active = query_of_active run table asked query parts.1 in (
+        let parts = and_parts (is_query line.command) (accepts run table line) reported in
+        let query = of_query line.command parts.0 in
+        let active = query_of_active run table line query parts.1 in (
           facts.0 ∙ sym table_is
-              ∙ ap (λ (hits : List Timed). table_after_line run.level (breaks_of run) (names_of run) stage.table asked to.changes hits) (to.unhit reported)
-              ∙ query_leaves run table asked query parts.1,
-          time_is ∙ ap (λ (e : Bool). if e then stage.replied else asked.time) active.1,
+              ∙ ap (λ (hits : List Timed). table_after_line run.level (breaks_of run) (names_of run) stage.table line to.changes hits) (to.unhit reported)
+              ∙ query_leaves run table line query parts.1,
+          time_is ∙ ap (λ (e : Bool). if e then stage.replied else line.time.0) active.1,
         )
 
     broke : LanesBrokeAs site.time run.traces lanes
@@ -185,19 +181,19 @@ module _ {S : Type 0} (run : Run) (lines : List Answered) (trail : Trail) (text 
     causes = causes_are site.time run.traces lanes many broke.each
 
     -- The report is that of the line.
-    report_by : (b : Bool) → is_reported run table asked ≡ b → report_before run table asked ≡ (if b then report_text site.table site.level site.time (causes_in lanes) else [])
-    report_by false not_reported = ap (λ (b : Bool). if b then report_text table run.level asked.time (map (cause_at asked.time) run.traces) else []) not_reported
+    report_by : (b : Bool) → is_reported run table line ≡ b → report_before run table line ≡ (if b then report_text site.table site.level site.time (causes_in lanes) else [])
+    report_by false not_reported = ap (λ (b : Bool). if b then report_text table run.level line.time.0 (map (cause_at line.time.0) run.traces) else []) not_reported
     report_by true reported =
         let same = reported_table reported in
-        ap (λ (b : Bool). if b then report_text table run.level asked.time (map (cause_at asked.time) run.traces) else []) reported
-        ∙ ap (λ (x : Table). report_text x run.level asked.time (map (cause_at asked.time) run.traces)) (sym same.0)
-        ∙ ap (λ (l : Level). report_text site.table l asked.time (map (cause_at asked.time) run.traces)) level_is
+        ap (λ (b : Bool). if b then report_text table run.level line.time.0 (map (cause_at line.time.0) run.traces) else []) reported
+        ∙ ap (λ (x : Table). report_text x run.level line.time.0 (map (cause_at line.time.0) run.traces)) (sym same.0)
+        ∙ ap (λ (l : Level). report_text site.table l line.time.0 (map (cause_at line.time.0) run.traces)) level_is
         ∙ ap (λ (n : ℕ). report_text site.table site.level n (map (cause_at n) run.traces)) (sym same.1)
         ∙ ap (λ (l : List (Option Cause)). report_text site.table site.level site.time l) (sym causes)
 
-    report_is : report_before run table asked ≡ report_in (reported_site s.site line.command answer.answer) (causes_in lanes)
+    report_is : report_before run table line ≡ report_in (reported_site s.site line.command answer.answer) (causes_in lanes)
     report_is =
-        report_by (is_reported run table asked) refl
+        report_by (is_reported run table line) refl
         ∙ ap (λ (b : Bool). if is_query line.command && b then report_text site.table site.level site.time (causes_in lanes) else []) (sym accepted_as)
         ∙ sym (report_if site line.command answer.answer (is_ok answer.answer) refl (causes_in lanes))
         ∙ ap (λ (o : Option SiteState). report_in (reported_site o line.command answer.answer) (causes_in lanes)) (sym is)
@@ -209,22 +205,22 @@ module _ {S : Type 0} (run : Run) (lines : List Answered) (trail : Trail) (text 
     unstarted = ap (λ (x : Table). x.is_started) table_is ∙ as_told.unstarted is
 
     told_none : option_map stamp content.time ≡ time_told s.site
-    told_none = ap (λ (b : Bool). option_map stamp (if b then Some (replied_after stage asked) else None)) unstarted ∙ ap time_told (sym is)
+    told_none = ap (λ (b : Bool). option_map stamp (if b then Some (replied_after stage line) else None)) unstarted ∙ ap time_told (sym is)
 
-    not_reported : (b : Bool) → is_reported run table asked ≡ b → b ≡ false
+    not_reported : (b : Bool) → is_reported run table line ≡ b → b ≡ false
     not_reported false reported = refl
     not_reported true reported =
-        let parts = and_parts (is_query asked.command) (accepts run table asked) reported in
-        let query = of_query asked.command parts.0 in
-        let active = query_of_active run table asked query parts.1 in
+        let parts = and_parts (is_query line.command) (accepts run table line) reported in
+        let query = of_query line.command parts.0 in
+        let active = query_of_active run table line query parts.1 in
         let after : a.table ≡ table =
-        ap (λ (hits : List Timed). table_after_line run.level (breaks_of run) (names_of run) stage.table asked to.changes hits) (to.unhit reported)
-        ∙ query_leaves run table asked query parts.1 in
+        ap (λ (hits : List Timed). table_after_line run.level (breaks_of run) (names_of run) stage.table line to.changes hits) (to.unhit reported)
+        ∙ query_leaves run table line query parts.1 in
         absurd (true≢false (sym active.0 ∙ sym (ap (λ (x : Table). x.is_started) after) ∙ unstarted))
 
-    report_none : report_before run table asked ≡ report_in (reported_site s.site line.command answer.answer) (causes_in lanes)
+    report_none : report_before run table line ≡ report_in (reported_site s.site line.command answer.answer) (causes_in lanes)
     report_none =
-        ap (λ (b : Bool). if b then report_text table run.level asked.time (map (cause_at asked.time) run.traces) else []) (not_reported (is_reported run table asked) refl)
+        ap (λ (b : Bool). if b then report_text table run.level line.time.0 (map (cause_at line.time.0) run.traces) else []) (not_reported (is_reported run table line) refl)
         ∙ ap (λ (o : Option SiteState). report_in (reported_site o line.command answer.answer) (causes_in lanes)) (sym is)
 
   -- ---- both
@@ -236,21 +232,21 @@ module _ {S : Type 0} (run : Run) (lines : List Answered) (trail : Trail) (text 
       by_site None is = told_none is
       by_site (Some site) is = told_is site is
 
-  report_alike : report_before run table asked ≡ report_in (reported_site s.site line.command answer.answer) (causes_in lanes)
+  report_alike : report_before run table line ≡ report_in (reported_site s.site line.command answer.answer) (causes_in lanes)
   report_alike = by_site s.site refl
     where
-      by_site : (o : Option SiteState) → s.site ≡ o → report_before run table asked ≡ report_in (reported_site s.site line.command answer.answer) (causes_in lanes)
+      by_site : (o : Option SiteState) → s.site ≡ o → report_before run table line ≡ report_in (reported_site s.site line.command answer.answer) (causes_in lanes)
       by_site None is = report_none is
       by_site (Some site) is = report_is site is
 
-  own_is : own_line asked content ≡ reply_line line.time.0 line.command answer.answer answer.tracks (time_told s.site)
+  own_is : own_line line content ≡ reply_line line.time.0 line.command answer.answer answer.tracks (time_told s.site)
   own_is =
       let tells = to.tells reply in
-      ap (λ (p : List ℕ). stamp_text asked.time ++ command_part asked.command ++ p ++ told_part (option_map stamp content.time) ++ 10 ∷ [])
-      (part_told asked.command content.answer content.tracks answer.tracks (tells.tracks ∙ ap (λ (r : Result Change Refusal). told_tracks asked.command r answer.tracks) (sym tells.is)) ∙ ap (λ (r : Result Change Refusal). answer_part asked.command r answer.tracks) tells.is)
-      ∙ ap (λ (o : Option Stamp). stamp_text asked.time ++ command_part asked.command ++ answer_part asked.command answer.answer answer.tracks ++ told_part o ++ 10 ∷ []) told_alike
+      ap (λ (p : List ℕ). stamp_text line.time.0 ++ command_part line.command ++ p ++ told_part (option_map stamp content.time) ++ 10 ∷ [])
+      (part_told line.command content.answer content.tracks answer.tracks (tells.tracks ∙ ap (λ (r : Result Change Refusal). told_tracks line.command r answer.tracks) (sym tells.is)) ∙ ap (λ (r : Result Change Refusal). answer_part line.command r answer.tracks) tells.is)
+      ∙ ap (λ (o : Option Stamp). stamp_text line.time.0 ++ command_part line.command ++ answer_part line.command answer.answer answer.tracks ++ told_part o ++ 10 ∷ []) told_alike
 
   -- The reply that the session composes is exact.
   pub reply_is_exact : reply ≡ reply_composed s.site lanes line answer → IsExactBehind run lines trail text began a
   reply_is_exact is =
-      is ∙ ap (λ (l : List ℕ). l ++ reply_line line.time.0 line.command answer.answer answer.tracks (time_told s.site)) (sym report_alike) ∙ ap (λ (l : List ℕ). report_before run table asked ++ l) (sym own_is)
+      is ∙ ap (λ (l : List ℕ). l ++ reply_line line.time.0 line.command answer.answer answer.tracks (time_told s.site)) (sym report_alike) ∙ ap (λ (l : List ℕ). report_before run table line ++ l) (sym own_is)

@@ -22,12 +22,11 @@ use Rattle.consistency.proofs.Lines.{next_not_before, replied_by_last, replies_m
 use Rattle.consistency.proofs.Pieces.{times_append}
 use Rattle.consistency.proofs.Replying.{exact_says_up_to}
 use Rattle.consistency.proofs.Standing.{bears_on, console_choice}
-use Rattle.script_lines.specs.Grammars.{line_grammar}
 
-module _ (run : Run) (lines : List Answered) (from : Leg) (points : List PassedPoint) (a : Answered) (first old new : PlantState) (goes : RunGoesOn run line_grammar lines a.text first old)
-    (reply : MayReply run (stage_now run line_grammar first.script lines a.text) lines from points a old) (tells : Type 0) (told : tells) (works : WorksOnConsole tells old new) where
+module _ (run : Run) (lines : List Answered) (from : Leg) (points : List PassedPoint) (a : Answered) (first old new : PlantState) (goes : RunGoesOn run lines a.text first old)
+    (reply : MayReply run (stage_now run first.script lines a.text) lines from points a old) (tells : Type 0) (told : tells) (works : WorksOnConsole tells old new) where
   abbrev s : Stage
-  s = stage_now run line_grammar first.script lines a.text
+  s = stage_now run first.script lines a.text
 
   abbrev before : Stage
   before = stage_at run lines (length lines)
@@ -44,11 +43,11 @@ module _ (run : Run) (lines : List Answered) (from : Leg) (points : List PassedP
   -- The time of the session doesn't fall.
   rises : before.replied ≤ behind.replied
   rises =
-      let later = next_not_before line_grammar (length lines) (last_line_time lines (length lines)) (length (texts_of lines ++ a.text) == length first.script) a.text a.line reply.asks in
-      let last = replied_by_last run line_grammar first.script lines (length lines) goes.now.asked (omega arith) in
+      let later = next_not_before (length lines) (last_line_time lines (length lines)) (length (texts_of lines ++ a.text) == length first.script) a.text a.line reply.asks in
+      let last = replied_by_last run first.script lines (length lines) goes.now.asked (omega arith) in
       by_end before.table.is_ended (omega (arith, later, last))
     where
-      by_end : (e : Bool) → before.replied ≤ a.line.time → before.replied ≤ (if e then before.replied else a.line.time)
+      by_end : (e : Bool) → before.replied ≤ a.line.time.0 → before.replied ≤ (if e then before.replied else a.line.time.0)
       by_end true le = omega arith
       by_end false le = le
 
@@ -63,12 +62,12 @@ module _ (run : Run) (lines : List Answered) (from : Leg) (points : List PassedP
       up_to late le = All-weaker (λ z. z ≤ before.replied) (λ z. z ≤ late) (λ z at. omega (arith, le, at)) (times_said (replies_of lines))
 
   -- Each choice bears a time at the stage behind the line, which isn't before any that the reply tells.
-  pub bears_behind : (stage_now run line_grammar first.script all []).table.is_started ≡ true → AtNow (BearsTime run (stage_now run line_grammar first.script all []) (replies_of all) new) new
+  pub bears_behind : (stage_now run first.script all []).table.is_started ≡ true → AtNow (BearsTime run (stage_now run first.script all []) (replies_of all) new) new
   bears_behind started c is =
-      let next_is = stage_answered run line_grammar first.script lines a in
+      let next_is = stage_answered run first.script lines a in
       let left = console_choice tells told old new new.clock c works ((works.elapses told).kept Control).later (omega arith) is in
       let shown = reply.shows (subst (λ (x : Stage). x.table.is_started ≡ true) next_is started) c left in
-      bears_on run (stage_now run line_grammar first.script all []) (replies_of all) old new c works.site
+      bears_on run (stage_now run first.script all []) (replies_of all) old new c works.site
       (subst (λ (x : Stage). BearsTime run x (replies_of all) old c) (sym next_is)
       (subst (λ (l : List ℕ). BearsTime run behind l old c) (sym (replies_more lines a))
       (record { time = behind.replied; bears = points_bear run behind (shape_of old) (stage_point behind) c shown (stages_are_points run behind refl answered.counted); not_earlier = said_up_to })))

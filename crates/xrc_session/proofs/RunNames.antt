@@ -1,9 +1,8 @@
 -- What a run of a script may speak of has names.
-use Rattle.std.proofs.Common.{◌≡◌, ◌⊎◌, inl, inr, ℕ, zero, suc, ◌+◌, ◌<◌, ◌≤◌, Bool, true, false, List, [], ◌∷◌, ◌++◌, length, take, drop, Option, Some, None, Result, Ok, Err, refl, sym, ap, subst, ◌∙◌, arith}
-use Rattle.std.specs.Prelude.{◌&&◌, ◌||◌, ◌==◌, ◌-◌, IsTrue, bytes_eq, codes, if◌then◌else◌, map, nat_le, not, slice_index, slice_range, sum_by}
+use Rattle.std.proofs.Common.{◌≡◌, inl, inr, ℕ, zero, suc, ◌+◌, Bool, true, false, List, [], ◌∷◌, ◌++◌, length, take, drop, Option, Some, None, Result, Ok, Err, refl, sym, ap, subst, ◌∙◌, arith}
+use Rattle.std.specs.Prelude.{◌&&◌, ◌||◌, ◌==◌, ◌-◌, bytes_eq, codes, if◌then◌else◌, map, nat_le, slice_index, slice_range, sum_by}
 use Rattle.std.specs.Int.{w16, w32, from_be_bytes}
-use Rattle.std.specs.List.{list_all, list_any}
-use Rattle.std.proofs.lemmas.Bool.{and_parts}
+use Rattle.std.specs.List.{list_all}
 use Rattle.std.proofs.lemmas.List.Folds.{list_all-append}
 use Rattle.std.proofs.lemmas.Slice.Eq.{bytes_eq-Decides}
 use Rattle.tod_stamp.specs.Fields.{◌>>=◌, Left, Bad, bytes_at, number_at, within}
@@ -13,7 +12,6 @@ use Rattle.crash_plant.specs.declared.device.Device.TheVariants.{Volume}
 use Rattle.crash_plant.specs.Moments.{PlantState}
 use Rattle.write_trace.specs.declared.header.Header.{Header}
 use Rattle.write_trace.specs.declared.header.VolumeHead.{VolumeHead}
-use Rattle.write_trace.specs.declared.entry.Entry.{Entry}
 use Rattle.write_trace.specs.declared.trace.HeaderError.{HeaderError}
 use Rattle.write_trace.specs.declared.trace.Trace.{Trace}
 use Rattle.write_trace.specs.Good.{after_header, bad_start, entries_from, trace_of, whole_trace}
@@ -25,7 +23,7 @@ use Rattle.pair_table.specs.declared.names.NamedVolume.{NamedVolume}
 use Rattle.volume_label.specs.Labels.{label_of, with_serial}
 use Rattle.volume_label.specs.declared.label.Label.{Label}
 use Rattle.volume_label.proofs.Labels.{name_parts}
-use Rattle.consistency.specs.Bears.{Run, primaries_named, volumes_named}
+use Rattle.consistency.specs.Bears.{primaries_named, volumes_named}
 use Rattle.xrc_session.specs.Lanes.{AreTracesGiven, SourceBytes, bytes_given, trace_given}
 use Rattle.xrc_session.specs.Runs.{AreLabels, GivesLabel, front_of_volume, named_by}
 use Rattle.xrc_session.specs.Runs.AreLabels.{Given, Last}

@@ -12,18 +12,24 @@ use Rattle.crash_plant.proofs.Steps.{stays_here}
 use Rattle.control_set.specs.Slots.{lengths_of}
 use Rattle.control_set.proofs.Lengths.{same_lengths}
 use Rattle.pair_table.specs.declared.level.Level.{Level}
-use Rattle.site_store.specs.Formats.{ShutsFirst}
+use Rattle.sidefile.specs.Breaks.{stamp}
+use Rattle.site_means.specs.Images.{Shape}
+use Rattle.site_means.specs.Meaning.{chosen_in}
+use Rattle.site_means.specs.Sight.{means_of}
+use Rattle.site_means.proofs.Goes.{shape_same}
+use Rattle.xrc_command.specs.declared.line.Line.{Line}
+use Rattle.site_store.specs.Formats.{started_means}
 use Rattle.site_store.specs.Records.{VolumesStay}
 use Rattle.site_store.specs.Sites.{SiteState}
 use Rattle.site_store.proofs.Fresh.{first_here}
 use Rattle.site_store.proofs.Seeing.{same_means}
 use Rattle.consistency.specs.Courses.{Answered, texts_of}
-use Rattle.consistency.specs.Steps.{TimedCommand}
 use Rattle.consistency.proofs.Standing.{console_choice}
 use Rattle.xrc_session.specs.Between.{LeavesAll}
-use Rattle.xrc_session.specs.Starting.{BeginsByLine, BeginsRun, HasBegunRun, HasStartedRun, HearsStart, IsSafeUpTo, IsStartOfScript, IsUnsaid, LeavesVolumes, MeansStart, ShutsOrStarts, StartsBehind, StartsSafely, level_started, reply_to_start}
+use Rattle.xrc_session.specs.Starting.{BeginsByLine, BeginsRun, FormatsFirst, HasBegunRun, HasStartedRun, HearsStart, IsSafeUpTo, IsStartOfScript, IsUnsaid, LeavesVolumes, MeansStart, ShutsOrStarts, ShutsSite, StandsBehindStart, StartsBehind, StartsSafely, level_started, reply_to_start}
 use Rattle.xrc_session.specs.Starting.BeginsRun.{Starting, Unstarted}
 use Rattle.xrc_session.proofs.Consoles.{stays_then}
+use Rattle.xrc_session.proofs.Started.{formats_on}
 
 -- ---- devices that are left alone
 
@@ -49,10 +55,14 @@ durable_still old new later leaves durable c left =
 
 -- ---- what is safe
 
+-- A site that is left alone is shut as far as it was.
+shut_here : (lengths : List ℕ) (c : Choice) → ShutsSite lengths c c
+shut_here lengths c = record { first = first_here lengths c; journals = λ j behind. refl }
+
 module _ (session : List ℕ) (level : Level) (at : ℕ) where
   -- What was said of one plant is said of another with the same numbers and lengths.
   starts_same : (old mid : PlantState) → SameSite old mid → (b c : Choice) → ShutsOrStarts session level at mid b c → ShutsOrStarts session level at old b c
-  starts_same old mid site b c (inl shuts) = inl (subst (λ (l : List ℕ). ShutsFirst l b c) (same_lengths old mid site) shuts)
+  starts_same old mid site b c (inl shuts) = inl (subst (λ (l : List ℕ). ShutsSite l b c) (same_lengths old mid site) shuts)
   starts_same old mid site b c (inr starts) =
       inr (record {
         means = starts.means;
@@ -77,7 +87,7 @@ module _ (session : List ℕ) (level : Level) (at : ℕ) where
 
   -- It is safe to leave the devices alone.
   pub safe_here : (old new : PlantState) → SameSite old new → LeavesAll old new → IsSafeUpTo session level at new.clock old new
-  safe_here old new site leaves t from to c is = (c, leaves_choice old new site leaves t from to c is, inl (first_here (lengths_of old) c))
+  safe_here old new site leaves t from to c is = (c, leaves_choice old new site leaves t from to c is, inl (shut_here (lengths_of old) c))
 
   -- It stays safe while the devices are left alone behind.
   pub safe_then : (old mid new : PlantState) → old.clock ≤ mid.clock → 0 < mid.clock → SameSite mid new → Elapses mid new → LeavesAll mid new → IsSafeUpTo session level at mid.clock old mid → IsSafeUpTo session level at new.clock old new
@@ -115,23 +125,47 @@ module _ (session : List ℕ) (level : Level) (at : ℕ) where
       by_side : (t < mid.clock) ⊎ (mid.clock ≤ t) → (b : Choice) × IsChoice old old.clock b × ShutsOrStarts session level at old b c
       by_side (inl early) =
           let there = past_choice mid new t c site past up (omega (arith, early)) is in
-          (c, leaves_choice old mid before leaves t from (omega (arith, early)) c there, inl (first_here (lengths_of old) c))
+          (c, leaves_choice old mid before leaves t from (omega (arith, early)) c there, inl (shut_here (lengths_of old) c))
       by_side (inr late) =
           let start = safe t late within c is in
           (start.0, leaves_choice old mid before leaves mid.clock later (omega arith) start.0 start.1, starts_same old mid before start.0 c start.2)
 
+  -- A session that was formatted since, where devices were left alone before, was formatted first.
+  pub formats_behind : (old mid new : PlantState) (to : ℕ) → old.clock ≤ mid.clock → 0 < mid.clock → SameSite old mid → LeavesAll old mid → SameSite mid new → Elapses mid new → FormatsFirst session level at mid new to → FormatsFirst session level at old new to
+  formats_behind old mid new to later up before leaves site past f = record {
+    formatted_at = f.formatted_at;
+    since = omega (arith, later, f.since);
+    within = f.within;
+    before = λ t from upto c is. by_side t from upto c is (cases_lt t mid.clock);
+    first = λ c is. ap (λ (s : Shape). chosen_in s c) (sym (shape_same old mid before)) ∙ f.first c is;
+  }
+    where
+      by_step : (b c : Choice) → ShutsSite (lengths_of mid) b c ⊎ (means_of mid c ≡ Some (started_means session level (stamp at))) → ShutsSite (lengths_of old) b c ⊎ (means_of old c ≡ Some (started_means session level (stamp at)))
+      by_step b c (inl shuts) = inl (subst (λ (l : List ℕ). ShutsSite l b c) (same_lengths old mid before) shuts)
+      by_step b c (inr means) = inr (sym (same_means old mid before c) ∙ means)
+
+      by_side : (t : ℕ) → old.clock ≤ t → t ≤ f.formatted_at → (c : Choice) → IsChoice new t c → (t < mid.clock) ⊎ (mid.clock ≤ t)
+          → (b : Choice) × IsChoice old old.clock b × (ShutsSite (lengths_of old) b c ⊎ (means_of old c ≡ Some (started_means session level (stamp at))))
+      by_side t from upto c is (inl early) =
+          let there = past_choice mid new t c site past up (omega (arith, early)) is in
+          (c, leaves_choice old mid before leaves t from (omega (arith, early)) c there, inl (shut_here (lengths_of old) c))
+      by_side t from upto c is (inr late) =
+          let start = f.before t late upto c is in
+          (start.0, leaves_choice old mid before leaves mid.clock later (omega arith) start.0 start.1, by_step start.0 c start.2)
+
 -- ---- a line
 
 -- A line that starts nothing, or a start that wasn't done, leaves the devices alone.
-pub begins_none : (session : List ℕ) (line : TimedCommand) (old new : PlantState) → SameSite old new → LeavesAll old new → ((t : ℕ) → old.clock ≤ t → t ≤ new.clock → new.said t ≡ old.said old.clock) → BeginsByLine session line old new
+pub begins_none : (session : List ℕ) (line : Line) (old new : PlantState) → SameSite old new → LeavesAll old new → ((t : ℕ) → old.clock ≤ t → t ≤ new.clock → new.said t ≡ old.said old.clock) → BeginsByLine session line old new
 begins_none session line old new site leaves quiet = by_level (level_started session line)
   where
-    by_level : (o : Option Level) → MatchOption o (LeavesAll old new) (λ level. 0 < old.clock → IsDurable (on old Control) → StartsSafely session level line.time old new)
+    by_level : (o : Option Level) → MatchOption o (LeavesAll old new) (λ level. 0 < old.clock → IsDurable (on old Control) → StartsSafely session level line.time.0 old new)
     by_level None = leaves
     by_level (Some level) = λ up durable. record {
-      safe = safe_here session level line.time old new site leaves;
-      volumes = volumes_here session level line.time old new site leaves;
+      safe = safe_here session level line.time.0 old new site leaves;
+      volumes = volumes_here session level line.time.0 old new site leaves;
       means = λ t from to said. absurd (said (quiet t from to));
+      formats = λ t from to said. absurd (said (quiet t from to));
     }
 
 -- Volumes that stay hold what they held.
@@ -141,38 +175,46 @@ volumes_stay tells told old new site stay t from to c is d there =
     subst (λ (l : List ℕ). old.images old.clock (Volume d) l) (sym start.2) start.1
 
 -- A start was begun, and nothing was said.
-pub begins_start : (session : List ℕ) (line : TimedCommand) (level : Level) (old new : PlantState) → level_started session line ≡ Some level → SameSite old new → Silent old new → (tells : Type 0) → tells → VolumesStay tells old new → (IsDurable (on old Control) → IsSafeUpTo session level line.time new.clock old new)
+pub begins_start : (session : List ℕ) (line : Line) (level : Level) (old new : PlantState) → level_started session line ≡ Some level → SameSite old new → Silent old new → (tells : Type 0) → tells → VolumesStay tells old new → (IsDurable (on old Control) → IsSafeUpTo session level line.time.0 new.clock old new)
     → BeginsByLine session line old new
 begins_start session line level old new is site silent tells told volumes safe =
-    subst (λ (o : Option Level). MatchOption o (LeavesAll old new) (λ l. 0 < old.clock → IsDurable (on old Control) → StartsSafely session l line.time old new)) (sym is)
-    (λ up durable. record { safe = safe durable; volumes = volumes_stay tells told old new site volumes; means = λ t from to said. absurd (said (silent.said t from to)) })
+    subst (λ (o : Option Level). MatchOption o (LeavesAll old new) (λ l. 0 < old.clock → IsDurable (on old Control) → StartsSafely session l line.time.0 old new)) (sym is)
+    (λ up durable. record { safe = safe durable; volumes = volumes_stay tells told old new site volumes; means = λ t from to said. absurd (said (silent.said t from to)); formats = λ t from to said. absurd (said (silent.said t from to)) })
 
 -- What a line has begun stays begun while its reply is said. Once it means the start, whatever is said, it does.
-pub begins_said : (session : List ℕ) (line : TimedCommand) (tells : Type 0) (old mid new : PlantState) → tells → SameSite old mid → Elapses old mid → WorksOnConsole tells mid new → BeginsByLine session line old mid
-    → IfSome (level_started session line) (λ level. AtNow (MeansStart session level line.time old) mid) → BeginsByLine session line old new
+pub begins_said : (session : List ℕ) (line : Line) (tells : Type 0) (old mid new : PlantState) → tells → SameSite old mid → Elapses old mid → WorksOnConsole tells mid new → BeginsByLine session line old mid
+    → IfSome (level_started session line) (λ level. StandsBehindStart session level line.time.0 old mid) → BeginsByLine session line old new
 begins_said session line tells old mid new told site past works begins means = by_level (level_started session line) begins means
   where
     later : old.clock ≤ mid.clock
     later = (past.kept Control).later
 
-    by_level : (o : Option Level) → MatchOption o (LeavesAll old mid) (λ level. 0 < old.clock → IsDurable (on old Control) → StartsSafely session level line.time old mid)
-        → IfSome o (λ level. AtNow (MeansStart session level line.time old) mid) → MatchOption o (LeavesAll old new) (λ level. 0 < old.clock → IsDurable (on old Control) → StartsSafely session level line.time old new)
+    by_level : (o : Option Level) → MatchOption o (LeavesAll old mid) (λ level. 0 < old.clock → IsDurable (on old Control) → StartsSafely session level line.time.0 old mid)
+        → IfSome o (λ level. StandsBehindStart session level line.time.0 old mid) → MatchOption o (LeavesAll old new) (λ level. 0 < old.clock → IsDurable (on old Control) → StartsSafely session level line.time.0 old new)
     by_level None leaves none = leaves_then old mid new later leaves (works.elapses told) (leaves_console tells mid new told works)
     by_level (Some level) starts mean = λ up durable.
         let was = starts up durable in
         record {
-          safe = safe_then session level line.time old mid new later (omega (arith, up, later)) works.site (works.elapses told) (leaves_console tells mid new told works) was.safe;
-          volumes = volumes_then session level line.time old mid new site later (omega (arith, up, later)) works.site (works.elapses told) (leaves_console tells mid new told works) was.volumes;
-          means = λ t from to said. by_side level was mean up t from to said (cases_lt t mid.clock);
+          safe = safe_then session level line.time.0 old mid new later (omega (arith, up, later)) works.site (works.elapses told) (leaves_console tells mid new told works) was.safe;
+          volumes = volumes_then session level line.time.0 old mid new site later (omega (arith, up, later)) works.site (works.elapses told) (leaves_console tells mid new told works) was.volumes;
+          means = λ t from to said. by_side level was mean.means up t from to said (cases_lt t mid.clock);
+          formats = λ t from to said. formats_by level was (mean.formats up durable) up t from to said (cases_lt t mid.clock);
         }
       where
-        by_side : (level : Level) → StartsSafely session level line.time old mid → AtNow (MeansStart session level line.time old) mid → 0 < old.clock → (t : ℕ) → old.clock ≤ t → t ≤ new.clock → new.said t ≢ old.said old.clock
-            → (t < mid.clock) ⊎ (mid.clock ≤ t) → AtMoment (MeansStart session level line.time old) new t
+        by_side : (level : Level) → StartsSafely session level line.time.0 old mid → AtNow (MeansStart session level line.time.0 old) mid → 0 < old.clock → (t : ℕ) → old.clock ≤ t → t ≤ new.clock → new.said t ≢ old.said old.clock
+            → (t < mid.clock) ⊎ (mid.clock ≤ t) → AtMoment (MeansStart session level line.time.0 old) new t
         by_side level was mean up t from to said (inl early) =
             λ c is.
             was.means t from (omega (arith, early)) (λ same. said ((works.elapses told).said t (omega (arith, up, later)) (omega (arith, early)) ∙ same)) c
             (past_choice mid new t c works.site (works.elapses told) (omega (arith, up, later)) (omega (arith, early)) is)
         by_side level was mean up t from to said (inr late) = λ c is. mean c (console_choice tells told mid new t c works late to is)
+
+        formats_by : (level : Level) → StartsSafely session level line.time.0 old mid → FormatsFirst session level line.time.0 old mid mid.clock → 0 < old.clock → (t : ℕ) → old.clock ≤ t → t ≤ new.clock → new.said t ≢ old.said old.clock
+            → (t < mid.clock) ⊎ (mid.clock ≤ t) → FormatsFirst session level line.time.0 old new t
+        formats_by level was first up t from to said (inl early) =
+            formats_on session level line.time.0 old mid new t t works.site (works.elapses told) (omega (arith, up, later)) (omega (arith, early)) (omega arith)
+            (was.formats t from (omega (arith, early)) (λ same. said ((works.elapses told).said t (omega (arith, up, later)) (omega (arith, early)) ∙ same)))
+        formats_by level was first up t from to said (inr late) = formats_on session level line.time.0 old mid new mid.clock t works.site (works.elapses told) (omega (arith, up, later)) (omega arith) late first
 
 -- ---- a run
 
@@ -209,6 +251,7 @@ started_later session old mid new more site past heard started = record {
           safe = λ t from to c is. b.safe t from to c (past_choice mid new t c site past now (omega (arith, to, b.within)) is);
           volumes = λ t from to c is. b.volumes t from to c (past_choice mid new t c site past now (omega (arith, to, b.within)) is);
           means = by_means now b b.means;
+          formats = by_formats now b b.formats;
         },
         said_alike now b was.1,
       );
@@ -224,6 +267,12 @@ started_later session old mid new more site past heard started = record {
         inl (subst (λ (l : List ℕ). IsUnsaid l (new.said b.replied_at)) (sym (past.said b.heard_at now (omega (arith, b.later, b.within)))) (subst (λ (l : List ℕ). IsUnsaid (mid.said b.heard_at) l) (sym (past.said b.replied_at now b.within)) unsaid))
     by_means now b (inr mean) = inr (λ c is. mean c (past_choice mid new b.replied_at c site past now b.within is))
 
+    by_formats : 0 < mid.clock → (b : StartsBehind session started.level started.at old mid) → IsUnsaid (mid.said b.heard_at) (mid.said b.replied_at) ⊎ FormatsFirst session started.level started.at old mid b.replied_at
+        → IsUnsaid (new.said b.heard_at) (new.said b.replied_at) ⊎ FormatsFirst session started.level started.at old new b.replied_at
+    by_formats now b (inl unsaid) =
+        inl (subst (λ (l : List ℕ). IsUnsaid l (new.said b.replied_at)) (sym (past.said b.heard_at now (omega (arith, b.later, b.within)))) (subst (λ (l : List ℕ). IsUnsaid (mid.said b.heard_at) l) (sym (past.said b.replied_at now b.within)) unsaid))
+    by_formats now b (inr first) = inr (formats_on session started.level started.at old mid new b.replied_at b.replied_at site past now b.within (omega arith) first)
+
 -- A run whose session has started has begun.
 pub begun_by_start : (session : List ℕ) (old new : PlantState) → HasStartedRun session old new → BeginsRun session old new
 begun_by_start session old new started = Starting started.level started.at started.hears (λ up durable. (started.behind up durable).0)
@@ -235,10 +284,10 @@ begun_run session (Some site) old new begun = begun_by_start session old new beg
 -- ---- the line that starts it
 
 -- A line was heard behind a plant's state at which no device had been worked on.
-module _ (session : List ℕ) (line : TimedCommand) (level : Level) (old heard new : PlantState) (lines : List Answered) (text : List ℕ) (leaves : LeavesAll old heard) (first : SameSite old heard) (past_first : Elapses old heard)
-    (start : IsStartOfScript session level line.time old.script lines text) (all_heard : heard.heard heard.clock ≡ old.heard old.clock ++ (texts_of lines ++ text)) (site : SameSite heard new) (past : Elapses heard new) (unheard : new.heard new.clock ≡ heard.heard heard.clock)
+module _ (session : List ℕ) (line : Line) (level : Level) (old heard new : PlantState) (lines : List Answered) (text : List ℕ) (leaves : LeavesAll old heard) (first : SameSite old heard) (past_first : Elapses old heard)
+    (start : IsStartOfScript session level line.time.0 old.script lines text) (all_heard : heard.heard heard.clock ≡ old.heard old.clock ++ (texts_of lines ++ text)) (site : SameSite heard new) (past : Elapses heard new) (unheard : new.heard new.clock ≡ heard.heard heard.clock)
     (starts : level_started session line ≡ Some level) (begins : BeginsByLine session line heard new) where
-  pub hears_start : HearsStart session level line.time old new
+  pub hears_start : HearsStart session level line.time.0 old new
   hears_start = record {
     lines = lines;
     text = text;
@@ -254,25 +303,34 @@ module _ (session : List ℕ) (line : TimedCommand) (level : Level) (old heard n
     now : 0 < heard.clock
     now = omega (arith, up, later)
 
-    safely : StartsSafely session level line.time heard new
+    safely : StartsSafely session level line.time.0 heard new
     safely =
-        subst (λ (o : Option Level). MatchOption o (LeavesAll heard new) (λ l. 0 < heard.clock → IsDurable (on heard Control) → StartsSafely session l line.time heard new)) starts begins now
+        subst (λ (o : Option Level). MatchOption o (LeavesAll heard new) (λ l. 0 < heard.clock → IsDurable (on heard Control) → StartsSafely session l line.time.0 heard new)) starts begins now
         (durable_still old heard later leaves durable)
 
     said_first : new.said heard.clock ≡ heard.said heard.clock
     said_first = past.said heard.clock now (omega arith)
 
-    means_now : IsUnsaid (new.said heard.clock) (new.said new.clock) ⊎ AtMoment (MeansStart session level line.time old) new new.clock
+    means_now : IsUnsaid (new.said heard.clock) (new.said new.clock) ⊎ AtMoment (MeansStart session level line.time.0 old) new new.clock
     means_now = by_said (bytes_eq (new.said new.clock) (heard.said heard.clock)) refl
       where
-        by_said : (b : Bool) → bytes_eq (new.said new.clock) (heard.said heard.clock) ≡ b → IsUnsaid (new.said heard.clock) (new.said new.clock) ⊎ AtMoment (MeansStart session level line.time old) new new.clock
+        by_said : (b : Bool) → bytes_eq (new.said new.clock) (heard.said heard.clock) ≡ b → IsUnsaid (new.said heard.clock) (new.said new.clock) ⊎ AtMoment (MeansStart session level line.time.0 old) new new.clock
         by_said true same = inl (inl ((bytes_eq-Decides (new.said new.clock) (heard.said heard.clock)).0 same ∙ sym said_first))
         by_said false differ =
             inr (λ c is.
-            means_same session level line.time old heard first c
+            means_same session level line.time.0 old heard first c
             (safely.means new.clock (past.kept Control).later (omega arith) (λ same. absurd (true≢false (sym ((bytes_eq-Decides (new.said new.clock) (heard.said heard.clock)).1 same) ∙ differ))) c is))
 
-    abbrev starts_behind : (new.said new.clock ≡ new.said heard.clock ++ reply_to_start level line.time) ⊎ (new.clock ≡ new.clock) → StartsBehind session level line.time old new
+    formats_now : IsUnsaid (new.said heard.clock) (new.said new.clock) ⊎ FormatsFirst session level line.time.0 old new new.clock
+    formats_now = by_said (bytes_eq (new.said new.clock) (heard.said heard.clock)) refl
+      where
+        by_said : (b : Bool) → bytes_eq (new.said new.clock) (heard.said heard.clock) ≡ b → IsUnsaid (new.said heard.clock) (new.said new.clock) ⊎ FormatsFirst session level line.time.0 old new new.clock
+        by_said true same = inl (inl ((bytes_eq-Decides (new.said new.clock) (heard.said heard.clock)).0 same ∙ sym said_first))
+        by_said false differ =
+            inr (formats_behind session level line.time.0 old heard new new.clock later now first leaves site past
+            (safely.formats new.clock (past.kept Control).later (omega arith) (λ same. absurd (true≢false (sym ((bytes_eq-Decides (new.said new.clock) (heard.said heard.clock)).1 same) ∙ differ)))))
+
+    abbrev starts_behind : (new.said new.clock ≡ new.said heard.clock ++ reply_to_start level line.time.0) ⊎ (new.clock ≡ new.clock) → StartsBehind session level line.time.0 old new
     starts_behind reached = record {
       lines = lines;
       text = text;
@@ -285,21 +343,22 @@ module _ (session : List ℕ) (line : TimedCommand) (level : Level) (old heard n
       later = (past.kept Control).later;
       within = omega arith;
       reached = reached;
-      safe = safe_behind session level line.time old heard new new.clock later now first leaves site past safely.safe;
-      volumes = volumes_behind session level line.time old heard new new.clock later now first leaves site past safely.volumes;
+      safe = safe_behind session level line.time.0 old heard new new.clock later now first leaves site past safely.safe;
+      volumes = volumes_behind session level line.time.0 old heard new new.clock later now first leaves site past safely.volumes;
       means = means_now;
+      formats = formats_now;
     }
 
   -- It begins the run, and once its reply was said whole the run has started.
   pub begins_by_start : BeginsRun session old new
-  begins_by_start = Starting level line.time hears_start (λ up durable. starts_behind up durable (inr refl))
+  begins_by_start = Starting level line.time.0 hears_start (λ up durable. starts_behind up durable (inr refl))
 
-  pub has_started : new.said new.clock ≡ heard.said heard.clock ++ reply_to_start level line.time → HasStartedRun session old new
+  pub has_started : new.said new.clock ≡ heard.said heard.clock ++ reply_to_start level line.time.0 → HasStartedRun session old new
   has_started replied = record {
     level = level;
-    at = line.time;
+    at = line.time.0;
     hears = hears_start;
     behind = λ up durable.
-        let whole : new.said new.clock ≡ new.said heard.clock ++ reply_to_start level line.time = replied ∙ ap (λ (l : List ℕ). l ++ reply_to_start level line.time) (sym (past.said heard.clock (omega (arith, up, later)) (omega arith))) in
+        let whole : new.said new.clock ≡ new.said heard.clock ++ reply_to_start level line.time.0 = replied ∙ ap (λ (l : List ℕ). l ++ reply_to_start level line.time.0) (sym (past.said heard.clock (omega (arith, up, later)) (omega arith))) in
         (starts_behind up durable (inl whole), whole);
   }

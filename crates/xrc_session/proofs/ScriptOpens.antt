@@ -1,5 +1,5 @@
 -- How the opening of a script's run stops it.
-use Rattle.std.proofs.Common.{◌≡◌, ◌⊎◌, inl, inr, ℕ, ◌-◌, List, [], length, Option, Some, None, Result, Ok, Err, refl, sym, ap, subst, ◌∙◌}
+use Rattle.std.proofs.Common.{◌≡◌, ◌⊎◌, inl, inr, ℕ, List, [], length, Option, Some, None, Result, Ok, Err, refl, sym, ap, subst, ◌∙◌}
 use Rattle.std.specs.Prelude.{IfErr, IsErrOf}
 use Rattle.crash_plant.specs.Moments.{PlantState}
 use Rattle.mover.specs.declared.lane.Lane.{Lane}

@@ -18,13 +18,14 @@ use Rattle.consistency.specs.Bears.{Run}
 use Rattle.consistency.specs.Courses.{Answered, last_line_time}
 use Rattle.consistency.specs.Replying.{HasRunNames}
 use Rattle.consistency.proofs.Between.{runs_begin}
-use Rattle.script_lines.specs.Grammars.{line_grammar}
 use Rattle.script_lines.specs.NextLines.{IsNextLine}
 use Rattle.script_lines.specs.declared.next.Next.TheVariants as next
 use Rattle.mover.specs.declared.lane.Lane.{Lane}
 use Rattle.mover.specs.Epochs.{AllTurnOut}
 use Rattle.xrc_status.specs.declared.stop.Stop.{Stop}
 use Rattle.xrc_status.specs.declared.stop.Stop.TheVariants as stops
+use Rattle.xrc_session.specs.AppliedEnds.{AppliesEnds}
+use Rattle.xrc_session.proofs.AppliedEnds.{applies_on}
 use Rattle.xrc_session.specs.Between.{IsAtSite, IsBetween, IsRunOfSession, IsRunOver, IsUnstarted, RisesCover}
 use Rattle.xrc_session.specs.Lanes.{AllTold, AllWent, AreTracesGiven, HaveHeadsOf, SourceBytes, TurnOutFrom, trace_given}
 use Rattle.xrc_session.specs.Lines.{MayFinish}
@@ -158,12 +159,13 @@ module _ {S : Type 0} (tells : Type 0) (left : S → Option (List ℕ)) (faults 
             ends = record {
               stops = record {
                 trail = no_trail;
-                stopped = record { part = None; stands = runs_begin old run line_grammar; exact = λ n a at. absurd cc; begun = λ on. absurd (cc on); none = λ unstarted. refl; next = None; along = λ started. absurd (omega (arith, started)); forth = λ past started. absurd (omega (arith, started)) };
+                stopped = record { part = None; stands = runs_begin old run; exact = λ n a at. absurd cc; begun = λ on. absurd (cc on); none = λ unstarted. refl; next = None; along = λ started. absurd (omega (arith, started)); forth = λ past started. absurd (omega (arith, started)) };
                 volumes = changes_rows_none [] old old (λ d within. leaves_here old (Volume d));
                 spent = λ is. let clash : stops.NoMemory ≡ stops.Spent = sym memory ∙ is in absurd cc;
               };
               bad = λ bad. absurd (none_bad tells 1 0 old.script bad);
               of_bad = λ n is. let clash : stops.NoMemory ≡ stops.BadLine n = sym memory ∙ is in absurd cc;
+              applied = λ up number below. absurd (omega (arith, below));
             };
           }
 
@@ -205,22 +207,24 @@ module _ {S : Type 0} (tells : Type 0) (left : S → Option (List ℕ)) (faults 
       record { run = k.run; over = k.over; lines = ends.0; text = ends.1.0; ends = subst (λ (p : PlantState). StopsAtLine tells k.run ends.0 ends.1.0 old p stop) (sym same) ends.1.1 }
 
   -- It comes to the script's end, and is finished.
-  pub lines_finish : (done : Unit {0}) (result : Result (Unit {0}) Stop) → (let r : Result (Unit {0}) Stop = Ok done in RunsLines tells left session s opened last old mid r) → FinishesRuns s old mid new result → IfErr result (HasStopCause mid new) → RunsTold tells left faults session storage before last old new result
-  lines_finish done result runs finishes cause sources below told none =
+  pub lines_finish : (done : Unit {0}) (result : Result (Unit {0}) Stop) → (let r : Result (Unit {0}) Stop = Ok done in RunsLines tells left session s opened last old mid r) → FinishesRuns s old mid new result → IfErr result (HasStopCause mid new) → SameSite mid new → Elapses mid new
+      → RunsTold tells left faults session storage before last old new result
+  lines_finish done result runs finishes cause site past sources below told none =
       let given = given_traces storage old sources none in
       let k = known_of sources given.0 given.1 runs.known runs.is_known in
       let over = over_lines sources given.0 given.1 runs.known below told k in
       let ends = runs.each k.run over.0 in
       let answered = ends.1.1 in
       let finished = finishes k.run ends.0 ends.1.0 over.1 ends.2 answered.goes answered.exact answered.stands in
-      record { run = k.run; over = k.over; lines = ends.0; text = []; ends = by_result k.run ends.0 result cause finished }
+      record { run = k.run; over = k.over; lines = ends.0; text = []; ends = by_result k.run ends.0 result cause finished (applies_on k.run ends.0 old mid new answered.goes.now.later site past answered.applied) }
     where
-      by_result : (run : Run) (lines : List Answered) (r : Result (Unit {0}) Stop) → IfErr r (HasStopCause mid new) → EndsFinishing run lines old new r → EndsScript tells run lines [] old new r
-      by_result run lines (Ok value) why finished = (refl, finished)
-      by_result run lines (Err stop) why finished = record {
+      by_result : (run : Run) (lines : List Answered) (r : Result (Unit {0}) Stop) → IfErr r (HasStopCause mid new) → EndsFinishing run lines old new r → AppliesEnds run lines old new → EndsScript tells run lines [] old new r
+      by_result run lines (Ok value) why finished applied = (refl, finished, applied)
+      by_result run lines (Err stop) why finished applied = record {
         stops = finished;
         bad = λ bad. absurd (none_bad tells (length lines + 1) (last_line_time lines (length lines)) new.script bad);
         of_bad = λ n is. absurd (no_bad n (subst (λ (x : Stop). HasStopCause mid new x) is why));
+        applied = applied;
       }
         where
           no_bad : (n : ℕ) → HasStopCause mid new (stops.BadLine n) → ⊥

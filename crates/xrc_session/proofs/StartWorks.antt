@@ -1,5 +1,5 @@
 -- The work for a start, as its callers tell it.
-use Rattle.std.proofs.Common.{◌≡◌, Result, Ok, Err, refl, ap, arith}
+use Rattle.std.proofs.Common.{◌≡◌, ℕ, List, Result, Ok, Err, refl, ap, arith}
 use Rattle.std.specs.Prelude.{IfErr, IsErrOf}
 use Rattle.crash_plant.specs.Calls.{NoneLent}
 use Rattle.crash_plant.specs.declared.device.Device.TheVariants.{Volume}
@@ -8,7 +8,8 @@ use Rattle.crash_plant.proofs.Steps.{follows_here, works_on_here}
 use Rattle.site_store.specs.Records.{VolumesStay}
 use Rattle.xrc_status.specs.declared.stop.Stop.{Stop}
 use Rattle.xrc_status.specs.declared.stop.Stop.TheVariants.{Spent}
-use Rattle.xrc_session.specs.Starting.{IsWorkOfStart}
+use Rattle.pair_table.specs.declared.level.Level.{Level}
+use Rattle.xrc_session.specs.Starting.{IsSafeStart, IsWorkOfStart}
 use Rattle.xrc_session.specs.Stops.{HasStopCause}
 use Rattle.xrc_session.proofs.InTurn.{counts_as, none_risen_here, none_stop}
 
@@ -27,6 +28,9 @@ works_err {T} {U} tells old new stop works = record {
   counts = counts_as old new (let r : Result T Stop = Err stop in r) (let r : Result U Stop = Err stop in r) (λ other is. err_as {T = T} {U = U} stop other is) works.counts;
   spent = λ told is. works.spent told (err_as {T = U} {U = T} stop Spent is);
 }
+
+pub safe_err : {T U : Type 0} (session : List ℕ) (level : Level) (at : ℕ) (old new : PlantState) (stop : Stop) → (let r : Result T Stop = Err stop in IsSafeStart session level at old new r) → (let r : Result U Stop = Err stop in IsSafeStart session level at old new r)
+safe_err {T} {U} session level at old new stop start = record { safe = start.safe; spent = λ is. start.spent (err_as {T = U} {U = T} stop Spent is); formats = tt }
 
 pub works_ok : {T U : Type 0} (tells : Type 0) (old new : PlantState) (value : T) (other : U) → (let r : Result T Stop = Ok value in IsWorkOfStart tells old new r) → (let r : Result U Stop = Ok other in IsWorkOfStart tells old new r)
 works_ok {T} {U} tells old new value other works = record {

@@ -1,5 +1,5 @@
 -- A session behind its start: the site stands behind its first epoch, without a row.
-use Rattle.std.proofs.Common.{◌≡◌, inl, inr, ℕ, ◌≤◌, true, false, List, [], ◌∷◌, length, Option, Some, None, Ok, refl, sym, ap, subst, ◌∙◌, arith, true≢false}
+use Rattle.std.proofs.Common.{◌≡◌, inl, inr, ℕ, ◌<◌, ◌≤◌, true, false, List, [], ◌∷◌, length, Option, Some, None, Ok, refl, sym, ap, subst, ◌∙◌, arith, true≢false}
 use Rattle.std.specs.Prelude.{IsSomeAnd}
 use Rattle.std.specs.List.{Contains}
 use Rattle.std.proofs.lemmas.Bool.{cases_lt}
@@ -11,7 +11,7 @@ use Rattle.crash_plant.specs.declared.device.Device.TheVariants.{Volume}
 use Rattle.crash_plant.specs.Calls.{Elapses, IsThere, SameSite}
 use Rattle.crash_plant.specs.Choices.{AtEveryMoment, AtNow, Choice, IsChoice}
 use Rattle.crash_plant.specs.Moments.{PlantState}
-use Rattle.crash_plant.proofs.Choices.{choices_then}
+use Rattle.crash_plant.proofs.Choices.{choices_then, past_choice}
 use Rattle.pair_table.specs.declared.command.Command.TheVariants.{Query}
 use Rattle.pair_table.specs.declared.level.Level.{Level}
 use Rattle.pair_table.specs.declared.row.PairRow.{PairRow}
@@ -29,10 +29,10 @@ use Rattle.record_rows.specs.Told.{InPlaces}
 use Rattle.site_means.specs.Images.{Shape, shape_of}
 use Rattle.site_means.specs.Sight.{means_in}
 use Rattle.site_means.proofs.Goes.{shape_same}
+use Rattle.xrc_command.specs.declared.line.Line.{Line}
 use Rattle.site_store.specs.Sites.{SiteState, new_site}
 use Rattle.site_store.specs.Standing.{SiteStands, none_excepted}
 use Rattle.consistency.specs.Bears.{Run, Stage}
-use Rattle.consistency.specs.Steps.{TimedCommand}
 use Rattle.consistency.specs.Bearing.{ShowsPoint}
 use Rattle.consistency.specs.Leads.{Point}
 use Rattle.consistency.specs.Ways.{Leg, PassedPoint, leg_at}
@@ -48,7 +48,7 @@ use Rattle.xrc_session.specs.Between.{AreCountsFrom, HasCut, IsReadyForEpoch, Ma
 use Rattle.xrc_session.specs.MapsOwed.{MapsOwed, MapsRest}
 use Rattle.xrc_session.specs.Bringing.{IsSiteBrought}
 use Rattle.xrc_session.specs.Lanes.{sizes_of, with_lanes_broken}
-use Rattle.xrc_session.specs.Starting.{IsSafeThroughout, IsSiteStarted, MeansStart, ShutsOrStarts, StandsStarted, StartsRuns}
+use Rattle.xrc_session.specs.Starting.{FormatsFirst, IsSafeThroughout, IsSiteStarted, MeansStart, ShutsOrStarts, StandsStarted, StartsRuns}
 use Rattle.xrc_session.specs.Steps.{BringsOn, HasBrought, MayBring}
 use Rattle.xrc_session.specs.Taking.{KeepsForRows}
 use Rattle.xrc_session.proofs.JoinsLanes.{lanes_later}
@@ -180,8 +180,8 @@ module _ {S : Type 0} (tells : Type 0) (told : tells) (left : S → Option (List
     group = first_group controls
 
     -- a line for the start's time
-    abbrev line : TimedCommand
-    line = record { time = at.0; session = run.session; command = Query }
+    abbrev line : Line
+    line = record { time = at; session = run.session; command = Query }
 
     abbrev stage : Stage
     stage = stage_at_start run at.0 (Some line)
@@ -279,7 +279,7 @@ module _ {S : Type 0} (tells : Type 0) (told : tells) (left : S → Option (List
 -- ---- safe
 
 -- What means the start on a plant means it on one of the same site.
-start_before : (session : List ℕ) (level : Level) (at : ℕ) (old mid : PlantState) (c : Choice) → SameSite old mid → MeansStart session level at mid c → MeansStart session level at old c
+pub start_before : (session : List ℕ) (level : Level) (at : ℕ) (old mid : PlantState) (c : Choice) → SameSite old mid → MeansStart session level at mid c → MeansStart session level at old c
 start_before session level at old mid c same m = record {
   means = m.means;
   defined = ap (λ (s : Shape). means_in s c) (sym (shape_same old mid same)) ∙ m.defined;
@@ -297,3 +297,13 @@ safe_then session level at old mid new later first same elapses some safe means 
     choices_then old mid new (ShutsOrStarts session level at old) (λ y z. MeansStart session level at old z) (ShutsOrStarts session level at old) later (safe durable) same elapses
     (λ t from to c left. (some.0, some.1, start_before session level at old mid c first (means t from to c left)))
     (λ x y was step. step) (λ x y z was here step starts. inr starts)
+
+-- A session that was formatted stays so.
+pub formats_on : (session : List ℕ) (level : Level) (at : ℕ) (old mid new : PlantState) (to later : ℕ) → SameSite mid new → Elapses mid new → 0 < mid.clock → to ≤ mid.clock → to ≤ later → FormatsFirst session level at old mid to → FormatsFirst session level at old new later
+formats_on session level at old mid new to later site past up within le f = record {
+  formatted_at = f.formatted_at;
+  since = f.since;
+  within = omega (arith, f.within, le);
+  before = λ t from upto c left. f.before t from upto c (past_choice mid new t c site past up (omega (arith, upto, f.within, within)) left);
+  first = λ c left. f.first c (past_choice mid new f.formatted_at c site past up (omega (arith, f.within, within)) left);
+}

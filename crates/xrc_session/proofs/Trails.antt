@@ -17,6 +17,7 @@ use Rattle.row_changes.specs.Changes.Due.{NoneDue}
 use Rattle.row_changes.specs.Toward.{AreCounted}
 use Rattle.site_means.specs.Images.{Shape, shape_of}
 use Rattle.site_means.proofs.Goes.{shape_same}
+use Rattle.xrc_command.specs.declared.line.Line.{Line}
 use Rattle.consistency.specs.Bearing.{GoesThroughPoints, MayBeMeant, ShowsPoint}
 use Rattle.consistency.specs.Bears.{IsTime, Run, Stage}
 use Rattle.consistency.specs.Between.{RunGoesOn, ShowsMeant}
@@ -24,7 +25,6 @@ use Rattle.consistency.specs.Courses.{Answered, AreAsked, last_line_time, next_l
 use Rattle.consistency.specs.Keeping.{stage_now}
 use Rattle.consistency.specs.Leads.{Point, may_rest}
 use Rattle.consistency.specs.Moments.{AreUpTo, BearsTime}
-use Rattle.consistency.specs.Steps.{TimedCommand}
 use Rattle.consistency.specs.Times.{times_said}
 use Rattle.consistency.specs.Ways.{ComesNext, IsLegOf, Leg, PassedPoint, Way, leg_after, leg_at, stage_point}
 use Rattle.consistency.proofs.Bearing.{points_bear}
@@ -38,10 +38,10 @@ use Rattle.passages.proofs.InARow.{in_a_row, links_go_on, moments_rise}
 use Rattle.mover.specs.Working.{Asked, IsOnItsWay, ShowsLast}
 use Rattle.xrc_session.specs.Steps.{PassesPointsOn}
 use Rattle.xrc_session.specs.Trails.{AreNext, GoesForth, Trail, asked_with, first_leg, last_leg, with_points}
-use Rattle.xrc_session.specs.Frames.{ChangesRows, rows_passed}
 use Rattle.xrc_session.specs.WrittenLines.{AreWrittenByLines}
+use Rattle.xrc_session.specs.WrittenParts.{PassesInParts}
 use Rattle.xrc_session.proofs.RowFrames.{changes_rows_none}
-use Rattle.xrc_session.proofs.WrittenLines.{passed_within, written_answered, written_heard, written_on, written_still}
+use Rattle.xrc_session.proofs.WrittenLines.{written_answered, written_heard, written_on, written_still}
 use Rattle.xrc_session.proofs.Asked.{asked_alike, asked_of_lines, asked_of_none, fold_append, last_of_leg, links_look_back}
 
 -- ---- what a run bears
@@ -74,15 +74,15 @@ module _ (run : Run) (s : Stage) (asked : Asked) (l : Leg) (points : List Passed
       of_next (Some q) on (inl shown) = (last_point l.point points, last, shown)
       of_next (Some q) on (inr shown) = (q, on, shown)
 
-module _ (first old new : PlantState) (run : Run) (grammar : List ℕ → Option TimedCommand) (lines : List Answered) (text : List ℕ) (goes : RunGoesOn run grammar lines text first old) (site : SameSite old new) (elapses : Elapses old new) (silent : Silent old new) where
+module _ (first old new : PlantState) (run : Run) (lines : List Answered) (text : List ℕ) (goes : RunGoesOn run lines text first old) (site : SameSite old new) (elapses : Elapses old new) (silent : Silent old new) where
   abbrev s : Stage
-  s = stage_now run grammar first.script lines text
+  s = stage_now run first.script lines text
 
   later : old.clock ≤ new.clock
   later = (elapses.kept Control).later
 
   -- Where the plant keeps no past a run goes on by what stands now.
-  without_past : ¬ (0 < first.clock) → (s.table.is_started ≡ true → AtNow (ShowsMeant run s new) new) → RunGoesOn run grammar lines text first new
+  without_past : ¬ (0 < first.clock) → (s.table.is_started ≡ true → AtNow (ShowsMeant run s new) new) → RunGoesOn run lines text first new
   without_past none shows = record {
     now = record {
       course = goes.now.course;
@@ -111,18 +111,18 @@ module _ (first old new : PlantState) (run : Run) (grammar : List ℕ → Option
       }
 
   -- A run goes on through calls that pass points.
-  pub works_to_run : (asked : Asked) (l : Leg) (points : List PassedPoint) (next : Option Point) → (s.table.is_started ≡ true → MayBeMeant run s l.point × PassesPointsOn run s asked l points next old new) → RunGoesOn run grammar lines text first new
+  pub works_to_run : (asked : Asked) (l : Leg) (points : List PassedPoint) (next : Option Point) → (s.table.is_started ≡ true → MayBeMeant run s l.point × PassesPointsOn run s asked l points next old new) → RunGoesOn run lines text first new
   works_to_run asked l points next works = by_past (cases_lt 0 first.clock)
     where
-      by_past : (0 < first.clock) ⊎ (first.clock ≤ 0) → RunGoesOn run grammar lines text first new
+      by_past : (0 < first.clock) ⊎ (first.clock ≤ 0) → RunGoesOn run lines text first new
       by_past (inl up) =
-          passages_go_on first old new run grammar lines text l.point points next goes site elapses silent (λ started.
+          passages_go_on first old new run lines text l.point points next goes site elapses silent (λ started.
           let w = works started in
           (w.1.goes (omega (arith, up, goes.now.later)), w.0, w.1.may, next_meant run s asked l points next old new w.0 w.1))
       by_past (inr none) = without_past (λ up. absurd (omega (arith, up, none))) (λ started. let w = works started in meant_now run s asked l points next old new w.0 w.1)
 
   -- So does one that hasn't started.
-  pub unstarted_to_run : s.table.is_started ≡ false → RunGoesOn run grammar lines text first new
+  pub unstarted_to_run : s.table.is_started ≡ false → RunGoesOn run lines text first new
   unstarted_to_run off = works_to_run (λ n. None) (leg_at s 0) [] None (λ started. absurd (differ s.table.is_started started off))
     where
       differ : (b : Bool) → b ≡ true → b ≡ false → ⊥
@@ -132,19 +132,19 @@ module _ (first old new : PlantState) (run : Run) (grammar : List ℕ → Option
 -- ---- a leg at rest
 
 -- The point of a leg of a stage at which no row has changed may be meant, whatever line was heard next.
-module _ (run : Run) (grammar : List ℕ → Option TimedCommand) (script : List ℕ) (lines : List Answered) (text : List ℕ) (asked : AreAsked grammar script lines) (counted : AreCounted run.rises (stage_at run lines (length lines)).past) where
+module _ (run : Run) (script : List ℕ) (lines : List Answered) (text : List ℕ) (asked : AreAsked script lines) (counted : AreCounted run.rises (stage_at run lines (length lines)).past) where
   abbrev here : Stage
-  here = stage_now run grammar script lines text
+  here = stage_now run script lines text
 
   timed : here.table.is_ended ≡ false → IsTime here here.replied
   timed goes = (omega arith, by_next here.next refl)
     where
-      by_next : (o : Option TimedCommand) → here.next ≡ o → (let T : Type 0 = elim o [ None ↦ here.replied ≡ here.replied | Some line ↦ elim here.table.is_ended [ true ↦ here.replied ≡ here.replied | false ↦ here.replied ≤ line.time ] ] in T)
+      by_next : (o : Option Line) → here.next ≡ o → (let T : Type 0 = elim o [ None ↦ here.replied ≡ here.replied | Some line ↦ elim here.table.is_ended [ true ↦ here.replied ≡ here.replied | false ↦ here.replied ≤ line.time.0 ] ] in T)
       by_next None is = refl
       by_next (Some line) is =
-          let later = next_not_before grammar (length lines) (last_line_time lines (length lines)) (nat_eq (length (texts_of lines ++ text)) (length script)) text line is in
-          let last = replied_by_last run grammar script lines (length lines) asked (omega arith) in
-          subst (λ (e : Bool). let T : Type 0 = elim e [ true ↦ here.replied ≡ here.replied | false ↦ here.replied ≤ line.time ] in T) (sym goes) (omega (arith, later, last))
+          let later = next_not_before (length lines) (last_line_time lines (length lines)) (nat_eq (length (texts_of lines ++ text)) (length script)) text line is in
+          let last = replied_by_last run script lines (length lines) asked (omega arith) in
+          subst (λ (e : Bool). let T : Type 0 = elim e [ true ↦ here.replied ≡ here.replied | false ↦ here.replied ≤ line.time.0 ] in T) (sym goes) (omega (arith, later, last))
 
   pub rest_is_meant : (l : Leg) → IsLegOf run here l → l.point ≡ stage_point here → l.changes ≡ [] → MayBeMeant run here l.point
   rest_is_meant l leg at none = by_end here.table.is_ended refl
@@ -163,7 +163,7 @@ pub last_shown : (run : Run) (plant : PlantState) (from to : ℕ) (p : Point) (p
 last_shown run plant from to p [] goes c is = goes.1 to goes.0 (omega arith) c is
 last_shown run plant from to p (n ∷ points) goes c is = last_shown run plant n.moment to n.point points goes.3 c is
 
-module _ (run : Run) (lines : List Answered) (asked : Option TimedCommand) (trail : Trail) (began old new : PlantState) (site : SameSite old new) (elapses : Elapses old new) (up : 0 < old.clock) (forth : GoesForth run lines asked trail None began old) where
+module _ (run : Run) (lines : List Answered) (asked : Option Line) (trail : Trail) (began old new : PlantState) (site : SameSite old new) (elapses : Elapses old new) (up : 0 < old.clock) (forth : GoesForth run lines asked trail None began old) where
   from_before : forth.from ≤ old.clock
   from_before = moments_rise Point Way Choice (IsChoice old) (ShowsPoint run (shape_of old)) forth.from old.clock (first_leg run lines trail).point trail.points None forth.goes
 
@@ -190,7 +190,7 @@ module _ (run : Run) (lines : List Answered) (asked : Option TimedCommand) (trai
     on_its_way = of_next next passes.on_its_way;
     written =
         written_on old new site elapses up lines asked (trail.started - 1) trail.points (first_leg run lines trail).point forth.from began more forth.written
-        (subst (λ (p : Point). ChangesRows (p.rows ++ rows_passed more) old new) there passes.volumes) (passed_within run new old.clock new.clock (last_leg run lines trail).point more next (passes.goes up));
+        (subst (λ (p : Point). PassesInParts new old.clock new.clock p more) there (passes.written up));
   }
     where
       there : (last_leg run lines trail).point ≡ last_point (first_leg run lines trail).point trail.points
@@ -227,10 +227,10 @@ module _ (run : Run) (lines : List Answered) (asked : Option TimedCommand) (trai
 
 module _ (run : Run) (lines : List Answered) (trail : Trail) where
   -- Links stay as they are when a line is heard at rest.
-  pub next_heard : (asked other : Option TimedCommand) → (last_leg run lines trail).marked ≡ [] → (last_leg run lines trail).answered ≤ length lines → AreNext run lines asked trail → AreNext run lines other trail
+  pub next_heard : (asked other : Option Line) → (last_leg run lines trail).marked ≡ [] → (last_leg run lines trail).answered ≤ length lines → AreNext run lines asked trail → AreNext run lines other trail
   next_heard asked other none up linked = links_look_back run (asked_with lines asked) (asked_with lines other) (first_leg run lines trail) trail.points none (λ k below. asked_alike lines asked other k (omega (arith, below, up))) linked
 
-  pub forth_heard : (asked other : Option TimedCommand) (began now : PlantState) → (last_leg run lines trail).marked ≡ [] → (last_leg run lines trail).answered ≤ length lines → now.heard now.clock ≡ began.heard began.clock ++ texts_of lines → now.said now.clock ≡ began.said began.clock ++ replies_of lines → GoesForth run lines asked trail None began now
+  pub forth_heard : (asked other : Option Line) (began now : PlantState) → (last_leg run lines trail).marked ≡ [] → (last_leg run lines trail).answered ≤ length lines → now.heard now.clock ≡ began.heard began.clock ++ texts_of lines → now.said now.clock ≡ began.said began.clock ++ replies_of lines → GoesForth run lines asked trail None began now
       → GoesForth run lines other trail None began now
   forth_heard asked other began now none up heard said forth = record {
     from = forth.from;

@@ -1,7 +1,7 @@
 -- What a line's command leaves of a site and of the shared state, once it was logged.
 use Rattle.xrc_session.specs.MapsTaken.{WantsOwed}
 use Rattle.std.specs.Prelude.{◌≡◌, ◌⊎◌, ℕ, ◌<◌, ◌+◌, List, [], ◌∷◌, ◌++◌, length, fold, Bool, true, false, Option, Some, None, Result, Ok, Err, IsSomeAnd, IsTrue}
-use Rattle.std.specs.List.{All, Contains}
+use Rattle.std.specs.List.{All, Contains, list_all}
 use Rattle.crash_plant.specs.Choices.{AtNow}
 use Rattle.crash_plant.specs.Moments.{PlantState}
 use Rattle.pair_table.specs.declared.command.Change.{Change}
@@ -20,15 +20,15 @@ use Rattle.group_state.specs.Groups.{Group, control_at}
 use Rattle.record_rows.specs.Hits.{hit_now}
 use Rattle.record_rows.specs.Told.{InPlaces}
 use Rattle.row_changes.specs.Changes.{Timed}
+use Rattle.row_changes.specs.Toward.{is_hit_at}
 use Rattle.site_means.specs.Images.{shape_of}
 use Rattle.site_store.specs.Between.{IsSiteIdle}
 use Rattle.site_store.specs.Commands.{IsToLog, LabelsFit, MayDo, behind_command}
 use Rattle.site_store.specs.Sites.{SiteState}
 use Rattle.site_store.specs.Standing.{FitsPlant}
-use Rattle.script_lines.specs.Grammars.{asked_by}
 use Rattle.consistency.specs.Bears.{Run, Stage, accepts_end, breaks_of, names_of}
 use Rattle.consistency.specs.Courses.{stage_after}
-use Rattle.consistency.specs.Steps.{TimedCommand, names_at, table_on_the_way}
+use Rattle.consistency.specs.Steps.{names_at, table_on_the_way}
 use Rattle.mover.specs.Working.{Asked}
 use Rattle.consistency.specs.Answering.{answered_by, is_command_of, reply_content, points_before}
 use Rattle.consistency.specs.Bearing.{ShowsPoint}
@@ -157,14 +157,14 @@ pub record IsSiteAnswered (tells : Type 0) (names : Naming) (line : Line) (answe
 --   fresh: none of the points so far is of the line
 --   active: the names are those at the line's time, and the command may take effect
 --   ended: the leg is at the point of its stage
-pub record MayAnswer (run : Run) (stage : Stage) (line : TimedCommand) (asked : Asked) (l : Leg) (first : Point) (points : List PassedPoint) (names : Naming) (site : SiteState) (group : Option Group) (began now : PlantState) : Type 0 where
+pub record MayAnswer (run : Run) (stage : Stage) (line : Line) (asked : Asked) (l : Leg) (first : Point) (points : List PassedPoint) (names : Naming) (site : SiteState) (group : Option Group) (began now : PlantState) : Type 0 where
   pub heard : stage.next ≡ Some line
   pub asked_is : asked l.answered ≡ Some line
   pub marked : l.marked ≡ []
   pub fresh : All (λ n. is_command_of l.answered n.way ≡ false) points
   pub level : run.level ≡ site.level
   pub at : StandsAtLeg run stage l site began now
-  pub active : site.table.is_ended ≡ false → MayTakeEffect run line l × IsAtWork run asked l × (names ≡ names_at line.time (breaks_of run) (names_of run))
+  pub active : site.table.is_ended ≡ false → MayTakeEffect run line l × IsAtWork run asked l × (names ≡ names_at line.time.0 (breaks_of run) (names_of run))
   pub ended : site.table.is_ended ≡ true → (l.point ≡ stage_point stage) × (l.changes ≡ [])
   pub goes_on : site.table.is_ended ≡ false → IsSomeAnd group (GoesOnFrom run first points site now)
   pub cut : site.table.is_ended ≡ false → IsSomeAnd group (HasCut site.time)
@@ -197,16 +197,16 @@ abbrev pub way_of_mark : (ended : Bool) → (line : ℕ) → (hits : List Timed)
 way_of_mark false line hits = OnTheWay hits
 way_of_mark true line hits = Ending line hits
 
--- How a mark ends: by its point.
+-- How a mark ends: by its point, with hits at its time.
 abbrev pub EndsMark : Run → Stage → Asked → Leg → (ended : Bool) → SiteState → (began old new : PlantState) → Result (Unit {0}) Stop → Type 0
-EndsMark run stage asked l ended site began old new (Ok done) = (n : PassedPoint) × ((line : ℕ) × ((hits : List Timed) × (n.way ≡ way_of_mark ended line hits)))
+EndsMark run stage asked l ended site began old new (Ok done) = (n : PassedPoint) × ((line : ℕ) × ((hits : List Timed) × (n.way ≡ way_of_mark ended line hits) × IsTrue (list_all (is_hit_at l.point.time) hits)))
     × PassesPointsOn run stage asked l (n ∷ []) None old new × HasMarked run (leg_after l n) site began new
 EndsMark run stage asked l ended site began old new (Err stop) = BeginsToPass run stage asked l old new
 
 -- ---- how a command ends
 
 -- the stage behind a line whose command was done at a leg, before these hits; its texts don't count
-abbrev pub stage_then : Run → Stage → TimedCommand → Leg → (hits : List Timed) → Stage
+abbrev pub stage_then : Run → Stage → Line → Leg → (hits : List Timed) → Stage
 stage_then run stage line l hits = stage_after stage (answered_by run stage [] [] line l.changes hits)
 
 -- These points answer the line with a number: its command, behind a mark that its record needs first, and before the mark by which an accepted end
@@ -221,7 +221,7 @@ pub data AreOfCommand (number : ℕ) (hits : List Timed) : List PassedPoint → 
 --   ending: or the command is an end that is accepted, and its mark may come
 --   unhit: behind a line that is answered with a report no hit stands
 --   wants: a resume wants the tracks that the row owed
-pub record HasCommanded (run : Run) (stage : Stage) (line : TimedCommand) (asked : Asked) (l : Leg) (first : Point) (points more : List PassedPoint) (answered : LineAnswer) (site : SiteState) (began now : PlantState) (group : Option Group) : Type 0 where
+pub record HasCommanded (run : Run) (stage : Stage) (line : Line) (asked : Asked) (l : Leg) (first : Point) (points more : List PassedPoint) (answered : LineAnswer) (site : SiteState) (began now : PlantState) (group : Option Group) : Type 0 where
   pub hits : List Timed
   pub by : AreOfCommand l.answered hits more
   pub at : site.mark.ended ≡ site.table.is_ended → StandsAtLeg run (stage_then run stage line l hits) (fold leg_after l more) site began now
@@ -230,10 +230,10 @@ pub record HasCommanded (run : Run) (stage : Stage) (line : TimedCommand) (asked
   pub tells : (text reply : List ℕ) → TellsAnswer line (reply_content run stage first (points ++ more) l.answered (answered_by run stage text reply line l.changes hits)) answered
   pub goes_on : site.table.is_ended ≡ false → IsSomeAnd group (GoesOnFrom run first (points ++ more) site now)
   pub wants : (device : ℕ) → answered.answer ≡ Ok (changes.Resumed device) → site.table.is_ended ≡ false
-      → IsSomeAnd group (WantsOwed run first (points_before l.answered (points ++ more)) device (table_on_the_way run.level l.changes stage.table).rows site.told line.time)
+      → IsSomeAnd group (WantsOwed run first (points_before l.answered (points ++ more)) device (table_on_the_way run.level l.changes stage.table).rows site.told line.time.0)
 
 -- How it ends.
-abbrev pub EndsCommand : Run → Stage → TimedCommand → Asked → Leg → (first : Point) → List PassedPoint → SiteState → Option Group → (began old new : PlantState) → Result LineAnswer Stop → Type 0
+abbrev pub EndsCommand : Run → Stage → Line → Asked → Leg → (first : Point) → List PassedPoint → SiteState → Option Group → (began old new : PlantState) → Result LineAnswer Stop → Type 0
 EndsCommand run stage line asked l first points site group began old new (Ok answered) =
     (more : List PassedPoint) × PassesPointsOn run stage asked l more None old new × HasCommanded run stage line asked l first points more answered site began new group
 EndsCommand run stage line asked l first points site group began old new (Err stop) = BeginsToPass run stage asked l old new
@@ -241,14 +241,14 @@ EndsCommand run stage line asked l first points site group began old new (Err st
 -- ---- in each run
 
 -- In each run a command may come at a leg, and is done or refused.
-abbrev pub AnswersCommands : TimedCommand → (kept kept_now : Kept) → (site site_now : SiteState) → (began old new : PlantState) → Result LineAnswer Stop → Type 0
+abbrev pub AnswersCommands : Line → (kept kept_now : Kept) → (site site_now : SiteState) → (began old new : PlantState) → Result LineAnswer Stop → Type 0
 AnswersCommands line kept kept_now site site_now began old new result = (run : Run) (stage : Stage) (asked : Asked) (l : Leg) (first : Point) (points : List PassedPoint)
     → MayAnswer run stage line asked l first points kept.names site kept.group began old → RisesCover run began new → EndsCommand run stage line asked l first points site_now kept_now.group began old new result
 
 -- So it is where a site had done the command already, and its change is logged.
 abbrev pub LogsCommands : Line → Change → (kept kept_now : Kept) → (site site_now : SiteState) → (began old new : PlantState) → Result LineAnswer Stop → Type 0
 LogsCommands line change kept kept_now site site_now began old new result = (was : SiteState) → IsDoneFrom kept.names line change was site old
-    → AnswersCommands (asked_by line) kept kept_now was site_now began old new result
+    → AnswersCommands line kept kept_now was site_now began old new result
 
 -- In each run a mark may come at a leg, and is made.
 abbrev pub MarksOn : (ended : Bool) → (site site_now : SiteState) → (began old new : PlantState) → Result (Unit {0}) Stop → Type 0

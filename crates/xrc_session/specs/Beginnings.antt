@@ -4,10 +4,10 @@ use Rattle.tod_stamp.specs.declared.limits.TheConstants.{MOST_CONTROLS}
 use Rattle.tod_stamp.specs.declared.stamp.Stamp.{Stamp}
 use Rattle.crash_plant.specs.declared.device.Device.TheVariants.{Volume}
 use Rattle.crash_plant.specs.Moments.{PlantState}
+use Rattle.xrc_command.specs.declared.line.Line.{Line}
 use Rattle.state_set.specs.Slots.{started_table}
 use Rattle.group_state.specs.Groups.{Group, most_records, new_group}
 use Rattle.consistency.specs.Bears.{Run, Stage}
-use Rattle.consistency.specs.Steps.{TimedCommand}
 use Rattle.fed_logs.specs.Logs.{Sizes}
 use Rattle.consistency.specs.Ways.{leg_at}
 use Rattle.site_store.specs.Sites.{SiteState, new_site}
@@ -15,7 +15,7 @@ use Rattle.site_store.specs.Standing.{FitsPlant, SiteStands, none_excepted}
 use Rattle.mover.specs.Bearing.{RunSoFar, StandsSoFar}
 
 -- the stage of a session that has just started at a time: it has no row, nothing has changed yet, and this line comes next
-abbrev pub stage_at_start : Run → (time : ℕ) → (next : Option TimedCommand) → Stage
+abbrev pub stage_at_start : Run → (time : ℕ) → (next : Option Line) → Stage
 stage_at_start run time next = record { table = started_table run.session []; replied = time; past = []; next = next }
 
 -- the run so far, behind so many lines: no track is excepted, and no plan is known to be done
@@ -43,5 +43,5 @@ pub record HasJustStarted (tells : Type 0) (run : Run) (time : Stamp) (counts : 
 -- It has what an epoch begins with, whatever line comes next.
 abbrev pub StartedSessionsStand : (tells : Type 0) → PlantState → Type 0
 StartedSessionsStand tells plant =
-    (run : Run) (time : Stamp) (next : Option TimedCommand) (answered : ℕ) (size : Sizes) (counts : (device : ℕ) → ℕ) (group : Group) (site : SiteState) → HasJustStarted tells run time counts group site plant
+    (run : Run) (time : Stamp) (next : Option Line) (answered : ℕ) (size : Sizes) (counts : (device : ℕ) → ℕ) (group : Group) (site : SiteState) → HasJustStarted tells run time counts group site plant
     → StandsSoFar (run_at_start run (stage_at_start run time.0 next) answered size counts) group site plant

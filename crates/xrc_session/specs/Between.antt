@@ -24,12 +24,12 @@ use Rattle.consistency.specs.Bears.{Run, Stage, breaks_of, names_of}
 use Rattle.consistency.specs.Courses.{Answered, stage_at}
 use Rattle.consistency.specs.Keeping.{stage_now}
 use Rattle.consistency.specs.Steps.{names_at}
-use Rattle.script_lines.specs.Grammars.{line_grammar}
 use Rattle.consistency.specs.Bearing.{ShowsPoint}
 use Rattle.consistency.specs.Between.{RunGoesOn}
 use Rattle.consistency.specs.Leads.{Point}
 use Rattle.consistency.specs.Replying.{HasRunNames}
 use Rattle.consistency.specs.Ways.{IsLegOf, Leg, PassedPoint, is_ending, stage_point}
+use Rattle.xrc_session.specs.AppliedEnds.{AppliesEnds}
 use Rattle.xrc_session.specs.BetweenEpochs.{StandsBetween}
 use Rattle.xrc_session.specs.Taking.{KeepsForRows}
 use Rattle.mover.specs.declared.lane.Lane.{Lane}
@@ -198,12 +198,13 @@ pub record StandsBehindLines (run : Run) (lines : List Answered) (stage : Stage)
 
 -- the stage behind lines where this was heard of the next one
 abbrev pub stage_behind : Run → List Answered → (text : List ℕ) → (began : PlantState) → Stage
-stage_behind run lines text began = stage_now run line_grammar began.script lines text
+stage_behind run lines text began = stage_now run began.script lines text
 
 -- A session has answered these lines in a run since a plant's state, each exactly, has heard so much of the next one, and stands behind them. Its
--- lanes have broken as their traces do below its time.
+-- lanes have broken as their traces do below its time. Behind each line behind which it has ended all was applied.
 pub record HasAnswered {S : Type 0} (run : Run) (lines : List Answered) (trail : Trail) (text : List ℕ) (s : SessionState) (lanes : List (Lane S)) (began now : PlantState) : Type 0 where
-  pub goes : RunGoesOn run line_grammar lines text began now
+  pub goes : RunGoesOn run lines text began now
   pub exact : AreExact run lines trail
   pub stands : StandsBehindLines run lines (stage_behind run lines text began) trail s began now
   pub broke : LanesBrokeAs (session_time s) run.traces lanes
+  pub applied : AppliesEnds run lines began now

@@ -13,6 +13,7 @@ pub mod Lanes
 pub mod Openings
 pub mod Trails
 pub mod Frames
+pub mod AppliedEnds
 pub mod Between
 pub mod Stops
 pub mod Starting
@@ -25,3 +26,4 @@ pub mod Lines
 pub mod Runs
 pub mod EndingLaws
 pub mod WrittenLines
+pub mod WrittenParts

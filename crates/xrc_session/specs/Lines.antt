@@ -5,8 +5,7 @@ use Rattle.crash_plant.specs.Moments.{PlantState}
 use Rattle.pair_table.specs.declared.command.Change.TheVariants.{Started}
 use Rattle.pair_table.specs.declared.level.Level.{Level}
 use Rattle.consistency.specs.Bears.{Run, breaks_of, names_of}
-use Rattle.consistency.specs.Steps.{TimedCommand, names_at}
-use Rattle.script_lines.specs.Grammars.{asked_by}
+use Rattle.consistency.specs.Steps.{names_at}
 use Rattle.record_rows.specs.Hits.{hit_now}
 use Rattle.state_set.specs.Slots.{started_table}
 use Rattle.site_store.specs.Between.{IsSiteIdle}
@@ -30,7 +29,7 @@ abbrev pub KeepsStart : (old new : SessionState) → Type 0
 KeepsStart old new = IfSome old.site (λ site. IsSomeAnd new.site (λ now. (now.level ≡ site.level) × (new.names.labels ≡ old.names.labels)))
 
 -- A session that hasn't started starts exactly by a line that asks for it.
-abbrev pub StartsByLine : TimedCommand → (old new : SessionState) → Type 0
+abbrev pub StartsByLine : Line → (old new : SessionState) → Type 0
 StartsByLine line old new = old.site ≡ None → MatchOption (level_started old.session line) (new.site ≡ None) (λ level. IsSomeAnd new.site (λ site. site.level ≡ level))
 
 -- A line that starts the session is answered so: it is started at the line's time, and nothing is copied.
@@ -49,7 +48,7 @@ pub record IsDoneLine {S : Type 0} (tells : Type 0) (old new : SessionState) (li
   pub between : IsBetween tells new lanes plant
   pub same : IsSameSession old new
   pub start : KeepsStart old new
-  pub starts : StartsByLine (asked_by line) old new
+  pub starts : StartsByLine line old new
   pub time : new.is_ended ≡ false → IfSome new.site (λ site. site.time ≡ line.time.0)
   pub upto : session_time new ≤ line.time.0
 

@@ -17,6 +17,7 @@ use Rattle.xrc_status.specs.declared.stop.Stop.TheVariants.{BadLine, ConsoleFaul
 use Rattle.xrc_session.specs.Ends.{IsRunDone, StopsInLine}
 use Rattle.mover.specs.declared.lane.Lane.{Lane}
 use Rattle.mover.specs.Moves.{most_faults}
+use Rattle.xrc_session.specs.AppliedEnds.{AppliesEnds}
 use Rattle.xrc_session.specs.Between.{HasAnswered, IsRunOver}
 use Rattle.xrc_session.specs.States.{SessionState}
 use Rattle.xrc_session.specs.Lanes.{AllTold, AreTracesGiven, SourceBytes}
@@ -64,11 +65,12 @@ abbrev pub IsBadBehind : (tells : Type 0) → List Answered → (text left : Lis
 IsBadBehind tells lines text left = IsNextLine tells (length lines + 1) (last_line_time lines (length lines)) text left Bad
 
 -- A run stopped behind its lines. The stop is that of a bad line exactly if one was heard, with its number. A last line without a line feed is heard
--- only once the script's end was told, which the console may fail to do.
+-- only once the script's end was told, which the console may fail to do. Behind each of the lines behind which the session has ended all was applied.
 pub record StopsAtLine (tells : Type 0) (run : Run) (lines : List Answered) (text : List ℕ) (began now : PlantState) (stop : Stop) : Type 0 where
   pub stops : StopsInLine run lines text began now stop
   pub bad : IsBadBehind tells lines text now.script → (stop ≡ BadLine (length lines + 1)) ⊎ ((stop ≡ ConsoleFault) × (has_feed text ≡ false))
   pub of_bad : (n : ℕ) → stop ≡ BadLine n → (n ≡ length lines + 1) × IsBadBehind tells lines text now.script
+  pub applied : AppliesEnds run lines began now
 
 -- How the lines of a script end: the script was heard to its end and each line was answered, or the run stopped behind its lines.
 abbrev pub EndsLines : {S : Type 0} → (tells : Type 0) → Run → SessionState → List (Lane S) → (began now : PlantState) → Result (Unit {0}) Stop → Type 0
@@ -83,7 +85,7 @@ AreCountsBelow plant = (d : ℕ) → plant.faults (Volume d) < most_faults
 
 -- How a run of a script ends: done, or stopped behind its lines, where so much was heard of the next one.
 abbrev pub EndsScript : (tells : Type 0) → Run → List Answered → (text : List ℕ) → (began now : PlantState) → Result (Unit {0}) Stop → Type 0
-EndsScript tells run lines text began now (Ok done) = (text ≡ []) × ((trail : Trail) × IsRunDone run lines trail began now)
+EndsScript tells run lines text began now (Ok done) = (text ≡ []) × ((trail : Trail) × IsRunDone run lines trail began now) × AppliesEnds run lines began now
 EndsScript tells run lines text began now (Err stop) = StopsAtLine tells run lines text began now stop
 
 -- What a run of a script has done when it ends, once its headers were good: its run, the lines that it answered, and what was heard of the next one.

@@ -1,9 +1,9 @@
 -- What a crash may leave while a session begins: from a run's beginning until its start is answered.
-use Rattle.std.specs.Prelude.{◌≡◌, ◌≢◌, ◌⊎◌, ℕ, ◌<◌, ◌≤◌, ◌==◌, List, [], ◌++◌, length, false, Option, Some, None, Result, Ok, IfErr, IsErrOf, IfSome, IsSomeAnd, MatchOption, codes, bytes_eq, if◌then◌else◌}
+use Rattle.std.specs.Prelude.{◌≡◌, ◌≢◌, ◌⊎◌, ℕ, ◌<◌, ◌≤◌, ◌==◌, List, [], ◌++◌, length, false, Option, Some, None, Result, Ok, IfErr, IsErrOf, OnOk, IfSome, IsSomeAnd, MatchOption, codes, bytes_eq, if◌then◌else◌, IsTrue}
 use Rattle.std.specs.List.{All}
 use Rattle.crash_plant.specs.Calls.{Elapses, NoneLent, SameSite, Silent}
 use Rattle.crash_plant.specs.Choices.{AtEveryMoment, AtMoment, AtNow, Choice, IsChoice}
-use Rattle.crash_plant.specs.declared.device.Device.TheVariants.{Control, Volume}
+use Rattle.crash_plant.specs.declared.device.Device.TheVariants.{Control, Journal, Volume}
 use Rattle.crash_plant.specs.Moments.{IsDurable, PlantState, on}
 use Rattle.control_set.specs.Slots.{lengths_of}
 use Rattle.pair_table.specs.declared.level.Level.{Level}
@@ -17,15 +17,15 @@ use Rattle.ckd_track.specs.declared.layout.TheConstants.{BLOCKS_OF_QUEUE, WRITES
 use Rattle.group_state.specs.Groups.{Group, new_group}
 use Rattle.site_means.specs.declared.means.Means.{Means}
 use Rattle.site_means.specs.Images.{shape_of}
+use Rattle.site_means.specs.Meaning.{chosen_in}
 use Rattle.site_means.specs.Sight.{means_of}
-use Rattle.site_store.specs.Formats.{ShutsFirst}
+use Rattle.xrc_command.specs.declared.line.Line.{Line}
+use Rattle.site_store.specs.Formats.{ShutsFirst, started_means}
 use Rattle.site_store.specs.Records.{VolumesStay}
-use Rattle.site_store.specs.Sites.{SiteState}
+use Rattle.site_store.specs.Sites.{SiteState, first_mark}
 use Rattle.site_store.specs.Standing.{HasLengths}
-use Rattle.consistency.specs.Bears.{Run}
+use Rattle.consistency.specs.Bears.{Run, Stage}
 use Rattle.consistency.specs.Courses.{Answered, AreAsked, last_line_time, lines_begun, next_line, texts_of}
-use Rattle.consistency.specs.Steps.{TimedCommand}
-use Rattle.script_lines.specs.Grammars.{line_grammar}
 use Rattle.consistency.specs.Bearing.{ShowsPoint}
 use Rattle.mover.specs.declared.lane.Lane.{Lane}
 use Rattle.mover.specs.Epochs.{AllTurnOut}
@@ -46,10 +46,16 @@ pub record MeansStart (session : List ℕ) (level : Level) (at : ℕ) (plant : P
   pub rows : means.table.rows ≡ []
   pub ended : means.ended ≡ false
 
--- The slots of the control are as they were or closed, the mark that counted counts or none does, and the state and the first journal are as they
--- were until both slots are closed; or it means the session that starts.
+-- The site that was is shut. The slots of the control are as they were or closed, the mark that counted counts or none does, and the state and the
+-- first journal are as they were until both slots are closed. The other journals are as they were.
+pub record ShutsSite (lengths : List ℕ) (b c : Choice) : Type 0 where
+  pub first : ShutsFirst lengths b c
+  pub journals : (j : ℕ) → 1 ≤ j → c (Journal j) ≡ b (Journal j)
+
+-- The site that was is shut, or what a crash leaves means the session that starts. So nothing that an earlier mark names is written over while that
+-- mark may count.
 abbrev pub ShutsOrStarts : (session : List ℕ) → Level → (at : ℕ) → (plant : PlantState) → (b c : Choice) → Type 0
-ShutsOrStarts session level at plant b c = ShutsFirst (lengths_of plant) b c ⊎ MeansStart session level at plant c
+ShutsOrStarts session level at plant b c = ShutsSite (lengths_of plant) b c ⊎ MeansStart session level at plant c
 
 -- Up to a moment each choice comes so from one that a crash could leave at first.
 abbrev pub IsSafeUpTo : (session : List ℕ) → Level → (at to : ℕ) → (old new : PlantState) → Type 0
@@ -59,16 +65,26 @@ IsSafeUpTo session level at to old new = (t : ℕ) → old.clock ≤ t → t ≤
 abbrev pub IsSafeThroughout : (session : List ℕ) → Level → (at : ℕ) → (old new : PlantState) → Type 0
 IsSafeThroughout session level at old new = IsDurable (on old Control) → IsSafeUpTo session level at new.clock old new
 
+-- A session was formatted by a moment. Up to an earlier one the site that was is shut, or what a crash leaves means just the session that starts, from
+-- the first record's spot. At that moment its first mark counts, which has number 1.
+pub record FormatsFirst (session : List ℕ) (level : Level) (at : ℕ) (old new : PlantState) (to : ℕ) : Type 0 where
+  pub formatted_at : ℕ
+  pub since : old.clock ≤ formatted_at
+  pub within : formatted_at ≤ to
+  pub before : (t : ℕ) → old.clock ≤ t → t ≤ formatted_at → (c : Choice) → IsChoice new t c → (b : Choice) × IsChoice old old.clock b × (ShutsSite (lengths_of old) b c ⊎ (means_of old c ≡ Some (started_means session level (stamp at))))
+  pub first : AtMoment (λ c. chosen_in (shape_of old) c ≡ Ok (Some (first_mark session (stamp at)))) new formatted_at
+
 -- Up to a moment a crash leaves of each volume what it could leave at first.
 abbrev pub LeavesVolumes : (to : ℕ) → (old new : PlantState) → Type 0
 LeavesVolumes to old new = (t : ℕ) → old.clock ≤ t → t ≤ to → (c : Choice) → IsChoice new t c → (d : ℕ) → d < old.volumes → old.images old.clock (Volume d) (c (Volume d))
 
 -- Calls start a session: it is safe throughout, and the volumes hold what they held. Once anything was said, whatever a crash leaves means just the
--- session that starts.
+-- session that starts, which was formatted first.
 pub record StartsSafely (session : List ℕ) (level : Level) (at : ℕ) (old new : PlantState) : Type 0 where
   pub safe : IsSafeUpTo session level at new.clock old new
   pub volumes : LeavesVolumes new.clock old new
   pub means : (t : ℕ) → old.clock ≤ t → t ≤ new.clock → new.said t ≢ old.said old.clock → AtMoment (MeansStart session level at old) new t
+  pub formats : (t : ℕ) → old.clock ≤ t → t ≤ new.clock → new.said t ≢ old.said old.clock → FormatsFirst session level at old new t
 
 -- Nothing of a reply was said: nothing at all, or what begins as the line of a status does. A reply begins with a digit of its time.
 abbrev pub IsUnsaid : (before said : List ℕ) → Type 0
@@ -79,11 +95,11 @@ abbrev pub reply_to_start : Level → (at : ℕ) → List ℕ
 reply_to_start level at = reply_line at (Start level) (Ok Started) 0 (Some (stamp at))
 
 -- the line that asks for a start
-abbrev pub start_line : (session : List ℕ) → Level → (at : ℕ) → TimedCommand
-start_line session level at = record { time = at; session = session; command = Start level }
+abbrev pub start_line : (session : List ℕ) → Level → (at : ℕ) → Line
+start_line session level at = record { time = stamp at; session = session; command = Start level }
 
 -- the level of a start that a session of this name accepts that hasn't started
-abbrev pub level_started : (session : List ℕ) → TimedCommand → Option Level
+abbrev pub level_started : (session : List ℕ) → Line → Option Level
 level_started session line = elim line.command [
   | Start level ↦ if bytes_eq line.session session then Some level else None
   | AddPair primary secondary ↦ None
@@ -96,16 +112,16 @@ level_started session line = elim line.command [
 -- A start stands so in a script: as the next line that counts behind these lines, each of which counts and starts nothing. Of these lines only the
 -- texts and what they ask matter.
 pub record IsStartOfScript (session : List ℕ) (level : Level) (at : ℕ) (script : List ℕ) (lines : List Answered) (text : List ℕ) : Type 0 where
-  pub asked : AreAsked line_grammar script lines
+  pub asked : AreAsked script lines
   pub unstarted : All (λ a. level_started session a.line ≡ None) lines
-  pub asks : next_line line_grammar (length lines) (last_line_time lines (length lines)) (length (texts_of lines ++ text) == length script) text ≡ Some (start_line session level at)
+  pub asks : next_line (length lines) (last_line_time lines (length lines)) (length (texts_of lines ++ text) == length script) text ≡ Some (start_line session level at)
   pub one_line : lines_begun text ≤ 1
   pub left : List ℕ
   pub front : script ≡ texts_of lines ++ text ++ left
 
 -- A start was heard, behind other lines. Until then a crash leaves what it could leave at first. From then on it is safe up to a moment, at which
 -- the reply was said whole, or at the end of the calls if it wasn't, and up to it the volumes hold what they held; there it means just the session
--- that starts, unless nothing of the reply was said.
+-- that starts, which was formatted first, unless nothing of the reply was said.
 pub record StartsBehind (session : List ℕ) (level : Level) (at : ℕ) (old new : PlantState) : Type 0 where
   pub lines : List Answered
   pub text : List ℕ
@@ -121,6 +137,7 @@ pub record StartsBehind (session : List ℕ) (level : Level) (at : ℕ) (old new
   pub safe : IsSafeUpTo session level at replied_at old new
   pub volumes : LeavesVolumes replied_at old new
   pub means : IsUnsaid (new.said heard_at) (new.said replied_at) ⊎ AtMoment (MeansStart session level at old) new replied_at
+  pub formats : IsUnsaid (new.said heard_at) (new.said replied_at) ⊎ FormatsFirst session level at old new replied_at
 
 -- A start was heard whole.
 pub record HearsStart (session : List ℕ) (level : Level) (at : ℕ) (old new : PlantState) : Type 0 where
@@ -137,13 +154,13 @@ pub data BeginsRun (session : List ℕ) (old new : PlantState) : Type 0 where
   Starting : (level : Level) (at : ℕ) → HearsStart session level at old new → (0 < old.clock → IsDurable (on old Control) → StartsBehind session level at old new) → BeginsRun session old new
 
 -- A line is answered before the start: no device is worked on, unless it is a start that is accepted.
-abbrev pub BeginsByLine : (session : List ℕ) → TimedCommand → (old new : PlantState) → Type 0
+abbrev pub BeginsByLine : (session : List ℕ) → Line → (old new : PlantState) → Type 0
 BeginsByLine session line old new =
-    MatchOption (level_started session line) (LeavesAll old new) (λ level. 0 < old.clock → IsDurable (on old Control) → StartsSafely session level line.time old new)
+    MatchOption (level_started session line) (LeavesAll old new) (λ level. 0 < old.clock → IsDurable (on old Control) → StartsSafely session level line.time.0 old new)
 
 -- A start that is accepted was replied to.
-abbrev pub RepliesToStart : (session : List ℕ) → TimedCommand → (old new : PlantState) → Type 0
-RepliesToStart session line old new = IfSome (level_started session line) (λ level. new.said new.clock ≡ old.said old.clock ++ reply_to_start level line.time)
+abbrev pub RepliesToStart : (session : List ℕ) → Line → (old new : PlantState) → Type 0
+RepliesToStart session line old new = IfSome (level_started session line) (λ level. new.said new.clock ≡ old.said old.clock ++ reply_to_start level line.time.0)
 
 -- A start was heard and replied to whole, behind other lines.
 pub record HasStartedRun (session : List ℕ) (old new : PlantState) : Type 0 where
@@ -156,6 +173,14 @@ pub record HasStartedRun (session : List ℕ) (old new : PlantState) : Type 0 wh
 abbrev pub HasBegunRun : (session : List ℕ) → (site : Option SiteState) → (old new : PlantState) → Type 0
 HasBegunRun session None old new = LeavesAll old new
 HasBegunRun session (Some site) old new = HasStartedRun session old new
+
+-- ---- spent numbers
+
+-- A session's own numbers are spent in a run: the session has started, or its start was heard and whatever a crash leaves means just the session that
+-- starts.
+pub record AreOwnSpent (run : Run) (s : Stage) (began now : PlantState) : Type 0 where
+  pub spent : IsSpentNow now
+  pub own : IsTrue s.table.is_started ⊎ IsSomeAnd s.next (λ line. IsSomeAnd (level_started run.session line) (λ level. AtNow (MeansStart run.session level line.time.0 began) now))
 
 -- ---- in the work for a start
 
@@ -187,6 +212,18 @@ pub record IsSiteStarted {S : Type 0} (tells : Type 0) (session : List ℕ) (lev
 pub record StandsStarted (run : Run) (site : SiteState) (now : PlantState) (group : Group) : Type 0 where
   pub shows : AtNow (ShowsPoint run (shape_of now) (site_point site)) now
   pub goes_on : GoesOnFrom run (site_point site) [] site now group
+
+-- Calls have started a session: whatever a crash leaves means just it, and it was formatted first.
+pub record StandsBehindStart (session : List ℕ) (level : Level) (at : ℕ) (old new : PlantState) : Type 0 where
+  pub means : AtNow (MeansStart session level at old) new
+  pub formats : 0 < old.clock → IsDurable (on old Control) → FormatsFirst session level at old new new.clock
+
+-- Calls start a session, or stop in it. It is safe throughout. Where numbers are spent, whatever a crash leaves means just the session that starts. If
+-- they don't stop, it was formatted first.
+pub record IsSafeStart {T : Type 0} (session : List ℕ) (level : Level) (at : ℕ) (old new : PlantState) (result : Result T Stop) : Type 0 where
+  pub safe : IsSafeThroughout session level at old new
+  pub spent : IsErrOf result Spent → AtNow (MeansStart session level at old) new
+  pub formats : OnOk result (0 < old.clock → IsDurable (on old Control) → FormatsFirst session level at old new new.clock)
 
 -- Calls start a session on a plant: on its control, its state and its journals, and volumes are only read. They stop by the count of what failed, or where
 -- numbers are spent.

@@ -11,6 +11,7 @@ use Rattle.site_means.specs.Images.{shape_of}
 use Rattle.site_means.specs.Meaning.{chosen_in, meaning}
 use Rattle.site_means.specs.Meaning.Meaning.{Meant}
 use Rattle.site_means.specs.Walk.{Walk}
+use Rattle.xrc_command.specs.declared.line.Line.{Line}
 use Rattle.site_store.specs.declared.store_error.StoreError.{StoreError}
 use Rattle.site_store.specs.declared.store_error.StoreError.TheVariants as store
 use Rattle.site_store.specs.Records.{IsStore}
@@ -18,12 +19,11 @@ use Rattle.site_store.specs.Ways.{most}
 use Rattle.consistency.specs.Bears.{Run}
 use Rattle.consistency.specs.Courses.{Answered, AreAsked, IsCourse, replies_of, texts_of}
 use Rattle.consistency.specs.Moments.{BearsThroughout, BearsTime}
-use Rattle.consistency.specs.Steps.{TimedCommand}
-use Rattle.script_lines.specs.Grammars.{line_grammar}
 use Rattle.consistency.specs.Between.{RunGoesOn}
 use Rattle.consistency.specs.Leads.{Point}
 use Rattle.xrc_status.specs.declared.stop.Stop.{Stop}
 use Rattle.xrc_status.specs.declared.stop.Stop.TheVariants as stops
+use Rattle.xrc_session.specs.AppliedEnds.{IsAllApplied}
 use Rattle.xrc_session.specs.Between.{stage_behind}
 use Rattle.xrc_session.specs.Trails.{AreExact, GoesForth, Trail, HasBegunTrail, StandsOnTrail}
 
@@ -61,11 +61,7 @@ HasStopCause old new (stops.OtherSession name) = ⊥
 HasStopCause old new (stops.Damaged d place) = ⊥
 HasStopCause old new stops.VolumeFault = ⊥
 HasStopCause old new (stops.TooSmall d needed) = ⊥
-HasStopCause old new stops.JournalEnd = ⊥
 HasStopCause old new stops.BadSite = ⊥
-HasStopCause old new stops.NotBuilt = ⊥
-HasStopCause old new stops.EarlyBreak = ⊥
-HasStopCause old new stops.EarlyVolume = ⊥
 
 -- The same of a run of a script, which may stop at a bad line, too.
 abbrev pub HasRunCause : (old new : PlantState) → Stop → Type 0
@@ -96,20 +92,22 @@ IsSpentNow plant = AtNow (AreNumbersSpent plant) plant
 -- ---- how a run stands
 
 -- The console failed within the reply to a line: a front of it was said behind the replies to the lines before, and each moment bears.
+--   applied: where the session has ended behind the line, all is applied and marked
 --   behind: whatever a crash leaves bears a time behind the line, also on a plant that keeps no past
 pub record RepliesInPart (run : Run) (lines : List Answered) (a : Answered) (began now : PlantState) : Type 0 where
   pub course : IsCourse run (lines ++ a ∷ [])
-  pub asked : AreAsked line_grammar began.script (lines ++ a ∷ [])
+  pub asked : AreAsked began.script (lines ++ a ∷ [])
   pub heard : now.heard now.clock ≡ began.heard began.clock ++ texts_of (lines ++ a ∷ [])
   pub script : began.script ≡ texts_of (lines ++ a ∷ []) ++ now.script
   pub front : (k : ℕ) × (k ≤ length a.reply) × (now.said now.clock ≡ began.said began.clock ++ (replies_of lines ++ take k a.reply))
-  pub bears : 0 < began.clock → BearsThroughout run line_grammar (lines ++ a ∷ []) began now
+  pub bears : 0 < began.clock → BearsThroughout run (lines ++ a ∷ []) began now
+  pub applied : IsTrue (stage_behind run (lines ++ a ∷ []) [] began).table.is_ended → IsAllApplied now now.clock
   pub behind : let s = stage_behind run (lines ++ a ∷ []) [] began in IsTrue s.table.is_started → AtNow (BearsTime run s (replies_of (lines ++ a ∷ [])) now) now
 
 -- How a run stands when a call stops it: the replies to the answered lines were said and nothing more, and so much was heard of the next line.
 -- Only where the console failed part of that line's reply may have been said.
 abbrev pub StandsStopped : Run → List Answered → (text : List ℕ) → (part : Option Answered) → (began now : PlantState) → Stop → Type 0
-StandsStopped run lines text None began now stop = RunGoesOn run line_grammar lines text began now
+StandsStopped run lines text None began now stop = RunGoesOn run lines text began now
 StandsStopped run lines text (Some a) began now stop = (stop ≡ stops.ConsoleFault) × (a.text ≡ text) × RepliesInPart run lines a began now
 
 -- the lines of which something was said, and the one that was heard whole behind them
@@ -117,7 +115,7 @@ abbrev pub lines_said : List Answered → (part : Option Answered) → List Answ
 lines_said lines None = lines
 lines_said lines (Some a) = lines ++ a ∷ []
 
-abbrev pub line_asked : (heard : Option TimedCommand) → (part : Option Answered) → Option TimedCommand
+abbrev pub line_asked : (heard : Option Line) → (part : Option Answered) → Option Line
 line_asked heard None = heard
 line_asked heard (Some a) = None
 

@@ -2,7 +2,6 @@
 
 ghost use Rattle.std.specs.Option.{option_map};
 ghost use Rattle.std.specs.Prelude.{◌≡◌, [], true, false, Ok, Err, IfOk, IsSomeAnd, OnOk};
-ghost use Rattle.script_lines.specs.Grammars.{asked_by};
 ghost use Rattle.xrc_session.specs.Taking.{KeepsForRows, tracks_to_copy};
 ghost use Rattle.record_rows.specs.Hits.{hit_now};
 ghost use Rattle.site_store.specs.Between.{IsSiteIdle};
@@ -127,7 +126,7 @@ impl Kept {
         ensures names { self.new.names ≡ self.old.names }
         ensures taken { IfOk result (λ answered. self.new.group ≡ option_map (group_taken answered.answer site.old.told site.new.told) self.old.group) }
         ensures works { IsWorkOfStore P.tells site.old site.new (P.state plant.old) (P.state plant.new) result }
-        ensures answers { P.tells → (began : P) → AnswersCommands (asked_by line.now) self.old self.new site.old site.new (P.state began) (P.state plant.old) (P.state plant.new) result }
+        ensures answers { P.tells → (began : P) → AnswersCommands line.now self.old self.new site.old site.new (P.state began) (P.state plant.old) (P.state plant.new) result }
     {
         self.before.copy(site.table());
         let done = site.command(alloc, &self.names, line.session, &line.command, line.time);
@@ -165,7 +164,7 @@ impl Kept {
         ensures names { self.new.names ≡ self.old.names }
         ensures taken { IfOk result (λ answered. site.new.table.is_ended ≡ false → self.new.group ≡ option_map (group_taken answered.answer site.old.told site.new.told) self.old.group) }
         ensures works { IsWorkOfStore P.tells site.old site.new (P.state plant.old) (P.state plant.new) result }
-        ensures answers { P.tells → (began : P) → AnswersCommands (asked_by line.now) self.old self.new site.old site.new (P.state began) (P.state plant.old) (P.state plant.new) result }
+        ensures answers { P.tells → (began : P) → AnswersCommands line.now self.old self.new site.old site.new (P.state began) (P.state plant.old) (P.state plant.new) result }
     {
         let answered = self.command(alloc, site, plant, line)?;
         if !answered.is_end() {

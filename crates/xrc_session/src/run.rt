@@ -2,10 +2,8 @@
 
 ghost use Rattle.std.specs.Prelude.{◌≡◌, ◌⊎◌, ◌≤◌, true, false, Err, None, Some, IfErr, IfOk, IfSome, IsSome, OnOk};
 ghost use Rattle.crash_plant.specs.Calls.{HearsNothing, NoneLent, Silent};
-ghost use Rattle.crash_plant.specs.Choices.{AtNow};
 ghost use Rattle.consistency.specs.Bears.{Run};
 ghost use Rattle.mover.specs.Epochs.{AreSameLanes};
-ghost use Rattle.script_lines.specs.Grammars.{asked_by};
 ghost use Rattle.xrc_status.specs.declared.stop.Stop.TheVariants as stops;
 ghost use Rattle.xrc_session.specs.Between.{AreCountsFrom, IsBetween, IsRunOver};
 ghost use Rattle.xrc_session.specs.Frames.{KeepsPlant, SuspendsByCounts};
@@ -14,7 +12,7 @@ ghost use Rattle.xrc_session.specs.Lines.{MayFinish, IsBegunTable, IsDoneLine, I
 ghost use Rattle.xrc_session.specs.Openings.{ComesEarly, OpensInOrder, StayGood};
 ghost use Rattle.xrc_session.specs.Replying.{level_in};
 ghost use Rattle.xrc_session.specs.Runs.{AreLabels};
-ghost use Rattle.xrc_session.specs.Starting.{BeginsByLine, IsSafeThroughout, IsWorkOfStart, MeansStart, RepliesToStart, level_started};
+ghost use Rattle.xrc_session.specs.Starting.{BeginsByLine, IsSafeStart, IsWorkOfStart, RepliesToStart, StandsBehindStart, level_started};
 ghost use Rattle.xrc_session.specs.States.{session_time};
 ghost use Rattle.xrc_session.specs.Stops.{HasStopCause, StopsByCount};
 ghost use Rattle.xrc_session.specs.Steps.{AnswersLine, DoesLine, FinishesRuns};
@@ -133,7 +131,7 @@ impl<V: Drop> SessionRun<V> {
         ensures same { IsSameSession self.old self.new }
         ensures went { AllWent S.left S.faults traces.old traces.new }
         ensures lanes { OnOk result (AreSameLanes traces.old traces.new) }
-        ensures safe { P.tells → IsSafeThroughout self.old.session level line.now.time.0 (P.state plant.old) (P.state plant.new) }
+        ensures safe { P.tells → IsSafeStart self.old.session level line.now.time.0 (P.state plant.old) (P.state plant.new) result }
         ensures works { IsWorkOfStart P.tells (P.state plant.old) (P.state plant.new) result }
         ensures labels { P.tells → IfSome self.new.site (λ site. AreLabels (P.state plant.old) (P.state plant.new) 0 self.new.names.labels) }
         ensures stands { P.tells → (began : P) (run : Run) → IsRunOver S.left run self.new traces.old traces.new (P.state began) (P.state plant.new) → AreCountsFrom (P.state began) (P.state plant.old)
@@ -167,12 +165,12 @@ impl<V: Drop> SessionRun<V> {
         ensures went { AllWent S.left S.faults traces.old traces.new }
         ensures lanes { OnOk result (AreSameLanes traces.old traces.new) }
         ensures hits { OnOk result (SuspendsByCounts self.old.table.rows self.new.table.rows (P.state plant.old) (P.state plant.new)) }
-        ensures begins { P.tells → BeginsByLine self.old.session (asked_by line.now) (P.state plant.old) (P.state plant.new) }
-        ensures means { P.tells → OnOk result (IfSome (level_started self.old.session (asked_by line.now)) (λ level. AtNow (MeansStart self.old.session level line.now.time.0 (P.state plant.old)) (P.state plant.new))) }
-        ensures starts { IfOk result (λ answered. IfSome (level_started self.old.session (asked_by line.now)) (λ level. IsStartAnswered self.new.site line.now.time.0 answered)) }
+        ensures begins { P.tells → BeginsByLine self.old.session line.now (P.state plant.old) (P.state plant.new) }
+        ensures means { P.tells → OnOk result (IfSome (level_started self.old.session line.now) (λ level. StandsBehindStart self.old.session level line.now.time.0 (P.state plant.old) (P.state plant.new))) }
+        ensures starts { IfOk result (λ answered. IfSome (level_started self.old.session line.now) (λ level. IsStartAnswered self.new.site line.now.time.0 answered)) }
         ensures same { IsSameSession self.old self.new }
         ensures labels { P.tells → IfSome self.new.site (λ site. AreLabels (P.state plant.old) (P.state plant.new) 0 self.new.names.labels) }
-        ensures does { P.tells → (began : P) → DoesLine S.left (asked_by line.now) self.old self.new traces.old traces.new (P.state began) (P.state plant.old) (P.state plant.new) result }
+        ensures does { P.tells → (began : P) → DoesLine S.left line.now self.old self.new traces.old traces.new (P.state began) (P.state plant.old) (P.state plant.new) result }
     {
         // A line's time has 64 bits.
         prove!(line.time.0 <= u64::MAX);
@@ -210,7 +208,7 @@ impl<V: Drop> SessionRun<V> {
         ensures cause { IfErr result (HasStopCause (P.state plant.old) (P.state plant.new)) }
         ensures counts { StopsByCount (P.state plant.old) (P.state plant.new) result }
         ensures same { IsSameSession self.old self.new }
-        ensures does { P.tells → (began : P) → DoesLine S.left (asked_by line.now) self.old self.new traces.now traces.now (P.state began) (P.state plant.old) (P.state plant.new) result }
+        ensures does { P.tells → (began : P) → DoesLine S.left line.now self.old self.new traces.now traces.now (P.state began) (P.state plant.old) (P.state plant.new) result }
     {
         // A line's time has 64 bits.
         prove!(line.time.0 <= u64::MAX);
@@ -243,7 +241,7 @@ impl<V: Drop> SessionRun<V> {
         ensures cause { IfErr result (HasStopCause (P.state plant.old) (P.state plant.new)) }
         ensures counts { StopsByCount (P.state plant.old) (P.state plant.new) result }
         ensures same { IsSameSession self.old self.new }
-        ensures does { P.tells → (began : P) → DoesLine S.left (asked_by line.now) self.old self.new traces.old traces.new (P.state began) (P.state plant.old) (P.state plant.new) result }
+        ensures does { P.tells → (began : P) → DoesLine S.left line.now self.old self.new traces.old traces.new (P.state began) (P.state plant.old) (P.state plant.new) result }
     {
         // A line's time has 64 bits.
         prove!(line.time.0 <= u64::MAX);
@@ -279,7 +277,7 @@ impl<V: Drop> SessionRun<V> {
         ensures cause { IfErr result (HasStopCause (P.state plant.old) (P.state plant.new)) }
         ensures counts { StopsByCount (P.state plant.old) (P.state plant.new) result }
         ensures same { IsSameSession self.old self.new }
-        ensures does { P.tells → (began : P) → DoesLine S.left (asked_by line.now) self.old self.new traces.old traces.new (P.state began) (P.state plant.old) (P.state plant.new) result }
+        ensures does { P.tells → (began : P) → DoesLine S.left line.now self.old self.new traces.old traces.new (P.state began) (P.state plant.old) (P.state plant.new) result }
     {
         if self.ended {
             self.answer_behind_end(rt, alloc, plant, traces, line)
@@ -306,14 +304,14 @@ impl<V: Drop> SessionRun<V> {
         ensures went { AllWent S.left S.faults traces.old traces.new }
         ensures lanes { OnOk result (AreSameLanes traces.old traces.new) }
         ensures hits { OnOk result (SuspendsByCounts self.old.table.rows self.new.table.rows (P.state plant.old) (P.state plant.new)) }
-        ensures begins { P.tells → self.old.site ≡ None → BeginsByLine self.old.session (asked_by line.now) (P.state plant.old) (P.state plant.new) }
-        ensures means { P.tells → self.old.site ≡ None → OnOk result (IfSome (level_started self.old.session (asked_by line.now)) (λ level. AtNow (MeansStart self.old.session level line.now.time.0 (P.state plant.old)) (P.state plant.new))) }
-        ensures starts { self.old.site ≡ None → IfOk result (λ answered. IfSome (level_started self.old.session (asked_by line.now)) (λ level. IsStartAnswered self.new.site line.now.time.0 answered)) }
+        ensures begins { P.tells → self.old.site ≡ None → BeginsByLine self.old.session line.now (P.state plant.old) (P.state plant.new) }
+        ensures means { P.tells → self.old.site ≡ None → OnOk result (IfSome (level_started self.old.session line.now) (λ level. StandsBehindStart self.old.session level line.now.time.0 (P.state plant.old) (P.state plant.new))) }
+        ensures starts { self.old.site ≡ None → IfOk result (λ answered. IfSome (level_started self.old.session line.now) (λ level. IsStartAnswered self.new.site line.now.time.0 answered)) }
         ensures same { IsSameSession self.old self.new }
         ensures labels { P.tells → self.old.site ≡ None → IfSome self.new.site (λ site. AreLabels (P.state plant.old) (P.state plant.new) 0 self.new.names.labels) }
         ensures cause { IfErr result (HasStopCause (P.state plant.old) (P.state plant.new)) }
         ensures counts { StopsByCount (P.state plant.old) (P.state plant.new) result }
-        ensures does { P.tells → (began : P) → DoesLine S.left (asked_by line.now) self.old self.new traces.old traces.new (P.state began) (P.state plant.old) (P.state plant.new) result }
+        ensures does { P.tells → (began : P) → DoesLine S.left line.now self.old self.new traces.old traces.new (P.state began) (P.state plant.old) (P.state plant.new) result }
     {
         match &self.place {
             Place::Unstarted(_) => self.answer_before_start(rt, alloc, plant, traces, line),
@@ -341,16 +339,16 @@ impl<V: Drop> SessionRun<V> {
         ensures between { OnOk result (IsBetween P.tells self.new traces.new (P.state plant.new)) }
         ensures same { IsSameSession self.old self.new }
         ensures time { OnOk result (session_time self.new ≤ line.now.time.0) }
-        ensures start { OnOk result (KeepsStart self.old self.new × StartsByLine (asked_by line.now) self.old self.new) }
+        ensures start { OnOk result (KeepsStart self.old self.new × StartsByLine line.now self.old self.new) }
         ensures labels { P.tells → self.old.site ≡ None → IfSome self.new.site (λ site. AreLabels (P.state plant.old) (P.state plant.new) 0 self.new.names.labels) }
         ensures keeps { KeepsPlant P.tells (P.state plant.old) (P.state plant.new) }
         ensures went { AllWent S.left S.faults traces.old traces.new }
         ensures lanes { OnOk result (AreSameLanes traces.old traces.new) }
         ensures hits { OnOk result (SuspendsByCounts self.old.table.rows self.new.table.rows (P.state plant.old) (P.state plant.new)) }
         // In each run, since whenever it began: the line is answered exactly behind those before it, or the session stops in it.
-        ensures answers { P.tells → (began : P) → AnswersLine S.left (asked_by line.now) self.old self.new traces.old traces.new (P.state began) (P.state plant.old) (P.state plant.new) result }
-        ensures begins { P.tells → self.old.site ≡ None → BeginsByLine self.old.session (asked_by line.now) (P.state plant.old) (P.state plant.new) }
-        ensures replies { P.tells → self.old.site ≡ None → OnOk result (RepliesToStart self.old.session (asked_by line.now) (P.state plant.old) (P.state plant.new)) }
+        ensures answers { P.tells → (began : P) → AnswersLine S.left line.now self.old self.new traces.old traces.new (P.state began) (P.state plant.old) (P.state plant.new) result }
+        ensures begins { P.tells → self.old.site ≡ None → BeginsByLine self.old.session line.now (P.state plant.old) (P.state plant.new) }
+        ensures replies { P.tells → self.old.site ≡ None → OnOk result (RepliesToStart self.old.session line.now (P.state plant.old) (P.state plant.new)) }
         ensures unheard { P.tells → HearsNothing (P.state plant.old) (P.state plant.new) }
         // Why it stops.
         ensures cause { IfErr result (HasStopCause (P.state plant.old) (P.state plant.new)) }

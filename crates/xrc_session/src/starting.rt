@@ -8,7 +8,7 @@ ghost use Rattle.site_store.specs.Standing.{HasLengths, SiteStands, none_excepte
 ghost use Rattle.xrc_session.specs.Between.{MayCommandSite};
 ghost use Rattle.xrc_session.specs.Lanes.{AllWent};
 ghost use Rattle.xrc_session.specs.Runs.{AreLabels};
-ghost use Rattle.xrc_session.specs.Starting.{MayBeStarted, IsSafeThroughout, IsSiteStarted, IsWorkOfStart, StartsRuns};
+ghost use Rattle.xrc_session.specs.Starting.{MayBeStarted, IsSafeStart, IsSiteStarted, IsWorkOfStart, StartsRuns};
 ghost use Rattle.xrc_session.specs.Bringing.{BreakOnAsTraces};
 
 use crate::kept::Kept;
@@ -52,7 +52,7 @@ fn format<P: Plant>(
     ensures labels { P.tells → OnOk result (AreLabels (P.state plant.old) (P.state plant.new) 0 names.new.labels) }
     ensures others { OnOk result ((names.new.primaries ≡ names.old.primaries) × (names.new.broken ≡ names.old.broken)) }
     ensures stands { P.tells → IfOk result (λ site. SiteStands none_excepted site (P.state plant.new)) }
-    ensures safe { P.tells → IsSafeThroughout beginning.session beginning.level beginning.at.0 (P.state plant.old) (P.state plant.new) }
+    ensures safe { P.tells → IsSafeStart beginning.session beginning.level beginning.at.0 (P.state plant.old) (P.state plant.new) result }
     ensures works { IsWorkOfStart P.tells (P.state plant.old) (P.state plant.new) result }
 {
     let Beginning {
@@ -86,7 +86,7 @@ impl Kept {
         ensures names { P.tells → OnOk result (AreLabels (P.state plant.old) (P.state plant.new) 0 self.new.names.labels) }
         ensures primaries { OnOk result (self.new.names.primaries ≡ self.old.names.primaries) }
         ensures went { AllWent S.left S.faults traces.old traces.new }
-        ensures safe { P.tells → IsSafeThroughout beginning.session beginning.level beginning.at.0 (P.state plant.old) (P.state plant.new) }
+        ensures safe { P.tells → IsSafeStart beginning.session beginning.level beginning.at.0 (P.state plant.old) (P.state plant.new) result }
         ensures works { IsWorkOfStart P.tells (P.state plant.old) (P.state plant.new) result }
         ensures stands { P.tells → (began : P) → IfOk result (StartsRuns S.left beginning.session beginning.level traces.old traces.new self.new.group (P.state began) (P.state plant.old) (P.state plant.new)) }
         ensures broke { OnOk result (BreakOnAsTraces S.left beginning.at.0 traces.old traces.new) }

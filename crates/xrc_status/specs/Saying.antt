@@ -1,5 +1,5 @@
 -- What was said.
-use Rattle.std.specs.Prelude.{◌≡◌, ◌≤◌, ◌⊎◌, ◌++◌, ℕ, List, Result, OnOk}
+use Rattle.std.specs.Prelude.{◌≡◌, ◌≤◌, ◌+◌, ◌⊎◌, ◌++◌, ℕ, List, Result, OnOk}
 use Rattle.xrc_edge.specs.Causes.{Rose, HasCause}
 use Rattle.crash_plant.specs.Moments.{PlantState}
 use Rattle.crash_plant.specs.Calls.{Says, WorksOnConsole}
@@ -25,8 +25,10 @@ pub record SaysText {T E : Type 0} (tells : Type 0) (text : List ℕ) (old new :
   pub whole : tells → OnOk result (SaidWhole text old new)
   pub cause : HasCause old.console_faults new.console_faults result
 
--- The same of a last text, whose outcome isn't told.
+-- The same of a last text, whose outcome isn't told. One call on the console at most has failed.
 pub record SaysLast (tells : Type 0) (text : List ℕ) (old new : PlantState) : Type 0 where
   pub front : SaysFront tells text old new
   pub whole : tells → SaidWhole text old new ⊎ Rose old.console_faults new.console_faults
+  pub count : (new.console_faults ≡ old.console_faults) ⊎ Rose old.console_faults new.console_faults
   pub later : old.console_faults ≤ new.console_faults
+  pub by_one : new.console_faults ≤ old.console_faults + 1

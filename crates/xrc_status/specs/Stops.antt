@@ -3,7 +3,7 @@ use Rattle.std.specs.Prelude.{ℕ, List, [], ◌∷◌, ◌++◌, codes, decimal
 use Rattle.crash_plant.specs.declared.device.Device.{Device}
 use Rattle.crash_plant.specs.declared.device.Device.TheVariants.{Control, State, Journal, Volume}
 use Rattle.xrc_status.specs.declared.stop.Stop.{Stop}
-use Rattle.xrc_status.specs.declared.stop.Stop.TheVariants.{NoMemory, BadWords, ConsoleFault, BadLine, JournalFault, ControlFault, StateFault, BadHeader, HeaderFault, NoSession, OtherSession, Damaged, VolumeFault, TooSmall, JournalEnd, BadSite, NotBuilt, EarlyBreak, EarlyVolume, Spent}
+use Rattle.xrc_status.specs.declared.stop.Stop.TheVariants.{NoMemory, BadWords, ConsoleFault, BadLine, JournalFault, ControlFault, StateFault, BadHeader, HeaderFault, NoSession, OtherSession, Damaged, VolumeFault, TooSmall, BadSite, Spent}
 
 abbrev pub status_of : Stop → ℕ
 status_of NoMemory = 1
@@ -20,11 +20,7 @@ status_of (OtherSession name) = 11
 status_of (Damaged d place) = 12
 status_of VolumeFault = 13
 status_of (TooSmall d needed) = 14
-status_of JournalEnd = 15
 status_of BadSite = 16
-status_of NotBuilt = 17
-status_of EarlyBreak = 18
-status_of EarlyVolume = 19
 status_of Spent = 24
 
 -- a space and a number
@@ -55,11 +51,7 @@ details ControlFault = []
 details StateFault = []
 details NoSession = []
 details VolumeFault = []
-details JournalEnd = []
 details BadSite = []
-details NotBuilt = []
-details EarlyBreak = []
-details EarlyVolume = []
 details Spent = []
 
 -- the line of a status

@@ -7,6 +7,6 @@ mod status;
 mod stop;
 
 pub use line::Line;
-pub use say::{say_text, say_three};
+pub use say::say_text;
 pub use status::say_stop;
 pub use stop::Stop;

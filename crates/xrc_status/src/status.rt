@@ -36,11 +36,7 @@ fn status_of(stop: &Stop) -> u8
         Stop::Damaged(_, _) => 12,
         Stop::VolumeFault => 13,
         Stop::TooSmall(_, _) => 14,
-        Stop::JournalEnd => 15,
         Stop::BadSite => 16,
-        Stop::NotBuilt => 17,
-        Stop::EarlyBreak => 18,
-        Stop::EarlyVolume => 19,
         Stop::Spent => 24,
     }
 }

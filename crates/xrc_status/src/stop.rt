@@ -37,16 +37,9 @@ pub enum Stop {
     VolumeFault,
     /// The device needs this many bytes.
     TooSmall(Device, u64),
-    /// The journals have no room for what has to be logged.
-    JournalEnd,
-    /// There are no 2 to 16 journals, or more than 64 volumes.
+    /// The journals are not 2 to 16, or the volumes are more than 64. For a run also: there is no volume, or the traces are not as
+    /// many as its words tell.
     BadSite,
-    /// The input is of a form that the program does not know yet.
-    NotBuilt,
-    /// A trace breaks before the last line's time.
-    EarlyBreak,
-    /// A volume failed before the last line's time.
-    EarlyVolume,
     /// The numbers of the journals' records are spent.
     Spent,
 }

@@ -1,13 +1,12 @@
 -- A walk without a bad place, read once more.
-use Rattle.std.proofs.Common.{◌≡◌, ◌^◌, ◌<◌, ℕ, Bool, true, false, cond, List, [], ◌∷◌, ◌++◌, inl, inr, Result, Ok, Err, arith, Option, Some, None, refl, sym, ◌∙◌, ap, subst, append_assoc, append-nil}
+use Rattle.std.proofs.Common.{◌≡◌, ◌^◌, ◌<◌, ℕ, Bool, true, false, cond, List, [], ◌∷◌, ◌++◌, inl, inr, Ok, Err, arith, Option, Some, None, refl, sym, ◌∙◌, ap, subst, append_assoc, append-nil}
 use Rattle.crash_plant.specs.declared.spot.Spot.{Spot}
 use Rattle.xrc_journal.specs.Items.{Item}
 use Rattle.xrc_journal.specs.Records.{Found}
 use Rattle.xrc_journal.specs.Records.Found.{End, Group, Switch, Damaged}
-use Rattle.xrc_journal.specs.Walks.{Logged}
 use Rattle.site_means.specs.Images.{Images, Shape}
-use Rattle.site_means.specs.Walk.{WalkState, WalkStep, Walk, ends_at, found_at, group_step, has_entered, rows_through, step, step_by, switch_step, turns_at, unfit_in, walk_items, with_before}
-use Rattle.site_means.specs.Walk.WalkStep.{Ends, GoesOn, Breaks}
+use Rattle.site_means.specs.Walk.{WalkState, Walk, found_at, group_step, has_entered, rows_through, step, step_by, turns_at, unfit_in, walk_items}
+use Rattle.site_means.specs.Walk.WalkStep.{GoesOn, Breaks}
 use Rattle.site_means.proofs.Goes.{entered_here, entered_stays, rest_breaks, rest_ends, rest_goes, rest_of}
 use Rattle.site_means.proofs.Agreeing.{mark_here}
 use Rattle.site_means.specs.Answers.{Enters}

@@ -1,34 +1,32 @@
 -- The items of a walk are no changes: an image of a track, and what it leaves there doesn't depend on what stood there before.
-use Rattle.std.proofs.Common.{◌≡◌, ◌+◌, ◌==◌, ◌&&◌, ◌||◌, ℕ, zero, suc, Bool, true, false, not, cond, nat_eq, nat_lt, List, [], ◌∷◌, ◌++◌, length, take, Option, Some, None, Result, Ok, Err, inl, inr, refl, sym, ◌∙◌, ap, subst}
-use Rattle.std.specs.List.{list_any, flat_map}
+use Rattle.std.proofs.Common.{◌≡◌, ◌+◌, ◌&&◌, ◌||◌, ℕ, zero, suc, Bool, true, false, not, cond, nat_eq, List, [], ◌∷◌, length, Option, Some, None, Result, Ok, Err, inl, inr, refl, sym, ◌∙◌, ap}
+use Rattle.std.specs.List.{list_any}
 use Rattle.std.specs.Int.{w8, w16}
 use Rattle.std.proofs.lemmas.Bool.{eqb-true}
 use Rattle.std.proofs.lemmas.List.Folds.{list_any-append}
 use Rattle.tod_stamp.specs.Fields.{◌>>=◌, Left, Bad, bytes_at, number_at, any}
 use Rattle.tod_stamp.proofs.FieldLaws.{bind_ok}
-use Rattle.ckd_track.specs.declared.rec.Rec.{Rec}
 use Rattle.crash_plant.specs.declared.device.Device.TheVariants.{Journal}
 use Rattle.crash_plant.specs.Moments.{PlantState}
 use Rattle.control_set.specs.declared.value.Mark.{Mark}
 use Rattle.control_set.proofs.Keeps.{number_kept}
-use Rattle.pair_table.specs.declared.row.PairRow.{PairRow}
 use Rattle.pair_table.specs.Rows.{row_at}
 use Rattle.state_set.specs.Slots.{Stored}
 use Rattle.xrc_journal.specs.Items.{Item, Form, Earlier, behind, may_draw, none_earlier}
 use Rattle.xrc_journal.specs.Items.Item.{Image, Delta, Pair, Gone}
 use Rattle.xrc_journal.specs.Bodies.{draws}
-use Rattle.xrc_journal.specs.Reading.{Items, delta_item_at, first_and_rest, gone_item_at, body_image_field, image_item_at, is_tag, item_at, items_at, items_from, no_items, pair_item_at, row_or, track_at}
+use Rattle.xrc_journal.specs.Reading.{Items, delta_item_at, first_and_rest, gone_item_at, body_image_field, image_item_at, is_tag, item_at, items_from, no_items, pair_item_at, row_or, track_at}
 use Rattle.xrc_journal.specs.Records.{stretch}
 use Rattle.xrc_journal.specs.Walks.{Logged}
 use Rattle.xrc_journal.specs.Contents.{HasItem, is_of_track}
 use Rattle.xrc_journal.proofs.Fields.{given_is}
 use Rattle.xrc_journal.proofs.RecordsRead.{group_found}
 use Rattle.site_means.specs.Images.{Images, Shape, shape_of}
-use Rattle.site_means.specs.Walk.{WalkState, WalkStep, Walk, ends_at, start, step, turns_at, walk_from, walk_in, walk_items, walk_on, with_before}
+use Rattle.site_means.specs.Walk.{WalkState, WalkStep, Walk, start, step, turns_at, walk_from, walk_in, walk_items, walk_on, with_before}
 use Rattle.site_means.specs.Walk.WalkStep.{Ends, GoesOn, Breaks}
-use Rattle.site_means.specs.Meaning.{chosen_in, meaning_by_mark, meaning_by_state, meaning_by_walk, meaning_in, stored_in}
+use Rattle.site_means.specs.Meaning.{chosen_in, meaning_by_mark, meaning_by_state, meaning_by_walk, stored_in}
 use Rattle.site_means.specs.Sight.{walked, walked_by}
-use Rattle.site_means.proofs.Goes.{ByGroup, BySwitch, goes_by}
+use Rattle.site_means.proofs.Goes.{ByGroup, goes_by}
 
 abbrev pub is_delta : Item → Bool
 is_delta (Image d x recs) = false

@@ -1,7 +1,6 @@
 -- A recovery by its steps: what was read first, and the pairs that were redone then.
 use Rattle.std.proofs.Common.{◌≡◌, ◌≤◌, ◌+◌, arith, ℕ, List, Result, Err, sym, ap, subst}
 use Rattle.std.specs.Prelude.{slice_index_or}
-use Rattle.xrc_edge.specs.Causes.{Rose}
 use Rattle.crash_plant.specs.declared.device.Device.{Device}
 use Rattle.crash_plant.specs.declared.device.Device.TheVariants.{Control, State, Journal, Volume}
 use Rattle.crash_plant.specs.Moments.{PlantState}
@@ -17,10 +16,11 @@ use Rattle.xrc_journal.specs.Jobs.{FailsByCount}
 use Rattle.xrecover.specs.declared.recover_error.RecoverError.{RecoverError}
 use Rattle.xrecover.specs.Answers.{EndsLate, HasWalk, IsLate, IsOf, IsRecoverable, IsGoodOrCalledFor}
 use Rattle.xrecover.specs.Pairs.{AreFaulty}
-use Rattle.xrecover.specs.Redone.{Draws, Recovers, Redone, meant_rows, rows_of}
+use Rattle.xrecover.specs.declared.labelling.Labelling.{Labelling}
+use Rattle.xrecover.specs.Redone.{BearsLabel, Draws, Recovers, Redone, meant_rows, rows_of}
 use Rattle.xrecover.specs.Works.{Nothing, Works}
-use Rattle.xrecover.specs.Labels.{AreNamed}
-use Rattle.xrecover.proofs.Labels.{named_behind}
+use Rattle.xrecover.specs.Labels.{TreatsLabels}
+use Rattle.xrecover.proofs.Labels.{treats_behind}
 use Rattle.xrecover.proofs.Later.{walk_later}
 use Rattle.xrecover.proofs.Relations.{recovers_same}
 use Rattle.xrecover.proofs.Works.{works_more, works_reads, works_trans}
@@ -48,7 +48,7 @@ module _ (tells : Type 0) (old one : PlantState) (reads : ReadsAll tells old one
 
   module _ (session : List ℕ) (means : Means) (recoverable : tells → IsRecoverable old session means) (new : PlantState) where
     rows_are : tells → meant_rows old old.bytes ≡ means.table.rows
-    rows_are told = ap (λ (k : Meaning). rows_of (meant_by k)) (recoverable told).mean.1
+    rows_are told = ap (λ (k : Meaning). rows_of (meant_by k)) (recoverable told).meant.mean.1
 
     items_are : tells → walked one one.bytes ≡ walked old old.bytes
     items_are told = ap walked_by (seen_meaning old one (same_seen tells old one reads told))
@@ -61,28 +61,26 @@ module _ (tells : Type 0) (old one : PlantState) (reads : ReadsAll tells old one
         (λ d x y z e q. subst (λ (l : List ℕ). Recovers (meant_rows old old.bytes) (walked old old.bytes) d l z) e q) (λ d x y e. recovers_same (meant_rows old old.bytes) (walked old old.bytes) d x y e)
         (works_reads tells old one reads) (works_more tells (Recovers means.table.rows (walked one one.bytes)) (Recovers (meant_rows old old.bytes) (walked old old.bytes)) one new as_meant works)
 
-    pub all_redone : (told : tells) (failed : List ℕ) → Redone means.table.rows (walked one one.bytes) failed one new → Redone (meant_rows old old.bytes) (walked old old.bytes) failed old new
-    all_redone told failed redone =
-        subst (λ (r : List PairRow). Redone r (walked old old.bytes) failed old new) (sym (rows_are told))
+    pub all_redone : (labelling : Labelling) (told : tells) (failed : List ℕ) → Redone labelling means.table.rows (walked one one.bytes) failed one new → Redone labelling (meant_rows old old.bytes) (walked old old.bytes) failed old new
+    all_redone labelling told failed redone =
+        subst (λ (r : List PairRow). Redone labelling r (walked old old.bytes) failed old new) (sym (rows_are told))
         (λ k d lt duplex good.
         let row = slice_index_or means.table.rows k d in
         let done = redone k d lt duplex good in
         record {
           draws = subst (λ (l : List ℕ). Draws row.device (walked old old.bytes) l (new.bytes (Volume row.device))) (reads.same told (Volume row.device))
               (subst (λ (l : List Item). Draws row.device l (one.bytes (Volume row.device)) (new.bytes (Volume row.device))) (items_are told) done.draws);
-          label = done.label;
+          label = subst (λ (l : List ℕ). BearsLabel labelling row l (new.bytes (Volume row.device))) (reads.same told (Volume row.device)) done.label;
           durable = done.durable;
         })
 
-    pub all_named : tells → AreNamed means.table.rows one new → AreNamed (meant_rows old old.bytes) old new
-    all_named told named = subst (λ (r : List PairRow). AreNamed r old new) (sym (rows_are told)) (named_behind means.table.rows old one new (λ v. reads.same told (Volume v)) (λ v. reads.only.faults (Volume v)) named)
+    pub all_treated : (labelling : Labelling) (step : _) → tells → Works tells step one new → TreatsLabels labelling means.table.rows (walked one one.bytes) one new → TreatsLabels labelling (meant_rows old old.bytes) (walked old old.bytes) old new
+    all_treated labelling step told works treats =
+        subst (λ (r : List PairRow). TreatsLabels labelling r (walked old old.bytes) old new) (sym (rows_are told)) (treats_behind tells told labelling means.table.rows step old one new reads works treats)
 
 -- ---- counts, where none rose while it was read
 
 module _ (old one new : Device → ℕ) (same : (d : Device) → one d ≡ old d) where
-  pub rose_since : (d : Device) → Rose (one d) (new d) → Rose (old d) (new d)
-  rose_since d rose = subst (λ (n : ℕ). Rose n (new d)) (same d) rose
-
   pub faulty_since : (rows : List PairRow) (failed : List ℕ) → AreFaulty rows one new failed → AreFaulty rows old new failed
   faulty_since rows failed f = record {
     has_failed = f.has_failed;

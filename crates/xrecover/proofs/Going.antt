@@ -17,7 +17,8 @@ use Rattle.xrc_journal.specs.Items.{Item}
 use Rattle.xrc_journal.specs.Jobs.{FailsByCount}
 use Rattle.xrecover.specs.Pairs.{AreFaulty, HasDuplex, duplex_devices, is_duplex, is_duplex_of}
 use Rattle.xrecover.specs.Works.{Nothing, OfOneVolume, Works}
-use Rattle.xrecover.specs.Redone.{Draws, IsRedone, Recovers, Redoes, Redone}
+use Rattle.xrecover.specs.declared.labelling.Labelling.{Labelling}
+use Rattle.xrecover.specs.Redone.{BearsLabel, Draws, IsRedone, Recovers, Redoes, Redone}
 use Rattle.xrecover.proofs.Relations.{recovers_same, redoes_same}
 use Rattle.xrecover.proofs.Rows.{recovers_one}
 use Rattle.xrecover.proofs.Works.{works_more, works_reads, works_trans}
@@ -177,16 +178,16 @@ all_listed G has_failed (q ∷ rows) all = by_duplex (is_duplex q.state) refl al
 -- ---- one pair more
 
 -- The pairs of these rows are done, or their volumes failed.
-pub record Going (tells : Type 0) (items : List Item) (front : List PairRow) (failed : List ℕ) (old now : PlantState) : Type 0 where
+pub record Going (tells : Type 0) (labelling : Labelling) (items : List Item) (front : List PairRow) (failed : List ℕ) (old now : PlantState) : Type 0 where
   pub works : Works tells (Recovers front items) old now
   pub has_failed : ℕ → Bool
   pub listed : failed ≡ filter has_failed (duplex_devices front)
   pub are_duplex : (v : ℕ) → has_failed v ≡ true → HasDuplex front v
   pub counted : (v : ℕ) → FailsByCount (has_failed v) (old.faults (Volume v)) (now.faults (Volume v))
-  pub redone : tells → All (λ row. is_duplex row.state ≡ true → has_failed row.device ≡ false → IsRedone row items old now) front
+  pub redone : tells → All (λ row. is_duplex row.state ≡ true → has_failed row.device ≡ false → IsRedone labelling row items old now) front
 
-pub going_first : (tells : Type 0) (items : List Item) (a : PlantState) → Going tells items [] [] a a
-going_first tells items a = record {
+pub going_first : (tells : Type 0) (labelling : Labelling) (items : List Item) (a : PlantState) → Going tells labelling items [] [] a a
+going_first tells labelling items a = record {
   works = works_more tells Nothing (Recovers [] items) a a (λ told d x y e. recovers_same [] items d x y e) (works_reads tells a a (reads_none tells a));
   has_failed = λ v. false;
   listed = refl;
@@ -196,22 +197,22 @@ going_first tells items a = record {
 }
 
 -- A pair that isn't duplex is left.
-pub going_other : (tells : Type 0) (items : List Item) (front : List PairRow) (r : PairRow) (failed : List ℕ) (a b : PlantState) → is_duplex r.state ≡ false → Going tells items front failed a b → Going tells items (front ++ r ∷ []) failed a b
-going_other tells items front r failed a b other g = record {
+pub going_other : (tells : Type 0) (labelling : Labelling) (items : List Item) (front : List PairRow) (r : PairRow) (failed : List ℕ) (a b : PlantState) → is_duplex r.state ≡ false → Going tells labelling items front failed a b → Going tells labelling items (front ++ r ∷ []) failed a b
+going_other tells labelling items front r failed a b other g = record {
   works = works_more tells (Recovers front items) (Recovers (front ++ r ∷ []) items) a b (λ told d x y p. recovers_more front (r ∷ []) items d x y p) g.works;
   has_failed = g.has_failed;
   listed = g.listed ∙ sym (ap (filter g.has_failed) (devices_append front r false other) ∙ nil_behind);
   are_duplex = λ v is. duplex_before front (r ∷ []) v (g.are_duplex v is);
   counted = g.counted;
-  redone = λ told. All-push (λ row. is_duplex row.state ≡ true → g.has_failed row.device ≡ false → IsRedone row items a b) front r (g.redone told) (λ duplex. absurd (cc (duplex, other)));
+  redone = λ told. All-push (λ row. is_duplex row.state ≡ true → g.has_failed row.device ≡ false → IsRedone labelling row items a b) front r (g.redone told) (λ duplex. absurd (cc (duplex, other)));
 }
   where
     nil_behind : filter g.has_failed (duplex_devices front ++ []) ≡ filter g.has_failed (duplex_devices front)
     nil_behind = filter-append g.has_failed (duplex_devices front) [] ∙ append-nil (filter g.has_failed (duplex_devices front))
 
-module _ (tells : Type 0) (items : List Item) (front : List PairRow) (r : PairRow) (failed : List ℕ) (flag : Bool) (a b c : PlantState) (going : Going tells items front failed a b) (duplex : is_duplex r.state ≡ true) (apart : Apart front r)
+module _ (tells : Type 0) (labelling : Labelling) (items : List Item) (front : List PairRow) (r : PairRow) (failed : List ℕ) (flag : Bool) (a b c : PlantState) (going : Going tells labelling items front failed a b) (duplex : is_duplex r.state ≡ true) (apart : Apart front r)
     (works : Works tells (OfOneVolume r.device (Redoes r.device items)) b c) (counts : (v : ℕ) → v ≢ r.device → c.faults (Volume v) ≡ b.faults (Volume v)) (cause : FailsByCount flag (b.faults (Volume r.device)) (c.faults (Volume r.device)))
-    (redone : tells → flag ≡ false → IsRedone r items b c) where
+    (redone : tells → flag ≡ false → IsRedone labelling r items b c) where
   now_failed : ℕ → Bool
   now_failed = with_flag r.device flag going.has_failed
 
@@ -227,29 +228,29 @@ module _ (tells : Type 0) (items : List Item) (front : List PairRow) (r : PairRo
   counted_here = subst (λ (n : ℕ). FailsByCount flag n (c.faults (Volume r.device))) ((going.counted r.device).same unfailed) cause
 
   -- what was done stays
-  redone_still : (told : tells) (row : PairRow) → row.device ≢ r.device → IsRedone row items a b → IsRedone row items a c
+  redone_still : (told : tells) (row : PairRow) → row.device ≢ r.device → IsRedone labelling row items a b → IsRedone labelling row items a c
   redone_still told row differ done =
       let same : c.bytes (Volume row.device) ≡ b.bytes (Volume row.device) = (works.bytes told (Volume row.device)).1 differ in
       record {
         draws = subst (λ (l : List ℕ). Draws row.device items (a.bytes (Volume row.device)) l) (sym same) done.draws;
-        label = ap (λ (l : List ℕ). take 14 l) same ∙ done.label;
+        label = subst (λ (l : List ℕ). BearsLabel labelling row (a.bytes (Volume row.device)) l) (sym same) done.label;
         durable = λ z left.
             let came = works.moments told (Volume row.device) c.clock ((works.elapses told).kept (Volume row.device)).later (omega arith) z left in
             (came.2).1 differ ∙ done.durable came.0 came.1 ∙ sym same;
       }
 
   -- The volume was as at first.
-  redone_here : (told : tells) → flag ≡ false → IsRedone r items a c
+  redone_here : (told : tells) → flag ≡ false → IsRedone labelling r items a c
   redone_here told good =
       let same : b.bytes (Volume r.device) ≡ a.bytes (Volume r.device) = (going.works.bytes told (Volume r.device)).1 (λ has. let none = none_duplex front r apart in absurd (cc (has, none))) in
       let done = redone told good in
       record {
         draws = subst (λ (l : List ℕ). Draws r.device items l (c.bytes (Volume r.device))) same done.draws;
-        label = done.label;
+        label = subst (λ (l : List ℕ). BearsLabel labelling r l (c.bytes (Volume r.device))) same done.label;
         durable = done.durable;
       }
 
-  pub going_duplex : Going tells items (front ++ r ∷ []) (failed ++ cond flag (r.device ∷ []) []) a c
+  pub going_duplex : Going tells labelling items (front ++ r ∷ []) (failed ++ cond flag (r.device ∷ []) []) a c
   going_duplex = record {
     works = works_trans tells (Recovers (front ++ r ∷ []) items) (OfOneVolume r.device (Redoes r.device items)) (Recovers (front ++ r ∷ []) items) a b c
         (λ d x y z p q. recovers_one (front ++ r ∷ []) items r.device (duplex_last front r duplex) d x y z p q) (λ d x y p. p)
@@ -268,7 +269,7 @@ module _ (tells : Type 0) (items : List Item) (front : List PairRow) (r : PairRo
       | inr differ ↦ subst (λ (h : Bool). FailsByCount h (a.faults (Volume v)) (c.faults (Volume v))) (sym (flag_other r.device v flag going.has_failed differ))
           (subst (λ (n : ℕ). FailsByCount (going.has_failed v) (a.faults (Volume v)) n) (sym (counts v differ)) (going.counted v))
     ];
-    redone = λ told. All-push (λ row. is_duplex row.state ≡ true → with_flag r.device flag going.has_failed row.device ≡ false → IsRedone row items a c) front r
+    redone = λ told. All-push (λ row. is_duplex row.state ≡ true → with_flag r.device flag going.has_failed row.device ≡ false → IsRedone labelling row items a c) front r
         (λ k d lt is good.
         let row = slice_index_or front k d in
         let differ : row.device ≢ r.device = apart k d lt in
@@ -278,11 +279,11 @@ module _ (tells : Type 0) (items : List Item) (front : List PairRow) (r : PairRo
 
 -- ---- all pairs
 
-pub going_faulty : (tells : Type 0) (items : List Item) (rows : List PairRow) (failed : List ℕ) (a b : PlantState) → Going tells items rows failed a b → AreFaulty rows a.faults b.faults failed
-going_faulty tells items rows failed a b g = record { has_failed = g.has_failed; listed = g.listed; are_duplex = g.are_duplex; counted = g.counted }
+pub going_faulty : (tells : Type 0) (labelling : Labelling) (items : List Item) (rows : List PairRow) (failed : List ℕ) (a b : PlantState) → Going tells labelling items rows failed a b → AreFaulty rows a.faults b.faults failed
+going_faulty tells labelling items rows failed a b g = record { has_failed = g.has_failed; listed = g.listed; are_duplex = g.are_duplex; counted = g.counted }
 
-pub going_redone : (tells : Type 0) (items : List Item) (rows : List PairRow) (failed : List ℕ) (a b : PlantState) → Going tells items rows failed a b → tells → Redone rows items failed a b
-going_redone tells items rows failed a b g told k d lt duplex good = g.redone told k d lt duplex (by_flag (g.has_failed (slice_index_or rows k d).device) refl)
+pub going_redone : (tells : Type 0) (labelling : Labelling) (items : List Item) (rows : List PairRow) (failed : List ℕ) (a b : PlantState) → Going tells labelling items rows failed a b → tells → Redone labelling rows items failed a b
+going_redone tells labelling items rows failed a b g told k d lt duplex good = g.redone told k d lt duplex (by_flag (g.has_failed (slice_index_or rows k d).device) refl)
   where
     among : All (λ row. is_duplex row.state ≡ true → g.has_failed row.device ≡ true → Contains failed row.device) rows
     among = all_listed (Contains failed) g.has_failed rows (subst (λ (l : List ℕ). All (Contains failed) l) g.listed (All-contains_itself failed))
@@ -292,9 +293,9 @@ going_redone tells items rows failed a b g told k d lt duplex good = g.redone to
     by_flag false is = is
 
 -- A volume's count rose by one at most, also where the walk could not be read again for the next pair.
-pub stopped_once : (tells : Type 0) (items : List Item) (front : List PairRow) (failed : List ℕ) (a b c : PlantState) → Going tells items front failed a b → (device : ℕ) → ((v : ℕ) → v ≢ device → c.faults (Volume v) ≡ b.faults (Volume v))
+pub stopped_once : (tells : Type 0) (labelling : Labelling) (items : List Item) (front : List PairRow) (failed : List ℕ) (a b c : PlantState) → Going tells labelling items front failed a b → (device : ℕ) → ((v : ℕ) → v ≢ device → c.faults (Volume v) ≡ b.faults (Volume v))
     → c.faults (Volume device) ≡ b.faults (Volume device) → (v : ℕ) → c.faults (Volume v) ≤ a.faults (Volume v) + 1
-stopped_once tells items front failed a b c g device others stood v = omega (arith, same, (g.counted v).by_one)
+stopped_once tells labelling items front failed a b c g device others stood v = omega (arith, same, (g.counted v).by_one)
   where
     same : c.faults (Volume v) ≡ b.faults (Volume v)
     same = elim (cases_eq v device) [

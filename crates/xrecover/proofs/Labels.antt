@@ -20,9 +20,11 @@ use Rattle.site_means.proofs.Meanings.{same_seen, seen_meaning}
 use Rattle.volume_label.specs.Labels.{label_spelling}
 use Rattle.xrc_journal.specs.Items.{Item}
 use Rattle.xrc_journal.specs.Contents.{content_through}
-use Rattle.xrecover.specs.Redone.{Draws, Recovers}
+use Rattle.xrecover.specs.declared.labelling.Labelling.{Labelling}
+use Rattle.xrecover.specs.declared.labelling.Labelling.TheVariants.{AsPrimary, AsItIs}
+use Rattle.xrecover.specs.Redone.{BearsLabel, Draws, Recovers, SameLabel}
 use Rattle.xrecover.specs.Works.{OfOneVolume, Works}
-use Rattle.xrecover.specs.Labels.{AreNamed, IsNamed, KeepsLabel, LabelsLast, SameLabel}
+use Rattle.xrecover.specs.Labels.{AreNamed, IsNamed, KeepsLabel, LabelsLast, TreatsLabel, TreatsLabels}
 use Rattle.xrecover.proofs.Going.{Apart, none_duplex, same_row}
 use Rattle.xrecover.proofs.Works.{rose_later}
 
@@ -189,3 +191,63 @@ named_pair tells told rows i r items step a b c keeps is apart before works coun
           (before.faults (Volume r.device)) here)
       | inr differ ↦ named_still row a b c ((works.bytes told (Volume row.device)).1 differ) (counts row.device differ) (named k d lt duplex)
     ]
+
+-- ---- what becomes of labels
+
+-- A label that stays, and stays again.
+pub keeps_then : (a b c : Standing) → a.clock ≤ b.clock → KeepsLabel a b → Kept b c → KeepsLabel b c → KeepsLabel a c
+keeps_then a b c le k kept l = record {
+  bytes = l.bytes ∙ k.bytes;
+  moments = follows_then a b c SameLabel SameLabel SameLabel le k.moments kept l.moments (λ p q here s. s) (λ p q r here there e f. f ∙ e);
+}
+
+-- It stays where a device does.
+pub keeps_same : (a b : Standing) → b.bytes ≡ a.bytes → Follows Same a b → KeepsLabel a b
+keeps_same a b same f = record { bytes = ap (λ (l : List ℕ). take 14 l) same; moments = label_same a b f }
+
+-- A volume bears its label behind calls that kept the one that was there.
+pub bears_then : (labelling : Labelling) (row : PairRow) (a b c : List ℕ) → SameLabel a b → BearsLabel labelling row b c → BearsLabel labelling row a c
+bears_then AsPrimary row a b c same bears = bears
+bears_then AsItIs row a b c same bears = bears ∙ same
+
+-- calls that keep a label
+pub treats_kept : (labelling : Labelling) (row : PairRow) (items : List Item) (a b : PlantState) → KeepsLabel (on a (Volume row.device)) (on b (Volume row.device)) → TreatsLabel labelling row items a b
+treats_kept AsPrimary row items a b k = (label_kept row.device items (on a (Volume row.device)) (on b (Volume row.device)) k.moments, λ quiet. inl k.bytes)
+treats_kept AsItIs row items a b k = k
+
+-- The items of the walk were applied, and then the volume was finished.
+pub treats_redone : (labelling : Labelling) (row : PairRow) (items : List Item) (a b c : PlantState) → a.clock ≤ b.clock → KeepsLabel (on a (Volume row.device)) (on b (Volume row.device)) → Draws row.device items (a.bytes (Volume row.device)) (c.bytes (Volume row.device))
+    → a.faults (Volume row.device) ≤ b.faults (Volume row.device) → Kept (on b (Volume row.device)) (on c (Volume row.device)) → TreatsLabel labelling row [] b c → TreatsLabel labelling row items a c
+treats_redone AsPrimary row items a b c le k draws count kept t = (
+  last_redone row.device items (on a (Volume row.device)) (on b (Volume row.device)) (on c (Volume row.device)) le k.moments draws kept t.0,
+  named_then row a b c k.bytes count t.1,
+)
+treats_redone AsItIs row items a b c le k draws count kept t = keeps_then (on a (Volume row.device)) (on b (Volume row.device)) (on c (Volume row.device)) le k kept t
+
+module _ (tells : Type 0) (told : tells) where
+  -- calls that read, and calls behind them
+  pub treats_read : (labelling : Labelling) (rows : List PairRow) (items : List Item) (a b : PlantState) → ReadsAll tells a b → TreatsLabels labelling rows items a b
+  treats_read AsPrimary rows items a b r = (labels_read tells told items a b r, named_same rows a b (λ v. r.same told (Volume v)))
+  treats_read AsItIs rows items a b r = λ v. keeps_same (on a (Volume v)) (on b (Volume v)) (r.same told (Volume v)) (r.moments told (Volume v))
+
+  pub treats_behind : (labelling : Labelling) (rows : List PairRow) (step : _) (a b c : PlantState) → ReadsAll tells a b → Works tells step b c → TreatsLabels labelling rows (walked b b.bytes) b c → TreatsLabels labelling rows (walked a a.bytes) a c
+  treats_behind AsPrimary rows step a b c r w t = (labels_behind tells told step a b c r w t.0, named_behind rows a b c (λ v. r.same told (Volume v)) (λ v. r.only.faults (Volume v)) t.1)
+  treats_behind AsItIs rows step a b c r w t = λ v.
+      keeps_then (on a (Volume v)) (on b (Volume v)) (on c (Volume v)) ((r.only.elapses told).kept (Volume v)).later (keeps_same (on a (Volume v)) (on b (Volume v)) (r.same told (Volume v)) (r.moments told (Volume v))) ((w.elapses told).kept (Volume v)) (t v)
+
+  -- One pair more.
+  pub treats_pair : (labelling : Labelling) (rows : List PairRow) (i : ℕ) (r : PairRow) (items own : List Item) (step : List ℕ → List ℕ → Type 0) (a b c : PlantState) → none_clash rows ≡ true → slice_get rows i ≡ Some r → Apart (take i rows) r
+      → Works tells (Recovers (take i rows) items) a b → Works tells (OfOneVolume r.device step) b c → ((v : ℕ) → v ≢ r.device → c.faults (Volume v) ≡ b.faults (Volume v)) → own ≡ items
+      → TreatsLabels labelling rows items a b → TreatsLabel labelling r own b c → TreatsLabels labelling rows items a c
+  treats_pair AsPrimary rows i r items own step a b c keeps is apart before works counts same t here = (
+    labels_pair tells told (take i rows) r items step a b c apart before works own same t.0 here.0,
+    named_pair tells told rows i r items step a b c keeps is apart before works counts t.1 here.1,
+  )
+  treats_pair AsItIs rows i r items own step a b c keeps is apart before works counts same t here = λ v. keeps_then (on a (Volume v)) (on b (Volume v)) (on c (Volume v)) ((before.elapses told).kept (Volume v)).later (t v) ((works.elapses told).kept (Volume v)) (kept_here v)
+    where
+      kept_here : (v : ℕ) → KeepsLabel (on b (Volume v)) (on c (Volume v))
+      kept_here v = elim (cases_eq v r.device) [
+        | inl own ↦ subst (λ (n : ℕ). KeepsLabel (on b (Volume n)) (on c (Volume n))) (sym own) here
+        | inr differ ↦
+            keeps_same (on b (Volume v)) (on c (Volume v)) ((works.bytes told (Volume v)).1 differ) (λ t from to z left. let start = works.moments told (Volume v) t from to z left in (start.0, start.1, (start.2).1 differ))
+      ]

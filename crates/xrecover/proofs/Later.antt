@@ -1,12 +1,11 @@
 -- The walk is the same while only volumes are written.
-use Rattle.std.proofs.Common.{◌≡◌, ℕ, List, Option, None, Ok, refl, sym, ◌∙◌, ap}
+use Rattle.std.proofs.Common.{◌≡◌, ℕ, None, sym, ◌∙◌, ap}
 use Rattle.crash_plant.specs.declared.device.Device.TheVariants.{Control, State, Journal}
 use Rattle.crash_plant.specs.Moments.{PlantState}
 use Rattle.crash_plant.specs.Calls.{SameSite}
 use Rattle.control_set.specs.declared.value.Mark.{Mark}
 use Rattle.control_set.specs.Slots.{chosen_mark}
 use Rattle.state_set.specs.Slots.{state_of}
-use Rattle.xrc_journal.specs.Items.{Item}
 use Rattle.site_means.specs.Images.{shape_of}
 use Rattle.site_means.specs.Answers.{Enters}
 use Rattle.site_means.specs.Walk.{Walk, has_entered, start, turns_at, walk_in, walk_items}

@@ -1,5 +1,5 @@
 -- What is seen of a crash while volumes are redone.
-use Rattle.std.proofs.Common.{◌≡◌, ◌⊎◌, inl, inr, ℕ, zero, suc, ◌<◌, ◌≤◌, ◌++◌, ◌||◌, Bool, true, false, nat_lt, List, [], ◌∷◌, length, Option, Some, None, Result, Ok, Err, refl, sym, ap, subst, ◌∙◌, arith}
+use Rattle.std.proofs.Common.{◌≡◌, ◌⊎◌, inl, inr, ℕ, zero, suc, ◌<◌, Bool, true, false, List, length, Option, Some, None, Result, Ok, Err, refl, sym, ap, subst, ◌∙◌}
 use Rattle.std.proofs.lemmas.Bool.{ltb-true}
 use Rattle.ckd_track.specs.declared.rec.Rec.{Rec}
 use Rattle.ckd_track.specs.SlotPlaces.{slot_track}
@@ -8,7 +8,7 @@ use Rattle.crash_plant.specs.declared.device.Device.TheVariants.{Control, State,
 use Rattle.crash_plant.specs.declared.spot.Spot.{Spot}
 use Rattle.crash_plant.specs.Choices.{AllFollow, Choice, IsChoice}
 use Rattle.crash_plant.specs.Calls.{IsPart}
-use Rattle.crash_plant.specs.Moments.{PlantState, on}
+use Rattle.crash_plant.specs.Moments.{PlantState}
 use Rattle.crash_plant.proofs.Choices.{all_follow, part_cases}
 use Rattle.control_set.specs.declared.value.Mark.{Mark}
 use Rattle.control_set.specs.Slots.{chosen_mark, lengths_of}
@@ -18,19 +18,19 @@ use Rattle.control_set.proofs.Lengths.{count_is}
 use Rattle.pair_table.specs.declared.row.PairRow.{PairRow}
 use Rattle.state_set.specs.Slots.{Stored, state_of}
 use Rattle.xrc_journal.specs.Items.{Item}
-use Rattle.xrc_journal.specs.Records.{walk_one, next_set}
+use Rattle.xrc_journal.specs.Records.{walk_one}
 use Rattle.xrc_journal.specs.Walks.{Logged}
-use Rattle.xrc_journal.specs.Contents.{HasItem, content_through}
+use Rattle.xrc_journal.specs.Contents.{content_through}
 use Rattle.site_means.specs.Images.{Images, Shape, shape_of}
 use Rattle.site_means.specs.Walk.{WalkState, WalkStep, Walk, start, step, step_by, turns_at, walk_from, walk_on, with_before}
 use Rattle.site_means.specs.Walk.WalkStep.{Ends, GoesOn, Breaks}
-use Rattle.site_means.specs.Meaning.{Meaning, chosen_in, meaning, meaning_by_mark, meaning_by_state, meaning_by_walk, meaning_in, stored_in}
+use Rattle.site_means.specs.Meaning.{chosen_in, meaning, meaning_by_mark, meaning_by_state, meaning_by_walk, stored_in}
 use Rattle.site_means.specs.Sight.{meant_by, walked, walked_by}
 use Rattle.site_means.proofs.Found.{group_ends, next_within, switch_leads}
 use Rattle.site_means.proofs.Goes.{goes_by}
 use Rattle.site_means.proofs.Marked.{contents_are_drawn}
 use Rattle.xrecover.specs.Pairs.{HasDuplex, is_duplex_of}
-use Rattle.xrecover.specs.Redone.{Recovers, Redoes, meant_rows}
+use Rattle.xrecover.specs.Redone.{Recovers, Redoes}
 use Rattle.xrecover.specs.Sees.{IsSettled, SeesSame}
 use Rattle.xrecover.specs.Works.{Works}
 use Rattle.xrecover.proofs.Contents.{item_cases, track_kept}

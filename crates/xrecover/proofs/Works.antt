@@ -1,10 +1,10 @@
 -- Calls that work one after another.
-use Rattle.std.proofs.Common.{◌≡◌, ◌≢◌, ◌≤◌, ◌<◌, inl, inr, ℕ, List, [], false, refl, sym, ◌∙◌, ap, subst, arith}
+use Rattle.std.proofs.Common.{◌≡◌, ◌≢◌, ◌≤◌, inl, inr, ℕ, List, refl, sym, ◌∙◌, ap, subst, arith}
 use Rattle.std.proofs.lemmas.Bool.{cases_eq, cases_lt}
 use Rattle.crash_plant.specs.declared.device.Device.{Device}
 use Rattle.crash_plant.specs.declared.device.Device.TheVariants.{Control, State, Journal, Volume}
 use Rattle.crash_plant.specs.Moments.{Standing, PlantState, on, Follows, Kept, Same}
-use Rattle.crash_plant.specs.Calls.{Elapses, Lends, NoneLent, SameLoan, SameSite, Silent, TakesBack, WorksOn}
+use Rattle.crash_plant.specs.Calls.{Elapses, Lends, SameLoan, Silent, TakesBack, WorksOn}
 use Rattle.crash_plant.proofs.Choices.{device_cases}
 use Rattle.crash_plant.proofs.Lent.{lent_kept, lent_moments}
 use Rattle.crash_plant.proofs.Steps.{elapses_trans, follows_then, kept_here, kept_trans, none_lent_again, none_lent_then, silent_trans, site_trans}

@@ -1,5 +1,5 @@
--- What a recovery answers.
-use Rattle.std.specs.Prelude.{◌≡◌, ◌≢◌, ◌≤◌, ◌<◌, ◌⊎◌, ℕ, List, Option, Some, None, Result, Ok, Err, IsErrOf, true}
+-- What the examination of a session's site answers, and what a recovery answers.
+use Rattle.std.specs.Prelude.{◌≡◌, ◌≢◌, ◌⊎◌, ℕ, List, Some, None, Result, Ok, Err, IsErrOf}
 use Rattle.xrc_edge.specs.Causes.{Rose}
 use Rattle.crash_plant.specs.declared.device.Device.{Device}
 use Rattle.crash_plant.specs.declared.device.Device.TheVariants.{Control, State, Journal, Volume}
@@ -8,13 +8,12 @@ use Rattle.control_set.specs.declared.value.Mark.{Mark}
 use Rattle.pair_table.specs.declared.row.PairRow.{PairRow}
 use Rattle.state_set.specs.Slots.{Stored}
 use Rattle.site_means.specs.declared.means.Means.{Means}
-use Rattle.site_means.specs.declared.site_error.SiteError.{SiteError}
 use Rattle.site_means.specs.declared.site_error.SiteError.TheVariants.{NoSession, Damaged, Fault, TooSmall, NoMemory}
 use Rattle.site_means.specs.Images.{shape_of}
 use Rattle.site_means.specs.Walk.{walk_in}
 use Rattle.site_means.specs.Meaning.{meaning, stored_in}
 use Rattle.site_means.specs.Meaning.Meaning.{NoMark, DamagedAt}
-use Rattle.site_means.specs.Answers.{IsChosen, IsInTurn, Mean, first_short}
+use Rattle.site_means.specs.Answers.{IsChosen, IsExamined, IsInTurn, Mean, first_short}
 use Rattle.volume_label.specs.Labels.{volume_need}
 use Rattle.xrecover.specs.declared.recover_error.RecoverError.{RecoverError}
 use Rattle.xrecover.specs.declared.recover_error.RecoverError.TheVariants.{Site, Other}
@@ -33,10 +32,14 @@ pub record IsOther (plant : PlantState) (session name : List ℕ) : Type 0 where
   pub named : name ≡ mark.session
   pub differs : mark.session ≢ session
 
--- What the devices of a session mean, where each duplex pair's volume has room for the pair's cylinders.
-pub record IsRecoverable (plant : PlantState) (session : List ℕ) (means : Means) : Type 0 where
+-- What the devices of a session mean.
+pub record IsMeant (plant : PlantState) (session : List ℕ) (means : Means) : Type 0 where
   pub of : IsOf plant session
   pub mean : Mean (meaning plant plant.bytes) means
+
+-- The same where each duplex pair's volume has room for the pair's cylinders.
+pub record IsRecoverable (plant : PlantState) (session : List ℕ) (means : Means) : Type 0 where
+  pub meant : IsMeant plant session means
   pub long : first_small plant means.table.rows ≡ None
 
 -- The first duplex pair's volume that is too small, behind a meaning.
@@ -78,6 +81,11 @@ pub record HasWalk (plant : PlantState) (m : Mark) : Type 0 where
 pub record FailsSo {X : Type 0} (old new : Device → ℕ) (result : Result X RecoverError) : Type 0 where
   pub rose : (d : Device) → IsErrOf result (Site (Fault d)) → Rose (old d) (new d)
   pub others : (d : Device) → ¬ IsErrOf result (Site (Fault d)) → new d ≡ old d
+
+-- The devices whose faults are told are those whose counts rose, of the control, the state and the journals: no other's count changes.
+pub record TellsFaults (old new : Device → ℕ) (is_told : Device → Type 0) : Type 0 where
+  pub rose : (d : Device) → is_told d → Rose (old d) (new d)
+  pub others : (d : Device) → IsExamined d → ¬ is_told d → new d ≡ old d
 
 -- a journal's fault
 abbrev pub EndsLate : RecoverError → Type 0

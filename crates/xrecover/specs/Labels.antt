@@ -1,17 +1,15 @@
--- When a recovery writes labels, and which.
+-- When labels are written, and which; or that each stays.
 use Rattle.std.specs.Prelude.{◌≡◌, ◌⊎◌, ◌≤◌, ℕ, List, All, drop, take, true}
 use Rattle.xrc_edge.specs.Causes.{Rose}
 use Rattle.crash_plant.specs.declared.device.Device.TheVariants.{Volume}
-use Rattle.crash_plant.specs.Moments.{PlantState, Standing, Follows}
+use Rattle.crash_plant.specs.Moments.{PlantState, Standing, Follows, on}
 use Rattle.pair_table.specs.declared.row.PairRow.{PairRow}
 use Rattle.xrc_journal.specs.Items.{Item}
 use Rattle.volume_label.specs.Labels.{label_spelling}
+use Rattle.xrecover.specs.declared.labelling.Labelling.{Labelling}
+use Rattle.xrecover.specs.declared.labelling.Labelling.TheVariants.{AsPrimary, AsItIs}
 use Rattle.xrecover.specs.Pairs.{is_duplex}
-use Rattle.xrecover.specs.Redone.{Draws}
-
--- the same 14 bytes of a label
-abbrev pub SameLabel : List ℕ → List ℕ → Type 0
-SameLabel b c = take 14 c ≡ take 14 b
+use Rattle.xrecover.specs.Redone.{Draws, SameLabel}
 
 -- Calls on a device leave its label: what a read gives has the same one, and at every moment so has whatever a crash leaves.
 pub record KeepsLabel (old new : Standing) : Type 0 where
@@ -32,3 +30,18 @@ IsNamed row old new = ¬ Rose (old.faults (Volume row.device)) (new.faults (Volu
 -- So has the volume of each duplex pair.
 abbrev pub AreNamed : List PairRow → (old new : PlantState) → Type 0
 AreNamed rows old new = All (λ row. is_duplex row.state ≡ true → IsNamed row old new) rows
+
+-- Each volume keeps its label.
+abbrev pub KeepsLabels : (old new : PlantState) → Type 0
+KeepsLabels old new = (v : ℕ) → KeepsLabel (on old (Volume v)) (on new (Volume v))
+
+-- What becomes of the label of a pair's volume: the primary's is written last, and it is there in the end, or the label that was there,
+-- but where the volume's count rose. Or the label stays.
+abbrev pub TreatsLabel : Labelling → PairRow → List Item → (old new : PlantState) → Type 0
+TreatsLabel AsPrimary row items old new = LabelsLast row.device items (on old (Volume row.device)) (on new (Volume row.device)) × IsNamed row old new
+TreatsLabel AsItIs row items old new = KeepsLabel (on old (Volume row.device)) (on new (Volume row.device))
+
+-- The same of all volumes, where these are the rows.
+abbrev pub TreatsLabels : Labelling → List PairRow → List Item → (old new : PlantState) → Type 0
+TreatsLabels AsPrimary rows items old new = ((v : ℕ) → LabelsLast v items (on old (Volume v)) (on new (Volume v))) × AreNamed rows old new
+TreatsLabels AsItIs rows items old new = KeepsLabels old new

@@ -1,5 +1,5 @@
 -- The duplex pairs among rows, and whether their volumes are long enough.
-use Rattle.std.specs.Prelude.{◌≡◌, ℕ, Some, ◌&&◌, List, find, filter, map, Bool, true, false, Option, nat_lt, IsTrue}
+use Rattle.std.specs.Prelude.{◌≡◌, ℕ, ◌&&◌, List, find, filter, map, Bool, true, false, Option, nat_lt, IsTrue}
 use Rattle.std.specs.List.{list_any}
 use Rattle.crash_plant.specs.declared.device.Device.{Device}
 use Rattle.crash_plant.specs.declared.device.Device.TheVariants.{Volume}

@@ -1,6 +1,5 @@
 -- What recovery leaves on the volumes.
 use Rattle.std.specs.Prelude.{◌≡◌, ◌≤◌, ℕ, List, [], All, Contains, length, take, slice_range, Option, Some, None, true}
-use Rattle.ckd_track.specs.declared.rec.Rec.{Rec}
 use Rattle.ckd_track.specs.SlotPlaces.{slot_track}
 use Rattle.crash_plant.specs.declared.device.Device.{Device}
 use Rattle.crash_plant.specs.declared.device.Device.TheVariants.{Control, State, Journal, Volume}
@@ -10,9 +9,11 @@ use Rattle.xrc_journal.specs.Items.{Item}
 use Rattle.xrc_journal.specs.Contents.{HasItem, content_through}
 use Rattle.site_means.specs.declared.means.Means.{Means}
 use Rattle.site_means.specs.Images.{Images}
-use Rattle.site_means.specs.Sight.{means_of, walked}
+use Rattle.site_means.specs.Sight.{means_of}
 use Rattle.applier.specs.Slots.{BeginsWithTrack, IsApart}
 use Rattle.volume_label.specs.Labels.{label_spelling}
+use Rattle.xrecover.specs.declared.labelling.Labelling.{Labelling}
+use Rattle.xrecover.specs.declared.labelling.Labelling.TheVariants.{AsPrimary, AsItIs}
 use Rattle.xrecover.specs.Pairs.{HasDuplex, is_duplex}
 
 -- Only a label's 14 bytes, and the slots of the device's tracks of which an item is, may differ.
@@ -39,12 +40,21 @@ meant_rows plant images = rows_of (means_of plant images)
 abbrev pub Draws : (device : ℕ) → List Item → (old new : List ℕ) → Type 0
 Draws device items old new = (x : ℕ) → HasItem device x items → BeginsWithTrack new x (content_through device x items (slot_track old x))
 
--- A pair's volume: its tracks hold their content, its label is the primary's, and a crash leaves what reads give.
-pub record IsRedone (row : PairRow) (items : List Item) (old new : PlantState) : Type 0 where
+-- the same 14 bytes of a label
+abbrev pub SameLabel : List ℕ → List ℕ → Type 0
+SameLabel b c = take 14 c ≡ take 14 b
+
+-- A pair's label is that of its primary with the pair's cylinders, or it is as it was.
+abbrev pub BearsLabel : Labelling → PairRow → (old new : List ℕ) → Type 0
+BearsLabel AsPrimary row old new = take 14 new ≡ label_spelling (record { serial = row.primary; cylinders = row.cylinders })
+BearsLabel AsItIs row old new = SameLabel old new
+
+-- A pair's volume: its tracks hold their content, it bears its label, and a crash leaves what reads give.
+pub record IsRedone (labelling : Labelling) (row : PairRow) (items : List Item) (old new : PlantState) : Type 0 where
   pub draws : Draws row.device items (old.bytes (Volume row.device)) (new.bytes (Volume row.device))
-  pub label : take 14 (new.bytes (Volume row.device)) ≡ label_spelling (record { serial = row.primary; cylinders = row.cylinders })
+  pub label : BearsLabel labelling row (old.bytes (Volume row.device)) (new.bytes (Volume row.device))
   pub durable : IsDurable (on new (Volume row.device))
 
 -- So is the volume of each duplex pair whose device isn't among those that failed.
-abbrev pub Redone : List PairRow → List Item → (failed : List ℕ) → (old new : PlantState) → Type 0
-Redone rows items failed old new = All (λ row. is_duplex row.state ≡ true → ¬ Contains failed row.device → IsRedone row items old new) rows
+abbrev pub Redone : Labelling → List PairRow → List Item → (failed : List ℕ) → (old new : PlantState) → Type 0
+Redone labelling rows items failed old new = All (λ row. is_duplex row.state ≡ true → ¬ Contains failed row.device → IsRedone labelling row items old new) rows

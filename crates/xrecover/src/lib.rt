@@ -1,6 +1,8 @@
-//! Recovery of one site: what the devices mean is put down on the volumes of the duplex pairs.
+//! Recovery of one site: what the devices mean is put down on the volumes of the duplex pairs, which are labelled as their primaries
+//! or keep their labels.
 #![tactic(auto)]
 
+mod labelling;
 mod meaning;
 mod outcome;
 mod recover_error;
@@ -8,6 +10,8 @@ mod recovering;
 mod redoing;
 mod volumes;
 
+pub use labelling::Labelling;
+pub use meaning::examine_session;
 pub use outcome::Outcome;
 pub use recover_error::RecoverError;
-pub use recovering::recover;
+pub use recovering::{advance, recover};

@@ -7,12 +7,12 @@ ghost use Rattle.crash_plant.specs.Calls.{NoneLent};
 ghost use Rattle.pair_table.specs.Tables.{are_below};
 ghost use Rattle.site_means.specs.declared.site_error.SiteError.{SiteError as SiteErrorValue};
 ghost use Rattle.site_means.specs.declared.site_error.SiteError.TheVariants.{Fault, TooSmall};
-ghost use Rattle.site_means.specs.Answers.{FaultsAreCounted, HasSpot, IsChosen, IsInTurn, ReadsAll, TellsMeaning, first_short, need as site_need};
+ghost use Rattle.site_means.specs.Answers.{FaultsAreCounted, HasSpot, IsChosen, IsExamined, IsInTurn, ReadsAll, TellsMeaning, first_short, need as site_need};
 ghost use Rattle.volume_label.specs.Labels.{volume_need as volume_need};
 ghost use Rattle.xrecover.specs.declared.recover_error.RecoverError.{RecoverError as RecoverErrorValue};
 ghost use Rattle.xrecover.specs.declared.recover_error.RecoverError.TheVariants.{Other, Site};
 ghost use Rattle.xrecover.specs.Pairs.{first_small, is_duplex, is_small};
-ghost use Rattle.xrecover.specs.Answers.{FailsSo, HasWalk, IsRecoverable, IsGoodOrCalledFor};
+ghost use Rattle.xrecover.specs.Answers.{FailsSo, HasWalk, IsGoodOrCalledFor, IsMeant, IsRecoverable};
 
 use crate::RecoverError;
 use control_set::{ChooseError, Mark, choose};
@@ -97,6 +97,7 @@ fn read_means<P: Plant>(alloc: Global, plant: &mut P, mark: &Mark) -> Result<Mea
     ensures says { P.tells → IsChosen (P.state plant.old) mark.now → TellsMeaning (P.state plant.old) result }
     ensures below { IfOk result (λ means. IsTrue (are_below (P.state plant.old).volumes means.table.rows)) }
     ensures reached { P.tells → IsChosen (P.state plant.old) mark.now → (d : AnyDevice) → IsErrOf result (Fault d) → IsInTurn (P.state plant.old) d }
+    ensures examined { (d : AnyDevice) → IsErrOf result (Fault d) → IsExamined d }
     ensures short { (d : AnyDevice) (needed : ℕ) → ¬ IsErrOf result (TooSmall d needed) }
     ensures fails { FaultsAreCounted (P.state plant.old).faults (P.state plant.new).faults result }
     ensures reads { ReadsAll P.tells (P.state plant.old) (P.state plant.new) }
@@ -113,6 +114,7 @@ fn read_own_mark<P: Plant>(plant: &mut P, session: Session) -> Result<Mark, Reco
     ensures slot { IfOk result (λ mark. mark.state_slot ≤ 1) }
     ensures spot { IfOk result (λ mark. HasSpot (P.state plant.old) mark.at) }
     ensures small { (d : AnyDevice) (needed : ℕ) → ¬ IsErrOf result (Site (TooSmall d needed)) }
+    ensures examined { (d : AnyDevice) → IsErrOf result (Site (Fault d)) → IsExamined d }
     ensures fails { FailsSo (P.state plant.old).faults (P.state plant.new).faults result }
     ensures reads { ReadsAll P.tells (P.state plant.old) (P.state plant.new) }
 {
@@ -129,7 +131,30 @@ fn read_own_mark<P: Plant>(plant: &mut P, session: Session) -> Result<Mark, Reco
     }
 }
 
-/// What the devices mean, where they are this session's and the volumes of the duplex pairs are long enough. Nothing is written.
+/// What the devices of a session mean, and by which mark.
+fn read_session<P: Plant>(
+    alloc: Global,
+    plant: &mut P,
+    session: Session,
+) -> Result<Meant, RecoverError>
+    requires home { NoneLent (P.state plant.old) }
+    ensures says { P.tells → IsGoodOrCalledFor (P.state plant.old) session (λ meant. IsMeant (P.state plant.old) session meant.means × HasWalk (P.state plant.old) meant.mark) result }
+    ensures short { (d : AnyDevice) → first_short (P.state plant.old) ≡ Some d → result ≡ Err (Site (TooSmall d (site_need d))) }
+    ensures small { (d : AnyDevice) (needed : ℕ) → IsErrOf result (Site (TooSmall d needed)) → first_short (P.state plant.old) ≡ Some d }
+    ensures lengths { OnOk result (first_short (P.state plant.old) ≡ None) }
+    ensures spot { IfOk result (λ meant. HasSpot (P.state plant.old) meant.mark.at) }
+    ensures below { IfOk result (λ meant. IsTrue (are_below (P.state plant.old).volumes meant.means.table.rows)) }
+    ensures examined { (d : AnyDevice) → IsErrOf result (Site (Fault d)) → IsExamined d }
+    ensures fails { FailsSo (P.state plant.old).faults (P.state plant.new).faults result }
+    ensures reads { ReadsAll P.tells (P.state plant.old) (P.state plant.new) }
+{
+    check_lengths(plant)?;
+    let mark = read_own_mark(plant, session)?;
+    let means = read_means(alloc, plant, &mark)?;
+    Ok(Meant { mark, means })
+}
+
+/// What the devices of a session mean, where the volumes of the duplex pairs are long enough. Nothing is written.
 pub(crate) fn read_meant<P: Plant>(
     alloc: Global,
     plant: &mut P,
@@ -145,9 +170,33 @@ pub(crate) fn read_meant<P: Plant>(
     ensures fails { FailsSo (P.state plant.old).faults (P.state plant.new).faults result }
     ensures reads { ReadsAll P.tells (P.state plant.old) (P.state plant.new) }
 {
-    check_lengths(plant)?;
-    let mark = read_own_mark(plant, session)?;
-    let means = read_means(alloc, plant, &mark)?;
-    check_volumes(plant, &means.table)?;
-    Ok(Meant { mark, means })
+    let meant = read_session(alloc, plant, session)?;
+    check_volumes(plant, &meant.means.table)?;
+    Ok(meant)
+}
+
+/// What the devices of a session mean, whatever the lengths of volumes are. The control, the state and the journals are read, and nothing
+/// is written.
+///
+/// What they don't mean is answered as of a recovery, in the same order: lengths, the control, the session, the state, and the journals
+/// in the order of the walk.
+pub fn examine_session<P: Plant>(
+    alloc: Global,
+    plant: &mut P,
+    session: Session,
+) -> Result<Means, RecoverError>
+    requires home { NoneLent (P.state plant.old) }
+    // What the devices mean, or the first of what is wrong with them.
+    ensures says { P.tells → IsGoodOrCalledFor (P.state plant.old) session (λ means. IsMeant (P.state plant.old) session means) result }
+    // A device is too small exactly where it is the first one.
+    ensures short { (d : AnyDevice) → first_short (P.state plant.old) ≡ Some d → result ≡ Err (Site (TooSmall d (site_need d))) }
+    ensures small { (d : AnyDevice) (needed : ℕ) → IsErrOf result (Site (TooSmall d needed)) → first_short (P.state plant.old) ≡ Some d }
+    // A fault is that of a control, state or journal whose count rose.
+    ensures examined { (d : AnyDevice) → IsErrOf result (Site (Fault d)) → IsExamined d }
+    ensures fails { FailsSo (P.state plant.old).faults (P.state plant.new).faults result }
+    // What reads give stays, and a crash leaves nothing that it couldn't leave before.
+    ensures reads { ReadsAll P.tells (P.state plant.old) (P.state plant.new) }
+{
+    let meant = read_session(alloc, plant, session)?;
+    Ok(meant.means)
 }

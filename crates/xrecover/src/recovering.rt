@@ -1,7 +1,6 @@
 //! The recovery of a site.
 
 ghost use Rattle.std.specs.Prelude.{◌≡◌, ◌≤◌, ◌<◌, ◌+◌, [], ℕ, length, vec_capacity, IfOk, IsErrOf, IsTrue, None, Some, Err};
-ghost use Rattle.xrc_edge.specs.Causes.{Rose};
 ghost use Rattle.crash_plant.specs.declared.device.Device.{Device as AnyDevice};
 ghost use Rattle.crash_plant.specs.declared.device.Device.TheVariants.{Journal, Volume};
 ghost use Rattle.crash_plant.specs.Moments.{on};
@@ -16,16 +15,17 @@ ghost use Rattle.site_means.specs.Steps.{HoldsEveryBody};
 ghost use Rattle.xrecover.specs.declared.recover_error.RecoverError.{RecoverError as RecoverErrorValue};
 ghost use Rattle.xrecover.specs.declared.recover_error.RecoverError.TheVariants.{Site};
 ghost use Rattle.xrecover.specs.Pairs.{AreFaulty, first_small};
-ghost use Rattle.xrecover.specs.Answers.{HasWalk, IsEarly, IsLate, IsRecoverable, IsGoodOrCalledFor};
+ghost use Rattle.xrecover.specs.Answers.{HasWalk, IsEarly, IsLate, IsRecoverable, IsGoodOrCalledFor, TellsFaults};
 ghost use Rattle.xrecover.specs.Works.{Nothing, Works};
+ghost use Rattle.xrecover.specs.declared.labelling.Labelling.TheVariants.{AsItIs, AsPrimary};
 ghost use Rattle.xrecover.specs.Redone.{Recovers, Redone, meant_rows};
-ghost use Rattle.xrecover.specs.Labels.{AreNamed, LabelsLast};
+ghost use Rattle.xrecover.specs.Labels.{AreNamed, KeepsLabels, LabelsLast, TreatsLabels};
 ghost use Rattle.xrecover.specs.Sees.{IsSettled, SeesSame};
 
 use crate::meaning::{Meant, is_duplex, read_meant};
 use crate::redoing::redo_pair;
 use crate::volumes::Tools;
-use crate::{Outcome, RecoverError};
+use crate::{Labelling, Outcome, RecoverError};
 use crash_plant::Plant;
 use pair_table::DeviceList;
 use site_means::longest_body;
@@ -48,6 +48,7 @@ fn redo_pairs<P: Plant>(
     meant: &Meant,
     tools: Tools,
     failed: Vec<u16>,
+    labelling: Labelling,
 ) -> Result<DeviceList, RecoverError>
     requires home { NoneLent (P.state plant.old) }
     requires below { IsTrue (are_below (P.state plant.old).volumes meant.now.means.table.rows) }
@@ -60,19 +61,18 @@ fn redo_pairs<P: Plant>(
     requires places { length meant.now.means.table.rows ≤ vec_capacity failed }
     ensures works { Works P.tells (Recovers meant.now.means.table.rows (walked (P.state plant.old) (P.state plant.old).bytes)) (P.state plant.old) (P.state plant.new) }
     ensures failed { IfOk result (AreFaulty meant.now.means.table.rows (P.state plant.old).faults (P.state plant.new).faults) }
-    ensures redone { P.tells → IfOk result (λ failed. Redone meant.now.means.table.rows (walked (P.state plant.old) (P.state plant.old).bytes) failed (P.state plant.old) (P.state plant.new)) }
-    ensures labels { P.tells → (v : ℕ) → LabelsLast v (walked (P.state plant.old) (P.state plant.old).bytes) (on (P.state plant.old) (Volume v)) (on (P.state plant.new) (Volume v)) }
-    ensures named { P.tells → AreNamed meant.now.means.table.rows (P.state plant.old) (P.state plant.new) }
+    ensures redone { P.tells → IfOk result (λ failed. Redone labelling meant.now.means.table.rows (walked (P.state plant.old) (P.state plant.old).bytes) failed (P.state plant.old) (P.state plant.new)) }
+    ensures treats { P.tells → TreatsLabels labelling meant.now.means.table.rows (walked (P.state plant.old) (P.state plant.old).bytes) (P.state plant.old) (P.state plant.new) }
     ensures once { (v : ℕ) → (P.state plant.new).faults (Volume v) ≤ (P.state plant.old).faults (Volume v) + 1 }
     ensures late { P.tells → (e : RecoverErrorValue) → IsErrOf result e → IsLate (P.state plant.old) e }
-    ensures fault { (d : AnyDevice) → IsErrOf result (Site (Fault d)) → Rose ((P.state plant.old).faults d) ((P.state plant.new).faults d) }
+    ensures fault { TellsFaults (P.state plant.old).faults (P.state plant.new).faults (λ d. IsErrOf result (Site (Fault d))) }
 {
     let mut failed = failed;
     let mut tools = tools;
     for place in 0..meant.means.table.len() {
         let row = *meant.means.table.row(place).unwrap();
         if is_duplex(row.state) {
-            let (again, has_failed) = redo_pair(plant, &meant.mark, &row, tools)?;
+            let (again, has_failed) = redo_pair(plant, &meant.mark, &row, tools, labelling)?;
             tools = again;
             if has_failed {
                 failed.push_reserved(row.device);
@@ -80,6 +80,35 @@ fn redo_pairs<P: Plant>(
         }
     }
     Ok(DeviceList::of(failed))
+}
+
+/// Redoes a session's site, the same for both calls but for labels.
+pub(crate) fn redo_site<P: Plant>(
+    alloc: Global,
+    plant: &mut P,
+    session: Session,
+    labelling: Labelling,
+) -> Result<Outcome, RecoverError>
+    requires home { NoneLent (P.state plant.old) }
+    ensures ok { P.tells → IsGoodOrCalledFor (P.state plant.old) session (λ o. IsRecoverable (P.state plant.old) session o.means) result }
+    ensures short { (d : AnyDevice) → first_short (P.state plant.old) ≡ Some d → result ≡ Err (Site (TooSmall d (need d))) }
+    ensures cause { TellsFaults (P.state plant.old).faults (P.state plant.new).faults (λ d. IsErrOf result (Site (Fault d))) }
+    ensures failed { IfOk result (λ o. AreFaulty o.means.table.rows (P.state plant.old).faults (P.state plant.new).faults o.failed) }
+    ensures once { (v : ℕ) → (P.state plant.new).faults (Volume v) ≤ (P.state plant.old).faults (Volume v) + 1 }
+    ensures redone { P.tells → IfOk result (λ o. Redone labelling (meant_rows (P.state plant.old) (P.state plant.old).bytes) (walked (P.state plant.old) (P.state plant.old).bytes) o.failed (P.state plant.old) (P.state plant.new)) }
+    ensures works { Works P.tells (Recovers (meant_rows (P.state plant.old) (P.state plant.old).bytes) (walked (P.state plant.old) (P.state plant.old).bytes)) (P.state plant.old) (P.state plant.new) }
+    ensures treats { P.tells → TreatsLabels labelling (meant_rows (P.state plant.old) (P.state plant.old).bytes) (walked (P.state plant.old) (P.state plant.old).bytes) (P.state plant.old) (P.state plant.new) }
+    ensures moments { P.tells → IsSettled (P.state plant.old) → AllFollow (SeesSame (P.state plant.old)) (P.state plant.old) (P.state plant.new) }
+    ensures unwritten { (e : RecoverErrorValue) → IsErrOf result e → IsEarly e → Works P.tells Nothing (P.state plant.old) (P.state plant.new) }
+{
+    let meant = read_meant(alloc, plant, session)?;
+    let tools = Tools::make(alloc, longest_body(plant))?;
+    let room = make_room(alloc, meant.means.table.len())?;
+    let failed = redo_pairs(plant, &meant, tools, room, labelling)?;
+    Ok(Outcome {
+        means: meant.means,
+        failed,
+    })
 }
 
 /// Recovers a session's site: on the volume of each duplex pair, in the order of the rows, each track of which the journals' walk has
@@ -100,13 +129,13 @@ pub fn recover<R: Threads + Sync, P: Plant>(
     // in the order of the walk, and the lengths of the duplex pairs' volumes.
     ensures ok { P.tells → IsGoodOrCalledFor (P.state plant.old) session (λ o. IsRecoverable (P.state plant.old) session o.means) result }
     ensures short { (d : AnyDevice) → first_short (P.state plant.old) ≡ Some d → result ≡ Err (Site (TooSmall d (need d))) }
-    // Why it fails: a fault is of a device whose count rose, and the failed devices are those of duplex pairs whose counts rose. A
-    // volume is left at its first fault, whatever is answered.
-    ensures cause { (d : AnyDevice) → IsErrOf result (Site (Fault d)) → Rose ((P.state plant.old).faults d) ((P.state plant.new).faults d) }
+    // Why it fails: a fault is of a device whose count rose, no other count of the control, the state or a journal changes, and the
+    // failed devices are those of duplex pairs whose counts rose. A volume is left at its first fault, whatever is answered.
+    ensures cause { TellsFaults (P.state plant.old).faults (P.state plant.new).faults (λ d. IsErrOf result (Site (Fault d))) }
     ensures failed { IfOk result (λ o. AreFaulty o.means.table.rows (P.state plant.old).faults (P.state plant.new).faults o.failed) }
     ensures once { (v : ℕ) → (P.state plant.new).faults (Volume v) ≤ (P.state plant.old).faults (Volume v) + 1 }
     // Each duplex pair's volume that isn't among them holds what the devices meant, is labelled as its primary, and is durable.
-    ensures redone { P.tells → IfOk result (λ o. Redone (meant_rows (P.state plant.old) (P.state plant.old).bytes) (walked (P.state plant.old) (P.state plant.old).bytes) o.failed (P.state plant.old) (P.state plant.new)) }
+    ensures redone { P.tells → IfOk result (λ o. Redone AsPrimary (meant_rows (P.state plant.old) (P.state plant.old).bytes) (walked (P.state plant.old) (P.state plant.old).bytes) o.failed (P.state plant.old) (P.state plant.new)) }
     // At every moment only labels of duplex pairs' volumes, and slots of tracks of which the walk has an item, differ.
     ensures works { Works P.tells (Recovers (meant_rows (P.state plant.old) (P.state plant.old).bytes) (walked (P.state plant.old) (P.state plant.old).bytes)) (P.state plant.old) (P.state plant.new) }
     // A label is written once the slots are redone and durable.
@@ -118,12 +147,38 @@ pub fn recover<R: Threads + Sync, P: Plant>(
     // All answers but a journal's fault come before anything is written, want of memory too.
     ensures unwritten { (e : RecoverErrorValue) → IsErrOf result e → IsEarly e → Works P.tells Nothing (P.state plant.old) (P.state plant.new) }
 {
-    let meant = read_meant(alloc, plant, session)?;
-    let tools = Tools::make(alloc, longest_body(plant))?;
-    let room = make_room(alloc, meant.means.table.len())?;
-    let failed = redo_pairs(plant, &meant, tools, room)?;
-    Ok(Outcome {
-        means: meant.means,
-        failed,
-    })
+    redo_site(alloc, plant, session, Labelling::AsPrimary)
+}
+
+/// Advances a session's site: on the volume of each duplex pair, in the order of the rows, each track of which the journals' walk has an
+/// item gets its content, and then the volume is synced. Nothing else is written, and no label is. What it answers, and when, is as of
+/// `recover`.
+pub fn advance<R: Threads + Sync, P: Plant>(
+    _rt: &R,
+    alloc: Global,
+    plant: &mut P,
+    session: Session,
+) -> Result<Outcome, RecoverError>
+    requires home { NoneLent (P.state plant.old) }
+    // What the devices mean, or why they can't be recovered, in this order: lengths, the control, the session, the state, the journals
+    // in the order of the walk, and the lengths of the duplex pairs' volumes.
+    ensures ok { P.tells → IsGoodOrCalledFor (P.state plant.old) session (λ o. IsRecoverable (P.state plant.old) session o.means) result }
+    ensures short { (d : AnyDevice) → first_short (P.state plant.old) ≡ Some d → result ≡ Err (Site (TooSmall d (need d))) }
+    // Why it fails: a fault is of a device whose count rose, no other count of the control, the state or a journal changes, and the
+    // failed devices are those of duplex pairs whose counts rose. A volume is left at its first fault, whatever is answered.
+    ensures cause { TellsFaults (P.state plant.old).faults (P.state plant.new).faults (λ d. IsErrOf result (Site (Fault d))) }
+    ensures failed { IfOk result (λ o. AreFaulty o.means.table.rows (P.state plant.old).faults (P.state plant.new).faults o.failed) }
+    ensures once { (v : ℕ) → (P.state plant.new).faults (Volume v) ≤ (P.state plant.old).faults (Volume v) + 1 }
+    // Each duplex pair's volume that isn't among them holds what the devices meant, and is durable.
+    ensures redone { P.tells → IfOk result (λ o. Redone AsItIs (meant_rows (P.state plant.old) (P.state plant.old).bytes) (walked (P.state plant.old) (P.state plant.old).bytes) o.failed (P.state plant.old) (P.state plant.new)) }
+    // At every moment nothing differs but what may in a recovery, and of that no label does: each has its 14 bytes from before, in what
+    // reads give and in whatever a crash leaves.
+    ensures works { Works P.tells (Recovers (meant_rows (P.state plant.old) (P.state plant.old).bytes) (walked (P.state plant.old) (P.state plant.old).bytes)) (P.state plant.old) (P.state plant.new) }
+    ensures labels { P.tells → KeepsLabels (P.state plant.old) (P.state plant.new) }
+    // At every moment a crash leaves what means the same, with the same tracks, so that a second recovery gives what the first would.
+    ensures moments { P.tells → IsSettled (P.state plant.old) → AllFollow (SeesSame (P.state plant.old)) (P.state plant.old) (P.state plant.new) }
+    // All answers but a journal's fault come before anything is written, want of memory too.
+    ensures unwritten { (e : RecoverErrorValue) → IsErrOf result e → IsEarly e → Works P.tells Nothing (P.state plant.old) (P.state plant.new) }
+{
+    redo_site(alloc, plant, session, Labelling::AsItIs)
 }

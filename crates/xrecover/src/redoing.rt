@@ -1,8 +1,6 @@
 //! The items of the walk, redone on a volume.
 
 ghost use Rattle.std.specs.Prelude.{◌≡◌, ◌≢◌, ◌≤◌, ◌<◌, ◌+◌, ◌^◌, ℕ, min, false, IfOk, IfSome, OnErr, IsErrOf};
-ghost use Rattle.xrc_edge.specs.Causes.{Rose};
-ghost use Rattle.crash_plant.specs.declared.device.Device.{Device as AnyDevice};
 ghost use Rattle.crash_plant.specs.declared.device.Device.TheVariants.{Journal, Volume};
 ghost use Rattle.crash_plant.specs.Moments.{on};
 ghost use Rattle.crash_plant.specs.Calls.{NoneLent};
@@ -14,12 +12,13 @@ ghost use Rattle.site_means.specs.declared.site_error.SiteError.TheVariants.{Fau
 ghost use Rattle.site_means.specs.Answers.{FaultsAreCounted, HasSpot, ReadsAll};
 ghost use Rattle.site_means.specs.Sight.{walked};
 ghost use Rattle.site_means.specs.Steps.{HoldsEveryBody};
-ghost use Rattle.xrecover.specs.Answers.{HasWalk};
+ghost use Rattle.xrecover.specs.Answers.{HasWalk, TellsFaults};
 ghost use Rattle.xrecover.specs.Again.{FoundAgain, IsBehind, IsWalkFault};
 ghost use Rattle.xrecover.specs.Works.{OfOneVolume, Works};
 ghost use Rattle.xrecover.specs.Redone.{Draws, IsRedone, Redoes};
-ghost use Rattle.xrecover.specs.Labels.{IsNamed, KeepsLabel, LabelsLast};
+ghost use Rattle.xrecover.specs.Labels.{KeepsLabel, TreatsLabel};
 
+use crate::Labelling;
 use crate::volumes::{Tools, apply_body, finish_volume};
 use control_set::Mark;
 use crash_plant::{Device, Plant, Spot};
@@ -80,7 +79,7 @@ pub(crate) fn redo_items<P: Plant>(
     ensures content { P.tells → IfOk result (λ r. r.1 ≡ false → Draws device (walked (P.state plant.old) (P.state plant.old).bytes) ((P.state plant.old).bytes (Volume device)) ((P.state plant.new).bytes (Volume device))) }
     ensures memory { ¬ IsErrOf result NoMemory }
     ensures told { P.tells → (e : SiteErrorValue) → IsErrOf result e → IsWalkFault (P.state plant.old) e }
-    ensures fault { (d : AnyDevice) → IsErrOf result (Fault d) → Rose ((P.state plant.old).faults d) ((P.state plant.new).faults d) }
+    ensures fault { TellsFaults (P.state plant.old).faults (P.state plant.new).faults (λ d. IsErrOf result (Fault d)) }
 {
     let mut at = mark.at;
     let mut last = mark.time;
@@ -99,12 +98,14 @@ pub(crate) fn redo_items<P: Plant>(
     }
 }
 
-/// Redoes a duplex pair: the items of the walk, then the label, each synced before the next. True where the volume failed.
+/// Redoes a duplex pair: the items of the walk, and then the label where that is asked for, each synced before the next. True where the
+/// volume failed.
 pub(crate) fn redo_pair<P: Plant>(
     plant: &mut P,
     mark: &Mark,
     row: &PairRow,
     tools: Tools,
+    labelling: Labelling,
 ) -> Result<(Tools, bool), SiteError>
     requires home { NoneLent (P.state plant.old) }
     requires there { row.now.device < (P.state plant.old).volumes }
@@ -118,17 +119,16 @@ pub(crate) fn redo_pair<P: Plant>(
     ensures failed { IfOk result (λ r. FailsByCount r.1 ((P.state plant.old).faults (Volume row.now.device)) ((P.state plant.new).faults (Volume row.now.device))) }
     ensures stood { OnErr result ((P.state plant.new).faults (Volume row.now.device) ≡ (P.state plant.old).faults (Volume row.now.device)) }
     ensures counts { (v : ℕ) → v ≢ row.now.device → (P.state plant.new).faults (Volume v) ≡ (P.state plant.old).faults (Volume v) }
-    ensures lasts { P.tells → LabelsLast row.now.device (walked (P.state plant.old) (P.state plant.old).bytes) (on (P.state plant.old) (Volume row.now.device)) (on (P.state plant.new) (Volume row.now.device)) }
-    ensures named { P.tells → IsNamed row.now (P.state plant.old) (P.state plant.new) }
-    ensures redone { P.tells → IfOk result (λ r. r.1 ≡ false → IsRedone row.now (walked (P.state plant.old) (P.state plant.old).bytes) (P.state plant.old) (P.state plant.new)) }
+    ensures treats { P.tells → TreatsLabel labelling row.now (walked (P.state plant.old) (P.state plant.old).bytes) (P.state plant.old) (P.state plant.new) }
+    ensures redone { P.tells → IfOk result (λ r. r.1 ≡ false → IsRedone labelling row.now (walked (P.state plant.old) (P.state plant.old).bytes) (P.state plant.old) (P.state plant.new)) }
     ensures memory { ¬ IsErrOf result NoMemory }
     ensures told { P.tells → (e : SiteErrorValue) → IsErrOf result e → IsWalkFault (P.state plant.old) e }
-    ensures fault { (d : AnyDevice) → IsErrOf result (Fault d) → Rose ((P.state plant.old).faults d) ((P.state plant.new).faults d) }
+    ensures fault { TellsFaults (P.state plant.old).faults (P.state plant.new).faults (λ d. IsErrOf result (Fault d)) }
 {
     let (tools, failed) = redo_items(plant, mark, row.device, tools)?;
     if failed {
         return Ok((tools, true));
     }
-    let failed = finish_volume(plant, row);
+    let failed = finish_volume(plant, row, labelling);
     Ok((tools, failed))
 }

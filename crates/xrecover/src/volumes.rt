@@ -1,7 +1,8 @@
 //! One volume of a duplex pair.
 
-ghost use Rattle.std.specs.Prelude.{◌≡◌, ◌≢◌, ◌≤◌, ◌<◌, ℕ, [], take, false, IfOk};
+ghost use Rattle.std.specs.Prelude.{◌≡◌, ◌≢◌, ◌≤◌, ◌<◌, ℕ, [], false, IfOk};
 ghost use Rattle.ckd_track.specs.SlotPlaces.{slot_end};
+ghost use Rattle.crash_plant.specs.declared.device.Device.{Device as AnyDevice};
 ghost use Rattle.crash_plant.specs.declared.device.Device.TheVariants.{Volume};
 ghost use Rattle.crash_plant.specs.Moments.{Follows, IsDurable, Kept, on};
 ghost use Rattle.crash_plant.specs.Calls.{NoneLent};
@@ -9,11 +10,11 @@ ghost use Rattle.xrc_journal.specs.Items.{AreItems, form_of};
 ghost use Rattle.xrc_journal.specs.Contents.{HasItem};
 ghost use Rattle.xrc_journal.specs.Jobs.{FailsByCount};
 ghost use Rattle.applier.specs.Slots.{DiffersInSlots, HoldsContent};
-ghost use Rattle.volume_label.specs.Labels.{label_spelling};
 ghost use Rattle.xrecover.specs.Works.{OfOneVolume, Works};
-ghost use Rattle.xrecover.specs.Redone.{Redoes};
-ghost use Rattle.xrecover.specs.Labels.{IsNamed, LabelsLast};
+ghost use Rattle.xrecover.specs.Redone.{BearsLabel, Redoes};
+ghost use Rattle.xrecover.specs.Labels.{TreatsLabel};
 
+use crate::Labelling;
 use applier::{VolumeJob, apply_volume};
 use ckd_track::Slot;
 use crash_plant::{Device, Disk, Plant};
@@ -80,7 +81,7 @@ pub(crate) fn apply_body<P: Plant>(plant: &mut P, device: u16, tools: Tools) -> 
     ensures body { result.0.body ≡ tools.body }
     ensures works { Works P.tells (OfOneVolume device (DiffersInSlots device tools.body.items)) (P.state plant.old) (P.state plant.new) }
     ensures fails { FailsByCount result.1 ((P.state plant.old).faults (Volume device)) ((P.state plant.new).faults (Volume device)) }
-    ensures counts { (v : ℕ) → v ≢ device → (P.state plant.new).faults (Volume v) ≡ (P.state plant.old).faults (Volume v) }
+    ensures counts { (d : AnyDevice) → d ≢ Volume device → (P.state plant.new).faults d ≡ (P.state plant.old).faults d }
     ensures content { P.tells → result.1 ≡ false → HoldsContent device tools.body.items ((P.state plant.old).bytes (Volume device)) ((P.state plant.new).bytes (Volume device)) }
 {
     let volume = plant.lend(device);
@@ -89,25 +90,27 @@ pub(crate) fn apply_body<P: Plant>(plant: &mut P, device: u16, tools: Tools) -> 
     (tools, failed)
 }
 
-/// Syncs the volume of a pair, and labels it as the primary. True where a call failed.
-pub(crate) fn finish_volume<P: Plant>(plant: &mut P, row: &PairRow) -> bool
+/// Syncs the volume of a pair, and then labels it where that is asked for. True where a call failed.
+pub(crate) fn finish_volume<P: Plant>(plant: &mut P, row: &PairRow, labelling: Labelling) -> bool
     requires home { NoneLent (P.state plant.old) }
     requires there { row.now.device < (P.state plant.old).volumes }
     requires long { 14 ≤ (P.state plant.old).lengths (Volume row.now.device) }
     ensures works { Works P.tells (OfOneVolume row.now.device (Redoes row.now.device [])) (P.state plant.old) (P.state plant.new) }
     ensures fails { FailsByCount result ((P.state plant.old).faults (Volume row.now.device)) ((P.state plant.new).faults (Volume row.now.device)) }
-    ensures counts { (v : ℕ) → v ≢ row.now.device → (P.state plant.new).faults (Volume v) ≡ (P.state plant.old).faults (Volume v) }
-    ensures label { P.tells → result ≡ false → take 14 ((P.state plant.new).bytes (Volume row.now.device)) ≡ label_spelling (record { serial = row.now.primary; cylinders = row.now.cylinders }) }
+    ensures counts { (d : AnyDevice) → d ≢ Volume row.now.device → (P.state plant.new).faults d ≡ (P.state plant.old).faults d }
+    ensures label { P.tells → result ≡ false → BearsLabel labelling row.now ((P.state plant.old).bytes (Volume row.now.device)) ((P.state plant.new).bytes (Volume row.now.device)) }
     ensures durable { P.tells → result ≡ false → IsDurable (on (P.state plant.new) (Volume row.now.device)) }
-    ensures lasts { P.tells → LabelsLast row.now.device [] (on (P.state plant.old) (Volume row.now.device)) (on (P.state plant.new) (Volume row.now.device)) }
-    ensures named { P.tells → IsNamed row.now (P.state plant.old) (P.state plant.new) }
+    ensures treats { P.tells → TreatsLabel labelling row.now [] (P.state plant.old) (P.state plant.new) }
 {
     let label = Label {
         serial: row.primary,
         cylinders: row.cylinders,
     };
     match plant.sync(Device::Volume(row.device)) {
-        Ok(()) => write_label(plant, row.device, &label).is_err(),
+        Ok(()) => match labelling {
+            Labelling::AsPrimary => write_label(plant, row.device, &label).is_err(),
+            Labelling::AsItIs => false,
+        },
         Err(_) => true,
     }
 }

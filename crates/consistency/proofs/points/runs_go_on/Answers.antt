@@ -11,9 +11,9 @@ pub returns-clause-passages : goal.returns-clause-passages
 returns-clause-passages g c first old = passages_go_on (g.P.Plant.state first) (g.P.Plant.state old) (g.P.Plant.state c.args.plant.now)
 
 pub returns-clause-replies : goal.returns-clause-replies
-returns-clause-replies g c told first old run grammar lines from points a goes reply works says =
-    replies_go_on run grammar lines from points a (g.P.Plant.state first) (g.P.Plant.state old) (g.P.Plant.state c.args.plant.now) goes reply g.P.Plant.tells told works says
+returns-clause-replies g c told first old run lines from points a goes reply works says =
+    replies_go_on run lines from points a (g.P.Plant.state first) (g.P.Plant.state old) (g.P.Plant.state c.args.plant.now) goes reply g.P.Plant.tells told works says
 
 pub returns-clause-fail : goal.returns-clause-fail
-returns-clause-fail g c told first old run grammar lines from points a goes reply works says =
-    replies_fail run grammar lines from points a (g.P.Plant.state first) (g.P.Plant.state old) (g.P.Plant.state c.args.plant.now) goes reply g.P.Plant.tells told works says
+returns-clause-fail g c told first old run lines from points a goes reply works says =
+    replies_fail run lines from points a (g.P.Plant.state first) (g.P.Plant.state old) (g.P.Plant.state c.args.plant.now) goes reply g.P.Plant.tells told works says

@@ -1,5 +1,5 @@
 use Rattle.std.proofs.Common.{sym, ◌∙◌}
-use Rattle.group_tests.proofs.Sitting.{may_join_next, reads_next}
+use Rattle.group_tests.proofs.Sitting.{may_join_next}
 use Rattle.group_tests.proofs.turns.read_all.Goals as goal
 
 pub join_batch_ref-joined-requires-clause-may : goal.join_batch_ref-joined-requires-clause-may

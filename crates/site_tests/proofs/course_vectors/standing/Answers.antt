@@ -17,7 +17,7 @@ returns-clause-reply c at = true≢false (ap has_reply (said at.answered at.part
     said (suc n) part is = is
 
 pub returns-clause-nothing : goal.returns-clause-nothing
-returns-clause-nothing c grammar answered before at_end a is asked = differ (sym (none_heard grammar answered before at_end [] (and_right at_end _ refl)) ∙ ap (next_line grammar answered before at_end) (sym is) ∙ asked.asks)
+returns-clause-nothing c answered before at_end a is asked = differ (sym (none_heard answered before at_end [] (and_right at_end _ refl)) ∙ ap (next_line answered before at_end) (sym is) ∙ asked.asks)
   where
     differ : {X : Type 0} {x : X} → (let a : Option X = None in let b : Option X = Some x in a ≡ b) → ⊥
     differ e = cc

@@ -1,5 +1,4 @@
 use Rattle.std.proofs.Common.{rules, ◌≡◌, inr, ℕ, List, Ok, Err, refl, sym, ap, subst, ◌∙◌, arith}
-use Rattle.script_lines.specs.Grammars.{asked_by}
 use Rattle.script_lines.specs.NextLines.{IsNextLine}
 use Rattle.xrc_session.specs.Runs.{RunsLines}
 use Rattle.xrc_session.specs.Steps.{AnswersLine}
@@ -165,7 +164,7 @@ returns-in_err-line-in-Ok-Line-clause-lines g c = λ told.
     let result = c.from_residual.result in
     let stops = given_on result e c.from_residual.ensures in
     subst (λ r. RunsLines g.P.Plant.tells g.S.Source.left c.args.run.now.session c.line.new.self c.args.traces.now c.line.new.traces (g.P.Plant.state c.args.plant.now) (g.P.Plant.state c.line.new.plant) r) (sym stops)
-    (line_stops h d told e (err_of c.line.result e _ c.in_err-line-in-Ok-Line.was run.cause) (subst (λ r. AnswersLine g.S.Source.left (asked_by c.in-Ok-Line.line) c.loop-number.run c.line.new.self c.loop-number.traces c.line.new.traces (g.P.Plant.state c.args.plant.now) (g.P.Plant.state c.next_line.new.plant) (g.P.Plant.state c.line.new.plant) r) c.in_err-line-in-Ok-Line.was (run.answers told c.args.plant.now)))
+    (line_stops h d told e (err_of c.line.result e _ c.in_err-line-in-Ok-Line.was run.cause) (subst (λ r. AnswersLine g.S.Source.left c.in-Ok-Line.line c.loop-number.run c.line.new.self c.loop-number.traces c.line.new.traces (g.P.Plant.state c.args.plant.now) (g.P.Plant.state c.next_line.new.plant) (g.P.Plant.state c.line.new.plant) r) c.in_err-line-in-Ok-Line.was (run.answers told c.args.plant.now)))
 
 pub returns-in_err-line-in-Ok-Line-clause-begins : goal.returns-in_err-line-in-Ok-Line-clause-begins
 returns-in_err-line-in-Ok-Line-clause-begins g c =
@@ -209,7 +208,7 @@ loop-number-preserved g c =
     let d = line_went_by h c.in-Ok-Line.line is c.in-Ok-Line.ensures.cause.ok run.same run.keeps (counts_fell (g.P.Plant.state c.next_line.new.plant) (g.P.Plant.state c.line.new.plant) c.line.result run.counts) run.went run.unheard run.begins run.labels in
     let ok = c.in_ok-line-in-Ok-Line in
     line_running h d (done_raises_none (g.P.Plant.state c.next_line.new.plant) (g.P.Plant.state c.line.new.plant) tt (subst (StopsByCount (g.P.Plant.state c.next_line.new.plant) (g.P.Plant.state c.line.new.plant)) ok.was run.counts)) ok.ensures.between ok.ensures.start.0 ok.ensures.start.1 ok.ensures.time ok.ensures.lanes
-    (λ told. subst (λ r. AnswersLine g.S.Source.left (asked_by c.in-Ok-Line.line) c.loop-number.run c.line.new.self c.loop-number.traces c.line.new.traces (g.P.Plant.state c.args.plant.now) (g.P.Plant.state c.next_line.new.plant) (g.P.Plant.state c.line.new.plant) r) ok.was (run.answers told c.args.plant.now)) (λ told none. ok.ensures.replies told none)
+    (λ told. subst (λ r. AnswersLine g.S.Source.left c.in-Ok-Line.line c.loop-number.run c.line.new.self c.loop-number.traces c.line.new.traces (g.P.Plant.state c.args.plant.now) (g.P.Plant.state c.next_line.new.plant) (g.P.Plant.state c.line.new.plant) r) ok.was (run.answers told c.args.plant.now)) (λ told none. ok.ensures.replies told none)
 
 pub unreachable-requires : goal.unreachable-requires
 unreachable-requires g c =

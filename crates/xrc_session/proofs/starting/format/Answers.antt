@@ -1,5 +1,5 @@
 -- A site is formatted, and the labels are read.
-use Rattle.std.proofs.Common.{Result, Ok, Err, refl, sym, subst, arith}
+use Rattle.std.proofs.Common.{◌≡◌, ◌∙◌, Result, Ok, Err, refl, sym, subst, arith}
 use Rattle.std.proofs.lemmas.Result.{IfOk-from_err}
 use Rattle.applier.proofs.Works.{lent_of_works, none_lent_lent}
 use Rattle.site_store.specs.Formats.{IsFormatted}
@@ -7,7 +7,7 @@ use Rattle.site_store.specs.Sites.{SiteState}
 use Rattle.xrc_status.specs.declared.stop.Stop.{Stop}
 use Rattle.xrc_status.specs.declared.stop.Stop.TheVariants as stops
 use Rattle.xrc_session.specs.Starting.{IsWorkOfStart}
-use Rattle.xrc_session.proofs.Formatted.{format_stops, labels_of_start, may_command, safe_new, shuts_or_starts, stands_still, store_of_format, work_goes_on, work_without}
+use Rattle.xrc_session.proofs.Formatted.{format_stops, format_unspent, formats_new, labels_of_start, may_command, safe_new, shuts_or_starts, stands_still, store_of_format, work_goes_on, work_without}
 use Rattle.xrc_session.proofs.Numbered.{given_on}
 use Rattle.xrc_session.proofs.starting.format.Goals as goal
 
@@ -31,7 +31,13 @@ stop_of_store-requires g c d fault = store_of_format (g.P.Plant.state c.args.pla
 pub returns-in-Err-clause-safe : goal.returns-in-Err-clause-safe
 returns-in-Err-clause-safe g c told =
     let b = c.args.beginning in
-    shuts_or_starts b.session b.level b.at (g.P.Plant.state c.args.plant.now) (g.P.Plant.state c.format.new.plant) (c.format.ensures.moments told)
+    let old = g.P.Plant.state c.args.plant.now in
+    let new = g.P.Plant.state c.format.new.plant in
+    record {
+      safe = shuts_or_starts b.session b.level b.at g.P.Plant.tells told old new c.format.ensures.others (c.format.ensures.moments told);
+      spent = λ is. let stop : c.stop_of_store.result ≡ stops.Spent = cc is in absurd (format_unspent old new c.format.result c.in-Err.error c.in-Err.is c.format.ensures.cause (sym c.stop_of_store.ensures ∙ stop));
+      formats = tt;
+    }
 
 pub returns-in-Err-clause-works : goal.returns-in-Err-clause-works
 returns-in-Err-clause-works g c =
@@ -77,8 +83,12 @@ returns-in_err-name_devices-clause-stands g c told = IfOk-from_err c.from_residu
 pub returns-in_err-name_devices-clause-safe : goal.returns-in_err-name_devices-clause-safe
 returns-in_err-name_devices-clause-safe g c told =
     let b = c.args.beginning in
-    safe_new g.P.Plant.tells b.session b.level b.controls b.at (g.P.Plant.state c.args.plant.now) (g.P.Plant.state c.format.new.plant) (g.P.Plant.state c.name_devices.new.plant) c.requires.home c.format.ensures.others c.name_devices.ensures.only c.name_devices.ensures.stay told
-    (c.format.ensures.moments told)
+    record {
+      safe = safe_new g.P.Plant.tells b.session b.level b.controls b.at (g.P.Plant.state c.args.plant.now) (g.P.Plant.state c.format.new.plant) (g.P.Plant.state c.name_devices.new.plant) c.requires.home c.format.ensures.others c.name_devices.ensures.only c.name_devices.ensures.stay told
+          (c.format.ensures.moments told);
+      spent = λ is. let clash = sym (given_on c.from_residual.result stops.NoMemory c.from_residual.ensures) ∙ is in absurd (cc clash);
+      formats = IfOk-from_err c.from_residual.result _ c.from_residual.ensures.0;
+    }
 
 pub returns-in_err-name_devices-clause-works : goal.returns-in_err-name_devices-clause-works
 returns-in_err-name_devices-clause-works g c =
@@ -120,8 +130,13 @@ returns-clause-stands g c told =
 pub returns-clause-safe : goal.returns-clause-safe
 returns-clause-safe g c told =
     let b = c.args.beginning in
-    safe_new g.P.Plant.tells b.session b.level b.controls b.at (g.P.Plant.state c.args.plant.now) (g.P.Plant.state c.format.new.plant) (g.P.Plant.state c.name_devices.new.plant) c.requires.home c.format.ensures.others c.name_devices.ensures.only c.name_devices.ensures.stay told
-    (c.format.ensures.moments told)
+    record {
+      safe = safe_new g.P.Plant.tells b.session b.level b.controls b.at (g.P.Plant.state c.args.plant.now) (g.P.Plant.state c.format.new.plant) (g.P.Plant.state c.name_devices.new.plant) c.requires.home c.format.ensures.others c.name_devices.ensures.only c.name_devices.ensures.stay told
+          (c.format.ensures.moments told);
+      spent = λ is. absurd (cc is);
+      formats = formats_new g.P.Plant.tells b.session b.level b.controls b.at (g.P.Plant.state c.args.plant.now) (g.P.Plant.state c.format.new.plant) (g.P.Plant.state c.name_devices.new.plant) c.requires.home c.format.ensures.others c.name_devices.ensures.only c.name_devices.ensures.stay told
+          (c.format.ensures.moments told) c.in-Ok.site c.in-Ok.ensures.ok (c.in-Ok.ensures.stands told);
+    }
 
 pub returns-clause-works : goal.returns-clause-works
 returns-clause-works g c =

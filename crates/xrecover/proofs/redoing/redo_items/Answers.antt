@@ -1,7 +1,9 @@
 use Rattle.std.proofs.Common.{◌≡◌, ◌++◌, inl, inr, ℕ, Bool, true, List, Option, Some, None, IfSome, Result, Ok, Err, refl, sym, ap, subst, ◌∙◌, arith, rules}
-use Rattle.std.proofs.lemmas.Bool.{cases_eq}
 use Rattle.xrc_edge.proofs.Outcomes.{on_err}
 use Rattle.tod_stamp.specs.declared.stamp.Stamp.{Stamp}
+use Rattle.std.specs.Prelude.{IsErrOf}
+use Rattle.crash_plant.proofs.Choices.{device_cases}
+use Rattle.crash_plant.specs.declared.device.Device.{Device}
 use Rattle.crash_plant.specs.declared.device.Device.TheVariants.{Journal, Volume}
 use Rattle.crash_plant.specs.declared.spot.Spot.{Spot}
 use Rattle.xrc_journal.specs.Items.{form_of, none_earlier}
@@ -10,13 +12,16 @@ use Rattle.xrc_journal.specs.Records.{Found, walk_one}
 use Rattle.xrc_journal.specs.Bodies.{Held}
 use Rattle.applier.specs.Slots.{DiffersInSlots, HoldsContent}
 use Rattle.site_means.specs.declared.site_error.SiteError.{SiteError}
+use Rattle.site_means.specs.declared.site_error.SiteError.TheVariants.{Fault}
 use Rattle.site_means.specs.Images.{shape_of}
 use Rattle.site_means.specs.Sight.{walked}
 use Rattle.xrecover.specs.Again.{FoundAgain, IsBehind}
 use Rattle.xrecover.specs.Redone.{Draws}
 use Rattle.xrecover.proofs.Again.{Next, all_again, fault_again, found_same, of_walk, reads_again, reads_first, reads_next}
 use Rattle.xrecover.proofs.Contents.{Done, done_then}
-use Rattle.xrecover.proofs.Fails.{counted_same, counted_then}
+use Rattle.xrecover.specs.Answers.{TellsFaults}
+use Rattle.xrecover.specs.declared.volumes.Tools.{Tools}
+use Rattle.xrecover.proofs.Fails.{counted_same, counted_then, no_volume, none_rose, tells_none, tells_read}
 use Rattle.xrecover.proofs.Relations.{items_within}
 use Rattle.xrecover.proofs.Labels.{label_applied, label_here, label_read}
 use Rattle.xrecover.proofs.Works.{then_applied, then_read, works_here}
@@ -27,7 +32,7 @@ loop-tools-init g c =
     let old = g.P.Plant.state c.args.plant.now in
     record {
       works = works_here g.P.Plant.tells c.args.device (walked old old.bytes) old;
-      counts = λ v. refl;
+      counts = λ d. refl;
       label = λ told. label_here g.P.Plant.tells told old c.args.device;
       set = c.requires.spot.set;
       place = omega (arith, c.requires.spot.room);
@@ -39,7 +44,7 @@ pub returns-in_err-time-clause-works : goal.returns-in_err-time-clause-works
 returns-in_err-time-clause-works g c = then_read g.P.Plant.tells c.args.device _ _ _ _ c.loop-tools.invariant.works c.read_again.ensures.reads
 
 pub returns-in_err-time-clause-counts : goal.returns-in_err-time-clause-counts
-returns-in_err-time-clause-counts g c = λ v differ. c.read_again.ensures.reads.only.others_faults (Volume v) (λ is. is) ∙ c.loop-tools.invariant.counts v
+returns-in_err-time-clause-counts g c = λ v differ. c.read_again.ensures.reads.only.others_faults (Volume v) (λ is. is) ∙ c.loop-tools.invariant.counts (Volume v)
 
 pub returns-in_err-time-clause-label : goal.returns-in_err-time-clause-label
 returns-in_err-time-clause-label g c = λ told.
@@ -64,7 +69,7 @@ pub returns-in_default-clause-works : goal.returns-in_default-clause-works
 returns-in_default-clause-works g c = then_read g.P.Plant.tells c.args.device _ _ _ _ c.loop-tools.invariant.works c.read_again.ensures.reads
 
 pub returns-in_default-clause-counts : goal.returns-in_default-clause-counts
-returns-in_default-clause-counts g c = λ v differ. c.read_again.ensures.reads.only.others_faults (Volume v) (λ is. is) ∙ c.loop-tools.invariant.counts v
+returns-in_default-clause-counts g c = λ v differ. c.read_again.ensures.reads.only.others_faults (Volume v) (λ is. is) ∙ c.loop-tools.invariant.counts (Volume v)
 
 pub returns-in_default-clause-label : goal.returns-in_default-clause-label
 returns-in_default-clause-label g c = λ told.
@@ -109,7 +114,7 @@ returns-then-failed-clause-works g c =
     of_walk (shape_of old) old.bytes items its v (old.bytes (Volume v)) (cur.bytes (Volume v)) (cur.bytes (Volume v)) at c.in-Some.after last c.in-Some.time.0 r n)
 
 pub returns-then-failed-clause-counts : goal.returns-then-failed-clause-counts
-returns-then-failed-clause-counts g c = λ v differ. c.apply_body-again.ensures.counts v differ ∙ c.read_again.ensures.reads.only.others_faults (Volume v) (λ is. is) ∙ c.loop-tools.invariant.counts v
+returns-then-failed-clause-counts g c = λ v differ. c.apply_body-again.ensures.counts (Volume v) (λ is. differ cc) ∙ c.read_again.ensures.reads.only.others_faults (Volume v) (λ is. is) ∙ c.loop-tools.invariant.counts (Volume v)
 
 pub returns-then-failed-clause-label : goal.returns-then-failed-clause-label
 returns-then-failed-clause-label g c = λ told.
@@ -122,10 +127,10 @@ returns-then-failed-clause-label g c = λ told.
     (label_read g.P.Plant.tells told v old cur mid ((inv.works.elapses told).kept (Volume v)).later (inv.label told) c.read_again.ensures.reads) c.apply_body-again.ensures.works
 
 pub returns-in_err-time-clause-stood : goal.returns-in_err-time-clause-stood
-returns-in_err-time-clause-stood g c = on_err _ (c.read_again.ensures.reads.only.others_faults (Volume c.args.device) (λ is. is) ∙ c.loop-tools.invariant.counts c.args.device)
+returns-in_err-time-clause-stood g c = on_err _ (c.read_again.ensures.reads.only.others_faults (Volume c.args.device) (λ is. is) ∙ c.loop-tools.invariant.counts (Volume c.args.device))
 
 pub returns-in_default-clause-failed : goal.returns-in_default-clause-failed
-returns-in_default-clause-failed g c = counted_same _ _ (c.read_again.ensures.reads.only.others_faults (Volume c.args.device) (λ is. is) ∙ c.loop-tools.invariant.counts c.args.device)
+returns-in_default-clause-failed g c = counted_same _ _ (c.read_again.ensures.reads.only.others_faults (Volume c.args.device) (λ is. is) ∙ c.loop-tools.invariant.counts (Volume c.args.device))
 
 pub returns-then-failed-clause-failed : goal.returns-then-failed-clause-failed
 returns-then-failed-clause-failed g c =
@@ -133,8 +138,34 @@ returns-then-failed-clause-failed g c =
     let old = g.P.Plant.state c.args.plant.now in
     let mid = g.P.Plant.state c.read_again.new.plant in
     let new = g.P.Plant.state c.apply_body-again.new.plant in
-    counted_then true (old.faults (Volume v)) (mid.faults (Volume v)) (new.faults (Volume v)) (c.read_again.ensures.reads.only.others_faults (Volume v) (λ is. is) ∙ c.loop-tools.invariant.counts v)
+    counted_then true (old.faults (Volume v)) (mid.faults (Volume v)) (new.faults (Volume v)) (c.read_again.ensures.reads.only.others_faults (Volume v) (λ is. is) ∙ c.loop-tools.invariant.counts (Volume v))
     (subst (λ (h : Bool). FailsByCount h (mid.faults (Volume v)) (new.faults (Volume v))) c.if-failed.true c.apply_body-again.ensures.fails)
+
+pub returns-in_err-time-clause-fault : goal.returns-in_err-time-clause-fault
+returns-in_err-time-clause-fault g c =
+    let old = g.P.Plant.state c.args.plant.now in
+    let cur = g.P.Plant.state c.loop-tools.plant in
+    let mid = g.P.Plant.state c.read_again.new.plant in
+    let e = c.in_err-time.field-0.0 in
+    let is : c.from_residual.result ≡ Err e = search rules in
+    subst (λ (r : Result (Tools × Bool) SiteError). TellsFaults old.faults mid.faults (λ d. IsErrOf r (Fault d))) (sym is)
+    (tells_read {X = Option (Stamp × Spot)} {Y = Tools × Bool} old.faults cur.faults mid.faults e c.loop-tools.invariant.counts c.in_err-time.ensures.fails)
+
+pub returns-in_default-clause-fault : goal.returns-in_default-clause-fault
+returns-in_default-clause-fault g c =
+    let old = g.P.Plant.state c.args.plant.now in
+    let cur = g.P.Plant.state c.loop-tools.plant in
+    let mid = g.P.Plant.state c.read_again.new.plant in
+    tells_none old.faults mid.faults _ (λ (d : Device). Fault d) (λ d here. none_rose cur.faults mid.faults _ c.in_ok-time.ensures.fails d ∙ c.loop-tools.invariant.counts d)
+
+pub returns-then-failed-clause-fault : goal.returns-then-failed-clause-fault
+returns-then-failed-clause-fault g c =
+    let old = g.P.Plant.state c.args.plant.now in
+    let cur = g.P.Plant.state c.loop-tools.plant in
+    let mid = g.P.Plant.state c.read_again.new.plant in
+    let new = g.P.Plant.state c.apply_body-again.new.plant in
+    tells_none old.faults new.faults _ (λ (d : Device). Fault d)
+    (λ d here. c.apply_body-again.ensures.counts d (no_volume d c.args.device here) ∙ none_rose cur.faults mid.faults _ c.in_ok-time.ensures.fails d ∙ c.loop-tools.invariant.counts d)
 
 pub loop-tools-preserved : goal.loop-tools-preserved
 loop-tools-preserved g c =
@@ -169,14 +200,14 @@ loop-tools-preserved g c =
     let differs = subst (λ (l : List ℕ). DiffersInSlots v its l e) unread ((c.apply_body-again.ensures.works.bytes told (Volume v)).0 refl) in
     let holds = subst (λ (l : List ℕ). HoldsContent v its l e) unread (c.apply_body-again.ensures.content told c.if-failed.false) in
     done_then cur v r.before its a b e r.done c.read_again.ensures.keep (λ x has. omega (arith, items_within cur v x none_earlier its c.read_again.ensures.keep has, inv.works.site.lengths (Volume v), size)) differs holds in
-    let applied : (w : ℕ) → new.faults (Volume w) ≡ mid.faults (Volume w) = λ w. elim (cases_eq w v) [
-      | inl here ↦ subst (λ (n : ℕ). new.faults (Volume n) ≡ mid.faults (Volume n)) (sym here) (c.apply_body-again.ensures.fails.same c.if-failed.false)
-      | inr differ ↦ c.apply_body-again.ensures.counts w differ
+    let applied : (d : Device) → new.faults d ≡ mid.faults d = λ d. elim (device_cases d (Volume v)) [
+      | inl here ↦ subst (λ (e : Device). new.faults e ≡ mid.faults e) (sym here) (c.apply_body-again.ensures.fails.same c.if-failed.false)
+      | inr other ↦ c.apply_body-again.ensures.counts d other
     ] in
     record {
       works = then_applied g.P.Plant.tells v items its _ _ _ (then_read g.P.Plant.tells v items _ _ _ inv.works c.read_again.ensures.reads) c.apply_body-again.ensures.works
           (λ told. of_walk (shape_of old) old.bytes items its v a b b at after last time.0 (inv.reads told) (next told));
-      counts = λ w. applied w ∙ c.read_again.ensures.reads.only.others_faults (Volume w) (λ is. is) ∙ inv.counts w;
+      counts = λ d. applied d ∙ none_rose cur.faults mid.faults _ c.in_ok-time.ensures.fails d ∙ inv.counts d;
       label = λ told. label_applied g.P.Plant.tells told v its old mid new (omega (arith, ((inv.works.elapses told).kept (Volume v)).later, ((c.read_again.ensures.reads.only.elapses told).kept (Volume v)).later))
           (label_read g.P.Plant.tells told v old cur mid ((inv.works.elapses told).kept (Volume v)).later (inv.label told) c.read_again.ensures.reads) c.apply_body-again.ensures.works;
       set = omega (arith, behind.set, reading.journals, applying.journals);

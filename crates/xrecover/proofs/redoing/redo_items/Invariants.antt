@@ -1,4 +1,5 @@
-use Rattle.std.proofs.Common.{◌≡◌, ◌<◌, ◌-◌, ◌^◌, ℕ}
+use Rattle.std.proofs.Common.{◌≡◌, ◌<◌, ◌-◌, ◌^◌}
+use Rattle.crash_plant.specs.declared.device.Device.{Device}
 use Rattle.crash_plant.specs.declared.device.Device.TheVariants.{Journal, Volume}
 use Rattle.crash_plant.specs.Moments.{on}
 use Rattle.site_means.specs.Images.{shape_of}
@@ -13,7 +14,7 @@ use Rattle.xrecover.proofs.redoing.redo_items.Given as goal
 abbrev pub invariant-loop-tools : goal.invariant-loop-tools
 invariant-loop-tools g l = record {
   works : Works g.P.Plant.tells (OfOneVolume l.device (Redoes l.device (walked (g.P.Plant.state l.fn.plant) (g.P.Plant.state l.fn.plant).bytes))) (g.P.Plant.state l.fn.plant) (g.P.Plant.state l.plant);
-  counts : (v : ℕ) → (g.P.Plant.state l.plant).faults (Volume v) ≡ (g.P.Plant.state l.fn.plant).faults (Volume v);
+  counts : (d : Device) → (g.P.Plant.state l.plant).faults d ≡ (g.P.Plant.state l.fn.plant).faults d;
   label : g.P.Plant.tells → KeepsLabel (on (g.P.Plant.state l.fn.plant) (Volume l.device)) (on (g.P.Plant.state l.plant) (Volume l.device));
   set : l.at.set < (g.P.Plant.state l.plant).journals;
   place : l.at.place < (g.P.Plant.state l.plant).lengths (Journal l.at.set);

@@ -1,13 +1,14 @@
-use Rattle.std.proofs.Common.{◌∙◌, inl, [], refl}
+use Rattle.std.proofs.Common.{◌∙◌, [], refl}
+use Rattle.crash_plant.specs.declared.device.Device.{Device}
 use Rattle.crash_plant.specs.declared.device.Device.TheVariants.{Volume}
-use Rattle.crash_plant.specs.Moments.{on}
+use Rattle.site_means.specs.declared.site_error.SiteError.TheVariants.{Fault}
 use Rattle.site_means.specs.Sight.{walked}
 use Rattle.xrecover.specs.Works.{OfOneVolume}
 use Rattle.xrecover.specs.Redone.{Redoes}
 use Rattle.xrecover.proofs.Relations.{one_then, redoes_more, redoes_then}
 use Rattle.xrecover.proofs.Contents.{draws_behind}
-use Rattle.xrecover.proofs.Fails.{counted_then}
-use Rattle.xrecover.proofs.Labels.{label_kept, last_redone, named_then}
+use Rattle.xrecover.proofs.Fails.{counted_then, no_volume, tells_none}
+use Rattle.xrecover.proofs.Labels.{bears_then, treats_kept, treats_redone}
 use Rattle.xrecover.proofs.Works.{works_trans}
 use Rattle.xrecover.proofs.redoing.redo_pair.Goals as goal
 
@@ -25,7 +26,7 @@ returns-clause-works g c =
     c.redo_items.ensures.works c.finish_volume-failed.ensures.works
 
 pub returns-clause-counts : goal.returns-clause-counts
-returns-clause-counts g c = λ v differ. c.finish_volume-failed.ensures.counts v differ ∙ c.redo_items.ensures.counts v differ
+returns-clause-counts g c = λ v differ. c.finish_volume-failed.ensures.counts (Volume v) (λ is. differ cc) ∙ c.redo_items.ensures.counts v differ
 
 pub returns-clause-failed : goal.returns-clause-failed
 returns-clause-failed g c = counted_then _ _ _ _ (c.in_ok-tools.ensures.failed.same c.if-failed.false) c.finish_volume-failed.ensures.fails
@@ -39,13 +40,13 @@ returns-clause-redone g c = λ told good.
     let items = walked old old.bytes in
     record {
       draws = draws_behind v items (old.bytes (Volume v)) (mid.bytes (Volume v)) (new.bytes (Volume v)) (c.in_ok-tools.ensures.content told c.if-failed.false) ((c.finish_volume-failed.ensures.works.bytes told (Volume v)).0 refl);
-      label = c.finish_volume-failed.ensures.label told good;
+      label = bears_then c.args.labelling c.args.row.now (old.bytes (Volume v)) (mid.bytes (Volume v)) (new.bytes (Volume v)) (c.redo_items.ensures.label told).bytes (c.finish_volume-failed.ensures.label told good);
       durable = c.finish_volume-failed.ensures.durable told good;
     }
 
 -- The label comes behind the items of the walk.
-pub returns-clause-lasts : goal.returns-clause-lasts
-returns-clause-lasts g c = λ told.
+pub returns-clause-treats : goal.returns-clause-treats
+returns-clause-treats g c = λ told.
     let old = g.P.Plant.state c.args.plant.now in
     let mid = g.P.Plant.state c.redo_items.new.plant in
     let new = g.P.Plant.state c.finish_volume-failed.new.plant in
@@ -53,30 +54,24 @@ returns-clause-lasts g c = λ told.
     let items = walked old old.bytes in
     let redo = c.redo_items.ensures in
     let fin = c.finish_volume-failed.ensures in
-    last_redone v items (on old (Volume v)) (on mid (Volume v)) (on new (Volume v)) ((redo.works.elapses told).kept (Volume v)).later (redo.label told).moments
+    treats_redone c.args.labelling c.args.row.now items old mid new ((redo.works.elapses told).kept (Volume v)).later (redo.label told)
     (draws_behind v items (old.bytes (Volume v)) (mid.bytes (Volume v)) (new.bytes (Volume v)) (c.in_ok-tools.ensures.content told c.if-failed.false) ((fin.works.bytes told (Volume v)).0 refl))
-    ((fin.works.elapses told).kept (Volume v)) (fin.lasts told)
+    (redo.works.faults (Volume v)) ((fin.works.elapses told).kept (Volume v)) (fin.treats told)
 
-pub returns-in_err-tools-clause-lasts : goal.returns-in_err-tools-clause-lasts
-returns-in_err-tools-clause-lasts g c = λ told.
+pub returns-in_err-tools-clause-treats : goal.returns-in_err-tools-clause-treats
+returns-in_err-tools-clause-treats g c = λ told.
     let old = g.P.Plant.state c.args.plant.now in
-    let v = c.args.row.now.device in
-    label_kept v (walked old old.bytes) (on old (Volume v)) (on (g.P.Plant.state c.redo_items.new.plant) (Volume v)) (c.redo_items.ensures.label told).moments
+    treats_kept c.args.labelling c.args.row.now (walked old old.bytes) old (g.P.Plant.state c.redo_items.new.plant) (c.redo_items.ensures.label told)
 
-pub returns-then-failed-clause-lasts : goal.returns-then-failed-clause-lasts
-returns-then-failed-clause-lasts g c = λ told.
+pub returns-then-failed-clause-treats : goal.returns-then-failed-clause-treats
+returns-then-failed-clause-treats g c = λ told.
     let old = g.P.Plant.state c.args.plant.now in
-    let v = c.args.row.now.device in
-    label_kept v (walked old old.bytes) (on old (Volume v)) (on (g.P.Plant.state c.redo_items.new.plant) (Volume v)) (c.redo_items.ensures.label told).moments
+    treats_kept c.args.labelling c.args.row.now (walked old old.bytes) old (g.P.Plant.state c.redo_items.new.plant) (c.redo_items.ensures.label told)
 
-pub returns-clause-named : goal.returns-clause-named
-returns-clause-named g c = λ told.
-    let redo = c.redo_items.ensures in
-    named_then c.args.row.now (g.P.Plant.state c.args.plant.now) (g.P.Plant.state c.redo_items.new.plant) (g.P.Plant.state c.finish_volume-failed.new.plant) (redo.label told).bytes (redo.works.faults (Volume c.args.row.now.device))
-    (c.finish_volume-failed.ensures.named told)
+-- ---- faults
 
-pub returns-in_err-tools-clause-named : goal.returns-in_err-tools-clause-named
-returns-in_err-tools-clause-named g c = λ told quiet. inl (c.redo_items.ensures.label told).bytes
+pub returns-then-failed-clause-fault : goal.returns-then-failed-clause-fault
+returns-then-failed-clause-fault g c = tells_none _ _ _ (λ (d : Device). Fault d) (λ d here. c.in_ok-tools.ensures.fault.others d here (λ is. cc))
 
-pub returns-then-failed-clause-named : goal.returns-then-failed-clause-named
-returns-then-failed-clause-named g c = λ told quiet. inl (c.redo_items.ensures.label told).bytes
+pub returns-clause-fault : goal.returns-clause-fault
+returns-clause-fault g c = tells_none _ _ _ (λ (d : Device). Fault d) (λ d here. c.finish_volume-failed.ensures.counts d (no_volume d c.args.row.now.device here) ∙ c.in_ok-tools.ensures.fault.others d here (λ is. cc))

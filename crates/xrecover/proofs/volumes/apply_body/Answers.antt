@@ -1,5 +1,4 @@
 use Rattle.std.proofs.Common.{◌∙◌, arith}
-use Rattle.crash_plant.specs.declared.device.Device.TheVariants.{Volume}
 use Rattle.xrc_journal.specs.Items.{none_earlier}
 use Rattle.applier.specs.Slots.{DiffersInSlots}
 use Rattle.applier.proofs.InSlots.{differs_here}
@@ -21,4 +20,4 @@ returns-clause-works g c =
     (λ told. e.past (c.lend-volume.ensures.tells told)) e.cause.later (λ told. e.bytes (c.lend-volume.ensures.tells told)) (λ told. e.moments (c.lend-volume.ensures.tells told))
 
 pub returns-clause-counts : goal.returns-clause-counts
-returns-clause-counts g c = λ v differ. c.give_back.ensures.rest.others_faults (Volume v) (λ is. differ cc) ∙ c.lend-volume.ensures.lent.rest.others_faults (Volume v) (λ is. differ cc)
+returns-clause-counts g c = λ d differ. c.give_back.ensures.rest.others_faults d differ ∙ c.lend-volume.ensures.lent.rest.others_faults d differ

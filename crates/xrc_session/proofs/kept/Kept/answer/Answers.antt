@@ -1,6 +1,5 @@
 -- A line's command is done or refused, and an end is marked.
 use Rattle.std.proofs.Common.{◌∙◌, true, false, Result, subst, sym, true≢false}
-use Rattle.script_lines.specs.Grammars.{asked_by}
 use Rattle.xrc_status.specs.declared.stop.Stop.{Stop}
 use Rattle.xrc_session.specs.declared.answering.LineAnswer.{LineAnswer}
 use Rattle.xrc_session.specs.Answering.{AnswersCommands, MarksOn}
@@ -21,7 +20,7 @@ returns-in_err-answered-clause-works g c =
 pub returns-in_err-answered-clause-answers : goal.returns-in_err-answered-clause-answers
 returns-in_err-answered-clause-answers g c told began =
     let stop = c.in_err-answered.field-0.0 in
-    subst (λ (r : Result LineAnswer Stop). AnswersCommands (asked_by c.args.line.now) c.args.self.now c.command.new.self c.args.site.now c.command.new.site (g.P.Plant.state began) (g.P.Plant.state c.args.plant.now) (g.P.Plant.state c.command.new.plant) r)
+    subst (λ (r : Result LineAnswer Stop). AnswersCommands c.args.line.now c.args.self.now c.command.new.self c.args.site.now c.command.new.site (g.P.Plant.state began) (g.P.Plant.state c.args.plant.now) (g.P.Plant.state c.command.new.plant) r)
     (c.in_err-answered.was ∙ sym (given_on c.from_residual.result stop c.from_residual.ensures)) (c.command.ensures.answers told began)
 
 -- ---- it is no end
@@ -40,7 +39,7 @@ returns-then-not-is_end-clause-works g c =
 
 pub returns-then-not-is_end-clause-answers : goal.returns-then-not-is_end-clause-answers
 returns-then-not-is_end-clause-answers g c told began =
-    subst (λ (r : Result LineAnswer Stop). AnswersCommands (asked_by c.args.line.now) c.args.self.now c.command.new.self c.args.site.now c.command.new.site (g.P.Plant.state began) (g.P.Plant.state c.args.plant.now) (g.P.Plant.state c.command.new.plant) r)
+    subst (λ (r : Result LineAnswer Stop). AnswersCommands c.args.line.now c.args.self.now c.command.new.self c.args.site.now c.command.new.site (g.P.Plant.state began) (g.P.Plant.state c.args.plant.now) (g.P.Plant.state c.command.new.plant) r)
     c.in_ok-answered.was (c.command.ensures.answers told began)
 
 -- ---- it is marked
@@ -72,10 +71,10 @@ returns-in_err-mark-clause-answers g c told began =
     let old = g.P.Plant.state c.args.plant.now in
     let mid = g.P.Plant.state c.command.new.plant in
     let new = g.P.Plant.state c.mark.new.plant in
-    subst (λ (r : Result LineAnswer Stop). AnswersCommands (asked_by c.args.line.now) c.args.self.now c.command.new.self c.args.site.now c.mark.new.site was old new r) (sym (given_on c.from_residual-in_err-mark.result stop c.from_residual-in_err-mark.ensures))
+    subst (λ (r : Result LineAnswer Stop). AnswersCommands c.args.line.now c.args.self.now c.command.new.self c.args.site.now c.mark.new.site was old new r) (sym (given_on c.from_residual-in_err-mark.result stop c.from_residual-in_err-mark.ensures))
     (end_stops g.P.Plant.tells told c.args.line.now c.args.self.now c.command.new.self c.args.site.now c.command.new.site c.mark.new.site was old mid new c.in_ok-answered.answered c.in_ok-answered.ensures.site c.requires.flag (sym c.is_end.ensures ∙ c.if-not-is_end.false)
     c.command.ensures.works.works c.mark.ensures.works.works
-    (subst (λ (r : Result LineAnswer Stop). AnswersCommands (asked_by c.args.line.now) c.args.self.now c.command.new.self c.args.site.now c.command.new.site was old mid r) c.in_ok-answered.was (c.command.ensures.answers told began))
+    (subst (λ (r : Result LineAnswer Stop). AnswersCommands c.args.line.now c.args.self.now c.command.new.self c.args.site.now c.command.new.site was old mid r) c.in_ok-answered.was (c.command.ensures.answers told began))
     stop (subst (λ (r : Result (Unit {0}) Stop). MarksOn true c.command.new.site c.mark.new.site was mid new r) c.in_err-mark.was (c.mark.ensures.marks told began)))
 
 pub returns-clause-site : goal.returns-clause-site
@@ -112,5 +111,5 @@ returns-clause-answers g c told began =
     let new = g.P.Plant.state c.mark.new.plant in
     end_done g.P.Plant.tells told c.args.line.now c.args.self.now c.command.new.self c.args.site.now c.command.new.site c.mark.new.site was old mid new c.in_ok-answered.answered c.in_ok-answered.ensures.site c.requires.flag (sym c.is_end.ensures ∙ c.if-not-is_end.false)
     c.command.ensures.works.works c.mark.ensures.works.works
-    (subst (λ (r : Result LineAnswer Stop). AnswersCommands (asked_by c.args.line.now) c.args.self.now c.command.new.self c.args.site.now c.command.new.site was old mid r) c.in_ok-answered.was (c.command.ensures.answers told began))
+    (subst (λ (r : Result LineAnswer Stop). AnswersCommands c.args.line.now c.args.self.now c.command.new.self c.args.site.now c.command.new.site was old mid r) c.in_ok-answered.was (c.command.ensures.answers told began))
     c.in_ok-mark.ensures.site (subst (λ (r : Result (Unit {0}) Stop). MarksOn true c.command.new.site c.mark.new.site was mid new r) c.in_ok-mark.was (c.mark.ensures.marks told began))

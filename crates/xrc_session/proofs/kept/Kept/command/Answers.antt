@@ -3,7 +3,6 @@ use Rattle.std.proofs.Common.{◌≡◌, ◌∙◌, ℕ, List, Result, Ok, Err, 
 use Rattle.std.specs.Option.{option_map}
 use Rattle.pair_table.specs.Tables.{KeepsRows, Table}
 use Rattle.pair_table.specs.declared.row.PairRow.{PairRow}
-use Rattle.script_lines.specs.Grammars.{asked_by}
 use Rattle.xrc_status.specs.declared.stop.Stop.{Stop}
 use Rattle.xrc_session.specs.declared.answering.LineAnswer.{LineAnswer}
 use Rattle.xrc_session.specs.Answering.{AnswersCommands, ControlsCount, change_result, group_taken}
@@ -33,7 +32,7 @@ returns-in_err-answer-clause-answers g c told began =
     let site = c.command-done.new.self in
     let plant = g.P.Plant.state c.args.plant.now in
     let left = without_memory (site ≡ c.args.site.now) c.command-done.result stop (sym c.answer_of.ensures ∙ c.in_err-answer.was) c.command-done.ensures.err in
-    subst (λ (r : Result LineAnswer Stop). AnswersCommands (asked_by c.args.line.now) c.args.self.now (record c.args.self.now { before = c.copy.new.self }) c.args.site.now site (g.P.Plant.state began) plant plant r) (sym (given_on c.from_residual.result stop c.from_residual.ensures))
+    subst (λ (r : Result LineAnswer Stop). AnswersCommands c.args.line.now c.args.self.now (record c.args.self.now { before = c.copy.new.self }) c.args.site.now site (g.P.Plant.state began) plant plant r) (sym (given_on c.from_residual.result stop c.from_residual.ensures))
     (stops_in_runs g.P.Plant.tells c.args.line.now c.args.self.now (record c.args.self.now { before = c.copy.new.self }) c.args.site.now site plant c.requires.may c.requires.flag left.0 refl stop (g.P.Plant.state began))
 
 -- ---- it was done

@@ -3,21 +3,21 @@ use Rattle.std.proofs.Common.{◌∙◌, Option, Result, Ok, Err, refl, sym, ap,
 use Rattle.std.specs.Prelude.{IsSomeAnd}
 use Rattle.std.proofs.lemmas.Result.{IfOk-from_err}
 use Rattle.crash_plant.specs.declared.device.Device.TheVariants.{Control, Volume}
-use Rattle.crash_plant.specs.Choices.{AtEveryMoment}
+use Rattle.crash_plant.specs.Choices.{AtEveryMoment, AtNow}
 use Rattle.pair_table.specs.Naming.{Naming}
 use Rattle.group_state.specs.Groups.{Group}
 use Rattle.site_store.specs.Sites.{SiteState}
 use Rattle.site_store.proofs.MarkFits.{reads_choice}
 use Rattle.xrc_status.specs.declared.stop.Stop.{Stop}
 use Rattle.xrc_session.specs.Between.{IsReadyForEpoch}
-use Rattle.xrc_session.specs.Starting.{IsSafeThroughout, IsWorkOfStart, MeansStart}
+use Rattle.xrc_session.specs.Starting.{IsSafeStart, IsSafeThroughout, IsWorkOfStart, MeansStart}
 use Rattle.xrc_session.specs.Runs.{AreLabels}
 use Rattle.xrc_session.proofs.InTurn.{went_here}
 use Rattle.xrc_session.proofs.Labelled.{labels_still}
 use Rattle.xrc_session.proofs.LinesBegun.{lanes_may_go_on}
 use Rattle.xrc_session.proofs.Numbered.{given_on}
 use Rattle.xrc_session.proofs.Readying.{broken_alone}
-use Rattle.xrc_session.proofs.Started.{first_group, ready_at_start, safe_then, site_started, starts_runs}
+use Rattle.xrc_session.proofs.Started.{first_group, formats_on, ready_at_start, safe_then, site_started, start_before, starts_runs}
 use Rattle.xrc_session.proofs.StartedWorks.{none_worked, works_then}
 use Rattle.xrc_session.proofs.StartWorks.{err_as}
 use Rattle.xrc_session.proofs.kept.Kept.start.Given as given
@@ -54,7 +54,11 @@ pub returns-in_err-site-clause-went : goal.returns-in_err-site-clause-went
 returns-in_err-site-clause-went g c = went_here g.S.Source.left g.S.Source.faults c.args.traces.now (lanes_may_go_on (first_group c.args.beginning.controls) 0 c.args.traces.now c.requires.may.lanes_of)
 
 pub returns-in_err-site-clause-safe : goal.returns-in_err-site-clause-safe
-returns-in_err-site-clause-safe g c told = c.format.ensures.safe told
+returns-in_err-site-clause-safe g c told =
+    let b = c.args.beginning in
+    let e = c.in_err-site.field-0.0 in
+    subst (λ (r : Result SiteState Stop). IsSafeStart b.session b.level b.at.0 (g.P.Plant.state c.args.plant.now) (g.P.Plant.state c.format.new.plant) r)
+    (c.in_err-site.was ∙ sym (given_on c.from_residual.result e c.from_residual.ensures)) (c.format.ensures.safe told)
 
 pub returns-in_err-site-clause-works : goal.returns-in_err-site-clause-works
 returns-in_err-site-clause-works g c =
@@ -90,20 +94,34 @@ bring_to-requires-clause-later g c κs within =
 pub bring_to-requires-clause-goes_on : goal.bring_to-requires-clause-goes_on
 bring_to-requires-clause-goes_on g c κs within = ap (λ (s : SiteState). s.mark.ended) c.in_ok-site.ensures.site
 
--- It is safe throughout, since the epoch leaves at every moment just the session that starts.
+-- The epoch leaves at every moment just the session that starts.
+means : (g : given.Over) (c : After-bring_to g) → g.P.Plant.tells
+    → AtEveryMoment (MeansStart c.args.beginning.session c.args.beginning.level c.args.beginning.at.0 (g.P.Plant.state c.format.new.plant)) (g.P.Plant.state c.format.new.plant) (g.P.Plant.state c.bring_to.new.plant)
+means g c told =
+    let b = c.args.beginning in
+    let mid = g.P.Plant.state c.format.new.plant in
+    let new = g.P.Plant.state c.bring_to.new.plant in
+    let is = c.in_ok-site.ensures.site in
+    subst (λ (s : SiteState). AtEveryMoment (MeansStart s.table.session s.level b.at.0 mid) mid new) is (c.bring_to.ensures.starts told (ap (λ (s : SiteState). s.told) is) (ap (λ (s : SiteState). s.time) is))
+
+means_now : (g : given.Over) (c : After-bring_to g) → g.P.Plant.tells → AtNow (MeansStart c.args.beginning.session c.args.beginning.level c.args.beginning.at.0 (g.P.Plant.state c.args.plant.now)) (g.P.Plant.state c.bring_to.new.plant)
+means_now g c told choice left =
+    let b = c.args.beginning in
+    let new = g.P.Plant.state c.bring_to.new.plant in
+    start_before b.session b.level b.at.0 (g.P.Plant.state c.args.plant.now) (g.P.Plant.state c.format.new.plant) choice c.format.ensures.works.site
+    (means g c told new.clock ((c.bring_to.ensures.works.works.elapses told).kept Control).later (omega arith) choice left)
+
+-- So it is safe throughout.
 safe : (g : given.Over) (c : After-bring_to g) → g.P.Plant.tells → IsSafeThroughout c.args.beginning.session c.args.beginning.level c.args.beginning.at.0 (g.P.Plant.state c.args.plant.now) (g.P.Plant.state c.bring_to.new.plant)
 safe g c told =
     let b = c.args.beginning in
     let old = g.P.Plant.state c.args.plant.now in
     let mid = g.P.Plant.state c.format.new.plant in
     let new = g.P.Plant.state c.bring_to.new.plant in
-    let site = c.in_ok-site.site in
-    let is = c.in_ok-site.ensures.site in
     let works = c.format.ensures.works in
     let then = c.bring_to.ensures.works.works in
-    let means = c.bring_to.ensures.starts told (ap (λ (s : SiteState). s.told) is) (ap (λ (s : SiteState). s.time) is) in
-    safe_then b.session b.level b.at.0 old mid new ((works.elapses told).kept Control).later works.site then.site (then.elapses told) (mid.bytes, reads_choice mid works.home (λ d there. g.met.P.Plant.read_is_image c.format.new.plant d told there)) (c.format.ensures.safe told)
-    (subst (λ (s : SiteState). AtEveryMoment (MeansStart s.table.session s.level b.at.0 mid) mid new) is means)
+    safe_then b.session b.level b.at.0 old mid new ((works.elapses told).kept Control).later works.site then.site (then.elapses told) (mid.bytes, reads_choice mid works.home (λ d there. g.met.P.Plant.read_is_image c.format.new.plant d told there)) (c.format.ensures.safe told).safe
+    (means g c told)
 
 -- ---- it wasn't brought there
 
@@ -120,7 +138,9 @@ pub returns-in_err-bring_to-clause-went : goal.returns-in_err-bring_to-clause-we
 returns-in_err-bring_to-clause-went g c = c.bring_to.ensures.went
 
 pub returns-in_err-bring_to-clause-safe : goal.returns-in_err-bring_to-clause-safe
-returns-in_err-bring_to-clause-safe g c told = safe g (goal.at.returns-in_err-bring_to-clause-safe g c).After-bring_to told
+returns-in_err-bring_to-clause-safe g c told =
+    let at = (goal.at.returns-in_err-bring_to-clause-safe g c).After-bring_to in
+    record { safe = safe g at told; spent = λ is. means_now g at told; formats = IfOk-from_err c.from_residual-in_err-bring_to.result _ c.from_residual-in_err-bring_to.ensures.0 }
 
 pub returns-in_err-bring_to-clause-works : goal.returns-in_err-bring_to-clause-works
 returns-in_err-bring_to-clause-works g c =
@@ -177,7 +197,20 @@ pub returns-clause-went : goal.returns-clause-went
 returns-clause-went g c = c.bring_to.ensures.went
 
 pub returns-clause-safe : goal.returns-clause-safe
-returns-clause-safe g c told = safe g (goal.at.returns-clause-safe g c).After-bring_to told
+returns-clause-safe g c told =
+    let at = (goal.at.returns-clause-safe g c).After-bring_to in
+    let b = c.args.beginning in
+    let old = g.P.Plant.state c.args.plant.now in
+    let mid = g.P.Plant.state c.format.new.plant in
+    let new = g.P.Plant.state c.bring_to.new.plant in
+    let then = c.bring_to.ensures.works.works in
+    record {
+      safe = safe g at told;
+      spent = λ is. means_now g at told;
+      formats = λ up durable.
+          formats_on b.session b.level b.at.0 old mid new mid.clock new.clock then.site (then.elapses told) (omega (arith, up, ((c.format.ensures.works.elapses told).kept Control).later)) (omega arith) ((then.elapses told).kept Control).later
+          ((c.in_ok-site.ensures.safe told).formats up durable);
+    }
 
 pub returns-clause-works : goal.returns-clause-works
 returns-clause-works g c =

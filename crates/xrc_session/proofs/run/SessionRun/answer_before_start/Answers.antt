@@ -11,7 +11,6 @@ use Rattle.pair_table.specs.declared.level.Level.{Level}
 use Rattle.pair_table.specs.Commands.{answer, table_after}
 use Rattle.pair_table.specs.Refusals.{refusal}
 use Rattle.pair_table.specs.Tables.{Table}
-use Rattle.script_lines.specs.Grammars.{asked_by}
 use Rattle.xrc_status.specs.declared.stop.Stop.{Stop}
 use Rattle.xrc_status.specs.declared.stop.Stop.TheVariants as stops
 use Rattle.xrc_session.specs.declared.answering.LineAnswer.{LineAnswer}
@@ -19,7 +18,7 @@ use Rattle.xrc_session.specs.Answering.{answer_told}
 use Rattle.xrc_session.specs.Frames.{SuspendsByCounts}
 use Rattle.xrc_session.specs.Lines.{IsSameSession, IsStartAnswered, IsStartedAt}
 use Rattle.xrc_session.specs.Replying.{level_in}
-use Rattle.xrc_session.specs.Starting.{BeginsByLine, IsSafeThroughout, IsWorkOfStart, MeansStart, level_started}
+use Rattle.xrc_session.specs.Starting.{BeginsByLine, FormatsFirst, IsSafeThroughout, IsWorkOfStart, MeansStart, StandsBehindStart, level_started}
 use Rattle.xrc_session.specs.States.{SessionState, site_in, table_in}
 use Rattle.xrc_session.specs.Steps.{DoesLine}
 use Rattle.xrc_session.proofs.InTurn.{suspends_same, went_here}
@@ -68,7 +67,7 @@ pub returns-in_err-answer-clause-went : goal.returns-in_err-answer-clause-went
 returns-in_err-answer-clause-went g c = went_here g.S.Source.left g.S.Source.faults c.args.traces.now (between_may_go_on g.P.Plant.tells c.args.self.now c.args.traces.now (g.P.Plant.state c.args.plant.now) c.requires.between)
 
 pub returns-in_err-answer-clause-begins : goal.returns-in_err-answer-clause-begins
-returns-in_err-answer-clause-begins g c told = begins_here c.args.self.now.session (asked_by c.args.line.now) (g.P.Plant.state c.args.plant.now)
+returns-in_err-answer-clause-begins g c told = begins_here c.args.self.now.session c.args.line.now (g.P.Plant.state c.args.plant.now)
 
 pub returns-in_err-answer-clause-same : goal.returns-in_err-answer-clause-same
 returns-in_err-answer-clause-same g c = record { session = ap (λ (x : SessionState). x.session) c.self.view_is; controls = ap (λ (x : SessionState). x.controls) c.self.view_is }
@@ -83,7 +82,7 @@ returns-in_err-answer-clause-does g c told began =
     let result : c.from_residual.result ≡ Err stops.NoMemory = given_on c.from_residual.result e c.from_residual.ensures ∙ ap (λ (x : Stop). Err x) none in
     let old = g.P.Plant.state c.args.plant.now in
     let next : SessionState = record { session = c.self.inside.session; controls = c.self.inside.controls; names = c.self.inside.kept.names; group = c.self.inside.kept.group; table = c.command-done.new.self; site = None; is_ended = c.self.inside.ended } in
-    subst (λ (r : Result LineAnswer Stop). DoesLine g.S.Source.left (asked_by c.args.line.now) c.args.self.now next c.args.traces.now c.args.traces.now (g.P.Plant.state began) old old r) (sym result)
+    subst (λ (r : Result LineAnswer Stop). DoesLine g.S.Source.left c.args.line.now c.args.self.now next c.args.traces.now c.args.traces.now (g.P.Plant.state began) old old r) (sym result)
     (memory_does g.P.Plant.tells g.S.Source.left c.args.self.now c.args.traces.now (g.P.Plant.state c.args.plant.now) c.requires.between c.requires.unstarted c.args.line.now told next (g.P.Plant.state began))
 
 -- ---- the command is done or refused
@@ -142,7 +141,7 @@ returns-in_default-started_level-clause-hits g c =
     subst (λ (x : SessionState). SuspendsByCounts c.args.self.now.table.rows x.table.rows old old) (sym (refused_same g.P.Plant.tells g.S.Source.left c.args.self.now c.args.traces.now (g.P.Plant.state c.args.plant.now) c.requires.between c.requires.unstarted c.args.line.now c.self.inside.kept.names c.plain.result (c.plain.ensures.0 ∙ told g f) (none g d c.plain.result c.plain.ensures.0) (now g f) (now_is g f))) (suspends_same c.args.self.now.table.rows old old)
 
 pub returns-in_default-started_level-clause-begins : goal.returns-in_default-started_level-clause-begins
-returns-in_default-started_level-clause-begins g c told = begins_here c.args.self.now.session (asked_by c.args.line.now) (g.P.Plant.state c.args.plant.now)
+returns-in_default-started_level-clause-begins g c told = begins_here c.args.self.now.session c.args.line.now (g.P.Plant.state c.args.plant.now)
 
 pub returns-in_default-started_level-clause-means : goal.returns-in_default-started_level-clause-means
 returns-in_default-started_level-clause-means g c tells =
@@ -150,7 +149,7 @@ returns-in_default-started_level-clause-means g c tells =
     let f = at.After-started_level in
     let d = at.In_default-started_level in
     let old = g.P.Plant.state c.args.plant.now in
-    subst (λ (o : Option Level). IfSome o (λ level. AtNow (MeansStart c.args.self.now.session level c.args.line.now.time.0 old) old)) (sym (none_starts g.P.Plant.tells g.S.Source.left c.args.self.now c.args.traces.now (g.P.Plant.state c.args.plant.now) c.requires.between c.requires.unstarted c.args.line.now c.self.inside.kept.names c.plain.result (c.plain.ensures.0 ∙ told g f) (none g d c.plain.result c.plain.ensures.0) (now g f) (now_is g f))) tt
+    subst (λ (o : Option Level). IfSome o (λ level. StandsBehindStart c.args.self.now.session level c.args.line.now.time.0 old old)) (sym (none_starts g.P.Plant.tells g.S.Source.left c.args.self.now c.args.traces.now (g.P.Plant.state c.args.plant.now) c.requires.between c.requires.unstarted c.args.line.now c.self.inside.kept.names c.plain.result (c.plain.ensures.0 ∙ told g f) (none g d c.plain.result c.plain.ensures.0) (now g f) (now_is g f))) tt
 
 pub returns-in_default-started_level-clause-starts : goal.returns-in_default-started_level-clause-starts
 returns-in_default-started_level-clause-starts g c =
@@ -188,14 +187,14 @@ starts g c = sym c.started_level.ensures ∙ c.in-Some.is
 abbrev plain : (g : given.Over) (c : In-Some g) → LineAnswer
 plain g c = record { answer = c.in_ok-answer.answer; tracks = 0 }
 
-level : (g : given.Over) (c : In-Some g) → c.in_ok-answer.answer ≡ answer c.self.inside.kept.names c.args.self.now.table c.args.line.now.session c.args.line.now.command → level_started c.args.self.now.session (asked_by c.args.line.now) ≡ Some c.in-Some.level
+level : (g : given.Over) (c : In-Some g) → c.in_ok-answer.answer ≡ answer c.self.inside.kept.names c.args.self.now.table c.args.line.now.session c.args.line.now.command → level_started c.args.self.now.session c.args.line.now ≡ Some c.in-Some.level
 level g c told = start_level g.P.Plant.tells g.S.Source.left c.args.self.now c.args.traces.now (g.P.Plant.state c.args.plant.now) c.requires.between c.requires.unstarted c.args.line.now c.self.inside.kept.names (plain g c) told c.in-Some.level (starts g c)
 
 safe : (g : given.Over) (c : After-start g) → g.P.Plant.tells → IsSafeThroughout c.args.self.now.session c.in-Some.level c.args.line.now.time.0 (g.P.Plant.state c.args.plant.now) (g.P.Plant.state c.start.new.plant)
-safe g c tells = subst (λ (n : List ℕ). IsSafeThroughout n c.in-Some.level c.args.line.now.time.0 (g.P.Plant.state c.args.plant.now) (g.P.Plant.state c.start.new.plant)) (ap (λ (x : SessionState). x.session) c.self.view_is) (c.start.ensures.safe tells)
+safe g c tells = subst (λ (n : List ℕ). IsSafeThroughout n c.in-Some.level c.args.line.now.time.0 (g.P.Plant.state c.args.plant.now) (g.P.Plant.state c.start.new.plant)) (ap (λ (x : SessionState). x.session) c.self.view_is) (c.start.ensures.safe tells).safe
 
-begins : (g : given.Over) (c : After-start g) → level_started c.args.self.now.session (asked_by c.args.line.now) ≡ Some c.in-Some.level → g.P.Plant.tells → BeginsByLine c.args.self.now.session (asked_by c.args.line.now) (g.P.Plant.state c.args.plant.now) (g.P.Plant.state c.start.new.plant)
-begins g c level tells = begins_start c.args.self.now.session (asked_by c.args.line.now) c.in-Some.level (g.P.Plant.state c.args.plant.now) (g.P.Plant.state c.start.new.plant) level c.start.ensures.works.site (c.start.ensures.works.silent tells) g.P.Plant.tells tells c.start.ensures.works.volumes (safe g c tells)
+begins : (g : given.Over) (c : After-start g) → level_started c.args.self.now.session c.args.line.now ≡ Some c.in-Some.level → g.P.Plant.tells → BeginsByLine c.args.self.now.session c.args.line.now (g.P.Plant.state c.args.plant.now) (g.P.Plant.state c.start.new.plant)
+begins g c level tells = begins_start c.args.self.now.session c.args.line.now c.in-Some.level (g.P.Plant.state c.args.plant.now) (g.P.Plant.state c.start.new.plant) level c.start.ensures.works.site (c.start.ensures.works.silent tells) g.P.Plant.tells tells c.start.ensures.works.volumes (safe g c tells)
 
 same_session : (g : given.Over) (c : After-start g) → IsSameSession c.args.self.now c.start.new.self
 same_session g c = record { session = c.start.ensures.same.session ∙ ap (λ (x : SessionState). x.session) c.self.view_is; controls = c.start.ensures.same.controls ∙ ap (λ (x : SessionState). x.controls) c.self.view_is }
@@ -242,9 +241,13 @@ returns-in_err-start-clause-does g c tells began =
     let e = c.in_err-start.field-0.0 in
     let result : c.from_residual-in_err-start.result ≡ Err e = given_on c.from_residual-in_err-start.result e c.from_residual-in_err-start.ensures in
     let at = goal.at.returns-in_err-start-clause-does g c in
-    subst (λ (r : Result LineAnswer Stop). DoesLine g.S.Source.left (asked_by c.args.line.now) c.args.self.now c.start.new.self c.args.traces.now c.start.new.traces (g.P.Plant.state began) (g.P.Plant.state c.args.plant.now) (g.P.Plant.state c.start.new.plant) r) (sym result)
+    subst (λ (r : Result LineAnswer Stop). DoesLine g.S.Source.left c.args.line.now c.args.self.now c.start.new.self c.args.traces.now c.start.new.traces (g.P.Plant.state began) (g.P.Plant.state c.args.plant.now) (g.P.Plant.state c.start.new.plant) r) (sym result)
     (start_stops g.P.Plant.tells g.S.Source.left c.args.self.now c.args.traces.now (g.P.Plant.state c.args.plant.now) c.requires.between c.requires.unstarted c.args.line.now c.self.inside.kept.names (plain g at.In-Some) (told g at.After-started_level) c.in-Some.level (starts g at.In-Some) c.start.new.self c.start.new.traces (g.P.Plant.state c.start.new.plant) c.start.ensures.works.site c.start.ensures.works.elapses c.start.ensures.works.silent c.start.ensures.works.volumes tells e
-    (λ spent. c.in_err-start.ensures.works.spent tells (ap (λ (x : Stop). Err x) spent)) (g.P.Plant.state began))
+    (λ spent. c.in_err-start.ensures.works.spent tells (ap (λ (x : Stop). Err x) spent))
+    (λ spent.
+    subst (λ (n : List ℕ). AtNow (MeansStart n c.in-Some.level c.args.line.now.time.0 (g.P.Plant.state c.args.plant.now)) (g.P.Plant.state c.start.new.plant)) (ap (λ (x : SessionState). x.session) c.self.view_is)
+    ((c.in_err-start.ensures.safe tells).spent (ap (λ (x : Stop). Err x) spent)))
+    (g.P.Plant.state began))
 
 -- ---- it has started
 
@@ -279,12 +282,19 @@ returns-clause-begins g c tells =
 pub returns-clause-means : goal.returns-clause-means
 returns-clause-means g c tells =
     let at = goal.at.returns-clause-means g c in
-    subst (λ (o : Option Level). IfSome o (λ l. AtNow (MeansStart c.args.self.now.session l c.args.line.now.time.0 (g.P.Plant.state c.args.plant.now)) (g.P.Plant.state c.start.new.plant))) (sym (level g at.In-Some (told g at.After-started_level))) (means_begun g.P.Plant.tells c.args.self.now c.start.new.self c.start.new.traces c.in-Some.level c.args.line.now.time.0 (g.P.Plant.state c.args.plant.now) (g.P.Plant.state c.start.new.plant) c.in_ok-start.ensures.between (started g at.In_ok-start) tells c.start.ensures.works.site)
+    let old = g.P.Plant.state c.args.plant.now in
+    let new = g.P.Plant.state c.start.new.plant in
+    subst (λ (o : Option Level). IfSome o (λ l. StandsBehindStart c.args.self.now.session l c.args.line.now.time.0 old new)) (sym (level g at.In-Some (told g at.After-started_level)))
+    (record {
+      means = (means_begun g.P.Plant.tells c.args.self.now c.start.new.self c.start.new.traces c.in-Some.level c.args.line.now.time.0 (g.P.Plant.state c.args.plant.now) (g.P.Plant.state c.start.new.plant) c.in_ok-start.ensures.between (started g at.In_ok-start) tells c.start.ensures.works.site);
+      formats = λ up durable.
+          subst (λ (n : List ℕ). FormatsFirst n c.in-Some.level c.args.line.now.time.0 old new new.clock) (ap (λ (x : SessionState). x.session) c.self.view_is) ((c.in_ok-start.ensures.safe tells).formats up durable);
+    })
 
 pub returns-clause-starts : goal.returns-clause-starts
 returns-clause-starts g c =
     let at = goal.at.returns-clause-starts g c in
-    start_answered g.P.Plant.tells c.args.self.now c.start.new.self c.start.new.traces c.in-Some.level c.args.line.now.time.0 (g.P.Plant.state c.args.plant.now) (g.P.Plant.state c.start.new.plant) c.in_ok-start.ensures.between (started g at.In_ok-start) (asked_by c.args.line.now) c.plain-2.result (level g at.In-Some (told g at.After-started_level)) refl (c.plain-2.ensures.0 ∙ level_in_done c.in_ok-answer.answer c.args.line.now.command c.in-Some.level (starts g at.In-Some)) c.plain-2.ensures.1
+    start_answered g.P.Plant.tells c.args.self.now c.start.new.self c.start.new.traces c.in-Some.level c.args.line.now.time.0 (g.P.Plant.state c.args.plant.now) (g.P.Plant.state c.start.new.plant) c.in_ok-start.ensures.between (started g at.In_ok-start) c.args.line.now c.plain-2.result (level g at.In-Some (told g at.After-started_level)) refl (c.plain-2.ensures.0 ∙ level_in_done c.in_ok-answer.answer c.args.line.now.command c.in-Some.level (starts g at.In-Some)) c.plain-2.ensures.1
 
 pub returns-clause-same : goal.returns-clause-same
 returns-clause-same g c = same_session g (goal.at.returns-clause-same g c).After-start

@@ -1,17 +1,19 @@
 -- A session is started at the time of a line.
-use Rattle.std.proofs.Common.{◌∙◌, [], Option, Result, sym, ap, subst}
+use Rattle.std.proofs.Common.{◌<◌, ◌∙◌, [], Option, Result, Err, sym, ap, subst}
 use Rattle.std.specs.Prelude.{IfSome}
 use Rattle.std.proofs.lemmas.Result.{IfOk-from_err}
+use Rattle.crash_plant.specs.declared.device.Device.TheVariants.{Control}
+use Rattle.crash_plant.specs.Moments.{IsDurable, on}
 use Rattle.state_set.specs.Slots.{started_table}
 use Rattle.site_store.specs.Sites.{SiteState}
 use Rattle.xrc_status.specs.declared.stop.Stop.{Stop}
 use Rattle.xrc_session.specs.Lines.{IsBegunTable}
 use Rattle.xrc_session.specs.Runs.{AreLabels}
-use Rattle.xrc_session.specs.Starting.{IsSafeThroughout, IsWorkOfStart, MayBeStarted}
+use Rattle.xrc_session.specs.Starting.{FormatsFirst, IsSafeStart, IsSafeThroughout, IsWorkOfStart, MayBeStarted}
 use Rattle.xrc_session.specs.States.{SessionState}
 use Rattle.xrc_session.proofs.LinesBegun.{begun_between, begun_is_started_at, begun_may_start, begun_stands, begun_unstarted}
 use Rattle.xrc_session.proofs.Numbered.{given_on}
-use Rattle.xrc_session.proofs.StartWorks.{works_err, works_ok}
+use Rattle.xrc_session.proofs.StartWorks.{safe_err, works_err, works_ok}
 use Rattle.xrc_session.proofs.run.SessionRun.start.Goals as goal
 
 pub start-requires-clause-may : goal.start-requires-clause-may
@@ -41,7 +43,10 @@ pub returns-in_err-site-clause-safe : goal.returns-in_err-site-clause-safe
 returns-in_err-site-clause-safe g c told =
     let old = g.P.Plant.state c.args.plant.now in
     let new = g.P.Plant.state c.start.new.plant in
-    subst (λ (x : SessionState). IsSafeThroughout x.session c.args.level c.args.line.now.time.0 old new) c.self.view_is (c.start.ensures.safe told)
+    let e = c.in_err-site.field-0.0 in
+    subst (λ (r : Result (Unit {0}) Stop). IsSafeStart c.args.self.now.session c.args.level c.args.line.now.time.0 old new r) (sym (given_on c.from_residual.result e c.from_residual.ensures))
+    (safe_err {T = SiteState} {U = Unit {0}} c.args.self.now.session c.args.level c.args.line.now.time.0 old new e
+    (subst (λ (x : SessionState). let r : Result SiteState Stop = Err e in IsSafeStart x.session c.args.level c.args.line.now.time.0 old new r) c.self.view_is (c.in_err-site.ensures.safe told)))
 
 pub returns-in_err-site-clause-works : goal.returns-in_err-site-clause-works
 returns-in_err-site-clause-works g c =
@@ -97,7 +102,11 @@ pub returns-clause-safe : goal.returns-clause-safe
 returns-clause-safe g c told =
     let old = g.P.Plant.state c.args.plant.now in
     let new = g.P.Plant.state c.start.new.plant in
-    subst (λ (x : SessionState). IsSafeThroughout x.session c.args.level c.args.line.now.time.0 old new) c.self.view_is (c.start.ensures.safe told)
+    record {
+      safe = subst (λ (x : SessionState). IsSafeThroughout x.session c.args.level c.args.line.now.time.0 old new) c.self.view_is (c.in_ok-site.ensures.safe told).safe;
+      spent = λ is. absurd (cc is);
+      formats = subst (λ (x : SessionState). 0 < old.clock → IsDurable (on old Control) → FormatsFirst x.session c.args.level c.args.line.now.time.0 old new new.clock) c.self.view_is (c.in_ok-site.ensures.safe told).formats;
+    }
 
 pub returns-clause-works : goal.returns-clause-works
 returns-clause-works g c =
