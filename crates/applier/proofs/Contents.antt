@@ -57,9 +57,6 @@ module _ (device : ℕ) where
     are : IsTrack recs
     are = (image_rules anywhere earlier of y recs keeps).are
 
-    put : List ℕ
-    put = patched (slot_place y) (image recs) b
-
     short : length (image recs) ≤ 57344
     short = omega (arith, length-image recs are)
 

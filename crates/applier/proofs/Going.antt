@@ -14,7 +14,7 @@ use Rattle.xrc_journal.specs.declared.reading.BodyItem.{BodyItem}
 use Rattle.xrc_journal.specs.declared.reading.BodyItem.TheVariants.{Image as ImageTold}
 use Rattle.xrc_journal.specs.Items.{Item, Earlier, none_earlier, anywhere, behind, is_item, are_items_behind, item_spelling, body_spelling}
 use Rattle.xrc_journal.specs.Items.Item.{Image, Delta, Pair, Gone}
-use Rattle.xrc_journal.specs.Views.{AreItemBytes, told, track_behind, first_told, first_track}
+use Rattle.xrc_journal.specs.Views.{told, track_behind, first_told, first_track}
 use Rattle.xrc_journal.specs.Contents.{HasItem}
 use Rattle.xrc_journal.proofs.ItemsAgain.{some_bytes}
 use Rattle.applier.specs.Slots.{DiffersInSlots}
@@ -110,9 +110,6 @@ told_own device x earlier (Gone d) is e = absurd cc
 module _ (items : List Item) (bytes : List ℕ) (at : ℕ) (r : Reading items bytes at) where
   pub rest_are : take (length bytes - at) (drop at bytes) ≡ body_spelling r.todo
   rest_are = take_all (length bytes - at) (drop at bytes) (omega (arith, length-drop at bytes)) ∙ r.rest
-
-  pub rest_items : AreItemBytes (take (length bytes - at) (drop at bytes))
-  rest_items = record { earlier = r.earlier; items = r.todo; keep = r.keep; spelled = rest_are }
 
   -- the item that is read next
   pub record Next (item : BodyItem) (size : ℕ) (old new : List Rec) : Type 0 where

@@ -46,9 +46,6 @@ module _ (device : ℕ) where
   pub differs_before : (items more : List Item) (b c : List ℕ) → DiffersInSlots device items b c → DiffersInSlots device (items ++ more) b c
   differs_before items more b c d = record { size = d.size; others = λ from to up apart. d.others from to up (λ x has. apart x (has_before x items more has)) }
 
-  pub differs_more : (i : Item) (more : List Item) (b c : List ℕ) → DiffersInSlots device (i ∷ []) b c → DiffersInSlots device (i ∷ more) b c
-  differs_more i more b c d = differs_before (i ∷ []) more b c d
-
   -- One change after another.
   pub differs_then : (items more : List Item) (a b c : List ℕ) → DiffersInSlots device items a b → DiffersInSlots device more b c → DiffersInSlots device (items ++ more) a c
   differs_then items more a b c d e = record {

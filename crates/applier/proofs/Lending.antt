@@ -84,9 +84,6 @@ module _ {D : Type 0} where
   -- One volume more is lent.
   module _ (tells own : Type 0) (state : D → Standing) (a b c : PlantState) (jobs : List (VolumeJob D)) (i : ℕ) (y : VolumeJob D) (less : i < length jobs) (same : y.device ≡ (get_or jobs i y).device) (idle : (get_or jobs i y).disk ≡ None)
       (there : y.device < b.volumes) (told_own : tells → own) (lends : IsSomeAnd y.disk (λ disk. Lends tells y.device b c (state disk))) (out : AreOut tells own state a b jobs jobs) where
-    now : List (VolumeJob D)
-    now = set jobs i y
-
     device_at : (k : ℕ) (d : VolumeJob D) → (get_or (set jobs i y) k d).device ≡ (get_or jobs k d).device
     device_at k d = at_set (λ job. job.device ≡ (get_or jobs k d).device) jobs i k y d less
         (λ is. same ∙ ap (λ (j : VolumeJob D). j.device) (get_or_default jobs i y d less) ∙ ap (λ (n : ℕ). (get_or jobs n d).device) (sym is)) (λ differ. refl)

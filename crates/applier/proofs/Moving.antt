@@ -3,15 +3,13 @@ use Rattle.std.proofs.Common.{◌≡◌, inl, inr, ℕ, ◌<◌, List, length, g
 use Rattle.std.proofs.lemmas.List.{get_or_default}
 use Rattle.crash_plant.specs.declared.device.Device.{Device}
 use Rattle.crash_plant.specs.declared.device.Device.TheVariants.{Volume}
-use Rattle.crash_plant.specs.Moments.{Standing, PlantState, on, Follows, Same, IsDurable}
-use Rattle.crash_plant.specs.Choices.{AllFollow}
-use Rattle.crash_plant.proofs.Choices.{all_follow, part_cases}
+use Rattle.crash_plant.specs.Moments.{Standing, PlantState, on, Follows, Same}
 use Rattle.crash_plant.proofs.Steps.{kept_trans}
 use Rattle.xrc_journal.specs.declared.job.VolumeJob.{VolumeJob}
 use Rattle.applier.specs.Disks.{OnDisks, IsLentTo}
 use Rattle.applier.specs.Out.{WorkedOn, AreWorkedOn, HoldsVolume, AreOut, LeavesBut}
 use Rattle.applier.specs.Back.{IsBack, AreBack, AreRead, OnlyReads}
-use Rattle.applier.proofs.LentVolumes.{back_follows, back_durable}
+use Rattle.applier.proofs.LentVolumes.{back_follows}
 use Rattle.applier.proofs.Lending.{at_set, worked_here}
 use Rattle.applier.proofs.Giving.{lent_cases}
 
@@ -129,23 +127,6 @@ module _ {D : Type 0} (tells own : Type 0) (state : D → Standing) (start b c :
     lent_follows = of_lent (λ d. Follows (step d) (on start d) (on c d)) (λ v was is. Follows (step (Volume v)) (state was) (state is)) came
         (λ v was is back known told_own. back_follows tells v start c (state was) (state is) (step (Volume v)) told back (same (Volume v)) (known (told_own told)))
 
-    pub lent_choices : AllFollow (λ old new. (d : Device) → (IsLentTo given d → step d (old d) (new d)) × (¬ IsLentTo given d → new d ≡ old d)) start c
-    lent_choices t from to e is =
-        let all = all_follow (λ d old new. (IsLentTo given d → step d old new) × (¬ IsLentTo given d → new ≡ old)) start c y.works.site (λ d part. each d) t from to e is in (
-          all.0,
-          all.1,
-          λ d. elim (part_cases start d) [
-            | inl part ↦ (all.2 d).0 part
-            | inr out ↦ let one = (all.2 d).1 out in (λ among. subst (λ (l : List ℕ). step d (all.0 d) l) (sym one) (same d (all.0 d)), λ none. one)
-          ],
-        )
-      where
-        each : (d : Device) → Follows (λ old new. (IsLentTo given d → step d old new) × (¬ IsLentTo given d → new ≡ old)) (on start d) (on c d)
-        each d s after before f left = elim (lent_cases given d) [
-          | inl among ↦ let was = lent_follows d among s after before f left in (was.0, was.1, (λ again. was.2, λ none. absurd (none among)))
-          | inr none ↦ let was = (y.works.others told d none).images s after before f left in (was.0, was.1, (λ among. absurd (none among), λ again. was.2))
-        ]
-
   -- Disks that were only read leave all devices as they were.
   pub only_reads : AreRead own state lent given → OnlyReads tells start c
   only_reads read = record {
@@ -159,8 +140,3 @@ module _ {D : Type 0} (tells own : Type 0) (state : D → Standing) (start b c :
       | inr none ↦ (y.works.others told d none).images
     ];
   }
-
-  -- Volumes whose disks are durable are durable.
-  pub lent_durable : tells → ((i : ℕ) (d : VolumeJob D) → i < length given → own → OnDisks (λ was is. IsDurable (state is)) (get_or lent i d).disk (get_or given i d).disk) → (d : Device) → IsLentTo given d → IsDurable (on c d)
-  lent_durable told durable = of_lent (λ d. IsDurable (on c d)) (λ v was is. IsDurable (state is)) durable
-      (λ v was is back known told_own. back_durable tells v start c (state was) (state is) told back (known (told_own told)))

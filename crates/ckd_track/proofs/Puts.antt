@@ -84,11 +84,6 @@ spelled_room recs i rec lt at =
 abbrev pub image_front : (recs : List Rec) (i : ℕ) → List ℕ
 image_front recs i = to_be_bytes w16 (length recs) ++ flat_map record_spelling (take i recs)
 
--- a front with one more record
-pub front_more : (recs : List Rec) (i : ℕ) (rec : Rec) → i < length recs → rec ≡ get_or recs i rec → image_front recs i ++ record_spelling rec ≡ image_front recs (i + 1)
-front_more recs i rec lt at =
-    append_assoc (to_be_bytes w16 (length recs)) (flat_map record_spelling (take i recs)) (record_spelling rec) ∙ ap (λ (t : List ℕ). to_be_bytes w16 (length recs) ++ t) (spelled_more recs i rec lt at)
-
 -- bytes put at the front
 pub at_front : (bytes buffer : List ℕ) → with_bytes 0 bytes buffer ≡ bytes ++ drop (length bytes) buffer
 at_front bytes buffer =

@@ -25,6 +25,5 @@ pub mod Counting
 pub mod Lines
 pub mod Standing
 pub mod Joined
-pub mod Sayings
 pub mod Resting
 pub mod Keeping

@@ -2,7 +2,7 @@
 use Rattle.std.proofs.Common.{◌≡◌, ◌⊎◌, inl, inr, ℕ, zero, suc, ◌+◌, ◌<◌, ◌≤◌, Bool, true, false, cond, nat_eq, List, [], ◌∷◌, ◌++◌, length, take, Option, Some, None, refl, sym, ap, subst, ◌∙◌, append-nil, arith, length-append, slice_get}
 use Rattle.std.specs.Prelude.{◌==◌, ◌||◌, ◌&&◌, fold, nat_le, nat_lt}
 use Rattle.std.specs.List.{list_any}
-use Rattle.std.proofs.lemmas.Bool.{and_left, and_parts, and_right, cond-false, le-ltb, leb-true, lt-leb, lt-ltb, ne_eqb, or_parts, or_right}
+use Rattle.std.proofs.lemmas.Bool.{and_parts, and_right, cond-false, leb-true, lt-leb, lt-ltb, ne_eqb, or_parts, or_right}
 use Rattle.std.proofs.lemmas.List.{length_push, take-append-le, take_all}
 use Rattle.std.proofs.lemmas.List.Concat.{flat_map-append}
 use Rattle.std.proofs.lemmas.Option.{slice_get_cases, slice_get_within}

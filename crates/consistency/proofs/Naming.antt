@@ -13,7 +13,6 @@ use Rattle.pair_table.specs.declared.level.Level.TheVariants.{Volume as VolumeLe
 use Rattle.pair_table.specs.declared.names.NamedDevice.{NamedDevice}
 use Rattle.pair_table.specs.declared.names.NamedVolume.{NamedVolume}
 use Rattle.pair_table.specs.declared.row.PairRow.{PairRow}
-use Rattle.pair_table.specs.declared.row.PairState.{PairState}
 use Rattle.pair_table.specs.declared.row.PairState.TheVariants.{Pending, Suspended}
 use Rattle.pair_table.specs.declared.row.SuspendCause.{SuspendCause}
 use Rattle.pair_table.specs.declared.row.SuspendCause.TheVariants.{Command as ByCommand, Device as ByDevice, Session as BySession, Control as ByControl}
@@ -35,9 +34,6 @@ use Rattle.consistency.specs.Replying.{HasNames, HasRunNames, has_row_serials}
 use Rattle.consistency.proofs.Unhit.{found}
 
 -- ---- changes
-
-state_apart : (state : PairState) (r : PairRow) → has_row_serials (in_state state r) ≡ has_row_serials r
-state_apart state r = refl
 
 either_way : (b : Bool) (x y r : PairRow) → has_row_serials x ≡ has_row_serials r → has_row_serials y ≡ has_row_serials r → has_row_serials (if b then x else y) ≡ has_row_serials r
 either_way true x y r first second = first

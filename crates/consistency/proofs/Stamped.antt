@@ -1,15 +1,13 @@
 -- The times that replies say: the one behind `T=` in the reply line.
-use Rattle.std.proofs.Common.{◌≡◌, ℕ, zero, suc, ◌^◌, ◌/◌, ◌%◌, ◌<◌, Bool, true, false, nat_eq, List, [], ◌∷◌, ◌++◌, refl, ap, ◌∙◌, append-nil, arith}
-use Rattle.std.specs.Prelude.{codes}
+use Rattle.std.proofs.Common.{◌≡◌, ℕ, zero, suc, ◌/◌, ◌%◌, ◌<◌, Bool, true, false, nat_eq, List, [], ◌∷◌, ◌++◌, refl, ap, ◌∙◌, append-nil, arith}
 use Rattle.std.specs.List.{flat_map, list_any}
 use Rattle.std.proofs.lemmas.Bool.{ne_eqb, or_from, or_parts}
 use Rattle.std.proofs.lemmas.Bool.Decides.{nat_tests}
 use Rattle.pair_table.specs.declared.command.Command.{Command}
 use Rattle.pair_table.specs.declared.command.Command.TheVariants.{Start, AddPair, DelPair, Suspend, Query, End}
 use Rattle.tod_stamp.specs.Stamps.{hex_digit, hex_digits, stamp_text}
-use Rattle.tod_stamp.proofs.TextLaws.{texts_back}
 use Rattle.consistency.specs.Replies.{answer_word, command_word}
-use Rattle.consistency.specs.Times.{time_behind, time_in_word, times_in_line, times_in_words, times_of, times_said}
+use Rattle.consistency.specs.Times.{time_behind, time_in_word, times_in_line, times_in_words, times_said}
 use Rattle.consistency.proofs.Pieces.{line_ended}
 use Rattle.consistency.proofs.Spelled.{AreWords, HasNo, IsWord, has_no_both, no_feed_spelled, spelled, words_spelled}
 
@@ -60,9 +58,3 @@ times_behind_answer is_accepted time command others =
     let told = command_tells_none command in
     word_on [] (stamp_text time) (command_word command ∷ answer_word is_accepted ∷ others) (no_time_in (stamp_text time) (digits_lie_below 16 time 84 (omega arith))) refl
     ∙ word_on (stamp_text time) (command_word command) (answer_word is_accepted ∷ others) told.0 (digits_lie_below 16 time 74 (omega arith)) ∙ word_on (command_word command) (answer_word is_accepted) others (answer_tells_none is_accepted).0 told.1
-
--- Behind `T=` stands its stamp.
-pub time_of_stamp : (before : List ℕ) (time : ℕ) → HasNo 74 before → time < 2 ^ 64 → times_in_words before ((codes "T=" ++ stamp_text time) ∷ []) ≡ time ∷ []
-time_of_stamp before time none below =
-    let own = time_in_word (codes "T=" ++ stamp_text time) in
-    ap (λ (l : List ℕ). own ++ l ++ []) (no_time_behind before (codes "T=" ++ stamp_text time) none) ∙ append-nil (own ++ []) ∙ append-nil own ∙ ap times_of (texts_back (record { 0 = time }) below)

@@ -50,10 +50,6 @@ all_follow step old new site each t from to c is = (λ d. (one d (part_cases old
 pub past_choice : (old new : PlantState) (t : ℕ) (c : Choice) → SameSite old new → Elapses old new → 0 < old.clock → t ≤ old.clock → IsChoice new t c → IsChoice old t c
 past_choice old new t c site elapses up le is d part = (elapses.kept d).same t up le (c d) (is d (part_still old new d site part))
 
--- A choice of the past is one still.
-pub still_choice : (old new : PlantState) (t : ℕ) (c : Choice) → SameSite old new → Elapses old new → 0 < old.clock → t ≤ old.clock → IsChoice old t c → IsChoice new t c
-still_choice old new t c site elapses up le is d part = (elapses.kept d).all t up le (c d) (is d (part_before old new d site part))
-
 -- no call
 pub choices_here : (a : PlantState) (step : Choice → Choice → Type 0) → ((c : Choice) → IsChoice a a.clock c → step c c) → AllFollow step a a
 choices_here a step same t from to c is =
@@ -72,16 +68,6 @@ choices_then a b c so_far step all le f site elapses s first then t from to z is
       let mid = s t late to z is in
       let start = f b.clock le (omega arith) mid.0 mid.1 in
       (start.0, start.1, then start.0 mid.0 z start.1 mid.1 start.2 mid.2)
-]
-
--- What holds of each choice at a moment, up to now, holds at every moment of calls that keep it.
-pub at_every_moment : (P : ℕ → Choice → Type 0) (step : Choice → Choice → Type 0) (old new : PlantState) → SameSite old new → Elapses old new → AllFollow step old new → ((t : ℕ) (c : Choice) → t ≤ old.clock → IsChoice old t c → P t c)
-    → ((t : ℕ) (b c : Choice) → old.clock ≤ t → t ≤ new.clock → IsChoice new t c → P old.clock b → step b c → P t c) → (t : ℕ) (c : Choice) → (0 < old.clock) ⊎ (old.clock ≤ t) → t ≤ new.clock → IsChoice new t c → P t c
-at_every_moment P step old new site elapses follows before keeps t c from to is = elim (cases_lt t old.clock) [
-  | inl early ↦ before t c (omega (arith, early)) (past_choice old new t c site elapses (omega (arith, early)) (omega (arith, early)) is)
-  | inr late ↦
-      let start = follows t late to c is in
-      keeps t start.0 c late to is (before old.clock start.0 (omega arith) start.1) start.2
 ]
 
 -- Two devices are the same, or they aren't.

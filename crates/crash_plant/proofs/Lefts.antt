@@ -4,7 +4,6 @@ use Rattle.std.proofs.lemmas.List.{drop-drop, drop-take, take-take, take-append-
 use Rattle.std.proofs.lemmas.Slice.{drop-append-drop}
 use Rattle.std.proofs.Math.Seq.{take-append-add, drop-append-add}
 use Rattle.std.proofs.lemmas.Bool.{cases_lt}
-use Rattle.std.proofs.Math.Numerals.{suc-eq-add-one}
 use Rattle.crash_plant.specs.declared.entry.Done.{Done}
 use Rattle.crash_plant.specs.declared.entry.Done.TheVariants.{Write, Sync}
 use Rattle.crash_plant.specs.declared.entry.Entry.{Entry}
@@ -12,9 +11,6 @@ use Rattle.crash_plant.specs.Bytes.{patched, Torn}
 use Rattle.crash_plant.specs.Left.{repeated, open_then, open_begin, open_after, open_writes, filled, all_filled, left_of}
 use Rattle.crash_plant.specs.Pasts.{Note, note_of, Step, Through, Does, Chains, Fits, AllFit}
 use Rattle.crash_plant.proofs.Patches.{patched_torn}
-
-pub repeated_more : (choice : List ℕ) (n : ℕ) → repeated choice (n + 1) ≡ repeated choice n ++ get_or choice (n % length choice) 0 ∷ []
-repeated_more choice n = ap (λ (k : ℕ). repeated choice k) (sym (suc-eq-add-one n))
 
 pub length-repeated : (choice : List ℕ) (n : ℕ) → length (repeated choice n) ≡ n
 length-repeated choice zero = refl

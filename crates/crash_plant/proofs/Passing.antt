@@ -152,10 +152,6 @@ module _ (done : Done) (place clock now : ℕ) (bytes : List ℕ) (old new : She
           forth now c (reach_of now 0 0 (past ++ last ∷ []) (shelf_base old) c times ended (push_through past last (shelf_base old) b c (through_of clock 0 0 past (shelf_base old) b (shelf_in_time old) still left) step))
       opened_by Sync is = tt
 
-  -- The call is the last.
-  pub last_noted : last_done new ≡ now
-  last_noted = ap (λ (l : List Note). last_till 0 l) notes.past ∙ last_push 0 (shelf_past old) (record { since = now; till = now; done = done; after = shelf_bytes new })
-
 -- What passes between two moments, of a device with any counts.
 pub kept_of : (step : List ℕ → List ℕ → Type 0) (clock now : ℕ) (old new : Shelf) (f g : ℕ) → 0 < clock → Passes step clock now old new
     → Kept (record { bytes = shelf_bytes old; clock = clock; images = λ t c. shelf_images old t c; length_is = shelf_length old; faults = f }) (record { bytes = shelf_bytes new; clock = now; images = λ t c. shelf_images new t c; length_is = shelf_length new; faults = g })

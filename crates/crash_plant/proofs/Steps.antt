@@ -2,9 +2,9 @@
 use Rattle.std.proofs.Common.{◌≡◌, inl, inr, ℕ, ◌≤◌, ◌<◌, List, refl, sym, ◌∙◌, ap, subst, arith, false}
 use Rattle.std.proofs.lemmas.Bool.{cases_lt, cases_eq}
 use Rattle.crash_plant.specs.declared.device.Device.{Device}
-use Rattle.crash_plant.specs.declared.device.Device.TheVariants.{Control, State, Journal, Volume}
+use Rattle.crash_plant.specs.declared.device.Device.TheVariants.{Control}
 use Rattle.crash_plant.specs.Moments.{Standing, PlantState, on, Kept, Follows, Same, Stays}
-use Rattle.crash_plant.specs.Calls.{IsThere, NoneLent, SameSite, SameLoan, Elapses, Silent, WorksOn, WorksOnConsole, Lends, TakesBack}
+use Rattle.crash_plant.specs.Calls.{NoneLent, SameSite, SameLoan, Elapses, Silent, WorksOn, WorksOnConsole, Lends, TakesBack}
 
 -- No call keeps the past.
 pub kept_here : (a : Standing) → Kept a a
@@ -170,10 +170,3 @@ none_lent_again tells v a b c d first last lends between same back home w there 
   | inl here ↦ subst (λ (u : ℕ). d.is_lent u ≡ false) (sym here) back.is_back
   | inr other ↦ (back.rest.loans w other).is_lent ∙ (between w).is_lent ∙ (lends.rest.loans w other).is_lent ∙ home w (omega (arith, there, back.rest.site.volumes, same, lends.rest.site.volumes))
 ]
-
--- A device that calls may name may be named after a call, too.
-pub there_then : (tells : Type 0) (among : Device → Type 0) (a b : PlantState) (d : Device) → WorksOn tells among a b → IsThere a d → IsThere b d
-there_then tells among a b Control x there = tt
-there_then tells among a b State x there = tt
-there_then tells among a b (Journal j) x there = omega (arith, there, x.site.journals)
-there_then tells among a b (Volume v) x there = (omega (arith, there.0, x.site.volumes), (x.loans v).is_lent ∙ there.1)

@@ -55,18 +55,3 @@ pub record AgreesBut (among : Device → Type 0) (a b : Contents) : Type 0 where
   pub said : b.said ≡ a.said
   pub script : b.script ≡ a.script
   pub console_faults : b.console_faults ≡ a.console_faults
-
--- the same plant with other counts of faults
-abbrev pub counted : Contents → (Device → ℕ) → ℕ → Contents
-counted a faults console_faults = record {
-  journals = a.journals;
-  volumes = a.volumes;
-  lengths = a.lengths;
-  bytes = a.bytes;
-  heard = a.heard;
-  said = a.said;
-  script = a.script;
-  faults = faults;
-  console_faults = console_faults;
-  is_lent = a.is_lent;
-}

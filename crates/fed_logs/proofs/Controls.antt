@@ -97,15 +97,6 @@ other_writes k v x t is (w ∷ writes) old none =
     taken true off rest = ap (λ b. after_entries (is_queued_up_to v x t) (entries_of k (filter is writes)) (changed_by (b && nat_le w.stamp.0 t) w.kind old)) off ∙ rest old
     taken false off rest = rest old
 
--- copied tracks among entries of writes: none
-no_copies : (k v x t : ℕ) (is : Write → Bool) (writes : List Write) → has_no_later_copy v x t (entries_of k (filter is writes)) ≡ true
-no_copies k v x t is [] = refl
-no_copies k v x t is (w ∷ writes) = choose (is w) (no_copies k v x t is writes)
-  where
-    choose : (c : Bool) → has_no_later_copy v x t (entries_of k (filter is writes)) ≡ true → has_no_later_copy v x t (entries_of k (cond c (w ∷ filter is writes) (filter is writes))) ≡ true
-    choose true rest = rest
-    choose false rest = rest
-
 -- no copied track is later than the floor
 floor_copies : (v x floor : ℕ) (entries : List WaitingEntry) → list_all (λ e. nat_le (entry_stamp e) floor) entries ≡ true → has_no_later_copy v x floor entries ≡ true
 floor_copies v x floor [] all = refl

@@ -57,9 +57,6 @@ fits_track c recs = has_room_for_track (room_of c) recs
 
 -- ---- changes
 
-abbrev pub with_queue_entries : ControlState → List WaitingEntry → ControlState
-with_queue_entries c entries = record c { queue = with_waiting c.queue entries }
-
 abbrev pub joined : Batch → ControlState → ControlState
 joined b c = record c { queue = with_waiting c.queue (c.queue.waiting ++ entries_of c.queue.control (carried_writes c b)); floor = b.upto; volumes = with_writes c.volumes b.writes }
 

@@ -1,5 +1,5 @@
 -- Jobs before and after steps that only read their volumes.
-use Rattle.std.proofs.Common.{◌≡◌, ◌≤◌, ◌<◌, ◌+◌, ◌==◌, ℕ, zero, suc, Bool, true, false, cond, List, [], ◌∷◌, length, get_or, set, Option, Some, None, refl, sym, ◌∙◌, ap, subst, arith}
+use Rattle.std.proofs.Common.{◌≡◌, ◌≤◌, ◌+◌, ◌==◌, ℕ, zero, suc, Bool, true, false, cond, List, [], ◌∷◌, get_or, set, Option, Some, None, refl, sym, ◌∙◌, ap, subst, arith}
 use Rattle.std.specs.Prelude.{not, count_by, IsSomeAnd}
 use Rattle.std.specs.List.{All, AllZip}
 use Rattle.std.proofs.lemmas.Bool.{both_ways}
@@ -168,16 +168,3 @@ pub zip_set : {A : Type 0} (R : A → A → Type 0) → ((x : A) → R x x) → 
 zip_set R each [] i new is = tt
 zip_set R each (x ∷ xs) zero new is = (is x, zip_refl R each xs)
 zip_set R each (x ∷ xs) (suc i) new is = (each x, zip_set R each xs i new is)
-
-pub live_set : {D : Type 0} (jobs : List (VolumeJob D)) (i : ℕ) (new old : VolumeJob D) → i < length jobs → old ≡ get_or jobs i old → old.failed ≡ false → new.failed ≡ true → count_by is_job_live (set jobs i new) < count_by is_job_live jobs
-live_set [] i new old lt is good bad = absurd (omega (arith, lt))
-live_set (x ∷ jobs) zero new old lt is good bad =
-    let before = sum_by-cons (λ (j : VolumeJob _). cond (is_job_live j) 1 0) x jobs in
-    let after = sum_by-cons (λ (j : VolumeJob _). cond (is_job_live j) 1 0) new jobs in
-    let was : ◌≡◌ {A = ℕ} (cond (is_job_live x) 1 0) 1 = ap (λ (j : VolumeJob _). cond (is_job_live j) 1 0) (sym is) ∙ ap (λ (f : Bool). cond (not f) 1 0) good in
-    let now : ◌≡◌ {A = ℕ} (cond (is_job_live new) 1 0) 0 = ap (λ (f : Bool). cond (not f) 1 0) bad in
-    omega (arith, before, after, was, now)
-live_set (x ∷ jobs) (suc i) new old lt is good bad =
-    let before = sum_by-cons (λ (j : VolumeJob _). cond (is_job_live j) 1 0) x jobs in
-    let after = sum_by-cons (λ (j : VolumeJob _). cond (is_job_live j) 1 0) x (set jobs i new) in
-    omega (arith, before, after, live_set jobs i new old (omega (arith, lt)) is good bad)

@@ -7,7 +7,7 @@ use Rattle.std.proofs.lemmas.List.{set-get_or}
 use Rattle.tod_stamp.specs.Fields.{within}
 use Rattle.pair_table.specs.declared.names.NamedDevice.{NamedDevice}
 use Rattle.pair_table.specs.declared.names.NamedVolume.{NamedVolume}
-use Rattle.pair_table.specs.Naming.{KeepsNames, MayName, Naming, are_alike, is_before, is_broken, label_in, lower, naming_of, none_alike, with_broken}
+use Rattle.pair_table.specs.Naming.{KeepsNames, MayName, are_alike, is_before, is_broken, label_in, lower, naming_of, none_alike, with_broken}
 use Rattle.pair_table.specs.Rows.{are_in_ranges}
 use Rattle.pair_table.proofs.RowRules.{both_true, and_true}
 use Rattle.pair_table.proofs.TableLaws.{either_false, not_true, not_false}
@@ -78,9 +78,6 @@ flag_breaks control volumes labels flags below has =
         rw (has, told, is) (ap (λ t. naming_of volumes labels t) (ap (slice_set flags control) (sym is) ∙ set-get_or flags control false))
     choose false is told =
         rw (has, told, is) (ap (λ (t : List ℕ). record { primaries = volumes; labels = labels; broken = t }) (flag_set flags 0 control control (omega arith) below is))
-
-pub none_breaks : (control : ℕ) (names : Naming) → list_any (λ v. nat_eq v.control control) names.primaries ≡ false → names ≡ with_broken control names
-none_breaks control names none = rw none refl
 
 -- ---- the lowest device with a label
 

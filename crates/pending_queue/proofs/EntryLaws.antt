@@ -1,5 +1,5 @@
 -- Entries: the order of a group, what a cut takes, and the room that entries take.
-use Rattle.std.proofs.Common.{◌≡◌, ℕ, suc, ◌≤◌, ◌<◌, Bool, true, false, ◌&&◌, List, [], ◌∷◌, ◌++◌, length, get_or, take, drop, subst, inl, inr, refl, sym, ap, ◌∙◌, arith, append_assoc, length-append}
+use Rattle.std.proofs.Common.{◌≡◌, ℕ, suc, ◌≤◌, ◌<◌, Bool, true, false, ◌&&◌, List, [], ◌∷◌, ◌++◌, length, take, drop, subst, inl, inr, refl, sym, ap, ◌∙◌, arith, append_assoc, length-append}
 use Rattle.std.specs.Prelude.{◌⊎◌, nat_eq, nat_lt, nat_le, filter}
 use Rattle.std.proofs.lemmas.Bool.{cases_Bool, and_parts, and_from, and_cases, and_left, and_right, or_cases, or_parts, or_from, eqb-true, eqb-false, ltb-true, ltb-false, leb-true, leb-false, lt-ltb, le-ltb, le-leb, lt-leb}
 use Rattle.std.proofs.lemmas.List.{append-nil}
@@ -177,13 +177,6 @@ first_moved cut waiting rest entries now rising some rest_is now_is =
 -- A group that takes nothing stays as it is.
 pub nothing_moves : (entries : List WaitingEntry) → is_in_order stands_before entries ≡ true → in_order stands_before (entries ++ []) ≡ entries
 nothing_moves entries ordered = ap (in_order stands_before) (append-nil entries) ∙ order_stays stands_before entries ordered
-
--- the same of the entry that is read at the front of a queue
-pub none_due_behind : (cut : Stamp) (entries : List WaitingEntry) (first : WaitingEntry) → entries_never_fall 0 entries ≡ true → first ≡ get_or entries 0 first → cut.0 < entry_stamp first
-    → (due cut entries ≡ []) × (left cut entries ≡ entries)
-none_due_behind cut [] first e is above = (refl, refl)
-none_due_behind cut (entry ∷ rest) first e is above =
-    none_due cut entry rest e (ap (λ (x : WaitingEntry). is_due cut x) (sym is) ∙ lt-leb (entry_stamp first) cut.0 above)
 
 -- ---- the last stamp, and how many a cut takes
 

@@ -5,16 +5,14 @@ use Rattle.std.specs.List.{list_all, list_any, sum_by}
 use Rattle.std.proofs.lemmas.Bool.{and_parts, and_from, ltb-true, leb-true, le-leb, or_right, or_from, ne_eqb}
 use Rattle.std.proofs.lemmas.List.{append-nil, map-append}
 use Rattle.std.proofs.lemmas.List.Elements.{filter-append}
-use Rattle.std.proofs.Math.Seq.{drop-cons, take-suc, drop-length, take-length}
+use Rattle.std.proofs.Math.Seq.{drop-cons, take-suc}
 use Rattle.std.proofs.lemmas.List.Sums.{sum_by-cons, length-filter, sum_by-take-le}
 use Rattle.tod_stamp.specs.declared.stamp.Stamp.{Stamp}
-use Rattle.ckd_track.specs.declared.rec.Rec.{Rec}
 use Rattle.ckd_track.specs.declared.write.Kind.TheVariants.{Whole}
 use Rattle.ckd_track.specs.declared.write.Write.{Write}
 use Rattle.change_map.specs.Sets.{with_track}
 use Rattle.pending_queue.specs.Maps.{with_tracks}
-use Rattle.ckd_track.specs.Images.{image}
-use Rattle.pending_queue.specs.Entries.{WaitingEntry, copy_of, is_of_volume, without_volume, entry_tracks, entry_stamp, last_stamp_from, entries_never_fall, is_copy_of, is_due, due, is_later, left}
+use Rattle.pending_queue.specs.Entries.{WaitingEntry, is_of_volume, without_volume, entry_tracks, entry_stamp, last_stamp_from, entries_never_fall, is_copy_of, is_due, due, is_later, left}
 use Rattle.pending_queue.specs.declared.head.EntryHead.{EntryHead}
 use Rattle.pending_queue.proofs.EntryLaws.{never_fall_filter, none_due}
 use Rattle.ckd_track.specs.Writes.{writes_never_fall}
@@ -105,11 +103,6 @@ goes_round v entries k d lt =
   where
     same_end : (kept none : List WaitingEntry) → none ≡ [] → drop (suc k) entries ++ (kept ++ none) ≡ drop (suc k) entries ++ kept
     same_end kept none is = ap (λ (t : List WaitingEntry). drop (suc k) entries ++ (kept ++ t)) is ∙ ap (λ (t : List WaitingEntry). drop (suc k) entries ++ t) (append-nil kept)
-
--- All went round.
-pub round_all : (v : ℕ) (entries : List WaitingEntry) (k : ℕ) → k ≡ length entries → round v entries k ≡ without_volume v entries
-round_all v entries k is =
-    ap (round v entries) is ∙ (λ i. drop-length entries i ++ without_volume v (take-length entries i))
 
 -- ---- copied tracks that a cut leaves
 
@@ -249,8 +242,3 @@ pushed_rises last (x ∷ entries) e rising le =
 pub all_carried : (writes : List Write) → filter (λ w. true) writes ≡ writes
 all_carried [] = refl
 all_carried (w ∷ writes) = ap (λ (ws : List Write). w ∷ ws) (all_carried writes)
-
--- ---- copied tracks as entries
-
-pub copy_length : (head : EntryHead) (recs : List Rec) → length (copy_of head recs).form ≡ 15 + length (image recs)
-copy_length head recs = omega arith

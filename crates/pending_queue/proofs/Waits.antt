@@ -1,9 +1,8 @@
 -- Entries that wait with their chains: one more at the end, one less at the front, and one that goes from the front to the end.
-use Rattle.std.proofs.Common.{◌≡◌, ℕ, suc, ◌≤◌, ◌<◌, Bool, true, false, cond, List, [], ◌∷◌, ◌++◌, length, get_or, take, drop, refl, sym, ap, ◌∙◌, subst, arith, inl, inr, length-append}
-use Rattle.std.specs.Prelude.{nat_eq}
+use Rattle.std.proofs.Common.{◌≡◌, ℕ, suc, ◌≤◌, ◌<◌, List, [], ◌∷◌, ◌++◌, length, get_or, take, drop, refl, sym, ap, ◌∙◌, subst, arith, inl, inr, length-append}
 use Rattle.std.specs.List.{All, sum_by}
 use Rattle.std.proofs.lemmas.Bool.{cases_lt}
-use Rattle.std.proofs.lemmas.List.{length-map, length-take-le, length-set, map-append, get_or-map}
+use Rattle.std.proofs.lemmas.List.{length-map, length-take-le, map-append, get_or-map}
 use Rattle.std.proofs.lemmas.List.Elements.{All-head, All-tail, All-push}
 use Rattle.std.proofs.lemmas.List.Quantifiers.{all_pairs_push}
 use Rattle.std.proofs.lemmas.List.Sums.{sum_by-cons, sum_by_push}
@@ -111,14 +110,6 @@ given most old capacity before after waiting rest w kept is given_back same_capa
       };
       entries = same ∙ sym (ap (λ (ws : List Waiting). drop 1 (entries_in before ws)) is);
     }
-
--- A give leaves the number of blocks.
-pub given_count : (region : RegionState) (chain : ChainState) → block_count (without_chain region chain) ≡ block_count region
-given_count region chain = choose (nat_eq chain.len 0)
-  where
-    choose : (t : Bool) → block_count (cond t region (with_chain region chain.first [])) ≡ block_count region
-    choose true = refl
-    choose false = length-set region.chains chain.first []
 
 -- ---- the first behind the others
 

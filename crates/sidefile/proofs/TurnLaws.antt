@@ -245,6 +245,3 @@ module _ {before now : Option (List ℕ)} {faults risen : ℕ} {old new : Reader
     within = omega (arith, there);
     keeps = tt;
   }
-
-  pub starved_turn : upto ≤ limit → risen ≡ faults → IsTurn control limit upto before now faults risen (Some first) old new (record { hand = hands.NoMemory; waiting = None })
-  starved_turn le count = record { due = tt; holds = tt; fault = count; volumes = h.volumes; rises = omega arith; within = le; keeps = tt }

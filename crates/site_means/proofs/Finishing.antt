@@ -25,9 +25,6 @@ pub record Going (shape : Shape) (images : Images) (first now : Walking) : Type 
   pub time : now.time.0 ≡ last_time first.time.0 groups
   pub table : now.table ≡ with_rows first.table now.table.rows
 
-pub going_first : (shape : Shape) (images : Images) (first : Walking) → Going shape images first first
-going_first shape images first = record { groups = []; is = refl; time = refl; table = refl }
-
 time_append : (mark : ℕ) (a b : List Logged) → last_time mark (a ++ b) ≡ last_time (last_time mark a) b
 time_append mark [] b = refl
 time_append mark (g ∷ a) b = time_append g.time a b

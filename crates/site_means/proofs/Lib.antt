@@ -10,6 +10,4 @@ pub mod Meanings
 pub mod Agreeing
 pub mod Contents
 pub mod Reaching
-pub mod OneSet
-pub mod Appending
-pub mod Marked
+pub mod Drawn

@@ -18,28 +18,8 @@ module _ (plant : PlantState) where
       left : plant.journals - n ≡ suc (plant.journals - suc n)
       left = omega (arith, lt)
 
-  pub next_short : (n : ℕ) → n < plant.journals → is_short plant (Journal n) ≡ true → short_from n ≡ Some (Journal n)
-  next_short n lt is = one_more n lt ∙ ap (λ (b : Bool). cond b (Some (Journal n)) (short_from (suc n))) is
-
   pub next_long : (n : ℕ) → n < plant.journals → is_short plant (Journal n) ≡ false → short_from n ≡ short_from (n + 1)
   next_long n lt is = one_more n lt ∙ ap (λ (b : Bool). cond b (Some (Journal n)) (short_from (suc n))) is ∙ ap short_from (omega arith)
-
-  pub none_left : (n : ℕ) → plant.journals ≤ n → short_from n ≡ None
-  none_left n past = let none : plant.journals - n ≡ 0 = omega (arith, past) in ap (λ (k : ℕ). find (is_short plant) (journals_from n k)) none
-
-  pub past_both : is_short plant Control ≡ false → is_short plant State ≡ false → first_short plant ≡ short_from 0
-  past_both control state =
-      ap (λ (b : Bool). cond b (Some Control) (cond (is_short plant State) (Some State) (find (is_short plant) (journals_from 0 plant.journals)))) control
-      ∙ ap (λ (b : Bool). cond b (Some State) (find (is_short plant) (journals_from 0 plant.journals))) state
-      ∙ ap (λ (k : ℕ). find (is_short plant) (journals_from 0 k)) (omega arith)
-
-  pub control_short : is_short plant Control ≡ true → first_short plant ≡ Some Control
-  control_short control = ap (λ (b : Bool). cond b (Some Control) (cond (is_short plant State) (Some State) (find (is_short plant) (journals_from 0 plant.journals)))) control
-
-  pub state_short : is_short plant Control ≡ false → is_short plant State ≡ true → first_short plant ≡ Some State
-  state_short control state =
-      ap (λ (b : Bool). cond b (Some Control) (cond (is_short plant State) (Some State) (find (is_short plant) (journals_from 0 plant.journals)))) control
-      ∙ ap (λ (b : Bool). cond b (Some State) (find (is_short plant) (journals_from 0 plant.journals))) state
 
   -- ---- no device is short
 

@@ -100,12 +100,6 @@ module _ (volumes : ℕ) (items : List Item) (first : Table) (bytes : List ℕ) 
     unfit_is b is = ap (λ (l : List Item). first_unfit volumes at table.rows l) n.todo_is
         ∙ (λ i. cond (is i) (first_unfit volumes (at + sym n.size_is i) (rows_by n.i table.rows) n.more) (Some at))
 
-    -- it doesn't fit
-    pub taken_none : (new : Table) (fit : Bool) → fit ≡ false → (are_below volumes table.rows ≡ true → fit ≡ fits_rows volumes table.rows n.i) → are_below volumes first.rows ≡ true → TakesRows volumes 0 items (Some at) first new
-    taken_none new fit not_fit test below =
-        let f = t.fits below in
-        (sym (f.unfit ∙ unfit_is false (sym (test f.below) ∙ not_fit)), λ none. absurd cc)
-
     -- it was taken
     pub taken_next : (new : Table) (fit : Bool) → fit ≡ true → (are_below volumes table.rows ≡ true → fit ≡ fits_rows volumes table.rows n.i) → new ≡ with_rows table (rows_by n.i table.rows) → Taking volumes items first bytes (at + size) new
     taken_next new fit does_fit test is = record {
@@ -125,18 +119,6 @@ module _ (volumes : ℕ) (items : List Item) (first : Table) (bytes : List ℕ) 
             table_is = is ∙ ap (λ (k : Table). with_rows k (rows_by n.i table.rows)) f.table_is ∙ ap (λ (l : List PairRow). with_rows first l) (sym rows_are);
           };
     }
-
-  -- all were taken
-  none_by : (todo : List Item) → (let a : Option (BodyItem × ℕ) = None in a ≡ first_told todo) → todo ≡ []
-  none_by [] e = refl
-  none_by (i ∷ more) e = absurd cc
-
-  pub taken_all : (let a : Option (BodyItem × ℕ) = None in a ≡ first_told t.todo) → are_below volumes first.rows ≡ true → TakesRows volumes 0 items None first table
-  taken_all e below =
-      let f = t.fits below in
-      let none = none_by t.todo e in
-      let rows_are : rows_through items first.rows ≡ table.rows = f.rows ∙ ap (λ (l : List Item). rows_through l table.rows) none in
-      (sym (f.unfit ∙ ap (λ (l : List Item). first_unfit volumes at table.rows l) none), λ any. f.table_is ∙ ap (λ (l : List PairRow). with_rows first l) (sym rows_are))
 
 -- ---- places
 

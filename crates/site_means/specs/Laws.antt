@@ -1,17 +1,17 @@
--- The laws of what images mean. Each is the contract of a public function without parameters.
-use Rattle.std.specs.Prelude.{◌≡◌, ◌≢◌, ◌^◌, ◌<◌, ℕ, List, [], ◌∷◌, ◌++◌, slice_index, true, Some, None, Ok}
+-- On what the meaning of images depends, a law that is the contract of a public function without parameters; and a walk with a group at
+-- its end.
+use Rattle.std.specs.Prelude.{◌≡◌, ℕ, List, [], ◌∷◌, ◌++◌, true, Some, None, Ok}
 use Rattle.crash_plant.specs.declared.spot.Spot.{Spot}
 use Rattle.crash_plant.specs.declared.device.Device.TheVariants.{Journal}
 use Rattle.control_set.specs.declared.value.Mark.{Mark}
 use Rattle.pair_table.specs.declared.row.PairRow.{PairRow}
 use Rattle.pair_table.specs.Tables.{with_rows}
 use Rattle.state_set.specs.Slots.{Stored}
-use Rattle.xrc_journal.specs.Walks.{KeepsWalks, Logged}
+use Rattle.xrc_journal.specs.Walks.{Logged}
 use Rattle.site_means.specs.declared.means.Means.{Means}
 use Rattle.site_means.specs.Images.{Images, Shape}
-use Rattle.site_means.specs.Walk.{Walk, first_unfit, has_entered, rows_through, walk_in, walk_items}
+use Rattle.site_means.specs.Walk.{Walk, first_unfit, has_entered, rows_through, walk_in}
 use Rattle.site_means.specs.Meaning.{chosen_in, meaning_in, stored_in}
-use Rattle.site_means.specs.Meaning.Meaning.{Meant}
 
 -- ---- on what the meaning depends
 
@@ -46,29 +46,9 @@ with_group g means = record {
 abbrev pub and_group : Logged → (after : Spot) → Walk → Walk
 and_group g after w = record { groups = w.groups ++ g ∷ []; rows = rows_through g.items w.rows; entered = w.entered; at = after; last = g.time; bad = None }
 
--- ---- walks without a switch
+-- ---- groups of a walk
 
 -- The groups fit the rows, one after another.
 abbrev pub FitRows : (volumes : ℕ) → List PairRow → List Logged → Type 0
 FitRows volumes rows [] = Unit {0}
 FitRows volumes rows (g ∷ groups) = (first_unfit volumes 0 rows g.items ≡ None) × FitRows volumes (rows_through g.items rows) groups
-
--- the walk over one data set
-abbrev pub one_set : Mark → List PairRow → List Logged → (to : Spot) → (time : ℕ) → Walk
-one_set m rows groups to time =
-    let w : Walk = record { groups = groups; rows = rows; entered = m.at.set ∷ []; at = to; last = time; bad = None } in
-    record { groups = groups; rows = rows_through (walk_items w) rows; entered = m.at.set ∷ []; at = to; last = time; bad = None }
-
--- Where the walk enters one data set, and each walk to its end there is one over another image of that data set too, the meaning is
--- the same.
-abbrev pub KeptWalksMeanTheSame : Type 0
-KeptWalksMeanTheSame = (shape : Shape) (a b : Images) (means : Means) (w : Walk) → meaning_in shape a ≡ Meant means w → AgreeOnMark shape a b → w.entered ≡ means.from.set ∷ [] → means.from.number < 2 ^ 64
-    → KeepsWalks shape.form shape.sets means.from w.at (a (Journal means.from.set)) (b (Journal means.from.set)) → meaning_in shape b ≡ Meant means w
-
--- ---- content
-
--- A mark at the end of a walk, whose state slot holds the level and the rows, means the same by a walk without a group.
-abbrev pub MarksMeanTheSame : Type 0
-MarksMeanTheSame = (shape : Shape) (a b : Images) (means : Means) (w : Walk) (m : Mark) → meaning_in shape a ≡ Meant means w → slice_index (b (Journal w.at.set)) w.at.place ≢ 1
-    → chosen_in shape b ≡ Ok (Some m) → stored_in shape b m ≡ Ok (record { level = means.level; rows = means.table.rows }) → m.at ≡ w.at → m.session ≡ means.session → m.time ≡ means.time
-    → meaning_in shape b ≡ Meant (record { session = means.session; level = means.level; time = means.time; table = means.table; from = w.at; ended = m.ended }) (record { groups = []; rows = means.table.rows; entered = w.at.set ∷ []; at = w.at; last = means.time.0; bad = None })

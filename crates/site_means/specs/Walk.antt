@@ -4,7 +4,6 @@ use Rattle.crash_plant.specs.declared.layout.TheConstants.{FRONT}
 use Rattle.std.specs.List.{flat_map, list_any}
 use Rattle.crash_plant.specs.declared.spot.Spot.{Spot}
 use Rattle.crash_plant.specs.declared.device.Device.TheVariants.{Journal}
-use Rattle.crash_plant.specs.Moments.{PlantState}
 use Rattle.control_set.specs.declared.value.Mark.{Mark}
 use Rattle.pair_table.specs.declared.row.PairRow.{PairRow}
 use Rattle.pair_table.specs.Tables.{is_of, with_row, without_row}
@@ -14,7 +13,7 @@ use Rattle.xrc_journal.specs.Items.Item.{Image, Delta, Pair, Gone}
 use Rattle.xrc_journal.specs.Records.{Found, walk_one}
 use Rattle.xrc_journal.specs.Records.Found.{End, Group, Switch, Damaged}
 use Rattle.xrc_journal.specs.Walks.{Logged}
-use Rattle.site_means.specs.Images.{Images, Shape, shape_of}
+use Rattle.site_means.specs.Images.{Images, Shape}
 
 -- ---- the rules over several records
 
@@ -130,10 +129,6 @@ start m rows = record { rows = rows; entered = m.at.set ∷ []; at = m.at; last 
 
 abbrev pub walk_in : Shape → Images → Mark → List PairRow → Walk
 walk_in shape images m rows = walk_from (turns_at m.at) shape images (start m rows)
-
--- the walk from a mark, with the rows of its state slot
-abbrev pub walk : PlantState → Images → Mark → List PairRow → Walk
-walk plant images m rows = walk_in (shape_of plant) images m rows
 
 -- all items of a walk, in order
 abbrev pub walk_items : Walk → List Item

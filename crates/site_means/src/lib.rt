@@ -10,7 +10,7 @@ mod site_error;
 mod walking;
 
 pub use examining::{check_lengths, examine, read_journals, read_mark, read_state};
-pub use laws::{kept_walks_mean_the_same, marks_mean_the_same, meanings_agree};
+pub use laws::meanings_agree;
 pub use lengths::longest_body;
 pub use means::Means;
 pub use site_error::SiteError;

@@ -29,7 +29,7 @@ use Rattle.site_means.specs.Meaning.Meaning.{Meant}
 use Rattle.site_means.specs.Sight.{meant_by, walked, walked_by}
 use Rattle.site_means.proofs.Agreeing.{meanings_agree}
 use Rattle.site_means.proofs.Goes.{shape_same}
-use Rattle.site_means.proofs.Marked.{contents_are_drawn}
+use Rattle.site_means.proofs.Drawn.{contents_are_drawn}
 use Rattle.site_store.specs.Doing.{DoesDeeds}
 use Rattle.site_store.specs.Exceptions.{Exceptions}
 use Rattle.site_store.proofs.Single.{same_content}

@@ -1,5 +1,5 @@
 -- What a slot's bytes hold, from their fields.
-use Rattle.std.proofs.Common.{◌≡◌, ℕ, ◌≤◌, ◌<◌, Bool, true, false, cond, nat_le, ◌&&◌, List, length, take, drop, slice_index, option_map, Option, Some, None, refl, ap, ◌∙◌, arith}
+use Rattle.std.proofs.Common.{◌≡◌, ℕ, ◌≤◌, ◌<◌, true, false, ◌&&◌, List, length, take, drop, slice_index, option_map, Option, Some, None, refl, ap, ◌∙◌, arith}
 use Rattle.std.specs.Prelude.{slice_range, bytes_eq}
 use Rattle.std.specs.Int.{w16, from_be_bytes}
 use Rattle.std.proofs.lemmas.Bool.{le-leb}
@@ -28,14 +28,6 @@ too_many volumes count bytes many = by_rows (rows_at count bytes) refl
         rw (not_then (are_rows volumes rows) false (λ are. absurd (omega (arith, (rows_parts volumes rows are).few, long, many))) refl) refl
 
 module _ (volumes : ℕ) (session bytes : List ℕ) where
-  pub untitled : bytes_eq (title session) (take 12 bytes) ≡ false → state_at volumes session bytes ≡ None
-  untitled e = by_length (nat_le 15 (length bytes)) (bytes_eq (title session) (take 12 bytes)) e
-    where
-      by_length : (a b : Bool) → b ≡ false → cond (a && b) (slot_fields volumes bytes) None ≡ None
-      by_length true true e = absurd cc
-      by_length true false e = refl
-      by_length false b e = refl
-
   module _ (long : 15 ≤ length bytes) (titled : bytes_eq (title session) (take 12 bytes) ≡ true) where
     pub is_fields : state_at volumes session bytes ≡ slot_fields volumes bytes
     is_fields = rw (le-leb 15 (length bytes) long, titled) refl

@@ -7,7 +7,6 @@ use Rattle.atomic_table.proofs.shared.Shared.TheSendSync.{the_sync as shared_syn
 use Rattle.atomic_table.proofs.send_lease.SendLease.TheSendSync.{the_sync as lease_sync}
 use Rattle.group_state.specs.contracts.state.GroupState as State
 use Rattle.turn_group.specs.contracts.seats.ReaderSeat as Reader
-use Rattle.turn_group.specs.contracts.seats.MoverSeat as Mover
 use Rattle.turn_group.specs.contracts.group.TurnGroup as Table
 
 pub state_send : IsSend State.the_row
@@ -15,9 +14,6 @@ state_send = search (sendable, crosses) depth 40
 
 pub reader_send : IsSend Reader.the_row
 reader_send = search (state_send, seat_send, sendable, crosses) depth 40
-
-pub mover_send : IsSend Mover.the_row
-mover_send = search (state_send, seat_send, sendable, crosses) depth 40
 
 pub group_sync : IsSync Table.the_row
 group_sync = search (state_send, shared_sync, lease_sync, sendable, crosses) depth 40

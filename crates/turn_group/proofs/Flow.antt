@@ -42,10 +42,6 @@ filter_true : {A : Type 0} (items : List A) → filter (λ a. true) items ≡ it
 filter_true [] = refl
 filter_true (a ∷ items) = ap (λ l. a ∷ l) (filter_true items)
 
-filter_false : {A : Type 0} (items : List A) → filter (λ a. false) items ≡ []
-filter_false [] = refl
-filter_false (a ∷ items) = filter_false items
-
 filter_more : {A : Type 0} (p : A → Bool) (xs ys : List A) → filter p (xs ++ ys) ≡ filter p xs ++ filter p ys
 filter_more p [] ys = refl
 filter_more {A} p (x ∷ xs) ys = choose (p x) (filter_more p xs ys)

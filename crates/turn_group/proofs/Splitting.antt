@@ -7,7 +7,7 @@ use Rattle.turn.specs.declared.view.Stage.TheVariants.{Idle}
 use Rattle.turn.specs.Turn.{without_second, second_alone, with_one_more, new_view}
 use Rattle.group_state.specs.Groups.{Group, control_at}
 use Rattle.group_state.specs.Controls.{is_telling}
-use Rattle.turn_group.specs.Notes.{SeatNote, volumes_known, reader_notes}
+use Rattle.turn_group.specs.Notes.{volumes_known, reader_notes}
 use Rattle.turn_group.specs.Notes.SeatNote.{MoverNote, ReaderNote}
 use Rattle.turn_group.specs.Seats.{SeatView, ReaderSeatState, AllFrom, IsAtPlace, new_reader, new_readers}
 use Rattle.turn_group.proofs.Notes.{notes_more}
@@ -15,9 +15,6 @@ use Rattle.turn_group.proofs.Notes.{notes_more}
 -- the mover's view once so many seats are split off: the notes of the other readers are with it
 abbrev pub split_view : Group → (made : ℕ) → SeatView
 split_view s k = record { first = Some s; stage = Idle; mine = []; joined = []; seats = k + 1; notes = MoverNote s.last (volumes_known s) ∷ reader_notes k (drop k s.controls) }
-
-notes_from : Group → (k : ℕ) → List SeatNote
-notes_from s k = reader_notes (suc k) (drop (k + 1) s.controls)
 
 suc_is : (k : ℕ) → suc k ≡ k + 1
 suc_is k = omega arith

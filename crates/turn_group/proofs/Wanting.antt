@@ -8,7 +8,7 @@ use Rattle.change_map.proofs.InSets.{had_within}
 use Rattle.group_state.specs.declared.volume.Volume.{Volume}
 use Rattle.group_state.specs.Volumes.{volume_of, passes, wants, is_wanted}
 use Rattle.group_state.specs.Groups.{Group, control_at}
-use Rattle.group_state.specs.Sound.{passes_or_none, has_sizes, is_track_within, Sound}
+use Rattle.group_state.specs.Sound.{has_sizes, Sound}
 use Rattle.turn_group.specs.Notes.{known_volume}
 use Rattle.turn_group.specs.Seats.{is_track_of_control}
 use Rattle.turn_group.proofs.Known.{HasSizesOf, sizes_in, sizes_at}
@@ -56,11 +56,3 @@ track_before first s k v x h is =
 pub next_within : (first x : Group) (k : ℕ) → HasSizesOf first x → Sound (control_at x k) → (r : Option (ℕ × ℕ)) → IfSome r (λ p. is_wanted p.0 p.1 (control_at x k).volumes ≡ true) → IfSome r (λ p. is_track_of_control first k p.0 p.1 ≡ true)
 next_within first x k sizes sound None wanted = tt
 next_within first x k sizes sound (Some p) wanted = track_before first x k p.0 p.1 sizes (wanted_within (control_at x k).volumes p.0 p.1 sound.sizes wanted)
-
--- so it may be joined
-pub track_may : (first : Group) (k v x : ℕ) → is_track_of_control first k v x ≡ true → is_track_within (control_at first k).volumes v x ≡ true
-track_may first k v x = choose (volume_of v (control_at first k).volumes)
-  where
-    choose : (o : Option Volume) → passes (has x) o ≡ true → passes_or_none (has x) o ≡ true
-    choose None is = refl
-    choose (Some u) is = is

@@ -1,24 +1,9 @@
 -- The headers of the traces keep the rules, and so do the serials in them.
 use Rattle.std.proofs.Common.{◌≡◌, ◌<◌, ◌+◌, [], ℕ, zero, suc, map, true, IsTrue, refl, arith}
 use Rattle.std.specs.List.{range_with_len}
-use Rattle.tod_stamp.specs.Names.{is_serial}
 use Rattle.ckd_track.specs.Tracks.{IsTrack}
 use Rattle.write_trace.specs.Headers.{are_volumes, is_header_of}
-use Rattle.workload.specs.Scripts.{secondary_named}
-use Rattle.workload.specs.Traces.{generated_header, generated_volumes, primary_named, zero_record}
-
-pub primaries_are_named : (n : ℕ) → n < 10 → IsTrue (is_serial (primary_named n))
-primaries_are_named zero lt = refl
-primaries_are_named (suc zero) lt = refl
-primaries_are_named (suc (suc zero)) lt = refl
-primaries_are_named (suc (suc (suc zero))) lt = refl
-primaries_are_named (suc (suc (suc (suc zero)))) lt = refl
-primaries_are_named (suc (suc (suc (suc (suc zero))))) lt = refl
-primaries_are_named (suc (suc (suc (suc (suc (suc zero)))))) lt = refl
-primaries_are_named (suc (suc (suc (suc (suc (suc (suc zero))))))) lt = refl
-primaries_are_named (suc (suc (suc (suc (suc (suc (suc (suc zero)))))))) lt = refl
-primaries_are_named (suc (suc (suc (suc (suc (suc (suc (suc (suc zero))))))))) lt = refl
-primaries_are_named (suc (suc (suc (suc (suc (suc (suc (suc (suc (suc n)))))))))) lt = absurd (omega (arith, lt))
+use Rattle.workload.specs.Traces.{generated_header, generated_volumes, zero_record}
 
 pub headers_keep_rules : (control : ℕ) → control < 4 → IsTrue (is_header_of 1 (generated_header control))
 headers_keep_rules zero lt = refl
@@ -41,16 +26,3 @@ volumes_keep_rules (suc zero) lt = refl
 volumes_keep_rules (suc (suc zero)) lt = refl
 volumes_keep_rules (suc (suc (suc zero))) lt = refl
 volumes_keep_rules (suc (suc (suc (suc n)))) lt = absurd (omega (arith, lt))
-
-pub secondaries_are_named : (n : ℕ) → n < 10 → IsTrue (is_serial (secondary_named n))
-secondaries_are_named zero lt = refl
-secondaries_are_named (suc zero) lt = refl
-secondaries_are_named (suc (suc zero)) lt = refl
-secondaries_are_named (suc (suc (suc zero))) lt = refl
-secondaries_are_named (suc (suc (suc (suc zero)))) lt = refl
-secondaries_are_named (suc (suc (suc (suc (suc zero))))) lt = refl
-secondaries_are_named (suc (suc (suc (suc (suc (suc zero)))))) lt = refl
-secondaries_are_named (suc (suc (suc (suc (suc (suc (suc zero))))))) lt = refl
-secondaries_are_named (suc (suc (suc (suc (suc (suc (suc (suc zero)))))))) lt = refl
-secondaries_are_named (suc (suc (suc (suc (suc (suc (suc (suc (suc zero))))))))) lt = refl
-secondaries_are_named (suc (suc (suc (suc (suc (suc (suc (suc (suc (suc n)))))))))) lt = absurd (omega (arith, lt))

@@ -3,7 +3,7 @@ use Rattle.std.proofs.Common.{◌≡◌, Bool, true, false, not, List, [], ◌�
 use Rattle.std.specs.List.{filter}
 use Rattle.std.proofs.lemmas.Bool.{cases_Bool, and_parts, and_from, not_from_false}
 use Rattle.xrc_edge.specs.Order.{put_in_order, in_order, is_in_order}
-use Rattle.xrc_edge.proofs.OrderLaws.{IsOrder, none_below, none_below_through, put_first, order_orders, order_stays}
+use Rattle.xrc_edge.proofs.OrderLaws.{IsOrder, none_below, none_below_through, put_first, order_orders}
 
 pub none_below_filter : {A : Type 0} (below : A → A → Bool) (p : A → Bool) (a : A) (items : List A) → none_below below a items ≡ true → none_below below a (filter p items) ≡ true
 none_below_filter below p a [] e = refl
@@ -51,26 +51,3 @@ filter_order below order p (a ∷ items) =
       | inl pa ↦ simp pa (filter_put_yes below order p a (in_order below items) pa (order_orders below order items) ∙ ap (put_in_order below a) (filter_order below order p items))
       | inr pa ↦ simp pa (filter_put_no below p a (in_order below items) pa ∙ filter_order below order p items)
     ]
-
-none_below_alike : {A : Type 0} (below : A → A → Bool) (p : A → Bool) → ((a b : A) → p a ≡ true → p b ≡ true → below b a ≡ false) → (a : A) (items : List A) → p a ≡ true → none_below below a (filter p items) ≡ true
-none_below_alike below p alike a [] pa = refl
-none_below_alike below p alike a (b ∷ items) pa =
-    let rest = none_below_alike below p alike a items pa in
-    elim (cases_Bool (p b)) [
-      | inl pb ↦ simp pb (and_from (not (below b a)) (none_below below a (filter p items)) (not_from_false (below b a) (alike a b pa pb)) rest)
-      | inr pb ↦ simp pb rest
-    ]
-
-alike_in_order : {A : Type 0} (below : A → A → Bool) (p : A → Bool) → ((a b : A) → p a ≡ true → p b ≡ true → below b a ≡ false) → (items : List A) → is_in_order below (filter p items) ≡ true
-alike_in_order below p alike [] = refl
-alike_in_order below p alike (a ∷ items) =
-    let rest = alike_in_order below p alike items in
-    elim (cases_Bool (p a)) [
-      | inl pa ↦ simp pa (and_from (none_below below a (filter p items)) (is_in_order below (filter p items)) (none_below_alike below p alike a items pa) rest)
-      | inr pa ↦ simp pa rest
-    ]
-
--- Items of which none is below another keep their positions.
-pub positions_stay : {A : Type 0} (below : A → A → Bool) → IsOrder below → (p : A → Bool) → ((a b : A) → p a ≡ true → p b ≡ true → below b a ≡ false) → (items : List A) → filter p (in_order below items) ≡ filter p items
-positions_stay below order p alike items =
-    filter_order below order p items ∙ order_stays below (filter p items) (alike_in_order below p alike items)

@@ -44,19 +44,3 @@ fault_has_room why needed free set not = record { refused = λ full. absurd (not
 pub on_ok_both : {T E P Q R : Type 0} (result : Result T E) → (P → Q → R) → OnOk result P → OnOk result Q → OnOk result R
 on_ok_both (Ok value) both one two = both one two
 on_ok_both (Err error) both one two = tt
-
-pub on_ok_all : {T E P Q R S U : Type 0} (result : Result T E) → (P → Q → R → S → U) → OnOk result P → OnOk result Q → OnOk result R → OnOk result S → OnOk result U
-on_ok_all (Ok value) all one two three four = all one two three four
-on_ok_all (Err error) all one two three four = tt
-
--- ---- what it says of each answer
-
-ok_is_no_fault : (value : Unit {0}) (j : ℕ) → (let a : Result (Unit {0}) AppendError = Ok value in let b : Result (Unit {0}) AppendError = Err (Fault j) in a ≡ b) → ⊥
-ok_is_no_fault value j e = cc
-
-pub grows_ok : (among : Device → Type 0) (old new : PlantState) (result : Result (Unit {0}) AppendError) (d : Device) → GrowCause among old new result → OnOk result (new.faults d ≡ old.faults d)
-grows_ok among old new (Ok value) d cause = cause.others d (λ j fault. absurd (ok_is_no_fault value j fault))
-grows_ok among old new (Err error) d cause = tt
-
-pub refusal_grows : (among : Device → Type 0) (old new : PlantState) (result : Result (Unit {0}) AppendError) (n f : ℕ) (d : Device) → (let refusal : Result (Unit {0}) AppendError = Err (NoRoom n f) in result ≡ refusal) → GrowCause among old new result → new.faults d ≡ old.faults d
-refusal_grows among old new result n f d is cause = cause.others d (λ j fault. absurd (fault_not_full j n f (sym fault ∙ is)))

@@ -46,10 +46,6 @@ IsBytes-rest front rest fits = subst (λ (t : List ℕ). IsBytes t) (drop_at fro
 pub IsBytes-front : (front rest : List ℕ) → IsBytes (front ++ rest) → IsBytes front
 IsBytes-front front rest fits = subst (λ (t : List ℕ). IsBytes t) (take_at front rest (length front) refl) (IsBytes-take (length front) (front ++ rest) fits)
 
--- nothing was taken
-pub none_taken : (left : Left) → IsBytes left.bytes → Takes left [] left
-none_taken left fits = record { parts = refl; place = omega arith; rest_bytes = fits }
-
 -- ---- images
 
 -- what is left behind so many bytes

@@ -31,9 +31,6 @@ module _ (form : Form) (no_deltas : form.deltas ≡ false) (bytes rest given : L
   pub fill_keeps : are_items_behind form none_earlier (items_of (take n (slice_set (bytes ++ rest) n 0))) ≡ true
   fill_keeps = ap (λ (l : List ℕ). are_items_behind form none_earlier (items_of l)) same ∙ front.keep
 
-  pub fill_within : n ≤ count
-  fill_within = omega (arith, n_le, size)
-
   pub fill_items : (place : ℕ) → items_at form place bytes ≡ record { good = items_of (take n (slice_set (bytes ++ rest) n 0)); bad = cond (nat_eq n count) None (Some (place + n)) }
   fill_items place =
       ap (λ (l : List ℕ). items_at form place l) (sym given_is) ∙ front.read place

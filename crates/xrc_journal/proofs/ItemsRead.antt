@@ -1,5 +1,5 @@
 -- What is read as items keeps the rules and was spelled so.
-use Rattle.std.proofs.Common.{◌≡◌, ◌≢◌, ℕ, zero, suc, ◌+◌, ◌^◌, ◌<◌, ◌≤◌, Bool, true, false, not, cond, nat_eq, nat_lt, ◌&&◌, ◌||◌, List, [], ◌∷◌, ◌++◌, length, Some, None, Result, Ok, Err, refl, sym, ap, subst, ◌∙◌, append_assoc, arith, length-append}
+use Rattle.std.proofs.Common.{◌≡◌, ◌≢◌, ℕ, zero, suc, ◌+◌, ◌^◌, ◌<◌, ◌≤◌, Bool, true, false, not, cond, nat_eq, nat_lt, ◌&&◌, ◌||◌, List, [], ◌∷◌, ◌++◌, length, Some, None, IsTrue, Result, Ok, Err, refl, sym, ap, subst, ◌∙◌, append_assoc, arith, length-append}
 use Rattle.std.specs.Int.{w8, w16, w32, to_be_bytes}
 use Rattle.std.proofs.lemmas.Bool.{lt-ltb, eqb-true}
 use Rattle.tod_stamp.specs.Fields.{◌>>=◌, IsBytes, Left, Bad, bytes_at, number_at, any}
@@ -10,11 +10,10 @@ use Rattle.ckd_track.specs.Tracks.{is_track}
 use Rattle.ckd_track.specs.Images.{image}
 use Rattle.pair_table.specs.Rows.{row_at}
 use Rattle.pair_table.proofs.RowReads.{rows_keep, rows_spelled}
-use Rattle.xrc_journal.specs.Items.{Item, Form, Earlier, none_earlier, behind, behind_all, may_draw, is_item, are_items_behind, item_spelling, body_spelling}
+use Rattle.xrc_journal.specs.Items.{AreItems, Item, Form, Earlier, none_earlier, behind, behind_all, may_draw, is_item, are_items_behind, item_spelling, body_spelling}
 use Rattle.xrc_journal.specs.Items.Item.{Image, Delta, Pair, Gone}
 use Rattle.xrc_journal.specs.Deltas.{change_at}
 use Rattle.xrc_journal.specs.Reading.{Items, track_at, body_image_field, row_or, image_item_at, delta_item_at, pair_item_at, gone_item_at, is_tag, item_at, no_items, first_and_rest, items_from, items_at}
-use Rattle.xrc_journal.specs.Laws.{BeginWith}
 use Rattle.xrc_journal.proofs.Changes.{change_takes}
 use Rattle.xrc_journal.proofs.Fields.{and_true, given_is, some_is, one_byte, image_takes, row_given, IsBytes-front}
 use Rattle.xrc_journal.proofs.ItemsAgain.{items_again, some_bytes}
@@ -202,6 +201,16 @@ body_takes (suc turns) form earlier left fits le =
     (λ i i_fits read. let taken = item_takes form earlier left i.0 i.1 fits read in
     body_takes turns form (behind i.0 earlier) i.1 i_fits (omega (arith, le, some_bytes i.0, ap length taken.takes.parts, length-append (item_spelling i.0) i.1.bytes)))
     (nat_eq (length left.bytes) 0) refl
+
+-- These items stand spelled at the front, and they are all, or another that is bad begins behind them.
+pub record BeginWith (form : Form) (place : ℕ) (bytes : List ℕ) (items : Items) : Type 0 where
+  pub keep : AreItems form items.good
+  pub rest : List ℕ
+  pub parts : bytes ≡ body_spelling items.good ++ rest
+  pub all : items.bad ≡ None → rest ≡ []
+  pub others : (at : ℕ) → items.bad ≡ Some at → at ≡ place + length (body_spelling items.good)
+  -- No item that may follow these stands there.
+  pub refused : (at : ℕ) → items.bad ≡ Some at → (item : Item) (more : List ℕ) → IsTrue (is_item form (behind_all items.good none_earlier) item) → rest ≢ item_spelling item ++ more
 
 -- What is read as the items of a body keeps the rules and was spelled so.
 pub bodies_spelled : (form : Form) (place : ℕ) (bytes : List ℕ) → IsBytes bytes → BeginWith form place bytes (items_at form place bytes)

@@ -1,10 +1,10 @@
 -- The moments of a record that is put behind a gate that isn't 1, over plain states.
-use Rattle.std.proofs.Common.{◌≡◌, ◌≢◌, ℕ, ◌+◌, ◌≤◌, ◌<◌, List, ◌∷◌, ◌++◌, length, take, drop, slice_index, sym, ap, subst, ◌∙◌, arith, append_assoc, length-take}
+use Rattle.std.proofs.Common.{◌≡◌, ◌≢◌, ℕ, ◌+◌, ◌≤◌, ◌<◌, List, ◌∷◌, ◌++◌, length, take, drop, slice_index, sym, ap, ◌∙◌, arith, append_assoc, length-take}
 use Rattle.std.proofs.lemmas.List.{drop_at, get_or-drop}
 use Rattle.crash_plant.specs.Bytes.{patched, Torn}
 use Rattle.crash_plant.specs.Moments.{Standing, Kept, Follows}
 use Rattle.crash_plant.proofs.Patches.{patched_torn, torn_more, torn_twice}
-use Rattle.crash_plant.proofs.Steps.{follows_here, follows_then}
+use Rattle.crash_plant.proofs.Steps.{follows_then}
 use Rattle.crash_plant.proofs.Behind.{byte_before, from_gate, torn_again, torn_here}
 use Rattle.xrc_journal.specs.Appending.{IsShutAt, PutsRecord}
 
@@ -17,10 +17,6 @@ byte_of_patched place n behind b within =
     (ap (λ (l : List ℕ). drop place l) (append_assoc (take place b) (n ∷ behind) (drop (place + length (n ∷ behind)) b)) ∙ drop_at (take place b) ((n ∷ behind) ++ drop (place + length (n ∷ behind)) b) place (omega (arith, length-take place b, within)))
 
 module _ (size needed place : ℕ) (behind : List ℕ) where
-  -- nothing is done
-  puts_none : (b : List ℕ) → slice_index b place ≢ 1 → PutsRecord size needed place behind b b
-  puts_none b shut = record { torn = torn_here place (1 + length behind) b; long = λ is. absurd (shut is); room = λ is. absurd (shut is); stands = λ is. absurd (shut is) }
-
   -- while it is written behind the gate
   puts_staged : (b c : List ℕ) → slice_index b place ≢ 1 → Torn (place + 1) (length behind) b c → PutsRecord size needed place behind b c
   puts_staged b c shut torn = record { torn = torn_twice place 1 (length behind) b b c (torn_here place 1 b) torn; long = λ is. absurd (still is); room = λ is. absurd (still is); stands = λ is. absurd (still is) }
@@ -37,26 +33,8 @@ module _ (size needed place : ℕ) (behind : List ℕ) where
     stands = λ is. (rest, from_gate place c (omega (arith, within, long, gate.size)) ∙ ap (λ (n : ℕ). n ∷ drop (place + 1) c) is ∙ ap (λ (l : List ℕ). 1 ∷ l) (gate.after ∙ stands));
   }
 
-  pub follows_none : (a : Standing) → IsShutAt place a → Follows (PutsRecord size needed place behind) a a
-  follows_none a shut = follows_here a (PutsRecord size needed place behind) (λ b now. puts_none b (shut b now))
-
   pub follows_staged : (a d : Standing) → IsShutAt place a → Follows (Torn (place + 1) (length behind)) a d → Follows (PutsRecord size needed place behind) a d
   follows_staged a d shut torn t since to c left = let start = torn t since to c left in (start.0, start.1, puts_staged start.0 c (shut start.0 start.1) start.2)
-
-  -- what is read, once it was put
-  pub puts_patched : (b c : List ℕ) → length b ≡ size → place + 1 + length behind ≤ size → place + needed ≤ size → c ≡ patched place (1 ∷ behind) b → PutsRecord size needed place behind b c
-  puts_patched b c long range fits is = record {
-    torn = subst (λ (n : ℕ). Torn place n b c) (omega arith) torn;
-    long = λ gate. torn.size ∙ long;
-    room = λ gate. fits;
-    stands = λ gate. (
-      drop (place + length (1 ∷ behind)) b,
-      ap (λ (l : List ℕ). drop place l) (is ∙ append_assoc (take place b) (1 ∷ behind) (drop (place + length (1 ∷ behind)) b)) ∙ drop_at (take place b) ((1 ∷ behind) ++ drop (place + length (1 ∷ behind)) b) place (omega (arith, length-take place b, range, long)),
-    );
-  }
-    where
-      torn : Torn place (length (1 ∷ behind)) b c
-      torn = patched_torn place (1 ∷ behind) b c (omega (arith, range, long)) is
 
   -- what is read, once it is written behind the gate
   module _ (b y : List ℕ) (long : length b ≡ size) (range : place + 1 + length behind ≤ size) (fits : place + needed ≤ size) (is : y ≡ patched (place + 1) behind b) where

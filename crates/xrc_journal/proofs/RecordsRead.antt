@@ -10,9 +10,9 @@ use Rattle.xrc_journal.specs.Items.{Item, Form, body_spelling}
 use Rattle.xrc_journal.specs.Reading.{Items, items_at}
 use Rattle.xrc_journal.specs.Records.{Head, record_header_spelling, most_body, is_body_length, record_head_at, next_set, spot_after, spot_in, stretch, group_or, switch_or, switch_of, record_or, walk_one}
 use Rattle.xrc_journal.specs.Records.Found.{End, Group, Switch}
-use Rattle.xrc_journal.specs.Laws.{EndsAreShut, GroupsAreSpelled, SwitchesAreSpelled, BeginWith}
+use Rattle.xrc_journal.specs.Laws.{EndsAreShut, GroupsAreSpelled, SwitchesAreSpelled}
 use Rattle.xrc_journal.proofs.Fields.{both_true, given_is, one_byte}
-use Rattle.xrc_journal.proofs.ItemsRead.{bodies_spelled}
+use Rattle.xrc_journal.proofs.ItemsRead.{BeginWith, bodies_spelled}
 use Rattle.xrc_journal.proofs.RecordsAgain.{opened}
 use Rattle.xrc_journal.proofs.Steps.{number_kept}
 

@@ -68,9 +68,6 @@ begins_item bytes items f = record { earlier = f.begins.earlier; item = f.item; 
 
 -- ---- by its tag
 
-other_kind : (n m k : ℕ) → n ≡ m → n ≡ k → m ≢ k → ⊥
-other_kind n m k is at other = other (sym is ∙ at)
-
 pub row_of_tag : (bytes : List ℕ) (item : Item) → slice_index bytes 0 ≡ 3 → BeginsWith bytes item → (row : PairRow) × (item ≡ Pair row)
 row_of_tag bytes (Image device track recs) tag b = absurd (omega (arith, tag, tag_is bytes (Image device track recs) b))
 row_of_tag bytes (Delta device track kind) tag b = absurd (omega (arith, tag, tag_is bytes (Delta device track kind) b))

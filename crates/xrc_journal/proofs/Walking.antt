@@ -1,14 +1,12 @@
--- Walks: there is one from a spot, it depends on no byte behind the gate that ends it, and a group at its end is its last.
+-- Walks: there is one from a spot, and it depends on no byte behind the gate that ends it.
 use Rattle.std.proofs.Common.{◌≡◌, ◌≢◌, ℕ, ◌≤◌, List, [], ◌∷◌, length, take, slice_index, refl, sym, ap, subst, ◌∙◌, arith}
 use Rattle.crash_plant.specs.declared.spot.Spot.{Spot}
-use Rattle.xrc_journal.specs.Items.{Item, Form, body_spelling}
-use Rattle.xrc_journal.specs.Records.{spot_after, walk_one, group_spelling}
+use Rattle.xrc_journal.specs.Items.{Item, Form}
+use Rattle.xrc_journal.specs.Records.{walk_one}
 use Rattle.xrc_journal.specs.Records.Found.{End, Group}
 use Rattle.xrc_journal.specs.Walks.{Logged, Walks}
-use Rattle.xrc_journal.specs.Laws.{WalksAreOne, HasRecordAt, MayStand}
-use Rattle.xrc_journal.proofs.RecordsAgain.{groups_walked}
-use Rattle.xrc_journal.proofs.RecordsRead.{group_found, found_group, found_again, end_is_shut, shut_is_end}
-use Rattle.std.specs.Prelude.{◌+◌, ◌++◌}
+use Rattle.xrc_journal.specs.Laws.{WalksAreOne}
+use Rattle.xrc_journal.proofs.RecordsRead.{group_found, found_group, found_again, shut_is_end}
 
 -- no walk goes back
 pub walk_forth : (form : Form) (sets : ℕ) (b : List ℕ) (from to : Spot) (last time : ℕ) (groups : List Logged) → Walks form sets b from last groups to time → from.place ≤ to.place
@@ -16,11 +14,6 @@ walk_forth form sets b from to last time [] w = omega (arith, ap (λ (s : Spot).
 walk_forth form sets b from to last time (g ∷ groups) w =
     let f = group_found form sets b from last g.time g.items w.0 w.1 in
     omega (arith, ap (λ (s : Spot). s.place) f.after_is, walk_forth form sets b w.0 to g.time time groups w.2)
-
--- the gate that ends a walk isn't 1
-pub walk_shut : (form : Form) (sets : ℕ) (b : List ℕ) (from to : Spot) (last time : ℕ) (groups : List Logged) → Walks form sets b from last groups to time → slice_index b to.place ≢ 1
-walk_shut form sets b from to last time [] w = λ gate. end_is_shut form sets b from last w.0 (ap (λ (s : Spot). slice_index b s.place) (sym w.1) ∙ gate)
-walk_shut form sets b from to last time (g ∷ groups) w = walk_shut form sets b w.0 to g.time time groups w.2
 
 -- the first group of a walk in bytes that are the same up to its end
 first_again : (form : Form) (sets m : ℕ) (b c : List ℕ) (from after : Spot) (last : ℕ) (g : Logged) → take m c ≡ take m b → length c ≡ length b → after.place ≤ m → walk_one form sets b from last ≡ Group g.time g.items after
@@ -35,18 +28,6 @@ walks_end form sets b c from to last time [] same size shut w = (shut_is_end for
 walks_end form sets b c from to last time (g ∷ groups) same size shut w =
     let le = walk_forth form sets b w.0 to g.time time groups w.2 in
     (w.0, first_again form sets to.place b c from w.0 last g same size le w.1, walks_end form sets b c w.0 to g.time time groups same size shut w.2)
-
--- A group that stands spelled at the end of a walk, with a gate behind it that isn't 1, is the walk's last.
-pub walks_on : (form : Form) (sets : ℕ) (b c : List ℕ) (from to : Spot) (last time : ℕ) (groups : List Logged) (g : Logged) → take to.place c ≡ take to.place b → length c ≡ length b → MayStand form (length c) to time g.time g.items
-    → HasRecordAt to.place (group_spelling to.number g.time g.items) c → slice_index c (to.place + 22 + length (body_spelling g.items)) ≢ 1
-    → Walks form sets b from last groups to time → Walks form sets c from last (groups ++ g ∷ []) (spot_after to (length (body_spelling g.items))) g.time
-walks_on form sets b c from to last time [] g same size may stands shut w =
-    let after = spot_after to (length (body_spelling g.items)) in
-    let found = groups_walked form sets c to time g.time g.items may stands in
-    (after, (let at = sym w.1 in let then = sym w.2 in λ i. walk_one form sets c (at i) (then i)) ∙ found, (shut_is_end form sets c after g.time shut, refl, refl))
-walks_on form sets b c from to last time (h ∷ groups) g same size may stands shut w =
-    let le = walk_forth form sets b w.0 to h.time time groups w.2 in
-    (w.0, first_again form sets to.place b c from w.0 last h same size le w.1, walks_on form sets b c w.0 to h.time time groups g same size may stands shut w.2)
 
 -- two ways in which a group was found
 record SameGroup (g h : Logged) (a z : Spot) : Type 0 where

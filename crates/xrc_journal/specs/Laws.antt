@@ -1,27 +1,12 @@
 -- The laws of items, records and walks. Each is the contract of a public function without parameters.
-use Rattle.std.specs.Prelude.{◌≡◌, ◌≢◌, ◌↔◌, ℕ, ◌+◌, ◌-◌, ◌^◌, ◌<◌, ◌≤◌, List, [], ◌∷◌, ◌++◌, length, drop, slice_index, Some, None, IsTrue}
+use Rattle.std.specs.Prelude.{◌≡◌, ◌≢◌, ◌↔◌, ℕ, ◌+◌, ◌-◌, ◌^◌, ◌<◌, ◌≤◌, List, ◌∷◌, ◌++◌, length, drop, slice_index}
 use Rattle.crash_plant.specs.declared.layout.TheConstants.{FRONT, SWITCH}
 use Rattle.tod_stamp.specs.Fields.{IsBytes}
 use Rattle.crash_plant.specs.declared.spot.Spot.{Spot}
-use Rattle.xrc_journal.specs.Items.{Item, Form, none_earlier, behind_all, AreItems, is_item, item_spelling, body_spelling}
-use Rattle.xrc_journal.specs.Reading.{Items}
+use Rattle.xrc_journal.specs.Items.{Item, Form, AreItems, body_spelling}
 use Rattle.xrc_journal.specs.Records.{group_spelling, switch_spelling, most_body, next_set, spot_after, spot_in, walk_one}
 use Rattle.xrc_journal.specs.Records.Found.{End, Group, Switch}
 use Rattle.xrc_journal.specs.Walks.{Logged, Walks}
-
--- ---- items
-
--- ---- bodies
-
--- These items stand spelled at the front, and they are all, or another that is bad begins behind them.
-pub record BeginWith (form : Form) (place : ℕ) (bytes : List ℕ) (items : Items) : Type 0 where
-  pub keep : AreItems form items.good
-  pub rest : List ℕ
-  pub parts : bytes ≡ body_spelling items.good ++ rest
-  pub all : items.bad ≡ None → rest ≡ []
-  pub others : (at : ℕ) → items.bad ≡ Some at → at ≡ place + length (body_spelling items.good)
-  -- No item that may follow these stands there.
-  pub refused : (at : ℕ) → items.bad ≡ Some at → (item : Item) (more : List ℕ) → IsTrue (is_item form (behind_all items.good none_earlier) item) → rest ≢ item_spelling item ++ more
 
 -- ---- records
 

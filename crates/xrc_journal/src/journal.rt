@@ -1,17 +1,16 @@
 //! Records put at the journal's end.
 
-ghost use Rattle.std.specs.Prelude.{◌≡◌, ◌≤◌, ◌<◌, ◌+◌, ◌-◌, ◌^◌, ◌∷◌, ◌++◌, [], ℕ, length, OnOk, OnErr, IsErr, IsErrOf, IsTrue};
+ghost use Rattle.std.specs.Prelude.{◌≡◌, ◌≤◌, ◌<◌, ◌+◌, ◌-◌, ◌^◌, ◌++◌, ℕ, length, OnOk, OnErr, IsErrOf};
 ghost use Rattle.crash_plant.specs.declared.layout.TheConstants.{SWITCH};
-ghost use Rattle.std.specs.Int.{w16, w32, w64, to_be_bytes};
-ghost use Rattle.xrc_edge.specs.Causes.{HasCause, Rose};
+ghost use Rattle.xrc_edge.specs.Causes.{HasCause};
 ghost use Rattle.crash_plant.specs.declared.device.Device.TheVariants.{Journal as JournalDevice};
 ghost use Rattle.crash_plant.specs.Bytes.{patched, Torn};
-ghost use Rattle.crash_plant.specs.Moments.{on, Follows, IsDurable, Stays};
+ghost use Rattle.crash_plant.specs.Moments.{on, Follows, IsDurable};
 ghost use Rattle.crash_plant.specs.Calls.{IsThere, WorksOn};
 ghost use Rattle.xrc_journal.specs.declared.journal.AppendError.TheVariants.{NoRoom, Fault};
-ghost use Rattle.xrc_journal.specs.Items.{AreItems, body_spelling, form_of};
-ghost use Rattle.xrc_journal.specs.Records.{group_spelling, record_header_spelling, switch_spelling, most_body, next_set, spot_after, spot_in};
-ghost use Rattle.xrc_journal.specs.Walks.{Adds, AllEnd, Appends, Logged};
+ghost use Rattle.xrc_journal.specs.Items.{body_spelling, form_of};
+ghost use Rattle.xrc_journal.specs.Records.{record_header_spelling, switch_spelling, most_body, next_set, spot_after, spot_in};
+ghost use Rattle.xrc_journal.specs.Walks.{Logged};
 ghost use Rattle.xrc_journal.specs.RingWalks.{AllEndThrough};
 ghost use Rattle.xrc_journal.specs.Appending.{AllPutGroup, AllPutRecord, AllPutSwitch, GroupIsPut, GrowCause, IsOfSwitch, IsShutAt, IsWholeBody};
 ghost use Rattle.xrc_journal.specs.Appending.{IsWritten, MayGrow, NextHasRoom, PutsBody, RefusesGroup, RefusesSwitch, SwitchIsPut, group_behind, room_for};
@@ -233,50 +232,6 @@ impl Journal {
         ensures cause { GrowCause (λ d. d ≡ JournalDevice self.old.at.set) (P.state plant.old) (P.state plant.new) result }
         ensures no_room { RefusesGroup (P.state plant.old) self.old.at body.now.items result }
         ensures untouched { (needed free : ℕ) → IsErrOf result (NoRoom needed free) → plant.new ≡ plant.old }
-    {
-        self.put_at_end(plant, cut, body)
-    }
-
-    /// As `append`, where the walk from the mark has come through no switch: what is said of walks is said of those over the one data
-    /// set.
-    pub fn append_within_set<P: Plant>(
-        &mut self,
-        plant: &mut P,
-        cut: Stamp,
-        body: &Body,
-    ) -> Result<(), AppendError>
-        requires there { IsThere (P.state plant.old) (JournalDevice self.old.at.set) }
-        requires room { self.old.at.place + SWITCH ≤ (P.state plant.old).lengths (JournalDevice self.old.at.set) }
-        requires number { self.old.at.number ≤ 2 ^ 64 - 2 }
-        // The body keeps the rules on one record.
-        requires keep { AreItems (form_of (P.state plant.old)) body.now.items }
-        requires short { length (body_spelling body.now.items) ≤ most_body }
-        // In every image the walk from the mark is defined, and ends at the spot with no time above the cut.
-        requires ends { P.tells → AllEnd (P.state plant.old) self.old.marked self.old.at cut.0 }
-        // At every moment of the call the walk is the old one or has the group at its end, and nothing else has changed.
-        ensures moments { let g : Logged = record { time = cut.0; items = body.now.items } in
-            P.tells → Follows (Appends (form_of (P.state plant.old)) (P.state plant.old).journals self.old.marked self.old.at g) (on (P.state plant.old) (JournalDevice self.old.at.set)) (on (P.state plant.new) (JournalDevice self.old.at.set)) }
-        // After Ok it has, in every image.
-        ensures added { let g : Logged = record { time = cut.0; items = body.now.items } in
-            P.tells → OnOk result (Adds (form_of (P.state plant.old)) (P.state plant.old).journals self.old.marked self.old.at g ((P.state plant.old).bytes (JournalDevice self.old.at.set)) ((P.state plant.new).bytes (JournalDevice self.old.at.set))) }
-        // The record stands there spelled, with the byte 0 behind it.
-        ensures written { P.tells → OnOk result ((P.state plant.new).bytes (JournalDevice self.old.at.set) ≡ patched self.old.at.place (1 ∷ (group_spelling self.old.at.number cut.0 body.now.items ++ 0 ∷ [])) ((P.state plant.old).bytes (JournalDevice self.old.at.set))) }
-        ensures durable { P.tells → OnOk result (IsDurable (on (P.state plant.new) (JournalDevice self.old.at.set))) }
-        ensures ends { P.tells → OnOk result (AllEnd (P.state plant.new) self.new.marked self.new.at cut.0) }
-        ensures at { OnOk result (self.new.at ≡ spot_after self.old.at (length (body_spelling body.now.items))) }
-        ensures marked { self.new.marked ≡ self.old.marked }
-        ensures err { OnErr result (self.new ≡ self.old) }
-        // All else is as before, on all devices and the console.
-        ensures only { WorksOn P.tells (λ d. d ≡ JournalDevice self.old.at.set) (P.state plant.old) (P.state plant.new) }
-        // Why it fails.
-        ensures fault { (j : ℕ) → IsErrOf result (Fault j) → (j ≡ self.old.at.set) × Rose ((P.state plant.old).faults (JournalDevice j)) ((P.state plant.new).faults (JournalDevice j)) }
-        ensures ok_without_fault { OnOk result ((P.state plant.new).faults (JournalDevice self.old.at.set) ≡ (P.state plant.old).faults (JournalDevice self.old.at.set)) }
-        ensures no_room { (needed free : ℕ) → IsErrOf result (NoRoom needed free) → (needed ≡ FRONT + length (body_spelling body.now.items) + SWITCH) × (free ≡ (P.state plant.old).lengths (JournalDevice self.old.at.set) - self.old.at.place) × (free < needed) }
-        ensures no_room_without_fault { (needed free : ℕ) → IsErrOf result (NoRoom needed free) → (P.state plant.new).faults (JournalDevice self.old.at.set) ≡ (P.state plant.old).faults (JournalDevice self.old.at.set) }
-        ensures untouched { P.tells → (needed free : ℕ) → IsErrOf result (NoRoom needed free) → Stays (on (P.state plant.old) (JournalDevice self.old.at.set)) (on (P.state plant.new) (JournalDevice self.old.at.set)) }
-        ensures refuses { let needed = FRONT + length (body_spelling body.now.items) + SWITCH in
-            (P.state plant.old).lengths (JournalDevice self.old.at.set) < self.old.at.place + needed → IsErrOf result (NoRoom needed ((P.state plant.old).lengths (JournalDevice self.old.at.set) - self.old.at.place)) }
-        ensures has_room { self.old.at.place + FRONT + length (body_spelling body.now.items) + SWITCH ≤ (P.state plant.old).lengths (JournalDevice self.old.at.set) → (needed free : ℕ) → ¬ IsErrOf result (NoRoom needed free) }
     {
         self.put_at_end(plant, cut, body)
     }

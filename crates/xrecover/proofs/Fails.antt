@@ -1,7 +1,7 @@
 -- Why a recovery fails: faults of calls that read.
 use Rattle.std.proofs.Common.{◌≡◌, ◌≢◌, ◌≤◌, ℕ, Bool, false, Result, Ok, Err, arith, ◌∙◌, ap, subst}
 use Rattle.std.specs.Prelude.{IsErrOf, is_err}
-use Rattle.xrc_edge.specs.Causes.{HasCause, Rose}
+use Rattle.xrc_edge.specs.Causes.{HasCause}
 use Rattle.crash_plant.specs.declared.device.Device.{Device}
 use Rattle.crash_plant.specs.declared.device.Device.TheVariants.{Control, State, Journal, Volume}
 use Rattle.xrc_journal.specs.Jobs.{FailsByCount}
@@ -17,13 +17,6 @@ use Rattle.xrecover.proofs.Works.{rose_later}
 -- an answer of another kind, where no count rose
 pub so_none : {X : Type 0} (a b : Device → ℕ) (r : Result X RecoverError) → ((d : Device) → b d ≡ a d) → ((d : Device) → ¬ IsErrOf r (Site (Fault d))) → FailsSo a b r
 so_none a b r same none = record { rose = λ d is. absurd (none d is); others = λ d other. same d }
-
--- an answer behind calls of which no count rose
-pub so_then : {X : Type 0} (a b c : Device → ℕ) (r : Result X RecoverError) → ((d : Device) → b d ≡ a d) → FailsSo b c r → FailsSo a c r
-so_then a b c r same f = record {
-  rose = λ d is. subst (λ (n : ℕ). Rose n (c d)) (same d) (f.rose d is);
-  others = λ d other. f.others d other ∙ same d;
-}
 
 -- Where a call that reads answered no error, no count rose.
 pub none_rose : {X : Type 0} (a b : Device → ℕ) (x : X) → (let r : Result X SiteError = Ok x in FaultsAreCounted a b r) → (d : Device) → b d ≡ a d

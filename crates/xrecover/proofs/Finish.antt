@@ -12,7 +12,6 @@ use Rattle.site_means.specs.Meaning.{Meaning}
 use Rattle.site_means.specs.Sight.{meant_by, walked, walked_by}
 use Rattle.site_means.proofs.Meanings.{same_seen, seen_meaning, seen_reached}
 use Rattle.xrc_journal.specs.Items.{Item}
-use Rattle.xrc_journal.specs.Jobs.{FailsByCount}
 use Rattle.xrecover.specs.declared.recover_error.RecoverError.{RecoverError}
 use Rattle.xrecover.specs.Answers.{EndsLate, HasWalk, IsLate, IsOf, IsRecoverable, IsGoodOrCalledFor}
 use Rattle.xrecover.specs.Pairs.{AreFaulty}

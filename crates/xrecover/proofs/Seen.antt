@@ -28,7 +28,7 @@ use Rattle.site_means.specs.Meaning.{chosen_in, meaning, meaning_by_mark, meanin
 use Rattle.site_means.specs.Sight.{meant_by, walked, walked_by}
 use Rattle.site_means.proofs.Found.{group_ends, next_within, switch_leads}
 use Rattle.site_means.proofs.Goes.{goes_by}
-use Rattle.site_means.proofs.Marked.{contents_are_drawn}
+use Rattle.site_means.proofs.Drawn.{contents_are_drawn}
 use Rattle.xrecover.specs.Pairs.{HasDuplex, is_duplex_of}
 use Rattle.xrecover.specs.Redone.{Recovers, Redoes}
 use Rattle.xrecover.specs.Sees.{IsSettled, SeesSame}
