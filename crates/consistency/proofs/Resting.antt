@@ -1,5 +1,5 @@
 -- What choices bear where nothing changed since the last reply, and when a line was heard.
-use Rattle.std.proofs.Common.{◌≡◌, ◌⊎◌, inl, inr, ℕ, ◌≤◌, Bool, true, false, not, List, Option, Some, None, refl, ap, subst, arith}
+use Rattle.std.proofs.Common.{◌≡◌, ◌⊎◌, inl, inr, ℕ, ◌≤◌, Bool, true, false, not, List, Option, Some, None, refl, sym, ap, subst, ◌∙◌, arith}
 use Rattle.std.specs.Prelude.{is_none}
 use Rattle.row_changes.specs.Changes.{may_all_come}
 use Rattle.row_changes.specs.Changes.Due.{NoneDue}
@@ -8,16 +8,17 @@ use Rattle.crash_plant.specs.Choices.{Choice}
 use Rattle.crash_plant.specs.Moments.{PlantState}
 use Rattle.site_means.specs.Images.{Images, Shape, shape_of}
 use Rattle.xrc_command.specs.declared.line.Line.{Line}
-use Rattle.consistency.specs.Bears.{AreAfterLine, AreOnTheWay, Bears, IsFlag, IsTime, Run, Stage, breaks_of}
+use Rattle.consistency.specs.Bearing.{Bears}
+use Rattle.consistency.specs.Bears.{AreAfterLine, AreOnTheWay, IsFlag, IsTime, Run, Stage, breaks_of}
 use Rattle.consistency.specs.Moments.{BearsTime}
 
 -- ---- a line is heard
 
 -- Where no line was heard the time is the one that was replied.
 pub exact_time : (run : Run) (s : Stage) (shape : Shape) (images : Images) (time : ℕ) → s.next ≡ None → Bears run s shape images time → time ≡ s.replied
-exact_time run s shape images time none b = exact s.next none b.in_time
+exact_time run s shape images time none b = sym b.at ∙ exact s.next none b.may.in_time
   where
-    exact : (n : Option Line) → n ≡ None → IsTime (record s { next = n }) time → time ≡ s.replied
+    exact : (n : Option Line) → n ≡ None → IsTime (record s { next = n }) b.point.time → b.point.time ≡ s.replied
     exact None is t = t.1
     exact (Some line) is t = absurd cc
 
@@ -25,44 +26,43 @@ exact_time run s shape images time none b = exact s.next none b.in_time
 pub bears_heard : (run : Run) (s : Stage) (heard : Option Line) (shape : Shape) (images : Images) (time : ℕ) → s.next ≡ None → ((line : Line) → heard ≡ Some line → s.replied ≤ line.time.0) → Bears run s shape images time
     → Bears run (record s { next = heard }) shape images time
 bears_heard run s heard shape images time none later b = record {
-  means = b.means;
-  defined = b.defined;
-  session = b.session;
-  level = b.level;
+  point = b.point;
   at = b.at;
-  ended = inr (flagged s.next none b.ended);
-  in_time = (b.in_time.0, timed heard later);
-  rows = rested s.table.is_ended b.rows;
-  tracks = b.tracks;
+  shows = b.shows;
+  may = record {
+    ended = inr (flagged s.next none b.may.ended);
+    in_time = (b.may.in_time.0, timed heard later);
+    rows = rested s.table.is_ended b.may.rows;
+  };
 }
   where
-    exactly : time ≡ s.replied
-    exactly = exact_time run s shape images time none b
+    exactly : b.point.time ≡ s.replied
+    exactly = b.at ∙ exact_time run s shape images time none b
 
-    flagged : (n : Option Line) → n ≡ None → IsFlag run (record s { next = n }) b.means.ended → b.means.ended ≡ s.table.is_ended
+    flagged : (n : Option Line) → n ≡ None → IsFlag run (record s { next = n }) b.point.is_ended → b.point.is_ended ≡ s.table.is_ended
     flagged None is (inl accepted) = absurd cc
     flagged None is (inr same) = same
     flagged (Some line) is flag = absurd cc
 
-    timed : (n : Option Line) → ((line : Line) → n ≡ Some line → s.replied ≤ line.time.0) → (let T : Type 0 = elim n [ None ↦ time ≡ s.replied | Some line ↦ elim s.table.is_ended [ true ↦ time ≡ s.replied | false ↦ time ≤ line.time.0 ] ] in T)
+    timed : (n : Option Line) → ((line : Line) → n ≡ Some line → s.replied ≤ line.time.0) → (let T : Type 0 = elim n [ None ↦ b.point.time ≡ s.replied | Some line ↦ elim s.table.is_ended [ true ↦ b.point.time ≡ s.replied | false ↦ b.point.time ≤ line.time.0 ] ] in T)
     timed None later = exactly
     timed (Some line) later = by_end s.table.is_ended
       where
-        by_end : (e : Bool) → (let T : Type 0 = elim e [ true ↦ time ≡ s.replied | false ↦ time ≤ line.time.0 ] in T)
+        by_end : (e : Bool) → (let T : Type 0 = elim e [ true ↦ b.point.time ≡ s.replied | false ↦ b.point.time ≤ line.time.0 ] in T)
         by_end true = exactly
         by_end false = omega (arith, exactly, later line refl)
 
     none_due : not (is_none s.next) ≡ false
     none_due = ap (λ (n : Option Line). not (is_none n)) none
 
-    rested : (e : Bool) → (let T : Type 0 = elim e [ true ↦ b.means.table.rows ≡ s.table.rows | false ↦ AreOnTheWay run s time b.means.table.rows ⊎ AreAfterLine run s time b.means.table.rows ] in T)
-        → (let T : Type 0 = elim e [ true ↦ b.means.table.rows ≡ s.table.rows | false ↦ AreOnTheWay run (record s { next = heard }) time b.means.table.rows ⊎ AreAfterLine run (record s { next = heard }) time b.means.table.rows ] in T)
+    rested : (e : Bool) → (let T : Type 0 = elim e [ true ↦ b.point.rows ≡ s.table.rows | false ↦ AreOnTheWay run s b.point.time b.point.rows ⊎ AreAfterLine run s b.point.time b.point.rows ] in T)
+        → (let T : Type 0 = elim e [ true ↦ b.point.rows ≡ s.table.rows | false ↦ AreOnTheWay run (record s { next = heard }) b.point.time b.point.rows ⊎ AreAfterLine run (record s { next = heard }) b.point.time b.point.rows ] in T)
     rested true same = same
     rested false (inl way) = inl (record {
       changes = way.changes;
       toward = record {
-        may_come = due_wider run.level (breaks_of run) (not (is_none heard)) NoneDue s.replied time s.table.rows way.changes
-            (subst (λ (d : Bool). may_all_come run.level (breaks_of run) d NoneDue s.replied time s.table.rows way.changes ≡ true) none_due way.toward.may_come);
+        may_come = due_wider run.level (breaks_of run) (not (is_none heard)) NoneDue s.replied b.point.time s.table.rows way.changes
+            (subst (λ (d : Bool). may_all_come run.level (breaks_of run) d NoneDue s.replied b.point.time s.table.rows way.changes ≡ true) none_due way.toward.may_come);
         broken = way.toward.broken;
       };
       counted = way.counted;

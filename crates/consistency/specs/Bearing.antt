@@ -1,4 +1,4 @@
--- Points that whatever a crash leaves shows, and points that may be meant at a stage.
+-- Points that whatever a crash leaves shows, points that may be meant at a stage, and times that a choice bears.
 use Rattle.std.specs.Prelude.{◌≡◌, ◌⊎◌, ℕ, List, Bool, true, Option, Some, IfSome, IsTrue}
 use Rattle.crash_plant.specs.Choices.{IsChoice}
 use Rattle.crash_plant.specs.Moments.{PlantState}
@@ -26,6 +26,17 @@ pub record MayBeMeant (run : Run) (s : Stage) (p : Point) : Type 0 where
   pub ended : IsFlag run s p.is_ended
   pub in_time : IsTime s p.time
   pub rows : AreRows run s p.time p.rows
+
+-- ---- a choice bears a time
+
+-- A choice of images of a plant of this shape bears a time: it shows a point of this time, which may be meant.
+pub record Bears (run : Run) (s : Stage) (shape : Shape) (images : Images) (time : ℕ) : Type 0 where
+  pub point : Point
+  pub at : point.time ≡ time
+  pub shows : ShowsPoint run shape point images
+  pub may : MayBeMeant run s point
+
+-- ---- in time
 
 -- The flag is the stage's. Or it is 1, at the time of the next line, which is an end that the command table accepts: while the session works
 -- for the line's time it has not ended.

@@ -16,9 +16,8 @@ use Rattle.pair_table.specs.Refusals.{refusal}
 use Rattle.pair_table.specs.Tables.{Table}
 use Rattle.row_changes.specs.Changes.{Timed, after_changes}
 use Rattle.row_changes.specs.Toward.{AreCounted, Toward}
-use Rattle.site_means.specs.declared.means.Means.{Means}
 use Rattle.site_means.specs.Images.{Images, Shape}
-use Rattle.site_means.specs.Sight.{content_in, means_in}
+use Rattle.site_means.specs.Sight.{content_in}
 use Rattle.xrc_command.specs.declared.line.Line.{Line}
 use Rattle.consistency.specs.Steps.{IsCommanded, names_at, table_after_line}
 
@@ -120,17 +119,3 @@ tracks_of_row r = TRACKS_OF_CYLINDER * r.cylinders
 abbrev pub HoldsPrimaries : Run → Shape → Images → List PairRow → ℕ → Type 0
 HoldsPrimaries run shape images rows time = (place : ℕ) (r : PairRow) → slice_get rows place ≡ Some r → r.state ≡ Duplex
     → (track : ℕ) → track < tracks_of_row r → content_in shape images r.device track ≡ Some (primary run.traces time r.control r.volume track)
-
--- ---- a choice bears a time
-
--- A choice of images of a plant of this shape bears a time.
-pub record Bears (run : Run) (s : Stage) (shape : Shape) (images : Images) (time : ℕ) : Type 0 where
-  pub means : Means
-  pub defined : means_in shape images ≡ Some means
-  pub session : means.session ≡ run.session
-  pub level : means.level ≡ run.level
-  pub at : means.time.0 ≡ time
-  pub ended : IsFlag run s means.ended
-  pub in_time : IsTime s time
-  pub rows : AreRows run s time means.table.rows
-  pub tracks : HoldsPrimaries run shape images means.table.rows time

@@ -19,12 +19,12 @@ use Rattle.row_changes.specs.Toward.{AreCounted, Toward, hit_count}
 use Rattle.site_means.specs.Images.{Images, Shape, shape_of}
 use Rattle.tod_stamp.specs.declared.stamp.Stamp.{Stamp}
 use Rattle.xrc_command.specs.declared.line.Line.{Line}
-use Rattle.consistency.specs.Bears.{Bears, IsTime, Run, Stage, accepts, accepts_end, breaks_of, names_of, tracks_of_row}
+use Rattle.consistency.specs.Bears.{IsTime, Run, Stage, accepts, accepts_end, breaks_of, names_of, tracks_of_row}
 use Rattle.consistency.specs.Courses.{Answered, IsAnswered, IsCourse, stage_after, stage_at}
 use Rattle.consistency.specs.Replies.{IsReply}
 use Rattle.consistency.specs.Steps.{IsLineStep, is_active, table_after_line, table_on_the_way}
 use Rattle.consistency.specs.Answering.{answered_by, points_before, reply_content}
-use Rattle.consistency.specs.Bearing.{GoesThroughPoints, MayBeMeant, ShowsPoint}
+use Rattle.consistency.specs.Bearing.{Bears, GoesThroughPoints, MayBeMeant, ShowsPoint}
 use Rattle.consistency.specs.Between.{HasPassed}
 use Rattle.consistency.specs.Leads.{HitsLead, Leads, LeadsWhole, Point, may_rest}
 use Rattle.record_rows.specs.Hits.{is_by_device}
@@ -75,15 +75,7 @@ abbrev pub PointsBearThroughout : PlantState → Type 0
 PointsBearThroughout plant = (run : Run) (s : Stage) (from to : ℕ) (p : Point) (points : List PassedPoint) (next : Option Point) → MayBeMeant run s p → All (λ n. MayBeMeant run s n.point) points → IfSome next (MayBeMeant run s)
     → GoesThroughPoints run plant from p points to next → Throughout (IsChoice plant) from to (λ c. (time : ℕ) × Bears run s (shape_of plant) c time)
 
--- ---- points that bear
-
--- Images that show a point which may be meant bear its time.
-abbrev pub PointsBear : Type 0
-PointsBear = (run : Run) (s : Stage) (shape : Shape) (p : Point) (images : Images) → ShowsPoint run shape p images → MayBeMeant run s p → Bears run s shape images p.time
-
--- Images that bear a time show a point of it which may be meant.
-abbrev pub BearersShow : Type 0
-BearersShow = (run : Run) (s : Stage) (shape : Shape) (images : Images) (time : ℕ) → Bears run s shape images time → (p : Point) × (p.time ≡ time) × ShowsPoint run shape p images × MayBeMeant run s p
+-- ---- legs
 
 -- A leg begins at the point of a stage of a started session.
 abbrev pub LegsBegin : Type 0

@@ -1,8 +1,8 @@
 //! The laws of points.
 
-ghost use Rattle.consistency.specs.PointLaws.{BearersShow, CommandsAreAnswered, CommandsAreCounted, CommandsAreSteps, CommandsMayBeMeant, DuplexIsByMoments, EndedMayBeMeant, EndedPointsStay, EndingsAreCounted, EndingsMayBeMeant, EndsAreCommanded, EndsAreEnded, HitsStayCounted, HitsStayWhole, InactiveAreAnswered};
+ghost use Rattle.consistency.specs.PointLaws.{CommandsAreAnswered, CommandsAreCounted, CommandsAreSteps, CommandsMayBeMeant, DuplexIsByMoments, EndedMayBeMeant, EndedPointsStay, EndingsAreCounted, EndingsMayBeMeant, EndsAreCommanded, EndsAreEnded, HitsStayCounted, HitsStayWhole, InactiveAreAnswered};
 ghost use Rattle.consistency.specs.PointLaws.{LeadsAreToward, LeadsGoOn, LeadsToItself, LegsAreCounted, LegsAreHit, LegsAreMarked, LegsBegin, LegsBeginBehindCommands, LegsBeginBehindEnds, LegsGoOn, LegsMayBeMeant, MarkedHitsAreCounted, MarkedRowsStand, MarksAreCommanded, MarksAreCounted, MarksMayBeMeant, NeverDuplexOweAll, OthersOweAll};
-ghost use Rattle.consistency.specs.PointLaws.{PointsAreSeen, PointsBear, PointsBearThroughout, PointsGoInARow, PointsRise, PointsStayPassed, RepliesTellAccepted, RepliesTellBefore, ResumedPairsAskForChanges, StagesMayBeMeant, SuspendedOweChanges, ToldPointsAreWalked, UnhitCoursesAreFunctions, WaysMayBeMeant};
+ghost use Rattle.consistency.specs.PointLaws.{PointsAreSeen, PointsBearThroughout, PointsGoInARow, PointsRise, PointsStayPassed, RepliesTellAccepted, RepliesTellBefore, ResumedPairsAskForChanges, StagesMayBeMeant, SuspendedOweChanges, ToldPointsAreWalked, UnhitCoursesAreFunctions, WaysMayBeMeant};
 ghost use Rattle.consistency.specs.FlagLaws.{CommandsMayBeMeantInTime, EndingsMayBeMeantInTime, FlagsInTimeMayBe, LegsMayBeMeantInTime, MarksMayBeMeantInTime, StagesMayBeMeantInTime, WaysMayBeMeantInTime};
 ghost use Rattle.consistency.specs.ReplyLaws.{CommandsAreAnsweredExactly, CoursesHaveNames, ExactRepliesAreReplies, ExactRepliesSayTimes, ExactRepliesSayUpTo, ExactRepliesTellApart, InactiveAreAnsweredExactly, PassagesGoOn, RepliesFail, RepliesGoOn, ReplyLinesTellApart, ReportsComeFirst, RunsBegin, WorksGoOn};
 
@@ -98,12 +98,6 @@ pub fn lines_are_answered_exactly()
 /// A run of which no volume fails is determined by what its lines ask.
 pub fn unhit_courses_are_functions()
     ensures { UnhitCoursesAreFunctions }
-{}
-
-/// A choice of images bears a time exactly where it shows a point of that time which may be meant.
-pub fn points_bear()
-    ensures bear { PointsBear }
-    ensures show { BearersShow }
 {}
 
 /// A run goes on between its calls: through work on devices, where each choice shows a point that may be meant, and with each exact reply.

@@ -26,7 +26,7 @@ use Rattle.site_store.specs.Deeds.{content_behind, means_behind, means_by_deed}
 use Rattle.site_store.specs.Exceptions.{Exceptions, excepted_behind}
 use Rattle.site_store.specs.Seeing.{SeesBehind}
 use Rattle.site_store.proofs.Turning.{means_are}
-use Rattle.consistency.specs.Bears.{Bears, HoldsPrimaries, IsTime, Run, Stage, breaks_of, tracks_of_row}
+use Rattle.consistency.specs.Bears.{HoldsPrimaries, IsTime, Run, Stage, breaks_of, tracks_of_row}
 use Rattle.fed_logs.specs.Deeds.{held_behind}
 use Rattle.fed_logs.specs.LogLaws.{ReportsBreak}
 use Rattle.fed_logs.specs.Logs.{Sizes}
@@ -34,7 +34,7 @@ use Rattle.fed_logs.specs.Moves.{HasRowIn, IsDuplex, Plans}
 use Rattle.fed_logs.proofs.Bearing.{logs_bear}
 use Rattle.fed_logs.proofs.Breaking.{breaks_come}
 use Rattle.fed_logs.proofs.Rising.{times_rise}
-use Rattle.consistency.specs.Bearing.{MayBeMeant, ShowsPoint}
+use Rattle.consistency.specs.Bearing.{Bears, MayBeMeant, ShowsPoint}
 use Rattle.consistency.specs.Leads.{Leads, Point, may_rest}
 use Rattle.consistency.specs.Ways.{HasCountedHits, IsLegOf, Leg, leg_to, stage_point}
 use Rattle.consistency.proofs.Bearing.{points_bear}

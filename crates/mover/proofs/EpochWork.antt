@@ -16,7 +16,8 @@ use Rattle.xrc_command.specs.declared.line.Line.{Line}
 use Rattle.site_store.specs.DeedChanges.{DeedOfChanges, changes_of, deeds_of}
 use Rattle.site_store.specs.Doing.{BeginsDeeds, with_next}
 use Rattle.site_store.specs.Seeing.{SeesBehind}
-use Rattle.consistency.specs.Bears.{Bears, breaks_of}
+use Rattle.consistency.specs.Bearing.{Bears}
+use Rattle.consistency.specs.Bears.{breaks_of}
 use Rattle.fed_logs.specs.Feeds.{part_of_mover}
 use Rattle.fed_logs.specs.Moves.{HasRowIn, IsDuplex, MakesDeeds}
 use Rattle.fed_logs.proofs.BreaksToCome.{breaks_to_come_are_awaited}

@@ -24,10 +24,10 @@ use Rattle.site_store.specs.Exceptions.{Exceptions}
 use Rattle.site_store.specs.Seeing.{SeesBehind}
 use Rattle.site_store.proofs.Moments.{first_seen}
 use Rattle.passages.specs.Points.{AreLinked, GoesThrough, last_point}
-use Rattle.consistency.specs.Bears.{Bears, Run, Stage, breaks_of}
+use Rattle.consistency.specs.Bears.{Run, Stage, breaks_of}
 use Rattle.fed_logs.specs.Logs.{Sizes}
 use Rattle.fed_logs.specs.Moves.{Plans}
-use Rattle.consistency.specs.Bearing.{MayBeMeant, ShowsPoint}
+use Rattle.consistency.specs.Bearing.{Bears, MayBeMeant, ShowsPoint}
 use Rattle.consistency.specs.Leads.{Point}
 use Rattle.consistency.specs.Ways.{ComesNext, HasCountedHits, IsAtWork, Leg, PassedPoint, Way, is_ending, is_on_the_way, last_answered, leg_after, leg_to}
 use Rattle.consistency.specs.Ways.Way.{OnTheWay}

@@ -13,11 +13,11 @@ use Rattle.site_means.specs.Images.{shape_of}
 use Rattle.xrc_command.specs.declared.line.Line.{Line}
 use Rattle.site_store.specs.Exceptions.{Exceptions}
 use Rattle.passages.specs.Points.{AreLinked, last_point}
-use Rattle.consistency.specs.Bears.{Bears, Run, Stage}
+use Rattle.consistency.specs.Bears.{Run, Stage}
 use Rattle.fed_logs.specs.Logs.{Sizes}
 use Rattle.fed_logs.specs.Moves.{Plans}
 use Rattle.fed_logs.specs.ShownBreaks.{BreaksAreToCome, BrokeAsTraces}
-use Rattle.consistency.specs.Bearing.{GoesThroughPoints, MayBeMeant, ShowsPoint}
+use Rattle.consistency.specs.Bearing.{Bears, GoesThroughPoints, MayBeMeant, ShowsPoint}
 use Rattle.consistency.specs.Leads.{Point}
 use Rattle.consistency.specs.Ways.{ComesNext, IsAtWork, IsLegOf, Leg, MayTakeEffect, PassedPoint, hits_of_leg, is_on_the_way, leg_after}
 use Rattle.mover.specs.Working.{Asked, IsOnItsWay, ShowsLast, StandsForRows}

@@ -5,10 +5,9 @@ use Rattle.crash_plant.specs.Moments.{PlantState}
 use Rattle.site_means.specs.Images.{shape_of}
 use Rattle.site_store.specs.DeedChanges.{deeds_of}
 use Rattle.site_store.specs.Doing.{BeginsDeeds, DoesDeeds}
-use Rattle.consistency.specs.Bears.{Bears}
 use Rattle.pair_table.specs.declared.row.PairRow.{PairRow}
 use Rattle.fed_logs.specs.Moves.{Plans}
-use Rattle.consistency.specs.Bearing.{ShowsPoint}
+use Rattle.consistency.specs.Bearing.{Bears, ShowsPoint}
 use Rattle.consistency.specs.Leads.{Point}
 use Rattle.consistency.specs.Ways.{IsAtWork}
 use Rattle.mover.specs.Points.{point_behind}

@@ -2,7 +2,7 @@
 
 ghost use Rattle.std.specs.Prelude.{◌≡◌, ◌∷◌, ◌++◌, [], ℕ, codes, slice_set, Bool, true, false, Some, None};
 ghost use Rattle.xrc_command.specs.declared.line.Line.{Line};
-ghost use Rattle.consistency.specs.Bears.{Bears};
+ghost use Rattle.consistency.specs.Bearing.{Bears};
 ghost use Rattle.consistency.specs.Courses.{Answered, IsAsked, StandsAt, first_line, is_whole_line, last_line_time, later_line, lines_begun, stage_at};
 ghost use Rattle.consistency.specs.Replies.{IsReply, has_reply};
 ghost use Rattle.consistency.specs.Times.{times_said};

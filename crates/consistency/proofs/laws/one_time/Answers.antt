@@ -13,7 +13,7 @@ not_later s time line (Some next) false heard still t = let same : next ≡ line
 
 pub returns : goal.returns
 returns c = record {
-  one = λ run s shape images a b x y. sym x.at ∙ ap (λ (o : Option Means). (unwrap_or o x.means).time.0) (sym x.defined ∙ y.defined) ∙ y.at;
-  not_before = λ run s shape images time x. x.in_time.0;
-  not_past = λ run s shape images time line heard still x. not_later s time line s.next s.table.is_ended heard still x.in_time;
+  one = λ run s shape images a b x y. sym x.at ∙ sym x.shows.at ∙ ap (λ (o : Option Means). (unwrap_or o x.shows.means).time.0) (sym x.shows.defined ∙ y.shows.defined) ∙ y.shows.at ∙ y.at;
+  not_before = λ run s shape images time x. subst (λ (t : ℕ). s.replied ≤ t) x.at x.may.in_time.0;
+  not_past = λ run s shape images time line heard still x. subst (λ (t : ℕ). t ≤ line.time.0) x.at (not_later s x.point.time line s.next s.table.is_ended heard still x.may.in_time);
 }
