@@ -1,25 +1,11 @@
 //! Works through files of cases: it runs the program over devices and traces in memory, and says what differs from what a case wants.
 #![tactic(auto)]
 
-mod book;
-mod call;
-mod case;
-mod file;
-mod made;
-mod report;
-mod setup;
-mod site;
-mod tables;
-mod texts;
-mod trace;
-mod turns;
-mod words;
-mod wrong;
+mod program;
 
-use crate::file::try_cases;
-use crate::report::Report;
-use crate::turns::{Lines, written_out};
-use crate::wrong::Wrong;
+use crate::program::Xrc;
+use case_notation::{Lines, Wrong, written_out};
+use case_runner::{Report, try_cases};
 use std::alloc::Global;
 use std::process::ExitCode;
 use std::rt::{Env, Files};
@@ -67,7 +53,7 @@ fn try_files<'a, R: Print + Threads + Wait + Sync>(
     let mut report = Report::new(alloc);
     for (name, text) in names.iter().zip(texts) {
         report.begin_file(name.as_str());
-        if let Err(wrong) = try_cases(rt, alloc, text, &mut report) {
+        if let Err(wrong) = try_cases(rt, &Xrc, alloc, text, &mut report) {
             rt.print(report.text())?;
             say_wrong(rt, name.as_str(), wrong)?;
             return Ok(false);

@@ -45,8 +45,8 @@ pub struct Setup<'a> {
     volumes: u16,
     changes: Vec<Change<'a>>,
     traces: Vec<Trace>,
-    /// What an earlier call of the case has left.
-    left: Option<Past>,
+    /// Whether it stands behind a call of its case.
+    is_behind_call: bool,
 }
 
 impl<'a> Setup<'a> {
@@ -58,11 +58,11 @@ impl<'a> Setup<'a> {
             volumes: 0,
             changes: Vec::new(alloc),
             traces: Vec::new(alloc),
-            left: None,
+            is_behind_call: false,
         }
     }
 
-    /// The same set-up; what a call has left doesn't belong to it.
+    /// The same set-up, before any call.
     pub fn copy(&self) -> Result<Setup<'a>, Wrong> {
         let mut copy = Setup::new(self.alloc);
         copy.journals = self.journals;
@@ -75,10 +75,10 @@ impl<'a> Setup<'a> {
         Ok(copy)
     }
 
-    /// Goes on with what a call has left.
-    pub fn go_on(&mut self, left: Past) {
+    /// Goes on behind a call: the changes so far are in what it has left.
+    pub fn go_on(&mut self) {
         self.changes.clear();
-        self.left = Some(left);
+        self.is_behind_call = true;
     }
 
     pub fn traces(&self) -> &[Trace] {
@@ -113,7 +113,7 @@ impl<'a> Setup<'a> {
     }
 
     fn take_journals(&mut self, mut words: Words<'a>) -> Result<(), Wrong> {
-        if self.left.is_some() {
+        if self.is_behind_call {
             return Err(words.wrong("journals stand before the first run"));
         }
         self.journals = words.short()?;
@@ -122,7 +122,7 @@ impl<'a> Setup<'a> {
     }
 
     fn take_volume(&mut self, mut words: Words<'a>) -> Result<(), Wrong> {
-        if self.left.is_some() {
+        if self.is_behind_call {
             return Err(words.wrong("volumes stand before the first run"));
         }
         let number = words.short()?;
@@ -166,9 +166,9 @@ impl<'a> Setup<'a> {
         }
     }
 
-    /// The devices as the lines so far leave them.
-    pub fn stand(&self) -> Result<Past, Wrong> {
-        let mut site = match &self.left {
+    /// The devices as the lines so far leave them, behind what a call has left if there is one.
+    pub fn stand(&self, left: Option<&Past>) -> Result<Past, Wrong> {
+        let mut site = match left {
             Some(left) => left.crash(self.alloc, b"")?,
             None => Site::make(self.alloc, self.journals, self.journal, self.volumes)?,
         };

@@ -1,7 +1,6 @@
-//! What the program says of its cases.
+//! What is said of cases.
 
-use crate::texts::Shown;
-use crate::wrong::Wrong;
+use case_notation::{Shown, Wrong};
 use std::alloc::Global;
 use std::fmt;
 use std::fmt::Write;

@@ -1,9 +1,7 @@
 //! What the cases of a file have in common: earlier set-ups, and what a recovery leaves.
 
 use crate::call::Call;
-use crate::setup::Setup;
-use crate::words::Words;
-use crate::wrong::Wrong;
+use case_notation::{Setup, Words, Wrong};
 use std::alloc::Global;
 
 /// The set-up of an earlier case, and its first call.

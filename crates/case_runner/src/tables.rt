@@ -4,11 +4,9 @@ use crate::book::{Book, Left};
 use crate::call::{Call, Outcome, Planned, Twist};
 use crate::made::Made;
 use crate::report::{Part, Report};
-use crate::site::Past;
-use crate::texts::{length_of_lines, spell, spell_lines};
-use crate::trace::{Cut, Flaw, Trace};
-use crate::words::Words;
-use crate::wrong::Wrong;
+use case_notation::{
+    Cut, Flaw, Past, Program, Trace, Words, Wrong, length_of_lines, spell, spell_lines,
+};
 use crash_plant::Device;
 use std::alloc::Global;
 use std::sync::Wait;
@@ -178,14 +176,20 @@ impl<'a> Ending<'a> {
 }
 
 impl<'s, 'a> Scene<'s, 'a> {
-    fn make<R: Threads + Wait + Sync>(self, rt: &R, twist: Twist<'_>) -> Result<Outcome, Wrong> {
-        self.call.make(rt, self.before, self.traces, twist)
+    fn make<R: Threads + Wait + Sync, P: Program>(
+        self,
+        rt: &R,
+        program: &P,
+        twist: Twist<'_>,
+    ) -> Result<Outcome, Wrong> {
+        self.call.make(rt, program, self.before, self.traces, twist)
     }
 
     /// The call with the failure of a row; without it, it says `calm`.
-    fn make_failing<R: Threads + Wait + Sync>(
+    fn make_failing<R: Threads + Wait + Sync, P: Program>(
         self,
         rt: &R,
+        program: &P,
         table: Table,
         words: Words<'_>,
         number: u64,
@@ -197,13 +201,14 @@ impl<'s, 'a> Scene<'s, 'a> {
         } else {
             Some(calm)
         };
-        self.make(rt, Twist { fail, flaw, calm })
+        self.make(rt, program, Twist { fail, flaw, calm })
     }
 
     /// A row of calls that fail.
-    pub fn try_ends<R: Threads + Wait + Sync>(
+    pub fn try_ends<R: Threads + Wait + Sync, P: Program>(
         self,
         rt: &R,
+        program: &P,
         table: Table,
         mut words: Words<'_>,
         book: &Book<'_>,
@@ -211,17 +216,18 @@ impl<'s, 'a> Scene<'s, 'a> {
     ) -> Result<(), Wrong> {
         let (from, to) = range(&mut words)?;
         let ending = Ending::read(words)?;
-        let calm = self.make(rt, Twist::NONE)?;
+        let calm = self.make(rt, program, Twist::NONE)?;
         for number in from..=to {
             let said = calm.past.said();
-            self.try_end(rt, table, ending, said, number, book, report)?;
+            self.try_end(rt, program, table, ending, said, number, book, report)?;
         }
         Ok(())
     }
 
-    fn try_end<R: Threads + Wait + Sync>(
+    fn try_end<R: Threads + Wait + Sync, P: Program>(
         self,
         rt: &R,
+        program: &P,
         table: Table,
         ending: Ending<'_>,
         calm: &[u8],
@@ -229,16 +235,17 @@ impl<'s, 'a> Scene<'s, 'a> {
         book: &Book<'_>,
         report: &mut Report<'_>,
     ) -> Result<(), Wrong> {
-        let outcome = self.make_failing(rt, table, ending.words, number, calm)?;
+        let outcome = self.make_failing(rt, program, table, ending.words, number, calm)?;
         let said = ending.said(self.alloc, calm)?;
         check_end(&outcome, ending, said.as_slice(), number, report)?;
-        self.try_lefts(rt, &outcome, ending, number, book, report)
+        self.try_lefts(rt, program, &outcome, ending, number, book, report)
     }
 
     /// A row of calls that fail, each of which ends in one of these ways.
-    pub fn try_ways<R: Threads + Wait + Sync>(
+    pub fn try_ways<R: Threads + Wait + Sync, P: Program>(
         self,
         rt: &R,
+        program: &P,
         table: Table,
         ways: &[Words<'_>],
         mut words: Words<'_>,
@@ -247,12 +254,12 @@ impl<'s, 'a> Scene<'s, 'a> {
     ) -> Result<(), Wrong> {
         let (from, to) = range(&mut words)?;
         words.end()?;
-        let calm = self.make(rt, Twist::NONE)?;
+        let calm = self.make(rt, program, Twist::NONE)?;
         for number in from..=to {
             let said = calm.past.said();
-            let outcome = self.make_failing(rt, table, words, number, said)?;
+            let outcome = self.make_failing(rt, program, table, words, number, said)?;
             match self.way_of(ways, said, &outcome)? {
-                Some(way) => self.try_way(rt, &outcome, way, words, number, book, report)?,
+                Some(way) => self.try_way(rt, program, &outcome, way, words, number, book, report)?,
                 None => {
                     let part = Part::at("no way", number, "");
                     report.compare(words.number(), part, b"", outcome.past.said())?;
@@ -280,9 +287,10 @@ impl<'s, 'a> Scene<'s, 'a> {
     }
 
     /// What a crash leaves then is recovered as one of a way's names says, by each fill.
-    fn try_way<R: Threads + Wait + Sync>(
+    fn try_way<R: Threads + Wait + Sync, P: Program>(
         self,
         rt: &R,
+        program: &P,
         outcome: &Outcome,
         way: Ending<'_>,
         words: Words<'_>,
@@ -292,7 +300,7 @@ impl<'s, 'a> Scene<'s, 'a> {
     ) -> Result<(), Wrong> {
         for (fill, shown) in FILLS.iter() {
             report.count_try();
-            let recovered = self.call.recover(rt, &outcome.past, *fill)?;
+            let recovered = self.call.recover(rt, program, &outcome.past, *fill)?;
             if !self.is_left(&recovered, way, book)? {
                 let part = Part::at("no name of the way", number, *shown);
                 report.compare(words.number(), part, b"", recovered.past.said())?;
@@ -316,9 +324,10 @@ impl<'s, 'a> Scene<'s, 'a> {
     }
 
     /// What a crash leaves then is recovered as it is named, by each fill.
-    fn try_lefts<R: Threads + Wait + Sync>(
+    fn try_lefts<R: Threads + Wait + Sync, P: Program>(
         self,
         rt: &R,
+        program: &P,
         outcome: &Outcome,
         ending: Ending<'_>,
         number: u64,
@@ -331,29 +340,31 @@ impl<'s, 'a> Scene<'s, 'a> {
             report.count_try();
             let left = book.left(ending.words, *name)?;
             let part = Part::at("recovery", number, *shown);
-            self.try_left(rt, outcome, *fill, part, left, report)?;
+            self.try_left(rt, program, outcome, *fill, part, left, report)?;
         }
         Ok(())
     }
 
-    fn try_left<R: Threads + Wait + Sync>(
+    fn try_left<R: Threads + Wait + Sync, P: Program>(
         self,
         rt: &R,
+        program: &P,
         outcome: &Outcome,
         fill: &[u8],
         part: Part,
         left: &Left<'_>,
         report: &mut Report<'_>,
     ) -> Result<(), Wrong> {
-        let recovered = self.call.recover(rt, &outcome.past, fill)?;
+        let recovered = self.call.recover(rt, program, &outcome.past, fill)?;
         let made = Made::new(self.alloc, &recovered, b"", part)?;
         check_left(made, left, report)
     }
 
     /// At a call behind the last one all is as without a failure.
-    pub fn try_calm<R: Threads + Wait + Sync>(
+    pub fn try_calm<R: Threads + Wait + Sync, P: Program>(
         self,
         rt: &R,
+        program: &P,
         table: Table,
         mut words: Words<'_>,
         report: &mut Report<'_>,
@@ -361,8 +372,8 @@ impl<'s, 'a> Scene<'s, 'a> {
         let number = words.decimal()?;
         words.end()?;
         report.count_try();
-        let calm = self.make(rt, Twist::NONE)?;
-        let outcome = self.make_failing(rt, table, words, number, calm.past.said())?;
+        let calm = self.make(rt, program, Twist::NONE)?;
+        let outcome = self.make_failing(rt, program, table, words, number, calm.past.said())?;
         let part = Part::at("status", number, "");
         report.compare_status(words.number(), part, calm.status, outcome.status)?;
         let (wanted, got) = (calm.past.said(), outcome.past.said());
@@ -370,9 +381,10 @@ impl<'s, 'a> Scene<'s, 'a> {
     }
 
     /// A row of flaws of a trace.
-    pub fn try_flaws<R: Threads + Wait + Sync>(
+    pub fn try_flaws<R: Threads + Wait + Sync, P: Program>(
         self,
         rt: &R,
+        program: &P,
         table: Table,
         mut words: Words<'_>,
         report: &mut Report<'_>,
@@ -381,7 +393,7 @@ impl<'s, 'a> Scene<'s, 'a> {
         words.expect("status", "status S is wanted")?;
         for number in from..=to {
             report.count_try();
-            let outcome = self.make(rt, table.flaw(words, number)?)?;
+            let outcome = self.make(rt, program, table.flaw(words, number)?)?;
             let part = Part::at("said", number, "");
             check_lines(self.alloc, &outcome, words, part, report)?;
         }
@@ -389,9 +401,10 @@ impl<'s, 'a> Scene<'s, 'a> {
     }
 
     /// A call over devices with other bytes.
-    pub fn try_bytes<R: Threads + Wait + Sync>(
+    pub fn try_bytes<R: Threads + Wait + Sync, P: Program>(
         self,
         rt: &R,
+        program: &P,
         mut words: Words<'_>,
         report: &mut Report<'_>,
     ) -> Result<(), Wrong> {
@@ -403,7 +416,7 @@ impl<'s, 'a> Scene<'s, 'a> {
             before: &changed,
             traces: self.traces,
         };
-        let outcome = scene.make(rt, Twist::NONE)?;
+        let outcome = scene.make(rt, program, Twist::NONE)?;
         check_lines(self.alloc, &outcome, words, Part::of("said"), report)
     }
 

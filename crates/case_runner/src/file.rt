@@ -4,9 +4,7 @@ use crate::book::Book;
 use crate::case::Case;
 use crate::made::is_wanted;
 use crate::report::Report;
-use crate::turns::Lines;
-use crate::words::Words;
-use crate::wrong::Wrong;
+use case_notation::{Lines, Program, Words, Wrong};
 use std::alloc::Global;
 use std::sync::Wait;
 use std::thread::Threads;
@@ -22,8 +20,9 @@ struct Reader<'a> {
 }
 
 /// Tries the cases of a file.
-pub fn try_cases<'a, R: Threads + Wait + Sync>(
+pub fn try_cases<'a, R: Threads + Wait + Sync, P: Program>(
     rt: &R,
+    program: &P,
     alloc: Global,
     text: &'a Lines,
     report: &mut Report<'a>,
@@ -35,15 +34,16 @@ pub fn try_cases<'a, R: Threads + Wait + Sync>(
         is_in_left: false,
     };
     for (line, number) in text.text().lines().zip(text.numbers()) {
-        reader.take(rt, Words::new(*number, line), report)?;
+        reader.take(rt, program, Words::new(*number, line), report)?;
     }
     reader.end_case(report)
 }
 
 impl<'a> Reader<'a> {
-    fn take<R: Threads + Wait + Sync>(
+    fn take<R: Threads + Wait + Sync, P: Program>(
         &mut self,
         rt: &R,
+        program: &P,
         line: Words<'a>,
         report: &mut Report<'a>,
     ) -> Result<(), Wrong> {
@@ -61,7 +61,7 @@ impl<'a> Reader<'a> {
         match keyword {
             "left" => self.book.begin_left(words),
             "case" => self.begin_case(words, report),
-            _ => self.take_in_case(rt, keyword, words, report),
+            _ => self.take_in_case(rt, program, keyword, words, report),
         }
     }
 
@@ -72,15 +72,16 @@ impl<'a> Reader<'a> {
         Ok(())
     }
 
-    fn take_in_case<R: Threads + Wait + Sync>(
+    fn take_in_case<R: Threads + Wait + Sync, P: Program>(
         &mut self,
         rt: &R,
+        program: &P,
         keyword: &str,
         words: Words<'a>,
         report: &mut Report<'a>,
     ) -> Result<(), Wrong> {
         match &mut self.case {
-            Some(case) => case.take(rt, keyword, words, &mut self.book, report),
+            Some(case) => case.take(rt, program, keyword, words, &mut self.book, report),
             None => Err(words.wrong("it belongs to no case")),
         }
     }

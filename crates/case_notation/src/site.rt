@@ -3,16 +3,13 @@
 ghost use Rattle.crash_plant.specs.Calls.{NoneLent};
 ghost use Rattle.crash_plant.specs.MemoryPlant.{memory_state};
 ghost use Rattle.crash_plant.specs.PlainPlant.{plain_state};
-ghost use Rattle.xrc_session.specs.Lanes.{HaveNoReader};
 
-use crate::wrong::Wrong;
+use crate::{Program, Wrong};
 use crash_plant::{Device, Fail, Heard, MemoryPlant, PlainPlant, Plant};
-use mover::Lane;
 use std::alloc::Global;
 use std::sync::Wait;
 use std::thread::Threads;
 use test_fixtures::{bytes_of, failing, is_there, is_within, put, resized, zeros};
-use xrc_cli::xrc;
 use xrc_edge::MemorySource;
 
 /// How many bytes are read or written at once.
@@ -130,17 +127,17 @@ impl Past {
         self.plant.said()
     }
 
-    /// Makes a call of the program over traces, and gives its status.
-    pub fn call<R: Threads + Wait + Sync>(
+    /// Makes a call of a program over traces, and gives its status.
+    pub fn call<R: Threads + Wait + Sync, P: Program>(
         &mut self,
         rt: &R,
+        program: &P,
         alloc: Global,
         words: &[String],
-        traces: &mut Vec<Lane<MemorySource>>,
-    ) -> u8
-        requires unread { HaveNoReader traces.old.items }
-    {
-        xrc(rt, alloc, words, traces, &mut self.plant)
+        traces: Vec<MemorySource>,
+    ) -> Result<u8, Wrong> {
+        let status = program.call(rt, alloc, words, traces, &mut self.plant)?;
+        Ok(status)
     }
 
     /// Hears what the call left of the script, and says whether it is these bytes.

@@ -4,12 +4,8 @@ use crate::book::Book;
 use crate::call::{Call, Outcome, Twist};
 use crate::made::{Made, is_wanted};
 use crate::report::{Part, Report};
-use crate::setup::Setup;
-use crate::site::Past;
 use crate::tables::{Scene, Table};
-use crate::trace::Trace;
-use crate::words::Words;
-use crate::wrong::Wrong;
+use case_notation::{Past, Program, Setup, Trace, Words, Wrong};
 use std::alloc::Global;
 use std::sync::Wait;
 use std::thread::Threads;
@@ -44,6 +40,8 @@ pub struct Case<'a> {
     is_kept: bool,
     /// The last line that wants something.
     wanted: u64,
+    /// What the call before has left.
+    left: Option<Past>,
     /// The devices that the call begins with, once they are needed.
     before: Option<Past>,
     done: Option<Done>,
@@ -63,6 +61,7 @@ impl<'a> Case<'a> {
             is_begun: false,
             is_kept: false,
             wanted: line.number(),
+            left: None,
             before: None,
             done: None,
             table: Table::None,
@@ -71,9 +70,10 @@ impl<'a> Case<'a> {
     }
 
     /// Takes a line that is neither the case's first nor of what a recovery leaves.
-    pub fn take<R: Threads + Wait + Sync>(
+    pub fn take<R: Threads + Wait + Sync, P: Program>(
         &mut self,
         rt: &R,
+        program: &P,
         keyword: &str,
         words: Words<'a>,
         book: &mut Book<'a>,
@@ -88,9 +88,13 @@ impl<'a> Case<'a> {
             ">" | ">|" | ">x" | "fail" | "stop" => self.take_in_call(keyword, words),
             "stops" | "fails" | "cuts" | "pulls" => self.take_table(keyword, words),
             "way" => self.take_way(words),
-            "at" | "in" | "calm" | "n" | "with" => self.take_row(rt, keyword, words, book, report),
-            "same" | "unheard" | "crash" => self.take_wanted(rt, keyword, words, book, report),
-            _ if is_wanted(keyword) => self.take_wanted(rt, keyword, words, book, report),
+            "at" | "in" | "calm" | "n" | "with" => self.take_row(
+                rt, program, keyword, words, book, report,
+            ),
+            "same" | "unheard" | "crash" => self.take_wanted(
+                rt, program, keyword, words, book, report,
+            ),
+            _ if is_wanted(keyword) => self.take_wanted(rt, program, keyword, words, book, report),
             _ => self.take_setup(keyword, words, report),
         }
     }
@@ -174,33 +178,38 @@ impl<'a> Case<'a> {
         self.progress = Progress::Tried;
         self.wanted = words.number();
         if self.before.is_none() {
-            self.before = Some(self.setup.stand()?);
+            self.before = Some(self.setup.stand(self.left.as_ref())?);
         }
         self.keep(book)
     }
 
     /// Makes the call where it isn't made yet.
-    fn make<R: Threads + Wait + Sync>(&mut self, rt: &R) -> Result<(), Wrong> {
+    fn make<R: Threads + Wait + Sync, P: Program>(
+        &mut self,
+        rt: &R,
+        program: &P,
+    ) -> Result<(), Wrong> {
         let (Some(call), Some(before)) = (&self.call, &self.before) else {
             return Ok(());
         };
         if self.done.is_none() {
-            let done = perform(self.alloc, rt, call, before, self.setup.traces())?;
+            let done = perform(self.alloc, rt, program, call, before, self.setup.traces())?;
             self.done = Some(done);
         }
         Ok(())
     }
 
-    fn take_wanted<R: Threads + Wait + Sync>(
+    fn take_wanted<R: Threads + Wait + Sync, P: Program>(
         &mut self,
         rt: &R,
+        program: &P,
         keyword: &str,
         words: Words<'a>,
         book: &mut Book<'a>,
         report: &mut Report<'_>,
     ) -> Result<(), Wrong> {
         self.begin_try(words, book)?;
-        self.make(rt)?;
+        self.make(rt, program)?;
         let (Some(call), Some(done), Some(before)) = (&self.call, &mut self.done, &self.before)
         else {
             return Err(words.wrong("it stands below a run"));
@@ -213,9 +222,10 @@ impl<'a> Case<'a> {
         }
     }
 
-    fn take_row<R: Threads + Wait + Sync>(
+    fn take_row<R: Threads + Wait + Sync, P: Program>(
         &mut self,
         rt: &R,
+        program: &P,
         keyword: &str,
         words: Words<'a>,
         book: &mut Book<'a>,
@@ -232,11 +242,19 @@ impl<'a> Case<'a> {
             traces: self.setup.traces(),
         };
         match keyword {
-            "at" => scene.try_ends(rt, self.table, words, book, report),
-            "in" => scene.try_ways(rt, self.table, self.ways.as_slice(), words, book, report),
-            "calm" => scene.try_calm(rt, self.table, words, report),
-            "n" => scene.try_flaws(rt, self.table, words, report),
-            _ => scene.try_bytes(rt, words, report),
+            "at" => scene.try_ends(rt, program, self.table, words, book, report),
+            "in" => scene.try_ways(
+                rt,
+                program,
+                self.table,
+                self.ways.as_slice(),
+                words,
+                book,
+                report,
+            ),
+            "calm" => scene.try_calm(rt, program, self.table, words, report),
+            "n" => scene.try_flaws(rt, program, self.table, words, report),
+            _ => scene.try_bytes(rt, program, words, report),
         }
     }
 
@@ -248,8 +266,8 @@ impl<'a> Case<'a> {
         self.before = None;
         let Done { outcome: _, made } = done;
         made.end(self.wanted, report)?;
-        let left = made.into_left().freeze(self.alloc)?;
-        self.setup.go_on(left);
+        self.left = Some(made.into_left().freeze(self.alloc)?);
+        self.setup.go_on();
         Ok(())
     }
 
@@ -297,14 +315,15 @@ impl Done {
 }
 
 /// Makes a call over devices and traces.
-fn perform<R: Threads + Wait + Sync>(
+fn perform<R: Threads + Wait + Sync, P: Program>(
     alloc: Global,
     rt: &R,
+    program: &P,
     call: &Call<'_>,
     before: &Past,
     traces: &[Trace],
 ) -> Result<Done, Wrong> {
-    let outcome = call.make(rt, before, traces, Twist::NONE)?;
+    let outcome = call.make(rt, program, before, traces, Twist::NONE)?;
     let made = Made::new(alloc, &outcome, b"", Part::of("call"))?;
     Ok(Done { outcome, made })
 }

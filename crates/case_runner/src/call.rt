@@ -1,15 +1,7 @@
-//! One call of the program.
+//! One call of a program.
 
-ghost use Rattle.std.specs.Prelude.{IfOk};
-ghost use Rattle.xrc_session.specs.Lanes.{HaveNoReader};
-
-use crate::site::Past;
-use crate::texts::{length_of_lines, spell};
-use crate::trace::{Flaw, Trace};
-use crate::words::Words;
-use crate::wrong::Wrong;
+use case_notation::{Flaw, Past, Program, Trace, Words, Wrong, length_of_lines, spell};
 use crash_plant::{Device, Fail};
-use mover::Lane;
 use std::alloc::Global;
 use std::sync::Wait;
 use std::thread::Threads;
@@ -141,17 +133,18 @@ impl<'a> Call<'a> {
     }
 
     /// Recovers the session of this call from what a crash leaves by a fill.
-    pub fn recover<R: Threads + Wait + Sync>(
+    pub fn recover<R: Threads + Wait + Sync, P: Program>(
         &self,
         rt: &R,
+        program: &P,
         past: &Past,
         fill: &[u8],
     ) -> Result<Outcome, Wrong> {
         let words = self.recovery()?;
         let left = past.crash(self.alloc, fill)?;
         let mut past = left.freeze(self.alloc)?;
-        let mut lanes = Vec::new(self.alloc);
-        let status = past.call(rt, self.alloc, words.as_slice(), &mut lanes);
+        let sources = Vec::new(self.alloc);
+        let status = past.call(rt, program, self.alloc, words.as_slice(), sources)?;
         Ok(Outcome { status, past })
     }
 
@@ -164,38 +157,41 @@ impl<'a> Call<'a> {
     }
 
     /// Makes the call.
-    pub fn make<R: Threads + Wait + Sync>(
+    pub fn make<R: Threads + Wait + Sync, P: Program>(
         &self,
         rt: &R,
+        program: &P,
         before: &Past,
         traces: &[Trace],
         twist: Twist<'_>,
     ) -> Result<Outcome, Wrong> {
-        let fails = self.planned(rt, before, traces, twist)?;
-        self.make_with(rt, before, traces, twist, fails.as_slice())
+        let fails = self.planned(rt, program, before, traces, twist)?;
+        self.make_with(rt, program, before, traces, twist, fails.as_slice())
     }
 
-    fn make_with<R: Threads + Wait + Sync>(
+    fn make_with<R: Threads + Wait + Sync, P: Program>(
         &self,
         rt: &R,
+        program: &P,
         before: &Past,
         traces: &[Trace],
         twist: Twist<'_>,
         fails: &[Fail],
     ) -> Result<Outcome, Wrong> {
         let words = self.all_words()?;
-        let mut lanes = lanes(self.alloc, traces, twist.flaw)?;
+        let sources = sources(self.alloc, traces, twist.flaw)?;
         let mut site = before.crash(self.alloc, b"")?;
         site.set_script(self.alloc, self.script.as_slice())?;
         let mut past = site.into_past(self.alloc, fails)?;
-        let status = past.call(rt, self.alloc, words.as_slice(), &mut lanes);
+        let status = past.call(rt, program, self.alloc, words.as_slice(), sources)?;
         Ok(Outcome { status, past })
     }
 
     /// The failures of the call, each counted from so many bytes. The lines are those that the call says without any of them.
-    fn planned<R: Threads + Wait + Sync>(
+    fn planned<R: Threads + Wait + Sync, P: Program>(
         &self,
         rt: &R,
+        program: &P,
         before: &Past,
         traces: &[Trace],
         twist: Twist<'_>,
@@ -211,7 +207,7 @@ impl<'a> Call<'a> {
         if let Some(calm) = twist.calm {
             return self.failures(plan.as_slice(), calm);
         }
-        let calm = self.make_with(rt, before, traces, Twist::NONE, &[])?;
+        let calm = self.make_with(rt, program, before, traces, Twist::NONE, &[])?;
         self.failures(plan.as_slice(), calm.past.said())
     }
 
@@ -236,21 +232,19 @@ impl<'a> Call<'a> {
     }
 }
 
-/// The lanes of the traces, of which one may have a flaw. None has its reader yet.
-fn lanes(
+/// The sources of the traces, of which one may have a flaw.
+fn sources(
     alloc: Global,
     traces: &[Trace],
     flaw: Option<(usize, Flaw)>,
-) -> Result<Vec<Lane<MemorySource>>, Wrong>
-    ensures unread { IfOk result (λ lanes. HaveNoReader lanes.items) }
-{
-    let mut lanes = Vec::new(alloc);
+) -> Result<Vec<MemorySource>, Wrong> {
+    let mut sources = Vec::new(alloc);
     for (number, trace) in traces.iter().enumerate() {
         let flaw = match flaw {
             Some((at, flaw)) if at == number => flaw,
             _ => Flaw::Nothing,
         };
-        lanes.push(Lane::new(trace.source(flaw)?))?;
+        sources.push(trace.source(flaw)?)?;
     }
-    Ok(lanes)
+    Ok(sources)
 }
