@@ -4,13 +4,13 @@ use Rattle.std.proofs.lemmas.Bool.{cases_lt}
 use Rattle.std.proofs.lemmas.List.{get_or_default}
 use Rattle.crash_plant.specs.declared.device.Device.{Device}
 use Rattle.crash_plant.specs.declared.device.Device.TheVariants.{Volume}
-use Rattle.crash_plant.specs.Moments.{Standing, PlantState, on, Kept}
+use Rattle.crash_plant.specs.Moments.{Standing, PlantState, on, SamePast}
 use Rattle.crash_plant.specs.Calls.{NoneLent, SameLoan, TakesBack, IsLentOne}
 use Rattle.crash_plant.proofs.Choices.{device_cases}
 use Rattle.xrc_journal.specs.declared.job.VolumeJob.{VolumeJob}
 use Rattle.applier.specs.Disks.{OnDisks, AreApart, IsLentTo}
-use Rattle.applier.specs.Out.{HoldsVolume, IsOut, AreOut, LeavesBut}
-use Rattle.applier.specs.Back.{IsBack, AreBack}
+use Rattle.applier.specs.Loans.{HoldsVolume, IsOut, AreOut, LeavesBut}
+use Rattle.applier.specs.Returns.{IsBack, AreBack}
 use Rattle.applier.proofs.Others.{leaves_then}
 use Rattle.applier.proofs.LentVolumes.{lent_one, back_of, back_then}
 use Rattle.applier.proofs.Lending.{on_more, holds_then, other_volume}
@@ -177,7 +177,7 @@ module _ {D : Type 0} (tells own : Type 0) (state : D → Standing) (start c : P
       ];
       elapses = λ told. record {
         kept = λ d. elim (lent_cases given d) [
-          | inl among ↦ of_back (λ e. Kept (on start e) (on c e)) (λ u was is back. back.kept told) d among
+          | inl among ↦ of_back (λ e. SamePast (on start e) (on c e)) (λ u was is back. back.kept told) d among
           | inr none ↦ x.others.kept told d none
         ];
         heard = x.others.heard told;

@@ -10,7 +10,7 @@ use Rattle.crash_plant.specs.Calls.{IsThere, NoneLent, LeavesAllBut, Lends}
 use Rattle.xrc_journal.specs.declared.job.VolumeJob.{VolumeJob}
 use Rattle.crash_plant.proofs.Steps.{kept_here}
 use Rattle.applier.specs.Disks.{OnDisks, AreApart, IsLentTo}
-use Rattle.applier.specs.Out.{LendsWhere, WorkedOn, HoldsVolume, AreOut}
+use Rattle.applier.specs.Loans.{LendsWhere, WorkedOn, HoldsVolume, AreOut}
 use Rattle.applier.proofs.Others.{leaves_here, leaves_then}
 use Rattle.applier.proofs.LentVolumes.{out_of, out_then}
 

@@ -3,11 +3,11 @@ use Rattle.std.proofs.Common.{◌≡◌, ◌≢◌, inl, inr, ◌⊎◌, ℕ, �
 use Rattle.std.proofs.lemmas.Bool.{cases_lt}
 use Rattle.crash_plant.specs.declared.device.Device.{Device}
 use Rattle.crash_plant.specs.declared.device.Device.TheVariants.{Volume}
-use Rattle.crash_plant.specs.Moments.{Standing, PlantState, on, Kept, Follows, Stays, IsDurable, OwnImage}
+use Rattle.crash_plant.specs.Moments.{Standing, PlantState, on, SamePast, Follows, Stays, IsDurable, OwnImage}
 use Rattle.crash_plant.specs.Calls.{SameLoan, LeavesAllBut, Lends, TakesBack, IsLentOne}
 use Rattle.crash_plant.proofs.Steps.{kept_trans}
-use Rattle.applier.specs.Out.{WorkedOn, IsOut, LeavesBut}
-use Rattle.applier.specs.Back.{IsBack}
+use Rattle.applier.specs.Loans.{WorkedOn, IsOut, LeavesBut}
+use Rattle.applier.specs.Returns.{IsBack}
 
 -- other numbers are other volumes
 pub apart_volumes : (v w : ℕ) → w ≢ v → Volume w ≢ Volume v
@@ -94,7 +94,7 @@ module _ (tells own : Type 0) (v : ℕ) (a b c : PlantState) (lent given : Stand
         absurd (omega (arith, before, zero_c))
   ]
 
-  back_kept : tells → Kept (on a (Volume v)) (on c (Volume v))
+  back_kept : tells → SamePast (on a (Volume v)) (on c (Volume v))
   back_kept told = record {
     later = omega (arith, (x.kept told).later, (y.rest.goes_on told).0);
     still = λ none. (y.rest.goes_on told).1 ((x.kept told).still none);

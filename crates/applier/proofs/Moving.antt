@@ -7,8 +7,8 @@ use Rattle.crash_plant.specs.Moments.{Standing, PlantState, on, Follows, Same}
 use Rattle.crash_plant.proofs.Steps.{kept_trans}
 use Rattle.xrc_journal.specs.declared.job.VolumeJob.{VolumeJob}
 use Rattle.applier.specs.Disks.{OnDisks, IsLentTo}
-use Rattle.applier.specs.Out.{WorkedOn, AreWorkedOn, HoldsVolume, AreOut, LeavesBut}
-use Rattle.applier.specs.Back.{IsBack, AreBack, AreRead, OnlyReads}
+use Rattle.applier.specs.Loans.{WorkedOn, AreWorkedOn, HoldsVolume, AreOut, LeavesBut}
+use Rattle.applier.specs.Returns.{IsBack, AreBack, AreRead, OnlyReads}
 use Rattle.applier.proofs.LentVolumes.{back_follows}
 use Rattle.applier.proofs.Lending.{at_set, worked_here}
 use Rattle.applier.proofs.Giving.{lent_cases}

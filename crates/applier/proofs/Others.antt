@@ -6,7 +6,7 @@ use Rattle.crash_plant.specs.declared.device.Device.TheVariants.{Volume}
 use Rattle.crash_plant.specs.Moments.{PlantState, on}
 use Rattle.crash_plant.specs.Calls.{LeavesAllBut}
 use Rattle.crash_plant.proofs.Steps.{kept_here, kept_trans, stays_trans, site_trans, loan_trans, works_on_here}
-use Rattle.applier.specs.Out.{LeavesBut}
+use Rattle.applier.specs.Loans.{LeavesBut}
 
 -- no call
 pub leaves_here : (tells : Type 0) (among : Device → Type 0) (a : PlantState) → LeavesBut tells among a a

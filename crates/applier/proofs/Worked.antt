@@ -1,16 +1,16 @@
 -- Jobs whose volumes were worked on side by side: calls were made on their disks.
 use Rattle.std.proofs.Common.{◌≡◌, ℕ, ◌<◌, Bool, true, false, List, length, get_or, refl, sym, subst, Option, Some, None}
-use Rattle.crash_plant.specs.Moments.{Standing, Kept}
+use Rattle.crash_plant.specs.Moments.{Standing, SamePast}
 use Rattle.xrc_journal.specs.declared.job.VolumeJob.{VolumeJob}
 use Rattle.xrc_journal.specs.Items.{Item}
 use Rattle.xrc_journal.specs.Jobs.{FailsByCount, OnVolume}
 use Rattle.applier.specs.Disks.{OnDisks}
-use Rattle.applier.specs.Out.{WorkedOn, AreWorkedOn}
+use Rattle.applier.specs.Loans.{WorkedOn, AreWorkedOn}
 use Rattle.applier.specs.Sides.{AppliesToJob, SyncsJob, SyncsVolume}
 use Rattle.applier.proofs.Lending.{worked_here}
 
 module _ {D : Type 0} (state : D → Standing) (own : Type 0) where
-  applied_disk : (failed : Bool) (was is : Option D) → (own → OnVolume state Kept was is) → OnVolume state (λ a b. b.length_is ≡ a.length_is) was is → OnVolume state (λ a b. FailsByCount failed a.faults b.faults) was is
+  applied_disk : (failed : Bool) (was is : Option D) → (own → OnVolume state SamePast was is) → OnVolume state (λ a b. b.length_is ≡ a.length_is) was is → OnVolume state (λ a b. FailsByCount failed a.faults b.faults) was is
       → OnDisks (λ a b. WorkedOn own (state a) (state b)) was is
   applied_disk failed (Some a) (Some b) past length_is cause = record { past = past; length_is = length_is; faults = cause.later }
   applied_disk failed None None past length_is cause = tt

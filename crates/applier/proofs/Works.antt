@@ -5,7 +5,7 @@ use Rattle.crash_plant.specs.declared.device.Device.TheVariants.{Control}
 use Rattle.crash_plant.specs.Moments.{PlantState, on}
 use Rattle.crash_plant.specs.Calls.{NoneLent, WorksOn}
 use Rattle.crash_plant.proofs.Steps.{site_trans, loan_trans, elapses_trans, silent_trans, stays_trans}
-use Rattle.applier.specs.Back.{WorksOnLent}
+use Rattle.applier.specs.Returns.{WorksOnLent}
 
 -- Calls that lend no volume are such calls.
 pub lent_of_works : (tells : Type 0) (among : Device → Type 0) (a b : PlantState) → WorksOn tells among a b → WorksOnLent tells among a b

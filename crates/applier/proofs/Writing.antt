@@ -9,7 +9,7 @@ use Rattle.ckd_track.specs.Images.{image}
 use Rattle.ckd_track.specs.SlotPlaces.{slot_place}
 use Rattle.ckd_track.proofs.Parts.{length-image}
 use Rattle.crash_plant.specs.Bytes.{patched, Torn}
-use Rattle.crash_plant.specs.Moments.{Standing, Follows, Kept}
+use Rattle.crash_plant.specs.Moments.{Standing, Follows, SamePast}
 use Rattle.xrc_journal.specs.declared.reading.BodyItem.{BodyItem}
 use Rattle.xrc_journal.specs.Items.{Item, Earlier, anywhere, is_item}
 use Rattle.xrc_journal.specs.Items.Item.{Image, Delta, Pair, Gone}
@@ -49,7 +49,7 @@ module _ {D : Type 0} (state : D → Standing) (tells : Type 0) (device of track
   pub record Wrote (place : ℕ) (bytes : List ℕ) : Type 0 where
     pub done : tells → OnOk result ((state new).bytes ≡ patched place bytes (state old).bytes)
     pub torn : tells → Torn place (length bytes) (state old).bytes (state new).bytes
-    pub past : tells → Kept (state old) (state new)
+    pub past : tells → SamePast (state old) (state new)
     pub moments : tells → Follows (Torn place (length bytes)) (state old) (state new)
     pub size : (state new).length_is ≡ (state old).length_is
     pub cause : HasCause (state old).faults (state new).faults result

@@ -3,5 +3,5 @@ pub mod Jobs
 pub mod Sides
 pub mod Writes
 pub mod Disks
-pub mod Out
-pub mod Back
+pub mod Loans
+pub mod Returns

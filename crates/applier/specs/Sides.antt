@@ -2,7 +2,7 @@
 use Rattle.std.specs.Prelude.{◌≡◌, ℕ, ◌&&◌, ◌<◌, not, Bool, true, false, List, length, slice_index_or, None, is_some}
 use denote.Ref.{MutBor}
 use denote.Param.Members.{Shared}
-use Rattle.crash_plant.specs.Moments.{Standing, Follows, Kept, Same, IsDurable, Raises}
+use Rattle.crash_plant.specs.Moments.{Standing, Follows, SamePast, Same, IsDurable, Raises}
 use Rattle.xrc_journal.specs.declared.job.VolumeJob.{VolumeJob}
 use Rattle.xrc_journal.specs.Items.{Item}
 use Rattle.xrc_journal.specs.Contents.{HasItem}
@@ -26,7 +26,7 @@ pub record AppliesToJob {D : Type 0} (state : D → Standing) (tells : Type 0) (
   pub no_item : ((x : ℕ) → ¬ HasItem old.device x items) → (new.disk ≡ old.disk) × (new.failed ≡ old.failed)
   pub cause : old.failed ≡ false → OnVolume state (λ was is. FailsByCount new.failed was.faults is.faults) old.disk new.disk
   pub length_is : OnVolume state (λ was is. is.length_is ≡ was.length_is) old.disk new.disk
-  pub past : tells → OnVolume state Kept old.disk new.disk
+  pub past : tells → OnVolume state SamePast old.disk new.disk
   pub moments : tells → OnVolume state (Follows (DiffersInSlots old.device items)) old.disk new.disk
   pub bytes : tells → OnVolume state (λ was is. DiffersInSlots old.device items was.bytes is.bytes) old.disk new.disk
   pub content : tells → new.failed ≡ false → OnVolume state (λ was is. HoldsContent old.device items was.bytes is.bytes) old.disk new.disk
@@ -39,7 +39,7 @@ pub record SyncsVolume (tells : Type 0) (failed : Bool) (old new : Standing) : T
   pub durable : tells → failed ≡ false → IsDurable new
   pub clock : tells → failed ≡ false → Raises old.clock new.clock
   pub bytes : tells → new.bytes ≡ old.bytes
-  pub past : tells → Kept old new
+  pub past : tells → SamePast old new
   pub moments : tells → Follows Same old new
 
 -- One job's volume was synced, or its sync failed. A job that failed before, or has no disk, is as it was.

@@ -5,7 +5,7 @@ use Rattle.xrc_edge.specs.Causes.{HasCause}
 use Rattle.ckd_track.specs.Images.{image}
 use Rattle.ckd_track.specs.SlotPlaces.{slot_place}
 use Rattle.crash_plant.specs.Bytes.{patched}
-use Rattle.crash_plant.specs.Moments.{Standing, Follows, Kept}
+use Rattle.crash_plant.specs.Moments.{Standing, Follows, SamePast}
 use Rattle.xrc_journal.specs.Items.{Item}
 use Rattle.xrc_journal.specs.Items.Item.{Image, Delta, Pair, Gone}
 use Rattle.xrc_journal.specs.Contents.{HasItem}
@@ -28,7 +28,7 @@ pub record Writes {D : Type 0} (state : D → Standing) (tells : Type 0) (device
   pub cause : HasCause (state old).faults (state new).faults result
   pub idle : ((x : ℕ) → ¬ HasItem device x (i ∷ [])) → new ≡ old
   pub fails : IsErr result → (x : ℕ) × HasItem device x (i ∷ [])
-  pub past : tells → Kept (state old) (state new)
+  pub past : tells → SamePast (state old) (state new)
   pub moments : tells → Follows (DiffersInSlots device (i ∷ [])) (state old) (state new)
   pub bytes : tells → DiffersInSlots device (i ∷ []) (state old).bytes (state new).bytes
   pub done : tells → OnOk result ((state new).bytes ≡ written_by device (state old).bytes i)
@@ -38,7 +38,7 @@ pub record WritesAll {D : Type 0} (state : D → Standing) (tells : Type 0) (dev
   pub length_is : (state new).length_is ≡ (state old).length_is
   pub faults : (state new).faults ≡ (state old).faults
   pub idle : ((x : ℕ) → ¬ HasItem device x items) → new ≡ old
-  pub past : tells → Kept (state old) (state new)
+  pub past : tells → SamePast (state old) (state new)
   pub moments : tells → Follows (DiffersInSlots device items) (state old) (state new)
   pub bytes : tells → (state new).bytes ≡ written device items (state old).bytes
 
@@ -51,6 +51,6 @@ pub record StopsAt {D : Type 0} (state : D → Standing) (tells : Type 0) (devic
   pub track : ℕ
   pub own : HasItem device track (item ∷ [])
   pub length_is : (state new).length_is ≡ (state old).length_is
-  pub past : tells → Kept (state old) (state new)
+  pub past : tells → SamePast (state old) (state new)
   pub moments : tells → Follows (DiffersInSlots device (before ++ item ∷ [])) (state old) (state new)
   pub bytes : tells → DiffersInSlots device (item ∷ []) (written device before (state old).bytes) (state new).bytes

@@ -1,7 +1,7 @@
 //! The images of a body, written into the slots of one volume.
 
 ghost use Rattle.std.specs.Prelude.{◌≡◌, ◌≤◌, ℕ, List, true, false, IsTrue, OnErr, OnOk};
-ghost use Rattle.crash_plant.specs.Moments.{Follows, Kept};
+ghost use Rattle.crash_plant.specs.Moments.{Follows, SamePast};
 ghost use Rattle.ckd_track.specs.declared.rec.Rec.{Rec};
 ghost use Rattle.ckd_track.specs.SlotPlaces.{slot_end};
 ghost use Rattle.xrc_edge.specs.Causes.{HasCause};
@@ -65,7 +65,7 @@ pub fn apply_volume<D: Disk>(body: &Body, job: &mut VolumeJob<D>)
     ensures no_item { ((x : ℕ) → ¬ HasItem job.old.device x body.now.items) → (job.new.disk ≡ job.old.disk) × (job.new.failed ≡ job.old.failed) }
     ensures cause { job.old.failed ≡ false → OnVolume D.state (λ old new. FailsByCount job.new.failed old.faults new.faults) job.old.disk job.new.disk }
     ensures length { OnVolume D.state (λ old new. new.length_is ≡ old.length_is) job.old.disk job.new.disk }
-    ensures past { D.tells → OnVolume D.state Kept job.old.disk job.new.disk }
+    ensures past { D.tells → OnVolume D.state SamePast job.old.disk job.new.disk }
     ensures moments { D.tells → OnVolume D.state (Follows (DiffersInSlots job.old.device body.now.items)) job.old.disk job.new.disk }
     ensures bytes { D.tells → OnVolume D.state (λ old new. DiffersInSlots job.old.device body.now.items old.bytes new.bytes) job.old.disk job.new.disk }
     ensures content { D.tells → job.new.failed ≡ false → OnVolume D.state (λ old new. HoldsContent job.old.device body.now.items old.bytes new.bytes) job.old.disk job.new.disk }

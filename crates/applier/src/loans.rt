@@ -4,9 +4,9 @@ ghost use Rattle.std.specs.Prelude.{◌≡◌, ◌<◌, ℕ, List, length, map, 
 ghost use Rattle.crash_plant.specs.Calls.{IsLentOne, IsThere, Lends, NoneLent, TakesBack};
 ghost use Rattle.crash_plant.specs.declared.device.Device.TheVariants.{Volume};
 ghost use Rattle.xrc_journal.specs.declared.job.VolumeJob.{VolumeJob};
-ghost use Rattle.applier.specs.Back.{AreBack, AreRead, OnlyReads};
+ghost use Rattle.applier.specs.Returns.{AreBack, AreRead, OnlyReads};
 ghost use Rattle.applier.specs.Disks.{AreApart, without_disk};
-ghost use Rattle.applier.specs.Out.{AreOut, LendsWhere};
+ghost use Rattle.applier.specs.Loans.{AreOut, LendsWhere};
 
 use crash_plant::Plant;
 use std::mem;

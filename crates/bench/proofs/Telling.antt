@@ -1,18 +1,15 @@
 -- The seats at a new state have told nothing, and each tells one time after the other.
-use Rattle.std.proofs.Common.{◌≡◌, ℕ, zero, suc, ◌+◌, ◌≤◌, List, [], ◌∷◌, length, map, get_or, set, Option, Some, None, true, refl, sym, ap, ◌∙◌, subst, arith}
+use Rattle.std.proofs.Common.{◌≡◌, ℕ, zero, suc, ◌+◌, List, [], length, map, get_or, Option, Some, true, refl, sym, ap, ◌∙◌, subst}
 use Rattle.std.specs.List.{range_with_len}
 use Rattle.std.proofs.lemmas.List.{length-map}
-use Rattle.std.proofs.lemmas.List.Elements.{All-nil, All-cons, All-head, All-tail, All-set}
+use Rattle.std.proofs.lemmas.List.Elements.{All-nil, All-cons}
 use Rattle.atomic_table.specs.Seated.{TableId}
-use Rattle.tod_stamp.specs.declared.stamp.Stamp.{Stamp}
 use Rattle.group_state.specs.Controls.{new_control, is_telling}
 use Rattle.group_state.specs.Groups.{Group, new_controls, new_group}
-use Rattle.group_state.specs.Machine.Call.{Raise}
-use Rattle.group_state.specs.Machine.Reply.{Made}
 use Rattle.group_state.proofs.GroupLaws.{length_new}
 use Rattle.turn_group.specs.Notes.{known_of}
-use Rattle.turn_group.specs.Seats.{ReaderSeatState, MoverSeatState, SeatMayTell, ReaderCalled, new_reader, new_readers, new_mover}
-use Rattle.bench.specs.Telling.{HasTold, HasToldNothing, NoneHasTold}
+use Rattle.turn_group.specs.Seats.{ReaderSeatState, MoverSeatState, new_reader, new_readers, new_mover}
+use Rattle.bench.specs.Telling.{HasToldNothing, NoneHasTold}
 
 -- ---- at a new state
 
@@ -39,28 +36,3 @@ mover_begins table n state mover new is =
       ap (λ (m : MoverSeatState). m.last.0) begins,
       ap (λ (m : MoverSeatState). length m.known) begins ∙ (length-map (new_controls n 0 1 1) known_of ∙ length_new n 0 1 1),
     )
-
--- ---- seats that are taken
-
-at_place : (table : TableId) (seats : List (Option ReaderSeatState)) (k : ℕ) → NoneHasTold table seats → HasToldNothing table (get_or seats k None)
-at_place table [] k none = tt
-at_place table (seat ∷ seats) zero none = All-head (HasToldNothing table) seat seats none
-at_place table (seat ∷ seats) (suc k) none = at_place table seats k (All-tail (HasToldNothing table) seat seats none)
-
-pub taken_told : (table : TableId) (seats : List (Option ReaderSeatState)) (k : ℕ) (seat : ReaderSeatState) → NoneHasTold table seats → Some seat ≡ get_or seats k None → HasTold table 0 seat
-taken_told table seats k seat none is = subst (HasToldNothing table) (sym is) (at_place table seats k none)
-
-pub left_told : (table : TableId) (seats left : List (Option ReaderSeatState)) (k : ℕ) → NoneHasTold table seats → left ≡ set seats k None → NoneHasTold table left
-left_told table seats left k none is = subst (NoneHasTold table) (sym is) (All-set (HasToldNothing table) seats k None tt none)
-
--- ---- the next time
-
-pub may_tell : (table : TableId) (time : ℕ) (seat : ReaderSeatState) (upto : Stamp) → HasTold table time seat → time ≤ upto.0 → SeatMayTell seat upto
-may_tell table time seat upto has le = record { telling = has.tells; up = (let told = has.told in omega (arith, le)) }
-
-pub told_next : (table : TableId) (time : ℕ) (old new : ReaderSeatState) (k : ℕ) (upto : Stamp) → HasTold table time old → ReaderCalled old (Raise k upto) Made new → HasTold table upto.0 new
-told_next table time old new k upto has called = record {
-  here = ap (λ (s : ReaderSeatState). s.table) called.after ∙ has.here;
-  tells = ap (λ (s : ReaderSeatState). s.telling) called.after ∙ has.tells;
-  told = ap (λ (s : ReaderSeatState). s.floor.0) called.after;
-}

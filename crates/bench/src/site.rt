@@ -2,7 +2,7 @@
 
 ghost use Rattle.std.specs.Prelude.{◌≡◌, ◌≤◌, true, vec_len, IfOk, OnOk, IsTrue};
 ghost use Rattle.crash_plant.specs.Calls.{NoneLent};
-ghost use Rattle.site_store.specs.Between.{IsSiteIdle};
+ghost use Rattle.site_store.specs.IdleSites.{IsSiteIdle};
 
 use crate::plain_site::{write_group, zero_all};
 use crate::queue::STAMP;

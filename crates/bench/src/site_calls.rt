@@ -5,7 +5,7 @@ ghost use Rattle.std.specs.List.{All};
 ghost use Rattle.crash_plant.specs.Calls.{NoneLent};
 ghost use Rattle.image_former.specs.Entries.{is_row_of};
 ghost use Rattle.pair_table.specs.declared.command.Change.TheVariants.{Added as AddedPair};
-ghost use Rattle.site_store.specs.Between.{IsSiteIdle, IsSiteLogged};
+ghost use Rattle.site_store.specs.IdleSites.{IsSiteIdle, IsSiteLogged};
 ghost use Rattle.site_store.specs.Changing.{MayChange};
 ghost use Rattle.site_store.specs.Logging.{IsOfSomeRow};
 ghost use Rattle.site_store.specs.Standing.{HasLengths};

@@ -1,7 +1,7 @@
 -- The shared state of four controls at the start, and lanes that may read there.
 use Rattle.std.proofs.Common.{◌≡◌, ℕ, zero, suc, ◌+◌, ◌≤◌, ◌<◌, List, [], ◌∷◌, ◌++◌, length, get_or, refl, sym, ap, subst, ◌∙◌, arith}
 use Rattle.group_state.specs.Groups.{Group, control_at}
-use Rattle.group_state.specs.Sound.{MayCarry, MayTell}
+use Rattle.group_state.specs.SoundStates.{MayCarry, MayTell}
 use Rattle.mover.specs.declared.lane.Lane.{Lane}
 use Rattle.mover.specs.Rounds.{AreLanesOf}
 use Rattle.bench_mover.specs.Starting.{AreBegunLanes, IsBegunLane, begun_group, carrying_group, no_copy, start_time, told_group}

@@ -14,7 +14,7 @@ use Rattle.pair_table.specs.Tables.{is_of, with_row}
 use Rattle.pair_table.proofs.AddLaws.{with_row-last}
 use Rattle.record_rows.specs.Hits.{hit_now, is_device_suspended, is_hit_now, rows_hit}
 use Rattle.record_rows.specs.Records.{rows_with_hits}
-use Rattle.site_store.specs.Between.{IsSiteIdle}
+use Rattle.site_store.specs.IdleSites.{IsSiteIdle}
 use Rattle.site_store.specs.Causes.{FailByCounts}
 use Rattle.site_store.specs.Changing.{MayChange}
 use Rattle.site_store.specs.Commands.{AreOnVolumes, IsToLog, behind_put}

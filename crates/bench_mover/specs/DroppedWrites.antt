@@ -1,7 +1,7 @@
 -- A plant that drops what is written to it: it tells no bytes, and none of its calls fails.
 use Rattle.std.specs.Prelude.{ℕ, ◌^◌, Bool, false, List, [], slice_index_or}
 use Rattle.crash_plant.specs.Moments.{Standing, PlantState}
-use Rattle.crash_plant.specs.Still.{Contents, still, still_disk}
+use Rattle.crash_plant.specs.PastlessPlants.{Contents, still, still_disk}
 
 -- the bytes of each of its devices
 abbrev pub dropping_length : ℕ

@@ -11,7 +11,7 @@ use Rattle.mover.specs.Lanes.{IsReaderOf}
 use Rattle.pair_table.specs.declared.row.PairRow.{PairRow}
 use Rattle.pair_table.specs.declared.row.PairState.TheVariants.{Pending}
 use Rattle.sidefile.specs.States.{SidefileState}
-use Rattle.site_store.specs.Between.{IsSiteIdle}
+use Rattle.site_store.specs.IdleSites.{IsSiteIdle}
 use Rattle.site_store.specs.Sites.{SiteState}
 use Rattle.write_trace.specs.declared.header.VolumeHead.{VolumeHead}
 

@@ -12,9 +12,9 @@ use Rattle.pair_table.specs.Commands.{accepted, answer_by, change_of, is_end}
 use Rattle.pair_table.specs.Refusals.{refusal}
 use Rattle.pair_table.specs.Tables.{Table}
 use Rattle.row_changes.specs.Changes.{Timed}
-use Rattle.row_changes.specs.Toward.{AreCounted, hit_count}
+use Rattle.row_changes.specs.Spans.{AreCounted, hit_count}
 use Rattle.xrc_command.specs.declared.line.Line.{Line}
-use Rattle.consistency.specs.Bears.{Run, Stage, accepts, accepts_end, breaks_of, names_of}
+use Rattle.consistency.specs.Stages.{Run, Stage, accepts, accepts_end, breaks_of, names_of}
 use Rattle.consistency.specs.Courses.{Answered, IsAnswered, stage_after}
 use Rattle.consistency.specs.Replies.{IsReply}
 use Rattle.consistency.specs.Steps.{commanded, is_active, names_at, table_after_line, table_on_the_way}

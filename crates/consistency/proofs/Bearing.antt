@@ -1,7 +1,7 @@
 -- What choices that show points bear.
 use Rattle.std.proofs.Common.{refl}
 use Rattle.site_means.specs.Images.{Images, Shape}
-use Rattle.consistency.specs.Bears.{Run, Stage}
+use Rattle.consistency.specs.Stages.{Run, Stage}
 use Rattle.consistency.specs.Bearing.{Bears, MayBeMeant, ShowsPoint}
 use Rattle.consistency.specs.Leads.{Point}
 

@@ -15,13 +15,13 @@ use Rattle.pair_table.specs.Commands.{accepted}
 use Rattle.pair_table.specs.Refusals.{refusal}
 use Rattle.pair_table.specs.Tables.{Table}
 use Rattle.row_changes.specs.Changes.{Timed}
-use Rattle.row_changes.specs.Toward.{AreCounted}
+use Rattle.row_changes.specs.Spans.{AreCounted}
 use Rattle.site_means.specs.declared.means.Means.{Means}
 use Rattle.site_means.specs.Images.{Shape, shape_of}
 use Rattle.site_means.specs.Sight.{means_of}
 use Rattle.site_means.proofs.Goes.{shape_same}
 use Rattle.xrc_command.specs.declared.line.Line.{Line}
-use Rattle.consistency.specs.Bears.{AreAfterLine, AreOnTheWay, Run, Stage, breaks_of, names_of}
+use Rattle.consistency.specs.Stages.{AreAfterLine, AreOnTheWay, Run, Stage, breaks_of, names_of}
 use Rattle.consistency.specs.Courses.{Answered, IsAnswered, last_line_time, replies_of, stage_after, stage_at, texts_of}
 use Rattle.consistency.specs.Keeping.{stage_now}
 use Rattle.consistency.specs.Moments.{AreUpTo, BearsThroughout, BearsTime, MeansTable}
@@ -32,7 +32,7 @@ use Rattle.consistency.proofs.Lines.{asked_more, at_or_last, course_more, next_n
 use Rattle.consistency.proofs.Pieces.{times_append}
 use Rattle.consistency.proofs.Standing.{bears_on, console_choice}
 use Rattle.consistency.specs.Bearing.{GoesThroughPoints, MayBeMeant, ShowsPoint}
-use Rattle.consistency.specs.Between.{AreToldOf, HadExactReplies, HadExactReply, HasPassed, MayReply, RunGoesOn, ShowsMeant, asked_in}
+use Rattle.consistency.specs.Pauses.{AreToldOf, HadExactReplies, HadExactReply, HasPassed, MayReply, RunGoesOn, ShowsMeant, asked_in}
 use Rattle.consistency.specs.Leads.{Point}
 use Rattle.consistency.specs.Ways.{Leg, PassedPoint, Way, stage_point}
 use Rattle.consistency.proofs.Bearing.{points_bear}

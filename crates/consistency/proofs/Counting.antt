@@ -6,7 +6,7 @@ use Rattle.std.proofs.lemmas.Bool.{or_parts}
 use Rattle.std.proofs.lemmas.List.Sums.{sum_by-append}
 use Rattle.tod_stamp.proofs.TextLaws.{texts_back}
 use Rattle.xrc_command.specs.declared.line.Line.{Line}
-use Rattle.consistency.specs.Bears.{Run}
+use Rattle.consistency.specs.Stages.{Run}
 use Rattle.consistency.specs.Courses.{Answered, IsCourse, StandsAt, replies_of}
 use Rattle.consistency.specs.Replies.{IsReply, answer_word, are_reply, is_answer, is_reply_line, reply_count}
 use Rattle.consistency.specs.Times.{AreWhole, whole_lines}

@@ -4,9 +4,9 @@ use Rattle.std.specs.Prelude.{max}
 use Rattle.std.proofs.Math.Nat.{le-max_left, le-max_right}
 use Rattle.std.proofs.lemmas.List.Sums.{sum_by-append}
 use Rattle.row_changes.specs.Changes.{Timed}
-use Rattle.row_changes.specs.Toward.{AreCounted, hit_count, hits}
+use Rattle.row_changes.specs.Spans.{AreCounted, hit_count, hits}
 use Rattle.xrc_command.specs.declared.line.Line.{Line}
-use Rattle.consistency.specs.Bears.{Run, Stage}
+use Rattle.consistency.specs.Stages.{Run, Stage}
 use Rattle.consistency.specs.Leads.{Point}
 use Rattle.consistency.specs.Ways.{ComesBy, HasCountedHits, IsLegOf, Leg, Way, hits_of_leg, hits_through, leg_by}
 use Rattle.consistency.specs.Ways.Way.{Commanded, Ending, MarkedFor, OnTheWay}

@@ -7,7 +7,7 @@ use Rattle.std.proofs.lemmas.List.Elements.{All-cons, All-head, All-nil, All-tai
 use Rattle.pair_table.specs.Tables.{Table}
 use Rattle.row_changes.specs.Changes.{Timed}
 use Rattle.xrc_command.specs.declared.line.Line.{Line}
-use Rattle.consistency.specs.Bears.{IsFlag, Run, Stage, accepts_end}
+use Rattle.consistency.specs.Stages.{IsFlag, Run, Stage, accepts_end}
 use Rattle.consistency.specs.Bearing.{IsFlagInTime, MayBeMeant, MayBeMeantInTime}
 use Rattle.consistency.specs.Leads.{Point}
 use Rattle.passages.specs.Points.{AreLinked}

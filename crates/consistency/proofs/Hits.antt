@@ -10,7 +10,7 @@ use Rattle.pair_table.specs.declared.row.PairRow.{PairRow}
 use Rattle.row_changes.specs.Changes.{Due, RowChange, Timed, after_change, due_after, may_end}
 use Rattle.row_changes.specs.Changes.Due.{NoneDue}
 use Rattle.row_changes.specs.Changes.RowChange.{Break, Hit, MarkedHit, Mature, Reached}
-use Rattle.row_changes.specs.Toward.{is_hit_at}
+use Rattle.row_changes.specs.Spans.{is_hit_at}
 use Rattle.consistency.specs.Leads.{Comes, HitsLead, MarkedHitsLead, Point, is_marked_at, may_rest}
 use Rattle.consistency.proofs.Leading.{leads_on}
 

@@ -3,7 +3,7 @@ use Rattle.std.proofs.Common.{◌≡◌, ◌⊎◌, inl, inr, ℕ, ◌<◌, ◌�
 use Rattle.std.specs.Coded.{le_prop}
 use Rattle.std.proofs.lemmas.Bool.{cases_lt}
 use Rattle.crash_plant.specs.Moments.{PlantState}
-use Rattle.consistency.specs.Bears.{Run}
+use Rattle.consistency.specs.Stages.{Run}
 use Rattle.consistency.specs.Courses.{Answered}
 use Rattle.consistency.specs.Moments.{AllMeanTable, FirstMeans, MomentBears}
 

@@ -14,7 +14,7 @@ use Rattle.crash_plant.proofs.Steps.{site_trans}
 use Rattle.site_means.specs.declared.means.Means.{Means}
 use Rattle.site_means.specs.Sight.{means_of}
 use Rattle.xrc_command.specs.declared.line.Line.{Line}
-use Rattle.consistency.specs.Bears.{Run, Stage}
+use Rattle.consistency.specs.Stages.{Run, Stage}
 use Rattle.consistency.specs.Courses.{Answered, AreAsked, IsAnswered, IsAsked, last_line_time, lines_begun, next_line, replies_of, stage_after, stage_at, stage_there, texts_of}
 use Rattle.consistency.specs.Keeping.{Keeps, stage_now}
 use Rattle.consistency.specs.Moments.{AllMeanTable, AreUpTo, BearsThroughout, BearsTime, FirstMeans, MeansTable, MomentBears}

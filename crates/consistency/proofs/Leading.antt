@@ -8,7 +8,7 @@ use Rattle.pair_table.specs.declared.level.Level.{Level}
 use Rattle.pair_table.specs.declared.row.PairRow.{PairRow}
 use Rattle.row_changes.specs.Changes.{Due, Timed, after_change, after_changes, due_after, may_all_come, may_come, may_end}
 use Rattle.row_changes.specs.Changes.Due.{NoneDue}
-use Rattle.row_changes.specs.Toward.{Toward, all_broke, breaks_control, lies_in}
+use Rattle.row_changes.specs.Spans.{Toward, all_broke, breaks_control, lies_in}
 use Rattle.consistency.specs.Leads.{Comes, Leads, LeadsWhole, Point}
 
 module _ (level : Level) (breaks : List (Option ℕ)) where

@@ -9,9 +9,9 @@ use Rattle.pair_table.specs.declared.row.PairRow.{PairRow}
 use Rattle.pair_table.specs.Tables.{Table}
 use Rattle.row_changes.specs.Changes.{Due, Timed, after_changes, may_all_come, may_end}
 use Rattle.row_changes.specs.Changes.Due.{NoneDue}
-use Rattle.row_changes.specs.Toward.{AreCounted, Toward, all_broke, is_hit_at, is_settled}
+use Rattle.row_changes.specs.Spans.{AreCounted, Toward, all_broke, is_hit_at, is_settled}
 use Rattle.xrc_command.specs.declared.line.Line.{Line}
-use Rattle.consistency.specs.Bears.{AreAfterLine, AreOnTheWay, IsTime, Run, Stage, accepts_end, breaks_of, names_of}
+use Rattle.consistency.specs.Stages.{AreAfterLine, AreOnTheWay, IsTime, Run, Stage, accepts_end, breaks_of, names_of}
 use Rattle.consistency.specs.Steps.{IsCommanded, IsLineStep, commanded, is_active, table_after_line, table_on_the_way}
 use Rattle.consistency.specs.Bearing.{MayBeMeant}
 use Rattle.consistency.specs.Leads.{HitsLead, Point, may_rest}

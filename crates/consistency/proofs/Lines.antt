@@ -8,7 +8,7 @@ use Rattle.std.proofs.lemmas.List.Concat.{flat_map-append}
 use Rattle.std.proofs.lemmas.Option.{slice_get_cases, slice_get_within}
 use Rattle.xrc_command.specs.declared.line.Line.{Line}
 use Rattle.xrc_command.specs.Reading.{line_spelled}
-use Rattle.consistency.specs.Bears.{Run, Stage}
+use Rattle.consistency.specs.Stages.{Run, Stage}
 use Rattle.consistency.specs.Courses.{Answered, AreAsked, IsAnswered, IsAsked, IsCourse, last_line_time, lines_begun_from, first_line, first_stage, is_whole_line, later_line, lines_begun, most_lines, next_line, replied_after, replies_of, stage_after, stage_at, texts_of}
 use Rattle.consistency.specs.Times.{AreWhole}
 use Rattle.consistency.proofs.Pieces.{whole_append}
@@ -156,13 +156,6 @@ pub time_falls : (answered before : ℕ) (at_end : Bool) (text : List ℕ) (line
 time_falls answered before at_end text line asks falls =
     never_heard (is_whole_line at_end text) (later_line answered before (line_spelled (first_line text)))
     (ap (later_line answered before) asks ∙ cond-false (nat_lt answered most_lines && nat_le before line.time.0) (Some line) None (and_right (nat_lt answered most_lines) (nat_le before line.time.0) (lt-leb before line.time.0 falls)))
-
-pub too_many : (answered before : ℕ) (at_end : Bool) (text : List ℕ) → most_lines ≤ answered → next_line answered before at_end text ≡ None
-too_many answered before at_end text many = never_heard (is_whole_line at_end text) (later_line answered before (line_spelled (first_line text))) (none (line_spelled (first_line text)))
-  where
-    none : (o : Option Line) → later_line answered before o ≡ None
-    none None = refl
-    none (Some line) = cond-false (nat_lt answered most_lines && nat_le before line.time.0) (Some line) None (and_left (nat_lt answered most_lines) (nat_le before line.time.0) (le-ltb answered most_lines many))
 
 -- The last line is whole with the script's end.
 pub whole_at_end : (line : List ℕ) → 0 < length line → list_any (λ x. nat_eq x 10) line ≡ false → (is_whole_line true line ≡ true) × (first_line line ≡ line)

@@ -15,10 +15,10 @@ use Rattle.pair_table.specs.Rows.{is_suspended}
 use Rattle.pair_table.specs.Tables.{in_state}
 use Rattle.row_changes.specs.Changes.{RowChange, Timed, reached_row, row_after_change, since, suspended_by}
 use Rattle.row_changes.specs.Changes.RowChange.{Break, Hit, MarkedHit, Mature, Reached}
-use Rattle.row_changes.specs.Toward.{hit_count, hits, is_hit_at}
+use Rattle.row_changes.specs.Spans.{hit_count, hits, is_hit_at}
 use Rattle.row_changes.proofs.Functions.{after_rows, row_after}
 use Rattle.xrc_command.specs.declared.line.Line.{Line}
-use Rattle.consistency.specs.Bears.{Run}
+use Rattle.consistency.specs.Stages.{Run}
 use Rattle.consistency.specs.Leads.{Point}
 use Rattle.consistency.specs.Ways.{IsCommanding, Leg, commanded_point, hits_stand}
 use Rattle.consistency.proofs.Hits.{no_other}

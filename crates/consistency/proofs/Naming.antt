@@ -26,7 +26,7 @@ use Rattle.pair_table.proofs.FindLaws.{found_all}
 use Rattle.row_changes.specs.Changes.{RowChange, Timed, after_change, after_changes, hit_row, reached_row, row_after_change, since, suspended_by}
 use Rattle.row_changes.specs.Changes.RowChange.{Break, Hit, MarkedHit, Mature, Reached}
 use Rattle.xrc_command.specs.declared.line.Line.{Line}
-use Rattle.consistency.specs.Bears.{Run, Stage, breaks_of, names_of}
+use Rattle.consistency.specs.Stages.{Run, Stage, breaks_of, names_of}
 use Rattle.consistency.specs.Courses.{Answered, IsAnswered, IsCourse, stage_at}
 use Rattle.consistency.specs.Steps.{commanded, names_at, table_on_the_way}
 use Rattle.consistency.proofs.Lines.{stage_then}

@@ -7,7 +7,7 @@ use Rattle.std.proofs.lemmas.List.Elements.{All-cons, All-head, All-nil, All-tai
 use Rattle.pair_table.specs.Commands.{is_end}
 use Rattle.row_changes.specs.Changes.{Timed}
 use Rattle.xrc_command.specs.declared.line.Line.{Line}
-use Rattle.consistency.specs.Bears.{IsTime, Run, Stage, accepts, accepts_end, breaks_of}
+use Rattle.consistency.specs.Stages.{IsTime, Run, Stage, accepts, accepts_end, breaks_of}
 use Rattle.consistency.specs.Bearing.{MayBeMeant}
 use Rattle.consistency.specs.Leads.{Point, may_rest}
 use Rattle.passages.specs.Points.{AreLinked}

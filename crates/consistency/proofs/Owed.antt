@@ -17,7 +17,7 @@ use Rattle.site_means.specs.declared.means.Means.{Means}
 use Rattle.site_means.specs.Images.{shape_of}
 use Rattle.tod_stamp.specs.declared.stamp.Stamp.{Stamp}
 use Rattle.tod_stamp.specs.declared.limits.TheConstants.{TRACKS_OF_CYLINDER}
-use Rattle.consistency.specs.Bears.{Run, names_of, tracks_of_row}
+use Rattle.consistency.specs.Stages.{Run, names_of, tracks_of_row}
 use Rattle.consistency.specs.Bearing.{ShowsPoint}
 use Rattle.consistency.specs.PointLaws.{IsWalked}
 use Rattle.consistency.specs.Leads.{Point}

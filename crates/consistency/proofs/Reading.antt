@@ -14,7 +14,7 @@ use Rattle.pair_table.specs.declared.command.Refusal.{Refusal}
 use Rattle.pair_table.specs.declared.command.Refusal.TheVariants.{NoSession, SessionExists, NoPrimary, NoSecondary, SecondaryInUse, AlreadyPaired, TooSmall, OtherSecondary, NotPaired, Ended, ControlBroken}
 use Rattle.xquery_report.specs.Replies.{refusal_name, refusal_number}
 use Rattle.xrc_command.specs.declared.line.Line.{Line}
-use Rattle.consistency.specs.Bears.{Run, Stage}
+use Rattle.consistency.specs.Stages.{Run, Stage}
 use Rattle.consistency.specs.Courses.{Answered}
 use Rattle.consistency.specs.Replies.{answer_word, command_word}
 use Rattle.consistency.specs.Steps.{table_on_the_way}

@@ -16,11 +16,11 @@ use Rattle.pair_table.specs.declared.command.Refusal.TheVariants.{NoSession, Ses
 use Rattle.pair_table.specs.declared.level.Level.{Level}
 use Rattle.pair_table.specs.Tables.{Table}
 use Rattle.row_changes.specs.Changes.{Timed}
-use Rattle.row_changes.specs.Toward.{AreCounted}
+use Rattle.row_changes.specs.Spans.{AreCounted}
 use Rattle.xquery_report.specs.Replies.{answer_part, command_part, refusal_name, refusal_number, refusal_part, reply_line, told_part, tracks_part, value_part}
 use Rattle.xquery_report.specs.Reports.{report_text}
 use Rattle.xrc_command.specs.declared.line.Line.{Line}
-use Rattle.consistency.specs.Bears.{Run, Stage, accepts}
+use Rattle.consistency.specs.Stages.{Run, Stage, accepts}
 use Rattle.consistency.specs.Courses.{Answered, IsAnswered, replied_after}
 use Rattle.consistency.specs.Moments.{AreUpTo}
 use Rattle.consistency.specs.Replies.{IsReply, answer_word, command_word}

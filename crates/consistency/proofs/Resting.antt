@@ -9,7 +9,7 @@ use Rattle.crash_plant.specs.Moments.{PlantState}
 use Rattle.site_means.specs.Images.{Images, Shape, shape_of}
 use Rattle.xrc_command.specs.declared.line.Line.{Line}
 use Rattle.consistency.specs.Bearing.{Bears}
-use Rattle.consistency.specs.Bears.{AreAfterLine, AreOnTheWay, IsFlag, IsTime, Run, Stage, breaks_of}
+use Rattle.consistency.specs.Stages.{AreAfterLine, AreOnTheWay, IsFlag, IsTime, Run, Stage, breaks_of}
 use Rattle.consistency.specs.Moments.{BearsTime}
 
 -- ---- a line is heard

@@ -11,7 +11,7 @@ use Rattle.site_means.specs.Images.{Shape}
 use Rattle.site_means.specs.Sight.{means_in, means_of}
 use Rattle.site_means.proofs.Goes.{shape_same}
 use Rattle.consistency.specs.Bearing.{Bears}
-use Rattle.consistency.specs.Bears.{Run, Stage}
+use Rattle.consistency.specs.Stages.{Run, Stage}
 use Rattle.consistency.specs.Courses.{Answered, StandsAt, first_stage, lines_begun, next_line, replies_of, stage_after, stage_there, texts_of}
 use Rattle.consistency.specs.Keeping.{stage_now}
 use Rattle.consistency.specs.Moments.{AllMeanTable, BearsTime, MeansTable, MomentBears}

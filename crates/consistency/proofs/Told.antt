@@ -5,10 +5,10 @@ use Rattle.crash_plant.specs.Choices.{Choice, IsChoice}
 use Rattle.crash_plant.specs.Moments.{PlantState}
 use Rattle.site_means.specs.Images.{shape_of}
 use Rattle.xrc_command.specs.declared.line.Line.{Line}
-use Rattle.consistency.specs.Bears.{Run}
+use Rattle.consistency.specs.Stages.{Run}
 use Rattle.consistency.specs.Answering.{is_command_of, points_before}
 use Rattle.consistency.specs.Bearing.{GoesThroughPoints, ShowsPoint}
-use Rattle.consistency.specs.Between.{HasPassed}
+use Rattle.consistency.specs.Pauses.{HasPassed}
 use Rattle.consistency.specs.PointLaws.{IsWalked}
 use Rattle.consistency.specs.Leads.{Point}
 use Rattle.passages.specs.Points.{Throughout}

@@ -11,13 +11,13 @@ use Rattle.pair_table.specs.Tables.{Table, none_clash, with_rows}
 use Rattle.row_changes.specs.Changes.{Due, RowChange, Timed, after_change, after_changes, are_hit, due_after, is_of_record, may_all_come, may_come}
 use Rattle.row_changes.specs.Changes.Due.{NoneDue}
 use Rattle.row_changes.specs.Changes.RowChange.{Break, Hit, MarkedHit, Mature, Reached}
-use Rattle.row_changes.specs.Toward.{has_no_hit, hit_count, hits, is_break, is_hit_at, is_maturing, next_row}
+use Rattle.row_changes.specs.Spans.{has_no_hit, hit_count, hits, is_break, is_hit_at, is_maturing, next_row}
 use Rattle.row_changes.proofs.Functions.{rows_determined}
-use Rattle.consistency.specs.Bears.{Run, Stage, breaks_of, names_of}
+use Rattle.consistency.specs.Stages.{Run, Stage, breaks_of, names_of}
 use Rattle.consistency.specs.Courses.{Answered, IsAnswered, IsCourse, first_stage, stage_after, stage_at}
 use Rattle.consistency.specs.Steps.{IsCommanded, commanded, is_active, table_on_the_way}
 use Rattle.consistency.proofs.Lines.{same_some, stage_then}
-use Rattle.consistency.specs.Unhit.{table_by, unhit_after, unhit_stage_at}
+use Rattle.consistency.specs.UnhitStages.{table_by, unhit_after, unhit_stage_at}
 
 -- ---- no hit
 

@@ -8,7 +8,7 @@ use Rattle.pair_table.specs.declared.row.PairRow.{PairRow}
 use Rattle.pair_table.specs.Commands.{answer}
 use Rattle.row_changes.specs.Changes.{Timed}
 use Rattle.xrc_command.specs.declared.line.Line.{Line}
-use Rattle.consistency.specs.Bears.{Run, Stage, breaks_of, names_of}
+use Rattle.consistency.specs.Stages.{Run, Stage, breaks_of, names_of}
 use Rattle.consistency.specs.Courses.{Answered, replied_after}
 use Rattle.consistency.specs.Steps.{names_at, table_after_line, table_on_the_way}
 use Rattle.consistency.specs.Leads.{Point}

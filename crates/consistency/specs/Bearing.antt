@@ -5,7 +5,7 @@ use Rattle.crash_plant.specs.Moments.{PlantState}
 use Rattle.site_means.specs.declared.means.Means.{Means}
 use Rattle.site_means.specs.Images.{Images, Shape, shape_of}
 use Rattle.site_means.specs.Sight.{means_in}
-use Rattle.consistency.specs.Bears.{AreRows, HoldsPrimaries, IsFlag, IsTime, Run, Stage, accepts_end}
+use Rattle.consistency.specs.Stages.{AreRows, HoldsPrimaries, IsFlag, IsTime, Run, Stage, accepts_end}
 use Rattle.consistency.specs.Leads.{Point}
 use Rattle.passages.specs.Points.{GoesThrough}
 use Rattle.consistency.specs.Ways.{PassedPoint}

@@ -5,10 +5,10 @@ use Rattle.pair_table.specs.declared.command.Command.TheVariants.{Start}
 use Rattle.pair_table.specs.declared.level.Level.{Level}
 use Rattle.pair_table.specs.Tables.{Table, new_table}
 use Rattle.row_changes.specs.Changes.{Timed}
-use Rattle.row_changes.specs.Toward.{AreCounted}
+use Rattle.row_changes.specs.Spans.{AreCounted}
 use Rattle.xrc_command.specs.declared.line.Line.{Line}
 use Rattle.xrc_command.specs.Reading.{line_spelled}
-use Rattle.consistency.specs.Bears.{Run, Stage, accepts, breaks_of, names_of}
+use Rattle.consistency.specs.Stages.{Run, Stage, accepts, breaks_of, names_of}
 use Rattle.consistency.specs.Replies.{IsReply, has_reply}
 use Rattle.consistency.specs.Steps.{IsLineStep, table_on_the_way}
 

@@ -3,7 +3,7 @@ use Rattle.std.specs.Prelude.{◌≡◌, ℕ, List, Bool, false, Option, IsTrue}
 use Rattle.std.specs.List.{All, list_all}
 use Rattle.row_changes.specs.Changes.{Timed}
 use Rattle.xrc_command.specs.declared.line.Line.{Line}
-use Rattle.consistency.specs.Bears.{IsFlag, Run, Stage}
+use Rattle.consistency.specs.Stages.{IsFlag, Run, Stage}
 use Rattle.consistency.specs.Bearing.{IsFlagInTime, MayBeMeant, MayBeMeantInTime}
 use Rattle.consistency.specs.Leads.{Point}
 use Rattle.passages.specs.Points.{AreLinked}

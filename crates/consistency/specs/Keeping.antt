@@ -2,7 +2,7 @@
 use Rattle.std.specs.Prelude.{◌≡◌, ℕ, ◌≤◌, ◌==◌, List, [], ◌++◌, length}
 use Rattle.crash_plant.specs.Calls.{SameSite}
 use Rattle.crash_plant.specs.Moments.{PlantState}
-use Rattle.consistency.specs.Bears.{Run, Stage}
+use Rattle.consistency.specs.Stages.{Run, Stage}
 use Rattle.consistency.specs.Courses.{Answered, AreAsked, IsCourse, last_line_time, lines_begun, next_line, replies_of, stage_at, texts_of}
 use Rattle.consistency.specs.Moments.{FirstMeans, MomentBears}
 

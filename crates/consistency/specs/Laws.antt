@@ -4,11 +4,11 @@ use Rattle.pair_table.specs.declared.level.Level.{Level}
 use Rattle.pair_table.specs.Naming.{Naming}
 use Rattle.pair_table.specs.Tables.{Table, none_clash}
 use Rattle.row_changes.specs.Changes.{Timed, after_changes}
-use Rattle.row_changes.specs.Toward.{has_no_hit, next_row}
+use Rattle.row_changes.specs.Spans.{has_no_hit, next_row}
 use Rattle.site_means.specs.Images.{Images, Shape}
 use Rattle.xrc_command.specs.declared.line.Line.{Line}
 use Rattle.consistency.specs.Bearing.{Bears}
-use Rattle.consistency.specs.Bears.{Run, Stage}
+use Rattle.consistency.specs.Stages.{Run, Stage}
 use Rattle.consistency.specs.Courses.{Answered, IsCourse, StandsAt}
 use Rattle.consistency.specs.Replies.{reply_count}
 use Rattle.consistency.specs.Steps.{IsCommanded}

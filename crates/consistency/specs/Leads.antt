@@ -5,7 +5,7 @@ use Rattle.pair_table.specs.declared.level.Level.{Level}
 use Rattle.pair_table.specs.declared.row.PairRow.{PairRow}
 use Rattle.row_changes.specs.Changes.{Due, Timed, after_change, after_changes, due_after, may_come, may_end}
 use Rattle.row_changes.specs.Changes.RowChange.{Break, Hit, MarkedHit, Mature, Reached}
-use Rattle.row_changes.specs.Toward.{all_broke, is_hit_at}
+use Rattle.row_changes.specs.Spans.{all_broke, is_hit_at}
 
 -- What the devices of a session mean between two of its records or marks: the time, the rows, what a hit in a mark has left due, and
 -- whether the session has ended.

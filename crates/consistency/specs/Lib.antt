@@ -4,13 +4,13 @@ pub mod Bearing
 pub mod Owing
 pub mod Answering
 pub mod Replying
-pub mod Between
-pub mod Unhit
+pub mod Pauses
+pub mod UnhitStages
 pub mod PointLaws
 pub mod FlagLaws
 pub mod ReplyLaws
 pub mod Steps
-pub mod Bears
+pub mod Stages
 pub mod Times
 pub mod Replies
 pub mod Courses

@@ -6,7 +6,7 @@ use Rattle.site_means.specs.declared.means.Means.{Means}
 use Rattle.site_means.specs.Images.{shape_of}
 use Rattle.site_means.specs.Sight.{means_of}
 use Rattle.consistency.specs.Bearing.{Bears}
-use Rattle.consistency.specs.Bears.{Run, Stage}
+use Rattle.consistency.specs.Stages.{Run, Stage}
 use Rattle.consistency.specs.Courses.{Answered, AreAsked, IsCourse, StandsAt, stage_there}
 use Rattle.consistency.specs.Times.{times_said}
 

@@ -13,7 +13,7 @@ use Rattle.pair_table.specs.Tables.{is_of}
 use Rattle.primary_ctl.specs.Primaries.{is_on_track, writes_up_to}
 use Rattle.record_rows.specs.Hits.{is_by_device}
 use Rattle.site_means.specs.Sight.{means_of}
-use Rattle.consistency.specs.Bears.{Run, names_of, tracks_of_row}
+use Rattle.consistency.specs.Stages.{Run, names_of, tracks_of_row}
 use Rattle.tod_stamp.specs.declared.limits.TheConstants.{TRACKS_OF_CYLINDER}
 use Rattle.consistency.specs.Leads.{Point}
 use Rattle.passages.specs.Points.{was_so}

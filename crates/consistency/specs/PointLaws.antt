@@ -15,22 +15,22 @@ use Rattle.pair_table.specs.Rows.{is_suspended}
 use Rattle.pair_table.specs.Tables.{none_clash}
 use Rattle.row_changes.specs.Changes.{Timed, since}
 use Rattle.row_changes.specs.Changes.Due.{NoneDue}
-use Rattle.row_changes.specs.Toward.{AreCounted, Toward, hit_count}
+use Rattle.row_changes.specs.Spans.{AreCounted, Toward, hit_count}
 use Rattle.site_means.specs.Images.{Images, Shape, shape_of}
 use Rattle.tod_stamp.specs.declared.stamp.Stamp.{Stamp}
 use Rattle.xrc_command.specs.declared.line.Line.{Line}
-use Rattle.consistency.specs.Bears.{IsTime, Run, Stage, accepts, accepts_end, breaks_of, names_of, tracks_of_row}
+use Rattle.consistency.specs.Stages.{IsTime, Run, Stage, accepts, accepts_end, breaks_of, names_of, tracks_of_row}
 use Rattle.consistency.specs.Courses.{Answered, IsAnswered, IsCourse, stage_after, stage_at}
 use Rattle.consistency.specs.Replies.{IsReply}
 use Rattle.consistency.specs.Steps.{IsLineStep, is_active, table_after_line, table_on_the_way}
 use Rattle.consistency.specs.Answering.{answered_by, points_before, reply_content}
 use Rattle.consistency.specs.Bearing.{Bears, GoesThroughPoints, MayBeMeant, ShowsPoint}
-use Rattle.consistency.specs.Between.{HasPassed}
+use Rattle.consistency.specs.Pauses.{HasPassed}
 use Rattle.consistency.specs.Leads.{HitsLead, Leads, LeadsWhole, Point, may_rest}
 use Rattle.record_rows.specs.Hits.{is_by_device}
 use Rattle.consistency.specs.Owing.{HasBeenDuplex, is_changed, owes_track, tracks_asked, tracks_owed, was_duplex}
 use Rattle.passages.specs.Points.{AreLinked, Throughout, last_point}
-use Rattle.consistency.specs.Unhit.{unhit_stage_at}
+use Rattle.consistency.specs.UnhitStages.{unhit_stage_at}
 use Rattle.consistency.specs.Ways.{ComesBy, ComesNext, HasCountedHits, IsCommanding, IsEnding, IsLegOf, IsMarking, Leg, PassedPoint, Way, hits_of_leg, is_on_the_way, leg_after, leg_at, leg_by, leg_to, table_at, stage_point}
 use Rattle.consistency.specs.Ways.Way.{Commanded, Ending, MarkedFor}
 

@@ -7,11 +7,11 @@ use Rattle.crash_plant.specs.Moments.{PlantState}
 use Rattle.pair_table.specs.declared.command.Command.TheVariants.{Query, Start}
 use Rattle.pair_table.specs.declared.level.Level.{Level}
 use Rattle.row_changes.specs.Changes.{Timed}
-use Rattle.row_changes.specs.Toward.{AreCounted}
+use Rattle.row_changes.specs.Spans.{AreCounted}
 use Rattle.sidefile.specs.Breaks.{cause_at}
 use Rattle.xquery_report.specs.Reports.{report_text}
 use Rattle.xrc_command.specs.declared.line.Line.{Line}
-use Rattle.consistency.specs.Bears.{Run, Stage, accepts}
+use Rattle.consistency.specs.Stages.{Run, Stage, accepts}
 use Rattle.consistency.specs.Courses.{Answered, IsAnswered, IsCourse, replied_after, stage_at}
 use Rattle.consistency.specs.Keeping.{stage_now}
 use Rattle.consistency.specs.Moments.{AreUpTo, BearsThroughout}
@@ -20,7 +20,7 @@ use Rattle.consistency.specs.Steps.{is_active, table_on_the_way}
 use Rattle.consistency.specs.Times.{times_said}
 use Rattle.consistency.specs.Answering.{ReplyContent, answered_by, reply_content}
 use Rattle.consistency.specs.Bearing.{GoesThroughPoints, MayBeMeant}
-use Rattle.consistency.specs.Between.{MayReply, RunGoesOn, ShowsMeant}
+use Rattle.consistency.specs.Pauses.{MayReply, RunGoesOn, ShowsMeant}
 use Rattle.consistency.specs.Leads.{Point}
 use Rattle.consistency.specs.Replying.{HasNames, HasRunNames, HasShortNumbers, IsExact, TellsTheSame, own_line, report_before, times_replied}
 use Rattle.consistency.specs.Ways.{IsCommanding, IsLegOf, Leg, PassedPoint}

@@ -14,7 +14,7 @@ use Rattle.pair_table.specs.Tables.{Table}
 use Rattle.xquery_report.specs.Replies.{reply_line}
 use Rattle.xquery_report.specs.Reports.{report_text}
 use Rattle.xrc_command.specs.declared.line.Line.{Line}
-use Rattle.consistency.specs.Bears.{Run, Stage, accepts, names_of}
+use Rattle.consistency.specs.Stages.{Run, Stage, accepts, names_of}
 use Rattle.consistency.specs.Courses.{Answered, replied_after}
 use Rattle.consistency.specs.Replies.{command_word}
 use Rattle.consistency.specs.Steps.{table_on_the_way}

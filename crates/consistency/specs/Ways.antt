@@ -5,9 +5,9 @@ use Rattle.pair_table.specs.declared.row.PairRow.{PairRow}
 use Rattle.pair_table.specs.Tables.{Table}
 use Rattle.row_changes.specs.Changes.{Timed}
 use Rattle.row_changes.specs.Changes.Due.{NoneDue}
-use Rattle.row_changes.specs.Toward.{all_broke, hit_count, is_break, is_settled}
+use Rattle.row_changes.specs.Spans.{all_broke, hit_count, is_break, is_settled}
 use Rattle.xrc_command.specs.declared.line.Line.{Line}
-use Rattle.consistency.specs.Bears.{Run, Stage, accepts_end, breaks_of, names_of}
+use Rattle.consistency.specs.Stages.{Run, Stage, accepts_end, breaks_of, names_of}
 use Rattle.consistency.specs.Steps.{commanded}
 use Rattle.consistency.specs.Leads.{HitsLead, Leads, LeadsWhole, MarkedHitsLead, Point}
 use Rattle.passages.specs.Points.{Passed}

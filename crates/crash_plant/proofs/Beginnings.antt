@@ -9,15 +9,15 @@ use Rattle.crash_plant.specs.declared.plain_plant.PlainPlant.{PlainPlant}
 use Rattle.crash_plant.specs.declared.shelf.Shelf.{Shelf}
 use Rattle.crash_plant.specs.declared.shelf.Shelf.TheVariants.{Here, Lent, Away}
 use Rattle.crash_plant.specs.Devices.{seen_at, seen_of}
-use Rattle.crash_plant.specs.Fresh.{Fresh, absent, fresh_of, fresh_disk, fresh_place, is_known}
-use Rattle.crash_plant.specs.Made.{SameDevices}
+use Rattle.crash_plant.specs.FreshDisks.{Fresh, absent, fresh_of, fresh_disk, fresh_place, is_known}
+use Rattle.crash_plant.specs.NewPlants.{SameDevices}
 use Rattle.crash_plant.specs.MemoryDisks.{view, journals_of, volumes_of}
 use Rattle.crash_plant.specs.MemoryPlant.{past_state}
-use Rattle.crash_plant.specs.Moments.{Kept}
+use Rattle.crash_plant.specs.Moments.{SamePast}
 use Rattle.crash_plant.specs.Pasts.{Note, Reach, last_till}
 use Rattle.crash_plant.specs.PlainPlant.{place_is_lent, plain_state}
 use Rattle.crash_plant.specs.Shelves.{last_done, lent_at, shelf_base, shelf_bytes, shelf_images, shelf_is_lent, shelf_lent, shelf_past, shelf_since}
-use Rattle.crash_plant.specs.Still.{unknown}
+use Rattle.crash_plant.specs.PastlessPlants.{unknown}
 use Rattle.crash_plant.proofs.Seen.{seen_of_alike, seen_through}
 use Rattle.crash_plant.proofs.Steps.{kept_here}
 
@@ -29,7 +29,7 @@ seen_of_through h see see_place none control state journals volumes (Journal j) 
 seen_of_through h see see_place none control state journals volumes (Volume v) = seen_through h see_place none volumes v
 
 -- A place with no volume that is remembered has no loan.
-unknown_at : (shelf : Shelf) → is_known shelf ≡ false → (lent_at shelf ≡ 0) × (shelf_since shelf ≡ 1) × Kept (shelf_lent shelf) unknown × ((shelf_lent shelf).clock ≡ 0)
+unknown_at : (shelf : Shelf) → is_known shelf ≡ false → (lent_at shelf ≡ 0) × (shelf_since shelf ≡ 1) × SamePast (shelf_lent shelf) unknown × ((shelf_lent shelf).clock ≡ 0)
 unknown_at (Here disk) none = (refl, refl, kept_here unknown, refl)
 unknown_at (Lent n at was) none = absurd (cc none)
 unknown_at (Away n) none = (refl, refl, kept_here unknown, refl)

@@ -5,18 +5,18 @@ use Rattle.crash_plant.specs.declared.device.Heard.{Heard}
 use Rattle.crash_plant.specs.declared.device.Heard.TheVariants.{Byte, End}
 use Rattle.crash_plant.specs.declared.memory_console.MemoryConsole.{MemoryConsole}
 use Rattle.crash_plant.specs.declared.turn.Turn.{Turn}
-use Rattle.crash_plant.specs.MemoryConsole.{Hearkens, HearsNext, SameConsole, Utters, heard_at, last_told, left_to_hear, said_at}
+use Rattle.crash_plant.specs.MemoryConsole.{Hearkens, HearsNext, SameMemoryConsole, Utters, heard_at, last_told, left_to_hear, said_at}
 use Rattle.crash_plant.specs.Turns.{last_turn, turn_at}
 use Rattle.crash_plant.proofs.Turns.{last_turn_push, said_within, turn_before, turn_now}
 
 last_is : (old new : MemoryConsole) (x : Turn) → new.first ≡ old.first → new.turns.items ≡ old.turns.items ++ x ∷ [] → last_turn new.first new.turns.items ≡ x
 last_is old new x first turns = ap (λ (l : List Turn). last_turn new.first l) turns ∙ last_turn_push new.first old.turns.items x
 
-last_same : (old new : MemoryConsole) → SameConsole old new → last_turn new.first new.turns.items ≡ last_turn old.first old.turns.items
+last_same : (old new : MemoryConsole) → SameMemoryConsole old new → last_turn new.first new.turns.items ≡ last_turn old.first old.turns.items
 last_same old new same = ap (λ (l : List Turn). last_turn new.first l) same.turns ∙ ap (λ (t : Turn). last_turn t old.turns.items) same.first
 
 -- The last call on the console is at no later moment.
-pub told_uttered : {T E : Type 0} (result : Result T E) (now : ℕ) (bytes : List ℕ) (old new : MemoryConsole) → OnOk result (Utters now bytes old new) → OnErr result (SameConsole old new) → last_told old ≤ now → last_told new ≤ now
+pub told_uttered : {T E : Type 0} (result : Result T E) (now : ℕ) (bytes : List ℕ) (old new : MemoryConsole) → OnOk result (Utters now bytes old new) → OnErr result (SameMemoryConsole old new) → last_told old ≤ now → last_told new ≤ now
 told_uttered (Ok x) now bytes old new ok err le = omega (arith, ap (λ (t : Turn). t.at) (last_is old new _ ok.first ok.turns))
 told_uttered (Err e) now bytes old new ok err le = omega (arith, le, ap (λ (t : Turn). t.at) (last_same old new err))
 
@@ -24,7 +24,7 @@ pub told_next : (now : ℕ) (old new : MemoryConsole) (heard : Heard) → HearsN
 told_next now old new (Byte b) next le = omega (arith, ap (λ (t : Turn). t.at) (last_is old new _ next.first next.turns))
 told_next now old new End next le = omega (arith, le, ap (λ (t : Turn). t.at) (last_same old new next.1))
 
-pub told_heard : {E : Type 0} (result : Result Heard E) (now : ℕ) (old new : MemoryConsole) → IfOk result (λ heard. HearsNext now old new heard) → OnErr result (SameConsole old new) → last_told old ≤ now → last_told new ≤ now
+pub told_heard : {E : Type 0} (result : Result Heard E) (now : ℕ) (old new : MemoryConsole) → IfOk result (λ heard. HearsNext now old new heard) → OnErr result (SameMemoryConsole old new) → last_told old ≤ now → last_told new ≤ now
 told_heard (Ok heard) now old new ok err le = told_next now old new heard ok le
 told_heard (Err e) now old new ok err le = omega (arith, le, ap (λ (t : Turn). t.at) (last_same old new err))
 
@@ -36,13 +36,13 @@ pub said_now : (console : MemoryConsole) (t : ℕ) → last_told console ≤ t �
 said_now console t late = ap (λ (x : Turn). take x.said console.said.items) (turn_now t console.first console.turns.items console.in_turn late) ∙ ap (λ (n : ℕ). take n console.said.items) console.said_is ∙ take_all (length console.said.items) console.said.items (omega arith)
 
 -- the same record of the same script
-pub heard_same : (old new : MemoryConsole) (t : ℕ) → SameConsole old new → heard_at new t ≡ heard_at old t
+pub heard_same : (old new : MemoryConsole) (t : ℕ) → SameMemoryConsole old new → heard_at new t ≡ heard_at old t
 heard_same old new t same = ap (λ (l : List Turn). take (turn_at t new.first l).heard new.script) same.turns ∙ ap (λ (x : Turn). take (turn_at t x old.turns.items).heard new.script) same.first ∙ ap (λ (l : List ℕ). take (turn_at t old.first old.turns.items).heard l) same.script
 
-pub said_same : (old new : MemoryConsole) (t : ℕ) → SameConsole old new → said_at new t ≡ said_at old t
+pub said_same : (old new : MemoryConsole) (t : ℕ) → SameMemoryConsole old new → said_at new t ≡ said_at old t
 said_same old new t same = ap (λ (l : List Turn). take (turn_at t new.first l).said new.said.items) same.turns ∙ ap (λ (x : Turn). take (turn_at t x old.turns.items).said new.said.items) same.first ∙ ap (λ (l : List ℕ). take (turn_at t old.first old.turns.items).said l) same.said
 
-pub left_same : (old new : MemoryConsole) → SameConsole old new → left_to_hear new ≡ left_to_hear old
+pub left_same : (old new : MemoryConsole) → SameMemoryConsole old new → left_to_hear new ≡ left_to_hear old
 left_same old new same = ap (λ (n : ℕ). drop n new.script) same.next ∙ ap (λ (l : List ℕ). drop old.next l) same.script
 
 -- Before a call what was heard and said is as it was.

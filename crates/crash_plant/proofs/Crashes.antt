@@ -14,9 +14,9 @@ use Rattle.crash_plant.specs.Calls.{IsPart, NoneLent, SameSite}
 use Rattle.crash_plant.specs.Choices.{IsChoice}
 use Rattle.crash_plant.specs.Clock.{clock_of}
 use Rattle.crash_plant.specs.Devices.{seen_at, seen_of}
-use Rattle.crash_plant.specs.Made.{IsSilent}
+use Rattle.crash_plant.specs.NewPlants.{IsSilent}
 use Rattle.crash_plant.proofs.Counts.{plain_faults}
-use Rattle.crash_plant.specs.Left.{left_of, open_writes}
+use Rattle.crash_plant.specs.DiskRemains.{left_of, open_writes}
 use Rattle.crash_plant.specs.MemoryDisk.{held, first_held, past_of}
 use Rattle.crash_plant.specs.MemoryDisks.{journals_of, view, volumes_of}
 use Rattle.crash_plant.specs.MemoryPlant.{memory_state}

@@ -9,7 +9,7 @@ use Rattle.crash_plant.specs.declared.plain_plant.Place.{Place}
 use Rattle.crash_plant.specs.declared.shelf.Shelf.{Shelf}
 use Rattle.crash_plant.specs.declared.shelf.Shelf.TheVariants.{Here, Away}
 use Rattle.crash_plant.specs.Devices.{seen_at, seen_of}
-use Rattle.crash_plant.specs.Fresh.{Fresh, absent, fresh_of, fresh_disk, fresh_place}
+use Rattle.crash_plant.specs.FreshDisks.{Fresh, absent, fresh_of, fresh_disk, fresh_place}
 use Rattle.crash_plant.specs.MemoryDisks.{view}
 use Rattle.crash_plant.specs.MemoryDisk.{held, first_held, past_of}
 use Rattle.crash_plant.specs.Pasts.{Note}

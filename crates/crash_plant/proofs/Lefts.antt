@@ -8,7 +8,7 @@ use Rattle.crash_plant.specs.declared.entry.Done.{Done}
 use Rattle.crash_plant.specs.declared.entry.Done.TheVariants.{Write, Sync}
 use Rattle.crash_plant.specs.declared.entry.Entry.{Entry}
 use Rattle.crash_plant.specs.Bytes.{patched, Torn}
-use Rattle.crash_plant.specs.Left.{repeated, open_then, open_begin, open_after, open_writes, filled, all_filled, left_of}
+use Rattle.crash_plant.specs.DiskRemains.{repeated, open_then, open_begin, open_after, open_writes, filled, all_filled, left_of}
 use Rattle.crash_plant.specs.Pasts.{Note, note_of, Step, Through, Does, Chains, Fits, AllFit}
 use Rattle.crash_plant.proofs.Patches.{patched_torn}
 

@@ -2,12 +2,12 @@
 use Rattle.std.proofs.Common.{◌≡◌, inl, inr, ℕ, ◌+◌, ◌≤◌, ◌<◌, List, sym, ◌∙◌, subst, arith}
 use Rattle.std.proofs.lemmas.Bool.{cases_lt}
 use Rattle.crash_plant.specs.declared.device.Device.TheVariants.{Volume}
-use Rattle.crash_plant.specs.Moments.{Standing, PlantState, on, Kept, Follows}
+use Rattle.crash_plant.specs.Moments.{Standing, PlantState, on, SamePast, Follows}
 use Rattle.crash_plant.specs.Calls.{IsLentOne, SameLoan, SameSite, Lends, TakesBack}
 use Rattle.crash_plant.proofs.Steps.{kept_trans}
 
 -- From the plant a, in which the volume wasn't lent, by b, c and d: it is lent, other calls are made or none, and it is taken back.
-module _ (tells : Type 0) (told : tells) (v : ℕ) (a b c d : PlantState) (first last : Standing) (lends : Lends tells v a b first) (between : Kept (on b (Volume v)) (on c (Volume v))) (loan : SameLoan v b c) (takes_back : TakesBack tells v c d last) where
+module _ (tells : Type 0) (told : tells) (v : ℕ) (a b c d : PlantState) (first last : Standing) (lends : Lends tells v a b first) (between : SamePast (on b (Volume v)) (on c (Volume v))) (loan : SameLoan v b c) (takes_back : TakesBack tells v c d last) where
   since_is : c.lent_since v ≡ a.clock + 1
   since_is = loan.since ∙ lends.since
 
@@ -24,7 +24,7 @@ module _ (tells : Type 0) (told : tells) (v : ℕ) (a b c d : PlantState) (first
   cd = (takes_back.rest.goes_on told).0
 
   -- The past before the lent time is as it was.
-  pub lent_kept : Kept (on a (Volume v)) (on d (Volume v))
+  pub lent_kept : SamePast (on a (Volume v)) (on d (Volume v))
   lent_kept = record {
     later = omega (arith, ab, bc, cd);
     still = λ none. (takes_back.rest.goes_on told).1 (between.still ((lends.rest.goes_on told).1 none));
@@ -63,7 +63,7 @@ module _ (tells : Type 0) (told : tells) (v : ℕ) (a b c d : PlantState) (first
       ]
 
 -- A volume that was lent can be taken back after calls on it and on others.
-pub lent_one : (tells : Type 0) (v : ℕ) (a b c : PlantState) (first last : Standing) → Lends tells v a b first → v < a.volumes → SameLoan v b c → SameSite b c → c.faults (Volume v) ≡ b.faults (Volume v) → (tells → Kept first last) → last.length_is ≡ first.length_is → first.faults ≤ last.faults → IsLentOne tells v c last
+pub lent_one : (tells : Type 0) (v : ℕ) (a b c : PlantState) (first last : Standing) → Lends tells v a b first → v < a.volumes → SameLoan v b c → SameSite b c → c.faults (Volume v) ≡ b.faults (Volume v) → (tells → SamePast first last) → last.length_is ≡ first.length_is → first.faults ≤ last.faults → IsLentOne tells v c last
 lent_one tells v a b c first last lends there loan site count past size later = record {
   there = omega (arith, there, lends.rest.site.volumes, site.volumes);
   is_lent = loan.is_lent ∙ lends.is_lent;

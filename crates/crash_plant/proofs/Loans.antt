@@ -15,8 +15,8 @@ use Rattle.crash_plant.specs.MemoryConsole.{last_told}
 use Rattle.crash_plant.specs.MemoryDisk.{Moves, held, first_held, past_of}
 use Rattle.crash_plant.specs.MemoryDisks.{SameSizes, view, volumes_of}
 use Rattle.crash_plant.specs.MemoryPlant.{past_state}
-use Rattle.crash_plant.specs.Moments.{Kept, Standing, on}
-use Rattle.crash_plant.specs.Passes.{Shelves}
+use Rattle.crash_plant.specs.Moments.{SamePast, Standing, on}
+use Rattle.crash_plant.specs.CallSteps.{Shelves}
 use Rattle.crash_plant.specs.Pasts.{Note, Reach, InTime, last_till, moved}
 use Rattle.crash_plant.specs.Shelves.{IsLentAs, last_done, lent_at, shelf_bytes, shelf_images, shelf_is_lent, shelf_length, shelf_lent, shelf_since}
 use Rattle.crash_plant.proofs.Memories.{leaves_all_but, lent_at_home, same_of}
@@ -33,7 +33,7 @@ module _ (a b : MemoryDisks) (x : MemoryConsole) (f g : Device → ℕ) (p q v :
     rest = leaves_all_but a b x x (clock_of ticks) (clock_of ticks) f g p q (omega arith) (omega arith) done told sizes (same_of x x refl) v others (ap shelf_length is ∙ sym (ap shelf_length here)) (λ d other. counts d) console;
     is_lent = lent_at_home b.volumes.items v (omega (arith, there, sizes.volumes)) ∙ ap shelf_is_lent is;
     since = ap shelf_since is;
-    lent = subst (λ (s : Shelf). Kept (shelf_lent s) (own_standing was.value (clock_of ticks) n)) (sym is) (record { later = omega arith; still = λ none. none; same = λ t up le c left. left; all = λ t up le c left. left });
+    lent = subst (λ (s : Shelf). SamePast (shelf_lent s) (own_standing was.value (clock_of ticks) n)) (sym is) (record { later = omega arith; still = λ none. none; same = λ t up le c left. left; all = λ t up le c left. left });
     clock = ap (λ (s : Shelf). (shelf_lent s).clock) is;
     length_is = sym (ap shelf_length here);
     faults = count;
@@ -132,7 +132,7 @@ returns lent own ticks now disk shelf done later on shelves = elim (cases_lt len
 
 module _ (a b : MemoryDisks) (x y : MemoryConsole) (f g : Device → ℕ) (p q v ticks now own n : ℕ) (disk : MemoryDisk) (others : (d : Device) → d ≢ Volume v → view b d ≡ view a d) (sizes : SameSizes a b) (same : y ≡ x) (there : v < volumes_of a) (console : q ≡ p) (later : ticks ≤ now)
     (done : (d : Device) → last_done (view a d) ≤ clock_of ticks) (told : last_told x ≤ clock_of ticks) (own_done : last_till 0 (past_of disk) ≤ clock_of own) (loan : lent_at (view a (Volume v)) ≤ ticks)
-    (past : Kept (shelf_lent (view a (Volume v))) (own_standing disk (clock_of own) n)) (size : length (held disk) ≡ shelf_length (view a (Volume v))) (shelves : Shelves own (lent_at (view a (Volume v))) ticks now disk (view b (Volume v)))
+    (past : SamePast (shelf_lent (view a (Volume v))) (own_standing disk (clock_of own) n)) (size : length (held disk) ≡ shelf_length (view a (Volume v))) (shelves : Shelves own (lent_at (view a (Volume v))) ticks now disk (view b (Volume v)))
     (counts : (d : Device) → d ≢ Volume v → g d ≡ f d) (count : g (Volume v) ≡ n) where
   -- A volume that was lent from here.
   taken_back : (k at : ℕ) (was : Snapshot MemoryDisk) → view a (Volume v) ≡ Lent k at was → TakesBack (Unit {0}) v (past_state a x (clock_of ticks) f p) (past_state b y (clock_of now) g q) (own_standing disk (clock_of own) n)
@@ -159,8 +159,8 @@ module _ (a b : MemoryDisks) (x y : MemoryConsole) (f g : Device → ℕ) (p q v
       clock_is : (shelf_lent (view a (Volume v))).clock ≡ clock_of at
       clock_is = ap (λ (s : Shelf). (shelf_lent s).clock) is
 
-      kept : Kept (shelf_lent (Lent k at was)) (own_standing disk (clock_of own) n)
-      kept = subst (λ (s : Shelf). Kept (shelf_lent s) (own_standing disk (clock_of own) n)) is past
+      kept : SamePast (shelf_lent (Lent k at was)) (own_standing disk (clock_of own) n)
+      kept = subst (λ (s : Shelf). SamePast (shelf_lent s) (own_standing disk (clock_of own) n)) is past
 
       back : Returns (clock_of at) (clock_of own) (clock_of now) disk (view b (Volume v))
       back = returns at own ticks now disk (view b (Volume v)) own_done kept.later (omega (arith, at_is, loan)) (subst (λ (m : ℕ). Shelves own m ticks now disk (view b (Volume v))) at_is shelves)

@@ -8,11 +8,11 @@ use Rattle.crash_plant.specs.declared.shelf.Shelf.{Shelf}
 use Rattle.crash_plant.specs.declared.shelf.Shelf.TheVariants.{Here, Lent, Away}
 use Rattle.crash_plant.specs.Calls.{IsThere, LeavesAllBut, SameLoan, SameSite, Silent, WorksOn, WorksOnConsole}
 use Rattle.crash_plant.specs.Devices.{seen_at}
-use Rattle.crash_plant.specs.MemoryConsole.{SameConsole, heard_at, last_told, said_at}
+use Rattle.crash_plant.specs.MemoryConsole.{SameMemoryConsole, heard_at, last_told, said_at}
 use Rattle.crash_plant.specs.MemoryDisks.{IsHome, SameSizes, view}
 use Rattle.crash_plant.specs.MemoryPlant.{past_state}
-use Rattle.crash_plant.specs.Moments.{Kept, Stays, on}
-use Rattle.crash_plant.specs.Passes.{Passes}
+use Rattle.crash_plant.specs.Moments.{SamePast, Stays, on}
+use Rattle.crash_plant.specs.CallSteps.{Passes}
 use Rattle.crash_plant.specs.Shelves.{last_done, shelf_bytes, shelf_images, shelf_is_lent, shelf_length, shelf_lent, shelf_since}
 use Rattle.crash_plant.proofs.Choices.{device_cases}
 use Rattle.crash_plant.proofs.Consoles.{heard_now, heard_same, left_same, said_now, said_same}
@@ -26,7 +26,7 @@ pub record Keeps (clock : ℕ) (old new : Shelf) : Type 0 where
   pub length_is : shelf_length new ≡ shelf_length old
   pub here : shelf_is_lent new ≡ shelf_is_lent old
   pub since : shelf_since new ≡ shelf_since old
-  pub lent : Kept (shelf_lent new) (shelf_lent old)
+  pub lent : SamePast (shelf_lent new) (shelf_lent old)
   pub lent_clock : (shelf_lent new).clock ≡ (shelf_lent old).clock
 
 pub keeps_here : (clock : ℕ) (shelf : Shelf) → Keeps clock shelf shelf
@@ -41,7 +41,7 @@ since_home (Here disk) here = refl
 since_home (Lent n at was) here = absurd (cc here)
 since_home (Away n) here = refl
 
-lent_home : (old new : Shelf) → shelf_is_lent old ≡ false → shelf_is_lent new ≡ false → Kept (shelf_lent new) (shelf_lent old) × ((shelf_lent new).clock ≡ (shelf_lent old).clock)
+lent_home : (old new : Shelf) → shelf_is_lent old ≡ false → shelf_is_lent new ≡ false → SamePast (shelf_lent new) (shelf_lent old) × ((shelf_lent new).clock ≡ (shelf_lent old).clock)
 lent_home (Here x) (Here y) here now = (kept_here (shelf_lent (Here x)), refl)
 lent_home (Here x) (Lent n at was) here now = absurd (cc now)
 lent_home (Here x) (Away n) here now = absurd (cc now)
@@ -81,12 +81,12 @@ home_of disks x clock f p State there = tt
 home_of disks x clock f p (Journal j) there = there
 home_of disks x clock f p (Volume v) there = (there.0, sym (lent_at_home disks.volumes.items v there.0) ∙ there.1)
 
-pub same_of : (x y : MemoryConsole) → y ≡ x → SameConsole x y
-same_of x y same = subst (λ (c : MemoryConsole). SameConsole x c) (sym same) (record { script = refl; next = refl; said = refl; first = refl; turns = refl })
+pub same_of : (x y : MemoryConsole) → y ≡ x → SameMemoryConsole x y
+same_of x y same = subst (λ (c : MemoryConsole). SameMemoryConsole x c) (sym same) (record { script = refl; next = refl; said = refl; first = refl; turns = refl })
 
 -- From one state of disks and console to another.
 module _ (a b : MemoryDisks) (x y : MemoryConsole) (clock now : ℕ) (f g : Device → ℕ) (p q : ℕ) (begun : 0 < clock) (later : clock ≤ now) (done : (d : Device) → last_done (view a d) ≤ clock) (told : last_told x ≤ clock) (sizes : SameSizes a b) where
-  pub kept_keeps : (d : Device) → Keeps clock (view a d) (view b d) → Kept (on (past_state a x clock f p) d) (on (past_state b y now g q) d)
+  pub kept_keeps : (d : Device) → Keeps clock (view a d) (view b d) → SamePast (on (past_state a x clock f p) d) (on (past_state b y now g q) d)
   kept_keeps d keeps = record { later = later; still = λ none. absurd (omega (arith, begun, none)); same = λ t up le c left. keeps.same t le c left; all = λ t up le c left. keeps.all t le c left }
 
   pub stays_same : (d : Device) → view b d ≡ view a d → g d ≡ f d → Stays (on (past_state a x clock f p) d) (on (past_state b y now g q) d)
@@ -103,7 +103,7 @@ module _ (a b : MemoryDisks) (x y : MemoryConsole) (clock now : ℕ) (f g : Devi
   pub site_keeps : ((d : Device) → Keeps clock (view a d) (view b d)) → SameSite (past_state a x clock f p) (past_state b y now g q)
   site_keeps keeps = record { journals = sizes.journals; volumes = sizes.volumes; lengths = λ d. (keeps d).length_is }
 
-  module _ (same : SameConsole x y) where
+  module _ (same : SameMemoryConsole x y) where
     pub silent_same : Silent (past_state a x clock f p) (past_state b y now g q)
     silent_same = record {
       heard = λ t from to. heard_same x y t same ∙ heard_now x t (omega (arith, told, from)) ∙ sym (heard_now x clock told);

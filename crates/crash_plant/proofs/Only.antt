@@ -5,7 +5,7 @@ use Rattle.crash_plant.specs.declared.device.Device.{Device}
 use Rattle.crash_plant.specs.declared.device.Device.TheVariants.{Control, State, Journal, Volume}
 use Rattle.crash_plant.specs.Calls.{WorksOn, Lends, TakesBack}
 use Rattle.crash_plant.specs.Devices.{Sight, contents_of, seen_at, seen_of}
-use Rattle.crash_plant.specs.Still.{AgreesBut, Contents, still, still_disk}
+use Rattle.crash_plant.specs.PastlessPlants.{AgreesBut, Contents, still, still_disk}
 use Rattle.crash_plant.proofs.Seen.{seen_is, seen_set, seen_of_journal, seen_of_volume, seen_of_journal_same, seen_of_volume_same, seen_set_same, seen_set_other, seen_set_later}
 use Rattle.crash_plant.proofs.Still.{works_on_still, lends_still, takes_back_still}
 

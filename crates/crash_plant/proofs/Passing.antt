@@ -6,8 +6,8 @@ use Rattle.crash_plant.specs.declared.entry.Done.TheVariants.{Write, Sync}
 use Rattle.crash_plant.specs.declared.shelf.Shelf.{Shelf}
 use Rattle.crash_plant.specs.declared.shelf.Shelf.TheVariants.{Here, Lent, Away}
 use Rattle.crash_plant.specs.Bytes.{patched}
-use Rattle.crash_plant.specs.Moments.{Kept, Follows}
-use Rattle.crash_plant.specs.Passes.{IsSynced, Passes, ShelfOpens, ShelfStands, step_of}
+use Rattle.crash_plant.specs.Moments.{SamePast, Follows}
+use Rattle.crash_plant.specs.CallSteps.{IsSynced, Passes, ShelfOpens, ShelfStands, step_of}
 use Rattle.crash_plant.specs.Pasts.{Note, Step, Reach, Through, Does, Chains, InTime, last_till}
 use Rattle.crash_plant.specs.Shelves.{ShelfNotes, ShelfAlike, last_done, lent_at, shelf_base, shelf_bytes, shelf_images, shelf_is_lent, shelf_length, shelf_past}
 use Rattle.crash_plant.proofs.Records.{chains_through, in_time_push, last_push, reach_before, reach_still, reach_later, reach_of, push_through, through_of, through_push}
@@ -154,7 +154,7 @@ module _ (done : Done) (place clock now : ℕ) (bytes : List ℕ) (old new : She
 
 -- What passes between two moments, of a device with any counts.
 pub kept_of : (step : List ℕ → List ℕ → Type 0) (clock now : ℕ) (old new : Shelf) (f g : ℕ) → 0 < clock → Passes step clock now old new
-    → Kept (record { bytes = shelf_bytes old; clock = clock; images = λ t c. shelf_images old t c; length_is = shelf_length old; faults = f }) (record { bytes = shelf_bytes new; clock = now; images = λ t c. shelf_images new t c; length_is = shelf_length new; faults = g })
+    → SamePast (record { bytes = shelf_bytes old; clock = clock; images = λ t c. shelf_images old t c; length_is = shelf_length old; faults = f }) (record { bytes = shelf_bytes new; clock = now; images = λ t c. shelf_images new t c; length_is = shelf_length new; faults = g })
 kept_of step clock now old new f g begun passes = record {
   later = passes.later;
   still = λ none. absurd (omega (arith, begun, none));

@@ -6,7 +6,7 @@ use Rattle.crash_plant.specs.declared.device.Device.{Device}
 use Rattle.crash_plant.specs.declared.device.Device.TheVariants.{Control, State, Journal, Volume}
 use Rattle.crash_plant.specs.declared.fail.Fail.{Fail}
 use Rattle.crash_plant.specs.declared.fail_plan.Planned.{Planned}
-use Rattle.crash_plant.specs.Fails.{after_call, fails_now, is_stopping, is_same, planned_at}
+use Rattle.crash_plant.specs.Failures.{after_call, fails_now, is_stopping, is_same, planned_at}
 use Rattle.std.proofs.lemmas.Bool.{cases_Bool, false_from_ne_true}
 use Rattle.std.proofs.lemmas.Bool.Decides.{nat_tests}
 use Rattle.std.proofs.Math.Seq.{get_or-append_right}

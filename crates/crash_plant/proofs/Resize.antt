@@ -9,9 +9,9 @@ use Rattle.crash_plant.specs.Bytes.{resized}
 use Rattle.crash_plant.specs.Moments.{PlantState}
 use Rattle.crash_plant.specs.Calls.{NoneLent, SameLoan}
 use Rattle.crash_plant.specs.Devices.{contents_of}
-use Rattle.crash_plant.specs.Made.{Resizes, SameDevices}
+use Rattle.crash_plant.specs.NewPlants.{Resizes, SameDevices}
 use Rattle.crash_plant.specs.PlainPlant.{plain_sight, disk_bytes, disk_length, place_bytes, place_length, place_is_lent}
-use Rattle.crash_plant.specs.Still.{Contents, still}
+use Rattle.crash_plant.specs.PastlessPlants.{Contents, still}
 use Rattle.crash_plant.proofs.Seen.{seen_is, seen_is_at, seen_of_journal, seen_of_journal_here, seen_of_journal_same, seen_of_volume, seen_of_volume_here, seen_of_volume_same, seen_set_same}
 use Rattle.crash_plant.proofs.Still.{loan_still}
 

@@ -10,13 +10,13 @@ use Rattle.crash_plant.specs.declared.memory_console.MemoryConsole.{MemoryConsol
 use Rattle.crash_plant.specs.declared.memory_disks.MemoryDisks.{MemoryDisks}
 use Rattle.crash_plant.specs.Clock.{clock_of}
 use Rattle.crash_plant.specs.Calls.{Hears, HearsNothing, Listens, Says}
-use Rattle.crash_plant.specs.MemoryConsole.{HearsNext, SameConsole, Utters, heard_at, last_told, left_to_hear, said_at}
+use Rattle.crash_plant.specs.MemoryConsole.{HearsNext, SameMemoryConsole, Utters, heard_at, last_told, left_to_hear, said_at}
 use Rattle.crash_plant.specs.MemoryPlant.{past_state}
 use Rattle.crash_plant.proofs.Consoles.{heard_before, heard_before_say, heard_now, heard_same, left_same, said_before, said_before_say, said_now, said_same, told_next, told_says}
 
 module _ (a b : MemoryDisks) (x y : MemoryConsole) (clock now : ℕ) (f g : Device → ℕ) (p q : ℕ) (later : clock ≤ now) (told : last_told x ≤ clock) where
   -- Nothing is said.
-  pub says_none : (whole : List ℕ) → SameConsole x y → Says whole (past_state a x clock f p) (past_state b y now g q)
+  pub says_none : (whole : List ℕ) → SameMemoryConsole x y → Says whole (past_state a x clock f p) (past_state b y now g q)
   says_none whole same = record {
     front = λ t from to. (0, omega arith, still t from ∙ sym (append-nil (said_at x clock)));
     grows = λ s t from le to. omega (arith, ap length (still s from), ap length (still t (omega (arith, from, le))));
@@ -65,13 +65,13 @@ module _ (a b : MemoryDisks) (x y : MemoryConsole) (clock now : ℕ) (f g : Devi
     said_all = after
 
   -- The next byte is heard, or the end.
-  pub listens_same : SameConsole x y → Listens (past_state a x clock f p) (past_state b y now g q)
+  pub listens_same : SameMemoryConsole x y → Listens (past_state a x clock f p) (past_state b y now g q)
   listens_same same = record {
     said = λ t from to. said_same x y t same ∙ said_now x t (omega (arith, told, from)) ∙ sym (said_now x clock told);
     heard = λ t from to. inl (heard_same x y t same ∙ heard_now x t (omega (arith, told, from)) ∙ sym (heard_now x clock told));
   }
 
-  pub hears_none : SameConsole x y → HearsNothing (past_state a x clock f p) (past_state b y now g q)
+  pub hears_none : SameMemoryConsole x y → HearsNothing (past_state a x clock f p) (past_state b y now g q)
   hears_none same = record { script = left_same x y same; heard = heard_same x y now same ∙ heard_now x now (omega (arith, told, later)) ∙ sym (heard_now x clock told) }
 
   pub hears : (heard : Heard) → HearsNext now x y heard → Hears (past_state a x clock f p) (past_state b y now g q) heard
@@ -115,12 +115,12 @@ module _ (a b : MemoryDisks) (x y : MemoryConsole) (clock now : ℕ) (f g : Devi
 
 -- A say that fails has said the front of its bytes, or nothing.
 pub says_or_not : {T E : Type 0} (a b : MemoryDisks) (x y : MemoryConsole) (clock ticks next : ℕ) (f g : Device → ℕ) (p q : ℕ) → ticks ≤ next → last_told x ≤ clock → (whole front : List ℕ) → front ≡ take (length whole / 2) whole → (result : Result T E)
-    → OnOk result (Utters (clock_of next) front x y) → OnErr result (SameConsole x y) → OnOk result (next ≡ ticks + 1) → clock ≡ clock_of ticks → Says whole (past_state a x clock f p) (past_state b y (clock_of next) g q)
+    → OnOk result (Utters (clock_of next) front x y) → OnErr result (SameMemoryConsole x y) → OnOk result (next ≡ ticks + 1) → clock ≡ clock_of ticks → Says whole (past_state a x clock f p) (past_state b y (clock_of next) g q)
 says_or_not a b x y clock ticks next f g p q later told whole front is (Ok r) ok err up at =
     says_front a b x y clock (clock_of next) f g p q (omega (arith, at, later)) told whole front (length whole / 2) (omega arith) is (omega (arith, at, up)) ok
 says_or_not a b x y clock ticks next f g p q later told whole front is (Err e) ok err up at = says_none a b x y clock (clock_of next) f g p q (omega (arith, at, later)) told whole err
 
-pub uttered_past : {T E : Type 0} (x y : MemoryConsole) (ticks next : ℕ) (bytes : List ℕ) (result : Result T E) → OnOk result (Utters (clock_of next) bytes x y) → OnErr result (SameConsole x y) → OnOk result (next ≡ ticks + 1)
+pub uttered_past : {T E : Type 0} (x y : MemoryConsole) (ticks next : ℕ) (bytes : List ℕ) (result : Result T E) → OnOk result (Utters (clock_of next) bytes x y) → OnErr result (SameMemoryConsole x y) → OnOk result (next ≡ ticks + 1)
     → (t : ℕ) → t ≤ clock_of ticks → (heard_at y t ≡ heard_at x t) × (said_at y t ≡ said_at x t)
 uttered_past x y ticks next bytes (Ok r) ok err up t le = (heard_before_say (clock_of next) bytes x y t ok (omega (arith, le, up)), said_before_say (clock_of next) bytes x y t ok (omega (arith, le, up)))
 uttered_past x y ticks next bytes (Err e) ok err up t le = (heard_same x y t err, said_same x y t err)

@@ -3,11 +3,11 @@ use Rattle.std.proofs.Common.{◌≡◌, inl, inr, ℕ, ◌≤◌, ◌<◌, List
 use Rattle.std.proofs.lemmas.Bool.{cases_lt, cases_eq}
 use Rattle.crash_plant.specs.declared.device.Device.{Device}
 use Rattle.crash_plant.specs.declared.device.Device.TheVariants.{Control}
-use Rattle.crash_plant.specs.Moments.{Standing, PlantState, on, Kept, Follows, Same, Stays}
+use Rattle.crash_plant.specs.Moments.{Standing, PlantState, on, SamePast, Follows, Same, Stays}
 use Rattle.crash_plant.specs.Calls.{NoneLent, SameSite, SameLoan, Elapses, Silent, WorksOn, WorksOnConsole, Lends, TakesBack}
 
 -- No call keeps the past.
-pub kept_here : (a : Standing) → Kept a a
+pub kept_here : (a : Standing) → SamePast a a
 kept_here a = record { later = omega arith; still = λ none. none; same = λ t on le c now. now; all = λ t on le c now. now }
 
 -- Where no call was made, each image is one that was there.
@@ -18,7 +18,7 @@ follows_here a step same t from to c left =
     (c, now, same c now)
 
 -- Two calls keep the past that each of them keeps.
-pub kept_trans : (a b c : Standing) → Kept a b → Kept b c → Kept a c
+pub kept_trans : (a b c : Standing) → SamePast a b → SamePast b c → SamePast a c
 kept_trans a b c x y = record {
   later = omega (arith, x.later, y.later);
   still = λ none. y.still (x.still none);
@@ -27,7 +27,7 @@ kept_trans a b c x y = record {
 }
 
 -- One call more: from images that the calls so far may leave now, the next one leads on by the step of both.
-pub follows_then : (a b c : Standing) (so_far step all : List ℕ → List ℕ → Type 0) → a.clock ≤ b.clock → Follows so_far a b → Kept b c → Follows step b c
+pub follows_then : (a b c : Standing) (so_far step all : List ℕ → List ℕ → Type 0) → a.clock ≤ b.clock → Follows so_far a b → SamePast b c → Follows step b c
     → ((x y : List ℕ) → a.images a.clock x → so_far x y → all x y) → ((x y z : List ℕ) → a.images a.clock x → b.images b.clock y → so_far x y → step y z → all x z)
     → Follows all a c
 follows_then a b c so_far step all le f k s first then t from to z left = elim (cases_lt t b.clock) [
@@ -45,7 +45,7 @@ pub stays_here : (a : Standing) → Stays a a
 stays_here a = record { bytes = refl; images = follows_here a Same (λ b now. refl); all = λ t from to c was. let here : t ≡ a.clock = omega arith in subst (λ (s : ℕ). a.images s c) (sym here) was; faults = refl }
 
 -- Two calls leave a device alone that each of them leaves alone.
-pub stays_trans : (a b c : Standing) → Stays a b → Kept a b → Kept b c → Stays b c → Stays a c
+pub stays_trans : (a b c : Standing) → Stays a b → SamePast a b → SamePast b c → Stays b c → Stays a c
 stays_trans a b c x past k y = record {
   bytes = y.bytes ∙ x.bytes;
   images = follows_then a b c Same Same Same past.later x.images k y.images (λ p q here e. e) (λ p q r here there e e2. e2 ∙ e);

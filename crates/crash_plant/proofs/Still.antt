@@ -3,12 +3,12 @@ use Rattle.std.proofs.Common.{◌≡◌, ◌≢◌, ℕ, ◌≤◌, List, ◌++�
 use Rattle.std.proofs.lemmas.List.{take_all}
 use Rattle.crash_plant.specs.declared.device.Device.{Device}
 use Rattle.crash_plant.specs.declared.device.Device.TheVariants.{Volume}
-use Rattle.crash_plant.specs.Moments.{Kept, Stays, on}
+use Rattle.crash_plant.specs.Moments.{SamePast, Stays, on}
 use Rattle.crash_plant.specs.Calls.{SameSite, SameLoan, Elapses, Silent, WorksOn, LeavesAllBut, Lends, TakesBack, Says}
-use Rattle.crash_plant.specs.Still.{Contents, still, still_disk, unknown, AgreesBut}
+use Rattle.crash_plant.specs.PastlessPlants.{Contents, still, still_disk, unknown, AgreesBut}
 use Rattle.crash_plant.proofs.Steps.{kept_here}
 
-kept_still : (a b : Contents) (d : Device) → Kept (on (still a) d) (on (still b) d)
+kept_still : (a b : Contents) (d : Device) → SamePast (on (still a) d) (on (still b) d)
 kept_still a b d = record { later = omega arith; still = λ none. refl; same = λ t up le c now. absurd (omega (arith, up)); all = λ t up le c was. absurd (omega (arith, up)) }
 
 -- a device whose bytes and count are as before

@@ -5,7 +5,7 @@ use Rattle.crash_plant.specs.declared.device.Device.{Device}
 use Rattle.crash_plant.specs.declared.device.Device.TheVariants.{Journal, Volume}
 use Rattle.crash_plant.specs.declared.device.Heard.{Heard}
 use Rattle.crash_plant.specs.declared.device.Heard.TheVariants.{Byte, End}
-use Rattle.crash_plant.specs.Moments.{Standing, PlantState, on, Kept, Stays, OwnImage, GoesOn}
+use Rattle.crash_plant.specs.Moments.{Standing, PlantState, on, SamePast, Stays, OwnImage, GoesOn}
 
 -- a device that calls may name now
 abbrev pub IsThere : PlantState → Device → Type 0
@@ -32,12 +32,12 @@ pub record SameSite (old new : PlantState) : Type 0 where
 pub record SameLoan (v : ℕ) (old new : PlantState) : Type 0 where
   pub is_lent : new.is_lent v ≡ old.is_lent v
   pub since : new.lent_since v ≡ old.lent_since v
-  pub lent : Kept (new.lent v) (old.lent v)
+  pub lent : SamePast (new.lent v) (old.lent v)
   pub clock : (new.lent v).clock ≡ (old.lent v).clock
 
 -- The past of a plant doesn't change.
 pub record Elapses (old new : PlantState) : Type 0 where
-  pub kept : (d : Device) → Kept (on old d) (on new d)
+  pub kept : (d : Device) → SamePast (on old d) (on new d)
   pub heard : (t : ℕ) → 0 < old.clock → t ≤ old.clock → new.heard t ≡ old.heard t
   pub said : (t : ℕ) → 0 < old.clock → t ≤ old.clock → new.said t ≡ old.said t
 
@@ -104,7 +104,7 @@ pub record LeavesAllBut (tells : Type 0) (v : ℕ) (old new : PlantState) : Type
   pub goes_on : tells → GoesOn old.clock new.clock
   pub heard : tells → (t : ℕ) → 0 < old.clock → t ≤ old.clock → new.heard t ≡ old.heard t
   pub said : tells → (t : ℕ) → 0 < old.clock → t ≤ old.clock → new.said t ≡ old.said t
-  pub kept : tells → (d : Device) → d ≢ Volume v → Kept (on old d) (on new d)
+  pub kept : tells → (d : Device) → d ≢ Volume v → SamePast (on old d) (on new d)
   pub silent : tells → Silent old new
   pub others : tells → (d : Device) → d ≢ Volume v → Stays (on old d) (on new d)
   pub others_faults : (d : Device) → d ≢ Volume v → new.faults d ≡ old.faults d
@@ -115,7 +115,7 @@ pub record Lends (tells : Type 0) (v : ℕ) (old new : PlantState) (volume : Sta
   pub rest : LeavesAllBut tells v old new
   pub is_lent : new.is_lent v ≡ true
   pub since : new.lent_since v ≡ old.clock + 1
-  pub lent : Kept (new.lent v) volume
+  pub lent : SamePast (new.lent v) volume
   pub clock : (new.lent v).clock ≡ volume.clock
   -- The volume of a plant that keeps its past keeps its own.
   pub keeps_past : tells → 0 < old.clock → 0 < volume.clock
@@ -125,14 +125,14 @@ pub record Lends (tells : Type 0) (v : ℕ) (old new : PlantState) (volume : Sta
   pub bytes : tells → volume.bytes ≡ old.bytes (Volume v)
   pub images : tells → (c : List ℕ) → volume.images volume.clock c → old.images old.clock (Volume v) c
   pub images_all : tells → (c : List ℕ) → old.images old.clock (Volume v) c → volume.images volume.clock c
-  pub kept : tells → Kept (on old (Volume v)) (on new (Volume v))
+  pub kept : tells → SamePast (on old (Volume v)) (on new (Volume v))
 
 -- A volume that can be taken back: of the length of the lent one, and with its past, as far as these tell which one it is.
 pub record IsLentOne (tells : Type 0) (v : ℕ) (plant : PlantState) (volume : Standing) : Type 0 where
   pub there : v < plant.volumes
   pub is_lent : plant.is_lent v ≡ true
   pub length_is : volume.length_is ≡ plant.lengths (Volume v)
-  pub past : tells → Kept (plant.lent v) volume
+  pub past : tells → SamePast (plant.lent v) volume
   pub faults : plant.faults (Volume v) ≤ volume.faults
 
 -- A volume is taken back. At each moment of the lent time a crash could leave an image of any of its own moments of that

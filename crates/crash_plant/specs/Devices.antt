@@ -3,7 +3,7 @@
 use Rattle.std.specs.Prelude.{ℕ, zero, suc, Bool, false, List, [], ◌∷◌, length}
 use Rattle.crash_plant.specs.declared.device.Device.{Device}
 use Rattle.crash_plant.specs.declared.device.Device.TheVariants.{Control, State, Journal, Volume}
-use Rattle.crash_plant.specs.Still.{Contents}
+use Rattle.crash_plant.specs.PastlessPlants.{Contents}
 
 -- what is seen of the item at an index; behind the end it is the second argument
 abbrev pub seen_at : {A B : Type 0} → (A → B) → B → List A → ℕ → B

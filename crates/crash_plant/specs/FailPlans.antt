@@ -7,7 +7,7 @@ use Rattle.crash_plant.specs.declared.fail_plan.FailPlan.{FailPlan}
 use Rattle.crash_plant.specs.declared.fail_plan.Planned.{Planned}
 use Rattle.crash_plant.specs.declared.fail_plans.FailPlans.{FailPlans}
 use Rattle.crash_plant.specs.Devices.{seen_of}
-use Rattle.crash_plant.specs.Fails.{after_call, fails_now, is_stopping}
+use Rattle.crash_plant.specs.Failures.{after_call, fails_now, is_stopping}
 
 abbrev pub plan_faults : FailPlan → ℕ
 plan_faults plan = plan.faults

@@ -5,33 +5,33 @@ use Rattle.crash_plant.specs.declared.file_plant.Shelf.{Shelf}
 use Rattle.crash_plant.specs.declared.file_plant.Shelf.TheVariants.{Here, Lent}
 use Rattle.crash_plant.specs.Moments.{Standing, PlantState}
 use Rattle.crash_plant.specs.Devices.{Sight, contents_of}
-use Rattle.crash_plant.specs.Still.{still, still_disk}
+use Rattle.crash_plant.specs.PastlessPlants.{still, still_disk}
 
 abbrev pub file_standing : FileDisk → Standing
 file_standing disk = still_disk [] disk.length disk.faults
 
-abbrev pub shelf_length : Shelf → ℕ
-shelf_length (Here disk) = disk.length
-shelf_length (Lent n count) = n
+abbrev pub file_shelf_length : Shelf → ℕ
+file_shelf_length (Here disk) = disk.length
+file_shelf_length (Lent n count) = n
 
 -- the disk's count, or the one that it was lent with
-abbrev pub shelf_faults : Shelf → ℕ
-shelf_faults (Here disk) = disk.faults
-shelf_faults (Lent n count) = count
+abbrev pub file_shelf_faults : Shelf → ℕ
+file_shelf_faults (Here disk) = disk.faults
+file_shelf_faults (Lent n count) = count
 
-abbrev pub shelf_is_lent : Shelf → Bool
-shelf_is_lent (Here disk) = false
-shelf_is_lent (Lent n count) = true
+abbrev pub file_shelf_is_lent : Shelf → Bool
+file_shelf_is_lent (Here disk) = false
+file_shelf_is_lent (Lent n count) = true
 
 abbrev pub file_sight : Sight FileDisk Shelf
 file_sight = record {
   disk_length = λ disk. disk.length;
   disk_bytes = λ disk. [];
   disk_faults = λ disk. disk.faults;
-  place_length = shelf_length;
+  place_length = file_shelf_length;
   place_bytes = λ shelf. [];
-  place_faults = shelf_faults;
-  place_is_lent = shelf_is_lent;
+  place_faults = file_shelf_faults;
+  place_is_lent = file_shelf_is_lent;
 }
 
 abbrev pub file_state : (control state : FileDisk) (journals : List FileDisk) (volumes : List Shelf) (console_faults : ℕ) → PlantState

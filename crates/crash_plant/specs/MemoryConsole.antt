@@ -21,7 +21,7 @@ abbrev pub last_told : MemoryConsole → ℕ
 last_told console = (last_turn console.first console.turns.items).at
 
 -- the same record of the same script
-pub record SameConsole (old new : MemoryConsole) : Type 0 where
+pub record SameMemoryConsole (old new : MemoryConsole) : Type 0 where
   pub script : new.script ≡ old.script
   pub next : new.next ≡ old.next
   pub said : new.said.items ≡ old.said.items
@@ -48,4 +48,4 @@ pub record Hearkens (now byte : ℕ) (old new : MemoryConsole) : Type 0 where
 -- What is heard is the next byte of the script, or its end.
 abbrev pub HearsNext : ℕ → MemoryConsole → MemoryConsole → Heard → Type 0
 HearsNext now old new (Byte b) = Hearkens now b old new
-HearsNext now old new End = (left_to_hear old ≡ []) × SameConsole old new
+HearsNext now old new End = (left_to_hear old ≡ []) × SameMemoryConsole old new

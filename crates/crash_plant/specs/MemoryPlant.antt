@@ -10,7 +10,7 @@ use Rattle.crash_plant.specs.declared.memory_volume.MemoryVolume.{MemoryVolume}
 use Rattle.crash_plant.specs.declared.memory_plant.MemoryPlant.{MemoryPlant}
 use Rattle.crash_plant.specs.Moments.{PlantState}
 use Rattle.crash_plant.specs.Calls.{IsThere}
-use Rattle.crash_plant.specs.Fails.{planned_at}
+use Rattle.crash_plant.specs.Failures.{planned_at}
 use Rattle.crash_plant.specs.FailPlans.{Counts, CountsConsole, faults_of, is_console_failing, is_failing, planned_of}
 use Rattle.crash_plant.specs.Clock.{clock_of}
 use Rattle.crash_plant.specs.Devices.{seen_at}

@@ -4,7 +4,7 @@ use Rattle.std.specs.List.{list_any}
 use Rattle.crash_plant.specs.declared.memory_volume.MemoryVolume.{MemoryVolume}
 use Rattle.crash_plant.specs.Moments.{Standing}
 use Rattle.crash_plant.specs.Clock.{clock_of}
-use Rattle.crash_plant.specs.Fails.{after_call, fails_now, is_stopping}
+use Rattle.crash_plant.specs.Failures.{after_call, fails_now, is_stopping}
 use Rattle.crash_plant.specs.MemoryDisk.{held, first_held, past_of}
 use Rattle.crash_plant.specs.Pasts.{Reach}
 

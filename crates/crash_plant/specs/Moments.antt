@@ -47,7 +47,7 @@ abbrev pub Raises : ℕ → ℕ → Type 0
 Raises old new = 0 < old → old < new
 
 -- The past of a device doesn't change: nothing comes to it, and nothing is forgotten. It is so too where no call is made.
-pub record Kept (old new : Standing) : Type 0 where
+pub record SamePast (old new : Standing) : Type 0 where
   pub later : old.clock ≤ new.clock
   pub still : old.clock ≡ 0 → new.clock ≡ 0
   pub same : (t : ℕ) → 0 < old.clock → t ≤ old.clock → (c : List ℕ) → new.images t c → old.images t c

@@ -6,7 +6,7 @@ use Rattle.crash_plant.specs.declared.plain_plant.Place.TheVariants.{Here, Lent}
 use Rattle.crash_plant.specs.declared.plain_plant.PlainPlant.{PlainPlant}
 use Rattle.crash_plant.specs.Moments.{Standing, PlantState}
 use Rattle.crash_plant.specs.Devices.{Sight, contents_of}
-use Rattle.crash_plant.specs.Still.{Contents, still, still_disk}
+use Rattle.crash_plant.specs.PastlessPlants.{Contents, still, still_disk}
 
 abbrev pub disk_bytes : PlainDisk → List ℕ
 disk_bytes disk = disk.bytes.items

@@ -5,7 +5,7 @@ use Rattle.crash_plant.specs.declared.plain_disk.PlainDisk.{PlainDisk}
 use Rattle.crash_plant.specs.declared.plain_plant.Place.{Place}
 use Rattle.crash_plant.specs.declared.shelf.Shelf.{Shelf}
 use Rattle.crash_plant.specs.declared.shelf.Shelf.TheVariants.{Here, Lent, Away}
-use Rattle.crash_plant.specs.Left.{left_of}
+use Rattle.crash_plant.specs.DiskRemains.{left_of}
 use Rattle.crash_plant.specs.MemoryDisk.{held, past_of}
 use Rattle.crash_plant.specs.PlainPlant.{disk_bytes, disk_length, place_bytes, place_length, place_is_lent}
 use Rattle.crash_plant.specs.Shelves.{shelf_length, shelf_is_lent}

@@ -9,7 +9,7 @@ use Rattle.crash_plant.specs.Clock.{clock_of}
 use Rattle.crash_plant.specs.MemoryDisk.{HasRoom, held, first_held, past_of}
 use Rattle.crash_plant.specs.Moments.{Standing}
 use Rattle.crash_plant.specs.Pasts.{Note, Reach, last_till}
-use Rattle.crash_plant.specs.Still.{unknown}
+use Rattle.crash_plant.specs.PastlessPlants.{unknown}
 use Rattle.std.specs.declared.snapshot.Snapshot.{Snapshot}
 
 -- what a read gives; of the bytes of a volume that is lent nothing is known

@@ -1,6 +1,6 @@
 ghost use Rattle.std.specs.Prelude.{◌≡◌, ◌≤◌, ◌+◌, List, ℕ, length, slice_range, OnOk};
 ghost use Rattle.crash_plant.specs.Bytes.{patched, Torn};
-ghost use Rattle.crash_plant.specs.Moments.{Standing, Kept, Follows, Same, IsDurable, Raises};
+ghost use Rattle.crash_plant.specs.Moments.{Standing, SamePast, Follows, Same, IsDurable, Raises};
 ghost use Rattle.xrc_edge.specs.Causes.{HasCause};
 
 use xrc_edge::Failed;
@@ -22,7 +22,7 @@ pub trait Disk {
         requires { place + length into.old ≤ (state self.old).length_is }
         ensures bytes { tells → OnOk result (into.new ≡ slice_range (state self.old).bytes place (place + length into.old)) }
         ensures same { tells → (state self.new).bytes ≡ (state self.old).bytes }
-        ensures past { tells → Kept (state self.old) (state self.new) }
+        ensures past { tells → SamePast (state self.old) (state self.new) }
         ensures moments { tells → Follows Same (state self.old) (state self.new) }
         ensures clock { tells → OnOk result (Raises (state self.old).clock (state self.new).clock) }
         ensures length { (state self.new).length_is ≡ (state self.old).length_is }
@@ -33,7 +33,7 @@ pub trait Disk {
         requires { place + length bytes.now ≤ (state self.old).length_is }
         ensures written { tells → OnOk result ((state self.new).bytes ≡ patched place bytes.now (state self.old).bytes) }
         ensures torn { tells → Torn place (length bytes.now) (state self.old).bytes (state self.new).bytes }
-        ensures past { tells → Kept (state self.old) (state self.new) }
+        ensures past { tells → SamePast (state self.old) (state self.new) }
         ensures moments { tells → Follows (Torn place (length bytes.now)) (state self.old) (state self.new) }
         ensures clock { tells → OnOk result (Raises (state self.old).clock (state self.new).clock) }
         ensures length { (state self.new).length_is ≡ (state self.old).length_is }
@@ -43,7 +43,7 @@ pub trait Disk {
     fn sync(&mut self) -> Result<(), Failed>
         ensures durable { tells → OnOk result (IsDurable (state self.new)) }
         ensures same { tells → (state self.new).bytes ≡ (state self.old).bytes }
-        ensures past { tells → Kept (state self.old) (state self.new) }
+        ensures past { tells → SamePast (state self.old) (state self.new) }
         ensures moments { tells → Follows Same (state self.old) (state self.new) }
         ensures clock { tells → OnOk result (Raises (state self.old).clock (state self.new).clock) }
         ensures length { (state self.new).length_is ≡ (state self.old).length_is }

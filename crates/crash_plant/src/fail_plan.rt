@@ -24,7 +24,7 @@ pub(crate) struct FailPlan {
 }
 
 impl Planned {
-    ghost use Rattle.crash_plant.specs.Fails.{after_call, fails_now};
+    ghost use Rattle.crash_plant.specs.Failures.{after_call, fails_now};
 
     /// Counts a call that is made when so many bytes are said. Says whether it fails.
     fn meet(&mut self, said: u64) -> bool
@@ -49,7 +49,7 @@ impl Planned {
 }
 
 impl FailPlan {
-    ghost use Rattle.crash_plant.specs.Fails.{after_call, fails_now, is_stopping, planned_at};
+    ghost use Rattle.crash_plant.specs.Failures.{after_call, fails_now, is_stopping, planned_at};
 
     /// The failures of a list that are planned for a device or the console.
     pub(crate) fn of(

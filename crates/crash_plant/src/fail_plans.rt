@@ -20,7 +20,7 @@ pub(crate) struct FailPlans {
 }
 
 impl FailPlans {
-    ghost use Rattle.crash_plant.specs.Fails.{planned_at};
+    ghost use Rattle.crash_plant.specs.Failures.{planned_at};
     ghost use Rattle.crash_plant.specs.FailPlans.{Counts, CountsConsole, IsPlanned, faults_of, is_console_failing, is_failing, planned_of, plan_faults, plan_items};
     ghost use Rattle.crash_plant.specs.Devices.{seen_at};
 

@@ -29,7 +29,7 @@ pub struct FilePlant<R: Read + Drop, W: Write + Drop> {
 }
 
 impl Shelf {
-    ghost use Rattle.crash_plant.specs.FilePlant.{shelf_length, shelf_faults, shelf_is_lent};
+    ghost use Rattle.crash_plant.specs.FilePlant.{file_shelf_length, file_shelf_faults, file_shelf_is_lent};
     ghost use Rattle.std.specs.Prelude.{true, map};
 
     fn row(alloc: Global, disks: Vec<FileDisk>) -> Result<Vec<Shelf>, NoMemory>
@@ -40,9 +40,9 @@ impl Shelf {
 
     // What stands in the volume's place while it is lent.
     fn lent(&self) -> Shelf
-        ensures length { shelf_length result ≡ shelf_length self.now }
-        ensures faults { shelf_faults result ≡ shelf_faults self.now }
-        ensures lent { shelf_is_lent result ≡ true }
+        ensures length { file_shelf_length result ≡ file_shelf_length self.now }
+        ensures faults { file_shelf_faults result ≡ file_shelf_faults self.now }
+        ensures lent { file_shelf_is_lent result ≡ true }
     {
         match self {
             Shelf::Here(disk) => Shelf::Lent {

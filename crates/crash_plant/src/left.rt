@@ -1,6 +1,6 @@
 // What a crash leaves of a disk: the bytes that it holds, with chosen bytes in each range that is open.
 ghost use Rattle.std.specs.Prelude.{◌≡◌, ◌≤◌, ◌+◌, ◌%◌, [], ℕ, drop, get_or, length, map, IfOk, OnOk};
-ghost use Rattle.crash_plant.specs.Left.{all_filled, filled, open_begin, open_writes, repeated};
+ghost use Rattle.crash_plant.specs.DiskRemains.{all_filled, filled, open_begin, open_writes, repeated};
 ghost use Rattle.crash_plant.specs.Pasts.{AllFit, Fits, note_of};
 
 use crate::entry::{Done, Entry};

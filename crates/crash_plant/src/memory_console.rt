@@ -44,7 +44,7 @@ fn utter(
 }
 
 impl MemoryConsole {
-    ghost use Rattle.crash_plant.specs.MemoryConsole.{HearsNext, SameConsole, Utters, left_to_hear, last_told};
+    ghost use Rattle.crash_plant.specs.MemoryConsole.{HearsNext, SameMemoryConsole, Utters, left_to_hear, last_told};
 
     /// A console whose record begins at a moment, with this much of its script heard.
     pub(crate) fn new(
@@ -85,7 +85,7 @@ impl MemoryConsole {
         requires { last_told self.old ≤ now }
         ensures ok { IfOk result (λ heard. HearsNext now self.old self.new heard) }
         ensures end { left_to_hear self.old ≡ [] → IsOk result }
-        ensures err { OnErr result (SameConsole self.old self.new) }
+        ensures err { OnErr result (SameMemoryConsole self.old self.new) }
     {
         let script = self.script.as_slice();
         if self.next == script.len() {
@@ -106,7 +106,7 @@ impl MemoryConsole {
     pub(crate) fn say(&mut self, now: u64, bytes: &[u8]) -> Result<(), NoMemory>
         requires { last_told self.old ≤ now }
         ensures ok { OnOk result (Utters now bytes.now self.old self.new) }
-        ensures err { OnErr result (SameConsole self.old self.new) }
+        ensures err { OnErr result (SameMemoryConsole self.old self.new) }
     {
         utter(
             &mut self.said,

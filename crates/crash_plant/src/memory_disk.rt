@@ -1,6 +1,6 @@
 ghost use Rattle.std.specs.Prelude.{◌≡◌, ◌<◌, ◌≤◌, ◌+◌, ◌++◌, [], ◌∷◌, length, map, slice_range, vec_len, vec_capacity, IfOk, IsOk, OnErr, OnOk};
 ghost use Rattle.crash_plant.specs.Bytes.{patched};
-ghost use Rattle.crash_plant.specs.Left.{left_of};
+ghost use Rattle.crash_plant.specs.DiskRemains.{left_of};
 ghost use Rattle.crash_plant.specs.Pasts.{Chains, Chains-prop, Does, InTime, InTime-prop, last_till, moved, moved_entry, note_of};
 
 use crate::PlainDisk;

@@ -2,7 +2,7 @@ ghost use Rattle.std.specs.Prelude.{◌≡◌, ◌≢◌, ◌<◌, ◌≤◌, �
 ghost use Rattle.crash_plant.specs.Bytes.{patched};
 ghost use Rattle.crash_plant.specs.Pasts.{Does};
 ghost use Rattle.crash_plant.specs.Devices.{seen_at, seen_of};
-ghost use Rattle.crash_plant.specs.Fresh.{absent, fresh_disk, fresh_of, fresh_place};
+ghost use Rattle.crash_plant.specs.FreshDisks.{absent, fresh_disk, fresh_of, fresh_place};
 ghost use Rattle.crash_plant.specs.Remains.{disk_remains, nothing, place_remains, remains_here, remains_of};
 ghost use Rattle.crash_plant.specs.Shelves.{IsLentAs, IsNow, ShelfAlike, ShelfNotes, ShelfRoom, last_done, lent_at, shelf_bytes, shelf_length};
 ghost use Rattle.crash_plant.specs.declared.device.Device.{Device};

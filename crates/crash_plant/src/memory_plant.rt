@@ -3,13 +3,13 @@ ghost use Rattle.xrc_edge.specs.Causes.{HasCause};
 ghost use Rattle.crash_plant.specs.Bytes.{patched, Torn};
 ghost use Rattle.crash_plant.specs.Choices.{IsChoice};
 ghost use Rattle.crash_plant.specs.Clock.{clock_of, is_at_end, last_tick};
-ghost use Rattle.crash_plant.specs.MemoryConsole.{HearsNext, SameConsole as SameRecord, Utters, last_told, left_to_hear};
+ghost use Rattle.crash_plant.specs.MemoryConsole.{HearsNext, SameMemoryConsole as SameRecord, Utters, last_told, left_to_hear};
 ghost use Rattle.crash_plant.specs.MemoryDisks.{IsHome, SameSizes, journals_of, view, volumes_of};
 ghost use Rattle.crash_plant.specs.Moments.{Follows, IsDurable, Raises, Same, Stands, on};
 ghost use Rattle.crash_plant.specs.Calls.{Hears, HearsNothing, IsLentOne, IsPart, IsThere, Lends, Listens, NoneLent, SameSite, Says, TakesBack, WorksOn, WorksOnConsole};
-ghost use Rattle.crash_plant.specs.Left.{left_of};
-ghost use Rattle.crash_plant.specs.Made.{IsSilent, SameConsole, SameDevices};
-ghost use Rattle.crash_plant.specs.Passes.{IsSynced, Opens, OpensOrNot, Passes, ShelfOpens, ShelfStands, step_of};
+ghost use Rattle.crash_plant.specs.DiskRemains.{left_of};
+ghost use Rattle.crash_plant.specs.NewPlants.{IsSilent, SameConsole, SameDevices};
+ghost use Rattle.crash_plant.specs.CallSteps.{IsSynced, Opens, OpensOrNot, Passes, ShelfOpens, ShelfStands, step_of};
 ghost use Rattle.crash_plant.specs.Pasts.{Does};
 ghost use Rattle.crash_plant.specs.PlainPlant.{plain_state};
 ghost use Rattle.crash_plant.specs.Shelves.{ShelfRoom, last_done, lent_at, shelf_bytes, shelf_length, shelf_past};
@@ -57,7 +57,7 @@ pub struct MemoryPlant {
 impl MemoryPlant {
     ghost use Rattle.crash_plant.specs.MemoryDisk.{past_of};
     ghost use Rattle.crash_plant.specs.MemoryPlant.{IsPlannedAs, memory_state, said_count};
-    ghost use Rattle.crash_plant.specs.Passes.{Shelves};
+    ghost use Rattle.crash_plant.specs.CallSteps.{Shelves};
     ghost use Rattle.crash_plant.specs.Pasts.{last_till};
 
     /// The plain plant, with its past from now on, and a list of its calls that fail. The calls counted so far are none, and

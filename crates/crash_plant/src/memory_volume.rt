@@ -3,7 +3,7 @@ ghost use Rattle.xrc_edge.specs.Causes.{HasCause};
 ghost use Rattle.crash_plant.specs.Bytes.{patched, Torn};
 ghost use Rattle.crash_plant.specs.Clock.{clock_of, is_at_end, last_tick};
 ghost use Rattle.crash_plant.specs.MemoryDisk.{HasRoom, held, past_of};
-ghost use Rattle.crash_plant.specs.Moments.{Follows, IsDurable, Kept, Raises, Same, Stands};
+ghost use Rattle.crash_plant.specs.Moments.{Follows, IsDurable, SamePast, Raises, Same, Stands};
 ghost use Rattle.crash_plant.specs.Pasts.{Does, last_till};
 
 use crate::Disk;
@@ -36,7 +36,7 @@ pub(crate) fn front(bytes: &[u8]) -> &[u8]
 }
 
 impl MemoryVolume {
-    ghost use Rattle.crash_plant.specs.Passes.{DiskOpens, DiskPasses, DiskStands, IsSyncDone, step_of};
+    ghost use Rattle.crash_plant.specs.CallSteps.{DiskOpens, DiskPasses, DiskStands, IsSyncDone, step_of};
 
     // Does a call and raises the clock. Where it can't, nothing is done.
     fn note(&mut self, done: Done, place: u64, bytes: &[u8]) -> Result<(), Failed>
@@ -69,7 +69,7 @@ impl MemoryVolume {
 impl Disk for MemoryVolume {
     ghost use Rattle.crash_plant.specs.MemoryVolume.{CountsOwnCall, volume_fails_by_plan, volume_standing};
     ghost use Rattle.crash_plant.specs.MemoryLaws.{volume_read_is_image};
-    ghost use Rattle.crash_plant.specs.Passes.{Opens, OpensOrNot};
+    ghost use Rattle.crash_plant.specs.CallSteps.{Opens, OpensOrNot};
     ghost use Rattle.std.specs.Prelude.{refl};
 
     ghost state = { volume_standing };
@@ -88,7 +88,7 @@ impl Disk for MemoryVolume {
         requires { place + length into.old ≤ (volume_standing self.old).length_is }
         ensures bytes { OnOk result (into.new ≡ slice_range (volume_standing self.old).bytes place (place + length into.old)) }
         ensures same { (volume_standing self.new).bytes ≡ (volume_standing self.old).bytes }
-        ensures past { Kept (volume_standing self.old) (volume_standing self.new) }
+        ensures past { SamePast (volume_standing self.old) (volume_standing self.new) }
         ensures moments { Follows Same (volume_standing self.old) (volume_standing self.new) }
         ensures stands { Stands (volume_standing self.old) (volume_standing self.new) }
         ensures clock { OnOk result (Raises (volume_standing self.old).clock (volume_standing self.new).clock) }
@@ -113,7 +113,7 @@ impl Disk for MemoryVolume {
         ensures torn { Torn place (length bytes.now) (volume_standing self.old).bytes (volume_standing self.new).bytes }
         ensures open { OnOk result (Opens place (length bytes.now) (volume_standing self.old) (volume_standing self.new)) }
         ensures failed { OnErr result (OpensOrNot place (length bytes.now) (volume_standing self.old) (volume_standing self.new)) }
-        ensures past { Kept (volume_standing self.old) (volume_standing self.new) }
+        ensures past { SamePast (volume_standing self.old) (volume_standing self.new) }
         ensures moments { Follows (Torn place (length bytes.now)) (volume_standing self.old) (volume_standing self.new) }
         ensures clock { OnOk result (Raises (volume_standing self.old).clock (volume_standing self.new).clock) }
         ensures length { (volume_standing self.new).length_is ≡ (volume_standing self.old).length_is }
@@ -144,7 +144,7 @@ impl Disk for MemoryVolume {
     fn sync(&mut self) -> Result<(), Failed>
         ensures durable { OnOk result (IsDurable (volume_standing self.new)) }
         ensures same { (volume_standing self.new).bytes ≡ (volume_standing self.old).bytes }
-        ensures past { Kept (volume_standing self.old) (volume_standing self.new) }
+        ensures past { SamePast (volume_standing self.old) (volume_standing self.new) }
         ensures moments { Follows Same (volume_standing self.old) (volume_standing self.new) }
         ensures stands { OnErr result (Stands (volume_standing self.old) (volume_standing self.new)) }
         ensures clock { OnOk result (Raises (volume_standing self.old).clock (volume_standing self.new).clock) }

@@ -1,5 +1,5 @@
 ghost use Rattle.std.specs.Prelude.{◌≡◌, ◌≤◌, ◌<◌, ◌^◌, length, vec_len, IsOk, OnErr, OnOk, IfOk};
-ghost use Rattle.crash_plant.specs.Made.{IsMade, Resizes, Restarts, SameConsole, SameDevices};
+ghost use Rattle.crash_plant.specs.NewPlants.{IsMade, Resizes, Restarts, SameConsole, SameDevices};
 ghost use Rattle.crash_plant.specs.Moments.{Raises};
 ghost use Rattle.crash_plant.specs.Calls.{Hears, HearsNothing, IsThere, Listens, WorksOnConsole};
 ghost use Rattle.xrc_edge.specs.Causes.{HasCause};

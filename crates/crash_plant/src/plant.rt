@@ -1,6 +1,6 @@
 ghost use Rattle.std.specs.Prelude.{◌≡◌, ◌≤◌, ◌<◌, ◌+◌, false, true, List, ℕ, length, slice_range, ◌++◌, OnOk, OnErr, IfOk, IsErr, IsOk};
 ghost use Rattle.crash_plant.specs.Bytes.{patched, Torn};
-ghost use Rattle.crash_plant.specs.Moments.{Standing, PlantState, on, Kept, Follows, Same, IsDurable, Raises};
+ghost use Rattle.crash_plant.specs.Moments.{Standing, PlantState, on, SamePast, Follows, Same, IsDurable, Raises};
 ghost use Rattle.crash_plant.specs.Calls.{IsPart, IsThere, NoneLent, WorksOn, WorksOnConsole, Hears, HearsNothing, Listens, Says, Lends, TakesBack, IsLentOne};
 ghost use Rattle.xrc_edge.specs.Causes.{HasCause};
 ghost use Rattle.crash_plant.specs.declared.device.Device.{Device};

@@ -11,8 +11,8 @@ use Rattle.xrc_edge.proofs.OrderLaws.{IsOrder}
 use Rattle.xrc_edge.proofs.Positions.{filter_order}
 use Rattle.cut_core.specs.Events.{Event, floor, cut_after, last_cut_from, last_cut}
 use Rattle.cut_core.specs.Events.Event.{Join, Copied, Break, Raise, Form, Drop, Carry, Resume, Forget}
-use Rattle.cut_core.specs.Groups.{Entry, carried_entry, is_copy, is_write_carried, carried_by, forms, drops, still_waits, waiting_in, comes_before}
-use Rattle.cut_core.specs.Legal.{are_in, is_legal_next, are_legal}
+use Rattle.cut_core.specs.Groups.{CarriedEntry, carried_entry, is_copy, is_write_carried, carried_by, forms, drops, still_waits, waiting_in, comes_before}
+use Rattle.cut_core.specs.LegalHistories.{are_in, is_legal_next, are_legal}
 use Rattle.cut_core.specs.Cuts.{joins_above, is_dropped_in, kept_writes, GroupsAreComplete}
 use Rattle.cut_core.proofs.Filters.{filter_both}
 use Rattle.cut_core.proofs.Legality.{joins, legal_front}
@@ -30,7 +30,7 @@ cuts_rise n past (x ∷ before) e =
     omega (arith, cut_rises n past x parts.0, next)
 
 -- An entry with a stamp above the last cut is formed by no form up to it.
-none_forms : (n : ℕ) (past before : List Event) (e : Entry) → are_legal n past before ≡ true → last_cut_from (last_cut past) before < e.stamp → list_all (λ y. not (forms e y)) before ≡ true
+none_forms : (n : ℕ) (past before : List Event) (e : CarriedEntry) → are_legal n past before ≡ true → last_cut_from (last_cut past) before < e.stamp → list_all (λ y. not (forms e y)) before ≡ true
 none_forms n past [] e legal above = refl
 none_forms n past (x ∷ before) e legal above =
     let parts = and_parts (is_legal_next n past x) (are_legal n (past ++ x ∷ []) before) legal in
@@ -56,14 +56,14 @@ split_dropped true f rest is e = absurd cc
 split_dropped false true rest is e = absurd cc
 split_dropped false false rest is e = (refl, e)
 
-waits_not_dropped : (cut : ℕ) (before later : List Event) (e : Entry) → nat_le e.stamp cut ≡ true → still_waits before e ≡ true → is_dropped_in (before ++ Form cut ∷ later) e ≡ false
+waits_not_dropped : (cut : ℕ) (before later : List Event) (e : CarriedEntry) → nat_le e.stamp cut ≡ true → still_waits before e ≡ true → is_dropped_in (before ++ Form cut ∷ later) e ≡ false
 waits_not_dropped cut [] later e le waits = rw le refl
 waits_not_dropped cut (y ∷ before) later e le waits =
     let parts = and_parts (not (forms e y) && not (drops e y)) (still_waits before e) waits in
     let this = and_parts (not (forms e y)) (not (drops e y)) parts.0 in
     rw (not-true (drops e y) this.1, not-true (forms e y) this.0) (waits_not_dropped cut before later e le parts.1)
 
-not_dropped_waits : (cut : ℕ) (before later : List Event) (e : Entry) → list_all (λ y. not (forms e y)) before ≡ true → is_dropped_in (before ++ Form cut ∷ later) e ≡ false → still_waits before e ≡ true
+not_dropped_waits : (cut : ℕ) (before later : List Event) (e : CarriedEntry) → list_all (λ y. not (forms e y)) before ≡ true → is_dropped_in (before ++ Form cut ∷ later) e ≡ false → still_waits before e ≡ true
 not_dropped_waits cut [] later e none kept = refl
 not_dropped_waits cut (y ∷ before) later e none kept =
     let parts = and_parts (not (forms e y)) (list_all (λ y. not (forms e y)) before) none in
@@ -72,7 +72,7 @@ not_dropped_waits cut (y ∷ before) later e none kept =
     (and_from (not (forms e y)) (not (drops e y)) parts.0 (not_from_false (drops e y) this.0)) (not_dropped_waits cut before later e parts.1 this.1)
 
 -- An entry that still waits has a stamp above the last cut.
-waits_above : (c : ℕ) (before : List Event) (e : Entry) → c < e.stamp → still_waits before e ≡ true → last_cut_from c before < e.stamp
+waits_above : (c : ℕ) (before : List Event) (e : CarriedEntry) → c < e.stamp → still_waits before e ≡ true → last_cut_from c before < e.stamp
 waits_above c [] e above waits = above
 waits_above c (y ∷ before) e above waits =
     let parts = and_parts (not (forms e y) && not (drops e y)) (still_waits before e) waits in
@@ -93,13 +93,13 @@ waits_above c (y ∷ before) e above waits =
 -- ---- the two tests agree on a write
 
 -- in the form's group; and among the kept writes between the cuts
-abbrev in_group : (cut : ℕ) (before : List Event) → Entry → Bool
+abbrev in_group : (cut : ℕ) (before : List Event) → CarriedEntry → Bool
 in_group cut before e = not (is_copy e) && (nat_le e.stamp cut && still_waits before e)
 
-abbrev is_between : (low cut : ℕ) → Entry → Bool
+abbrev is_between : (low cut : ℕ) → CarriedEntry → Bool
 is_between low cut e = nat_lt low e.stamp && nat_le e.stamp cut
 
-abbrev is_kept : List Event → Entry → Bool
+abbrev is_kept : List Event → CarriedEntry → Bool
 is_kept later e = not (is_copy e) && not (is_dropped_in later e)
 
 same_test : (n cut low : ℕ) (past before later : List Event) (k : ℕ) (w : Write) → are_legal n past before ≡ true → low ≡ last_cut_from (last_cut past) before → last_cut past < w.stamp.0
@@ -126,7 +126,7 @@ same_test n cut low past before later k w legal low-is above =
 
 -- ---- what one event carries
 
-same_on_writes : (p q : Entry → Bool) (k low high : ℕ) (c : Write → Bool) (writes : List Write) → ((w : Write) → low < w.stamp.0 → p (carried_entry k w) ≡ q (carried_entry k w)) → are_in low high writes ≡ true
+same_on_writes : (p q : CarriedEntry → Bool) (k low high : ℕ) (c : Write → Bool) (writes : List Write) → ((w : Write) → low < w.stamp.0 → p (carried_entry k w) ≡ q (carried_entry k w)) → are_in low high writes ≡ true
     → filter p (map (carried_entry k) (filter c writes)) ≡ filter q (map (carried_entry k) (filter c writes))
 same_on_writes p q k low high c [] same e = refl
 same_on_writes p q k low high c (w ∷ writes) same e =
@@ -142,7 +142,7 @@ same_on_writes p q k low high c (w ∷ writes) same e =
     with_one true true false pa qb ab h = absurd cc
     with_one true false true pa qb ab h = absurd cc
 
-none_on_writes : (p : Entry → Bool) (k low : ℕ) (c : Write → Bool) (writes : List Write) → ((w : Write) → low < w.stamp.0 → p (carried_entry k w) ≡ false) → list_all (λ w. nat_lt low w.stamp.0) writes ≡ true
+none_on_writes : (p : CarriedEntry → Bool) (k low : ℕ) (c : Write → Bool) (writes : List Write) → ((w : Write) → low < w.stamp.0 → p (carried_entry k w) ≡ false) → list_all (λ w. nat_lt low w.stamp.0) writes ≡ true
     → filter p (map (carried_entry k) (filter c writes)) ≡ []
 none_on_writes p k low c [] none e = refl
 none_on_writes p k low c (w ∷ writes) none e =
@@ -155,7 +155,7 @@ none_on_writes p k low c (w ∷ writes) none e =
 
 -- ---- the two lists
 
-is_write : Entry → Bool
+is_write : CarriedEntry → Bool
 is_write e = not (is_copy e)
 
 same_carried : (n cut low : ℕ) (past before later : List Event) (x : Event) → is_legal_next n past x ≡ true → are_legal n (past ++ x ∷ []) before ≡ true
@@ -194,7 +194,7 @@ none_kept low cut past [] above = refl
 none_kept low cut past (x ∷ later) above =
     let parts = and_parts (joins_above cut x) (list_all (joins_above cut) later) above in
     filter-append (is_between low cut) (filter (is_kept later) (carried_by past x)) (kept_writes (past ++ x ∷ []) later)
-    ∙ ap (λ (t : List Entry). t ++ filter (is_between low cut) (kept_writes (past ++ x ∷ []) later)) (filter_both (is_between low cut) (is_kept later) (carried_by past x) ∙ none_carried low cut past later x parts.0)
+    ∙ ap (λ (t : List CarriedEntry). t ++ filter (is_between low cut) (kept_writes (past ++ x ∷ []) later)) (filter_both (is_between low cut) (is_kept later) (carried_by past x) ∙ none_carried low cut past later x parts.0)
     ∙ none_kept low cut (past ++ x ∷ []) later parts.1
 
 group_is : (n cut low : ℕ) (past before later : List Event) → are_legal n past before ≡ true → list_all (joins_above cut) later ≡ true
@@ -209,19 +209,19 @@ group_is n cut low past (x ∷ before) later legal above kept low-is =
     let waits = waiting_in (past ++ x ∷ []) before in
     let later_writes = kept_writes (past ++ x ∷ []) (before ++ Form cut ∷ later) in
     let ih = group_is n cut low (past ++ x ∷ []) before later parts.1 above (kept_next n past x parts.0 kept) low-next in
-    let left_inner = filter-append (λ (e : Entry). nat_le e.stamp cut) (filter (still_waits before) carried) waits in
-    let left_outer = filter-append is_write (filter (λ (e : Entry). nat_le e.stamp cut) (filter (still_waits before) carried)) (filter (λ (e : Entry). nat_le e.stamp cut) waits) in
-    let left_tests = ap (filter is_write) (filter_both (λ (e : Entry). nat_le e.stamp cut) (still_waits before) carried) ∙ filter_both is_write (λ (e : Entry). nat_le e.stamp cut && still_waits before e) carried in
+    let left_inner = filter-append (λ (e : CarriedEntry). nat_le e.stamp cut) (filter (still_waits before) carried) waits in
+    let left_outer = filter-append is_write (filter (λ (e : CarriedEntry). nat_le e.stamp cut) (filter (still_waits before) carried)) (filter (λ (e : CarriedEntry). nat_le e.stamp cut) waits) in
+    let left_tests = ap (filter is_write) (filter_both (λ (e : CarriedEntry). nat_le e.stamp cut) (still_waits before) carried) ∙ filter_both is_write (λ (e : CarriedEntry). nat_le e.stamp cut && still_waits before e) carried in
     let right_outer = filter-append (is_between low cut) (filter (is_kept (before ++ Form cut ∷ later)) carried) later_writes in
     let right_tests = filter_both (is_between low cut) (is_kept (before ++ Form cut ∷ later)) carried in
     let same = same_carried n cut low past before later x parts.0 parts.1 kept low-next in
     ap (filter is_write) left_inner ∙ left_outer
-    ∙ ap (λ (t : List Entry). t ++ filter is_write (filter (λ (e : Entry). nat_le e.stamp cut) waits)) (left_tests ∙ same ∙ sym right_tests)
-    ∙ ap (λ (t : List Entry). filter (is_between low cut) (filter (is_kept (before ++ Form cut ∷ later)) carried) ++ t) ih
+    ∙ ap (λ (t : List CarriedEntry). t ++ filter is_write (filter (λ (e : CarriedEntry). nat_le e.stamp cut) waits)) (left_tests ∙ same ∙ sym right_tests)
+    ∙ ap (λ (t : List CarriedEntry). filter (is_between low cut) (filter (is_kept (before ++ Form cut ∷ later)) carried) ++ t) ih
     ∙ sym right_outer
 
 -- standing before, in numbers
-is_before : (a b : Entry) → comes_before a b ≡ true → (a.stamp < b.stamp) ⊎ ((a.stamp ≡ b.stamp) × (a.control < b.control))
+is_before : (a b : CarriedEntry) → comes_before a b ≡ true → (a.stamp < b.stamp) ⊎ ((a.stamp ≡ b.stamp) × (a.control < b.control))
 is_before a b e = elim (either_true (nat_lt a.stamp b.stamp) (nat_eq a.stamp b.stamp && nat_lt a.control b.control) e) [
   | inl lt ↦ inl (ltb-true a.stamp b.stamp lt)
   | inr both ↦
@@ -230,11 +230,11 @@ is_before a b e = elim (either_true (nat_lt a.stamp b.stamp) (nat_eq a.stamp b.s
 ]
 
 -- not standing before, in numbers
-record NotBefore (a b : Entry) : Type 0 where
+record NotBefore (a b : CarriedEntry) : Type 0 where
   stamps : b.stamp ≤ a.stamp
   controls : a.stamp ≡ b.stamp → b.control ≤ a.control
 
-not_before : (a b : Entry) → comes_before a b ≡ false → NotBefore a b
+not_before : (a b : CarriedEntry) → comes_before a b ≡ false → NotBefore a b
 not_before a b e =
     let parts = or_parts (nat_lt a.stamp b.stamp) (nat_eq a.stamp b.stamp && nat_lt a.control b.control) e in
     record {
@@ -245,7 +245,7 @@ not_before a b e =
       ];
     }
 
-stands_not : (a b : Entry) → NotBefore a b → comes_before a b ≡ false
+stands_not : (a b : CarriedEntry) → NotBefore a b → comes_before a b ≡ false
 stands_not a b h = elim (cases_Bool (nat_eq a.stamp b.stamp)) [
   | inl same ↦ or_from (nat_lt a.stamp b.stamp) (nat_eq a.stamp b.stamp && nat_lt a.control b.control) (le-ltb a.stamp b.stamp h.stamps)
       (and_right (nat_eq a.stamp b.stamp) (nat_lt a.control b.control) (le-ltb a.control b.control (h.controls (eqb-true a.stamp b.stamp same))))

@@ -4,16 +4,16 @@ use Rattle.std.specs.Prelude.{filter}
 use Rattle.std.proofs.lemmas.Bool.{and_from, ltb-true, le-leb}
 use Rattle.cut_core.specs.Events.{last_cut}
 use Rattle.cut_core.specs.Events.Event.{Form}
-use Rattle.cut_core.specs.Groups.{Entry, is_copy, waiting_in, comes_before}
+use Rattle.cut_core.specs.Groups.{CarriedEntry, is_copy, waiting_in, comes_before}
 use Rattle.cut_core.specs.Cuts.{CopiesAreBetween}
 use Rattle.cut_core.proofs.Filters.{all_filter, all_passing, all_order}
 use Rattle.cut_core.proofs.Legality.{legal_front}
 use Rattle.cut_core.proofs.Kept.{is_past, legal_kept}
 
-abbrev is_between : (low cut : ℕ) → Entry → Bool
+abbrev is_between : (low cut : ℕ) → CarriedEntry → Bool
 is_between low cut e = nat_le low e.stamp && nat_le e.stamp cut
 
-past_from : (low : ℕ) (e : Entry) → is_past low e ≡ true → nat_le low e.stamp ≡ true
+past_from : (low : ℕ) (e : CarriedEntry) → is_past low e ≡ true → nat_le low e.stamp ≡ true
 past_from low e is = choose (nat_lt low e.stamp) refl (is_copy e) is
   where
     choose : (t : Bool) → nat_lt low e.stamp ≡ t → (c : Bool) → (t || (c && nat_le low e.stamp)) ≡ true → nat_le low e.stamp ≡ true

@@ -7,7 +7,7 @@ use Rattle.std.proofs.lemmas.Bool.{and_parts, and_from, or_left, or_right, cases
 use Rattle.std.proofs.lemmas.List.Elements.{filter-append, filter_agree}
 use Rattle.cut_core.specs.Events.{Event, told_upto, floor, is_break_of, is_broken_after, is_form_at, is_done, cut_after, last_cut_from, last_cut}
 use Rattle.cut_core.specs.Events.Event.{Form}
-use Rattle.cut_core.specs.Groups.{Entry, carried_by, forms, drops, still_waits, waiting_in}
+use Rattle.cut_core.specs.Groups.{CarriedEntry, carried_by, forms, drops, still_waits, waiting_in}
 use Rattle.cut_core.proofs.Filters.{filter_both, filter_all, and_swap}
 
 -- ---- tests
@@ -113,7 +113,7 @@ done_form k t c (y ∷ past) e =
 -- ---- what waits
 
 -- an event neither forms nor drops the entry
-abbrev pub stays : Event → Entry → Bool
+abbrev pub stays : Event → CarriedEntry → Bool
 stays x e = not (forms e x) && not (drops e x)
 
 pub waiting_snoc : (before later : List Event) (x : Event) → waiting_in before (later ++ x ∷ []) ≡ filter (stays x) (waiting_in before later) ++ carried_by (before ++ later) x

@@ -7,8 +7,8 @@ use Rattle.std.proofs.lemmas.List.Folds.{list_all-append}
 use Rattle.ckd_track.specs.declared.write.Write.{Write}
 use Rattle.cut_core.specs.Events.{Event, told_upto, floor, is_break_of, is_broken_after, is_done, is_live, cut_after, last_cut}
 use Rattle.cut_core.specs.Events.Event.{Join, Copied, Break, Raise, Form, Drop, Carry, Resume, Forget}
-use Rattle.cut_core.specs.Groups.{Entry, carried_entry, is_copy, is_write_carried, carried_by, waiting_in}
-use Rattle.cut_core.specs.Legal.{are_in, is_below_floors, is_legal_next, are_legal}
+use Rattle.cut_core.specs.Groups.{CarriedEntry, carried_entry, is_copy, is_write_carried, carried_by, waiting_in}
+use Rattle.cut_core.specs.LegalHistories.{are_in, is_below_floors, is_legal_next, are_legal}
 use Rattle.cut_core.proofs.Filters.{all_filter, all_passing}
 use Rattle.cut_core.proofs.Legality.{joins, copies, forms_at, told}
 use Rattle.cut_core.proofs.Ends.{clash, either_true, all_snoc, floor_snoc, cut_snoc, not_done, done_more, breaks_at, stays, waiting_snoc}
@@ -19,7 +19,7 @@ abbrev pub IsAbove : (cut k : ℕ) → List Event → Type 0
 IsAbove cut k past = (is_done k past ≡ true) ⊎ (cut ≤ floor k past)
 
 -- a write's stamp is above the cut, and a copied track's not below it
-abbrev pub is_past : (cut : ℕ) → Entry → Bool
+abbrev pub is_past : (cut : ℕ) → CarriedEntry → Bool
 is_past cut e = nat_lt cut e.stamp || (is_copy e && nat_le cut e.stamp)
 
 pub record Kept (n : ℕ) (past : List Event) : Type 0 where
@@ -150,7 +150,7 @@ carried_past n past (Resume k v) legal kept = refl
 carried_past n past (Forget k v) legal kept = refl
 
 -- what a form leaves is above its cut
-left_past : (c : ℕ) (e : Entry) → stays (Form c) e ≡ true → is_past c e ≡ true
+left_past : (c : ℕ) (e : CarriedEntry) → stays (Form c) e ≡ true → is_past c e ≡ true
 left_past c e kept =
     let above = leb-false e.stamp c (not-true (nat_le e.stamp c) (and_parts (not (nat_le e.stamp c)) true kept).0) in
     rw (lt-ltb c e.stamp above) refl

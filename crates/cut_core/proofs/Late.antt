@@ -5,7 +5,7 @@ use Rattle.std.proofs.lemmas.Bool.{and_parts, and_from, ltb-true, lt-ltb}
 use Rattle.ckd_track.specs.declared.write.Write.{Write}
 use Rattle.cut_core.specs.Events.{Event, floor, cut_after, last_cut}
 use Rattle.cut_core.specs.Events.Event.{Join, Copied, Break, Raise, Form, Drop, Carry, Resume, Forget}
-use Rattle.cut_core.specs.Legal.{are_in, is_legal_next, are_legal}
+use Rattle.cut_core.specs.LegalHistories.{are_in, is_legal_next, are_legal}
 use Rattle.cut_core.specs.Cuts.{joins_above, NoLateWrite}
 use Rattle.cut_core.proofs.Legality.{joins, forms_at, legal_front, legal_after}
 use Rattle.cut_core.proofs.Ends.{cut_snoc}

@@ -2,8 +2,8 @@
 use Rattle.std.proofs.Common.{inl, inr, ◌≡◌, ℕ, zero, suc, ◌<◌, ◌≤◌, min, Bool, true, false, not, cond, nat_le, ◌&&◌, ◌||◌, List, refl, arith}
 use Rattle.std.proofs.lemmas.Bool.{and_from, not-true, le-leb}
 use Rattle.cut_core.specs.Events.{Event, floor, is_done, last_cut}
-use Rattle.cut_core.specs.Legal.{is_below_floors, least_floor}
-use Rattle.cut_core.specs.Least.{FloorsAreAbove, LeastIsLegal, LeastIsGreatest}
+use Rattle.cut_core.specs.LegalHistories.{is_below_floors, least_floor}
+use Rattle.cut_core.specs.LeastCuts.{FloorsAreAbove, LeastIsLegal, LeastIsGreatest}
 use Rattle.cut_core.proofs.Legality.{forms_at}
 use Rattle.cut_core.proofs.Ends.{clash}
 use Rattle.cut_core.proofs.Kept.{IsAbove, above_cut, legal_kept}

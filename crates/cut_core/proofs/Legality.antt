@@ -6,7 +6,7 @@ use Rattle.xrc_edge.specs.Order.{is_in_order}
 use Rattle.cut_core.specs.Events.{Event, floor, is_broken_after, last_cut}
 use Rattle.cut_core.specs.Events.Event.{Join, Copied, Form}
 use Rattle.cut_core.specs.Shares.{share}
-use Rattle.cut_core.specs.Legal.{are_in, may_tell, is_below_floors, is_legal_next, are_legal}
+use Rattle.cut_core.specs.LegalHistories.{are_in, may_tell, is_below_floors, is_legal_next, are_legal}
 use Rattle.ckd_track.specs.Writes.{is_earlier}
 
 -- it is one of the controls, hasn't broken, and tells no earlier time

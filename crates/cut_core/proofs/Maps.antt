@@ -10,7 +10,7 @@ use Rattle.cut_core.specs.Events.{Event}
 use Rattle.cut_core.specs.Events.Event.{Join, Copied, Break, Raise, Form, Drop, Carry, Resume, Forget}
 use Rattle.cut_core.specs.Shares.{Share, no_share, names_volume, share_write, share_writes, share_copied, share_drop, share_by, share}
 use Rattle.cut_core.specs.Groups.{waiting_in}
-use Rattle.cut_core.specs.Legal.{is_legal_next, are_legal}
+use Rattle.cut_core.specs.LegalHistories.{is_legal_next, are_legal}
 use Rattle.cut_core.specs.Waiting.{waits_on}
 use Rattle.cut_core.specs.Maps.{ends_drop, drops_all, joins_on, MapsHold}
 use Rattle.cut_core.proofs.Legality.{copies, legal_after}

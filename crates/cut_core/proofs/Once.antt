@@ -8,10 +8,10 @@ use Rattle.xrc_edge.proofs.OrderLaws.{order_stays}
 use Rattle.xrc_edge.proofs.Positions.{filter_order}
 use Rattle.cut_core.specs.Events.{Event, floor}
 use Rattle.cut_core.specs.Events.Event.{Join, Copied, Break, Raise, Form, Drop, Carry, Resume, Forget}
-use Rattle.cut_core.specs.Groups.{Entry, carried_by, forms, drops, waiting_in, comes_before, group}
-use Rattle.cut_core.specs.Legal.{is_legal_next, are_legal}
+use Rattle.cut_core.specs.Groups.{CarriedEntry, carried_by, forms, drops, waiting_in, comes_before, group}
+use Rattle.cut_core.specs.LegalHistories.{is_legal_next, are_legal}
 use Rattle.cut_core.specs.Cuts.{is_dropped_in}
-use Rattle.cut_core.specs.Once.{is_of_control, group_by, formed_in, kept_in, EachOnce}
+use Rattle.cut_core.specs.Fates.{is_of_control, group_by, formed_in, kept_in, EachOnce}
 use Rattle.cut_core.proofs.Filters.{filter_both, filter_swap}
 use Rattle.cut_core.proofs.Ends.{stays, waiting_snoc}
 use Rattle.cut_core.proofs.Kept.{Kept, kept_first, kept_next}
@@ -21,7 +21,7 @@ use Rattle.cut_core.proofs.Complete.{before_order}
 -- ---- a form takes the first of the entries
 
 -- entries above the cut: none is taken
-all_above : (k low high cut : ℕ) (d : Entry → Bool) (entries : List Entry) → cut < low → Rises k low high entries
+all_above : (k low high cut : ℕ) (d : CarriedEntry → Bool) (entries : List CarriedEntry) → cut < low → Rises k low high entries
     → (filter (λ e. nat_le e.stamp cut) entries ≡ []) × (filter (λ e. d e && not (nat_le e.stamp cut)) entries ≡ filter (λ e. nat_le e.stamp cut || d e) entries)
 all_above k low high cut d [] lt r = (refl, refl)
 all_above k low high cut d (e ∷ entries) lt r =
@@ -35,7 +35,7 @@ all_above k low high cut d (e ∷ entries) lt r =
     kept true h = ap (λ es. e ∷ es) h
     kept false h = h
 
-first_taken : (k low high cut : ℕ) (d : Entry → Bool) (entries : List Entry) → Rises k low high entries
+first_taken : (k low high cut : ℕ) (d : CarriedEntry → Bool) (entries : List CarriedEntry) → Rises k low high entries
     → filter (λ e. nat_le e.stamp cut) entries ++ filter (λ e. d e && not (nat_le e.stamp cut)) entries ≡ filter (λ e. nat_le e.stamp cut || d e) entries
 first_taken k low high cut d [] r = refl
 first_taken k low high cut d (e ∷ entries) r = elim (cases_Bool (nat_le e.stamp cut)) [
@@ -54,7 +54,7 @@ first_taken k low high cut d (e ∷ entries) r = elim (cases_Bool (nat_le e.stam
 -- ---- one more event
 
 -- the control's entries that later ones don't drop
-abbrev lasts : (k : ℕ) → List Event → Entry → Bool
+abbrev lasts : (k : ℕ) → List Event → CarriedEntry → Bool
 lasts k later e = is_of_control k e && not (is_dropped_in later e)
 
 quiet_test : (a d r : Bool) → ((a && not r) && (not false && not d)) ≡ (a && not (d || (not false && r)))
@@ -65,7 +65,7 @@ quiet_test true false false = refl
 quiet_test false d r = refl
 
 -- an event that forms nothing: what it drops is dropped
-quiet : (k : ℕ) (y : Event) (later : List Event) (w : List Entry) → ((e : Entry) → forms e y ≡ false) → filter (lasts k later) (filter (stays y) w) ≡ filter (lasts k (y ∷ later)) w
+quiet : (k : ℕ) (y : Event) (later : List Event) (w : List CarriedEntry) → ((e : CarriedEntry) → forms e y ≡ false) → filter (lasts k later) (filter (stays y) w) ≡ filter (lasts k (y ∷ later)) w
 quiet k y later w none =
     filter_both (lasts k later) (stays y) w
     ∙ filter_agree (λ e. lasts k later e && stays y e) (lasts k (y ∷ later)) (λ e. rw (none e) (quiet_test (is_of_control k e) (drops e y) (is_dropped_in later e))) w
@@ -91,8 +91,8 @@ formed : (k c : ℕ) (past later : List Event) → IsRising k past
     → filter (is_of_control k) (group past c) ++ filter (lasts k later) (filter (stays (Form c)) (waiting_in [] past)) ≡ filter (lasts k (Form c ∷ later)) (waiting_in [] past)
 formed k c past later r =
     let w = waiting_in [] past in
-    let upto : Entry → Bool = λ e. nat_le e.stamp c in
-    let kept : Entry → Bool = λ e. not (is_dropped_in later e) in
+    let upto : CarriedEntry → Bool = λ e. nat_le e.stamp c in
+    let kept : CarriedEntry → Bool = λ e. not (is_dropped_in later e) in
     let own = filter (is_of_control k) w in
     let first : filter (is_of_control k) (group past c) ≡ filter upto own =
     filter_order comes_before before_order (is_of_control k) (filter upto w) ∙ ap (in_order comes_before) (filter_swap (is_of_control k) upto w)
@@ -144,7 +144,7 @@ from_place n k past (y ∷ later) kept legal =
     ∙ regroup g left new rest
     ∙ ap (λ es. es ++ (new ++ rest)) (one_more k past later y (kept.rises k))
   where
-    regroup : (a b c d : List Entry) → a ++ ((b ++ c) ++ d) ≡ (a ++ b) ++ (c ++ d)
+    regroup : (a b c d : List CarriedEntry) → a ++ ((b ++ c) ++ d) ≡ (a ++ b) ++ (c ++ d)
     regroup a b c d = ap (λ es. a ++ es) (append_assoc b c d) ∙ sym (append_assoc a b (c ++ d))
 
 pub each_once : EachOnce

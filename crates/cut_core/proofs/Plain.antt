@@ -7,7 +7,7 @@ use Rattle.ckd_track.specs.declared.write.Write.{Write}
 use Rattle.cut_core.specs.Events.{Event}
 use Rattle.cut_core.specs.Events.Event.{Join, Copied, Break, Raise, Form, Drop, Carry, Resume, Forget}
 use Rattle.cut_core.specs.Shares.{Share, names_volume, share_write, share_writes, share_copied, share_drop, share_by}
-use Rattle.cut_core.specs.Groups.{Entry}
+use Rattle.cut_core.specs.Groups.{CarriedEntry}
 
 abbrev pub is_plain : Share → Bool
 is_plain s = not s.is_carried || (not s.is_dropped && not s.is_mapped)
@@ -55,11 +55,11 @@ not_none : (n : ℕ) → nat_eq (suc n) 0 ≡ false
 not_none n = elim (cases_Bool (nat_eq (suc n) 0)) [ inl same ↦ absurd (omega (arith, eqb-true (suc n) 0 same)) | inr other ↦ other ]
 
 -- whether anything waits on the track
-pub any_waits : (p : Entry → Bool) (entries : List Entry) → not (length (map (λ (e : Entry). e.stamp) (filter p entries)) == 0) ≡ list_any p entries
+pub any_waits : (p : CarriedEntry → Bool) (entries : List CarriedEntry) → not (length (map (λ (e : CarriedEntry). e.stamp) (filter p entries)) == 0) ≡ list_any p entries
 any_waits p [] = refl
 any_waits p (e ∷ entries) = choose (p e) (any_waits p entries)
   where
-    choose : (t : Bool) → not (length (map (λ (e : Entry). e.stamp) (filter p entries)) == 0) ≡ list_any p entries
-        → not (length (map (λ (e : Entry). e.stamp) (cond t (e ∷ filter p entries) (filter p entries))) == 0) ≡ (t || list_any p entries)
-    choose true h = rw (not_none (length (map (λ (e : Entry). e.stamp) (filter p entries)))) refl
+    choose : (t : Bool) → not (length (map (λ (e : CarriedEntry). e.stamp) (filter p entries)) == 0) ≡ list_any p entries
+        → not (length (map (λ (e : CarriedEntry). e.stamp) (cond t (e ∷ filter p entries) (filter p entries))) == 0) ≡ (t || list_any p entries)
+    choose true h = rw (not_none (length (map (λ (e : CarriedEntry). e.stamp) (filter p entries)))) refl
     choose false h = h

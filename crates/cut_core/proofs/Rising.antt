@@ -8,24 +8,24 @@ use Rattle.ckd_track.specs.declared.write.Write.{Write}
 use Rattle.xrc_edge.specs.Order.{is_in_order}
 use Rattle.cut_core.specs.Events.{Event, told_upto, floor}
 use Rattle.cut_core.specs.Events.Event.{Join, Copied, Break, Raise, Form, Drop, Carry, Resume, Forget}
-use Rattle.cut_core.specs.Groups.{Entry, carried_entry, copied_entry, is_write_carried, carried_by, waiting_in, comes_before}
-use Rattle.cut_core.specs.Legal.{are_in, is_legal_next}
-use Rattle.cut_core.specs.Once.{is_of_control}
+use Rattle.cut_core.specs.Groups.{CarriedEntry, carried_entry, copied_entry, is_write_carried, carried_by, waiting_in, comes_before}
+use Rattle.cut_core.specs.LegalHistories.{are_in, is_legal_next}
+use Rattle.cut_core.specs.Fates.{is_of_control}
 use Rattle.cut_core.proofs.Filters.{filter_swap}
 use Rattle.cut_core.proofs.Legality.{joins, copies}
 use Rattle.cut_core.proofs.Ends.{floor_snoc, stays, waiting_snoc}
 use Rattle.ckd_track.specs.Writes.{is_earlier}
 
 -- entries of the control whose stamps don't fall, from `low` to `high`
-abbrev pub Rises : (k low high : ℕ) → List Entry → Type 0
+abbrev pub Rises : (k low high : ℕ) → List CarriedEntry → Type 0
 Rises k low high [] = Unit {0}
 Rises k low high (e ∷ entries) = (e.control ≡ k) × ((low ≤ e.stamp) × ((e.stamp ≤ high) × Rises k e.stamp high entries))
 
-rises_from : (k low above high : ℕ) (entries : List Entry) → low ≤ above → Rises k above high entries → Rises k low high entries
+rises_from : (k low above high : ℕ) (entries : List CarriedEntry) → low ≤ above → Rises k above high entries → Rises k low high entries
 rises_from k low above high [] le r = tt
 rises_from k low above high (e ∷ entries) le r = (r.0, (omega (arith, le, r.1.0), r.1.1))
 
-rises_filter : (k low high : ℕ) (p : Entry → Bool) (entries : List Entry) → Rises k low high entries → Rises k low high (filter p entries)
+rises_filter : (k low high : ℕ) (p : CarriedEntry → Bool) (entries : List CarriedEntry) → Rises k low high entries → Rises k low high (filter p entries)
 rises_filter k low high p [] r = tt
 rises_filter k low high p (e ∷ entries) r = choose (p e) (rises_filter k e.stamp high p entries r.1.1.1)
   where
@@ -33,12 +33,12 @@ rises_filter k low high p (e ∷ entries) r = choose (p e) (rises_filter k e.sta
     choose true rest = (r.0, (r.1.0, (r.1.1.0, rest)))
     choose false rest = rises_from k low e.stamp high (filter p entries) r.1.0 rest
 
-rises_append : (k low mid high : ℕ) (xs ys : List Entry) → low ≤ mid → mid ≤ high → Rises k low mid xs → Rises k mid high ys → Rises k low high (xs ++ ys)
+rises_append : (k low mid high : ℕ) (xs ys : List CarriedEntry) → low ≤ mid → mid ≤ high → Rises k low mid xs → Rises k mid high ys → Rises k low high (xs ++ ys)
 rises_append k low mid high [] ys le up r s = rises_from k low mid high ys le s
 rises_append k low mid high (e ∷ xs) ys le up r s = (r.0, (r.1.0, (omega (arith, r.1.1.0, up), rises_append k e.stamp mid high xs ys r.1.1.0 up r.1.1.1 s)))
 
 -- such entries are in order
-none_before : (k high : ℕ) (a : Entry) (entries : List Entry) → a.control ≡ k → Rises k a.stamp high entries → list_all (λ b. not (comes_before b a)) entries ≡ true
+none_before : (k high : ℕ) (a : CarriedEntry) (entries : List CarriedEntry) → a.control ≡ k → Rises k a.stamp high entries → list_all (λ b. not (comes_before b a)) entries ≡ true
 none_before k high a [] is r = refl
 none_before k high a (b ∷ entries) is r =
     let lt : nat_lt b.stamp a.stamp ≡ false = le-ltb b.stamp a.stamp r.1.0 in
@@ -50,7 +50,7 @@ none_before k high a (b ∷ entries) is r =
     either true = refl
     either false = refl
 
-pub rises_order : (k low high : ℕ) (entries : List Entry) → Rises k low high entries → is_in_order comes_before entries ≡ true
+pub rises_order : (k low high : ℕ) (entries : List CarriedEntry) → Rises k low high entries → is_in_order comes_before entries ≡ true
 rises_order k low high [] r = refl
 rises_order k low high (e ∷ entries) r =
     and_from (list_all (λ b. not (comes_before b e)) entries) (is_in_order comes_before entries) (none_before k high e entries r.0 r.1.1.1) (rises_order k e.stamp high entries r.1.1.1)

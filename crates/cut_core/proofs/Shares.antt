@@ -7,7 +7,7 @@ use Rattle.ckd_track.specs.declared.write.Write.{Write}
 use Rattle.cut_core.specs.Events.{Event}
 use Rattle.cut_core.specs.Events.Event.{Join, Copied, Break, Raise, Form, Drop, Carry, Resume, Forget}
 use Rattle.cut_core.specs.Shares.{Share, no_share, names_volume, share_write, share_writes, share_copied, share_drop, share_by, share}
-use Rattle.cut_core.specs.Groups.{Entry, carried_entry, copied_entry, is_write_carried, carried_by, waiting_in}
+use Rattle.cut_core.specs.Groups.{CarriedEntry, carried_entry, copied_entry, is_write_carried, carried_by, waiting_in}
 use Rattle.cut_core.specs.Waiting.{waits_on}
 use Rattle.cut_core.proofs.Ends.{stays, waiting_snoc}
 use Rattle.cut_core.proofs.Waits.{stamps_on, stamps_append, moved, stays_all, stays_none, same_waiting}
@@ -71,7 +71,7 @@ others j k v x (w ∷ writes) e = rw e (others j k v x writes e)
 
 -- ---- one more event
 
-same_names : (j u k v x : ℕ) (e : Entry) → waits_on k v x e ≡ true → names_volume j u e.control e.volume ≡ names_volume j u k v
+same_names : (j u k v x : ℕ) (e : CarriedEntry) → waits_on k v x e ≡ true → names_volume j u e.control e.volume ≡ names_volume j u k v
 same_names j u k v x e on =
     let parts = and_parts (names_volume e.control e.volume k v) (e.track == x) on in
     let names = and_parts (e.control == k) (e.volume == v) parts.0 in
@@ -90,15 +90,15 @@ module _ (k v x : ℕ) (past : List Event) (h : Waits k v x past) where
   abbrev s : Share
   s = share k v x past
 
-  abbrev w : List Entry
+  abbrev w : List CarriedEntry
   w = waiting_in [] past
 
   -- what waits still waits
-  kept : (keep : Entry → Bool) → ((e : Entry) → waits_on k v x e ≡ true → keep e ≡ true) → s.waiting ≡ stamps_on k v x (filter keep w)
+  kept : (keep : CarriedEntry → Bool) → ((e : CarriedEntry) → waits_on k v x e ≡ true → keep e ≡ true) → s.waiting ≡ stamps_on k v x (filter keep w)
   kept keep all = h ∙ sym (stays_all k v x keep w all)
 
   -- and nothing is carried
-  quiet : (keep : Entry → Bool) → ((e : Entry) → waits_on k v x e ≡ true → keep e ≡ true) → s.waiting ≡ stamps_on k v x (filter keep w) ++ []
+  quiet : (keep : CarriedEntry → Bool) → ((e : CarriedEntry) → waits_on k v x e ≡ true → keep e ≡ true) → s.waiting ≡ stamps_on k v x (filter keep w) ++ []
   quiet keep all = kept keep all ∙ sym (append-nil (stamps_on k v x (filter keep w)))
 
   by_event : (y : Event) → (share_by k v x s y).waiting ≡ stamps_on k v x (filter (stays y) w) ++ stamps_on k v x (carried_by past y)
@@ -117,10 +117,10 @@ module _ (k v x : ℕ) (past : List Event) (h : Waits k v x past) where
       dropped false is = quiet (stays (Drop j u all)) (λ e on. rw (same_names j u k v x e on, is) refl)
   by_event (Copied j u y stamp) = copied (names_volume j u k v && y == x)
     where
-      e : Entry
+      e : CarriedEntry
       e = copied_entry j u y stamp
 
-      copied : (t : Bool) → (cond t (share_copied stamp s) s).waiting ≡ stamps_on k v x (filter (stays (Copied j u y stamp)) w) ++ map (λ (e : Entry). e.stamp) (cond t (e ∷ []) [])
+      copied : (t : Bool) → (cond t (share_copied stamp s) s).waiting ≡ stamps_on k v x (filter (stays (Copied j u y stamp)) w) ++ map (λ (e : CarriedEntry). e.stamp) (cond t (e ∷ []) [])
       copied true = ap (λ xs. xs ++ stamp ∷ []) (kept (stays (Copied j u y stamp)) (λ e on. refl))
       copied false = quiet (stays (Copied j u y stamp)) (λ e on. refl)
   by_event (Join b) = choose (nat_eq b.control k) refl

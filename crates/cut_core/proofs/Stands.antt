@@ -7,9 +7,9 @@ use Rattle.std.proofs.lemmas.Option.{slice_get_within, slice_get-get_or, slice_g
 use Rattle.ckd_track.specs.declared.write.Batch.{Batch}
 use Rattle.cut_core.specs.Events.{Event, told_upto, is_break_of, is_form_at, cut_after, last_cut}
 use Rattle.cut_core.specs.Events.Event.{Join, Break, Raise, Form}
-use Rattle.cut_core.specs.Legal.{is_legal_next, are_legal}
+use Rattle.cut_core.specs.LegalHistories.{is_legal_next, are_legal}
 use Rattle.cut_core.specs.declared.told.Told.{Told}
-use Rattle.cut_core.specs.Standing.{FloorsState, StandsAfter, told_after, told_after_form}
+use Rattle.cut_core.specs.Floors.{FloorsState, StandsAfter, told_after, told_after_form}
 use Rattle.cut_core.proofs.Legality.{Tells, legal_snoc}
 use Rattle.cut_core.proofs.Ends.{cut_snoc}
 use Rattle.cut_core.proofs.Kept.{legal_kept}

@@ -7,7 +7,7 @@ use Rattle.cut_core.specs.Events.Event.{Form}
 use Rattle.cut_core.proofs.Ends.{floor_snoc, broken_snoc, done_stays, done_form, not_done, breaks_at}
 use Rattle.cut_core.specs.declared.told.Phase.TheVariants.{Telling, Broken, Done}
 use Rattle.cut_core.specs.declared.told.Told.{Told}
-use Rattle.cut_core.specs.Standing.{told_after, told_after_form}
+use Rattle.cut_core.specs.Floors.{told_after, told_after_form}
 
 -- what is kept of a control, of its floor and of what is so of it
 abbrev pub as_told : ℕ → (done broken : Bool) → Told

@@ -3,9 +3,9 @@ use Rattle.std.specs.Prelude.{◌≡◌, ℕ, ◌&&◌, ◌||◌, not, List, [],
 use Rattle.std.specs.List.{list_all}
 use Rattle.xrc_edge.specs.Order.{in_order}
 use Rattle.cut_core.specs.Events.{Event, last_cut}
-use Rattle.cut_core.specs.Legal.{are_legal}
+use Rattle.cut_core.specs.LegalHistories.{are_legal}
 use Rattle.cut_core.specs.Events.Event.{Join, Form}
-use Rattle.cut_core.specs.Groups.{Entry, is_copy, carried_by, forms, drops, group, comes_before}
+use Rattle.cut_core.specs.Groups.{CarriedEntry, is_copy, carried_by, forms, drops, group, comes_before}
 
 -- ---- no later write
 
@@ -22,12 +22,12 @@ NoLateWrite = (controls : ℕ) (before later : List Event) (cut : ℕ) →
 -- ---- groups are complete
 
 -- whether a later drop takes the entry out, before a form takes it
-abbrev pub is_dropped_in : List Event → Entry → Bool
+abbrev pub is_dropped_in : List Event → CarriedEntry → Bool
 is_dropped_in [] e = false
 is_dropped_in (event ∷ later) e = drops e event || (not (forms e event) && is_dropped_in later e)
 
 -- the carried writes, joined anywhere, that weren't dropped
-abbrev pub kept_writes : (before later : List Event) → List Entry
+abbrev pub kept_writes : (before later : List Event) → List CarriedEntry
 kept_writes before [] = []
 kept_writes before (event ∷ later) =
     filter (λ e. not (is_copy e) && not (is_dropped_in later e)) (carried_by before event) ++ kept_writes (before ++ event ∷ []) later

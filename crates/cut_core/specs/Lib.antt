@@ -1,11 +1,11 @@
 pub mod Events
 pub mod Shares
 pub mod Groups
-pub mod Legal
+pub mod LegalHistories
 pub mod Cuts
-pub mod Least
+pub mod LeastCuts
 pub mod Waiting
 pub mod Maps
-pub mod Once
-pub mod Seen
-pub mod Standing
+pub mod Fates
+pub mod HistoryEvents
+pub mod Floors

@@ -5,7 +5,7 @@ use Rattle.cut_core.specs.Events.{Event}
 use Rattle.cut_core.specs.Events.Event.{Join, Drop, Carry, Resume, Forget}
 use Rattle.cut_core.specs.Shares.{names_volume, share}
 use Rattle.cut_core.specs.Groups.{waiting_in}
-use Rattle.cut_core.specs.Legal.{are_legal}
+use Rattle.cut_core.specs.LegalHistories.{are_legal}
 use Rattle.cut_core.specs.Waiting.{waits_on}
 
 -- an event by which a dropped volume is carried again or forgotten

@@ -3,9 +3,9 @@
 ghost use Rattle.std.specs.Prelude.{◌≡◌, ◌<◌, ◌≤◌, ◌∷◌, ◌++◌, [], List, ℕ, IsTrue, false, map, slice_set};
 ghost use Rattle.cut_core.specs.Events.{last_cut, Event as Happening};
 ghost use Rattle.cut_core.specs.Events.Event.{Drop};
-ghost use Rattle.cut_core.specs.Legal.{is_legal_next, least_floor};
-ghost use Rattle.cut_core.specs.Seen.{history_event};
-ghost use Rattle.cut_core.specs.Standing.{StandsAfter, told_to, told_after_form};
+ghost use Rattle.cut_core.specs.LegalHistories.{is_legal_next, least_floor};
+ghost use Rattle.cut_core.specs.HistoryEvents.{history_event};
+ghost use Rattle.cut_core.specs.Floors.{StandsAfter, told_to, told_after_form};
 
 use crate::event::Event;
 use crate::told::{Phase, Told};
@@ -23,7 +23,7 @@ pub struct Floors {
 impl Model for Floors {
     ghost use Rattle.std.specs.Prelude.{◌≤◌};
     ghost use Rattle.tod_stamp.specs.declared.limits.TheConstants.{MOST_CONTROLS};
-    ghost use Rattle.cut_core.specs.Standing.{FloorsState};
+    ghost use Rattle.cut_core.specs.Floors.{FloorsState};
 
     ghost Value = { FloorsState };
 

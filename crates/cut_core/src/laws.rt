@@ -1,9 +1,9 @@
 //! The theorem on cuts, and laws of histories and floors that no call states.
 
 ghost use Rattle.cut_core.specs.Cuts.{NoLateWrite, GroupsAreComplete, CopiesAreBetween};
-ghost use Rattle.cut_core.specs.Least.{FloorsAreAbove, LeastIsLegal, LeastIsGreatest};
+ghost use Rattle.cut_core.specs.LeastCuts.{FloorsAreAbove, LeastIsLegal, LeastIsGreatest};
 ghost use Rattle.cut_core.specs.Maps.{MapsHold};
-ghost use Rattle.cut_core.specs.Once.{EachOnce};
+ghost use Rattle.cut_core.specs.Fates.{EachOnce};
 
 /// The theorem on cuts. No write joins late: after a form, every joined write has a stamp above its cut. So the writes of a
 /// group are exactly the carried ones between its cuts that no drop took out, and a copied track of a group has a stamp from

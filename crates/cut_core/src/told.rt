@@ -1,7 +1,7 @@
 //! What is kept of one control.
 
 ghost use Rattle.std.specs.Prelude.{◌≡◌};
-ghost use Rattle.cut_core.specs.Standing.{told_after_form, lesser_floor};
+ghost use Rattle.cut_core.specs.Floors.{told_after_form, lesser_floor};
 
 use tod_stamp::Stamp;
 

@@ -7,11 +7,11 @@ use Rattle.pair_table.specs.declared.row.PairRow.{PairRow}
 use Rattle.write_trace.specs.declared.trace.Trace.{Trace}
 use Rattle.group_state.specs.Controls.{dropped}
 use Rattle.group_state.specs.Groups.{Group, Shown, with_control, cut_of, formed_at, shown_at}
-use Rattle.group_state.specs.Sound.{KeepsGroup}
+use Rattle.group_state.specs.SoundStates.{KeepsGroup}
 use Rattle.group_state.specs.Machine.{Call, Reply}
 use Rattle.group_state.specs.Machine.Call.{Join, NextWanted, Copied, Raise, Break, Form, Carry, Drop, Resume, Forget}
 use Rattle.group_state.specs.Runs.{Answer, shown_by}
-use Rattle.fed_logs.specs.Told.{HeldTracks, held_behind_group}
+use Rattle.fed_logs.specs.ToldTracks.{HeldTracks, held_behind_group}
 use Rattle.record_rows.specs.Deeds.{Deed, rows_behind, time_meant_behind}
 use Rattle.fed_logs.specs.Deeds.{held_behind}
 use Rattle.record_rows.specs.Deeds.Deed.{Logged, Changed, Marked}

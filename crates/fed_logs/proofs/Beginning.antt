@@ -14,10 +14,10 @@ use Rattle.write_trace.specs.declared.trace.Trace.{Trace}
 use Rattle.write_trace.specs.declared.trace.TraceEnd.TheVariants as ends
 use Rattle.write_trace.specs.Headers.{place_at, header_at, is_header_of, are_volumes, are_bases}
 use Rattle.write_trace.specs.Entries.{stamp_of, entry_at, write_at, kind_at}
-use Rattle.write_trace.specs.Good.{entries_from, after_header, trace_of, whole_trace}
-use Rattle.write_trace.specs.Unread.{seen}
+use Rattle.write_trace.specs.WholeTraces.{entries_from, after_header, trace_of, whole_trace}
+use Rattle.write_trace.specs.UnreadBytes.{seen}
 use Rattle.write_trace.specs.Answers.{ReaderState}
-use Rattle.sidefile.specs.Ahead.{ahead, entries_ahead}
+use Rattle.sidefile.specs.AheadEntries.{ahead, entries_ahead}
 use Rattle.sidefile.proofs.Turns.{no_turn, turn_err, turn_ok}
 use Rattle.sidefile.proofs.TraceLaws.{ahead_trace, given_trace}
 use Rattle.fed_logs.specs.LaneFeeds.{FeedState}

@@ -9,9 +9,9 @@ use Rattle.ckd_track.specs.declared.write.Cause.TheVariants.{ReadFault, BadTrace
 use Rattle.write_trace.specs.declared.entry.Entry.{Entry}
 use Rattle.sidefile.specs.declared.hand.Hand.TheVariants as hands
 use Rattle.sidefile.specs.declared.hand.Halt.{Halt}
-use Rattle.sidefile.specs.Ahead.{IsAhead, cause_ahead}
+use Rattle.sidefile.specs.AheadEntries.{IsAhead, cause_ahead}
 use Rattle.sidefile.specs.Breaks.{stamp}
-use Rattle.sidefile.specs.Exact.{Front, IsDue, runs_ahead}
+use Rattle.sidefile.specs.ExactHands.{SidefileFront, IsDue, runs_ahead}
 use Rattle.sidefile.specs.Hands.{batch_of, hand}
 use Rattle.sidefile.specs.States.{front_of}
 use Rattle.sidefile.proofs.HandLaws.{Step, step}
@@ -43,7 +43,7 @@ hand_below control limit cause all why upto is = choose (step control cause limi
         omega (arith, time, at, there)
 
 -- So is one that is due.
-due_below : (control limit : ℕ) (before now : Option (List ℕ)) (old new : Front) (cause : Cause) (upto : Stamp) → IsDue control limit before now old new (hands.Broken cause upto) → (bytes : List ℕ) → IsAhead old.reader before bytes
+due_below : (control limit : ℕ) (before now : Option (List ℕ)) (old new : SidefileFront) (cause : Cause) (upto : Stamp) → IsDue control limit before now old new (hands.Broken cause upto) → (bytes : List ℕ) → IsAhead old.reader before bytes
     → upto.0 < break_bound limit
 due_below control limit before now old new ReadFault upto due bytes there =
     let f = due bytes there in

@@ -14,13 +14,13 @@ use Rattle.group_state.specs.declared.phase.Phase.{Phase}
 use Rattle.group_state.specs.declared.phase.Phase.TheVariants.{Telling, Broken, Reported}
 use Rattle.group_state.specs.Controls.{ControlState, counts, is_telling, phase_after, joined, copied, raised, broke, dropped}
 use Rattle.group_state.specs.Groups.{Group, control_at, with_control, cut_of, formed_at, shown_at}
-use Rattle.group_state.specs.Sound.{KeepsGroup, has_told}
+use Rattle.group_state.specs.SoundStates.{KeepsGroup, has_told}
 use Rattle.group_state.specs.Machine.{Call, Reply}
 use Rattle.group_state.specs.Machine.Call.{Join, NextWanted, Copied, Raise, Break, Form, Carry, Drop, Resume, Forget}
 use Rattle.group_state.specs.Runs.{Answer, May}
 use Rattle.group_state.proofs.FormLaws.{all_at}
 use Rattle.group_state.proofs.Kept.{kept_form}
-use Rattle.fed_logs.specs.Told.{floor_of, has_changed}
+use Rattle.fed_logs.specs.ToldTracks.{floor_of, has_changed}
 use Rattle.fed_logs.proofs.Keeping.{at_map, told_to_last}
 use Rattle.record_rows.specs.Deeds.{Deed, time_meant_behind}
 use Rattle.record_rows.specs.Deeds.Deed.{Logged, Changed, Marked}

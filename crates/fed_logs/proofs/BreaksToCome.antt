@@ -16,7 +16,7 @@ use Rattle.group_state.specs.Machine.{Call, Reply}
 use Rattle.group_state.specs.Machine.Call.{Join, NextWanted, Copied, Raise, Break, Form, Carry, Drop, Resume, Forget}
 use Rattle.group_state.specs.Runs.{Answer, May}
 use Rattle.group_state.proofs.Stands.{new_at}
-use Rattle.fed_logs.specs.Told.{floor_of, has_changed}
+use Rattle.fed_logs.specs.ToldTracks.{floor_of, has_changed}
 use Rattle.fed_logs.proofs.Keeping.{at_map}
 use Rattle.fed_logs.specs.Feeds.{IsFedBy, is_call_of_reader}
 use Rattle.fed_logs.specs.Logs.{IsFedLog, is_call_of_seat}

@@ -9,7 +9,7 @@ use Rattle.ckd_track.specs.declared.rec.Rec.{Rec}
 use Rattle.ckd_track.specs.declared.write.Batch.{Batch}
 use Rattle.ckd_track.specs.declared.write.Write.{Write}
 use Rattle.ckd_track.specs.Effects.{apply}
-use Rattle.cut_core.specs.Legal.{are_in}
+use Rattle.cut_core.specs.LegalHistories.{are_in}
 use Rattle.change_map.specs.Sets.{has_track}
 use Rattle.copy_plan.specs.Plans.{PlanState}
 use Rattle.pending_queue.specs.Entries.{WaitingEntry, entry_stamp, entry_of, entries_of, copy_of, copy_head, due, left, is_of_volume, without_volume, entry_tracks, is_queued_on}
@@ -20,9 +20,9 @@ use Rattle.group_state.specs.declared.phase.Phase.{Phase}
 use Rattle.group_state.specs.declared.volume.Volume.{Volume}
 use Rattle.group_state.specs.Volumes.{passes, carries, volume_of, is_carried, wants}
 use Rattle.group_state.specs.Controls.{ControlState, carried_writes, joined, copied, dropped, formed, begun_volume, resumed, forgotten}
-use Rattle.group_state.specs.Sound.{Sound, MayTell, MayJoin, is_dropped}
+use Rattle.group_state.specs.SoundStates.{Sound, MayTell, MayJoin, is_dropped}
 use Rattle.group_state.proofs.SoundLaws.{all_filter}
-use Rattle.fed_logs.specs.Told.{after_entries, is_queued_up_to, is_write_up_to, is_no_later_copy, has_no_later_copy, HoldsTold}
+use Rattle.fed_logs.specs.ToldTracks.{after_entries, is_queued_up_to, is_write_up_to, is_no_later_copy, has_no_later_copy, HoldsTold}
 use Rattle.fed_logs.proofs.Entries.{changed_append, changed_none, changed_filter, up_to_later}
 use Rattle.fed_logs.proofs.Tracks.{settled_in, settled_carries, settled_writes, settled_copies, settled_copied, settled_dropped, settled_begun, settled_resumed, settled_forgotten}
 

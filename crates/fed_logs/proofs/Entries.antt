@@ -6,7 +6,7 @@ use Rattle.std.proofs.lemmas.Bool.{and_parts, leb-true, le-leb}
 use Rattle.ckd_track.specs.declared.rec.Rec.{Rec}
 use Rattle.pending_queue.specs.Entries.{WaitingEntry, entry_stamp}
 use Rattle.image_former.specs.Changes.{changed_by}
-use Rattle.fed_logs.specs.Told.{after_entries, is_queued_up_to}
+use Rattle.fed_logs.specs.ToldTracks.{after_entries, is_queued_up_to}
 
 pub changed_append : (on : WaitingEntry → Bool) (xs ys : List WaitingEntry) (old : Option (List Rec)) → after_entries on (xs ++ ys) old ≡ after_entries on ys (after_entries on xs old)
 changed_append on [] ys old = refl

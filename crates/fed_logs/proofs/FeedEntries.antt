@@ -18,7 +18,7 @@ use Rattle.sidefile.specs.Breaks.{break_after, break_in, is_below}
 use Rattle.sidefile.specs.Looks.{have_stamp}
 use Rattle.sidefile.proofs.HandLaws.{IsAbove, first_stamp}
 use Rattle.sidefile.proofs.RunLaws.{runs_are_all, begins, run_at_end}
-use Rattle.fed_logs.specs.Told.{is_write_up_to}
+use Rattle.fed_logs.specs.ToldTracks.{is_write_up_to}
 use Rattle.fed_logs.specs.Feeds.{is_between}
 use Rattle.fed_logs.specs.Reads.{do_rise, is_up_to}
 

@@ -13,8 +13,8 @@ use Rattle.sidefile.specs.declared.hand.Hand.{Hand}
 use Rattle.sidefile.specs.declared.hand.Hand.TheVariants as hands
 use Rattle.sidefile.specs.Runs.{quota, run_stamp, runs, is_crowded}
 use Rattle.sidefile.specs.Breaks.{break_in, cause_of, stamp}
-use Rattle.sidefile.specs.Ahead.{ahead, cause_ahead}
-use Rattle.sidefile.specs.Exact.{IsHand, LeavesRuns}
+use Rattle.sidefile.specs.AheadEntries.{ahead, cause_ahead}
+use Rattle.sidefile.specs.ExactHands.{IsHand, LeavesRuns}
 use Rattle.sidefile.specs.Hands.{batch_of, broken, hand, left_after}
 use Rattle.sidefile.specs.States.{SidefileState, front_of}
 use Rattle.sidefile.proofs.HandLaws.{Step, step, GoesTo, IsAbove, first_stamp}

@@ -6,10 +6,10 @@ use Rattle.ckd_track.specs.declared.write.Cause.{Cause}
 use Rattle.write_trace.specs.declared.trace.Trace.{Trace}
 use Rattle.sidefile.specs.declared.hand.Halt.{Halt}
 use Rattle.sidefile.specs.declared.hand.Halt.TheVariants as halts
-use Rattle.sidefile.specs.Ahead.{IsAhead}
+use Rattle.sidefile.specs.AheadEntries.{IsAhead}
 use Rattle.group_state.specs.Calls.{telling_after}
 use Rattle.group_state.specs.Runs.{Answer}
-use Rattle.fed_logs.specs.Told.{has_changed}
+use Rattle.fed_logs.specs.ToldTracks.{has_changed}
 use Rattle.fed_logs.specs.Feeds.{AreFedBy, IsFedBy, floor_behind}
 use Rattle.fed_logs.specs.LaneFeeds.{FeedState, floor_behind_calls, telling_behind_calls}
 use Rattle.fed_logs.specs.Reads.{Outlook, HasRead, AreLeft, StandsSo, MayTurnOutOf, IsToFailIn, IsStillToCome, ReadsBytes, ReadsOn}

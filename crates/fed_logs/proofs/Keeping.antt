@@ -14,15 +14,15 @@ use Rattle.group_state.specs.declared.phase.Phase.TheVariants.{Telling, Broken, 
 use Rattle.group_state.specs.Volumes.{is_wanted}
 use Rattle.group_state.specs.Controls.{ControlState, new_control, is_telling, counts, lesser, fits, fits_track, room_of, joined, copied, raised, broke, begun_volume, dropped, resumed, forgotten, formed}
 use Rattle.group_state.specs.Groups.{Group, control_at, with_control, cut_of, formed_at, shown_at, gives_nothing}
-use Rattle.group_state.specs.Sound.{Sound, has_told, KeepsGroup}
-use Rattle.group_state.specs.Machine.{Call, copy_reply, reply_to, group_after}
+use Rattle.group_state.specs.SoundStates.{Sound, has_told, KeepsGroup}
+use Rattle.group_state.specs.Machine.{Call, reply_to_copied, reply_to, group_after}
 use Rattle.group_state.specs.Machine.Call.{Join, NextWanted, Copied, Raise, Break, Form, Carry, Drop, Resume, Forget}
 use Rattle.group_state.specs.Machine.Reply.{Joined, Held, Formed, Nothing}
 use Rattle.group_state.specs.Runs.{May}
 use Rattle.group_state.proofs.FormLaws.{all_at}
 use Rattle.group_state.proofs.Kept.{kept_form}
 use Rattle.group_state.proofs.OwnParts.{own_part}
-use Rattle.fed_logs.specs.Told.{Truth, HeldTracks, TellsTruth, HoldsTold, AllHold, has_changed, after_entries, is_queued_up_to, held_behind_group, held_after}
+use Rattle.fed_logs.specs.ToldTracks.{Truth, HeldTracks, TellsTruth, HoldsTold, AllHold, has_changed, after_entries, is_queued_up_to, held_behind_group, held_after}
 use Rattle.fed_logs.specs.ToldLaws.{StepsKeep, DoneIsTold}
 use Rattle.fed_logs.proofs.Controls.{joins, copies_in, tells_upto, drops, forms, begins, resumes, forgets}
 use Rattle.fed_logs.proofs.Parts.{names_own}
@@ -109,7 +109,7 @@ call_keeps truth held s (Join b) keeps may tells all = choose (fits (control_at 
 call_keeps truth held s (NextWanted k) keeps may tells all = all
 call_keeps truth held s (Copied k v x at recs) keeps may tells all = choose (is_wanted v x (control_at s k).volumes) (fits_track (control_at s k) recs) tells
   where
-    choose : (t u : Bool) → (IsTrue (has_changed (copy_reply t u (room_of (control_at s k)))) → TellsTruth truth s (Copied k v x at recs)) → AllHold truth (held_after (copy_reply t u (room_of (control_at s k))) held) (cond (t && u) (with_control k (copied v x at recs) s) s)
+    choose : (t u : Bool) → (IsTrue (has_changed (reply_to_copied t u (room_of (control_at s k)))) → TellsTruth truth s (Copied k v x at recs)) → AllHold truth (held_after (reply_to_copied t u (room_of (control_at s k))) held) (cond (t && u) (with_control k (copied v x at recs) s) s)
     choose true true tells = one truth held s k (copied v x at recs) (λ low. copies_in (truth k) s.last.0 (held k) (control_at s k) v x at recs (sound_at s k keeps low) may.1.floor (tells refl) (all k low)) all
     choose true false tells = all
     choose false u tells = all

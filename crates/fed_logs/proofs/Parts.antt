@@ -4,8 +4,8 @@ use Rattle.std.specs.Prelude.{filter}
 use Rattle.ckd_track.specs.declared.rec.Rec.{Rec}
 use Rattle.pending_queue.specs.Entries.{WaitingEntry, is_queued_on}
 use Rattle.image_former.specs.Changes.{changed_by}
-use Rattle.group_state.specs.Sound.{is_entry_of_control}
-use Rattle.fed_logs.specs.Told.{after_entries, names_track}
+use Rattle.group_state.specs.SoundStates.{is_entry_of_control}
+use Rattle.fed_logs.specs.ToldTracks.{after_entries, names_track}
 
 -- Of a control's tracks only its own entries are.
 pub names_own : (k v x : ℕ) (entries : List WaitingEntry) (old : Option (List Rec)) → after_entries (names_track k v x) entries old ≡ after_entries (is_queued_on v x) (filter (is_entry_of_control k) entries) old

@@ -13,13 +13,13 @@ use Rattle.group_state.specs.declared.volume.Volume.{Volume}
 use Rattle.group_state.specs.Volumes.{volume_of, passes, wants}
 use Rattle.group_state.specs.Controls.{ControlState, joined, copied, raised, broke, dropped}
 use Rattle.group_state.specs.Groups.{Group, control_at, with_control, cut_of, formed_at, shown_at}
-use Rattle.group_state.specs.Sound.{passes_or_none}
+use Rattle.group_state.specs.SoundStates.{passes_or_none}
 use Rattle.group_state.specs.Machine.{Call, Reply, steps}
 use Rattle.group_state.specs.Machine.Call.{Join, NextWanted, Copied, Raise, Break, Form, Carry, Drop, Resume, Forget}
 use Rattle.group_state.specs.Machine.Reply.{Made, Joined, Held, Stale, Wanted, Formed, Nothing, Owed}
 use Rattle.group_state.specs.Runs.{Answer, Runs, May}
 use Rattle.group_state.proofs.Kept.{kept_form}
-use Rattle.fed_logs.specs.Told.{HeldTracks, AllHold, TellsTruth, floor_of, has_changed, is_no_later_copy, has_no_later_copy, is_track_settled, held_behind_group, held_after}
+use Rattle.fed_logs.specs.ToldTracks.{HeldTracks, AllHold, TellsTruth, floor_of, has_changed, is_no_later_copy, has_no_later_copy, is_track_settled, held_behind_group, held_after}
 use Rattle.fed_logs.proofs.Keeping.{at_map, form_keeps, steps_keep, done_is_told}
 use Rattle.record_rows.specs.Deeds.{Deed}
 use Rattle.record_rows.specs.Deeds.Deed.{Logged, Changed, Marked}

@@ -16,7 +16,7 @@ use Rattle.group_state.specs.declared.volume.Volume.{Volume}
 use Rattle.group_state.specs.Volumes.{is_numbered, volume_of, has_volume, passes, wants, is_volume_done}
 use Rattle.group_state.specs.Controls.{ControlState, new_control, counts, is_telling, reported, reported_cause, reported_break, phase_after, formed, done_of}
 use Rattle.group_state.specs.Groups.{Group, control_at, formed_at, shown_at}
-use Rattle.group_state.specs.Sound.{Sound, KeepsGroup, are_distinct, passes_or_none, has_joined}
+use Rattle.group_state.specs.SoundStates.{Sound, KeepsGroup, are_distinct, passes_or_none, has_joined}
 use Rattle.group_state.specs.HistoryLaws.{is_named}
 use Rattle.group_state.proofs.SoundLaws.{count_cons}
 use Rattle.group_state.proofs.FormLaws.{sound_formed}

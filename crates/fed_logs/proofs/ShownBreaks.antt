@@ -15,14 +15,14 @@ use Rattle.group_state.specs.declared.phase.Phase.TheVariants.{Telling, Broken, 
 use Rattle.group_state.specs.Calls.{is_by_reader}
 use Rattle.group_state.specs.Controls.{ControlState, new_control, is_telling, reported, reported_break, reported_cause, phase_after, formed, joined, copied, raised, broke, begun_volume, dropped, resumed, forgotten}
 use Rattle.group_state.specs.Groups.{Group, Shown, control_at, cut_of, formed_at, new_controls, shown_at, with_control}
-use Rattle.group_state.specs.Sound.{KeepsGroup}
+use Rattle.group_state.specs.SoundStates.{KeepsGroup}
 use Rattle.group_state.specs.Machine.{Call, Reply}
 use Rattle.group_state.specs.Machine.Call.{Join, NextWanted, Copied, Raise, Break, Form, Carry, Drop, Resume, Forget}
 use Rattle.group_state.specs.Machine.Reply.{Made, Joined, Held, Stale, Wanted, Formed, Nothing, Owed}
 use Rattle.group_state.specs.Runs.{Answer, May, shown_by}
 use Rattle.group_state.proofs.OwnParts.{control_number}
 use Rattle.row_changes.specs.Changes.{break_time_of, is_at}
-use Rattle.fed_logs.specs.Told.{floor_of, has_changed}
+use Rattle.fed_logs.specs.ToldTracks.{floor_of, has_changed}
 use Rattle.fed_logs.proofs.Keeping.{at_map}
 use Rattle.record_rows.specs.GroupRows.{is_break_at}
 use Rattle.fed_logs.specs.Feeds.{IsFedBy, is_call_of_reader}

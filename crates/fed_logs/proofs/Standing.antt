@@ -18,7 +18,7 @@ use Rattle.group_state.specs.declared.volume.Volume.{Volume}
 use Rattle.group_state.specs.Volumes.{volume_of, with_volume, passes, wants, is_wanted, noted_write, with_write, with_writes, copied_track, formed_track, with_formed_copy, with_formed_copies, dropped_volume}
 use Rattle.group_state.specs.Controls.{ControlState, new_control, counts, carried_writes, joined, copied, raised, broke, dropped, formed}
 use Rattle.group_state.specs.Groups.{Group, control_at, with_control, cut_of, formed_at, shown_at}
-use Rattle.group_state.specs.Sound.{KeepsGroup, passes_or_none}
+use Rattle.group_state.specs.SoundStates.{KeepsGroup, passes_or_none}
 use Rattle.group_state.specs.Machine.{Call, Reply}
 use Rattle.group_state.specs.Runs.{May}
 use Rattle.group_state.proofs.VolumeLaws.{Keeps, same_or_none}

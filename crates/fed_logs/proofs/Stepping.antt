@@ -23,12 +23,12 @@ use Rattle.sidefile.specs.declared.hand.Halt.{Halt}
 use Rattle.sidefile.specs.declared.hand.Halt.TheVariants as halts
 use Rattle.sidefile.specs.Runs.{runs}
 use Rattle.sidefile.specs.Breaks.{Break, break_in, break_of, cause_of, has_broken, is_below}
-use Rattle.sidefile.specs.Ahead.{IsAhead, IsFault, ahead, cause_ahead}
-use Rattle.sidefile.specs.Exact.{IsHand, LeavesRuns}
+use Rattle.sidefile.specs.AheadEntries.{IsAhead, IsFault, ahead, cause_ahead}
+use Rattle.sidefile.specs.ExactHands.{IsHand, LeavesRuns}
 use Rattle.sidefile.specs.Hands.{hand}
 use Rattle.sidefile.specs.States.{SidefileState, front_of}
 use Rattle.group_state.specs.Runs.{Answer}
-use Rattle.fed_logs.specs.Told.{has_changed, is_write_up_to}
+use Rattle.fed_logs.specs.ToldTracks.{has_changed, is_write_up_to}
 use Rattle.fed_logs.specs.Feeds.{AreFedBy, IsBatchOf, entries_between, is_between}
 use Rattle.fed_logs.specs.LaneFeeds.{FeedState}
 use Rattle.fed_logs.specs.Reads.{Outlook, IsHeldRun, HasRead, HasTracksAt, HasBroken, MayTurnOut, IsToFail, IsStillToCome, StandsSo, Went, AreLeft, ReadsBytes, do_rise, is_up_to}

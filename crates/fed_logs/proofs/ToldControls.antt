@@ -8,10 +8,10 @@ use Rattle.group_state.specs.Calls.{is_by_reader, telling_after}
 use Rattle.group_state.specs.Volumes.{is_wanted}
 use Rattle.group_state.specs.Controls.{ControlState, is_telling, phase_after, fits, fits_track, room_of, joined, copied, raised, broke, begun_volume, dropped, resumed, forgotten}
 use Rattle.group_state.specs.Groups.{Group, control_at, with_control, cut_of}
-use Rattle.group_state.specs.Machine.{Call, Reply, copy_reply, reply_to, group_after, steps}
+use Rattle.group_state.specs.Machine.{Call, Reply, reply_to_copied, reply_to, group_after, steps}
 use Rattle.group_state.specs.Machine.Call.{Join, NextWanted, Copied, Raise, Break, Form, Carry, Drop, Resume, Forget}
 use Rattle.group_state.specs.Machine.Reply.{Made, Joined, Held, Stale}
-use Rattle.fed_logs.specs.Told.{floor_of, has_changed}
+use Rattle.fed_logs.specs.ToldTracks.{floor_of, has_changed}
 use Rattle.fed_logs.proofs.Keeping.{at_map}
 use Rattle.fed_logs.specs.Feeds.{floor_behind, is_answer_of, part_of_reader}
 use Rattle.fed_logs.proofs.Standing.{at_with, same_count, formed_count}
@@ -84,7 +84,7 @@ module _ (k : ℕ) (s : Group) (low : k < length s.controls) where
   told_by (NextWanted j) = by_none (NextWanted j) (reply_to s (NextWanted j)) refl refl
   told_by (Copied j v x at slot) = choose (is_wanted v x (control_at s j).volumes) (fits_track (control_at s j) slot)
     where
-      choose : (t u : Bool) → IsToldSo k s (cond (t && u) (with_control j (copied v x at slot) s) s) (Copied j v x at slot) (copy_reply t u (room_of (control_at s j)))
+      choose : (t u : Bool) → IsToldSo k s (cond (t && u) (with_control j (copied v x at slot) s) s) (Copied j v x at slot) (reply_to_copied t u (room_of (control_at s j)))
       choose true true = by_reader j (copied v x at slot) (Copied j v x at slot) Joined refl refl refl refl
       choose true false = by_none (Copied j v x at slot) (Held (room_of (control_at s j))) refl refl
       choose false u = by_none (Copied j v x at slot) Stale refl refl

@@ -13,9 +13,9 @@ use Rattle.pending_queue.specs.Entries.{WaitingEntry}
 use Rattle.pending_queue.specs.Maps.{with_tracks}
 use Rattle.group_state.specs.declared.volume.Volume.{Volume}
 use Rattle.group_state.specs.Volumes.{is_numbered, volume_of, with_volume, passes, carries, wants, noted_write, with_write, with_writes, copied_track, formed_track, with_formed_copy, with_formed_copies, dropped_volume, begun, resumed_volume, without_number, has_volume}
-use Rattle.group_state.specs.Sound.{are_distinct}
+use Rattle.group_state.specs.SoundStates.{are_distinct}
 use Rattle.group_state.proofs.VolumeLaws.{Keeps, found_with}
-use Rattle.fed_logs.specs.Told.{is_track_settled}
+use Rattle.fed_logs.specs.ToldTracks.{is_track_settled}
 
 abbrev pub settled_in : (volume track : ℕ) → List Volume → Bool
 settled_in v x volumes = passes (is_track_settled x) (volume_of v volumes)

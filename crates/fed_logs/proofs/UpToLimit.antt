@@ -12,7 +12,7 @@ use Rattle.write_trace.specs.Entries.{stamp_of}
 use Rattle.sidefile.specs.declared.hand.Hand.TheVariants as hands
 use Rattle.sidefile.specs.declared.hand.Halt.{Halt}
 use Rattle.sidefile.specs.declared.hand.Halt.TheVariants as halts
-use Rattle.sidefile.specs.Ahead.{IsAhead, ahead}
+use Rattle.sidefile.specs.AheadEntries.{IsAhead, ahead}
 use Rattle.sidefile.specs.Breaks.{cause_of}
 use Rattle.sidefile.specs.Runs.{runs}
 use Rattle.sidefile.specs.States.{SidefileState}

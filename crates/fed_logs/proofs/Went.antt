@@ -7,11 +7,11 @@ use Rattle.ckd_track.specs.declared.write.Cause.{Cause}
 use Rattle.group_state.specs.Volumes.{is_wanted, next_wanted}
 use Rattle.group_state.specs.Controls.{fits, fits_track, room_of, joined, copied, raised, broke}
 use Rattle.group_state.specs.Groups.{Group, control_at, with_control, cut_of, shown_at, gives_nothing}
-use Rattle.group_state.specs.Machine.{Call, Reply, copy_reply, reply_to, group_after, steps}
+use Rattle.group_state.specs.Machine.{Call, Reply, reply_to_copied, reply_to, group_after, steps}
 use Rattle.group_state.specs.Machine.Call.{Join, NextWanted, Copied, Raise, Break, Form, Carry, Drop, Resume, Forget}
 use Rattle.group_state.specs.Machine.Reply.{Made, Joined, Held, Stale, Wanted, Formed, Nothing}
 use Rattle.group_state.specs.Runs.{shown_by}
-use Rattle.fed_logs.specs.Told.{has_changed}
+use Rattle.fed_logs.specs.ToldTracks.{has_changed}
 use Rattle.fed_logs.specs.Feeds.{is_call_of_reader}
 
 -- a reader's call
@@ -31,7 +31,7 @@ went_made s (Join b) reads = choose (fits (control_at s b.control) b)
 went_made s (NextWanted k) reads = Same (NextWanted k) (Wanted (next_wanted (control_at s k).volumes)) refl
 went_made s (Copied k v x at slot) reads = choose (is_wanted v x (control_at s k).volumes) refl (fits_track (control_at s k) slot)
   where
-    choose : (t : Bool) → is_wanted v x (control_at s k).volumes ≡ t → (u : Bool) → WentRead s (Copied k v x at slot) (copy_reply t u (room_of (control_at s k))) (cond (t && u) (with_control k (copied v x at slot) s) s)
+    choose : (t : Bool) → is_wanted v x (control_at s k).volumes ≡ t → (u : Bool) → WentRead s (Copied k v x at slot) (reply_to_copied t u (room_of (control_at s k))) (cond (t && u) (with_control k (copied v x at slot) s) s)
     choose true is true = Copies k v x at slot is
     choose true is false = Same (Copied k v x at slot) (Held (room_of (control_at s k))) refl
     choose false is u = Same (Copied k v x at slot) Stale refl

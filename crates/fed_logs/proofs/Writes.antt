@@ -16,7 +16,7 @@ use Rattle.primary_ctl.specs.States.{base_in, after_writes}
 use Rattle.primary_ctl.specs.Primaries.{primary, none_falls}
 use Rattle.primary_ctl.proofs.OwnWrites.{own_writes}
 use Rattle.group_state.specs.Machine.Call.{Join, NextWanted, Copied, Raise, Break, Form, Carry, Drop, Resume, Forget}
-use Rattle.fed_logs.specs.Told.{floor_of, is_write_up_to}
+use Rattle.fed_logs.specs.ToldTracks.{floor_of, is_write_up_to}
 use Rattle.fed_logs.specs.Feeds.{entries_between, is_between}
 use Rattle.fed_logs.specs.LogLaws.{FedTellTruth}
 

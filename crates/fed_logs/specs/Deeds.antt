@@ -2,7 +2,7 @@
 use Rattle.std.specs.Prelude.{List, [], ◌∷◌}
 use Rattle.record_rows.specs.Deeds.{Deed}
 use Rattle.record_rows.specs.Deeds.Deed.{Logged, Changed, Marked}
-use Rattle.fed_logs.specs.Told.{HeldTracks, held_behind_group}
+use Rattle.fed_logs.specs.ToldTracks.{HeldTracks, held_behind_group}
 
 -- what is held of each track behind a deed
 abbrev pub held_by_deed : HeldTracks → Deed → HeldTracks

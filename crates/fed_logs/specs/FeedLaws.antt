@@ -4,15 +4,15 @@ use Rattle.tod_stamp.specs.declared.stamp.Stamp.{Stamp}
 use Rattle.write_trace.specs.declared.header.Header.{Header}
 use Rattle.write_trace.specs.declared.trace.Trace.{Trace}
 use Rattle.write_trace.specs.Answers.{ReaderState}
-use Rattle.write_trace.specs.Good.{trace_of}
+use Rattle.write_trace.specs.WholeTraces.{trace_of}
 use Rattle.write_trace.specs.Starts.{ReadsHeader}
 use Rattle.group_state.specs.declared.joining.CopyJoin.{CopyJoin}
 use Rattle.primary_ctl.specs.States.{track_of, base_in}
-use Rattle.sidefile.specs.Ahead.{IsAhead, IsFault, entries_ahead}
+use Rattle.sidefile.specs.AheadEntries.{IsAhead, IsFault, entries_ahead}
 use Rattle.group_state.specs.Controls.{is_telling}
 use Rattle.group_state.specs.Groups.{Group, control_at}
 use Rattle.group_state.specs.Runs.{Answer, Runs}
-use Rattle.fed_logs.specs.Told.{floor_of}
+use Rattle.fed_logs.specs.ToldTracks.{floor_of}
 use Rattle.fed_logs.specs.Feeds.{part_of_reader}
 use Rattle.fed_logs.specs.LaneFeeds.{FeedState, floor_behind_calls, telling_behind_calls}
 use Rattle.fed_logs.specs.Reads.{Outlook, EndsAsAhead, HasRead, HasTracksAt, ReadsOn, do_rise}

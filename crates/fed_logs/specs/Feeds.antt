@@ -15,7 +15,7 @@ use Rattle.group_state.specs.Machine.{Call}
 use Rattle.group_state.specs.Machine.Call.{Join, NextWanted, Copied, Raise, Break, Form, Carry, Drop, Resume, Forget}
 use Rattle.group_state.specs.Calls.{is_by_reader, is_by_mover}
 use Rattle.group_state.specs.Runs.{Answer}
-use Rattle.fed_logs.specs.Told.{Truth, floor_of, has_changed, is_write_up_to}
+use Rattle.fed_logs.specs.ToldTracks.{Truth, floor_of, has_changed, is_write_up_to}
 
 -- the tracks of the primaries of traces
 abbrev pub truth_of : List Trace → Truth

@@ -6,7 +6,7 @@ use Rattle.sidefile.specs.declared.hand.Halt.{Halt}
 use Rattle.sidefile.specs.States.{SidefileState, IsRunOf}
 use Rattle.group_state.specs.Calls.{telling_after}
 use Rattle.group_state.specs.Runs.{Answer}
-use Rattle.fed_logs.specs.Told.{has_changed}
+use Rattle.fed_logs.specs.ToldTracks.{has_changed}
 use Rattle.fed_logs.specs.Feeds.{floor_behind}
 
 -- A lane's feed: its sidefile, its primary volumes, the batch that was handed over and isn't joined, and why it reads no further. It

@@ -1,4 +1,4 @@
-pub mod Told
+pub mod ToldTracks
 pub mod ToldLaws
 pub mod Deeds
 pub mod Feeds

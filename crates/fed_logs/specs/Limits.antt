@@ -3,7 +3,7 @@ use Rattle.std.specs.Prelude.{◌≡◌, ℕ, List, ◌++◌, Option, Some, None
 use Rattle.std.specs.List.{list_all}
 use Rattle.ckd_track.specs.declared.write.Batch.{Batch}
 use Rattle.write_trace.specs.declared.trace.Trace.{Trace}
-use Rattle.sidefile.specs.Ahead.{IsAhead}
+use Rattle.sidefile.specs.AheadEntries.{IsAhead}
 use Rattle.group_state.specs.Machine.Call.{Join}
 use Rattle.group_state.specs.Runs.{Answer}
 use Rattle.fed_logs.specs.Feeds.{goes_up_to, is_up_to_limit}

@@ -6,11 +6,11 @@ use Rattle.write_trace.specs.declared.trace.Trace.{Trace}
 use Rattle.sidefile.specs.Breaks.{break_time}
 use Rattle.primary_ctl.specs.Primaries.{none_falls}
 use Rattle.group_state.specs.Groups.{Group, Shown}
-use Rattle.group_state.specs.Sound.{KeepsGroup}
+use Rattle.group_state.specs.SoundStates.{KeepsGroup}
 use Rattle.group_state.specs.Machine.{Call}
 use Rattle.group_state.specs.Machine.Call.{Join, NextWanted, Copied, Raise, Break, Form, Carry, Drop, Resume, Forget}
 use Rattle.group_state.specs.Runs.{Answer, Runs, May, shown_by}
-use Rattle.fed_logs.specs.Told.{HeldTracks, TellsTruth, floor_of}
+use Rattle.fed_logs.specs.ToldTracks.{HeldTracks, TellsTruth, floor_of}
 use Rattle.record_rows.specs.Deeds.{Deed, rows_by_deed, rows_behind, time_meant_behind}
 use Rattle.fed_logs.specs.Deeds.{held_behind}
 use Rattle.record_rows.specs.Deeds.Deed.{Logged}

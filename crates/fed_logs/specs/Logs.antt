@@ -9,9 +9,9 @@ use Rattle.group_state.specs.declared.volume.Volume.{Volume}
 use Rattle.group_state.specs.Volumes.{volume_of, passes, is_wanted}
 use Rattle.group_state.specs.Controls.{ControlState, counts, is_telling}
 use Rattle.group_state.specs.Groups.{Group, control_at}
-use Rattle.group_state.specs.Sound.{KeepsGroup, passes_or_none}
+use Rattle.group_state.specs.SoundStates.{KeepsGroup, passes_or_none}
 use Rattle.group_state.specs.Runs.{Answer, Runs}
-use Rattle.fed_logs.specs.Told.{Truth, HeldTracks, AllHold, floor_of}
+use Rattle.fed_logs.specs.ToldTracks.{Truth, HeldTracks, AllHold, floor_of}
 use Rattle.fed_logs.specs.Feeds.{truth_of, is_call_of_reader, AllAreFed}
 use Rattle.group_state.specs.Calls.{is_by_mover}
 use Rattle.fed_logs.specs.Moves.{HasRowIn, IsLive, IsDuplex, Plans}

@@ -15,11 +15,11 @@ use Rattle.write_trace.specs.Writes.{writes_of}
 use Rattle.primary_ctl.specs.States.{PrimaryState, track_of, base_in, is_on, after_writes}
 use Rattle.sidefile.specs.Runs.{runs}
 use Rattle.sidefile.specs.Breaks.{break_in, break_of, cause_of, has_broken}
-use Rattle.sidefile.specs.Ahead.{IsAhead, IsFault, ahead, cause_ahead}
+use Rattle.sidefile.specs.AheadEntries.{IsAhead, IsFault, ahead, cause_ahead}
 use Rattle.sidefile.specs.declared.hand.Halt.{Halt}
 use Rattle.sidefile.specs.declared.hand.Halt.TheVariants as halts
 use Rattle.group_state.specs.Runs.{Answer}
-use Rattle.fed_logs.specs.Told.{is_write_up_to}
+use Rattle.fed_logs.specs.ToldTracks.{is_write_up_to}
 use Rattle.fed_logs.specs.Feeds.{AreFedBy, IsBatchOf, is_between}
 use Rattle.fed_logs.specs.LaneFeeds.{FeedState, floor_behind_calls, telling_behind_calls}
 

@@ -13,7 +13,7 @@ use Rattle.group_state.specs.Groups.{Group, control_at, new_group, Shown, shown_
 use Rattle.group_state.specs.Machine.{Call, Reply, steps}
 use Rattle.group_state.specs.Machine.Call.{Join, NextWanted, Copied, Raise, Break, Form, Carry, Drop, Resume, Forget}
 use Rattle.group_state.specs.Runs.{Answer}
-use Rattle.fed_logs.specs.Told.{floor_of}
+use Rattle.fed_logs.specs.ToldTracks.{floor_of}
 use Rattle.record_rows.specs.GroupRows.{are_breaks_at_cut}
 use Rattle.fed_logs.specs.Logs.{AwaitsBreak, IsFedLog}
 use Rattle.fed_logs.specs.LogLaws.{WasShown}

@@ -9,7 +9,7 @@ use Rattle.primary_ctl.specs.States.{PrimaryState, track_of, is_on, after_writes
 use Rattle.sidefile.specs.declared.hand.Hand.{Hand}
 use Rattle.sidefile.specs.declared.hand.Hand.TheVariants as hands
 use Rattle.sidefile.specs.declared.hand.Halt.TheVariants as halts
-use Rattle.sidefile.specs.Exact.{IsDue}
+use Rattle.sidefile.specs.ExactHands.{IsDue}
 use Rattle.sidefile.specs.States.{SidefileState, front_of}
 use Rattle.sidefile.specs.Halts.{reached}
 use Rattle.group_state.specs.Machine.{Reply}

@@ -8,7 +8,7 @@ use Rattle.ckd_track.specs.declared.write.Cause.TheVariants.{ReadFault}
 use Rattle.xrc_edge.specs.Causes.{Rose}
 use Rattle.pending_queue.specs.declared.room.Room.{Room}
 use Rattle.write_trace.specs.declared.header.VolumeHead.{VolumeHead}
-use Rattle.sidefile.specs.Ahead.{IsAhead}
+use Rattle.sidefile.specs.AheadEntries.{IsAhead}
 use Rattle.sidefile.specs.declared.hand.Halt.{Halt}
 use Rattle.sidefile.specs.declared.hand.Halt.TheVariants as halts
 use Rattle.primary_ctl.specs.States.{PrimaryState, track_of}
@@ -19,7 +19,7 @@ use Rattle.group_state.specs.Calls.{telling_after}
 use Rattle.group_state.specs.Runs.{Answer}
 use Rattle.fed_logs.specs.declared.reading.Reading.{Reading}
 use Rattle.fed_logs.specs.declared.reading.Reading.TheVariants as readings
-use Rattle.fed_logs.specs.Told.{has_changed}
+use Rattle.fed_logs.specs.ToldTracks.{has_changed}
 use Rattle.fed_logs.specs.Feeds.{floor_behind}
 use Rattle.fed_logs.specs.ShownBreaks.{is_break_below}
 use Rattle.fed_logs.specs.LaneFeeds.{FeedState}

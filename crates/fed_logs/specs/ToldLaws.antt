@@ -3,10 +3,10 @@ use Rattle.std.specs.Prelude.{◌≡◌, ℕ, ◌<◌, ◌≤◌, length, Some, 
 use Rattle.tod_stamp.specs.declared.stamp.Stamp.{Stamp}
 use Rattle.group_state.specs.Controls.{counts}
 use Rattle.group_state.specs.Groups.{Group, control_at, cut_of, formed_at, shown_at}
-use Rattle.group_state.specs.Sound.{KeepsGroup}
+use Rattle.group_state.specs.SoundStates.{KeepsGroup}
 use Rattle.group_state.specs.Machine.{Call, Reply, steps}
 use Rattle.group_state.specs.Runs.{May}
-use Rattle.fed_logs.specs.Told.{Truth, HeldTracks, TellsTruth, AllHold, has_changed, has_no_later_copy, is_settled_in, held_after, held_behind_group}
+use Rattle.fed_logs.specs.ToldTracks.{Truth, HeldTracks, TellsTruth, AllHold, has_changed, has_no_later_copy, is_settled_in, held_after, held_behind_group}
 
 -- Each call keeps it, from any state, where a call that changes the state tells what is true.
 abbrev pub StepsKeep : Type 0

@@ -8,17 +8,17 @@ use Rattle.tod_stamp.specs.declared.stamp.Stamp.{Stamp}
 use Rattle.xrc_edge.specs.Order.{in_order}
 use Rattle.xrc_edge.proofs.Apart.{order_apart}
 use Rattle.pending_queue.specs.Entries.{is_due}
-use Rattle.cut_core.specs.Groups.{Entry, comes_before}
-use Rattle.cut_core.specs.Once.{is_of_control}
+use Rattle.cut_core.specs.Groups.{CarriedEntry, comes_before}
+use Rattle.cut_core.specs.Fates.{is_of_control}
 use Rattle.cut_core.proofs.Complete.{before_order}
 use Rattle.cut_core.proofs.Filters.{filter_both, filter_none, filter_swap}
 use Rattle.group_state.specs.Controls.{ControlState, due_of}
 use Rattle.group_state.proofs.SoundLaws.{all_kept}
-use Rattle.group_state.specs.Follows.{AreSeen}
+use Rattle.group_state.specs.Histories.{AreSeen}
 use Rattle.group_state.proofs.Seen.{seen_append, seen_filter}
 
 -- Of two entries of different controls one stands before the other.
-entries_apart : (a b : Entry) → (a.control == b.control) ≡ false → comes_before a b ≡ false → comes_before b a ≡ true
+entries_apart : (a b : CarriedEntry) → (a.control == b.control) ≡ false → comes_before a b ≡ false → comes_before b a ≡ true
 entries_apart a b other ab =
     let parts = or_parts (nat_lt a.stamp b.stamp) (nat_eq a.stamp b.stamp && nat_lt a.control b.control) ab in
     let le = ltb-false a.stamp b.stamp parts.0 in
@@ -38,18 +38,18 @@ entries_apart a b other ab =
 -- ---- control by control
 
 -- the entries of so many controls, from one on
-abbrev pub by_control : (first n : ℕ) → List Entry → List Entry
+abbrev pub by_control : (first n : ℕ) → List CarriedEntry → List CarriedEntry
 by_control k zero es = []
 by_control k (suc n) es = filter (is_of_control k) es ++ by_control (k + 1) n es
 
-of_both : (j k : ℕ) (es : List Entry) → nat_eq k j ≡ false → filter (is_of_control j) (filter (is_of_control k) es) ≡ []
+of_both : (j k : ℕ) (es : List CarriedEntry) → nat_eq k j ≡ false → filter (is_of_control j) (filter (is_of_control k) es) ≡ []
 of_both j k es other = filter_both (is_of_control j) (is_of_control k) es ∙ filter_none (λ e. is_of_control j e && is_of_control k e) es (λ e. never e.control (nat_eq e.control j) refl)
   where
     never : (c : ℕ) (t : Bool) → nat_eq c j ≡ t → (t && nat_eq c k) ≡ false
     never c false is = refl
     never c true is = ne_eqb c k (λ same. eqb-false k j other (sym same ∙ eqb-true c j is))
 
-of_same : (j : ℕ) (es : List Entry) → filter (is_of_control j) (filter (is_of_control j) es) ≡ filter (is_of_control j) es
+of_same : (j : ℕ) (es : List CarriedEntry) → filter (is_of_control j) (filter (is_of_control j) es) ≡ filter (is_of_control j) es
 of_same j [] = refl
 of_same j (e ∷ es) = choose (is_of_control j e) refl (of_same j es)
   where
@@ -58,14 +58,14 @@ of_same j (e ∷ es) = choose (is_of_control j e) refl (of_same j es)
     choose true is h = rw (is, h) refl
     choose false is h = h
 
-none_of : (j first n : ℕ) (es : List Entry) → ((k : ℕ) → first ≤ k → k < first + n → nat_eq k j ≡ false) → filter (is_of_control j) (by_control first n es) ≡ []
+none_of : (j first n : ℕ) (es : List CarriedEntry) → ((k : ℕ) → first ≤ k → k < first + n → nat_eq k j ≡ false) → filter (is_of_control j) (by_control first n es) ≡ []
 none_of j first zero es none = refl
 none_of j first (suc n) es none =
     filter-append (is_of_control j) (filter (is_of_control first) es) (by_control (first + 1) n es)
-    ∙ ap (λ (t : List Entry). t ++ filter (is_of_control j) (by_control (first + 1) n es)) (of_both j first es (none first (omega arith) (omega arith)))
+    ∙ ap (λ (t : List CarriedEntry). t ++ filter (is_of_control j) (by_control (first + 1) n es)) (of_both j first es (none first (omega arith) (omega arith)))
     ∙ none_of j (first + 1) n es (λ k above below. none k (omega arith) (omega arith))
 
-part_of : (j first n : ℕ) (es : List Entry) → first ≤ j → j < first + n → filter (is_of_control j) (by_control first n es) ≡ filter (is_of_control j) es
+part_of : (j first n : ℕ) (es : List CarriedEntry) → first ≤ j → j < first + n → filter (is_of_control j) (by_control first n es) ≡ filter (is_of_control j) es
 part_of j first zero es above below = absurd (omega arith)
 part_of j first (suc n) es above below =
     filter-append (is_of_control j) (filter (is_of_control first) es) (by_control (first + 1) n es) ∙ elim (cases_Bool (nat_eq first j)) [
@@ -80,25 +80,25 @@ part_of j first (suc n) es above below =
           rw (of_both j first es other) (part_of j (first + 1) n es more (omega arith))
     ]
 
-none_past : (j n : ℕ) (es : List Entry) → n ≤ j → list_all (λ e. nat_lt e.control n) es ≡ true → filter (is_of_control j) es ≡ []
+none_past : (j n : ℕ) (es : List CarriedEntry) → n ≤ j → list_all (λ e. nat_lt e.control n) es ≡ true → filter (is_of_control j) es ≡ []
 none_past j n [] le all = refl
 none_past j n (e ∷ es) le all =
     let parts = and_parts (nat_lt e.control n) (list_all (λ e. nat_lt e.control n) es) all in
     let lt = ltb-true e.control n parts.0 in
     rw (ne_eqb e.control j (λ is. omega arith)) (none_past j n es le parts.1)
 
-alike : (n : ℕ) (es : List Entry) → list_all (λ e. nat_lt e.control n) es ≡ true → (j : ℕ) → filter (is_of_control j) (by_control 0 n es) ≡ filter (is_of_control j) es
+alike : (n : ℕ) (es : List CarriedEntry) → list_all (λ e. nat_lt e.control n) es ≡ true → (j : ℕ) → filter (is_of_control j) (by_control 0 n es) ≡ filter (is_of_control j) es
 alike n es all j = elim (cases_lt j n) [
   | inl lt ↦ part_of j 0 n es (omega arith) (omega arith)
   | inr ge ↦ none_of j 0 n es (λ k up down. ne_eqb k j (λ e. omega arith)) ∙ sym (none_past j n es ge all)
 ]
 
-pub order_by_control : (n : ℕ) (es : List Entry) → list_all (λ e. nat_lt e.control n) es ≡ true → in_order comes_before (by_control 0 n es) ≡ in_order comes_before es
+pub order_by_control : (n : ℕ) (es : List CarriedEntry) → list_all (λ e. nat_lt e.control n) es ≡ true → in_order comes_before (by_control 0 n es) ≡ in_order comes_before es
 order_by_control n es all = order_apart comes_before before_order (λ e. e.control) entries_apart (by_control 0 n es) es (alike n es all)
 
 -- ---- what is due of each control
 
-pub due_seen : (cut : Stamp) (entries : List Entry) (first : ℕ) (controls : List ControlState) (d : ControlState)
+pub due_seen : (cut : Stamp) (entries : List CarriedEntry) (first : ℕ) (controls : List ControlState) (d : ControlState)
     → ((i : ℕ) → i < length controls → AreSeen (get_or controls i d).queue.waiting (filter (is_of_control (first + i)) entries))
     → AreSeen (flat_map (due_of cut) controls) (by_control first (length controls) (filter (λ e. nat_le e.stamp cut.0) entries))
 due_seen cut entries first [] d seen = tt

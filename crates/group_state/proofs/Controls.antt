@@ -17,7 +17,7 @@ use Rattle.cut_core.specs.Events.Event.{Join, Copied, Break, Raise, Form, Drop, 
 use Rattle.cut_core.specs.Shares.{Share, share_by, share}
 use Rattle.cut_core.specs.Groups.{carried_entry, copied_entry, is_write_carried, waiting_in}
 use Rattle.cut_core.specs.Waiting.{waits_on}
-use Rattle.cut_core.specs.Once.{is_of_control}
+use Rattle.cut_core.specs.Fates.{is_of_control}
 use Rattle.cut_core.proofs.Ends.{stays, breaks_at}
 use Rattle.cut_core.proofs.Shares.{shares_wait}
 use Rattle.cut_core.proofs.Plain.{any_waits}
@@ -26,11 +26,11 @@ use Rattle.group_state.specs.declared.phase.Phase.TheVariants.{Telling, Broken, 
 use Rattle.group_state.specs.declared.volume.Volume.{Volume}
 use Rattle.group_state.specs.Volumes.{volume_of, passes, carries, is_carried}
 use Rattle.group_state.specs.Controls.{ControlState, carried_writes, joined, copied, raised, broke, begun_volume, dropped, resumed, forgotten, formed, due_of, is_telling, counts}
-use Rattle.group_state.specs.Sound.{passes_or_none, are_distinct, is_track_within, are_within, MayTell, MayJoin, MayCarry, is_dropped}
+use Rattle.group_state.specs.SoundStates.{passes_or_none, are_distinct, is_track_within, are_within, MayTell, MayJoin, MayCarry, is_dropped}
 use Rattle.group_state.proofs.SoundLaws.{all_kept}
 use Rattle.group_state.proofs.FormLaws.{later_not}
 use Rattle.group_state.specs.Runs.{tracks_in}
-use Rattle.group_state.specs.Follows.{AreSeen, is_track_of_volume, IsShareOf, IsControlOf}
+use Rattle.group_state.specs.Histories.{AreSeen, is_track_of_volume, IsShareOf, IsControlOf}
 use Rattle.group_state.proofs.Seen.{seen_filter, seen_any}
 use Rattle.group_state.proofs.Shares.{turned, same_share, all_written, all_copied, all_begun, all_dropped, all_resumed, all_forgotten, all_formed}
 use Rattle.group_state.proofs.Told.{IsQuiet, told_quiet, told_next, told_formed, waiting_next, waiting_less, all_stay}

@@ -10,15 +10,15 @@ use Rattle.cut_core.specs.Events.{Event}
 use Rattle.cut_core.specs.Events.Event.{Form as Forms}
 use Rattle.cut_core.specs.Shares.{Share, share}
 use Rattle.cut_core.specs.Groups.{waiting_in}
-use Rattle.cut_core.specs.Once.{is_of_control}
+use Rattle.cut_core.specs.Fates.{is_of_control}
 use Rattle.group_state.specs.declared.volume.Volume.{Volume}
 use Rattle.group_state.specs.Volumes.{is_numbered, volume_of, has_volume, passes, is_volume_done}
 use Rattle.group_state.specs.Controls.{ControlState, new_control, done_of}
 use Rattle.group_state.specs.Groups.{Shown, new_group, control_at, cut_of, formed_at, shown_at}
-use Rattle.group_state.specs.Sound.{passes_or_none, has_sizes, are_distinct, has_joined, Sound}
+use Rattle.group_state.specs.SoundStates.{passes_or_none, has_sizes, are_distinct, has_joined, Sound}
 use Rattle.group_state.proofs.SoundLaws.{all_kept, all_true, count_cons, count_append, count_none}
 use Rattle.group_state.specs.Runs.{history}
-use Rattle.group_state.specs.Follows.{IsShareOf, IsControlOf}
+use Rattle.group_state.specs.Histories.{IsShareOf, IsControlOf}
 use Rattle.group_state.specs.HistoryLaws.{answered, tracks_told, is_copy_on, is_plan_done, is_named, DonePlansAreShown}
 use Rattle.group_state.proofs.Seen.{seen_any}
 use Rattle.group_state.proofs.Controls.{any_of}

@@ -8,12 +8,12 @@ use Rattle.ckd_track.specs.declared.write.Write.{Write}
 use Rattle.cut_core.specs.Events.{Event}
 use Rattle.cut_core.specs.Events.Event.{Join, Copied, Break, Raise, Drop, Carry, Resume, Forget}
 use Rattle.cut_core.specs.Shares.{Share, no_share, share_by, share}
-use Rattle.cut_core.specs.Groups.{Entry, carried_entry, is_write_carried, carried_by}
-use Rattle.cut_core.specs.Once.{is_of_control}
+use Rattle.cut_core.specs.Groups.{CarriedEntry, carried_entry, is_write_carried, carried_by}
+use Rattle.cut_core.specs.Fates.{is_of_control}
 use Rattle.cut_core.proofs.Ends.{stays}
 use Rattle.group_state.specs.Volumes.{volume_of}
 use Rattle.group_state.specs.Controls.{ControlState}
-use Rattle.group_state.specs.Follows.{IsShareOf, IsControlOf}
+use Rattle.group_state.specs.Histories.{IsShareOf, IsControlOf}
 use Rattle.group_state.proofs.Told.{IsTold, IsQuiet, told_quiet, all_stay, waiting_less}
 
 pub share_snoc : (k v x : ℕ) (past : List Event) (y : Event) → share k v x (past ++ y ∷ []) ≡ share_by k v x (share k v x past) y
@@ -28,7 +28,7 @@ told_of k past c h = record { told = h.told; telling = h.telling; live = h.live 
 pub record IsElsewhere (k : ℕ) (past : List Event) (x : Event) : Type 0 where
   pub quiet : IsQuiet k x
   pub shares : (v y : ℕ) (s : Share) → share_by k v y s x ≡ s
-  pub stay : (e : Entry) → is_of_control k e ≡ true → stays x e ≡ true
+  pub stay : (e : CarriedEntry) → is_of_control k e ≡ true → stays x e ≡ true
   pub none : filter (is_of_control k) (carried_by past x) ≡ []
 
 pub control_aside : (k : ℕ) (past : List Event) (x : Event) (c : ControlState) → IsElsewhere k past x → IsControlOf k past c → IsControlOf k (past ++ x ∷ []) c

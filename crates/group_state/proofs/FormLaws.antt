@@ -15,7 +15,7 @@ use Rattle.group_state.specs.declared.volume.Volume.{Volume}
 use Rattle.group_state.specs.Volumes.{is_numbered, volume_of, has_volume, with_volume, passes, formed_track, with_formed_copy, with_formed_copies, is_volume_done, is_done_after, numbers_of}
 use Rattle.group_state.specs.Controls.{ControlState, formed, reported_break, done_of}
 use Rattle.group_state.specs.Groups.{with_news}
-use Rattle.group_state.specs.Sound.{passes_or_none, has_sizes, are_distinct, may_wait, is_entry_of, is_entry_of_control, may_form, has_joined, CopiesAreCounted, Sound}
+use Rattle.group_state.specs.SoundStates.{passes_or_none, has_sizes, are_distinct, may_wait, is_entry_of, is_entry_of_control, may_form, has_joined, CopiesAreCounted, Sound}
 use Rattle.group_state.proofs.VolumeLaws.{distinct_with, all_with, or_none_with, none_found}
 use Rattle.pending_queue.proofs.EntryLaws.{left_never_falls}
 use Rattle.group_state.proofs.SoundLaws.{all_filter, entries_with, count_cons, swapped}

@@ -9,8 +9,8 @@ use Rattle.tod_stamp.specs.declared.stamp.Stamp.{Stamp}
 use Rattle.cut_core.specs.Events.{Event, floor, is_broken_after, is_done, is_live}
 use Rattle.cut_core.specs.Events.Event.{Form}
 use Rattle.cut_core.specs.Shares.{Share, share_by}
-use Rattle.cut_core.specs.Groups.{Entry, waiting_in, group}
-use Rattle.cut_core.specs.Legal.{is_legal_next, least_floor}
+use Rattle.cut_core.specs.Groups.{CarriedEntry, waiting_in, group}
+use Rattle.cut_core.specs.LegalHistories.{is_legal_next, least_floor}
 use Rattle.cut_core.proofs.Filters.{all_filter}
 use Rattle.cut_core.proofs.Ends.{cut_snoc, done_form, breaks_at}
 use Rattle.cut_core.proofs.Legality.{legal_snoc}
@@ -20,10 +20,10 @@ use Rattle.group_state.specs.declared.phase.Phase.{Phase}
 use Rattle.group_state.specs.declared.phase.Phase.TheVariants.{Telling, Broken, Reported}
 use Rattle.group_state.specs.Controls.{ControlState, new_control, counts, is_telling, lesser, formed, due_of, reported_cause, reported, reported_break}
 use Rattle.group_state.specs.Groups.{Group, control_at, cut_of, formed_at, shown_at}
-use Rattle.group_state.specs.Sound.{Sound}
+use Rattle.group_state.specs.SoundStates.{Sound}
 use Rattle.group_state.proofs.FormLaws.{sound_formed}
-use Rattle.cut_core.specs.Once.{is_of_control}
-use Rattle.group_state.specs.Follows.{AreSeen, IsControlOf}
+use Rattle.cut_core.specs.Fates.{is_of_control}
+use Rattle.group_state.specs.Histories.{AreSeen, IsControlOf}
 use Rattle.group_state.specs.HistoryLaws.{ends_with_form, named, break_at_floor, IsGroupOf}
 use Rattle.group_state.proofs.Seen.{seen_order}
 use Rattle.group_state.proofs.ByControl.{by_control, order_by_control, due_seen}
@@ -82,10 +82,10 @@ stands_formed n past s limit h le =
 entries_shown : (n : ℕ) (past : List Event) (s : Group) (cut : Stamp) → Stands n past s → AreSeen (shown_at cut s).entries (group past cut.0)
 entries_shown n past s cut h =
     let entries = waiting_in [] past in
-    let due = filter (λ (e : Entry). nat_le e.stamp cut.0) entries in
+    let due = filter (λ (e : CarriedEntry). nat_le e.stamp cut.0) entries in
     let seen : AreSeen (flat_map (due_of cut) s.controls) (by_control 0 (length s.controls) due) = due_seen cut entries 0 s.controls (new_control 0 0 0)
     (λ i lt. subst (λ k. AreSeen (control_at s i).queue.waiting (filter (is_of_control k) entries)) (omega arith) (h.follows.each i (omega (arith, lt, h.follows.count))).waiting) in
-    let below : are_below (length s.controls) due ≡ true = all_filter (λ (e : Entry). nat_lt e.control (length s.controls)) (λ (e : Entry). nat_le e.stamp cut.0) entries (ap (λ m. are_below m entries) h.follows.count ∙ h.below) in
+    let below : are_below (length s.controls) due ≡ true = all_filter (λ (e : CarriedEntry). nat_lt e.control (length s.controls)) (λ (e : CarriedEntry). nat_le e.stamp cut.0) entries (ap (λ m. are_below m entries) h.follows.count ∙ h.below) in
     subst (AreSeen (shown_at cut s).entries) (order_by_control (length s.controls) due below)
     (seen_order (flat_map (due_of cut) s.controls) (by_control 0 (length s.controls) due) seen)
 

@@ -19,7 +19,7 @@ use Rattle.group_state.specs.Groups.{Group, new_controls, control_at, with_contr
 use Rattle.group_state.specs.Machine.{Call, group_after}
 use Rattle.group_state.specs.Machine.Call.{Join, NextWanted, Copied, Raise, Break, Form, Carry, Drop, Resume, Forget}
 use Rattle.group_state.specs.Runs.{May}
-use Rattle.group_state.specs.Sound.{Sound, has_told, KeepsGroup, is_track_within, MayTell, MayJoin, MayCarry, is_dropped}
+use Rattle.group_state.specs.SoundStates.{Sound, has_told, KeepsGroup, is_track_within, MayTell, MayJoin, MayCarry, is_dropped}
 use Rattle.group_state.proofs.SoundLaws.{sound_joined, sound_copied, sound_raised, sound_broke, sound_begun, sound_dropped, sound_resumed, sound_forgotten}
 use Rattle.group_state.proofs.FormLaws.{all_at, sound_formed}
 use Rattle.group_state.proofs.GroupLaws.{SameQueue, same_queue, kept_change, kept_formed, kept_new, length_new}

@@ -16,7 +16,7 @@ use Rattle.pending_queue.specs.Groups.{most_done_of_control}
 use Rattle.group_state.specs.declared.volume.Volume.{Volume}
 use Rattle.group_state.specs.Volumes.{has_volume, begun, noted_write, with_write, with_writes, copied_track, dropped_volume, resumed_volume, formed_track, with_formed_copy, with_formed_copies, is_wanted}
 use Rattle.group_state.specs.Controls.{ControlState, due_of, joined, copied, raised, broke, begun_volume, dropped, resumed, forgotten, formed}
-use Rattle.group_state.specs.Sound.{are_distinct, has_number, KeepsVolumes, is_track_within, MayTell, MayJoin, MayCarry, is_dropped}
+use Rattle.group_state.specs.SoundStates.{are_distinct, has_number, KeepsVolumes, is_track_within, MayTell, MayJoin, MayCarry, is_dropped}
 use Rattle.group_state.proofs.VolumeLaws.{all_with, all_without}
 use Rattle.group_state.proofs.SoundLaws.{swapped, all_joined, written_keeps, sound_joined, sound_copied, sound_raised, sound_broke, sound_begun, sound_dropped, sound_resumed, sound_forgotten}
 use Rattle.group_state.proofs.FormLaws.{sound_formed}

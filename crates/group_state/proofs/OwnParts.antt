@@ -13,7 +13,7 @@ use Rattle.pending_queue.specs.Entries.{WaitingEntry, entry_stamp, entries_never
 use Rattle.pending_queue.proofs.EntryLaws.{before_order, never_fall_filter}
 use Rattle.group_state.specs.Controls.{ControlState, new_control, due_of}
 use Rattle.group_state.specs.Groups.{Group, control_at, are_numbered, has_few}
-use Rattle.group_state.specs.Sound.{KeepsGroup, Sound, is_entry_of_control}
+use Rattle.group_state.specs.SoundStates.{KeepsGroup, Sound, is_entry_of_control}
 use Rattle.group_state.specs.HistoryLaws.{FormsShowOwnParts}
 use Rattle.group_state.proofs.SoundLaws.{all_filter}
 

@@ -8,7 +8,7 @@ use Rattle.std.proofs.lemmas.List.Folds.{list_all-append}
 use Rattle.tod_stamp.specs.declared.stamp.Stamp.{Stamp}
 use Rattle.cut_core.specs.Events.{Event}
 use Rattle.cut_core.specs.Cuts.{joins_above}
-use Rattle.cut_core.specs.Legal.{are_legal}
+use Rattle.cut_core.specs.LegalHistories.{are_legal}
 use Rattle.cut_core.specs.Events.Event.{Join as Joins, Form as Forms}
 use Rattle.cut_core.proofs.Late.{no_late}
 use Rattle.group_state.specs.Groups.{Group, Shown, new_group, cut_of, gives_nothing, shown_at}

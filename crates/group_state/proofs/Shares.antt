@@ -15,11 +15,11 @@ use Rattle.pending_queue.specs.Maps.{with_tracks}
 use Rattle.cut_core.specs.Shares.{Share, no_share, share_write, share_writes, share_copied, share_drop, share_carry, share_resume}
 use Rattle.group_state.specs.declared.volume.Volume.{Volume}
 use Rattle.group_state.specs.Volumes.{volume_of, has_volume, with_volume, without_number, passes, begun, noted_write, with_write, with_writes, copied_track, formed_track, with_formed_copies, dropped_map, dropped_volume, resumed_volume}
-use Rattle.group_state.specs.Sound.{are_distinct, is_dropped}
+use Rattle.group_state.specs.SoundStates.{are_distinct, is_dropped}
 use Rattle.group_state.proofs.SoundLaws.{length_dropped}
 use Rattle.group_state.proofs.VolumeLaws.{Keeps, found_with, found_behind, found_without, none_found}
 use Rattle.group_state.specs.Runs.{tracks_in}
-use Rattle.group_state.specs.Follows.{IsShareOf}
+use Rattle.group_state.specs.Histories.{IsShareOf}
 
 -- what waits is no part of it
 abbrev pub with_stamps : List ℕ → Share → Share

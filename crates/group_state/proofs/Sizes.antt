@@ -11,11 +11,11 @@ use Rattle.group_state.specs.declared.volume.Volume.{Volume}
 use Rattle.group_state.specs.Volumes.{volume_of, passes, owed, owed_in}
 use Rattle.group_state.specs.Controls.{ControlState, new_control}
 use Rattle.group_state.specs.Groups.{new_group, control_at}
-use Rattle.group_state.specs.Sound.{passes_or_none, has_sizes}
+use Rattle.group_state.specs.SoundStates.{passes_or_none, has_sizes}
 use Rattle.group_state.specs.Machine.Reply.{Owed}
 use Rattle.group_state.proofs.SoundLaws.{count_cons}
 use Rattle.group_state.specs.Runs.{history}
-use Rattle.group_state.specs.Follows.{IsShareOf}
+use Rattle.group_state.specs.Histories.{IsShareOf}
 use Rattle.group_state.specs.HistoryLaws.{tracks_told, IsOfTracks, SizesAreTold, NumbersAreKept, answered_resume, mapped_of, ResumesOweMapped}
 use Rattle.group_state.proofs.Stands.{stands_first}
 use Rattle.group_state.proofs.RunLaws.{split, stands_after}

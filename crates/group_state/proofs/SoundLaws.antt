@@ -14,7 +14,7 @@ use Rattle.ckd_track.specs.declared.write.Batch.{Batch}
 use Rattle.ckd_track.specs.declared.write.Cause.{Cause}
 use Rattle.ckd_track.specs.declared.write.Write.{Write}
 use Rattle.xrc_edge.specs.Order.{is_in_order}
-use Rattle.cut_core.specs.Legal.{are_in}
+use Rattle.cut_core.specs.LegalHistories.{are_in}
 use Rattle.change_map.specs.Sets.{no_track, has_track, with_track, without_track}
 use Rattle.change_map.proofs.InSets.{has_without}
 use Rattle.copy_plan.specs.Plans.{PlanState}
@@ -25,7 +25,7 @@ use Rattle.pending_queue.proofs.VolumeLaws.{carried_never_fall, pushed_rises, wi
 use Rattle.group_state.specs.declared.volume.Volume.{Volume}
 use Rattle.group_state.specs.Volumes.{is_numbered, volume_of, has_volume, with_volume, without_number, passes, carries, is_carried, is_wanted, wants, begun, noted_write, with_write, with_writes, copied_track, dropped_map, dropped_volume, resumed_volume}
 use Rattle.group_state.specs.Controls.{ControlState, carried_writes, joined, copied, raised, broke, begun_volume, dropped, resumed, forgotten}
-use Rattle.group_state.specs.Sound.{passes_or_none, has_sizes, are_distinct, may_wait, is_entry_of, is_entry_of_control, has_joined, are_up_to, Sound, is_track_within, are_within, MayTell, MayJoin, MayCarry, is_dropped}
+use Rattle.group_state.specs.SoundStates.{passes_or_none, has_sizes, are_distinct, may_wait, is_entry_of, is_entry_of_control, has_joined, are_up_to, Sound, is_track_within, are_within, MayTell, MayJoin, MayCarry, is_dropped}
 use Rattle.group_state.proofs.VolumeLaws.{Keeps, found_with, distinct_with, all_with, passes_with, same_or_none, or_none_with, none_found, has_found, found_behind, distinct_behind, distinct_without, all_without, found_without}
 use Rattle.ckd_track.specs.Writes.{is_earlier, writes_never_fall}
 

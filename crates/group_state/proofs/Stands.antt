@@ -9,20 +9,20 @@ use Rattle.std.proofs.lemmas.List.Folds.{list_all-append}
 use Rattle.ckd_track.specs.declared.write.Write.{Write}
 use Rattle.cut_core.specs.Events.{Event, cut_after, last_cut}
 use Rattle.cut_core.specs.Shares.{no_share, share}
-use Rattle.cut_core.specs.Groups.{Entry, carried_entry, carried_by, waiting_in}
-use Rattle.cut_core.specs.Legal.{is_legal_next}
+use Rattle.cut_core.specs.Groups.{CarriedEntry, carried_entry, carried_by, waiting_in}
+use Rattle.cut_core.specs.LegalHistories.{is_legal_next}
 use Rattle.cut_core.proofs.Filters.{all_filter}
 use Rattle.cut_core.proofs.Legality.{legal_snoc}
 use Rattle.cut_core.proofs.Ends.{cut_snoc, stays, waiting_snoc}
 use Rattle.group_state.specs.Controls.{ControlState, new_control}
 use Rattle.group_state.specs.Groups.{Group, new_controls, new_group, control_at, with_control}
-use Rattle.group_state.specs.Sound.{Sound}
-use Rattle.group_state.specs.Follows.{IsControlOf, FollowsHistory}
+use Rattle.group_state.specs.SoundStates.{Sound}
+use Rattle.group_state.specs.Histories.{IsControlOf, FollowsHistory}
 use Rattle.group_state.proofs.GroupLaws.{length_new}
 use Rattle.group_state.proofs.Elsewhere.{IsElsewhere, control_aside, share_snoc}
 
 -- all entries are of the first controls
-abbrev pub are_below : (controls : ℕ) → List Entry → Bool
+abbrev pub are_below : (controls : ℕ) → List CarriedEntry → Bool
 are_below n entries = list_all (λ e. nat_lt e.control n) entries
 
 pub record Stands (n : ℕ) (past : List Event) (s : Group) : Type 0 where
@@ -35,8 +35,8 @@ pub record Stands (n : ℕ) (past : List Event) (s : Group) : Type 0 where
 
 pub below_next : (n : ℕ) (past : List Event) (x : Event) → are_below n (waiting_in [] past) ≡ true → are_below n (carried_by past x) ≡ true → are_below n (waiting_in [] (past ++ x ∷ [])) ≡ true
 below_next n past x waits carried =
-    ap (are_below n) (waiting_snoc [] past x) ∙ list_all-append (λ (e : Entry). nat_lt e.control n) (filter (stays x) (waiting_in [] past)) (carried_by past x)
-    ∙ rw (all_filter (λ (e : Entry). nat_lt e.control n) (stays x) (waiting_in [] past) waits, carried) refl
+    ap (are_below n) (waiting_snoc [] past x) ∙ list_all-append (λ (e : CarriedEntry). nat_lt e.control n) (filter (stays x) (waiting_in [] past)) (carried_by past x)
+    ∙ rw (all_filter (λ (e : CarriedEntry). nat_lt e.control n) (stays x) (waiting_in [] past) waits, carried) refl
 
 pub written_below : (n k : ℕ) (writes : List Write) → k < n → are_below n (map (carried_entry k) writes) ≡ true
 written_below n k [] lt = refl

@@ -12,17 +12,17 @@ use Rattle.cut_core.specs.Events.{Event, floor, is_broken_after}
 use Rattle.cut_core.specs.Events.Event.{Join as Joins, Copied as Copies, Break as Breaks, Raise as Raises, Drop as Drops, Carry as Carries, Resume as Resumes, Forget as Forgets}
 use Rattle.cut_core.specs.Groups.{is_write_carried}
 use Rattle.cut_core.specs.Shares.{share}
-use Rattle.cut_core.specs.Legal.{are_in, may_tell, is_legal_next}
+use Rattle.cut_core.specs.LegalHistories.{are_in, may_tell, is_legal_next}
 use Rattle.group_state.specs.Volumes.{is_wanted}
 use Rattle.group_state.specs.Controls.{ControlState, is_telling, fits, fits_track, room_of, joined, copied, raised, broke, begun_volume, dropped, resumed, forgotten}
 use Rattle.group_state.specs.Groups.{Group, control_at, with_control, cut_of, gives_nothing, formed_at, shown_at}
-use Rattle.group_state.specs.Sound.{MayTell}
+use Rattle.group_state.specs.SoundStates.{MayTell}
 use Rattle.group_state.specs.Machine.{Call, Reply, reply_to, group_after, steps}
 use Rattle.group_state.specs.Machine.Call.{Join, NextWanted, Copied, Raise, Break, Form, Carry, Drop, Resume, Forget}
 use Rattle.group_state.specs.Machine.Reply.{Joined, Held, Stale, Formed, Nothing}
 use Rattle.group_state.proofs.SoundLaws.{sound_joined, sound_raised, sound_broke, sound_copied, sound_begun, sound_dropped, sound_resumed, sound_forgotten}
 use Rattle.group_state.specs.Runs.{tracks_in, event_by, May}
-use Rattle.group_state.specs.Follows.{IsControlOf}
+use Rattle.group_state.specs.Histories.{IsControlOf}
 use Rattle.group_state.proofs.Elsewhere.{join_elsewhere, copied_elsewhere, raise_elsewhere, break_elsewhere, drop_elsewhere, carry_elsewhere, resume_elsewhere, forget_elsewhere}
 use Rattle.group_state.proofs.Controls.{control_joined, control_raised, control_broke, control_copied, control_begun, control_resumed, control_forgotten, control_dropped}
 use Rattle.group_state.proofs.Stands.{Stands, stands_next, written_below}

@@ -8,14 +8,14 @@ use Rattle.tod_stamp.specs.declared.stamp.Stamp.{Stamp}
 use Rattle.pending_queue.specs.Entries.{WaitingEntry}
 use Rattle.cut_core.specs.Events.{Event, told_upto, floor, is_break_of, is_broken_after, is_form_at, is_done, is_live}
 use Rattle.cut_core.specs.Events.Event.{Form}
-use Rattle.cut_core.specs.Groups.{Entry, carried_by, waiting_in}
-use Rattle.cut_core.specs.Once.{is_of_control}
+use Rattle.cut_core.specs.Groups.{CarriedEntry, carried_by, waiting_in}
+use Rattle.cut_core.specs.Fates.{is_of_control}
 use Rattle.cut_core.proofs.Filters.{filter_swap}
 use Rattle.cut_core.proofs.Ends.{floor_snoc, broken_snoc, done_stays, done_form, not_done, breaks_at, stays, waiting_snoc}
 use Rattle.group_state.specs.declared.phase.Phase.{Phase}
 use Rattle.group_state.specs.declared.phase.Phase.TheVariants.{Telling, Broken, Reported}
 use Rattle.group_state.specs.Controls.{is_telling, counts, phase_after}
-use Rattle.group_state.specs.Follows.{AreSeen}
+use Rattle.group_state.specs.Histories.{AreSeen}
 use Rattle.group_state.proofs.Seen.{seen_append}
 
 -- ---- floor and phase
@@ -109,7 +109,7 @@ pub waiting_next : (k : ℕ) (past : List Event) (x : Event) (ws vs : List Waiti
 waiting_next k past x ws vs stay new =
     let w = waiting_in [] past in
     let split = ap (filter (is_of_control k)) (waiting_snoc [] past x) ∙ filter-append (is_of_control k) (filter (stays x) w) (carried_by past x)
-    ∙ ap (λ (es : List Entry). es ++ filter (is_of_control k) (carried_by past x)) (filter_swap (is_of_control k) (stays x) w) in
+    ∙ ap (λ (es : List CarriedEntry). es ++ filter (is_of_control k) (carried_by past x)) (filter_swap (is_of_control k) (stays x) w) in
     subst (AreSeen (ws ++ vs)) (sym split) (seen_append ws vs (filter (stays x) (filter (is_of_control k) w)) (filter (is_of_control k) (carried_by past x)) stay new)
 
 -- nothing new waits
@@ -120,7 +120,7 @@ waiting_less k past x ws stay none =
     (waiting_next k past x ws [] stay (subst (AreSeen []) (sym none) tt))
 
 -- what a test of all of them keeps
-kept_all : (ok p : Entry → Bool) (es : List Entry) → ((e : Entry) → ok e ≡ true → p e ≡ true) → filter p (filter ok es) ≡ filter ok es
+kept_all : (ok p : CarriedEntry → Bool) (es : List CarriedEntry) → ((e : CarriedEntry) → ok e ≡ true → p e ≡ true) → filter p (filter ok es) ≡ filter ok es
 kept_all ok p [] all = refl
 kept_all ok p (e ∷ es) all = choose (ok e) refl (kept_all ok p es all)
   where
@@ -129,6 +129,6 @@ kept_all ok p (e ∷ es) all = choose (ok e) refl (kept_all ok p es all)
     choose false is h = h
 
 -- all that waited still waits
-pub all_stay : (k : ℕ) (past : List Event) (x : Event) (ws : List WaitingEntry) → ((e : Entry) → is_of_control k e ≡ true → stays x e ≡ true) → AreSeen ws (filter (is_of_control k) (waiting_in [] past))
+pub all_stay : (k : ℕ) (past : List Event) (x : Event) (ws : List WaitingEntry) → ((e : CarriedEntry) → is_of_control k e ≡ true → stays x e ≡ true) → AreSeen ws (filter (is_of_control k) (waiting_in [] past))
     → AreSeen ws (filter (stays x) (filter (is_of_control k) (waiting_in [] past)))
 all_stay k past x ws all seen = subst (AreSeen ws) (sym (kept_all (is_of_control k) (stays x) (waiting_in [] past) all)) seen

@@ -14,7 +14,7 @@ use Rattle.group_state.specs.declared.volume.Volume.{Volume}
 use Rattle.group_state.specs.Volumes.{volume_of, has_volume, with_volume, without_number, begun, noted_write, with_write, with_writes, copied_track, formed_track, with_formed_copies, dropped_volume, resumed_volume, is_wanted}
 use Rattle.group_state.specs.Controls.{ControlState, new_control, fits, fits_track, joined, copied, raised, broke, begun_volume, dropped, resumed, forgotten, formed, due_of}
 use Rattle.group_state.specs.Groups.{Group, new_controls, new_group, control_at, with_control, cut_of, formed_at}
-use Rattle.group_state.specs.Sound.{passes_or_none, are_distinct, Sound}
+use Rattle.group_state.specs.SoundStates.{passes_or_none, are_distinct, Sound}
 use Rattle.group_state.specs.Machine.{Call, group_after, reply_to, steps}
 use Rattle.group_state.specs.Machine.Call.{Join, NextWanted, Copied, Raise, Break, Form, Carry, Drop, Resume, Forget}
 use Rattle.group_state.specs.Machine.Reply.{Made}

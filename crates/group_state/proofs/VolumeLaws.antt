@@ -5,7 +5,7 @@ use Rattle.std.specs.List.{list_all}
 use Rattle.std.proofs.lemmas.Bool.{and_parts, and_from, or_parts, eqb-true, eq-eqb}
 use Rattle.group_state.specs.declared.volume.Volume.{Volume}
 use Rattle.group_state.specs.Volumes.{is_numbered, volume_of, has_volume, with_volume, without_number, passes, IsPlaceOf}
-use Rattle.group_state.specs.Sound.{passes_or_none, are_distinct}
+use Rattle.group_state.specs.SoundStates.{passes_or_none, are_distinct}
 
 -- a change that keeps the number
 abbrev pub Keeps : (Volume → Volume) → Type 0

@@ -6,7 +6,7 @@ use Rattle.change_map.specs.Sets.{has_track, least_from}
 use Rattle.change_map.proofs.InSets.{least_is_some, least_is_none}
 use Rattle.group_state.specs.declared.volume.Volume.{Volume}
 use Rattle.group_state.specs.Volumes.{is_numbered, volume_of, has_volume, passes, wants, is_wanted, next_in, first_wanted, next_wanted}
-use Rattle.group_state.specs.Sound.{are_distinct}
+use Rattle.group_state.specs.SoundStates.{are_distinct}
 use Rattle.group_state.proofs.VolumeLaws.{none_found}
 
 -- ---- one volume

@@ -10,19 +10,19 @@ use Rattle.pending_queue.specs.Entries.{WaitingEntry, copy_head, copy_of, due, e
 use Rattle.cut_core.specs.Events.{Event, floor, is_live, last_cut}
 use Rattle.cut_core.specs.Events.Event.{Form as Forms}
 use Rattle.cut_core.specs.Shares.{names_volume, share}
-use Rattle.cut_core.specs.Groups.{Entry, is_copy, comes_before, waiting_in, group}
-use Rattle.cut_core.specs.Legal.{least_floor}
+use Rattle.cut_core.specs.Groups.{CarriedEntry, is_copy, comes_before, waiting_in, group}
+use Rattle.cut_core.specs.LegalHistories.{least_floor}
 use Rattle.cut_core.specs.Cuts.{kept_writes}
 use Rattle.group_state.specs.declared.volume.Volume.{Volume}
 use Rattle.group_state.specs.Volumes.{volume_of}
 use Rattle.group_state.specs.Controls.{ControlState}
 use Rattle.group_state.specs.Groups.{Group, Shown, new_group, control_at, shown_at}
-use Rattle.group_state.specs.Sound.{KeepsGroup, are_distinct, is_entry_of_control}
+use Rattle.group_state.specs.SoundStates.{KeepsGroup, are_distinct, is_entry_of_control}
 use Rattle.group_state.specs.Machine.{Call, Reply}
 use Rattle.group_state.specs.Machine.Call.{Join, Copied, Break, Form, Carry, Resume}
 use Rattle.group_state.specs.Machine.Reply.{Made, Joined, Owed}
 use Rattle.group_state.specs.Runs.{Answer, Runs, history, shown_by}
-use Rattle.group_state.specs.Follows.{AreSeen, FollowsHistory}
+use Rattle.group_state.specs.Histories.{AreSeen, FollowsHistory}
 
 -- ---- what is kept
 
@@ -98,7 +98,7 @@ abbrev pub tracks_told : (k v : ℕ) → List Answer → ℕ
 tracks_told k v run = fold (λ n answer. tracks_by k v n answer.call answer.reply) 0 run
 
 -- whether an entry is a copied track of control k's volume v
-abbrev pub is_copy_on : (k v : ℕ) → Entry → Bool
+abbrev pub is_copy_on : (k v : ℕ) → CarriedEntry → Bool
 is_copy_on k v e = names_volume e.control e.volume k v && is_copy e
 
 -- A volume of so many tracks is carried, none of its tracks is wanted, and no copied track of it waits.
@@ -160,7 +160,7 @@ NoLateJoin = (controls : ℕ) (before between later : List Answer) (limit : Stam
 -- ---- the theorem on cuts
 
 -- after the last cut and up to this one, and from it on
-abbrev pub is_after : (last cut : ℕ) → Entry → Bool
+abbrev pub is_after : (last cut : ℕ) → CarriedEntry → Bool
 is_after last cut e = nat_lt last e.stamp && nat_le e.stamp cut
 
 abbrev pub is_between_cuts : (last cut : ℕ) → WaitingEntry → Bool

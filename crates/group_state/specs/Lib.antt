@@ -1,10 +1,10 @@
 pub mod Volumes
 pub mod Controls
 pub mod Groups
-pub mod Sound
+pub mod SoundStates
 pub mod Machine
 pub mod Calls
 pub mod Answers
 pub mod Runs
-pub mod Follows
+pub mod Histories
 pub mod HistoryLaws

@@ -35,13 +35,13 @@ pub data Reply : Type 0 where
   Owed : (tracks : ℕ) → Reply
 
 -- the reply to a copied track
-abbrev pub copy_reply : (wanted fitting : Bool) → Room → Reply
-copy_reply wanted fitting room = if wanted then (if fitting then Joined else Held room) else Stale
+abbrev pub reply_to_copied : (wanted fitting : Bool) → Room → Reply
+reply_to_copied wanted fitting room = if wanted then (if fitting then Joined else Held room) else Stale
 
 abbrev pub reply_to : Group → Call → Reply
 reply_to s (Join b) = if fits (control_at s b.control) b then Joined else Held (room_of (control_at s b.control))
 reply_to s (NextWanted k) = Wanted (next_wanted (control_at s k).volumes)
-reply_to s (Copied k v x at recs) = copy_reply (is_wanted v x (control_at s k).volumes) (fits_track (control_at s k) recs) (room_of (control_at s k))
+reply_to s (Copied k v x at recs) = reply_to_copied (is_wanted v x (control_at s k).volumes) (fits_track (control_at s k) recs) (room_of (control_at s k))
 reply_to s (Raise k upto) = Made
 reply_to s (Break k upto cause) = Made
 reply_to s (Form limit) = if gives_nothing s limit then Nothing (shown_at (cut_of s limit) s) else Formed (shown_at (cut_of s limit) s)

@@ -10,7 +10,7 @@ use Rattle.cut_core.specs.Events.{Event}
 use Rattle.cut_core.specs.Events.Event.{Join as Joins, Copied as Copies, Break as Breaks, Raise as Raises, Form as Forms, Drop as Drops, Carry as Carries, Resume as Resumes, Forget as Forgets}
 use Rattle.group_state.specs.Controls.{ControlState, is_telling}
 use Rattle.group_state.specs.Groups.{Group, Shown, control_at}
-use Rattle.group_state.specs.Sound.{MayTell, MayJoin, MayCarry, is_track_within, is_dropped}
+use Rattle.group_state.specs.SoundStates.{MayTell, MayJoin, MayCarry, is_track_within, is_dropped}
 use Rattle.group_state.specs.Machine.{Call, Reply, steps}
 use Rattle.group_state.specs.Machine.Call.{Join, NextWanted, Copied, Raise, Break, Form, Carry, Drop, Resume, Forget}
 use Rattle.group_state.specs.Machine.Reply.{Made, Joined, Formed, Nothing, Owed}

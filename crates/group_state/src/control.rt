@@ -8,7 +8,7 @@ ghost use Rattle.pending_queue.specs.Groups.{HasRoomFor, HasRoomForBreaks, with_
 ghost use Rattle.group_state.specs.Volumes.{volume_of, has_volume, is_wanted, next_wanted, owed};
 ghost use Rattle.group_state.specs.Controls.{new_control, fits, fits_track, room_of, joined, copied, raised, broke, begun_volume, dropped, resumed, forgotten, formed, lesser, has_news, due_of, reported};
 ghost use Rattle.group_state.specs.Groups.{with_news, HasRoomForNews};
-ghost use Rattle.group_state.specs.Sound.{MayTell, MayJoin, MayCarry, is_track_within, is_dropped};
+ghost use Rattle.group_state.specs.SoundStates.{MayTell, MayJoin, MayCarry, is_track_within, is_dropped};
 
 use crate::phase::Phase;
 use crate::volume::Volume;
@@ -36,7 +36,7 @@ pub struct Control {
 
 impl Model for Control {
     ghost use Rattle.group_state.specs.Controls.{ControlState};
-    ghost use Rattle.group_state.specs.Sound.{KeepsVolumes};
+    ghost use Rattle.group_state.specs.SoundStates.{KeepsVolumes};
 
     ghost Value = { ControlState };
 

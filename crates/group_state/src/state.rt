@@ -14,7 +14,7 @@ ghost use Rattle.group_state.specs.declared.joining.Forming.TheVariants as formi
 ghost use Rattle.group_state.specs.Volumes.{volume_of, is_wanted, next_wanted, owed};
 ghost use Rattle.group_state.specs.Controls.{is_telling, fits, fits_track, room_of};
 ghost use Rattle.group_state.specs.Groups.{new_group, control_at, cut_of, gives_nothing, shown_at, shown_in};
-ghost use Rattle.group_state.specs.Sound.{KeepsGroup, MayTell, MayJoin, MayCarry, is_track_within, is_dropped};
+ghost use Rattle.group_state.specs.SoundStates.{KeepsGroup, MayTell, MayJoin, MayCarry, is_track_within, is_dropped};
 ghost use Rattle.group_state.specs.Machine.{steps, Reply};
 ghost use Rattle.group_state.specs.Machine.Call.{Join, NextWanted, Copied, Raise, Break, Form, Carry, Drop, Resume, Forget};
 ghost use Rattle.group_state.specs.Machine.Reply.{Made, Wanted, Owed};
@@ -45,7 +45,7 @@ pub struct GroupState {
 
 impl Model for GroupState {
     ghost use Rattle.group_state.specs.Groups.{Group};
-    ghost use Rattle.group_state.specs.Sound.{KeepsGroup};
+    ghost use Rattle.group_state.specs.SoundStates.{KeepsGroup};
 
     ghost Value = { Group };
 

@@ -7,7 +7,7 @@ ghost use Rattle.pending_queue.specs.Entries.{WaitingEntry, copies, due, without
 ghost use Rattle.pending_queue.specs.Groups.{most_done_of_control};
 ghost use Rattle.pending_queue.specs.Queues.{with_waiting};
 ghost use Rattle.group_state.specs.Volumes.{is_carried, is_wanted, next_wanted, owed, copied_track, dropped_volume, resumed_volume, with_write, with_writes, with_volume, formed_track, with_formed_copies, is_due_copy, is_done_after, numbers_of, volume_of, passes, IsPlaceOf};
-ghost use Rattle.group_state.specs.Sound.{has_sizes, is_dropped, is_track_within, are_within, is_entry_of, CopiesAreCounted, may_form};
+ghost use Rattle.group_state.specs.SoundStates.{has_sizes, is_dropped, is_track_within, are_within, is_entry_of, CopiesAreCounted, may_form};
 
 use crate::volume::Volume;
 use ckd_track::Write;

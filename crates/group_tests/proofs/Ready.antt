@@ -15,13 +15,13 @@ use Rattle.group_state.specs.declared.volume.Volume.{Volume}
 use Rattle.group_state.specs.Volumes.{with_write, with_writes, formed_track, with_formed_copy, with_formed_copies}
 use Rattle.group_state.specs.Controls.{ControlState, new_control, is_telling, phase_after, fits, joined, formed, due_of}
 use Rattle.group_state.specs.Groups.{Group, control_at, with_control, cut_of, formed_at}
-use Rattle.group_state.specs.Sound.{is_track_within, MayJoin}
+use Rattle.group_state.specs.SoundStates.{is_track_within, MayJoin}
 use Rattle.group_state.specs.Machine.{group_after}
 use Rattle.group_state.specs.Machine.Call.{Join}
 use Rattle.group_state.proofs.VolumeLaws.{same_or_none}
 use Rattle.group_state.proofs.SoundLaws.{all_up, within_write}
 use Rattle.group_state.proofs.Kept.{least_within}
-use Rattle.group_tests.specs.Ready.{CarriesFirst, is_first_at}
+use Rattle.group_tests.specs.ReadyStates.{CarriesFirst, is_first_at}
 
 -- ---- a batch on the first track
 

@@ -4,8 +4,8 @@ use Rattle.std.proofs.lemmas.Bool.{and_parts}
 use Rattle.std.proofs.lemmas.List.{take_more, map-append}
 use Rattle.cut_core.specs.declared.event.Event.{Event as Told}
 use Rattle.cut_core.specs.Events.{Event}
-use Rattle.cut_core.specs.Legal.{is_legal_next, are_legal}
-use Rattle.cut_core.specs.Seen.{history_event}
+use Rattle.cut_core.specs.LegalHistories.{is_legal_next, are_legal}
+use Rattle.cut_core.specs.HistoryEvents.{history_event}
 
 -- each event is legal after those before it
 pub legal_at : (n : ℕ) (past : List Event) (events : List Told) (i : ℕ) (e : Told) → i < length events → e ≡ get_or events i e → are_legal n past (map history_event events) ≡ true → is_legal_next n (past ++ map history_event (take i events)) (history_event e) ≡ true

@@ -6,8 +6,8 @@ use Rattle.std.proofs.lemmas.Bool.Decides.{nat_tests}
 use Rattle.std.proofs.lemmas.List.FromFn.{length-map-range_with_len, get_or-map-range_with_len}
 use Rattle.ckd_track.specs.declared.write.Batch.{Batch}
 use Rattle.group_state.specs.Groups.{Group, control_at}
-use Rattle.group_state.specs.Sound.{is_track_within, are_within}
-use Rattle.cut_core.specs.Legal.{are_in}
+use Rattle.group_state.specs.SoundStates.{is_track_within, are_within}
+use Rattle.cut_core.specs.LegalHistories.{are_in}
 use Rattle.turn_group.specs.Seats.{ReaderSeatState, SeatMayJoin, IsSeated, new_reader, new_readers}
 use Rattle.atomic_table.specs.Seated.{TableId}
 use Rattle.group_tests.specs.CutVectors.{whole_on}

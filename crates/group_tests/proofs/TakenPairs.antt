@@ -24,7 +24,7 @@ use Rattle.group_state.specs.Controls.{ControlState, begun_volume, counts, dropp
 use Rattle.group_state.specs.Groups.{Group, control_at, with_control}
 use Rattle.record_rows.specs.Hits.{hit_now, rows_hit}
 use Rattle.record_rows.specs.Records.{rows_with_hits}
-use Rattle.record_rows.specs.Told.{InPlaces}
+use Rattle.record_rows.specs.ToldRows.{InPlaces}
 use Rattle.fed_logs.specs.Moves.{Plans}
 use Rattle.fed_logs.proofs.Standing.{at_with, same_count}
 use Rattle.mover.proofs.Pairs.{Among, among_of}

@@ -6,7 +6,7 @@ use Rattle.std.proofs.lemmas.Bool.{and_parts, and_from, leb-true, le-leb}
 use Rattle.std.proofs.lemmas.List.Folds.{list_all-map}
 use Rattle.pending_queue.specs.Entries.{WaitingEntry, entry_stamp, last_stamp, is_of_volume, entry_tracks}
 use Rattle.group_state.proofs.SoundLaws.{all_up, all_filter, all_joined, last_up_to}
-use Rattle.group_tests.specs.Tried.{is_tried, AreTried}
+use Rattle.group_tests.specs.Trials.{is_tried, AreTried}
 
 pub tried_later : (at to tracks : ℕ) (entries : List WaitingEntry) → at ≤ to → AreTried at tracks entries → AreTried to tracks entries
 tried_later at to tracks entries le tried =

@@ -4,7 +4,7 @@ use Rattle.ckd_track.specs.declared.write.Kind.TheVariants.{Whole}
 use Rattle.ckd_track.specs.declared.write.Write.{Write}
 use Rattle.cut_core.specs.Events.{Event}
 use Rattle.cut_core.specs.Events.Event.{Join, Carry, Raise}
-use Rattle.cut_core.specs.Groups.{Entry, carried_entry}
+use Rattle.cut_core.specs.Groups.{CarriedEntry, carried_entry}
 
 -- a write on volume 0 that empties the track
 abbrev pub whole_on : (track stamp : ℕ) → Write
@@ -14,7 +14,7 @@ abbrev pub join : (control : ℕ) → List Write → (upto : ℕ) → Event
 join control writes upto = Join (record { control = control; writes = writes; upto = record { 0 = upto } })
 
 -- the carried entry of such a write
-abbrev pub written_entry : (control track stamp : ℕ) → Entry
+abbrev pub written_entry : (control track stamp : ℕ) → CarriedEntry
 written_entry k track stamp = carried_entry k (whole_on track stamp)
 
 -- Two controls, of which the first carries its volume 0 and has writes of 10 and 20; the second has told up to 15.

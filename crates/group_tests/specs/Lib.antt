@@ -1,8 +1,8 @@
 pub mod CutVectors
 pub mod StateVectors
 pub mod HistoryVectors
-pub mod Ready
-pub mod Tried
+pub mod ReadyStates
+pub mod Trials
 pub mod Turns
 pub mod LogVectors
 pub mod Changes

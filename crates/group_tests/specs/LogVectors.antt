@@ -6,7 +6,7 @@ use Rattle.group_state.specs.Groups.{Group, Shown, new_group, cut_of, shown_at}
 use Rattle.group_state.specs.Machine.{Call}
 use Rattle.group_state.specs.Machine.Call.{Join, Form, Carry, Drop, Resume}
 use Rattle.group_state.specs.Runs.{Answer}
-use Rattle.fed_logs.specs.Told.{HeldTracks}
+use Rattle.fed_logs.specs.ToldTracks.{HeldTracks}
 use Rattle.record_rows.specs.Deeds.{Deed}
 use Rattle.record_rows.specs.Deeds.Deed.{Logged, Changed}
 use Rattle.fed_logs.specs.Moves.{HasRowIn, IsDuplex, IsLive, AreFewer, Plans}

@@ -3,7 +3,7 @@
 ghost use Rattle.std.specs.Prelude.{◌≡◌, ◌++◌, ◌∷◌, [], true, false};
 ghost use Rattle.cut_core.specs.Events.{floor, last_cut, is_live};
 ghost use Rattle.cut_core.specs.Events.Event.{Copied, Break, Raise, Form, Drop, Carry, Resume, Forget};
-ghost use Rattle.cut_core.specs.Legal.{least_floor, is_legal_next, are_legal};
+ghost use Rattle.cut_core.specs.LegalHistories.{least_floor, is_legal_next, are_legal};
 ghost use Rattle.cut_core.specs.Shares.{share};
 ghost use Rattle.cut_core.specs.Groups.{group, copied_entry};
 ghost use Rattle.cut_core.specs.Cuts.{kept_writes};

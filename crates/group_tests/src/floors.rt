@@ -2,9 +2,9 @@
 
 ghost use Rattle.std.specs.Prelude.{◌≡◌, ◌≤◌, ◌∷◌, [], map, IsTrue};
 ghost use Rattle.cut_core.specs.Events.Event.{Raise, Break, Form};
-ghost use Rattle.cut_core.specs.Legal.{are_legal};
-ghost use Rattle.cut_core.specs.Seen.{history_event};
-ghost use Rattle.cut_core.specs.Standing.{StandsAfter};
+ghost use Rattle.cut_core.specs.LegalHistories.{are_legal};
+ghost use Rattle.cut_core.specs.HistoryEvents.{history_event};
+ghost use Rattle.cut_core.specs.Floors.{StandsAfter};
 ghost use Rattle.group_tests.specs.CutVectors.{join, whole_on};
 
 use crate::fixtures::{assert_same, one_write};

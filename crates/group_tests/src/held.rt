@@ -3,7 +3,7 @@
 ghost use Rattle.std.specs.Prelude.{◌≡◌, ◌<◌, ◌≤◌, IsTrue};
 ghost use Rattle.ckd_track.specs.Effects.{keeps_rules};
 ghost use Rattle.pending_queue.specs.Entries.{all_keep_rules};
-ghost use Rattle.group_tests.specs.Ready.{CarriesFirst, is_first_at, AreFirstAt};
+ghost use Rattle.group_tests.specs.ReadyStates.{CarriesFirst, is_first_at, AreFirstAt};
 
 use crate::fixtures::{assert_same, filled};
 use change_map::ChangeMap;

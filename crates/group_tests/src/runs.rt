@@ -3,7 +3,7 @@
 ghost use Rattle.std.specs.Prelude.{◌≡◌, ◌<◌, ◌≤◌, ◌∷◌, [], length, IsTrue};
 ghost use Rattle.pending_queue.specs.Entries.{all_keep_rules};
 ghost use Rattle.group_state.specs.Groups.{control_at};
-ghost use Rattle.group_state.specs.Sound.{MayJoin, MayCarry};
+ghost use Rattle.group_state.specs.SoundStates.{MayJoin, MayCarry};
 ghost use Rattle.group_state.specs.Machine.{group_after};
 ghost use Rattle.group_state.specs.Machine.Call.{Join, Copied, Form, Carry};
 ghost use Rattle.group_state.specs.Runs.{MayCopy};

@@ -1,7 +1,7 @@
 //! A queue against a plain list of what waits, through pushes, pops and drops at random.
 
 ghost use Rattle.std.specs.Prelude.{◌≡◌, ◌<◌, length};
-ghost use Rattle.group_tests.specs.Tried.{AreTried};
+ghost use Rattle.group_tests.specs.Trials.{AreTried};
 
 use crate::fixtures::{assert_same, batch_of, filled};
 use change_map::ChangeMap;

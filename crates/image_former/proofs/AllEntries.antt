@@ -4,7 +4,7 @@ use Rattle.std.specs.Prelude.{not, unwrap_or, IsTrue}
 use Rattle.std.specs.List.{All, AllZip, list_any, list_all}
 use Rattle.std.proofs.lemmas.Bool.{and_parts, and_from, or_parts, both_ways, not-true, not_from_false, false_from_ne_true, eq-eqb}
 use Rattle.std.proofs.lemmas.List.Elements.{All-head, All-tail}
-use Rattle.crash_plant.specs.Moments.{Standing, Kept, Follows, Same}
+use Rattle.crash_plant.specs.Moments.{Standing, SamePast, Follows, Same}
 use Rattle.crash_plant.proofs.Steps.{kept_here, follows_here}
 use Rattle.ckd_track.specs.declared.rec.Rec.{Rec}
 use Rattle.ckd_track.specs.Tracks.{is_track}
@@ -155,8 +155,8 @@ module _ {D : Type 0} (state : D → Standing) (tells : Type 0) (rows : List Pai
   pub bytes_all : tells → (olds news : List (VolumeJob D)) → AllZip (GoesBy state tells rows entries) olds news → OnVolumes state (λ was is. is.bytes ≡ was.bytes) olds news
   bytes_all told olds news goes = reads_all (λ was is. is.bytes ≡ was.bytes) (λ x. refl) (λ failed x y reads. reads.bytes told) olds news goes
 
-  pub past_all : tells → (olds news : List (VolumeJob D)) → AllZip (GoesBy state tells rows entries) olds news → OnVolumes state Kept olds news
-  past_all told olds news goes = reads_all Kept kept_here (λ failed x y reads. reads.past told) olds news goes
+  pub past_all : tells → (olds news : List (VolumeJob D)) → AllZip (GoesBy state tells rows entries) olds news → OnVolumes state SamePast olds news
+  past_all told olds news goes = reads_all SamePast kept_here (λ failed x y reads. reads.past told) olds news goes
 
   pub moments_all : tells → (olds news : List (VolumeJob D)) → AllZip (GoesBy state tells rows entries) olds news → OnVolumes state (Follows Same) olds news
   moments_all told olds news goes = reads_all (Follows Same) (λ x. follows_here x Same (λ b now. refl)) (λ failed x y reads. reads.moments told) olds news goes

@@ -3,7 +3,7 @@ use Rattle.std.specs.Prelude.{◌≡◌, ◌≤◌, ◌+◌, ◌*◌, ℕ, ◌==
 use Rattle.std.specs.List.{All, list_any, list_all}
 use Rattle.xrc_edge.specs.Causes.{HasCause}
 use Rattle.xrc_edge.specs.declared.outcome.Failed.{Failed}
-use Rattle.crash_plant.specs.Moments.{Standing, Kept, Follows, Same}
+use Rattle.crash_plant.specs.Moments.{Standing, SamePast, Follows, Same}
 use Rattle.ckd_track.specs.declared.rec.Rec.{Rec}
 use Rattle.ckd_track.specs.declared.write.Kind.{Kind}
 use Rattle.ckd_track.specs.SlotPlaces.{slot_end, slot_track}
@@ -42,7 +42,7 @@ StartsFromTrack head old recs = head.whole ≡ false → recs ≡ unwrap_or old 
 pub record Reads {D : Type 0} (state : D → Standing) (tells : Type 0) (old new : D) (result : Result (Unit {0}) Failed) : Type 0 where
   pub length_is : (state new).length_is ≡ (state old).length_is
   pub bytes : tells → (state new).bytes ≡ (state old).bytes
-  pub past : tells → Kept (state old) (state new)
+  pub past : tells → SamePast (state old) (state new)
   pub moments : tells → Follows Same (state old) (state new)
   pub cause : HasCause (state old).faults (state new).faults result
 
@@ -60,7 +60,7 @@ OfBytes state holds None = Unit {0}
 pub record OnlyReadsDisk (tells : Type 0) (failed : Bool) (old new : Standing) : Type 0 where
   pub length_is : new.length_is ≡ old.length_is
   pub bytes : tells → new.bytes ≡ old.bytes
-  pub past : tells → Kept old new
+  pub past : tells → SamePast old new
   pub moments : tells → Follows Same old new
   pub cause : FailsByCount failed old.faults new.faults
 

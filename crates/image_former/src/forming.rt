@@ -2,7 +2,7 @@
 
 ghost use Rattle.std.specs.Prelude.{◌≡◌, ◌<◌, ◌≤◌, ◌+◌, ◌*◌, ◌↔◌, ℕ, [], false, true, length, take, count_by, OnOk, OnErr};
 ghost use Rattle.std.specs.List.{All, AllZip, list_all};
-ghost use Rattle.crash_plant.specs.Moments.{Follows, Kept, Same};
+ghost use Rattle.crash_plant.specs.Moments.{Follows, SamePast, Same};
 ghost use Rattle.xrc_journal.specs.Items.{AreItems, anywhere, body_spelling, item_spelling};
 ghost use Rattle.xrc_journal.specs.Items.Item.{Image};
 ghost use Rattle.xrc_journal.specs.Bodies.{are_late, have_image, with_item};
@@ -126,7 +126,7 @@ pub fn form_body<D: Disk>(
     ensures cause { AllZip (λ old new. old.failed ≡ false → OnVolume D.state (λ was is. FailsByCount new.failed was.faults is.faults) old.disk new.disk) jobs.old jobs.new }
     ensures by_one { OnVolumes D.state (λ was is. is.faults ≤ was.faults + 1) jobs.old jobs.new }
     ensures length { OnVolumes D.state (λ was is. is.length_is ≡ was.length_is) jobs.old jobs.new }
-    ensures past { D.tells → OnVolumes D.state Kept jobs.old jobs.new }
+    ensures past { D.tells → OnVolumes D.state SamePast jobs.old jobs.new }
     ensures moments { D.tells → OnVolumes D.state (Follows Same) jobs.old jobs.new }
     ensures bytes { D.tells → OnVolumes D.state (λ was is. is.bytes ≡ was.bytes) jobs.old jobs.new }
 {

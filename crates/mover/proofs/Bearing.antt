@@ -13,7 +13,7 @@ use Rattle.primary_ctl.specs.Primaries.{primary}
 use Rattle.group_state.specs.Groups.{Group}
 use Rattle.group_state.specs.Runs.{Answer}
 use Rattle.row_changes.specs.Changes.{Timed, break_time_of}
-use Rattle.row_changes.specs.Toward.{all_broke, breaks_control}
+use Rattle.row_changes.specs.Spans.{all_broke, breaks_control}
 use Rattle.record_rows.specs.Deeds.{Deed, rows_behind, time_meant_behind}
 use Rattle.record_rows.specs.Deeds.Deed.{Logged, Changed, Marked}
 use Rattle.record_rows.proofs.Counting.{counts_append}
@@ -26,7 +26,7 @@ use Rattle.site_store.specs.Deeds.{content_behind, means_behind, means_by_deed}
 use Rattle.site_store.specs.Exceptions.{Exceptions, excepted_behind}
 use Rattle.site_store.specs.Seeing.{SeesBehind}
 use Rattle.site_store.proofs.Turning.{means_are}
-use Rattle.consistency.specs.Bears.{HoldsPrimaries, IsTime, Run, Stage, breaks_of, tracks_of_row}
+use Rattle.consistency.specs.Stages.{HoldsPrimaries, IsTime, Run, Stage, breaks_of, tracks_of_row}
 use Rattle.fed_logs.specs.Deeds.{held_behind}
 use Rattle.fed_logs.specs.LogLaws.{ReportsBreak}
 use Rattle.fed_logs.specs.Logs.{Sizes}
@@ -43,9 +43,9 @@ use Rattle.consistency.proofs.Leading.{leads_on, leads_rise}
 use Rattle.consistency.proofs.Legs.{leg_may_be_meant}
 use Rattle.mover.specs.BorneLaws.{SeenDeedsBear, SeenDeedsShowPoints}
 use Rattle.mover.specs.Points.{AreSteps, LeavesSo, point_behind, point_by}
-use Rattle.mover.specs.Told.{held_by_choice}
+use Rattle.mover.specs.OwedTracks.{held_by_choice}
 use Rattle.mover.specs.Working.{Work, WorkBegins}
-use Rattle.mover.specs.Silent.{all_silent}
+use Rattle.mover.specs.SilentBreaks.{all_silent}
 use Rattle.mover.proofs.Breaking.{all_are, all_between, one_between, report_is_named}
 use Rattle.mover.proofs.Excepting.{excepts_none}
 use Rattle.mover.proofs.Held.{KeepPairs, content_behind_is, pairs_behind}

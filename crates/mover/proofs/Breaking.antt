@@ -13,15 +13,15 @@ use Rattle.group_state.specs.Runs.{Answer}
 use Rattle.row_changes.specs.Changes.{Timed, after_change, after_changes, break_time_of, broken_row, is_at, since}
 use Rattle.row_changes.specs.Changes.Due.{NoneDue}
 use Rattle.row_changes.specs.Changes.RowChange.{Break}
-use Rattle.row_changes.specs.Toward.{all_broke, breaks_control, hit_count, lies_in}
+use Rattle.row_changes.specs.Spans.{all_broke, breaks_control, hit_count, lies_in}
 use Rattle.record_rows.specs.Deeds.{Deed, rows_by_deed}
 use Rattle.record_rows.specs.Deeds.Deed.{Logged, Changed, Marked}
-use Rattle.record_rows.specs.Told.{due_after_changes}
+use Rattle.record_rows.specs.ToldRows.{due_after_changes}
 use Rattle.record_rows.proofs.Composing.{changes_in_a_row}
 use Rattle.site_store.specs.DeedChanges.{DeedOfChanges, changes_of, deeds_of}
 use Rattle.consistency.specs.Leads.{Comes}
 use Rattle.consistency.specs.Ways.{are_at_time}
-use Rattle.mover.specs.Silent.{all_silent, breaking_at, has_none_live, silent_at, silent_from, silent_of, with_silent}
+use Rattle.mover.specs.SilentBreaks.{all_silent, breaking_at, has_none_live, silent_at, silent_from, silent_of, with_silent}
 use Rattle.fed_logs.specs.LogLaws.{ReportsBreak}
 use Rattle.fed_logs.specs.LogLaws.ReportsBreak.{Now, Later}
 use Rattle.fed_logs.specs.Moves.{HasRowIn, IsLive, MayFollow, is_break_of_control}

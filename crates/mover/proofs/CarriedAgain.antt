@@ -9,15 +9,15 @@ use Rattle.pair_table.specs.Tables.{none_clash}
 use Rattle.group_state.specs.declared.volume.Volume.{Volume}
 use Rattle.group_state.specs.Controls.{new_control}
 use Rattle.group_state.specs.Groups.{Group, control_at}
-use Rattle.group_state.specs.Sound.{is_dropped}
+use Rattle.group_state.specs.SoundStates.{is_dropped}
 use Rattle.group_state.specs.Volumes.{passes, volume_of}
 use Rattle.group_state.proofs.VolumeLaws.{found_number}
-use Rattle.record_rows.specs.Told.{InPlaces}
-use Rattle.consistency.specs.Bears.{tracks_of_row}
+use Rattle.record_rows.specs.ToldRows.{InPlaces}
+use Rattle.consistency.specs.Stages.{tracks_of_row}
 use Rattle.fed_logs.specs.Logs.{is_of_size}
 use Rattle.turn_group.specs.Notes.{KnownVolume, known_of, known_volume, volumes_known}
 use Rattle.turn_group.proofs.Known.{HasSizesOf, map_at, sizes_at, sizes_in}
-use Rattle.mover.specs.Told.{CarriedAsLive}
+use Rattle.mover.specs.OwedTracks.{CarriedAsLive}
 use Rattle.mover.proofs.Pairs.{among_of, apart_still, found_row, pair_of, pairs_of}
 use Rattle.mover.specs.Moves.{IsOfLive, KnowsRows, are_numbers_distinct, is_carried_as, known_at_control, names_number, row_of_volume}
 use Rattle.mover.specs.Epochs.{IsSamePair}

@@ -16,7 +16,7 @@ use Rattle.change_map.proofs.InSets.{had_within, has_every}
 use Rattle.pending_queue.specs.Entries.{WaitingEntry, copies, copy_head, copy_of, due, entries_of, entry_stamp, entry_tracks, is_copy_of, is_of_volume, is_queued_on, is_whole, left}
 use Rattle.group_state.specs.declared.volume.Volume.{Volume}
 use Rattle.group_state.specs.Volumes.{copied_track, dropped_volume, formed_track, is_wanted, noted_write, passes, volume_of, wants, with_formed_copies, with_formed_copy, with_volume, with_write, with_writes}
-use Rattle.group_state.specs.Sound.{passes_or_none}
+use Rattle.group_state.specs.SoundStates.{passes_or_none}
 use Rattle.group_state.specs.Controls.{ControlState, new_control, broke, carried_writes, copied, dropped, formed, joined, raised}
 use Rattle.group_state.specs.Groups.{Group, control_at, with_control}
 use Rattle.group_state.specs.Machine.{Call, Reply}
@@ -26,7 +26,7 @@ use Rattle.fed_logs.specs.Logs.{IsPlanDone, is_of_size}
 use Rattle.fed_logs.proofs.Went.{WentRead}
 use Rattle.fed_logs.proofs.Went.WentRead.{Same, Joins, Copies, Raises, Breaks}
 use Rattle.fed_logs.proofs.Standing.{at_with, same_count}
-use Rattle.mover.specs.Told.{is_copied_to, is_mapped, is_owed, is_to_be_copied, is_volume_kept}
+use Rattle.mover.specs.OwedTracks.{is_copied_to, is_mapped, is_owed, is_to_be_copied, is_volume_kept}
 
 -- where the volume is kept the track is owed
 abbrev pub OwedLater : (v x : ℕ) → ControlState → Type 0

@@ -7,7 +7,7 @@ use Rattle.group_state.specs.declared.phase.Phase.{Phase}
 use Rattle.group_state.specs.declared.phase.Phase.TheVariants.{Telling, Broken, Reported}
 use Rattle.group_state.specs.Controls.{ControlState, fits, fits_track, reported, reported_break, reported_cause, room_of}
 use Rattle.group_state.specs.Groups.{Group, control_at, cut_of, gives_nothing, shown_at}
-use Rattle.group_state.specs.Machine.{Call, copy_reply, reply_to}
+use Rattle.group_state.specs.Machine.{Call, reply_to_copied, reply_to}
 use Rattle.group_state.specs.Machine.Call.{Join, NextWanted, Copied, Raise, Break, Form, Carry, Drop, Resume, Forget}
 use Rattle.group_state.specs.Machine.Reply.{Joined, Held, Formed, Nothing}
 use Rattle.group_state.specs.Runs.{Answer, Runs, shown_by}
@@ -44,7 +44,7 @@ shown_so s (Join b) = choose (fits (control_at s b.control) b)
 shown_so s (NextWanted k) = refl
 shown_so s (Copied k v x at slot) = choose (is_wanted v x (control_at s k).volumes) (fits_track (control_at s k) slot)
   where
-    choose : (t u : Bool) → shows_at_cut (shown_by (copy_reply t u (room_of (control_at s k)))) ≡ true
+    choose : (t u : Bool) → shows_at_cut (shown_by (reply_to_copied t u (room_of (control_at s k)))) ≡ true
     choose true true = refl
     choose true false = refl
     choose false u = refl

@@ -17,18 +17,18 @@ use Rattle.pending_queue.specs.Groups.{FormedGroup}
 use Rattle.group_state.specs.Volumes.{is_wanted}
 use Rattle.group_state.specs.Controls.{fits, fits_track, is_telling, room_of}
 use Rattle.group_state.specs.Groups.{Group, Shown, control_at, cut_of, gives_nothing, shown_at, shown_in}
-use Rattle.group_state.specs.Machine.{Call, copy_reply, reply_to, steps}
+use Rattle.group_state.specs.Machine.{Call, reply_to_copied, reply_to, steps}
 use Rattle.group_state.specs.Machine.Call.{Join, NextWanted, Copied, Raise, Break, Form, Carry, Drop, Resume, Forget}
 use Rattle.group_state.specs.Machine.Reply.{Formed, Held, Joined, Nothing}
 use Rattle.group_state.specs.Runs.{Answer, Runs, shown_by}
-use Rattle.group_state.specs.Sound.{KeepsGroup}
+use Rattle.group_state.specs.SoundStates.{KeepsGroup}
 use Rattle.group_state.proofs.Kept.{kept_next}
 use Rattle.row_changes.specs.Changes.{Due, Timed, is_at}
 use Rattle.record_rows.specs.Deeds.{Deed, rows_by_deed, time_by_deed}
 use Rattle.record_rows.specs.Deeds.Deed.{Logged, Changed, Marked}
 use Rattle.record_rows.specs.GroupRows.{breaking, group_changes, matured_with_group, maturing, maturing_of}
 use Rattle.record_rows.specs.Hits.{hit_changes, hit_now, marked_changes, reached_changes, rows_marked, told_changes}
-use Rattle.record_rows.specs.Told.{due_after_changes}
+use Rattle.record_rows.specs.ToldRows.{due_after_changes}
 use Rattle.site_store.specs.DeedChanges.{DeedOfChanges, changes_of}
 use Rattle.fed_logs.specs.Feeds.{part_of_reader}
 use Rattle.fed_logs.specs.LogLaws.{WasShown}
@@ -37,7 +37,7 @@ use Rattle.fed_logs.specs.Moves.{is_break_of_control}
 use Rattle.fed_logs.specs.ShownBreaks.{BreaksAreToCome, BrokeAsTraces, IsTracesBreak}
 use Rattle.fed_logs.proofs.Shown.{break_was_told}
 use Rattle.fed_logs.proofs.ShownBreaks.{shown_breaks_are_the_traces}
-use Rattle.mover.specs.Silent.{all_silent, breaking_at, has_none_live, silent_at, silent_from, silent_of}
+use Rattle.mover.specs.SilentBreaks.{all_silent, breaking_at, has_none_live, silent_at, silent_from, silent_of}
 use Rattle.fed_logs.specs.LaneFeeds.{telling_behind_calls}
 use Rattle.fed_logs.proofs.ToldControls.{telling_is_told}
 use Rattle.mover.specs.Bearing.{is_early_break}
@@ -57,7 +57,7 @@ shown_of s (Join b) shown e = choose (fits (control_at s b.control) b) e
 shown_of s (NextWanted k) shown e = absurd cc
 shown_of s (Copied k v x at slot) shown e = choose (is_wanted v x (control_at s k).volumes) (fits_track (control_at s k) slot) e
   where
-    choose : (t u : Bool) → shown_by (copy_reply t u (room_of (control_at s k))) ≡ Some shown → (cut : Stamp) × (shown_at cut s ≡ shown)
+    choose : (t u : Bool) → shown_by (reply_to_copied t u (room_of (control_at s k))) ≡ Some shown → (cut : Stamp) × (shown_at cut s ≡ shown)
     choose true true e = absurd cc
     choose true false e = absurd cc
     choose false u e = absurd cc

@@ -17,7 +17,7 @@ use Rattle.group_state.specs.declared.volume.Volume.{Volume}
 use Rattle.group_state.specs.Volumes.{passes, volume_of, wants}
 use Rattle.group_state.specs.Controls.{ControlState}
 use Rattle.group_state.specs.Groups.{control_at}
-use Rattle.group_state.specs.Sound.{passes_or_none}
+use Rattle.group_state.specs.SoundStates.{passes_or_none}
 use Rattle.record_rows.specs.Hits.{is_device_suspended}
 use Rattle.record_rows.specs.Deeds.{Deed}
 use Rattle.site_means.specs.Images.{Shape, shape_of}
@@ -28,8 +28,8 @@ use Rattle.site_store.specs.Deeds.{content_behind}
 use Rattle.site_store.specs.Exceptions.{Exceptions, excepted_behind}
 use Rattle.site_store.specs.Seeing.{SeesBehind}
 use Rattle.site_store.proofs.Seeing.{same_content}
-use Rattle.consistency.specs.Bears.{breaks_of, tracks_of_row}
-use Rattle.fed_logs.specs.Told.{AllHold, after_entries, has_no_later_copy, is_no_later_copy, is_queued_up_to, is_settled_in, is_track_settled}
+use Rattle.consistency.specs.Stages.{breaks_of, tracks_of_row}
+use Rattle.fed_logs.specs.ToldTracks.{AllHold, after_entries, has_no_later_copy, is_no_later_copy, is_queued_up_to, is_settled_in, is_track_settled}
 use Rattle.fed_logs.specs.Deeds.{held_behind}
 use Rattle.fed_logs.specs.Feeds.{truth_of}
 use Rattle.fed_logs.specs.Logs.{BeginsLog, is_of_size}
@@ -39,7 +39,7 @@ use Rattle.consistency.specs.Bearing.{ShowsPoint}
 use Rattle.consistency.specs.Leads.{Point}
 use Rattle.mover.specs.BorneLaws.{DoesWork, StandsForRowsAgain}
 use Rattle.mover.specs.Points.{point_behind}
-use Rattle.mover.specs.Told.{CarriedAsLive, ExceptedAreOwed, FailedAreOwed, IsAny, held_by_choice, is_copied_to, is_mapped, is_owed, is_volume_kept}
+use Rattle.mover.specs.OwedTracks.{CarriedAsLive, ExceptedAreOwed, FailedAreOwed, IsAny, held_by_choice, is_copied_to, is_mapped, is_owed, is_volume_kept}
 use Rattle.mover.specs.Working.{IsKeptToEnd, StandsForRows, Work, WorkBegins}
 use Rattle.mover.proofs.Bearing.{below_among, shown}
 use Rattle.mover.proofs.Excepting.{none_excepted, owes_at_end}

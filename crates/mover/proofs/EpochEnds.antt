@@ -7,11 +7,11 @@ use Rattle.tod_stamp.specs.declared.stamp.Stamp.{Stamp}
 use Rattle.atomic_table.specs.Seated.{TableId}
 use Rattle.crash_plant.specs.Moments.{PlantState}
 use Rattle.group_state.specs.Groups.{Group}
-use Rattle.group_state.specs.Sound.{KeepsGroup}
+use Rattle.group_state.specs.SoundStates.{KeepsGroup}
 use Rattle.mover.specs.Groups.{is_at_limit}
 use Rattle.fed_logs.specs.Logs.{AreSized}
 use Rattle.fed_logs.specs.ShownBreaks.{BreaksAreToCome}
-use Rattle.mover.specs.Told.{CarriedAsLive, FailedAreOwed}
+use Rattle.mover.specs.OwedTracks.{CarriedAsLive, FailedAreOwed}
 use Rattle.turn_group.specs.Calls.{as_answer}
 use Rattle.turn_group.specs.Histories.{OneHistory}
 use Rattle.turn_group.specs.Notes.{says}

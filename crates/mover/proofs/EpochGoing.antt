@@ -7,16 +7,16 @@ use Rattle.crash_plant.specs.Moments.{PlantState}
 use Rattle.write_trace.specs.declared.trace.Trace.{Trace}
 use Rattle.group_state.specs.Groups.{Group}
 use Rattle.group_state.specs.Runs.{Answer}
-use Rattle.group_state.specs.Sound.{KeepsGroup}
+use Rattle.group_state.specs.SoundStates.{KeepsGroup}
 use Rattle.xrc_journal.specs.Bodies.{have_image}
 use Rattle.xrc_journal.specs.Items.{Item}
 use Rattle.record_rows.specs.Deeds.{Deed}
 use Rattle.site_store.specs.DeedChanges.{AreByChanges, deeds_of}
-use Rattle.site_store.specs.Doing.{BeginsDeeds}
+use Rattle.site_store.specs.DoneDeeds.{BeginsDeeds}
 use Rattle.site_store.specs.Exceptions.{Exceptions}
 use Rattle.fed_logs.specs.Feeds.{AllGoUpTo, is_answer_of_mover, is_up_to_limit, part_of_mover, part_of_reader}
 use Rattle.fed_logs.specs.ShownBreaks.{BrokeAsTraces}
-use Rattle.consistency.specs.Bears.{Run}
+use Rattle.consistency.specs.Stages.{Run}
 use Rattle.pair_table.specs.declared.level.Level.{Level}
 use Rattle.pair_table.specs.Tables.{none_clash}
 use Rattle.row_changes.specs.Changes.Due.{NoneDue}

@@ -4,7 +4,7 @@ use Rattle.std.specs.Prelude.{IsSomeAnd, slice_index_or, take}
 use Rattle.crash_plant.specs.Moments.{PlantState}
 use Rattle.write_trace.specs.declared.trace.Trace.{Trace}
 use Rattle.group_state.specs.Groups.{Group}
-use Rattle.group_state.specs.Sound.{KeepsGroup}
+use Rattle.group_state.specs.SoundStates.{KeepsGroup}
 use Rattle.record_rows.specs.Deeds.{time_meant_behind}
 use Rattle.site_store.proofs.Moments.{have_begun}
 use Rattle.site_store.proofs.Single.{no_call}

@@ -28,7 +28,7 @@ use Rattle.mover.specs.Readers.{LaneReaderState}
 use Rattle.mover.specs.Lanes.{HadBroken, IsReaderOf, broken_by}
 use Rattle.mover.specs.Moves.{IsInStep, IsLeftBehind, KnowsRows, MayMove, SessionGoesOn}
 use Rattle.mover.specs.Rounds.{AllRead, AreLanesOf, IsDone, Read}
-use Rattle.record_rows.specs.Told.{InPlaces}
+use Rattle.record_rows.specs.ToldRows.{InPlaces}
 use Rattle.mover.specs.Epochs.{AllTurnOut, IsAtLimit, IsAtTime, IsSamePair, LanesBrokeAs, MayBeginEpoch, TurnsOut, break_below}
 use Rattle.mover.proofs.BreaksBelow.{all_below}
 use Rattle.mover.proofs.LaneFeeds.{some_item}

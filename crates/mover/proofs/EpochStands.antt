@@ -14,18 +14,18 @@ use Rattle.pair_table.specs.declared.level.Level.{Level}
 use Rattle.pair_table.specs.declared.row.PairRow.{PairRow}
 use Rattle.group_state.specs.Groups.{Group}
 use Rattle.group_state.specs.Runs.{Answer}
-use Rattle.group_state.specs.Sound.{KeepsGroup}
+use Rattle.group_state.specs.SoundStates.{KeepsGroup}
 use Rattle.row_changes.specs.Changes.{Timed}
 use Rattle.row_changes.specs.Changes.Due.{NoneDue}
-use Rattle.row_changes.specs.Toward.{hit_count, is_break}
+use Rattle.row_changes.specs.Spans.{hit_count, is_break}
 use Rattle.record_rows.specs.Deeds.{rows_behind, time_meant_behind}
 use Rattle.record_rows.proofs.Counting.{counts_append}
 use Rattle.site_means.specs.Images.{shape_of}
 use Rattle.xrc_command.specs.declared.line.Line.{Line}
 use Rattle.site_store.specs.DeedChanges.{DeedOfChanges, changes_of, deeds_of}
-use Rattle.site_store.specs.Doing.{DoesDeeds}
+use Rattle.site_store.specs.DoneDeeds.{DoesDeeds}
 use Rattle.site_store.specs.Exceptions.{Exceptions, excepted_behind}
-use Rattle.consistency.specs.Bears.{Run, breaks_of}
+use Rattle.consistency.specs.Stages.{Run, breaks_of}
 use Rattle.fed_logs.specs.Feeds.{is_answer_of_mover, part_of_mover}
 use Rattle.fed_logs.specs.Logs.{BeginsLog, IsFedLog}
 use Rattle.fed_logs.specs.Moves.{MakesAllDeeds, Plans}
@@ -36,8 +36,8 @@ use Rattle.consistency.specs.Bearing.{ShowsPoint}
 use Rattle.consistency.specs.Leads.{Point}
 use Rattle.consistency.specs.Ways.{IsLegOf, Leg, MayTakeEffect, PassedPoint, hits_of_leg, leg_after, leg_to}
 use Rattle.mover.specs.Points.{point_behind, point_by, points_by}
-use Rattle.mover.specs.Silent.{all_silent, with_silent}
-use Rattle.mover.specs.Told.{CarriedAsLive, FailedAreOwed, held_by_choice}
+use Rattle.mover.specs.SilentBreaks.{all_silent, with_silent}
+use Rattle.mover.specs.OwedTracks.{CarriedAsLive, FailedAreOwed, held_by_choice}
 use Rattle.mover.specs.Working.{IsKeptToEnd, StandsForRows, excepted_last, last_point_of, Work, WorkBegins, named_steps, points_in}
 use Rattle.mover.proofs.Bearing.{leg_there}
 use Rattle.mover.proofs.Ending.{stands_for_rows_again}

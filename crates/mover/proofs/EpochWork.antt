@@ -14,10 +14,10 @@ use Rattle.site_means.specs.Images.{Shape, shape_of}
 use Rattle.site_means.proofs.Goes.{shape_same}
 use Rattle.xrc_command.specs.declared.line.Line.{Line}
 use Rattle.site_store.specs.DeedChanges.{DeedOfChanges, changes_of, deeds_of}
-use Rattle.site_store.specs.Doing.{BeginsDeeds, with_next}
+use Rattle.site_store.specs.DoneDeeds.{BeginsDeeds, with_next}
 use Rattle.site_store.specs.Seeing.{SeesBehind}
 use Rattle.consistency.specs.Bearing.{Bears}
-use Rattle.consistency.specs.Bears.{breaks_of}
+use Rattle.consistency.specs.Stages.{breaks_of}
 use Rattle.fed_logs.specs.Feeds.{part_of_mover}
 use Rattle.fed_logs.specs.Moves.{HasRowIn, IsDuplex, MakesDeeds}
 use Rattle.fed_logs.proofs.BreaksToCome.{breaks_to_come_are_awaited}

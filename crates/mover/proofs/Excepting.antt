@@ -19,8 +19,8 @@ use Rattle.record_rows.specs.Hits.{is_device_suspended}
 use Rattle.record_rows.specs.Deeds.{Deed, entries_by_deed, rows_behind, rows_by_deed}
 use Rattle.record_rows.specs.Deeds.Deed.{Logged, Changed, Marked}
 use Rattle.site_store.specs.Exceptions.{Exceptions, excepted_behind, excepted_by_deed, is_kept, is_whole_on}
-use Rattle.fed_logs.specs.Told.{HeldTracks, held_behind_group, names_track}
-use Rattle.group_state.specs.Sound.{is_entry_of_control}
+use Rattle.fed_logs.specs.ToldTracks.{HeldTracks, held_behind_group, names_track}
+use Rattle.group_state.specs.SoundStates.{is_entry_of_control}
 use Rattle.fed_logs.proofs.Keeping.{at_map}
 use Rattle.group_state.proofs.OwnParts.{own_part}
 use Rattle.fed_logs.specs.Feeds.{is_call_of_reader, part_of_mover}
@@ -30,7 +30,7 @@ use Rattle.fed_logs.proofs.Bearing.{kept_shown}
 use Rattle.fed_logs.proofs.ReadCalls.{answer_of, drop_begins, drop_log, fewer_begins, form_begins, form_log, nothing_begins, read_begins, read_on}
 use Rattle.fed_logs.proofs.Standing.{at_with, formed_count, same_count}
 use Rattle.fed_logs.proofs.Went.{form_shown}
-use Rattle.mover.specs.Told.{ExceptedAreOwed, IsUnfailed, is_copied_to, is_volume_kept}
+use Rattle.mover.specs.OwedTracks.{ExceptedAreOwed, IsUnfailed, is_copied_to, is_volume_kept}
 use Rattle.mover.proofs.Copying.{OwedLater, done_owes_none, drops_later, forms_later, kept_within, read_later, read_within}
 use Rattle.mover.proofs.Held.{KeepPairs}
 use Rattle.mover.proofs.Pairs.{Among, among_of, apart_still, entry_names, one_device, pairs_of}

@@ -17,12 +17,12 @@ use Rattle.group_state.specs.Groups.{Group, control_at, cut_of, formed_at, with_
 use Rattle.group_state.specs.Machine.{Call, Reply, steps}
 use Rattle.group_state.specs.Machine.Call.{Join, NextWanted, Copied, Raise, Break, Form, Carry, Drop, Resume, Forget}
 use Rattle.group_state.specs.Runs.{Answer, Runs}
-use Rattle.group_state.specs.Sound.{KeepsGroup, Sound, is_dropped, is_entry_of, may_wait, passes_or_none}
+use Rattle.group_state.specs.SoundStates.{KeepsGroup, Sound, is_dropped, is_entry_of, may_wait, passes_or_none}
 use Rattle.group_state.specs.Volumes.{copied_track, dropped_map, dropped_volume, formed_track, is_wanted, noted_write, passes, volume_of, wants, with_formed_copies, with_formed_copy, with_write, with_writes}
 use Rattle.group_state.proofs.VolumeLaws.{Keeps, passes_with}
 use Rattle.record_rows.specs.Deeds.{Deed}
 use Rattle.record_rows.specs.Hits.{is_device_suspended}
-use Rattle.record_rows.specs.Told.{InPlaces}
+use Rattle.record_rows.specs.ToldRows.{InPlaces}
 use Rattle.fed_logs.proofs.Keeping.{at_map}
 use Rattle.fed_logs.proofs.Tracks.{tested_with}
 use Rattle.fed_logs.specs.Feeds.{is_answer_of_mover, is_call_of_reader, part_of_mover}
@@ -33,7 +33,7 @@ use Rattle.fed_logs.proofs.Went.{WentRead, went_read}
 use Rattle.fed_logs.proofs.Went.WentRead.{Same, Joins, Copies, Raises, Breaks}
 use Rattle.turn_group.specs.Notes.{known_volume}
 use Rattle.turn_group.proofs.Known.{HasSizesOf, sizes_at, sizes_in, sizes_last}
-use Rattle.mover.specs.Told.{CarriedAsLive, FailedAreOwed, is_copied_to, is_mapped, is_owed, is_to_be_copied, is_volume_kept}
+use Rattle.mover.specs.OwedTracks.{CarriedAsLive, FailedAreOwed, is_copied_to, is_mapped, is_owed, is_to_be_copied, is_volume_kept}
 use Rattle.mover.proofs.Copying.{dropped_mapped, kept_within}
 use Rattle.mover.specs.Dropping.{IsDeviceSuspended, OwesExactly, owed_by_call, owed_by_calls, stood_duplex}
 use Rattle.mover.specs.Epochs.{IsSamePair}

@@ -16,7 +16,7 @@ use Rattle.row_changes.specs.Changes.RowChange.{Break, Hit, MarkedHit, Mature, R
 use Rattle.record_rows.specs.Hits.{is_device_suspended}
 use Rattle.consistency.specs.Leads.{Comes}
 use Rattle.fed_logs.specs.Moves.{HasRowIn}
-use Rattle.mover.specs.Told.{IsUnfailed}
+use Rattle.mover.specs.OwedTracks.{IsUnfailed}
 use Rattle.mover.proofs.Pairs.{Among, among_cases, among_of, apart_still, contains_of, found_of_device, pair_of, same_pairs, changed_pair}
 use Rattle.mover.proofs.Pairs.Among.{Here, Later}
 

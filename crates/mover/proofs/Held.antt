@@ -13,9 +13,9 @@ use Rattle.record_rows.specs.Deeds.{Deed, rows_by_deed, rows_behind}
 use Rattle.record_rows.specs.Deeds.Deed.{Logged, Changed, Marked}
 use Rattle.site_means.specs.Sight.{content_of}
 use Rattle.site_store.specs.Deeds.{content_behind}
-use Rattle.fed_logs.specs.Told.{HeldTracks, after_entries, held_behind_group, names_track}
+use Rattle.fed_logs.specs.ToldTracks.{HeldTracks, after_entries, held_behind_group, names_track}
 use Rattle.fed_logs.specs.Deeds.{held_behind}
-use Rattle.mover.specs.Told.{held_by_choice, held_of_row}
+use Rattle.mover.specs.OwedTracks.{held_by_choice, held_of_row}
 use Rattle.mover.proofs.Pairs.{Among, entries_on_still, entry_names, found_row, pairs_of}
 
 -- Each deed leaves the pairs of the rows before it.

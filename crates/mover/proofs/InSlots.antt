@@ -6,7 +6,7 @@ use Rattle.std.proofs.lemmas.Bool.{and_from, and_parts, eqb-true, ltb-true, lt-l
 use Rattle.tod_stamp.specs.declared.limits.TheConstants.{TRACKS_OF_CYLINDER}
 use Rattle.crash_plant.specs.declared.device.Device.TheVariants.{Volume}
 use Rattle.crash_plant.specs.Calls.{Elapses}
-use Rattle.crash_plant.specs.Moments.{Follows, Kept, PlantState, Same, Standing, on}
+use Rattle.crash_plant.specs.Moments.{Follows, SamePast, PlantState, Same, Standing, on}
 use Rattle.crash_plant.proofs.Steps.{follows_here, follows_then}
 use Rattle.pair_table.specs.declared.row.PairRow.{PairRow}
 use Rattle.pair_table.specs.Rows.{is_suspended}
@@ -58,7 +58,7 @@ module _ (tracks : ℕ → Bool) where
   writes_same : (a b : Standing) → b.bytes ≡ a.bytes → Follows Same a b → WritesSlotsOf tracks a b
   writes_same = writes_by Same differs_same
 
-  writes_then : (a b c : Standing) → Kept a b → Kept b c → WritesSlotsOf tracks a b → WritesSlotsOf tracks b c → WritesSlotsOf tracks a c
+  writes_then : (a b c : Standing) → SamePast a b → SamePast b c → WritesSlotsOf tracks a b → WritesSlotsOf tracks b c → WritesSlotsOf tracks a c
   writes_then a b c past kept x y = record {
     bytes = differs_then a.bytes b.bytes c.bytes x.bytes y.bytes;
     moments = follows_then a b c (DiffersInSlotsOf tracks) (DiffersInSlotsOf tracks) (DiffersInSlotsOf tracks) past.later x.moments kept y.moments (λ p q here d. d) (λ p q r here there d e. differs_then p q r d e);

@@ -13,7 +13,7 @@ use Rattle.fed_logs.specs.Feeds.{is_call_of_reader}
 use Rattle.fed_logs.specs.Logs.{IsFedLog, is_call_of_seat}
 use Rattle.fed_logs.proofs.ReadCalls.{answer_of, drop_log, form_log, read_on}
 use Rattle.fed_logs.proofs.Standing.{at_with, formed_count, same_count}
-use Rattle.mover.specs.Told.{is_volume_kept}
+use Rattle.mover.specs.OwedTracks.{is_volume_kept}
 use Rattle.mover.proofs.Copying.{kept_dropped, kept_formed, kept_read, kept_within, read_within}
 
 module _ (traces : List Trace) (k v : ℕ) where

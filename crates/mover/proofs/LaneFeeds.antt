@@ -7,8 +7,8 @@ use Rattle.write_trace.specs.declared.trace.Trace.{Trace}
 use Rattle.sidefile.specs.declared.hand.Halt.{Halt}
 use Rattle.group_state.specs.Groups.{Group}
 use Rattle.group_state.specs.Runs.{Answer, Runs}
-use Rattle.group_state.specs.Sound.{KeepsGroup}
-use Rattle.fed_logs.specs.Told.{floor_of}
+use Rattle.group_state.specs.SoundStates.{KeepsGroup}
+use Rattle.fed_logs.specs.ToldTracks.{floor_of}
 use Rattle.fed_logs.specs.Feeds.{AreFedBy, is_up_to_limit, part_of_reader}
 use Rattle.fed_logs.specs.Logs.{IsFedLog, is_call_of_seat}
 use Rattle.fed_logs.specs.Reads.{ReadsOn, Went}

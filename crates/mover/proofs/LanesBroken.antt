@@ -8,7 +8,7 @@ use Rattle.ckd_track.specs.declared.write.Cause.{Cause}
 use Rattle.write_trace.specs.declared.trace.Trace.{Trace}
 use Rattle.sidefile.specs.declared.hand.Halt.{Halt}
 use Rattle.sidefile.specs.declared.hand.Halt.TheVariants as halts
-use Rattle.sidefile.specs.Ahead.{IsAhead}
+use Rattle.sidefile.specs.AheadEntries.{IsAhead}
 use Rattle.sidefile.specs.Breaks.{Break, break_of, has_broken, is_below}
 use Rattle.sidefile.specs.Halts.{broken_in}
 use Rattle.group_state.specs.Runs.{Answer}

@@ -7,20 +7,20 @@ use Rattle.pair_table.specs.declared.level.Level.{Level}
 use Rattle.write_trace.specs.declared.trace.Trace.{Trace}
 use Rattle.sidefile.specs.Breaks.{break_time}
 use Rattle.row_changes.specs.Changes.{Due, Timed, after_changes, break_time_of}
-use Rattle.row_changes.specs.Toward.{hit_count}
+use Rattle.row_changes.specs.Spans.{hit_count}
 use Rattle.record_rows.specs.Deeds.{Deed, rows_behind, rows_by_deed, time_by_deed, time_meant_behind}
 use Rattle.record_rows.specs.Deeds.Deed.{Logged, Changed, Marked}
-use Rattle.record_rows.specs.Told.{due_after_changes}
+use Rattle.record_rows.specs.ToldRows.{due_after_changes}
 use Rattle.record_rows.proofs.Counting.{counts_append}
 use Rattle.site_store.specs.DeedChanges.{DeedOfChanges, changes_of, deeds_of}
 use Rattle.consistency.specs.Leads.{Comes, Leads, Point, may_rest}
 use Rattle.consistency.specs.Ways.{are_at_time}
 use Rattle.consistency.proofs.Leading.{leads_itself, leads_on}
 use Rattle.mover.specs.Points.{AreSteps, IsStep, LeavesSo, point_behind, point_by}
-use Rattle.mover.specs.Silent.{all_silent, silent_from, silent_of, with_silent}
+use Rattle.mover.specs.SilentBreaks.{all_silent, silent_from, silent_of, with_silent}
 use Rattle.mover.proofs.Breaking.{all_are, silent_comes, silent_due, silent_hits, silent_leaves, silent_together}
 use Rattle.mover.proofs.Held.{KeepPairs}
-use Rattle.mover.specs.Told.{IsUnfailed}
+use Rattle.mover.specs.OwedTracks.{IsUnfailed}
 use Rattle.mover.proofs.Excepting.{KeepFailed}
 use Rattle.mover.proofs.Failing.{unfailed_before}
 use Rattle.mover.proofs.Pairs.{apart_still, pairs_of, same_pairs}

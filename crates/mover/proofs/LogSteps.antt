@@ -18,13 +18,13 @@ use Rattle.group_state.specs.Groups.{shown_in}
 use Rattle.group_state.specs.Runs.{Answer}
 use Rattle.row_changes.specs.Changes.{Due, Timed, after_change, break_time_of, due_after, is_at, may_all_come, may_come}
 use Rattle.row_changes.specs.Changes.Due.{NoneDue}
-use Rattle.row_changes.specs.Toward.{hit_count}
+use Rattle.row_changes.specs.Spans.{hit_count}
 use Rattle.record_rows.specs.Deeds.{Deed}
 use Rattle.record_rows.specs.Deeds.Deed.{Logged, Marked}
 use Rattle.record_rows.specs.GroupRows.{are_breaks_at_cut, is_break_at, is_shown_done, row_in, row_with_group, rows_with_group, shown_break, state_by_group}
 use Rattle.record_rows.specs.Hits.{due_behind_mark, hit_now, marked_changes, rows_marked}
 use Rattle.record_rows.specs.Records.{changes_behind_mark, record_changes, rows_behind_mark, rows_with_record}
-use Rattle.record_rows.specs.Told.{AreGrouped, AreTold, InPlaces, IsGrouped, IsTold}
+use Rattle.record_rows.specs.ToldRows.{AreGrouped, AreTold, InPlaces, IsGrouped, IsTold}
 use Rattle.record_rows.proofs.Coming.{behind_marks_are_changes, behind_marks_may_come, records_are_changes, records_may_come}
 use Rattle.record_rows.proofs.Counting.{behind_marks_count, counts_append, marked_records_count, marks_count, once, records_count}
 use Rattle.record_rows.proofs.Devices.{apart_of, devices_apart}

@@ -19,7 +19,7 @@ use Rattle.record_rows.specs.Deeds.Deed.{Changed, Logged, Marked}
 use Rattle.record_rows.specs.GroupRows.{breaking, group_changes, matured_with_group, maturing, maturing_of}
 use Rattle.record_rows.specs.Hits.{due_behind_mark, hit_changes, hit_now, marked_changes, rows_marked, told_changes}
 use Rattle.record_rows.specs.Records.{changes_behind_mark, record_changes, rows_with_hits, rows_with_record}
-use Rattle.record_rows.specs.Told.{due_after_changes}
+use Rattle.record_rows.specs.ToldRows.{due_after_changes}
 use Rattle.site_store.specs.DeedChanges.{DeedOfChanges, deeds_of}
 use Rattle.fed_logs.specs.LogLaws.{WasShown}
 use Rattle.mover.specs.Groups.{is_to_log}

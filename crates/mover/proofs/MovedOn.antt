@@ -11,11 +11,11 @@ use Rattle.pair_table.specs.Tables.{Table, with_rows}
 use Rattle.group_state.specs.Runs.{Answer}
 use Rattle.row_changes.specs.Changes.{Timed}
 use Rattle.row_changes.specs.Changes.Due.{NoneDue}
-use Rattle.row_changes.specs.Toward.{hit_count}
+use Rattle.row_changes.specs.Spans.{hit_count}
 use Rattle.record_rows.specs.Deeds.{Deed, entries_by_deed, rows_behind, rows_by_deed, time_by_deed, time_meant_behind}
 use Rattle.record_rows.proofs.Counting.{counts_append}
 use Rattle.site_store.specs.DeedChanges.{AreByChanges, DeedOfChanges, changes_of, deeds_of}
-use Rattle.site_store.specs.Doing.{BeginsDeeds, DoesDeeds}
+use Rattle.site_store.specs.DoneDeeds.{BeginsDeeds, DoesDeeds}
 use Rattle.site_store.specs.Exceptions.{Exceptions, excepted_behind, excepted_by_deed, is_kept, is_whole_on}
 use Rattle.site_store.proofs.Composing.{begin_behind, go_on}
 use Rattle.site_store.proofs.Turning.{exceptions_in_turn, leave_in_turn}

@@ -23,9 +23,9 @@ use Rattle.record_rows.specs.Deeds.Deed.{Logged, Changed, Marked}
 use Rattle.record_rows.specs.GroupRows.{is_shown_done}
 use Rattle.record_rows.specs.Hits.{hit_now}
 use Rattle.record_rows.proofs.Counting.{once}
-use Rattle.row_changes.specs.Toward.{is_settled}
+use Rattle.row_changes.specs.Spans.{is_settled}
 use Rattle.site_store.specs.DeedChanges.{AreByChanges, deeds_of}
-use Rattle.site_store.specs.Doing.{BeginsDeeds, DoesDeeds}
+use Rattle.site_store.specs.DoneDeeds.{BeginsDeeds, DoesDeeds}
 use Rattle.site_store.specs.Exceptions.{excepted_behind}
 use Rattle.site_store.specs.DeedLaws.{LeavesInTurn}
 use Rattle.site_store.proofs.Moments.{have_begun}

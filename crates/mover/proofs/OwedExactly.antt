@@ -13,7 +13,7 @@ use Rattle.pair_table.proofs.TableLaws.{first_apart}
 use Rattle.group_state.specs.Runs.{Answer}
 use Rattle.record_rows.specs.Deeds.{Deed, rows_behind, rows_by_deed}
 use Rattle.record_rows.specs.Hits.{is_by_device, is_device_suspended}
-use Rattle.record_rows.specs.Told.{InPlaces}
+use Rattle.record_rows.specs.ToldRows.{InPlaces}
 use Rattle.mover.specs.Dropping.{OwesExactly, answer_of_drop, are_states_of, drop_of, drops_from, is_duplex_row, is_duplex_state, owed_by_call, owed_by_calls, owed_in_turn, owes_hit, owes_since, owes_suspended, owes_through, stood_duplex}
 use Rattle.mover.specs.Moves.{Fades, InPlacesByDeeds, KeepsPair}
 use Rattle.mover.proofs.DeedPairs.{After, after, in_place, pairs_behind}

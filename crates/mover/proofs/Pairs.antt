@@ -19,7 +19,7 @@ use Rattle.pending_queue.specs.Entries.{WaitingEntry}
 use Rattle.image_former.specs.Entries.{is_device, is_entry_on, is_row_of, row_device}
 use Rattle.row_changes.specs.Changes.{RowChange, Timed, after_change, after_changes, hit_row, reached_row, row_after_change, since, suspended_by}
 use Rattle.row_changes.specs.Changes.RowChange.{Break, Hit, MarkedHit, Mature, Reached}
-use Rattle.fed_logs.specs.Told.{names_track}
+use Rattle.fed_logs.specs.ToldTracks.{names_track}
 use Rattle.fed_logs.specs.Moves.{HasRowIn}
 
 -- ---- pairs

@@ -11,7 +11,7 @@ use Rattle.pair_table.specs.Tables.{in_state, is_of}
 use Rattle.row_changes.specs.Changes.{RowChange, Timed, after_changes, hit_row, reached_row, row_after_change, since, suspended_by}
 use Rattle.row_changes.specs.Changes.RowChange.{Mature, Break, Hit, MarkedHit, Reached}
 use Rattle.record_rows.specs.Deeds.{rows_behind, rows_by_deed, time_by_deed}
-use Rattle.record_rows.specs.Told.{InPlaces}
+use Rattle.record_rows.specs.ToldRows.{InPlaces}
 use Rattle.site_store.specs.DeedChanges.{AreByChanges, DeedOfChanges, deeds_of}
 use Rattle.mover.specs.Epochs.{IsSamePair}
 use Rattle.mover.proofs.SamePairs.{same_pair}

@@ -10,23 +10,19 @@ use Rattle.crash_plant.specs.Calls.{SameSite}
 use Rattle.crash_plant.specs.Choices.{Choice, IsChoice}
 use Rattle.crash_plant.specs.Moments.{PlantState}
 use Rattle.pair_table.specs.declared.level.Level.{Level}
-use Rattle.group_state.specs.Groups.{Group}
-use Rattle.group_state.specs.Runs.{Answer}
 use Rattle.row_changes.specs.Changes.{Timed}
-use Rattle.row_changes.specs.Toward.{all_broke}
+use Rattle.row_changes.specs.Spans.{all_broke}
 use Rattle.record_rows.specs.Deeds.{Deed, time_meant_behind}
 use Rattle.site_means.specs.Images.{Shape, shape_of}
 use Rattle.site_means.proofs.Goes.{shape_same}
 use Rattle.xrc_command.specs.declared.line.Line.{Line}
 use Rattle.site_store.specs.DeedChanges.{DeedOfChanges, changes_of, deeds_of}
-use Rattle.site_store.specs.Doing.{points_of, with_next}
+use Rattle.site_store.specs.DoneDeeds.{points_of, with_next}
 use Rattle.site_store.specs.Exceptions.{Exceptions}
 use Rattle.site_store.specs.Seeing.{SeesBehind}
 use Rattle.site_store.proofs.Moments.{first_seen}
 use Rattle.passages.specs.Points.{AreLinked, GoesThrough, last_point}
-use Rattle.consistency.specs.Bears.{Run, Stage, breaks_of}
-use Rattle.fed_logs.specs.Logs.{Sizes}
-use Rattle.fed_logs.specs.Moves.{Plans}
+use Rattle.consistency.specs.Stages.{Run, Stage, breaks_of}
 use Rattle.consistency.specs.Bearing.{Bears, MayBeMeant, ShowsPoint}
 use Rattle.consistency.specs.Leads.{Point}
 use Rattle.consistency.specs.Ways.{ComesNext, HasCountedHits, IsAtWork, Leg, PassedPoint, Way, is_ending, is_on_the_way, last_answered, leg_after, leg_to}
@@ -36,7 +32,7 @@ use Rattle.mover.specs.BorneLaws.{BegunDeedsBear, BegunDeedsPassPoints, DoneDeed
 use Rattle.mover.specs.Points.{AreSteps, point_behind, point_by, points_by}
 use Rattle.mover.specs.Working.{IsOnItsWay, ShowsLast, Work, WorkBegins}
 use Rattle.mover.proofs.Bearing.{bears, broken, counted, may_be_meant, shown}
-use Rattle.mover.specs.Silent.{all_silent, with_silent}
+use Rattle.mover.specs.SilentBreaks.{all_silent, with_silent}
 use Rattle.mover.proofs.Breaking.{same_deeds}
 use Rattle.mover.proofs.Leading.{behind_both, count_deeds, first_deeds, first_steps, flag_there, same_point, silent_points, silent_step, steps_behind, take_silent}
 
@@ -65,23 +61,8 @@ module _ (old : PlantState) (k : Work) (w : WorkBegins old k) where
   abbrev l : Leg
   l = k.leg
 
-  abbrev size : Sizes
-  size = k.size
-
   abbrev excepted : Exceptions
   excepted = k.excepted
-
-  abbrev s : Group
-  s = k.begun
-
-  abbrev end : Group
-  end = k.ended
-
-  abbrev log : List Answer
-  log = k.log
-
-  abbrev done : Plans
-  done = k.done
 
   abbrev steps : List DeedOfChanges
   steps = k.steps

@@ -18,10 +18,10 @@ use Rattle.record_rows.specs.Deeds.Deed.{Logged}
 use Rattle.record_rows.specs.GroupRows.{are_breaks_at_cut, breaking, group_changes, matured_with_group, maturing, maturing_of}
 use Rattle.record_rows.specs.Hits.{hit_changes, hit_now, told_changes}
 use Rattle.record_rows.specs.Records.{changes_behind_mark, record_changes, rows_behind_mark, rows_with_record}
-use Rattle.record_rows.specs.Told.{due_after_changes}
+use Rattle.record_rows.specs.ToldRows.{due_after_changes}
 use Rattle.record_rows.proofs.Coming.{behind_marks_are_changes, behind_marks_may_come, records_are_changes, records_may_come}
 use Rattle.record_rows.proofs.Devices.{apart_of}
-use Rattle.consistency.specs.Bears.{Run, breaks_of}
+use Rattle.consistency.specs.Stages.{Run, breaks_of}
 use Rattle.fed_logs.proofs.ShownBreaks.{groups_break_at_cuts}
 use Rattle.consistency.specs.Leads.{Comes, Point}
 use Rattle.consistency.specs.Ways.{are_at_time}

@@ -2,7 +2,7 @@
 use Rattle.std.proofs.Common.{◌≡◌, ℕ, Bool, true, false, [], Result, Ok, ap, subst, ◌∙◌, OnOk}
 use Rattle.std.specs.Prelude.{IsErrOf}
 use Rattle.crash_plant.specs.Moments.{PlantState}
-use Rattle.applier.specs.Back.{WorksOnLent}
+use Rattle.applier.specs.Returns.{WorksOnLent}
 use Rattle.pair_table.specs.Tables.{none_clash}
 use Rattle.record_rows.specs.Hits.{hit_now}
 use Rattle.site_store.specs.declared.store_error.StoreError.{StoreError}

@@ -10,7 +10,7 @@ use Rattle.pair_table.specs.Rows.{is_suspended}
 use Rattle.pair_table.specs.Tables.{clashes, in_state, none_clash}
 use Rattle.pair_table.proofs.TableLaws.{first_apart}
 use Rattle.record_rows.specs.Hits.{is_device_suspended}
-use Rattle.record_rows.specs.Told.{InPlaces}
+use Rattle.record_rows.specs.ToldRows.{InPlaces}
 use Rattle.fed_logs.specs.Moves.{AreFewer}
 use Rattle.mover.specs.Moves.{Fades, KeepPairs, KeepsPair, is_row_of_number, row_of_volume}
 

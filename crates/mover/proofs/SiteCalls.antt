@@ -6,7 +6,7 @@ use Rattle.std.proofs.lemmas.List.Elements.{All-cons, All-nil}
 use Rattle.crash_plant.specs.declared.device.Device.{Device}
 use Rattle.crash_plant.specs.declared.device.Device.TheVariants.{Control, State, Journal, Volume}
 use Rattle.crash_plant.specs.Moments.{PlantState}
-use Rattle.applier.specs.Back.{WorksOnLent}
+use Rattle.applier.specs.Returns.{WorksOnLent}
 use Rattle.applier.proofs.Works.{works_lent_more}
 use Rattle.xrc_journal.specs.Bodies.{have_image}
 use Rattle.xrc_journal.specs.Contents.{is_of_track}
@@ -23,17 +23,17 @@ use Rattle.pair_table.specs.Rows.{is_suspended}
 use Rattle.pair_table.specs.Tables.{in_state, none_clash, with_rows}
 use Rattle.row_changes.specs.Changes.{Timed, hit_row, reached_row, since}
 use Rattle.row_changes.specs.Changes.Due.{NoneDue}
-use Rattle.row_changes.specs.Toward.{hit_count}
+use Rattle.row_changes.specs.Spans.{hit_count}
 use Rattle.record_rows.specs.Deeds.{Deed, entries_by_deed, rows_by_deed, time_by_deed}
 use Rattle.record_rows.specs.Deeds.Deed.{Changed, Marked}
 use Rattle.record_rows.specs.Hits.{hit_changes, hit_now, rows_hit, rows_marked, rows_told}
 use Rattle.record_rows.specs.Records.{rows_with_hits}
-use Rattle.record_rows.specs.Told.{InPlaces}
+use Rattle.record_rows.specs.ToldRows.{InPlaces}
 use Rattle.record_rows.proofs.Counting.{hits_count, once}
 use Rattle.record_rows.proofs.Devices.{apart_of}
 use Rattle.record_rows.proofs.HitRows.{hits_are_changes}
 use Rattle.record_rows.proofs.Telling.{hits_tell, none_hit_again}
-use Rattle.site_store.specs.Doing.{BeginsDeeds, DoesDeeds}
+use Rattle.site_store.specs.DoneDeeds.{BeginsDeeds, DoesDeeds}
 use Rattle.site_store.specs.Exceptions.{Exceptions, excepted_behind, is_kept, is_whole_on}
 use Rattle.site_store.proofs.Moments.{have_begun}
 use Rattle.site_store.proofs.Single.{no_call}

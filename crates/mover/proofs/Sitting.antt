@@ -4,7 +4,7 @@ use Rattle.std.specs.Prelude.{IsTrue, IfSome}
 use Rattle.std.specs.List.{All, list_all}
 use Rattle.std.proofs.lemmas.Bool.{and_parts, and_from, not_from_false, eqb-true, lt-ltb, le-leb, le-ltb}
 use Rattle.xrc_edge.specs.Order.{is_in_order}
-use Rattle.cut_core.specs.Legal.{are_in}
+use Rattle.cut_core.specs.LegalHistories.{are_in}
 use Rattle.ckd_track.specs.declared.write.Write.{Write}
 use Rattle.ckd_track.specs.Effects.{keeps_rules}
 use Rattle.ckd_track.specs.Writes.{is_earlier}
@@ -15,7 +15,7 @@ use Rattle.sidefile.specs.States.{IsRunOf}
 use Rattle.group_state.specs.declared.volume.Volume.{Volume}
 use Rattle.group_state.specs.Volumes.{volume_of, passes}
 use Rattle.group_state.specs.Groups.{Group, control_at}
-use Rattle.group_state.specs.Sound.{passes_or_none, is_track_within, are_within}
+use Rattle.group_state.specs.SoundStates.{passes_or_none, is_track_within, are_within}
 use Rattle.tod_stamp.specs.declared.stamp.Stamp.{Stamp}
 use Rattle.ckd_track.specs.declared.write.Batch.{Batch}
 use Rattle.write_trace.specs.declared.header.VolumeHead.{VolumeHead}

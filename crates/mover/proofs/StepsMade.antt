@@ -15,11 +15,11 @@ use Rattle.record_rows.specs.Deeds.{Deed, rows_by_deed, time_by_deed}
 use Rattle.record_rows.specs.Deeds.Deed.{Changed, Marked}
 use Rattle.record_rows.specs.Hits.{due_behind_mark, hit_changes, hit_now, marked_changes, rows_marked}
 use Rattle.record_rows.specs.Records.{rows_with_hits}
-use Rattle.record_rows.specs.Told.{due_after_changes}
+use Rattle.record_rows.specs.ToldRows.{due_after_changes}
 use Rattle.record_rows.proofs.Coming.{hits_may_come, marks_may_come}
 use Rattle.record_rows.proofs.HitRows.{hits_are_changes, marks_are_changes}
 use Rattle.site_store.specs.DeedChanges.{DeedOfChanges}
-use Rattle.consistency.specs.Bears.{Run, breaks_of}
+use Rattle.consistency.specs.Stages.{Run, breaks_of}
 use Rattle.fed_logs.specs.LogLaws.{WasShown}
 use Rattle.fed_logs.specs.Logs.{IsFedLog}
 use Rattle.fed_logs.specs.ShownBreaks.{BrokeAsTraces}

@@ -8,7 +8,7 @@ use Rattle.pair_table.specs.declared.row.PairRow.{PairRow}
 use Rattle.pair_table.specs.declared.row.PairState.{PairState}
 use Rattle.pair_table.specs.Devices.{is_among}
 use Rattle.record_rows.specs.Hits.{hit_now, is_device_suspended, is_down, is_hit_now}
-use Rattle.record_rows.specs.Told.{AreTold, IsTold}
+use Rattle.record_rows.specs.ToldRows.{AreTold, IsTold}
 use Rattle.record_rows.proofs.Counting.{once}
 use Rattle.record_rows.proofs.Telling.{only_failed}
 use Rattle.site_store.specs.Causes.{FailByCounts}

@@ -6,21 +6,21 @@ use Rattle.crash_plant.specs.Choices.{AtEveryMoment, AtNow, Choice, IsChoice}
 use Rattle.crash_plant.specs.Moments.{PlantState}
 use Rattle.write_trace.specs.declared.trace.Trace.{Trace}
 use Rattle.group_state.specs.Groups.{Group}
-use Rattle.group_state.specs.Sound.{KeepsGroup}
+use Rattle.group_state.specs.SoundStates.{KeepsGroup}
 use Rattle.row_changes.specs.Changes.{Timed}
-use Rattle.row_changes.specs.Toward.{is_break}
+use Rattle.row_changes.specs.Spans.{is_break}
 use Rattle.site_means.specs.Images.{shape_of}
 use Rattle.xrc_command.specs.declared.line.Line.{Line}
 use Rattle.site_store.specs.Exceptions.{Exceptions}
 use Rattle.passages.specs.Points.{AreLinked, last_point}
-use Rattle.consistency.specs.Bears.{Run, Stage}
+use Rattle.consistency.specs.Stages.{Run, Stage}
 use Rattle.fed_logs.specs.Logs.{Sizes}
 use Rattle.fed_logs.specs.Moves.{Plans}
 use Rattle.fed_logs.specs.ShownBreaks.{BreaksAreToCome, BrokeAsTraces}
 use Rattle.consistency.specs.Bearing.{Bears, GoesThroughPoints, MayBeMeant, ShowsPoint}
 use Rattle.consistency.specs.Leads.{Point}
 use Rattle.consistency.specs.Ways.{ComesNext, IsAtWork, IsLegOf, Leg, MayTakeEffect, PassedPoint, hits_of_leg, is_on_the_way, leg_after}
-use Rattle.mover.specs.Working.{Asked, IsOnItsWay, ShowsLast, StandsForRows}
+use Rattle.mover.specs.Working.{LinesAsked, IsOnItsWay, ShowsLast, StandsForRows}
 use Rattle.site_store.specs.Sites.{SiteState}
 use Rattle.site_store.specs.Standing.{SiteStands}
 use Rattle.mover.specs.declared.ends.EpochEnd.{EpochEnd}
@@ -112,7 +112,7 @@ BearsSome so plant c = (time : ℕ) × Bears so.run so.stage (shape_of plant) c 
 --   on_the_way: none of those passed comes by a line's command
 --   comes_next: the one on its way comes next behind the others, if it isn't the last of these
 --   now: whatever a crash leaves now shows the last of the others, or the one on its way
-pub record PassesOn (so : RunSoFar) (asked : Asked) (old new : PlantState) (points : List PassedPoint) (next : Option Point) : Type 0 where
+pub record PassesOn (so : RunSoFar) (asked : LinesAsked) (old new : PlantState) (points : List PassedPoint) (next : Option Point) : Type 0 where
   pub goes : 0 < old.clock → GoesThroughPoints so.run new old.clock so.leg.point points new.clock next
   pub linked : AreLinked (ComesNext so.run asked) leg_after so.leg points
   pub on_the_way : IsTrue (list_all is_on_the_way points)
@@ -125,7 +125,7 @@ pub record PassesOn (so : RunSoFar) (asked : Asked) (old new : PlantState) (poin
 pub record BearsAtEachMoment (so : RunSoFar) (was is : PlantState) : Type 0 where
   pub moments : 0 < was.clock → AtEveryMoment (BearsSome so is) was is
   pub now : AtNow (BearsSome so is) is
-  pub passes : (asked : Asked) → IsAtWork so.run asked so.leg → (points : List PassedPoint) × (next : Option Point) × PassesOn so asked was is points next
+  pub passes : (asked : LinesAsked) → IsAtWork so.run asked so.leg → (points : List PassedPoint) × (next : Option Point) × PassesOn so asked was is points next
 
 -- Each moment of an epoch for a line bears, whatever the epoch answers.
 abbrev pub EpochsBear : {S : Type 0} → (tells : Type 0) → (left : S → Option (List ℕ)) → (faults : S → ℕ) → (was is : PlantState) → Type 0
@@ -143,7 +143,7 @@ pub record StandsAtLimit (so : RunSoFar) (line : Line) (next : Group) (after : S
   pub excepted : Exceptions
   pub done : Plans
   pub stands : StandsSoFar (run_on so leg excepted done) next after is
-  pub passes : (asked : Asked) → IsAtWork so.run asked so.leg → (points : List PassedPoint) × PassesOn so asked was is points None × (fold leg_after so.leg points ≡ leg)
+  pub passes : (asked : LinesAsked) → IsAtWork so.run asked so.leg → (points : List PassedPoint) × PassesOn so asked was is points None × (fold leg_after so.leg points ≡ leg)
   pub effect : MayTakeEffect so.run line leg
 
 -- Where an epoch for a line reaches its limit, the session may take the line's command, and the next line's epoch may begin.

@@ -4,15 +4,15 @@ use Rattle.crash_plant.specs.Choices.{AtEveryMoment, AtNow, Choice, IsChoice}
 use Rattle.crash_plant.specs.Moments.{PlantState}
 use Rattle.site_means.specs.Images.{shape_of}
 use Rattle.site_store.specs.DeedChanges.{deeds_of}
-use Rattle.site_store.specs.Doing.{BeginsDeeds, DoesDeeds}
+use Rattle.site_store.specs.DoneDeeds.{BeginsDeeds, DoesDeeds}
 use Rattle.pair_table.specs.declared.row.PairRow.{PairRow}
 use Rattle.fed_logs.specs.Moves.{Plans}
 use Rattle.consistency.specs.Bearing.{Bears, ShowsPoint}
 use Rattle.consistency.specs.Leads.{Point}
 use Rattle.consistency.specs.Ways.{IsAtWork}
 use Rattle.mover.specs.Points.{point_behind}
-use Rattle.mover.specs.Told.{CarriedAsLive, FailedAreOwed}
-use Rattle.mover.specs.Working.{Asked, IsKeptToEnd, PassesPoints, SeesFirst, StandsForRows, Work, WorkBegins}
+use Rattle.mover.specs.OwedTracks.{CarriedAsLive, FailedAreOwed}
+use Rattle.mover.specs.Working.{LinesAsked, IsKeptToEnd, PassesPoints, SeesFirst, StandsForRows, Work, WorkBegins}
 use Rattle.mover.specs.Working.{excepted_last, last_point_of, named_steps, point_then, time_then}
 
 -- ---- what is seen
@@ -47,11 +47,11 @@ next_point work moments = Some (point_behind work.run.level work.leg.point (take
 
 -- Calls that begin the deeds pass their points, and the next one is on its way. Calls that do them all pass all.
 abbrev pub BegunDeedsPassPoints : (old new : PlantState) → Type 0
-BegunDeedsPassPoints old new = (work : Work) (asked : Asked) → WorkBegins old work → IsAtWork work.run asked work.leg
+BegunDeedsPassPoints old new = (work : Work) (asked : LinesAsked) → WorkBegins old work → IsAtWork work.run asked work.leg
     → (begins : Begins old new work) → PassesPoints old new work asked begins.moments (named_steps work) (next_point work begins.moments)
 
 abbrev pub DoneDeedsPassPoints : (old new : PlantState) → Type 0
-DoneDeedsPassPoints old new = (work : Work) (asked : Asked) → WorkBegins old work → IsAtWork work.run asked work.leg
+DoneDeedsPassPoints old new = (work : Work) (asked : LinesAsked) → WorkBegins old work → IsAtWork work.run asked work.leg
     → (does : DoesWork old new work) → PassesPoints old new work asked does.moments (named_steps work) None
 
 -- ---- at the end

@@ -8,14 +8,14 @@ use Rattle.ckd_track.specs.declared.write.Cause.{Cause}
 use Rattle.sidefile.specs.Breaks.{Break, break_of, break_time}
 use Rattle.group_state.specs.Groups.{Group}
 use Rattle.group_state.specs.Runs.{Answer, Runs}
-use Rattle.group_state.specs.Sound.{KeepsGroup}
-use Rattle.fed_logs.specs.Told.{HeldTracks}
+use Rattle.group_state.specs.SoundStates.{KeepsGroup}
+use Rattle.fed_logs.specs.ToldTracks.{HeldTracks}
 use Rattle.pair_table.specs.declared.row.PairRow.{PairRow}
 use Rattle.pair_table.specs.Tables.{in_state, none_clash}
 use Rattle.record_rows.specs.Deeds.{Deed, rows_behind, time_meant_behind}
-use Rattle.record_rows.specs.Told.{InPlaces}
+use Rattle.record_rows.specs.ToldRows.{InPlaces}
 use Rattle.site_store.specs.DeedChanges.{AreByChanges, DeedOfChanges, deeds_of}
-use Rattle.site_store.specs.Doing.{BeginsDeeds}
+use Rattle.site_store.specs.DoneDeeds.{BeginsDeeds}
 use Rattle.site_store.specs.Exceptions.{Exceptions}
 use Rattle.fed_logs.specs.Deeds.{held_behind}
 use Rattle.fed_logs.specs.Feeds.{AllGoUpTo, part_of_mover, part_of_reader, truth_of}
@@ -24,9 +24,9 @@ use Rattle.fed_logs.specs.Logs.{AreSized, AwaitsBreak, BeginsLog, HoldTruth, IsF
 use Rattle.fed_logs.specs.Moves.{AreEntriesLive, MakesDeeds, Plans}
 use Rattle.fed_logs.specs.ShownBreaks.{BreaksAreToCome, BrokeAsTraces}
 use Rattle.fed_logs.specs.Reads.{AreLeft, HasRead, IsStillToCome, MayTurnOutOf, Outlook, ReadsOn}
-use Rattle.sidefile.specs.Ahead.{IsAhead}
+use Rattle.sidefile.specs.AheadEntries.{IsAhead}
 use Rattle.primary_ctl.specs.Primaries.{none_falls}
-use Rattle.row_changes.specs.Toward.{is_settled}
+use Rattle.row_changes.specs.Spans.{is_settled}
 use Rattle.turn_group.specs.Seats.{new_mover}
 use Rattle.site_store.specs.declared.store_error.StoreError.{StoreError}
 use Rattle.site_store.specs.Sites.{SiteState}
@@ -40,11 +40,11 @@ use Rattle.mover.specs.Moves.{AreHitsCounted, Did, InPlacesByDeeds, IsLeftBehind
 use Rattle.mover.specs.Groups.{is_at_limit}
 use Rattle.mover.specs.Numbers.{UsesNumbersOf}
 use Rattle.mover.specs.Steps.{AreMade}
-use Rattle.consistency.specs.Bears.{Run, breaks_of}
+use Rattle.consistency.specs.Stages.{Run, breaks_of}
 use Rattle.consistency.specs.Leads.{Point}
 use Rattle.row_changes.specs.Changes.Due.{NoneDue}
 use Rattle.mover.specs.Points.{AreSteps, point_behind}
-use Rattle.mover.specs.Told.{CarriedAsLive, FailedAreOwed}
+use Rattle.mover.specs.OwedTracks.{CarriedAsLive, FailedAreOwed}
 use Rattle.mover.specs.Lanes.{HadBroken, HasFaultFrom, IsSameLane, broken_by}
 use Rattle.mover.specs.Rounds.{AreLanesOf}
 

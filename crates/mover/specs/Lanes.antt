@@ -5,7 +5,7 @@ use Rattle.write_trace.specs.declared.header.VolumeHead.{VolumeHead}
 use Rattle.sidefile.specs.declared.hand.Halt.{Halt}
 use Rattle.sidefile.specs.declared.hand.Halt.TheVariants as halts
 use Rattle.sidefile.specs.Halts.{broken_in}
-use Rattle.sidefile.specs.Ahead.{IsAhead}
+use Rattle.sidefile.specs.AheadEntries.{IsAhead}
 use Rattle.sidefile.specs.States.{SidefileState}
 use Rattle.primary_ctl.specs.States.{PrimaryState}
 use Rattle.tod_stamp.specs.declared.stamp.Stamp.{Stamp}

@@ -1,6 +1,6 @@
 pub mod Points
-pub mod Silent
-pub mod Told
+pub mod SilentBreaks
+pub mod OwedTracks
 pub mod Working
 pub mod BorneLaws
 pub mod Records

@@ -18,11 +18,11 @@ use Rattle.group_state.specs.Runs.{Answer, shown_by}
 use Rattle.record_rows.specs.Deeds.{Deed, rows_behind, rows_by_deed, time_meant_behind}
 use Rattle.record_rows.specs.Deeds.Deed.{Logged, Changed, Marked}
 use Rattle.record_rows.specs.Hits.{hit_now, is_device_suspended}
-use Rattle.record_rows.specs.Told.{InPlaces}
+use Rattle.record_rows.specs.ToldRows.{InPlaces}
 use Rattle.row_changes.specs.Changes.Due.{NoneDue}
-use Rattle.row_changes.specs.Toward.{hit_count}
+use Rattle.row_changes.specs.Spans.{hit_count}
 use Rattle.site_store.specs.DeedChanges.{AreByChanges, DeedOfChanges, changes_of, deeds_of}
-use Rattle.site_store.specs.Doing.{BeginsDeeds, DoesDeeds}
+use Rattle.site_store.specs.DoneDeeds.{BeginsDeeds, DoesDeeds}
 use Rattle.site_store.specs.Exceptions.{Exceptions, excepted_behind}
 use Rattle.fed_logs.specs.Moves.{AreEntriesLive, AreQuiet, HasRowIn, IsDuplex, Plans, MakesDeeds, MakesAllDeeds, is_mark_due_behind}
 use Rattle.turn_group.specs.Calls.{MadeCall, as_answer}
@@ -30,7 +30,7 @@ use Rattle.turn_group.specs.Notes.{KnownVolume}
 use Rattle.turn_group.specs.Seats.{MoverSeatState}
 use Rattle.site_store.specs.declared.store_error.StoreError.{StoreError}
 use Rattle.site_store.specs.declared.store_error.StoreError.TheVariants.{Spent}
-use Rattle.applier.specs.Back.{WorksOnLent}
+use Rattle.applier.specs.Returns.{WorksOnLent}
 use Rattle.site_store.specs.Applying.{excepted_by_apply}
 use Rattle.site_store.specs.Causes.{FailByCounts, HasStoreCause}
 use Rattle.site_store.specs.Jobs.{has_device}

@@ -5,7 +5,7 @@ use Rattle.row_changes.specs.Changes.{Due}
 use Rattle.row_changes.specs.Changes.Due.{NoneDue}
 use Rattle.record_rows.specs.Deeds.{Deed, rows_by_deed, time_by_deed}
 use Rattle.record_rows.specs.Deeds.Deed.{Logged, Changed, Marked}
-use Rattle.record_rows.specs.Told.{due_after_changes}
+use Rattle.record_rows.specs.ToldRows.{due_after_changes}
 use Rattle.site_store.specs.DeedChanges.{DeedOfChanges}
 use Rattle.consistency.specs.Leads.{Leads, Point, may_rest}
 use Rattle.consistency.specs.Ways.{PassedPoint, are_at_time}

@@ -11,7 +11,7 @@ use Rattle.record_rows.specs.Deeds.Deed.{Logged}
 use Rattle.record_rows.specs.Hits.{due_behind_mark}
 use Rattle.record_rows.specs.Records.{changes_behind_mark, record_changes, rows_behind_mark, rows_with_record}
 use Rattle.site_store.specs.DeedChanges.{DeedOfChanges}
-use Rattle.consistency.specs.Bears.{Run, breaks_of}
+use Rattle.consistency.specs.Stages.{Run, breaks_of}
 use Rattle.fed_logs.specs.LogLaws.{WasShown}
 use Rattle.fed_logs.specs.Logs.{IsFedLog}
 use Rattle.fed_logs.specs.ShownBreaks.{BrokeAsTraces}

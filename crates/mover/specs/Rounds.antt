@@ -3,7 +3,7 @@ use Rattle.std.specs.Prelude.{◌≡◌, ◌⊎◌, ℕ, ◌+◌, ◌<◌, ◌�
 use Rattle.std.specs.List.{list_all}
 use Rattle.tod_stamp.specs.declared.limits.TheConstants.{MOST_CONTROLS}
 use Rattle.crash_plant.specs.Moments.{PlantState}
-use Rattle.row_changes.specs.Toward.{is_settled}
+use Rattle.row_changes.specs.Spans.{is_settled}
 use Rattle.group_state.specs.Groups.{Group}
 use Rattle.fed_logs.specs.declared.reading.Reading.TheVariants as readings
 use Rattle.fed_logs.specs.Reads.{ReadsOn}

@@ -12,7 +12,7 @@ use Rattle.record_rows.specs.Deeds.{rows_by_deed, time_by_deed}
 use Rattle.record_rows.specs.Deeds.Deed.{Changed, Logged, Marked}
 use Rattle.record_rows.specs.Hits.{due_behind_mark, hit_changes, hit_now, marked_changes, rows_marked}
 use Rattle.record_rows.specs.Records.{changes_behind_mark, record_changes, rows_behind_mark, rows_with_hits, rows_with_record}
-use Rattle.record_rows.specs.Told.{due_after_changes}
+use Rattle.record_rows.specs.ToldRows.{due_after_changes}
 use Rattle.site_store.specs.DeedChanges.{DeedOfChanges}
 use Rattle.fed_logs.specs.LogLaws.{WasShown}
 use Rattle.mover.specs.Groups.{is_to_log}

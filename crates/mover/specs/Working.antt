@@ -15,7 +15,7 @@ use Rattle.site_store.specs.DeedChanges.{DeedOfChanges, changes_of, deeds_of}
 use Rattle.site_store.specs.Exceptions.{Exceptions, excepted_behind}
 use Rattle.site_store.specs.Seeing.{SeesBehind}
 use Rattle.passages.specs.Points.{AreLinked, last_point}
-use Rattle.consistency.specs.Bears.{Run, Stage, breaks_of, tracks_of_row}
+use Rattle.consistency.specs.Stages.{Run, Stage, breaks_of, tracks_of_row}
 use Rattle.fed_logs.specs.Feeds.{part_of_mover}
 use Rattle.fed_logs.specs.LogLaws.{is_limited}
 use Rattle.fed_logs.specs.Logs.{AwaitsBreak, BeginsLog, IsFedLog, Sizes}
@@ -24,8 +24,8 @@ use Rattle.consistency.specs.Bearing.{GoesThroughPoints, MayBeMeant, ShowsPoint}
 use Rattle.consistency.specs.Leads.{Point, may_rest}
 use Rattle.consistency.specs.Ways.{ComesBy, ComesNext, HasCountedHits, IsLegOf, Leg, PassedPoint, Way, leg_after, leg_to}
 use Rattle.mover.specs.Points.{AreSteps, point_behind, points_by}
-use Rattle.mover.specs.Silent.{all_silent}
-use Rattle.mover.specs.Told.{CarriedAsLive, ExceptedAreOwed, FailedAreOwed, KeptHaveRows, held_by_choice}
+use Rattle.mover.specs.SilentBreaks.{all_silent}
+use Rattle.mover.specs.OwedTracks.{CarriedAsLive, ExceptedAreOwed, FailedAreOwed, KeptHaveRows, held_by_choice}
 
 -- The work for a line's time, from a leg of a run's stage on.
 --   size: how many tracks each volume has
@@ -123,8 +123,8 @@ IsKeptToEnd work time rows known =
 -- ---- the points that it passes
 
 -- the line with a number, if it was heard whole
-abbrev pub Asked : Type 0
-Asked = (number : ℕ) → Option Line
+abbrev pub LinesAsked : Type 0
+LinesAsked = (number : ℕ) → Option Line
 
 -- the work's deeds with the changes by which points come: those of its steps, and the silent breaks below the line's time
 abbrev pub named_steps : Work → List DeedOfChanges
@@ -135,7 +135,7 @@ abbrev pub points_in : Work → (moments : List ℕ) → (named : List DeedOfCha
 points_in work moments named = points_by work.run.level work.leg.point moments named
 
 -- Nothing new is on its way from a leg, or a point that comes next by some way.
-abbrev pub IsOnItsWay : Run → Asked → Leg → Point → Type 0
+abbrev pub IsOnItsWay : Run → LinesAsked → Leg → Point → Type 0
 IsOnItsWay run asked l q = (q ≡ l.point) ⊎ ((way : Way) × ComesBy run asked l q way)
 
 -- A choice shows the last of some points, or the one that is on its way.
@@ -147,7 +147,7 @@ ShowsLast run plant last (Some q) c = ShowsPoint run (shape_of plant) last c ⊎
 -- of the work, with the changes by which the points come. The past of a plant that keeps one tells the points' moments.
 --   comes_next: the one on its way comes next behind the others, if it isn't the last of these
 --   now: whatever a crash leaves now shows the last of the others, or the one on its way
-pub record PassesPoints (old new : PlantState) (work : Work) (asked : Asked) (moments : List ℕ) (by : List DeedOfChanges) (next : Option Point) : Type 0 where
+pub record PassesPoints (old new : PlantState) (work : Work) (asked : LinesAsked) (moments : List ℕ) (by : List DeedOfChanges) (next : Option Point) : Type 0 where
   pub same : deeds_of by ≡ deeds_of work.steps
   pub goes : 0 < old.clock → GoesThroughPoints work.run new old.clock work.leg.point (points_in work moments by) new.clock next
   pub linked : AreLinked (ComesNext work.run asked) leg_after work.leg (points_in work moments by)

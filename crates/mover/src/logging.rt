@@ -3,7 +3,7 @@
 ghost use Rattle.std.specs.Prelude.{◌≡◌, ◌≤◌, ◌&&◌, ◌||◌, not, length, OnOk};
 ghost use Rattle.std.specs.List.{list_any};
 ghost use Rattle.record_rows.specs.GroupRows.{is_shown_done};
-ghost use Rattle.row_changes.specs.Toward.{is_settled};
+ghost use Rattle.row_changes.specs.Spans.{is_settled};
 ghost use Rattle.mover.specs.Groups.{is_to_log, matures};
 ghost use Rattle.mover.specs.Moves.{IsStillAt, KeepsLimit, MayMove, MaySettle, Moved, MoverWorks};
 ghost use Rattle.mover.specs.Numbers.{FormsUse};

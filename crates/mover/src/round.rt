@@ -6,7 +6,7 @@ ghost use Rattle.std.specs.List.{list_all};
 ghost use Rattle.std.specs.Thread.{IsSync};
 ghost use Rattle.turn_group.specs.Calls.{as_answer};
 ghost use Rattle.turn_group.specs.Seats.{TurnState};
-ghost use Rattle.row_changes.specs.Toward.{is_settled};
+ghost use Rattle.row_changes.specs.Spans.{is_settled};
 ghost use Rattle.mover.specs.declared.ends.RoundsEnd.TheVariants as ends;
 ghost use Rattle.mover.specs.Lanes.{IsLaneSeated, MayGoOn, MayLaneRead};
 ghost use Rattle.mover.specs.Groups.{is_at_limit};

@@ -8,7 +8,7 @@ use Rattle.pair_table.specs.Commands.{has_named_primary}
 use Rattle.pair_table.specs.Naming.{Naming}
 use Rattle.pair_table.specs.Tables.{Table, are_below, in_state, most_rows}
 use Rattle.group_state.specs.Groups.{Group}
-use Rattle.record_rows.specs.Told.{InPlaces}
+use Rattle.record_rows.specs.ToldRows.{InPlaces}
 use Rattle.site_store.specs.Commands.{MayDo}
 use Rattle.site_store.specs.Sites.{SiteState}
 use Rattle.mover.specs.declared.ends.EpochEnd.TheVariants as ends
@@ -17,7 +17,7 @@ use Rattle.mover.specs.Epochs.{EpochRun, IsAtTime, IsSamePair, ReachedBy}
 use Rattle.mover.specs.Moves.{MoverWorks}
 use Rattle.xrc_session.proofs.JoinsLanes.{named_volumes_stay}
 use Rattle.xrc_session.proofs.JoinsLogs.{epochs_rest}
-use Rattle.mover_tests.specs.Courses.{AreAtLimit, MayCommandCourse, MayGoTo}
+use Rattle.mover_tests.specs.Courses.{MayCommandCourse, MayGoTo}
 use Rattle.mover_tests.proofs.Homes.{labels_still}
 
 -- What holds of a row in whatever state holds of the rows behind an epoch.
@@ -43,9 +43,6 @@ module _ (names : Naming) (limit : ℕ) (site after : SiteState) (at : IsAtTime 
 module _ {S : Type 0} (tells : Type 0) (left : S → Option (List ℕ)) (faults : S → ℕ) (from limit : ℕ) (names : Naming) (group next : Group) (lanes then : List (Lane S)) (site after : SiteState) (was is : PlantState)
     (go : MayGoTo tells from names lanes group site was) (ran : EpochRun left faults limit group lanes then site after was is (ends.Reached next)) (reached : ReachedBy tells left limit group lanes then site next after is)
     (works : MoverWorks tells site after was is (Ok tt)) (same : after.told ≡ after.table.rows) where
-  pub there_then : AreAtLimit limit then next after
-  there_then = record { cut = reached.cut; time = reached.time.time; each = reached.at_limit }
-
   pub goes_then : MayGoTo tells limit names then next after is
   goes_then = record {
     are = reached.lanes;

@@ -25,7 +25,7 @@ use Rattle.group_state.specs.Groups.{Group, control_at}
 use Rattle.record_rows.specs.Hits.{hit_now, rows_hit}
 use Rattle.record_rows.specs.Records.{rows_with_hits}
 use Rattle.xrc_journal.specs.Items.{Item}
-use Rattle.site_store.specs.Between.{IsSiteIdle}
+use Rattle.site_store.specs.IdleSites.{IsSiteIdle}
 use Rattle.site_store.specs.Changing.{LogsChange, MayChange, changed_items}
 use Rattle.site_store.specs.Commands.{IsToLog, MayDo, behind_command}
 use Rattle.site_store.specs.Sites.{SiteState}

@@ -34,7 +34,7 @@ use Rattle.mover.specs.Lanes.{IsReaderOf, heads_of}
 use Rattle.mover.specs.Moves.{IsOfLive, KnowsSite, are_numbers_distinct, known_at_control, row_of_volume}
 use Rattle.mover.specs.Rounds.{AreLanesOf}
 use Rattle.mover.specs.Epochs.{MayBeginEpoch}
-use Rattle.mover.specs.Told.{is_volume_kept}
+use Rattle.mover.specs.OwedTracks.{is_volume_kept}
 use Rattle.mover.proofs.Copying.{kept_within}
 use Rattle.xrc_session.specs.Taking.{KeepsForRows}
 use Rattle.mover_tests.specs.Courses.{AreNewLanes, AreOpened, IsNewReader, MayCommandCourse, MayGoTo}

@@ -9,7 +9,6 @@ use Rattle.crash_plant.specs.Moments.{PlantState}
 use Rattle.pair_table.specs.declared.names.NamedDevice.{NamedDevice}
 use Rattle.pair_table.specs.Naming.{Naming}
 use Rattle.group_state.specs.Groups.{Group}
-use Rattle.site_store.specs.Between.{IsSiteIdle}
 use Rattle.site_store.specs.Commands.{LabelsFit, label_has_volume}
 use Rattle.site_store.specs.Sites.{SiteState}
 use Rattle.site_store.specs.Standing.{FitsPlant, MayRecord, SiteStands}
@@ -22,9 +21,6 @@ use Rattle.mover_tests.specs.Courses.{MayCommandCourse, MayGoTo}
 
 pub works_home : (tells : Type 0) (step : Device → List ℕ → List ℕ → Type 0) (old new : PlantState) → Works tells step old new → NoneLent old → NoneLent new
 works_home tells step old new works home = works.home home
-
-pub idle_home : (tells : Type 0) (site : SiteState) (plant : PlantState) → IsSiteIdle tells site plant → NoneLent plant
-idle_home tells site plant idle = idle.may.fast.fits.home
 
 pub then_ok : {T E A : Type 0} {value : T} (r : Result T E) → r ≡ Ok value → OnOk r A → A
 then_ok (Ok value) is has = has

@@ -30,7 +30,7 @@ use Rattle.group_state.specs.Runs.{May, shown_by}
 use Rattle.group_state.specs.Answers.{form_reply}
 use Rattle.group_state.specs.declared.joining.Forming.{Forming}
 use Rattle.group_state.specs.declared.joining.Forming.TheVariants as formings
-use Rattle.group_state.specs.Sound.{MayJoin, is_track_within, passes_or_none}
+use Rattle.group_state.specs.SoundStates.{MayJoin, is_track_within, passes_or_none}
 use Rattle.group_state.specs.Volumes.{is_wanted, passes, volume_of}
 use Rattle.group_state.proofs.SoundLaws.{all_up}
 use Rattle.pending_queue.specs.declared.room.Room.{Room}
@@ -39,7 +39,7 @@ use Rattle.xrc_journal.specs.Items.{Item}
 use Rattle.site_store.specs.Logging.{behind_group}
 use Rattle.site_store.specs.Sites.{SiteState}
 use Rattle.site_store.proofs.ByWays.{RecordWay, by_ways}
-use Rattle.consistency.specs.Bears.{tracks_of_row}
+use Rattle.consistency.specs.Stages.{tracks_of_row}
 use Rattle.fed_logs.specs.Logs.{is_of_size}
 use Rattle.fed_logs.specs.Moves.{HasRowIn}
 use Rattle.fed_logs.proofs.Standing.{at_with, same_count}
@@ -47,7 +47,7 @@ use Rattle.mover.specs.declared.lane.Lane.{Lane}
 use Rattle.mover.specs.Epochs.{IsAtLimit}
 use Rattle.mover.specs.Lanes.{IsReaderOf, broken_by}
 use Rattle.mover.specs.Readers.{LaneReaderState}
-use Rattle.mover.specs.Told.{IsAny}
+use Rattle.mover.specs.OwedTracks.{IsAny}
 use Rattle.turn_group.proofs.Known.{sizes_last, track_within}
 use Rattle.xrc_session.specs.Taking.{KeepsForRows}
 use Rattle.mover_tests.specs.Courses.{AreAtLimit, AreUnbroken, MayGoTo}

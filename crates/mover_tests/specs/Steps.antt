@@ -5,11 +5,11 @@ use Rattle.tod_stamp.specs.declared.limits.TheConstants.{TRACKS_OF_CYLINDER}
 use Rattle.xrc_edge.specs.Order.{is_in_order}
 use Rattle.ckd_track.specs.declared.write.Write.{Write}
 use Rattle.ckd_track.specs.Writes.{is_earlier}
-use Rattle.cut_core.specs.Legal.{are_in}
+use Rattle.cut_core.specs.LegalHistories.{are_in}
 use Rattle.pending_queue.specs.Entries.{all_keep_rules}
 use Rattle.group_state.specs.Controls.{ControlState, is_telling}
 use Rattle.group_state.specs.Groups.{Group, control_at}
-use Rattle.group_state.specs.Sound.{is_track_within}
+use Rattle.group_state.specs.SoundStates.{is_track_within}
 
 -- A control still tells, and has told up to a time.
 pub record HasToldUpTo (c : ControlState) (time : ℕ) : Type 0 where

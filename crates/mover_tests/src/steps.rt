@@ -4,7 +4,7 @@ ghost use Rattle.std.specs.Prelude.{◌≡◌, ◌≤◌, find, length, OnOk};
 ghost use Rattle.std.specs.List.{All};
 ghost use Rattle.crash_plant.specs.Calls.{NoneLent};
 ghost use Rattle.image_former.specs.Entries.{is_row_of};
-ghost use Rattle.site_store.specs.Between.{IsSiteIdle, IsSiteLogged};
+ghost use Rattle.site_store.specs.IdleSites.{IsSiteIdle, IsSiteLogged};
 ghost use Rattle.site_store.specs.Logging.{IsOfSomeRow};
 ghost use Rattle.mover_tests.specs.Courses.{AreAtLimit, MayGoTo};
 ghost use Rattle.mover_tests.specs.Steps.{HaveControlsTold, AreToJoin};

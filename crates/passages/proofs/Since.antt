@@ -3,7 +3,7 @@ use Rattle.std.proofs.Common.{◌≡◌, ◌⊎◌, inl, inr, ℕ, ◌<◌, ◌�
 use Rattle.std.specs.Prelude.{fold}
 use Rattle.std.proofs.lemmas.Bool.{and_parts, cases_lt, or_cases, or_left, or_right}
 use Rattle.passages.specs.Points.{GoesThrough, Passed, Throughout, was_so}
-use Rattle.passages.specs.Since.{HasBeenSo}
+use Rattle.passages.specs.Lasting.{HasBeenSo}
 use Rattle.passages.proofs.InARow.{moments_rise}
 
 -- `so` and `now` tell points apart, and `so_meant` and `now_meant` what a crash leaves.

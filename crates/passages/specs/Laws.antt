@@ -2,7 +2,7 @@
 use Rattle.std.specs.Prelude.{◌≡◌, ℕ, ◌≤◌, List, ◌++◌, length, map, take, fold, Bool, true, Option, Some, None, IfSome, option_map}
 use Rattle.std.specs.List.{All}
 use Rattle.passages.specs.Points.{AreLinked, GoesThrough, Passed, Throughout, last_point, was_so}
-use Rattle.passages.specs.Since.{HasBeenSo}
+use Rattle.passages.specs.Lasting.{HasBeenSo}
 use Rattle.passages.specs.Telling.{told_by}
 
 -- What is passed up to a moment, with nothing on its way, and what is passed from it on, is passed in a row.

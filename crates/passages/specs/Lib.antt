@@ -1,4 +1,4 @@
 pub mod Points
-pub mod Since
+pub mod Lasting
 pub mod Telling
 pub mod Laws

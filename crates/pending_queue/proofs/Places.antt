@@ -15,7 +15,7 @@ use Rattle.ckd_track.specs.Slots.{with_bytes}
 use Rattle.pending_queue.specs.declared.placed.Placed.{Placed}
 use Rattle.pending_queue.specs.Entries.{WaitingEntry, IsOfWrite, entry_by, stands_before}
 use Rattle.pending_queue.specs.Groups.{most_of_control}
-use Rattle.pending_queue.specs.Placed.{placed_entry, placed_entries, placed_before, KeepsForms}
+use Rattle.pending_queue.specs.PlacedEntries.{placed_entry, placed_entries, placed_before, KeepsForms}
 use Rattle.xrc_edge.specs.Order.{put_in_order, in_order, is_in_order}
 use Rattle.xrc_edge.proofs.OrderLaws.{IsOrder, parted}
 use Rattle.xrc_edge.proofs.Merges.{length_order}

@@ -4,5 +4,5 @@ pub mod Maps
 pub mod Queues
 pub mod Waitings
 pub mod Groups
-pub mod Placed
+pub mod PlacedEntries
 pub mod Laws

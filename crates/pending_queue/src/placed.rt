@@ -3,7 +3,7 @@
 ghost use Rattle.std.specs.Prelude.{◌≡◌, ℕ, ◌≤◌, ◌<◌, ◌+◌, ◌*◌, ◌++◌, ◌∷◌, [], length, take, drop, slice_get, slice_index_or, vec_len, vec_capacity, true, false, Some, IfOk, IfSome, IsTrue};
 ghost use Rattle.pending_queue.specs.declared.placed.Placed.{Placed as PlacedIs};
 ghost use Rattle.pending_queue.specs.Entries.{IsOfWrite, head_before, stands_before};
-ghost use Rattle.pending_queue.specs.Placed.{placed_before};
+ghost use Rattle.pending_queue.specs.PlacedEntries.{placed_before};
 ghost use Rattle.pending_queue.specs.Groups.{most_of_control, heads_in, forms_in};
 ghost use Rattle.pending_queue.specs.Waitings.{SameMemory};
 ghost use Rattle.xrc_edge.specs.Order.{in_order, is_in_order};
@@ -48,7 +48,7 @@ pub struct PlacedList {
 
 impl Model for PlacedList {
     ghost use Rattle.std.specs.Prelude.{vec_capacity};
-    ghost use Rattle.pending_queue.specs.Placed.{PlacedState, KeepsForms, placed_entries};
+    ghost use Rattle.pending_queue.specs.PlacedEntries.{PlacedState, KeepsForms, placed_entries};
 
     ghost Value = { PlacedState };
 

@@ -3,7 +3,7 @@
 ghost use Rattle.std.specs.Prelude.{◌≡◌, ◌≤◌};
 ghost use Rattle.crash_plant.specs.Calls.{NoneLent};
 ghost use Rattle.crash_plant.specs.MemoryPlant.{memory_state};
-ghost use Rattle.crash_plant.specs.Moments.{Kept};
+ghost use Rattle.crash_plant.specs.Moments.{SamePast};
 
 use crate::fixtures::{assert_holds, assert_there, planned, sync_at, write_at};
 use crash_plant::{Device, Disk, Fail, MemoryPlant, Plant};
@@ -128,7 +128,7 @@ fn a_crash_fills_the_open_ranges(rt: HostRuntime) {
 
 /// Writes bytes to a volume that is lent.
 fn write_own<D: Disk>(rt: &impl Abort, volume: &mut D, place: u64, bytes: &[u8])
-    ensures past { D.tells → Kept (D.state volume.old) (D.state volume.new) }
+    ensures past { D.tells → SamePast (D.state volume.old) (D.state volume.new) }
     ensures length { (D.state volume.new).length_is ≡ (D.state volume.old).length_is }
     ensures faults { (D.state volume.old).faults ≤ (D.state volume.new).faults }
 {
@@ -138,7 +138,7 @@ fn write_own<D: Disk>(rt: &impl Abort, volume: &mut D, place: u64, bytes: &[u8])
 }
 
 fn sync_own<D: Disk>(rt: &impl Abort, volume: &mut D)
-    ensures past { D.tells → Kept (D.state volume.old) (D.state volume.new) }
+    ensures past { D.tells → SamePast (D.state volume.old) (D.state volume.new) }
     ensures length { (D.state volume.new).length_is ≡ (D.state volume.old).length_is }
     ensures faults { (D.state volume.old).faults ≤ (D.state volume.new).faults }
 {

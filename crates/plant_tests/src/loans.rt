@@ -6,7 +6,7 @@ ghost use Rattle.crash_plant.specs.Calls.{NoneLent};
 ghost use Rattle.crash_plant.specs.MemoryPlant.{memory_state};
 ghost use Rattle.crash_plant.specs.PlainPlant.{plain_state};
 ghost use Rattle.applier.specs.Disks.{AreApart, OnDisks};
-ghost use Rattle.applier.specs.Out.{AreWorkedOn, WorkedOn};
+ghost use Rattle.applier.specs.Loans.{AreWorkedOn, WorkedOn};
 
 use crate::fixtures::{assert_holds, assert_same, plain, planned, read_at};
 use applier::{VolumeJob, give_back_all, lend_all};

@@ -21,12 +21,12 @@ use Rattle.pending_queue.specs.Groups.{FormedGroup}
 use Rattle.row_changes.specs.Changes.{Due, Timed, after_change, after_changes, are_due, are_hit, break_time_of, due_in_record, hit_row, is_at, is_of_record, may_all_come, may_end, may_mature, row_may_mature, since}
 use Rattle.row_changes.specs.Changes.Due.{NoneDue, DueSince, DueIn}
 use Rattle.row_changes.specs.Changes.RowChange.{Hit, MarkedHit, Mature, Reached}
-use Rattle.row_changes.specs.Toward.{is_hit_at}
+use Rattle.row_changes.specs.Spans.{is_hit_at}
 use Rattle.row_changes.proofs.Functions.{after_rows, row_after}
 use Rattle.record_rows.specs.GroupRows.{are_breaks_at_cut, breaking, group_changes, is_break_at, is_shown_done, matured_by, matured_with_group, maturing, maturing_of, row_in, row_with_group, shown_break, state_with_group}
 use Rattle.record_rows.specs.Hits.{due_behind_mark, hit_changes, hit_now, marked_changes, rows_marked, told_changes}
 use Rattle.record_rows.specs.Records.{changes_behind_mark, record_changes, rows_behind_mark, rows_with_record}
-use Rattle.record_rows.specs.Told.{due_after_changes}
+use Rattle.record_rows.specs.ToldRows.{due_after_changes}
 use Rattle.record_rows.proofs.Composing.{changes_in_a_row, comes_first, comes_in_a_row}
 use Rattle.record_rows.proofs.Devices.{apart_first, apart_in_map, devices_apart, found_in_map, none_at, row_at_place, still_have}
 use Rattle.record_rows.proofs.GroupSteps.{breaks_make, broken_to, device_in, groups_are_changes}

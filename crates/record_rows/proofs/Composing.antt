@@ -5,7 +5,7 @@ use Rattle.std.proofs.lemmas.Bool.{and_from, and_parts, le-leb, leb-true}
 use Rattle.pair_table.specs.declared.level.Level.{Level}
 use Rattle.pair_table.specs.declared.row.PairRow.{PairRow}
 use Rattle.row_changes.specs.Changes.{Due, Timed, after_change, after_changes, due_after, may_all_come, may_come}
-use Rattle.record_rows.specs.Told.{due_after_changes}
+use Rattle.record_rows.specs.ToldRows.{due_after_changes}
 
 pub changes_in_a_row : (level : Level) (xs ys : List Timed) (rows : List PairRow) → after_changes level (xs ++ ys) rows ≡ after_changes level ys (after_changes level xs rows)
 changes_in_a_row level [] ys rows = refl

@@ -14,7 +14,7 @@ use Rattle.pair_table.specs.Devices.{is_among}
 use Rattle.pair_table.specs.Tables.{in_state}
 use Rattle.pending_queue.specs.Groups.{FormedGroup}
 use Rattle.row_changes.specs.Changes.{Timed, since}
-use Rattle.row_changes.specs.Toward.{hit_count, hits}
+use Rattle.row_changes.specs.Spans.{hit_count, hits}
 use Rattle.record_rows.specs.GroupRows.{breaking, group_changes, matured_with_group, maturing, maturing_of}
 use Rattle.record_rows.specs.Hits.{hit_changes, hit_now, is_down, is_hit_now, marked_changes, rows_marked, told_changes}
 use Rattle.record_rows.specs.Records.{changes_behind_mark, record_changes}

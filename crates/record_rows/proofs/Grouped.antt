@@ -16,7 +16,7 @@ use Rattle.row_changes.specs.Changes.{reached_row, since}
 use Rattle.record_rows.specs.GroupRows.{is_shown_done, row_in, row_with_group, shown_break, state_by_group}
 use Rattle.record_rows.specs.Hits.{hit_now}
 use Rattle.record_rows.specs.Records.{rows_behind_mark, rows_with_record}
-use Rattle.record_rows.specs.Told.{AreGrouped, IsGrouped}
+use Rattle.record_rows.specs.ToldRows.{AreGrouped, IsGrouped}
 use Rattle.record_rows.proofs.HitRows.{held, hit_is_told, reach_row, told_row, told_rows}
 
 -- ---- a row that isn't suspended behind what is told is as it was

@@ -17,7 +17,7 @@ use Rattle.row_changes.specs.Changes.{hit_row, reached_row, since}
 use Rattle.record_rows.specs.GroupRows.{is_shown_done, row_in, row_with_group, shown_break, state_by_group}
 use Rattle.record_rows.specs.Hits.{hit_now, is_device_suspended, is_down, is_hit_now, rows_marked}
 use Rattle.record_rows.specs.Records.{rows_behind_mark, rows_with_hits, rows_with_record}
-use Rattle.record_rows.specs.Told.{AreTold, IsTold}
+use Rattle.record_rows.specs.ToldRows.{AreTold, IsTold}
 use Rattle.record_rows.proofs.Devices.{devices_apart}
 use Rattle.record_rows.proofs.HitRows.{among_hit, held, hit_is_told, reach_row, told_row, told_rows}
 

@@ -9,12 +9,12 @@ use Rattle.pair_table.specs.Tables.{none_clash}
 use Rattle.pending_queue.specs.Groups.{FormedGroup}
 use Rattle.row_changes.specs.Changes.{Due, Timed, after_changes, may_all_come}
 use Rattle.row_changes.specs.Changes.Due.{NoneDue}
-use Rattle.row_changes.specs.Toward.{hit_count, is_hit_at}
+use Rattle.row_changes.specs.Spans.{hit_count, is_hit_at}
 use Rattle.record_rows.specs.GroupRows.{are_breaks_at_cut}
 use Rattle.record_rows.specs.ChangedRows.{changed_rows, rows_in_states, state_told, state_with_record, with_rows_put}
 use Rattle.record_rows.specs.Hits.{due_behind_mark, hit_changes, hit_now, is_down, marked_changes, rows_marked}
 use Rattle.record_rows.specs.Records.{changes_behind_mark, record_changes, rows_behind_mark, rows_with_hits, rows_with_record}
-use Rattle.record_rows.specs.Told.{AreGrouped, AreTold, due_after_changes}
+use Rattle.record_rows.specs.ToldRows.{AreGrouped, AreTold, due_after_changes}
 
 -- ---- records
 

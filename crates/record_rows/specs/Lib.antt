@@ -2,6 +2,6 @@ pub mod Hits
 pub mod GroupRows
 pub mod Records
 pub mod ChangedRows
-pub mod Told
+pub mod ToldRows
 pub mod Deeds
 pub mod Laws

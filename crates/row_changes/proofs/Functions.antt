@@ -15,7 +15,7 @@ use Rattle.pair_table.specs.Tables.{clashes, in_state, none_clash, row_of}
 use Rattle.row_changes.specs.Changes.{RowChange, Timed, after_change, after_changes, break_time_of, row_after_change, due_after, is_at, may_all_come, may_come, may_mature, row_may_mature, since}
 use Rattle.row_changes.specs.Changes.RowChange.{Break, Hit, MarkedHit, Mature, Reached}
 use Rattle.row_changes.specs.Changes.Due.{NoneDue}
-use Rattle.row_changes.specs.Toward.{all_broke, has_no_hit, is_break, breaks_control, is_maturing, is_settled, lies_in, next_row, next_state}
+use Rattle.row_changes.specs.Spans.{all_broke, has_no_hit, is_break, breaks_control, is_maturing, is_settled, lies_in, next_row, next_state}
 
 -- ---- booleans
 

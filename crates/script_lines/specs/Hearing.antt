@@ -1,7 +1,7 @@
 -- What hearing a line does to a plant, and to a run that answers lines.
 use Rattle.std.specs.Prelude.{◌≡◌, ℕ, ◌<◌, ◌≤◌, List, ◌++◌}
 use Rattle.crash_plant.specs.Moments.{PlantState}
-use Rattle.consistency.specs.Bears.{Run}
+use Rattle.consistency.specs.Stages.{Run}
 use Rattle.consistency.specs.Courses.{Answered}
 use Rattle.consistency.specs.Keeping.{Keeps}
 

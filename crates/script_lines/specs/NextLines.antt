@@ -3,7 +3,7 @@ use Rattle.std.specs.Prelude.{◌≡◌, ◌⊎◌, ℕ, ◌+◌, ◌-◌, List,
 use Rattle.crash_plant.specs.Moments.{PlantState}
 use Rattle.xrc_command.specs.declared.line.Line.{Line}
 use Rattle.xrc_command.specs.Reading.{line_spelled}
-use Rattle.consistency.specs.Bears.{Run}
+use Rattle.consistency.specs.Stages.{Run}
 use Rattle.consistency.specs.Courses.{Answered, first_line, last_line_time, later_line}
 use Rattle.consistency.specs.Keeping.{Keeps, stage_now}
 use Rattle.script_lines.specs.declared.next.Next.{Next}

@@ -16,8 +16,8 @@ use Rattle.sidefile.specs.declared.turn.Turn.{Turn}
 use Rattle.sidefile.specs.Runs.{runs}
 use Rattle.sidefile.specs.Breaks.{stamp}
 use Rattle.sidefile.specs.Hands.{hand, left_after}
-use Rattle.sidefile.specs.Ahead.{IsAhead, IsFault, read_of, entries_ahead, ahead, cause_ahead}
-use Rattle.sidefile.specs.Exact.{Front, HandsSame, IsHand, LeavesRuns, IsDue, runs_ahead}
+use Rattle.sidefile.specs.AheadEntries.{IsAhead, IsFault, read_of, entries_ahead, ahead, cause_ahead}
+use Rattle.sidefile.specs.ExactHands.{SidefileFront, HandsSame, IsHand, LeavesRuns, IsDue, runs_ahead}
 use Rattle.sidefile.specs.Looks.{EntriesAreRead, FindsNext}
 use Rattle.sidefile.specs.States.{HoldsRun, HasFault}
 use Rattle.sidefile.specs.Turns.{front, IsTurn}
@@ -49,7 +49,7 @@ module _ {before mid : Option (List ℕ)} {r s : ReaderState} (e : Entry) (goes 
       let same = same_all bytes rest p in
       due rest (λ g. told) ∙ ap (λ (c : Option Cause). hand control c limit (runs_ahead (front (Some e) s) rest)) p.same_end ∙ ap (λ (es : List Entry). hand control (cause_ahead r bytes) limit (runs es)) (sym same)
 
-  same_behind : (control limit : ℕ) (after : Front) (given : Hand) (bytes rest : List ℕ) (p : EntriesAreRead r s (e ∷ []) bytes rest) (used behind : List ℕ)
+  same_behind : (control limit : ℕ) (after : SidefileFront) (given : Hand) (bytes rest : List ℕ) (p : EntriesAreRead r s (e ∷ []) bytes rest) (used behind : List ℕ)
       → HandsSame control limit (front (Some e) s) after used behind given → HandsSame control limit (front None r) after (p.used ++ used) behind given
   same_behind control limit after given bytes rest p used behind same =
       let parts = append_assoc p.used used behind in
@@ -61,7 +61,7 @@ module _ {before mid : Option (List ℕ)} {r s : ReaderState} (e : Entry) (goes 
       }
 
   -- and the same is left
-  hand_and_rest : (control limit : ℕ) (now : Option (List ℕ)) (after : Front) (given : Hand)
+  hand_and_rest : (control limit : ℕ) (now : Option (List ℕ)) (after : SidefileFront) (given : Hand)
       → ((rest : List ℕ) → IsAhead s mid rest → IsHand control limit (front (Some e) s) rest given × LeavesRuns control limit now (front (Some e) s) after rest given)
       → (bytes : List ℕ) → IsAhead r before bytes → IsHand control limit (front None r) bytes given × LeavesRuns control limit now (front None r) after bytes given
   hand_and_rest control limit now after given due bytes is_ahead =
@@ -81,7 +81,7 @@ module _ {before mid : Option (List ℕ)} {r s : ReaderState} (e : Entry) (goes 
         },
       )
 
-  due_first : (control limit : ℕ) (now : Option (List ℕ)) (after : Front) (given : Hand) → IsDue control limit mid now (front (Some e) s) after given → IsDue control limit before now (front None r) after given
+  due_first : (control limit : ℕ) (now : Option (List ℕ)) (after : SidefileFront) (given : Hand) → IsDue control limit mid now (front (Some e) s) after given → IsDue control limit before now (front None r) after given
   due_first control limit now after (hands.Batch batch) due = hand_and_rest control limit now after (hands.Batch batch) due
   due_first control limit now after hands.AtLimit due = hand_and_rest control limit now after hands.AtLimit due
   due_first control limit now after (hands.Broken ReadFault upto) due = λ bytes is_ahead.

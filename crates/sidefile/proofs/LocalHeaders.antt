@@ -7,9 +7,9 @@ use Rattle.tod_stamp.specs.Fields.Bad.{Broken}
 use Rattle.tod_stamp.specs.Names.{before_spaces}
 use Rattle.write_trace.specs.declared.header.Header.{Header}
 use Rattle.write_trace.specs.declared.header.VolumeHead.{VolumeHead}
-use Rattle.write_trace.specs.Headers.{cylinder_width, most_cylinders, tracks_of, is_from, is_mark, version_at, is_new_serial, volume_at, volumes_at, place_at, image_field, base_at, bases_at, header_at}
-use Rattle.write_trace.specs.Good.{most_bytes, whole_trace}
-use Rattle.write_trace.specs.Unread.{seen}
+use Rattle.write_trace.specs.Headers.{cylinder_width, most_cylinders, tracks_of, is_from, is_trace_mark, version_at, is_new_serial, volume_at, volumes_at, place_at, image_field, base_at, bases_at, header_at}
+use Rattle.write_trace.specs.WholeTraces.{most_bytes, whole_trace}
+use Rattle.write_trace.specs.UnreadBytes.{seen}
 use Rattle.sidefile.proofs.Local.{IsLocal, local_number, local_bytes, local_done, local_then, local_choice}
 use Rattle.sidefile.proofs.LocalImages.{local_image}
 use Rattle.sidefile.proofs.LocalEntries.{local_place}
@@ -20,7 +20,7 @@ local_bad bad left x e = absurd cc
 
 local_version : (newest : ℕ) → IsLocal (version_at newest)
 unfolding version_at
-local_version newest = local_then (bytes_at 4 (is_mark newest)) (λ m. Ok (slice_index m.0 3 - 48, m.1)) (local_bytes 4 (is_mark newest)) (λ m. local_done (slice_index m 3 - 48))
+local_version newest = local_then (bytes_at 4 (is_trace_mark newest)) (λ m. Ok (slice_index m.0 3 - 48, m.1)) (local_bytes 4 (is_trace_mark newest)) (λ m. local_done (slice_index m 3 - 48))
 
 -- ---- volumes
 

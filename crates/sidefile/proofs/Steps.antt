@@ -14,12 +14,12 @@ use Rattle.write_trace.specs.declared.entry.Entry.TheVariants.{Written}
 use Rattle.write_trace.specs.declared.trace.TraceEnd.TheVariants as ends
 use Rattle.write_trace.specs.declared.trace.TraceEnd.TheVariants.{Ended}
 use Rattle.write_trace.specs.Entries.{entry_spelling, entry_at, stamp_of}
-use Rattle.write_trace.specs.Good.{most_bytes, entries_from, last_entry_stamp, end_of, bad_end}
+use Rattle.write_trace.specs.WholeTraces.{most_bytes, entries_from, last_entry_stamp, end_of, bad_end}
 use Rattle.write_trace.specs.declared.next.Stopped.{Stopped}
-use Rattle.write_trace.specs.Unread.{unread, seen}
+use Rattle.write_trace.specs.UnreadBytes.{unread, seen}
 use Rattle.write_trace.specs.Answers.{ReaderState, ReadsEntry, EndsThere, IsBadThere, FailsThere}
 use Rattle.sidefile.specs.Breaks.{cause_of}
-use Rattle.sidefile.specs.Ahead.{IsFault, read_of, end_at, cause_ahead, cause_to_come}
+use Rattle.sidefile.specs.AheadEntries.{IsFault, read_of, end_at, cause_ahead, cause_to_come}
 use Rattle.sidefile.specs.Looks.{EntriesAreRead, ReadsAllEntries, EndsAfter, FailsAfter, WritesAfter}
 use Rattle.sidefile.proofs.Local.{at}
 use Rattle.sidefile.proofs.LocalEntries.{local_entry}

@@ -12,10 +12,10 @@ use Rattle.write_trace.specs.declared.trace.TraceEnd.{TraceEnd}
 use Rattle.write_trace.specs.declared.trace.TraceEnd.TheVariants.{Ended, BadTrace, ReadFault}
 use Rattle.write_trace.specs.Headers.{header_at}
 use Rattle.write_trace.specs.Entries.{entry_at}
-use Rattle.write_trace.specs.Good.{most_bytes, whole_trace, entries_from, bad_start, after_header, end_of, bad_end, last_entry_stamp, trace_of}
-use Rattle.write_trace.specs.Unread.{seen}
+use Rattle.write_trace.specs.WholeTraces.{most_bytes, whole_trace, entries_from, bad_start, after_header, end_of, bad_end, last_entry_stamp, trace_of}
+use Rattle.write_trace.specs.UnreadBytes.{seen}
 use Rattle.sidefile.specs.Breaks.{cause_of}
-use Rattle.sidefile.specs.Ahead.{read_of, end_at, ahead, IsFault, cause_ahead}
+use Rattle.sidefile.specs.AheadEntries.{read_of, end_at, ahead, IsFault, cause_ahead}
 use Rattle.sidefile.proofs.FirstTurns.{ahead_none}
 use Rattle.sidefile.proofs.Steps.{cause_open}
 use Rattle.sidefile.proofs.LocalHeaders.{header_of_front}

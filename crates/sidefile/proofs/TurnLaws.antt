@@ -26,8 +26,8 @@ use Rattle.sidefile.specs.declared.turn.Turn.{Turn}
 use Rattle.sidefile.specs.Runs.{runs, quota}
 use Rattle.sidefile.specs.Breaks.{stamp, break_after}
 use Rattle.sidefile.specs.Hands.{batch_of, broken_or, hand, left_after}
-use Rattle.sidefile.specs.Ahead.{IsAhead, read_of, entries_ahead, ahead, cause_ahead, cause_to_come}
-use Rattle.sidefile.specs.Exact.{Front, HandsSame, IsHand, LeavesRuns, runs_ahead}
+use Rattle.sidefile.specs.AheadEntries.{IsAhead, read_of, entries_ahead, ahead, cause_ahead, cause_to_come}
+use Rattle.sidefile.specs.ExactHands.{SidefileFront, HandsSame, IsHand, LeavesRuns, runs_ahead}
 use Rattle.sidefile.specs.Looks.{IsEntryTo, EntriesAreRead, have_stamp, FoundBehind, TakesRun}
 use Rattle.sidefile.specs.States.{IsRunOf}
 use Rattle.sidefile.specs.Turns.{IsTurn, front}
@@ -77,7 +77,7 @@ turn_is {control} {limit} {upto} {before} {now} {faults} {risen} {waiting} {old}
 -- ---- what is left
 
 -- Where the same is handed over whatever stands behind the bytes that were used, it is handed over of all bytes.
-pub leaves_same : (control limit : ℕ) (told : Option (List ℕ)) (old new : Front) (used rest bytes : List ℕ) (given : Hand) → bytes ≡ used ++ rest → IsAhead new.reader told rest
+pub leaves_same : (control limit : ℕ) (told : Option (List ℕ)) (old new : SidefileFront) (used rest bytes : List ℕ) (given : Hand) → bytes ≡ used ++ rest → IsAhead new.reader told rest
     → cause_ahead new.reader rest ≡ cause_ahead old.reader bytes → old.reader.stopped ≡ None → ((behind : List ℕ) → HandsSame control limit old new used behind given)
     → IsHand control limit old bytes given × LeavesRuns control limit told old new bytes given
 leaves_same control limit told old new used rest bytes given split there end goes same =

@@ -5,7 +5,7 @@ use Rattle.tod_stamp.specs.Fields.Bad.{Cut}
 use Rattle.write_trace.specs.declared.header.VolumeHead.{VolumeHead}
 use Rattle.write_trace.specs.declared.entry.Entry.{Entry}
 use Rattle.write_trace.specs.Entries.{entry_at, stamp_of}
-use Rattle.write_trace.specs.Good.{entries_from}
+use Rattle.write_trace.specs.WholeTraces.{entries_from}
 use Rattle.sidefile.proofs.Local.{at, Taken}
 use Rattle.sidefile.proofs.LocalEntries.{local_entry}
 

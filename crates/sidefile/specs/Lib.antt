@@ -2,8 +2,8 @@ pub mod Runs
 pub mod Breaks
 pub mod Halts
 pub mod Hands
-pub mod Ahead
-pub mod Exact
+pub mod AheadEntries
+pub mod ExactHands
 pub mod Looks
 pub mod States
 pub mod Turns

@@ -10,15 +10,15 @@ use Rattle.write_trace.specs.declared.entry.Entry.{Entry}
 use Rattle.write_trace.specs.declared.entry.Entry.TheVariants.{Written}
 use Rattle.write_trace.specs.declared.trace.TraceEnd.TheVariants as ends
 use Rattle.write_trace.specs.Entries.{stamp_of}
-use Rattle.write_trace.specs.Good.{last_entry_stamp}
+use Rattle.write_trace.specs.WholeTraces.{last_entry_stamp}
 use Rattle.write_trace.specs.Writes.{writes_of, IsWriteTo}
 use Rattle.write_trace.specs.declared.next.Stopped.TheVariants.{AtEnd, NoMemory}
-use Rattle.write_trace.specs.Unread.{unread}
+use Rattle.write_trace.specs.UnreadBytes.{unread}
 use Rattle.write_trace.specs.Answers.{ReaderState, ReadsEntry, EndsThere, IsBadThere, FailsThere, Stops}
 use Rattle.sidefile.specs.declared.look.Look.{Look}
 use Rattle.sidefile.specs.declared.look.Look.TheVariants as looks
 use Rattle.sidefile.specs.Runs.{quota}
-use Rattle.sidefile.specs.Ahead.{IsFault, read_of, cause_ahead}
+use Rattle.sidefile.specs.AheadEntries.{IsFault, read_of, cause_ahead}
 
 -- ---- one look
 

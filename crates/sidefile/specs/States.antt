@@ -15,7 +15,7 @@ use Rattle.sidefile.specs.declared.hand.Hand.TheVariants as hands
 use Rattle.sidefile.specs.declared.hand.Halt.{Halt}
 use Rattle.sidefile.specs.Runs.{quota}
 use Rattle.sidefile.specs.Looks.{IsEntryTo}
-use Rattle.sidefile.specs.Exact.{Front}
+use Rattle.sidefile.specs.ExactHands.{SidefileFront}
 
 -- A sidefile: its control, the entry that was looked at and waits, its reader, up to when its control has reported, and why it
 -- hands over no more.
@@ -26,7 +26,7 @@ pub record SidefileState : Type 0 where
   pub upto : ℕ
   pub halted : Option Halt
 
-abbrev pub front_of : SidefileState → Front
+abbrev pub front_of : SidefileState → SidefileFront
 front_of s = record { waiting = s.waiting; reader = s.reader }
 
 -- The waiting entry is the reader's last, is good, and has a stamp above what was reported. Where none waits, nothing was read

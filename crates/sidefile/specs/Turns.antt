@@ -3,11 +3,11 @@ use Rattle.std.specs.Prelude.{◌≡◌, ◌≤◌, ℕ, List, Option}
 use Rattle.write_trace.specs.declared.entry.Entry.{Entry}
 use Rattle.write_trace.specs.Answers.{ReaderState}
 use Rattle.sidefile.specs.declared.turn.Turn.{Turn}
-use Rattle.sidefile.specs.Exact.{IsDue, Front}
+use Rattle.sidefile.specs.ExactHands.{IsDue, SidefileFront}
 use Rattle.sidefile.specs.Halts.{halt_of, reached}
 use Rattle.sidefile.specs.States.{IsWaiting, IsSidefile, HoldsRun, HasFault}
 
-abbrev pub front : Option Entry → ReaderState → Front
+abbrev pub front : Option Entry → ReaderState → SidefileFront
 front waiting reader = record { waiting = waiting; reader = reader }
 
 -- What is due was handed over, and what waits afterwards is as a sidefile keeps it.

@@ -2,7 +2,7 @@
 
 ghost use Rattle.std.specs.Prelude.{◌≡◌, ◌≤◌, ℕ, None, Some, IfOk};
 ghost use Rattle.sidefile.specs.declared.hand.Halt.{Halt};
-ghost use Rattle.sidefile.specs.Exact.{IsDue};
+ghost use Rattle.sidefile.specs.ExactHands.{IsDue};
 ghost use Rattle.sidefile.specs.Halts.{hand_of, halt_of, broken_in, reached};
 ghost use Rattle.sidefile.specs.States.{IsSidefile, HoldsRun, HasFault, front_of};
 

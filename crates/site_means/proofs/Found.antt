@@ -7,7 +7,7 @@ use Rattle.tod_stamp.proofs.FieldLaws.{at_place, bind_ok}
 use Rattle.crash_plant.specs.declared.spot.Spot.{Spot}
 use Rattle.xrc_journal.specs.Items.{Item, Form, anywhere, none_earlier, are_items_behind, body_spelling}
 use Rattle.xrc_journal.specs.Reading.{Items, items_at}
-use Rattle.xrc_journal.specs.Records.{Found, Head, record_head_at, is_body_length, next_set, spot_in, stretch, group_or, switch_or, switch_of, record_or, walk_one}
+use Rattle.xrc_journal.specs.Records.{Found, RecordHead, record_head_at, is_body_length, next_set, spot_in, stretch, group_or, switch_or, switch_of, record_or, walk_one}
 use Rattle.xrc_journal.specs.Records.Found.{End, Group, Switch, Damaged}
 use Rattle.xrc_journal.specs.declared.spot.Walked.TheVariants.{End as WalkedEnd, Group as WalkedGroup, Switch as WalkedSwitch}
 use Rattle.xrc_journal.specs.declared.spot.WalkError.TheVariants.{Damaged as WalkDamaged}
@@ -48,7 +48,7 @@ told_damaged set (Damaged p items) j place e = let same : p ≡ place = cc in (�
 -- ---- a header
 
 -- the body's length keeps its rule
-head_fits : (size : ℕ) (at : Spot) (last : ℕ) (left : Left) (head : Head) (next : Left) → record_head_at size at last left ≡ Ok (head, next) → is_body_length size at head.kind head.len ≡ true
+head_fits : (size : ℕ) (at : Spot) (last : ℕ) (left : Left) (head : RecordHead) (next : Left) → record_head_at size at last left ≡ Ok (head, next) → is_body_length size at head.kind head.len ≡ true
 unfolding record_head_at
 head_fits size at last left head next e =
     let expected : ℕ → Bool = λ n. nat_eq n at.number && nat_lt n (2 ^ 64 - 1) in
@@ -58,7 +58,7 @@ head_fits size at last left head next e =
     let four = bind_ok (number_at w32 (is_body_length size at one.0.0) three.0.1) (λ l. Ok (record { kind = one.0.0; time = three.0.0; len = l.0 }, l.1)) (head, next) three.2 in
     let kept = number_kept w32 (is_body_length size at one.0.0) three.0.1 four.0.0 four.0.1 four.1 in
     let is = given_is (record { kind = one.0.0; time = three.0.0; len = four.0.0 }, four.0.1) (head, next) four.2 in
-    ap (λ (p : Head × Left). is_body_length size at p.0.kind p.0.len) (sym is) ∙ kept
+    ap (λ (p : RecordHead × Left). is_body_length size at p.0.kind p.0.len) (sym is) ∙ kept
 
 -- ---- a group
 
@@ -92,21 +92,21 @@ module _ (form : Form) (sets : ℕ) (journal : List ℕ) (at : Spot) (last : ℕ
   abbrev Lie : Found → Type 0
   Lie found = are_items_behind anywhere none_earlier (items_found found) ≡ true → (items_found found ≡ []) ⊎ (at.place + 22 + length (body_spelling (items_found found)) ≤ behind_found found)
 
-  group_lies : (head : Head) (read : Items) (bad : Option ℕ) → read.bad ≡ bad → (are_items_behind anywhere none_earlier read.good ≡ true → Ending (at_place (at.place + 22) (stretch (at.place + 22) head.len journal)) read) → Lie (group_or at head read bad)
+  group_lies : (head : RecordHead) (read : Items) (bad : Option ℕ) → read.bad ≡ bad → (are_items_behind anywhere none_earlier read.good ≡ true → Ending (at_place (at.place + 22) (stretch (at.place + 22) head.len journal)) read) → Lie (group_or at head read bad)
   group_lies head read None none ends keep = inr (omega (arith, (ends keep).within, length-take head.len (drop (at.place + 22) journal)))
   group_lies head read (Some place) some ends keep = inr (omega (arith, (ends keep).before place some))
 
-  switch_lies : (head : Head) (set : Result (ℕ × Left) Bad) → Lie (switch_or at head set)
+  switch_lies : (head : RecordHead) (set : Result (ℕ × Left) Bad) → Lie (switch_or at head set)
   switch_lies head (Ok set) keep = inl refl
   switch_lies head (Err bad) keep = inl refl
 
-  by_kind : (head : Head) (group : Bool) → (let read = items_at form (at.place + 22) (stretch (at.place + 22) head.len journal) in Lie (cond group (group_or at head read read.bad) (switch_of sets journal at head)))
+  by_kind : (head : RecordHead) (group : Bool) → (let read = items_at form (at.place + 22) (stretch (at.place + 22) head.len journal) in Lie (cond group (group_or at head read read.bad) (switch_of sets journal at head)))
   by_kind head true =
       let read = items_at form (at.place + 22) (stretch (at.place + 22) head.len journal) in
       group_lies head read read.bad refl (items_long (length (stretch (at.place + 22) head.len journal)) form none_earlier (at_place (at.place + 22) (stretch (at.place + 22) head.len journal)) none_earlier)
   by_kind head false = switch_lies head (number_at w16 (λ n. nat_eq n (next_set sets at.set)) (at_place (at.place + 22) (stretch (at.place + 22) 2 journal)))
 
-  by_head : (read : Result (Head × Left) Bad) → Lie (record_or form sets journal at read)
+  by_head : (read : Result (RecordHead × Left) Bad) → Lie (record_or form sets journal at read)
   by_head (Ok head) keep = by_kind head.0 (nat_eq head.0.kind 1) keep
   by_head (Err bad) keep = inl refl
 
@@ -127,7 +127,7 @@ module _ (form : Form) (sets : ℕ) (journal : List ℕ) (at : Spot) (last : ℕ
 
   -- ---- a switch
 
-  switch_is : (head : Head) (set : Result (ℕ × Left) Bad) (time : ℕ) (after : Spot) → number_at w16 (λ n. nat_eq n (next_set sets at.set)) (at_place (at.place + 22) (stretch (at.place + 22) 2 journal)) ≡ set → switch_or at head set ≡ Switch time after
+  switch_is : (head : RecordHead) (set : Result (ℕ × Left) Bad) (time : ℕ) (after : Spot) → number_at w16 (λ n. nat_eq n (next_set sets at.set)) (at_place (at.place + 22) (stretch (at.place + 22) 2 journal)) ≡ set → switch_or at head set ≡ Switch time after
       → after ≡ spot_in (next_set sets at.set) at
   switch_is head (Ok set) time after read e =
       let kept = number_kept w16 (λ n. nat_eq n (next_set sets at.set)) _ set.0 set.1 read in
@@ -135,16 +135,16 @@ module _ (form : Form) (sets : ℕ) (journal : List ℕ) (at : Spot) (last : ℕ
       sym same ∙ ap (λ (n : ℕ). spot_in n at) (eqb-true set.0 (next_set sets at.set) kept)
   switch_is head (Err bad) time after read e = absurd cc
 
-  group_is_none : (head : Head) (read : Items) (bad : Option ℕ) (time : ℕ) (after : Spot) → group_or at head read bad ≡ Switch time after → ⊥
+  group_is_none : (head : RecordHead) (read : Items) (bad : Option ℕ) (time : ℕ) (after : Spot) → group_or at head read bad ≡ Switch time after → ⊥
   group_is_none head read None time after e = cc
   group_is_none head read (Some place) time after e = cc
 
-  switch_by_kind : (head : Head) (group : Bool) (time : ℕ) (after : Spot)
+  switch_by_kind : (head : RecordHead) (group : Bool) (time : ℕ) (after : Spot)
       → (let read = items_at form (at.place + 22) (stretch (at.place + 22) head.len journal) in cond group (group_or at head read read.bad) (switch_of sets journal at head) ≡ Switch time after) → after ≡ spot_in (next_set sets at.set) at
   switch_by_kind head true time after e = let read = items_at form (at.place + 22) (stretch (at.place + 22) head.len journal) in absurd (group_is_none head read read.bad time after e)
   switch_by_kind head false time after e = switch_is head (number_at w16 (λ n. nat_eq n (next_set sets at.set)) (at_place (at.place + 22) (stretch (at.place + 22) 2 journal))) time after refl e
 
-  switch_by_head : (read : Result (Head × Left) Bad) (time : ℕ) (after : Spot) → record_or form sets journal at read ≡ Switch time after → after ≡ spot_in (next_set sets at.set) at
+  switch_by_head : (read : Result (RecordHead × Left) Bad) (time : ℕ) (after : Spot) → record_or form sets journal at read ≡ Switch time after → after ≡ spot_in (next_set sets at.set) at
   switch_by_head (Ok head) time after e = switch_by_kind head.0 (nat_eq head.0.kind 1) time after e
   switch_by_head (Err bad) time after e = absurd cc
 

@@ -11,7 +11,7 @@ use Rattle.pair_table.specs.declared.row.PairRow.{PairRow}
 use Rattle.pair_table.specs.Tables.{with_rows}
 use Rattle.state_set.specs.Slots.{Stored, started_table}
 use Rattle.xrc_journal.specs.Items.{Item}
-use Rattle.xrc_journal.specs.Records.{Found, Head, record_head_at, is_body_length, stretch, walk_one}
+use Rattle.xrc_journal.specs.Records.{Found, RecordHead, record_head_at, is_body_length, stretch, walk_one}
 use Rattle.xrc_journal.specs.Records.Found.{Group}
 use Rattle.xrc_journal.specs.Walks.{Logged}
 use Rattle.xrc_journal.proofs.RecordsRead.{group_found, shut_is_end}
@@ -85,7 +85,7 @@ same_mark shape a b means w by agree = (agree.chosen ∙ by.chosen, agree.stored
 -- ---- a group more
 
 -- a record that is found has a number below the last
-number_below : (size : ℕ) (at : Spot) (last : ℕ) (left : Left) (head : Head) (next : Left) → record_head_at size at last left ≡ Ok (head, next) → at.number < 2 ^ 64 - 1
+number_below : (size : ℕ) (at : Spot) (last : ℕ) (left : Left) (head : RecordHead) (next : Left) → record_head_at size at last left ≡ Ok (head, next) → at.number < 2 ^ 64 - 1
 unfolding record_head_at
 number_below size at last left head next e =
     let expected : ℕ → Bool = λ n. nat_eq n at.number && nat_lt n (2 ^ 64 - 1) in

@@ -18,7 +18,7 @@ use Rattle.pair_table.specs.declared.row.PairRow.{PairRow}
 use Rattle.xrc_journal.specs.Bodies.{have_image}
 use Rattle.xrc_journal.specs.Contents.{HasItem, content_through}
 use Rattle.xrc_journal.specs.Items.{AreItems, Item, form_of}
-use Rattle.applier.specs.Back.{WorksOnLent}
+use Rattle.applier.specs.Returns.{WorksOnLent}
 use Rattle.applier.specs.Slots.{DiffersInSlots}
 use Rattle.applier.proofs.InSlots.{differs_here, has_either}
 use Rattle.applier.proofs.Works.{works_lent_more}
@@ -30,7 +30,7 @@ use Rattle.site_means.specs.Sight.{meant_by, walked, walked_by}
 use Rattle.site_means.proofs.Agreeing.{meanings_agree}
 use Rattle.site_means.proofs.Goes.{shape_same}
 use Rattle.site_means.proofs.Drawn.{contents_are_drawn}
-use Rattle.site_store.specs.Doing.{DoesDeeds}
+use Rattle.site_store.specs.DoneDeeds.{DoesDeeds}
 use Rattle.site_store.specs.Exceptions.{Exceptions}
 use Rattle.site_store.proofs.Single.{same_content}
 use Rattle.site_store.specs.Applying.{Applies, AppliesTo, AppliesToVolume, DoesApply, SeesTheSame, excepted_by_apply, is_applied, with_applied}

@@ -29,7 +29,7 @@ use Rattle.site_store.specs.Sites.{SiteState, new_site}
 use Rattle.site_store.specs.Standing.{FitsPlant, Leaves, SiteStands, StandsFast, none_excepted, row_has_volume}
 use Rattle.site_store.proofs.Below.{below_volumes}
 use Rattle.site_store.proofs.Commanded.{changes_may, put_rows_leave}
-use Rattle.site_store.specs.Between.{IsSiteIdle, IsSiteLogged}
+use Rattle.site_store.specs.IdleSites.{IsSiteIdle, IsSiteLogged}
 
 -- ---- what any call leaves
 

@@ -13,7 +13,7 @@ use Rattle.record_rows.specs.Deeds.{Deed}
 use Rattle.record_rows.specs.Deeds.Deed.{Changed, Marked as MarkedDeed}
 use Rattle.record_rows.specs.Hits.{hit_now, rows_marked}
 use Rattle.record_rows.specs.Records.{rows_with_hits}
-use Rattle.site_store.specs.Doing.{BeginsDeeds, DoesDeeds}
+use Rattle.site_store.specs.DoneDeeds.{BeginsDeeds, DoesDeeds}
 use Rattle.site_store.specs.Exceptions.{Exceptions}
 use Rattle.site_store.proofs.Moments.{more_follow}
 use Rattle.site_store.proofs.Single.{no_call}
@@ -21,7 +21,7 @@ use Rattle.site_means.specs.Images.{shape_of}
 use Rattle.site_means.specs.Walk.{rows_through}
 use Rattle.state_set.specs.Slots.{are_rows}
 use Rattle.state_set.proofs.Behind.{rows_from}
-use Rattle.xrc_journal.specs.Bodies.{Held}
+use Rattle.xrc_journal.specs.Bodies.{BodyState}
 use Rattle.xrc_journal.specs.Items.{Item, body_spelling, form_of}
 use Rattle.xrc_journal.specs.RingWalks.{AllEndThrough}
 use Rattle.site_store.specs.declared.store_error.StoreError.{StoreError}
@@ -106,7 +106,7 @@ none_done tells cut change site next old none = record {
 
 -- ---- a record is formed, once these jobs had failed
 
-module _ (tells : Type 0) (cut : Stamp) (change : Change) (site : SiteState) (old : PlantState) (may : MayChange tells cut.0 change site old) (failed : List Bool) (held now : Held) (forms : FormsChange site.level cut failed change site.table.rows held now) where
+module _ (tells : Type 0) (cut : Stamp) (change : Change) (site : SiteState) (old : PlantState) (may : MayChange tells cut.0 change site old) (failed : List Bool) (held now : BodyState) (forms : FormsChange site.level cut failed change site.table.rows held now) where
   abbrev pub rows : List PairRow
   rows = rows_with_hits site.level cut.0 failed site.table.rows
 
@@ -120,7 +120,7 @@ module _ (tells : Type 0) (cut : Stamp) (change : Change) (site : SiteState) (ol
   pairs = pairs_with_next (with_hits forms.hits) site.table.rows
 
   parts : now.items ≡ changed ++ pairs
-  parts = ap (λ (h : Held). h.items) forms.now_is
+  parts = ap (λ (h : BodyState). h.items) forms.now_is
 
   keep : are_rows old.volumes site.table.rows ≡ true
   keep = rows_from old.volumes site.table.rows (record { few = forms.rules.few; apart = forms.rules.apart; below = below_volumes old old.volumes site.table.rows (omega arith) fits.rows })
@@ -307,5 +307,5 @@ marked_done tells cut change site next old new result some is_way does =
     }
 
 -- What was formed by a site's fields is formed so for the site.
-pub forms_there : (level : Level) (cut : Stamp) (flags failed : List Bool) (change : Change) (formed : List PairRow) (site : SiteState) (held now : Held) → level ≡ site.level → flags ≡ failed → formed ≡ site.table.rows → FormsChange level cut flags change formed held now → FormsChange site.level cut failed change site.table.rows held now
+pub forms_there : (level : Level) (cut : Stamp) (flags failed : List Bool) (change : Change) (formed : List PairRow) (site : SiteState) (held now : BodyState) → level ≡ site.level → flags ≡ failed → formed ≡ site.table.rows → FormsChange level cut flags change formed held now → FormsChange site.level cut failed change site.table.rows held now
 forms_there level cut flags failed change formed site held now level_is flags_is rows_is forms = subst (λ (x : Type 0). x) (λ i. FormsChange (level_is i) cut (flags_is i) change (rows_is i) held now) forms

@@ -1,7 +1,6 @@
 -- A change of rows behind what comes first, nothing or a mark: the deeds and the site behind both, over plain states.
 use Rattle.std.proofs.Common.{◌≡◌, inl, inr, ℕ, ◌^◌, ◌<◌, ◌++◌, Bool, false, List, [], ◌∷◌, Result, Ok, Err, refl, sym, subst, ◌∙◌, arith}
 use Rattle.std.specs.Prelude.{OnOk, slice_index_or}
-use Rattle.xrc_edge.specs.Causes.{Rose}
 use Rattle.crash_plant.specs.declared.device.Device.{Device}
 use Rattle.crash_plant.specs.declared.device.Device.TheVariants.{Volume}
 use Rattle.crash_plant.specs.Calls.{WorksOn}
@@ -10,7 +9,7 @@ use Rattle.crash_plant.proofs.Steps.{works_on_more, works_on_trans}
 use Rattle.pair_table.specs.declared.row.PairRow.{PairRow}
 use Rattle.record_rows.specs.Deeds.{Deed, rows_behind}
 use Rattle.record_rows.specs.Deeds.Deed.{Changed, Marked as MarkedDeed}
-use Rattle.site_store.specs.Doing.{BeginsDeeds, DoesDeeds}
+use Rattle.site_store.specs.DoneDeeds.{BeginsDeeds, DoesDeeds}
 use Rattle.site_store.specs.Exceptions.{Exceptions, excepted_behind}
 use Rattle.site_store.proofs.Composing.{begin_behind, go_on}
 use Rattle.site_store.proofs.Single.{no_call}
@@ -18,10 +17,10 @@ use Rattle.xrc_journal.specs.Items.{Item}
 use Rattle.xrc_journal.specs.Jobs.{FailsByCount}
 use Rattle.site_store.specs.declared.store_error.StoreError.{StoreError}
 use Rattle.site_store.specs.declared.way.Way.{Way}
-use Rattle.site_store.specs.Causes.{FailByCounts, HasStoreCause}
+use Rattle.site_store.specs.Causes.{FailByCounts}
 use Rattle.site_store.specs.Marking.{MakesMark}
 use Rattle.site_store.specs.Recording.{ShowsRecord, group_with}
-use Rattle.site_store.specs.Records.{IsJournal, IsOfMark, IsOfRecord, IsStore}
+use Rattle.site_store.specs.Records.{IsJournal, IsOfMark, IsOfRecord}
 use Rattle.site_store.specs.Sites.{SiteState}
 use Rattle.site_store.specs.Standing.{Leaves, SiteStands, none_excepted}
 use Rattle.site_store.proofs.MarkFirst.{mark_does}
@@ -94,19 +93,6 @@ module _ (tells : Type 0) (first : List Deed) (site here : SiteState) (old mid n
 
 pub record_works : (tells : Type 0) (site : SiteState) (old mid new : PlantState) → WorksOn tells (IsOfMark site) old mid → WorksOn tells IsJournal mid new → WorksOn tells (IsOfRecord site) old new
 record_works tells site old mid new one two = works_on_trans tells (IsOfRecord site) old mid new (works_on_more tells (IsOfMark site) (IsOfRecord site) old mid (λ d is. inr is) one) (works_on_more tells IsJournal (IsOfRecord site) mid new (λ d is. inl is) two)
-
--- No count of the control, the state or a journal rose in calls that answered Ok.
-pub none_rose : (old mid : Device → ℕ) → HasStoreCause old mid (Ok tt) → (d : Device) → IsStore d → mid d ≡ old d
-none_rose old mid cause d store = cause.counts.others d store (λ e. cc e)
-
-pub cause_then : (old mid new : Device → ℕ) (result : Result (Unit {0}) StoreError) → ((d : Device) → IsStore d → mid d ≡ old d) → HasStoreCause mid new result → HasStoreCause old new result
-cause_then old mid new result same cause = record {
-  counts = record {
-    fault = λ d named. let why = cause.counts.fault d named in (why.0, subst (λ (n : ℕ). Rose n (new d)) (same d why.0) why.1);
-    others = λ d store not. cause.counts.others d store not ∙ same d store;
-  };
-  memory = cause.memory;
-}
 
 -- No job fails where no count rises.
 pub none_fail : (failed : List Bool) (count : Device → ℕ) → FailByCounts failed failed count count

@@ -28,7 +28,7 @@ use Rattle.xrc_journal.specs.Items.{Item, item_spelling}
 use Rattle.xrc_journal.specs.Items.Item.{Pair, Gone}
 use Rattle.site_store.specs.Changing.{Lead, changed_items, gone_of, named_devices, pair_item, pairs_of}
 use Rattle.site_store.specs.Commands.{alters}
-use Rattle.site_store.specs.Hits.{Next, pair_in, pairs_with_next}
+use Rattle.site_store.specs.Hits.{NextStates, pair_in, pairs_with_next}
 use Rattle.site_store.proofs.FormedItems.{pairs_lead}
 use Rattle.site_store.proofs.RecordPairsFit.{next_pairs_fit}
 
@@ -143,7 +143,7 @@ gone_fits volumes place test (r ∷ rows) apart =
 -- ---- rows that pass a test, in another state
 
 -- what becomes of the rows that pass
-abbrev next_where : (test : PairRow → Bool) → PairState → Next
+abbrev next_where : (test : PairRow → Bool) → PairState → NextStates
 next_where test state r = cond (test r) (Some state) None
 
 rows_where : (test : PairRow → Bool) (state : PairState) (rows : List PairRow) → rows_in_states (next_where test state) rows ≡ map (λ r. cond (test r) (in_state state r) r) rows
@@ -159,10 +159,6 @@ pairs_behind [] r rows others = refl
 pairs_behind (d ∷ devices) r rows others =
     let parts = and_parts (is_other r.device d) (list_all (is_other r.device) devices) others in
     (λ i. pair_item (cond (not_is (d == r.device) parts.0 i) (Some r) (row_of d rows)) ++ pairs_behind devices r rows parts.1 i)
-
-changed_device : (b : Bool) (state : PairState) (r : PairRow) → (cond b (in_state state r) r).device ≡ r.device
-changed_device true state r = refl
-changed_device false state r = refl
 
 pairs_where : (test : PairRow → Bool) (state : PairState) (rows : List PairRow) → none_clash rows ≡ true → pairs_of (devices_of (filter test rows)) (map (λ r. cond (test r) (in_state state r) r) rows) ≡ pairs_with_next (next_where test state) rows
 pairs_where test state [] apart = refl

@@ -11,7 +11,7 @@ use Rattle.pair_table.specs.declared.row.PairRow.{PairRow}
 use Rattle.passages.specs.Points.{GoesThrough}
 use Rattle.passages.proofs.InARow.{in_a_row, passed_still}
 use Rattle.record_rows.specs.Deeds.{Deed, rows_behind}
-use Rattle.site_store.specs.Doing.{DoesDeeds, GoesThroughDeeds, PassedDeed, points_of, with_next}
+use Rattle.site_store.specs.DoneDeeds.{DoesDeeds, GoesThroughDeeds, PassedDeed, points_of, with_next}
 use Rattle.site_store.specs.Exceptions.{Exceptions, excepted_behind}
 use Rattle.site_store.specs.DeedLaws.{DeedsBeginBehind, DeedsGoOn, SightsCompose}
 use Rattle.site_store.specs.Seeing.{SeesBehind}

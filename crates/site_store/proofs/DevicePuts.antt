@@ -1,18 +1,16 @@
 -- Items of rows put into a body, device by device.
-use Rattle.std.proofs.Common.{◌≡◌, ℕ, ◌+◌, ◌*◌, ◌≤◌, ◌<◌, Bool, true, false, cond, List, [], ◌∷◌, ◌++◌, length, take, get_or, Some, refl, sym, ap, ◌∙◌, arith, length-append, append-nil, IsTrue}
+use Rattle.std.proofs.Common.{◌≡◌, ℕ, ◌+◌, ◌*◌, ◌≤◌, ◌<◌, Bool, true, false, cond, List, [], ◌∷◌, ◌++◌, length, take, get_or, Some, sym, ap, ◌∙◌, arith, length-append, append-nil, IsTrue}
 use Rattle.std.specs.List.{flat_map, list_all}
 use Rattle.std.proofs.lemmas.Bool.{and_parts}
-use Rattle.std.proofs.lemmas.List.{take_more, flat_map_more, take_all}
-use Rattle.std.proofs.lemmas.List.Concat.{flat_map_single}
+use Rattle.std.proofs.lemmas.List.{take_more, flat_map_more}
 use Rattle.pair_table.specs.declared.row.PairRow.{PairRow}
 use Rattle.pair_table.specs.Rows.{is_row}
 use Rattle.pair_table.specs.Tables.{is_of, row_of}
-use Rattle.xrc_journal.specs.Bodies.{Held, with_item}
+use Rattle.xrc_journal.specs.Bodies.{BodyState, with_item}
 use Rattle.xrc_journal.specs.Items.{Item, body_spelling, item_spelling}
-use Rattle.xrc_journal.specs.Items.Item.{Pair, Gone}
+use Rattle.xrc_journal.specs.Items.Item.{Pair}
 use Rattle.xrc_journal.proofs.Bodies.{body_push}
 use Rattle.xrc_journal.proofs.Fields.{spelled_length}
-use Rattle.site_store.specs.Changing.{gone_of}
 
 -- A row that is found is one.
 pub found_is_row : (device : ℕ) (rows : List PairRow) (row : PairRow) → IsTrue (list_all is_row rows) → row_of device rows ≡ Some row → is_row row ≡ true
@@ -29,15 +27,12 @@ pub pair_length : (row : PairRow) → is_row row ≡ true → length (item_spell
 pair_length row is = omega (arith, spelled_length row is)
 
 -- The items of the first so many devices stand behind those that were there.
-pub record Put (items : ℕ → List Item) (held now : Held) (devices : List ℕ) (i : ℕ) : Type 0 where
+pub record Put (items : ℕ → List Item) (held now : BodyState) (devices : List ℕ) (i : ℕ) : Type 0 where
   pub items_are : now.items ≡ held.items ++ flat_map items (take i devices)
   pub room : now.room ≡ held.room
   pub long : length (body_spelling now.items) ≤ length (body_spelling held.items) + i * 31
 
-pub put_first : (items : ℕ → List Item) (held : Held) (devices : List ℕ) → Put items held held devices 0
-put_first items held devices = record { items_are = sym (append-nil held.items); room = refl; long = omega arith }
-
-module _ (items : ℕ → List Item) (held now : Held) (devices : List ℕ) (i d : ℕ) (within : i < length devices) (is : d ≡ get_or devices i 0) (put : Put items held now devices i) where
+module _ (items : ℕ → List Item) (held now : BodyState) (devices : List ℕ) (i d : ℕ) (within : i < length devices) (is : d ≡ get_or devices i 0) (put : Put items held now devices i) where
   more : held.items ++ flat_map items (take (i + 1) devices) ≡ now.items ++ items d
   more =
       ap (λ (l : List ℕ). held.items ++ flat_map items l) (take_more devices i 0 within) ∙ sym (flat_map_more items held.items (take i devices) (get_or devices i 0))
@@ -50,19 +45,9 @@ module _ (items : ℕ → List Item) (held now : Held) (devices : List ℕ) (i d
     long = omega (arith, put.long);
   }
 
-  pub put_one : (item : Item) (next : Held) → items d ≡ item ∷ [] → length (item_spelling item) ≤ 31 → next ≡ with_item item now → Put items held next devices (i + 1)
+  pub put_one : (item : Item) (next : BodyState) → items d ≡ item ∷ [] → length (item_spelling item) ≤ 31 → next ≡ with_item item now → Put items held next devices (i + 1)
   put_one item next one short next_is = record {
-    items_are = ap (λ (h : Held). h.items) next_is ∙ sym (more ∙ ap (λ (l : List Item). now.items ++ l) one);
-    room = ap (λ (h : Held). h.room) next_is ∙ put.room;
-    long = omega (arith, put.long, short, ap (λ (h : Held). length (body_spelling h.items)) next_is, ap length (body_push now.items item), length-append (body_spelling now.items) (item_spelling item));
+    items_are = ap (λ (h : BodyState). h.items) next_is ∙ sym (more ∙ ap (λ (l : List Item). now.items ++ l) one);
+    room = ap (λ (h : BodyState). h.room) next_is ∙ put.room;
+    long = omega (arith, put.long, short, ap (λ (h : BodyState). length (body_spelling h.items)) next_is, ap length (body_push now.items item), length-append (body_spelling now.items) (item_spelling item));
   }
-
--- All were put.
-pub put_all : (items : ℕ → List Item) (held now : Held) (devices : List ℕ) (i : ℕ) → i ≡ length devices → Put items held now devices i → now ≡ record { items = held.items ++ flat_map items devices; room = held.room }
-put_all items held now devices i whole put =
-    let all : take i devices ≡ devices = ap (λ (n : ℕ). take n devices) whole ∙ take_all (length devices) devices (omega arith) in
-    let are : now.items ≡ held.items ++ flat_map items devices = put.items_are ∙ ap (λ (l : List ℕ). held.items ++ flat_map items l) all in
-    (λ n. record { items = are n; room = put.room n })
-
-pub gone_are : (devices : List ℕ) → flat_map (λ d. Gone d ∷ []) devices ≡ gone_of devices
-gone_are devices = flat_map_single (λ d. Gone d) devices

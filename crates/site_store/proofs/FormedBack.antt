@@ -9,16 +9,16 @@ use Rattle.ckd_track.specs.declared.write.Kind.{Kind}
 use Rattle.ckd_track.specs.SlotPlaces.{slot_track}
 use Rattle.crash_plant.specs.declared.device.Device.{Device}
 use Rattle.crash_plant.specs.declared.device.Device.TheVariants.{Volume}
-use Rattle.crash_plant.specs.Moments.{Standing, PlantState, Kept, Follows, Same}
+use Rattle.crash_plant.specs.Moments.{Standing, PlantState, SamePast, Follows, Same}
 use Rattle.pair_table.specs.declared.row.PairRow.{PairRow}
 use Rattle.pending_queue.specs.Entries.{WaitingEntry}
 use Rattle.xrc_journal.specs.declared.job.VolumeJob.{VolumeJob}
 use Rattle.xrc_journal.specs.Items.{Item}
 use Rattle.xrc_journal.specs.Contents.{content_through}
 use Rattle.xrc_journal.specs.Jobs.{FailsByCount, OnVolume}
-use Rattle.applier.specs.Back.{AreBack, AreRead, IsBack, WorksOnLent}
+use Rattle.applier.specs.Returns.{AreBack, AreRead, IsBack, WorksOnLent}
 use Rattle.applier.specs.Disks.{IsLentTo, OnDisks, without_disk}
-use Rattle.applier.specs.Out.{AreOut, AreWorkedOn, HoldsVolume, LendsWhere, WorkedOn}
+use Rattle.applier.specs.Loans.{AreOut, AreWorkedOn, HoldsVolume, LendsWhere, WorkedOn}
 use Rattle.applier.proofs.Works.{works_lent_more}
 use Rattle.image_former.specs.Changes.{AreSpelled, changed_through}
 use Rattle.image_former.specs.Entries.{HasEntry}
@@ -40,7 +40,7 @@ on_disks state holds None (Some b) is = absurd is
 module _ {D : Type 0} (tells own : Type 0) (state : D → Standing) (rows : List PairRow) (entries : List WaitingEntry) (lent given : List (VolumeJob D))
     (devices : AllZip (λ old new. new.device ≡ old.device) lent given) (alone : AllZip (λ old new. old.failed ≡ true → new ≡ old) lent given)
     (cause : AllZip (λ old new. old.failed ≡ false → OnVolume state (λ was is. FailsByCount new.failed was.faults is.faults) old.disk new.disk) lent given)
-    (lengths : OnVolumes state (λ was is. is.length_is ≡ was.length_is) lent given) (past : own → OnVolumes state Kept lent given) where
+    (lengths : OnVolumes state (λ was is. is.length_is ≡ was.length_is) lent given) (past : own → OnVolumes state SamePast lent given) where
   size : length lent ≡ length given
   size = length_all_zip (λ old new. new.device ≡ old.device) lent given devices
 
@@ -69,7 +69,7 @@ module _ {D : Type 0} (tells own : Type 0) (state : D → Standing) (rows : List
     disks = λ i d lt. by_disk (get_or lent i d).disk (get_or given i d).disk (AllZip-get_or _ lent given i d d lengths lt) (λ told. AllZip-get_or _ lent given i d d (past told) lt) (later i d lt);
   }
     where
-      by_disk : (o n : Option D) → OnVolume state (λ was is. is.length_is ≡ was.length_is) o n → (own → OnVolume state Kept o n) → OnVolume state (λ was is. was.faults ≤ is.faults) o n → OnDisks (λ was is. WorkedOn own (state was) (state is)) o n
+      by_disk : (o n : Option D) → OnVolume state (λ was is. is.length_is ≡ was.length_is) o n → (own → OnVolume state SamePast o n) → OnVolume state (λ was is. was.faults ≤ is.faults) o n → OnDisks (λ was is. WorkedOn own (state was) (state is)) o n
       by_disk (Some a) (Some b) long kept up = record { past = kept; length_is = long; faults = up }
       by_disk None None long kept up = tt
       by_disk (Some a) None long kept up = absurd long

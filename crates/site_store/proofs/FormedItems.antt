@@ -17,7 +17,7 @@ use Rattle.xrc_journal.specs.Items.Item.{Pair}
 use Rattle.xrc_journal.specs.Contents.{HasItem}
 use Rattle.image_former.specs.Entries.{HasEntry, is_device, is_entry_on, row_device}
 use Rattle.image_former.specs.Forms.{AreItemsWhereAllowed}
-use Rattle.site_store.specs.Hits.{Next, is_row_in, pair_in, pairs_with_next, stays_row}
+use Rattle.site_store.specs.Hits.{NextStates, is_row_in, pair_in, pairs_with_next, stays_row}
 use Rattle.site_store.specs.Logging.{IsOfSomeRow, is_entry_of_device, is_pair_item}
 use Rattle.site_store.specs.Standing.{row_has_volume}
 use Rattle.site_store.proofs.HitItems.{keep_both}
@@ -25,7 +25,7 @@ use Rattle.site_store.proofs.LentJobs.{found_any, row_of_entry, slot_reach}
 
 -- ---- pairs
 
-pub pairs_are : (next : Next) (rows : List PairRow) → list_all is_pair_item (pairs_with_next next rows) ≡ true
+pub pairs_are : (next : NextStates) (rows : List PairRow) → list_all is_pair_item (pairs_with_next next rows) ≡ true
 pairs_are next [] = refl
 pairs_are next (r ∷ rows) = by_state (next r) (pairs_are next rows)
   where
@@ -33,7 +33,7 @@ pairs_are next (r ∷ rows) = by_state (next r) (pairs_are next rows)
     by_state (Some state) more = more
     by_state None more = more
 
-pairs_put : (next : Next) (rows all : List PairRow) → rows_through (pairs_with_next next rows) all ≡ with_rows_put (changed_rows next rows) all
+pairs_put : (next : NextStates) (rows all : List PairRow) → rows_through (pairs_with_next next rows) all ≡ with_rows_put (changed_rows next rows) all
 pairs_put next [] all = refl
 pairs_put next (r ∷ rows) all = by_state (next r) (λ l. pairs_put next rows l)
   where
@@ -42,13 +42,13 @@ pairs_put next (r ∷ rows) all = by_state (next r) (λ l. pairs_put next rows l
     by_state None more = more all
 
 -- Pairs lead from rows to those in their new states.
-pub pairs_lead : (next : Next) (rows : List PairRow) → none_clash rows ≡ true → rows_through (pairs_with_next next rows) rows ≡ rows_in_states next rows
+pub pairs_lead : (next : NextStates) (rows : List PairRow) → none_clash rows ≡ true → rows_through (pairs_with_next next rows) rows ≡ rows_in_states next rows
 pairs_lead next rows apart = pairs_put next rows rows ∙ changed_make next rows (apart_of rows apart)
 
 -- ---- the rules on one record
 
 -- Pairs of rows keep them whatever tracks a form allows.
-pairs_keep : (form : Form) (next : Next) (rows : List PairRow) → list_all (stays_row next) rows ≡ true → (earlier : Earlier) → are_items_behind form earlier (pairs_with_next next rows) ≡ true
+pairs_keep : (form : Form) (next : NextStates) (rows : List PairRow) → list_all (stays_row next) rows ≡ true → (earlier : Earlier) → are_items_behind form earlier (pairs_with_next next rows) ≡ true
 pairs_keep form next [] are earlier = refl
 pairs_keep form next (r ∷ rows) are earlier =
     let parts = and_parts (stays_row next r) (list_all (stays_row next) rows) are in
@@ -71,7 +71,7 @@ slot_there start rows entries below live device x has =
     (le-leb (512 + x * 57344 + 57344) (start.lengths (Volume device)) (omega (arith, slot_reach start rows entries below live device x has)))
 
 -- The items of a formed record keep the rules on one record.
-pub formed_keep : (start : PlantState) (rows : List PairRow) (entries : List WaitingEntry) (next : Next) (images items : List Item) → list_all (row_has_volume start) rows ≡ true → All (IsOfSomeRow rows) entries → AreItemsWhereAllowed images
+pub formed_keep : (start : PlantState) (rows : List PairRow) (entries : List WaitingEntry) (next : NextStates) (images items : List Item) → list_all (row_has_volume start) rows ≡ true → All (IsOfSomeRow rows) entries → AreItemsWhereAllowed images
     → ((d x : ℕ) → HasItem d x images → HasEntry rows d x entries) → items ≡ images ++ pairs_with_next next rows → list_all (stays_row next) rows ≡ true → AreItems (form_of start) items
 formed_keep start rows entries next images items below live allowed on is are =
     let form = form_of start in

@@ -28,7 +28,7 @@ use Rattle.xrc_journal.specs.Items.{Item, item_spelling}
 use Rattle.xrc_journal.specs.Items.Item.{Pair}
 use Rattle.site_store.specs.declared.hits.Hits.{Hits}
 use Rattle.site_store.specs.Changing.{Lead}
-use Rattle.site_store.specs.Hits.{AreHits, Next, pair_in, pairs_with_next, state_by_hits, with_hits}
+use Rattle.site_store.specs.Hits.{AreHits, NextStates, pair_in, pairs_with_next, state_by_hits, with_hits}
 use Rattle.site_store.proofs.Breaks.{eqb_sym_false}
 use Rattle.site_store.proofs.HitStates.{hits_make_rows}
 use Rattle.site_store.proofs.RowsNear.{AreNear, IsNear, bare, bare_rows, near_bare, near_same, near_through, near_unfit, same_are}
@@ -80,7 +80,7 @@ more_among r rows row apart among = one (is_of row.device r) refl
         let there : list_any (is_of r.device) rows ≡ true = ap (λ (d : ℕ). list_any (is_of d) rows) (sym is) ∙ row_then_any row.device rows (bare row) among in
         absurd (cc (there, apart))
 
-module _ (next : Next) where
+module _ (next : NextStates) where
   -- ---- they fit
 
   pairs_fit : (volumes place : ℕ) (all ns rows : List PairRow) → are_rows volumes all ≡ true → bare_rows ns ≡ bare_rows all → none_clash rows ≡ true → ((row : PairRow) → IsAmongBare rows row → IsAmongBare all row) → first_unfit volumes place ns (pairs_with_next next rows) ≡ None

@@ -1,5 +1,5 @@
 -- Jobs that are at home, and which of them have failed.
-use Rattle.std.proofs.Common.{◌≡◌, ℕ, zero, suc, ◌+◌, ◌<◌, Bool, true, false, ◌&&◌, ◌==◌, nat_eq, get_or, set, List, [], ◌∷◌, ◌++◌, length, map, replicate, slice_set, slice_index_or, refl, ap, ◌∙◌, arith}
+use Rattle.std.proofs.Common.{◌≡◌, ℕ, zero, suc, ◌+◌, ◌<◌, Bool, true, false, ◌&&◌, ◌==◌, nat_eq, get_or, set, List, [], ◌∷◌, ◌++◌, length, map, replicate, refl, ap, ◌∙◌, arith}
 use Rattle.std.specs.Prelude.{is_none}
 use Rattle.std.proofs.lemmas.Bool.{and_parts, eq-eqb, eqb-true}
 use Rattle.xrc_journal.specs.declared.job.VolumeJob.{VolumeJob}
@@ -30,12 +30,6 @@ module _ {V : Type 0} where
   failed_push [] job = refl
   failed_push (j ∷ jobs) job = ap (λ (l : List Bool). j.failed ∷ l) (failed_push jobs job)
 
-  -- The job that was put has failed as it says.
-  pub failed_set : (jobs : List (VolumeJob V)) (i : ℕ) (job : VolumeJob V) → i < length jobs → slice_index_or (map has_job_failed (slice_set jobs i job)) i false ≡ job.failed
-  failed_set [] i job lt = absurd (omega (arith, lt))
-  failed_set (j ∷ jobs) zero job lt = refl
-  failed_set (j ∷ jobs) (suc i) job lt = failed_set jobs i job (omega (arith, lt))
-
 both : (a b c : Bool) → a ≡ true → b ≡ true → c ≡ true → (a && b && c) ≡ true
 both true true true a b c = refl
 both true true false a b c = absurd cc
@@ -65,11 +59,6 @@ module _ {V : Type 0} where
       let parts = and_parts (j.device == first && is_none j.disk) (are_home_from (suc first) jobs) home in
       let own = and_parts (j.device == first) (is_none j.disk) parts.0 in
       both (j.device == first) (is_none j.disk) (are_home_from (suc first) (set jobs i job)) own.0 own.1 (home_set (suc first) jobs i job parts.1 (omega (arith, lt)) (omega (arith, device)) away)
-
-  pub failed_get : (jobs : List (VolumeJob V)) (i : ℕ) (d : VolumeJob V) → i < length jobs → (get_or jobs i d).failed ≡ get_or (map has_job_failed jobs) i false
-  failed_get [] i d lt = absurd (omega (arith, lt))
-  failed_get (j ∷ jobs) zero d lt = refl
-  failed_get (j ∷ jobs) (suc i) d lt = failed_get jobs i d (omega (arith, lt))
 
   pub map_set : (jobs : List (VolumeJob V)) (i : ℕ) (job : VolumeJob V) → map has_job_failed (set jobs i job) ≡ set (map has_job_failed jobs) i job.failed
   map_set [] i job = refl

@@ -11,7 +11,7 @@ use Rattle.pair_table.specs.declared.row.PairRow.{PairRow}
 use Rattle.pending_queue.specs.Entries.{WaitingEntry}
 use Rattle.xrc_journal.specs.declared.job.VolumeJob.{VolumeJob}
 use Rattle.applier.specs.Disks.{OnDisks}
-use Rattle.applier.specs.Out.{AreOut, HoldsVolume, LendsWhere}
+use Rattle.applier.specs.Loans.{AreOut, HoldsVolume, LendsWhere}
 use Rattle.image_former.specs.Entries.{HasEntry, entry_device, entry_row, is_device, is_entry_on, is_row_of, row_device}
 use Rattle.image_former.specs.Jobs.{HasOneJob, HasSlotsOf, HoldsSlots, is_job_of}
 use Rattle.site_store.specs.Logging.{HasEntryOn, IsOfSomeRow, is_entry_of_device}

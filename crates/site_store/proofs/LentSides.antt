@@ -12,10 +12,10 @@ use Rattle.xrc_journal.specs.declared.job.VolumeJob.{VolumeJob}
 use Rattle.xrc_journal.specs.Contents.{HasItem}
 use Rattle.xrc_journal.specs.Items.{Item}
 use Rattle.xrc_journal.specs.Jobs.{FailsByCount, OnVolume}
-use Rattle.applier.specs.Back.{AreBack, AreRead, IsBack, WorksOnLent}
+use Rattle.applier.specs.Returns.{AreBack, AreRead, IsBack, WorksOnLent}
 use Rattle.applier.specs.Disks.{IsLentTo, OnDisks, without_disk}
 use Rattle.applier.specs.Jobs.{HasSlots}
-use Rattle.applier.specs.Out.{AreOut, AreWorkedOn, HoldsVolume, LendsWhere, WorkedOn}
+use Rattle.applier.specs.Loans.{AreOut, AreWorkedOn, HoldsVolume, LendsWhere, WorkedOn}
 use Rattle.applier.specs.Sides.{AppliesToJob, HasItsSlots, SyncsJob, SyncsVolume}
 use Rattle.applier.specs.Slots.{DiffersInSlots, HoldsContent}
 use Rattle.applier.proofs.InSlots.{differs_here}

@@ -8,7 +8,7 @@ use Rattle.crash_plant.specs.declared.spot.Spot.{Spot}
 use Rattle.crash_plant.specs.Calls.{NoneLent, WorksOn}
 use Rattle.crash_plant.specs.Choices.{IsChoice}
 use Rattle.crash_plant.specs.Moments.{PlantState}
-use Rattle.applier.specs.Back.{OnlyReads, WorksOnLent}
+use Rattle.applier.specs.Returns.{OnlyReads, WorksOnLent}
 use Rattle.applier.proofs.Works.{works_lent_more, works_lent_trans}
 use Rattle.pair_table.specs.declared.level.Level.{Level}
 use Rattle.pair_table.specs.declared.row.PairRow.{PairRow}
@@ -16,7 +16,7 @@ use Rattle.pending_queue.specs.Groups.{FormedGroup, most_of_control}
 use Rattle.record_rows.specs.ChangedRows.{rows_in_states}
 use Rattle.record_rows.specs.Hits.{hit_now}
 use Rattle.record_rows.specs.Records.{rows_behind_mark, rows_with_record}
-use Rattle.xrc_journal.specs.Bodies.{Held}
+use Rattle.xrc_journal.specs.Bodies.{BodyState}
 use Rattle.xrc_journal.specs.Items.{Item, body_spelling}
 use Rattle.site_store.specs.Exceptions.{Exceptions}
 use Rattle.site_store.specs.declared.hits.Hits.{Hits}
@@ -97,7 +97,7 @@ pub record IsFirst (tells : Type 0) (group : FormedGroup) (site : SiteState) (ol
   pub short : length (body_spelling items) ≤ body_room site.controls
   pub way_is : way ≡ way_from mid site.at site.mark.at items
 
-module _ (tells : Type 0) (group : FormedGroup) (site : SiteState) (old mid : PlantState) (held now : Held) (due was failed : List Bool) (hits : Hits) (ready : MayRecord tells site old) (told_is : site.told ≡ site.table.rows)
+module _ (tells : Type 0) (group : FormedGroup) (site : SiteState) (old mid : PlantState) (held now : BodyState) (due was failed : List Bool) (hits : Hits) (ready : MayRecord tells site old) (told_is : site.told ≡ site.table.rows)
     (forms : FormsRecord tells group site.table.rows old held now due failed hits) (are : AreHits site.level group.cut failed false site.table.rows hits) where
   forms_told : FormsRecord tells group site.told old held now due failed hits
   forms_told = subst (λ (rows : List PairRow). FormsRecord tells group rows old held now due failed hits) (sym told_is) forms
@@ -280,7 +280,7 @@ module _ (tells : Type 0) (group : FormedGroup) (site behind : SiteState) (old m
   pub behind_few : group.controls ≤ behind.controls
   behind_few = omega (arith, may.controls, ap (λ (s : SiteState). s.controls) mark.is)
 
-  module _ (last : PlantState) (held now : Held) (due was failed : List Bool) (reached : Bool) (hits : Hits) (forms : FormsRecord tells group behind.table.rows marked held now due failed hits) (are : AreHits behind.level group.cut failed reached behind.table.rows hits)
+  module _ (last : PlantState) (held now : BodyState) (due was failed : List Bool) (reached : Bool) (hits : Hits) (forms : FormsRecord tells group behind.table.rows marked held now due failed hits) (are : AreHits behind.level group.cut failed reached behind.table.rows hits)
       (reached_is : reached ≡ are_some (hit_now behind.failed site.told)) where
     told_forms : FormsRecord tells group behind.told marked held now due failed hits
     told_forms = subst (λ (rows : List PairRow). FormsRecord tells group rows marked held now due failed hits) (sym behind_told) forms

@@ -7,7 +7,7 @@ use Rattle.crash_plant.specs.declared.device.Device.TheVariants.{Control, Journa
 use Rattle.crash_plant.specs.declared.spot.Spot.{Spot}
 use Rattle.crash_plant.specs.Calls.{NoneLent, WorksOn}
 use Rattle.crash_plant.specs.Moments.{PlantState}
-use Rattle.applier.specs.Back.{OnlyReads, WorksOnLent}
+use Rattle.applier.specs.Returns.{OnlyReads, WorksOnLent}
 use Rattle.applier.proofs.Works.{lent_of_works, works_lent_more, works_lent_trans}
 use Rattle.pair_table.specs.declared.row.PairRow.{PairRow}
 use Rattle.pair_table.specs.declared.row.SuspendCause.TheVariants.{Device as ByDevice}
@@ -24,8 +24,8 @@ use Rattle.record_rows.specs.Deeds.{Deed}
 use Rattle.record_rows.specs.Deeds.Deed.{Logged, Marked}
 use Rattle.record_rows.specs.Hits.{hit_now, is_down, rows_marked}
 use Rattle.record_rows.specs.Records.{rows_with_record}
-use Rattle.record_rows.specs.Told.{AreTold}
-use Rattle.site_store.specs.Doing.{BeginsDeeds, DoesDeeds}
+use Rattle.record_rows.specs.ToldRows.{AreTold}
+use Rattle.site_store.specs.DoneDeeds.{BeginsDeeds, DoesDeeds}
 use Rattle.site_store.specs.Exceptions.{Exceptions, excepted_by_deed}
 use Rattle.site_store.proofs.Composing.{go_on}
 use Rattle.site_store.proofs.Moments.{have_begun, more_follow}

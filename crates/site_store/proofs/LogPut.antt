@@ -14,7 +14,7 @@ use Rattle.xrc_journal.specs.Records.{most_body}
 use Rattle.xrc_journal.specs.Walks.{Logged as LoggedGroup}
 use Rattle.site_store.specs.Ring.{FitsBehind}
 use Rattle.site_store.specs.Deeds.{with_time_and_rows}
-use Rattle.site_store.specs.Doing.{BeginsDeeds, DoesDeeds}
+use Rattle.site_store.specs.DoneDeeds.{BeginsDeeds, DoesDeeds}
 use Rattle.site_store.specs.Exceptions.{Exceptions, is_kept}
 use Rattle.site_means.specs.Walk.{Walk, first_unfit}
 use Rattle.site_store.specs.declared.store_error.StoreError.{StoreError}

@@ -19,7 +19,7 @@ use Rattle.record_rows.specs.ChangedRows.{rows_in_states}
 use Rattle.record_rows.specs.GroupRows.{is_shown_done, row_in, row_with_group, rows_with_group, shown_break, state_by_group, state_with_group}
 use Rattle.record_rows.specs.Hits.{hit_now, is_device_suspended, is_down, rows_hit, rows_marked, rows_told}
 use Rattle.record_rows.specs.Records.{rows_behind_mark, rows_with_record}
-use Rattle.record_rows.specs.Told.{AreTold, IsTold}
+use Rattle.record_rows.specs.ToldRows.{AreTold, IsTold}
 use Rattle.site_store.specs.Exceptions.{is_kept}
 use Rattle.site_store.specs.declared.hits.Hits.{Hits}
 use Rattle.site_store.specs.Hits.{AreHits, are_some, with_group_and_hits}

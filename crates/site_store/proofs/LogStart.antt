@@ -14,11 +14,11 @@ use Rattle.pending_queue.specs.Groups.{FormedGroup, most_of_control}
 use Rattle.record_rows.specs.ChangedRows.{rows_in_states}
 use Rattle.record_rows.specs.Records.{rows_behind_mark, rows_with_record}
 use Rattle.record_rows.specs.Hits.{rows_marked}
-use Rattle.record_rows.specs.Told.{AreTold}
+use Rattle.record_rows.specs.ToldRows.{AreTold}
 use Rattle.record_rows.proofs.Devices.{apart_of}
 use Rattle.record_rows.proofs.Telling.{behind_marks_tell, records_tell}
 use Rattle.site_means.specs.Walk.{first_unfit}
-use Rattle.xrc_journal.specs.Bodies.{Held}
+use Rattle.xrc_journal.specs.Bodies.{BodyState}
 use Rattle.xrc_journal.specs.Items.{Item, body_spelling}
 use Rattle.xrc_journal.specs.Records.{next_set}
 use Rattle.site_store.specs.declared.hits.Hits.{Hits}
@@ -41,7 +41,7 @@ pub record FormedBy (tells : Type 0) (group : FormedGroup) (site : SiteState) (p
   pub have : list_all (row_has_volume plant) after ≡ true
   pub told_by : AreTold failed group.cut.0 site.told after
 
-module _ (tells : Type 0) (group : FormedGroup) (site : SiteState) (plant : PlantState) (held now : Held) (due failed : List Bool) (hits : Hits) (forms : FormsRecord tells group site.told plant held now due failed hits) (fits : FitsPlant site plant) where
+module _ (tells : Type 0) (group : FormedGroup) (site : SiteState) (plant : PlantState) (held now : BodyState) (due failed : List Bool) (hits : Hits) (forms : FormsRecord tells group site.told plant held now due failed hits) (fits : FitsPlant site plant) where
   formed_by : (after : List PairRow) → rows_in_states (with_group_and_hits group hits) site.told ≡ after → AreTold failed group.cut.0 site.told after → FormedBy tells group site plant failed now.items after
   formed_by after made told = record {
     are = subst (λ (rows : List PairRow). AreItemsOf tells group failed site.told rows plant now.items) made forms.items;

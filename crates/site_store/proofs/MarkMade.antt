@@ -2,7 +2,6 @@
 use Rattle.std.proofs.Common.{◌≡◌, ℕ, ◌^◌, ◌≤◌, ◌<◌, Bool, true, false, List, [], ◌∷◌, Option, Result, Ok, Err, refl, sym, ap, subst, ◌∙◌, arith, IsTrue}
 use Rattle.std.specs.Prelude.{OnOk, slice_index_or}
 use Rattle.std.specs.List.{list_all}
-use Rattle.crash_plant.specs.declared.device.Device.{Device}
 use Rattle.crash_plant.specs.declared.device.Device.TheVariants.{Volume}
 use Rattle.crash_plant.specs.Calls.{WorksOn}
 use Rattle.crash_plant.specs.Choices.{IsChoice}
@@ -21,7 +20,6 @@ use Rattle.site_store.proofs.Moments.{have_begun, more_follow}
 use Rattle.site_store.proofs.Single.{no_call}
 use Rattle.site_store.specs.declared.store_error.StoreError.{StoreError}
 use Rattle.site_store.specs.declared.store_error.StoreError.TheVariants.{Spent}
-use Rattle.site_store.specs.Causes.{FailByCounts, HasStoreCause}
 use Rattle.site_store.specs.Marking.{AllPutMark, IsMarked, MakesMark, MarkIsPut, MayPutMark, MayWriteMark, excepted_with_waiting}
 use Rattle.site_store.specs.Sites.{SiteState, has_failed, meant_for, next_mark}
 use Rattle.site_store.specs.Standing.{Leaves, SiteStands, none_excepted, row_has_volume}
@@ -96,17 +94,6 @@ module _ (tells : Type 0) (site : SiteState) (ended : Bool) (old : PlantState) (
         }
 
 -- ---- where no mark is made
-
--- Nothing is called where the numbers are spent.
-pub spent_cause : (faults : Device → ℕ) → HasStoreCause faults faults (Err Spent)
-spent_cause faults = record { counts = record { fault = λ d named. cc named; others = λ d store not. refl }; memory = λ named. cc named }
-
-pub none_fails : (failed : List Bool) (faults : Device → ℕ) → FailByCounts failed failed faults faults
-none_fails failed faults = record {
-  size = refl;
-  alone = λ d lt was. (was, refl);
-  by_count = λ d lt was. record { later = omega arith; by_one = omega arith; same = λ is. refl; rose = λ is. cc };
-}
 
 pub makes_none : (tells : Type 0) (ended : Bool) (rows : List PairRow) (site : SiteState) (plant : PlantState) → MakesMark tells ended rows site site plant plant (Err Spent)
 makes_none tells ended rows site plant = record {

@@ -16,7 +16,7 @@ use Rattle.site_store.specs.RingLaws.{IsMarkedAtEnd, fresh_walk}
 use Rattle.site_store.specs.RingPlants.{IsMeantFromMark}
 use Rattle.site_store.proofs.RingPlants.{end_durable, mark_meant, sets_stay}
 use Rattle.site_store.specs.Deeds.{from_mark}
-use Rattle.site_store.specs.Doing.{BeginsDeeds, DoesDeeds}
+use Rattle.site_store.specs.DoneDeeds.{BeginsDeeds, DoesDeeds}
 use Rattle.site_store.specs.Exceptions.{Exceptions}
 use Rattle.site_store.specs.Seeing.{MeansByDeed, MeansTheSame}
 use Rattle.site_store.proofs.Single.{one_follows}

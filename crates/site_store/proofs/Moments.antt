@@ -8,7 +8,7 @@ use Rattle.pair_table.specs.declared.row.PairRow.{PairRow}
 use Rattle.passages.specs.Points.{GoesThrough, Throughout, last_point}
 use Rattle.passages.proofs.InARow.{moments_rise, on_its_way}
 use Rattle.record_rows.specs.Deeds.{Deed}
-use Rattle.site_store.specs.Doing.{BeginsDeeds, GoesThroughDeeds, PassedDeed, points_of, with_next}
+use Rattle.site_store.specs.DoneDeeds.{BeginsDeeds, GoesThroughDeeds, PassedDeed, points_of, with_next}
 use Rattle.site_store.specs.Exceptions.{Exceptions}
 use Rattle.site_store.specs.DeedLaws.{DeedsNeverGoBack, DoneDeedsHaveBegun, EachDeedHasItsMoment, FirstDeedsAreSeen, MoreDeedsMayFollow}
 use Rattle.site_store.specs.Seeing.{SeesBehind}

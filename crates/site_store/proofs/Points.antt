@@ -7,7 +7,7 @@ use Rattle.passages.specs.Points.{GoesThrough, last_point}
 use Rattle.passages.specs.Telling.{told_by}
 use Rattle.passages.proofs.Telling.{told_otherwise}
 use Rattle.record_rows.specs.Deeds.{Deed}
-use Rattle.site_store.specs.Doing.{PassedDeed, deed_passed, points_of, with_next}
+use Rattle.site_store.specs.DoneDeeds.{PassedDeed, deed_passed, points_of, with_next}
 
 -- The last of the points is that as many deeds are done as there are moments.
 pub last_some : (done : List Deed) (moments : List ℕ) (deeds : List Deed) → length moments ≤ length deeds → last_point done (points_of done moments deeds) ≡ done ++ take (length moments) deeds

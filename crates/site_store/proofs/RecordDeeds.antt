@@ -9,7 +9,7 @@ use Rattle.record_rows.specs.Deeds.{Deed}
 use Rattle.site_store.specs.RingPlants.{AllMean}
 use Rattle.site_store.specs.Ring.{ShowsGroup}
 use Rattle.site_store.specs.Deeds.{content_by_deed, means_by_deed}
-use Rattle.site_store.specs.Doing.{BeginsDeeds, DoesDeeds}
+use Rattle.site_store.specs.DoneDeeds.{BeginsDeeds, DoesDeeds}
 use Rattle.site_store.specs.Exceptions.{Exceptions, excepted_by_deed}
 use Rattle.site_store.specs.Seeing.{MeansByDeed, MeansTheSame}
 use Rattle.site_store.proofs.Single.{one_follows}

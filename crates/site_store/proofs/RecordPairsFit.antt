@@ -16,7 +16,7 @@ use Rattle.xrc_journal.specs.Items.{Item, item_spelling}
 use Rattle.xrc_journal.specs.Items.Item.{Image, Delta, Pair, Gone}
 use Rattle.site_means.specs.Walk.{first_unfit, rows_through}
 use Rattle.image_former.specs.Forms.{is_image}
-use Rattle.site_store.specs.Hits.{Next, pair_in, pairs_with_next}
+use Rattle.site_store.specs.Hits.{NextStates, pair_in, pairs_with_next}
 use Rattle.site_store.specs.Standing.{row_has_volume}
 use Rattle.site_store.proofs.Below.{below_volumes}
 
@@ -108,7 +108,7 @@ more_among r rows (Pair row ∷ items) among apart = (one (is_of row.device r) r
 
 -- ---- the pairs of rows that change
 
-pub pairs_among : (next : Next) (rows : List PairRow) → none_clash rows ≡ true → ArePairsAmong rows (pairs_with_next next rows)
+pub pairs_among : (next : NextStates) (rows : List PairRow) → none_clash rows ≡ true → ArePairsAmong rows (pairs_with_next next rows)
 pairs_among next [] apart = tt
 pairs_among next (r ∷ rows) apart =
     let first = first_apart r rows apart in
@@ -119,7 +119,7 @@ pairs_among next (r ∷ rows) apart =
     by_state (Some state) more = ((λ i. cond (eq-eqb r.device r.device refl i) (Some (bare r)) (row_of r.device (bare_rows rows))), more)
 
 -- They fit the rows.
-pub next_pairs_fit : (next : Next) (volumes place : ℕ) (rows : List PairRow) → are_rows volumes rows ≡ true → none_clash rows ≡ true → first_unfit volumes place rows (pairs_with_next next rows) ≡ None
+pub next_pairs_fit : (next : NextStates) (volumes place : ℕ) (rows : List PairRow) → are_rows volumes rows ≡ true → none_clash rows ≡ true → first_unfit volumes place rows (pairs_with_next next rows) ≡ None
 next_pairs_fit next volumes place rows keep apart = pairs_fit volumes place rows rows (pairs_with_next next rows) keep (pairs_among next rows apart) refl
 
 -- The rows of a table are rows of the plant.
@@ -145,13 +145,13 @@ image_fit volumes place (Pair row ∷ images) items rows are fit = absurd cc
 image_fit volumes place (Gone d ∷ images) items rows are fit = absurd cc
 
 -- Behind images the pairs fit still.
-pub formed_fit : (next : Next) (plant : PlantState) (images : List Item) (rows : List PairRow) → list_all is_image images ≡ true → KeepsRows rows → list_all (row_has_volume plant) rows ≡ true → first_unfit plant.volumes 0 rows (images ++ pairs_with_next next rows) ≡ None
+pub formed_fit : (next : NextStates) (plant : PlantState) (images : List Item) (rows : List PairRow) → list_all is_image images ≡ true → KeepsRows rows → list_all (row_has_volume plant) rows ≡ true → first_unfit plant.volumes 0 rows (images ++ pairs_with_next next rows) ≡ None
 formed_fit next plant images rows are keeps have = image_fit plant.volumes 0 images (pairs_with_next next rows) rows are (λ p. next_pairs_fit next plant.volumes p rows (table_rows plant rows keeps have) keeps.apart)
 
 -- ---- the rows behind them
 
 -- A row in another state is on its volume still.
-pub next_have_volumes : (next : Next) (plant : PlantState) (rows : List PairRow) → list_all (row_has_volume plant) rows ≡ true → list_all (row_has_volume plant) (rows_in_states next rows) ≡ true
+pub next_have_volumes : (next : NextStates) (plant : PlantState) (rows : List PairRow) → list_all (row_has_volume plant) rows ≡ true → list_all (row_has_volume plant) (rows_in_states next rows) ≡ true
 next_have_volumes next plant [] have = refl
 next_have_volumes next plant (r ∷ rows) have =
     let parts = and_parts (row_has_volume plant r) (list_all (row_has_volume plant) rows) have in

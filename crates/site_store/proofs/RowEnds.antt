@@ -8,7 +8,7 @@ use Rattle.record_rows.specs.Deeds.{Deed}
 use Rattle.record_rows.specs.Deeds.Deed.{Changed}
 use Rattle.record_rows.specs.Hits.{hit_now}
 use Rattle.record_rows.specs.Records.{rows_with_hits}
-use Rattle.site_store.specs.Doing.{BeginsDeeds}
+use Rattle.site_store.specs.DoneDeeds.{BeginsDeeds}
 use Rattle.site_store.specs.Exceptions.{Exceptions}
 use Rattle.site_store.proofs.Moments.{have_begun, more_follow}
 use Rattle.site_store.proofs.Single.{no_call}
@@ -50,10 +50,6 @@ plain_suspensions journals Marked cut items failed site plain = absurd (plain re
 -- the site behind a mark that told these rows, while a change waits
 abbrev pub with_told_mark : List PairRow → (failed : List Bool) → SiteState → SiteState
 with_told_mark marked failed site = record (behind_mark site.mark.ended marked failed site) { table = site.table; is_ahead = true }
-
-pub marked_behind : (journals cut : ℕ) (items : List Item) (marked rows : List PairRow) (failed : List Bool) (site : SiteState)
-    → with_logged_rows journals Marked cut items rows (with_told_mark marked failed site) ≡ behind_record journals Marked cut items rows failed site
-marked_behind journals cut items marked rows failed site = refl
 
 -- ---- the deeds
 

@@ -11,7 +11,7 @@ use Rattle.xrc_journal.specs.Items.{AreItems, Earlier, Form, Item, anywhere, are
 use Rattle.xrc_journal.specs.Items.Item.{Image, Delta, Pair, Gone}
 use Rattle.xrc_journal.specs.Contents.{HasItem, content_by, content_through, is_of_track}
 use Rattle.site_store.specs.Changing.{changed_items, gone_of, pair_item, pairs_of}
-use Rattle.site_store.specs.Hits.{Next, pair_in, pairs_with_next}
+use Rattle.site_store.specs.Hits.{NextStates, pair_in, pairs_with_next}
 
 abbrev pub is_row_item : Item → Bool
 is_row_item (Image device track recs) = false
@@ -50,7 +50,7 @@ changes_rows (GoneRows devices) rows = gone_rows devices
 changes_rows (Suspended devices) rows = pairs_rows devices rows
 changes_rows Ended rows = tt
 
-pub next_rows : (next : Next) (rows : List PairRow) → AreRowItems (pairs_with_next next rows)
+pub next_rows : (next : NextStates) (rows : List PairRow) → AreRowItems (pairs_with_next next rows)
 next_rows next [] = tt
 next_rows next (r ∷ rows) = both_rows (pair_in r (next r)) (pairs_with_next next rows) (by_state (next r)) (next_rows next rows)
   where

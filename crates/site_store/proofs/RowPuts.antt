@@ -12,7 +12,7 @@ use Rattle.pair_table.specs.Rows.{is_row, is_state}
 use Rattle.pair_table.specs.Tables.{in_state, is_of, none_clash, with_state}
 use Rattle.pair_table.proofs.RowRules.{is_row_by, row_keeps, row_rules}
 use Rattle.pair_table.proofs.TableLaws.{either_false, first_apart, with_state-absent}
-use Rattle.xrc_journal.specs.Bodies.{Held, with_item}
+use Rattle.xrc_journal.specs.Bodies.{BodyState, with_item}
 use Rattle.xrc_journal.specs.Items.{Item, body_spelling, item_spelling}
 use Rattle.xrc_journal.specs.Items.Item.{Pair}
 use Rattle.xrc_journal.proofs.Bodies.{body_push}
@@ -20,7 +20,7 @@ use Rattle.xrc_journal.proofs.Fields.{spelled_length}
 use Rattle.record_rows.specs.ChangedRows.{rows_in_states}
 use Rattle.record_rows.specs.GroupRows.{row_in}
 use Rattle.site_store.proofs.Breaks.{eqb_sym_false}
-use Rattle.site_store.specs.Hits.{Next, is_row_in, pair_in, pair_with_next, pairs_with_next, stays_row}
+use Rattle.site_store.specs.Hits.{NextStates, is_row_in, pair_in, pair_with_next, pairs_with_next, stays_row}
 
 -- A row in another state is one.
 pub changed_is_row : (state : PairState) (row : PairRow) → is_state state ≡ true → is_row row ≡ true → is_row (in_state state row) ≡ true
@@ -40,16 +40,13 @@ row_at_is (r ∷ rows) (suc i) row all is = row_at_is rows i row (and_parts (is_
 -- ---- a body
 
 -- The pairs of the first so many rows stand behind the items that were there.
-pub record Puts (next : Next) (held now : Held) (rows : List PairRow) (i : ℕ) : Type 0 where
+pub record Puts (next : NextStates) (held now : BodyState) (rows : List PairRow) (i : ℕ) : Type 0 where
   pub items_are : now.items ≡ held.items ++ pairs_with_next next (take i rows)
   pub room : now.room ≡ held.room
   pub long : length (body_spelling now.items) ≤ length (body_spelling held.items) + i * 31
   pub are_rows : list_all (stays_row next) (take i rows) ≡ true
 
-pub puts_first : (next : Next) (held : Held) (rows : List PairRow) → Puts next held held rows 0
-puts_first next held rows = record { items_are = sym (append-nil held.items); room = refl; long = omega arith; are_rows = refl }
-
-module _ (next : Next) (held now : Held) (rows : List PairRow) (i : ℕ) (row : PairRow) (is : slice_get rows i ≡ Some row) (puts : Puts next held now rows i) where
+module _ (next : NextStates) (held now : BodyState) (rows : List PairRow) (i : ℕ) (row : PairRow) (is : slice_get rows i ≡ Some row) (puts : Puts next held now rows i) where
   more : held.items ++ pairs_with_next next (take (i + 1) rows) ≡ now.items ++ pair_with_next next row
   more =
       let lt = slice_get_within rows i row is in
@@ -71,51 +68,32 @@ module _ (next : Next) (held now : Held) (rows : List PairRow) (i : ℕ) (row : 
     are_rows = rows_more (ap (is_row_in row) none);
   }
 
-  pub puts_one : (state : PairState) (after : Held) → next row ≡ Some state → is_row (in_state state row) ≡ true → after ≡ with_item (Pair (in_state state row)) now → Puts next held after rows (i + 1)
+  pub puts_one : (state : PairState) (after : BodyState) → next row ≡ Some state → is_row (in_state state row) ≡ true → after ≡ with_item (Pair (in_state state row)) now → Puts next held after rows (i + 1)
   puts_one state after some is_one after_is = record {
-    items_are = ap (λ (h : Held). h.items) after_is ∙ sym (more ∙ ap (λ (l : List Item). now.items ++ l) (ap (pair_in row) some));
-    room = ap (λ (h : Held). h.room) after_is ∙ puts.room;
-    long = omega (arith, puts.long, spelled_length (in_state state row) is_one, ap (λ (h : Held). length (body_spelling h.items)) after_is, ap length (body_push now.items (Pair (in_state state row))), length-append (body_spelling now.items) (item_spelling (Pair (in_state state row))));
+    items_are = ap (λ (h : BodyState). h.items) after_is ∙ sym (more ∙ ap (λ (l : List Item). now.items ++ l) (ap (pair_in row) some));
+    room = ap (λ (h : BodyState). h.room) after_is ∙ puts.room;
+    long = omega (arith, puts.long, spelled_length (in_state state row) is_one, ap (λ (h : BodyState). length (body_spelling h.items)) after_is, ap length (body_push now.items (Pair (in_state state row))), length-append (body_spelling now.items) (item_spelling (Pair (in_state state row))));
     are_rows = rows_more (ap (is_row_in row) some ∙ is_one);
   }
 
--- All were put.
-pub puts_all : (next : Next) (held now : Held) (rows : List PairRow) (i : ℕ) → i ≡ length rows → Puts next held now rows i → now ≡ record { items = held.items ++ pairs_with_next next rows; room = held.room }
-puts_all next held now rows i whole puts =
-    let all : take i rows ≡ rows = ap (λ (n : ℕ). take n rows) whole ∙ take_all (length rows) rows (omega arith) in
-    let are : now.items ≡ held.items ++ pairs_with_next next rows = puts.items_are ∙ ap (λ (l : List PairRow). held.items ++ pairs_with_next next l) all in
-    (λ n. record { items = are n; room = puts.room n })
-
 -- Those that change are rows still.
-pub puts_kept : (next : Next) (held now : Held) (rows : List PairRow) (i : ℕ) → length rows ≤ i → Puts next held now rows i → list_all (stays_row next) rows ≡ true
+pub puts_kept : (next : NextStates) (held now : BodyState) (rows : List PairRow) (i : ℕ) → length rows ≤ i → Puts next held now rows i → list_all (stays_row next) rows ≡ true
 puts_kept next held now rows i past puts = ap (list_all (stays_row next)) (sym (take_all i rows past)) ∙ puts.are_rows
 
 -- ---- a table
 
 -- the rows of which the first so many were taken
-abbrev pub taken : Next → List PairRow → (i : ℕ) → List PairRow
+abbrev pub taken : NextStates → List PairRow → (i : ℕ) → List PairRow
 taken next rows i = rows_in_states next (take i rows) ++ drop i rows
 
-pub taken_all : (next : Next) (rows : List PairRow) (i : ℕ) → i ≡ length rows → taken next rows i ≡ rows_in_states next rows
-taken_all next [] zero is = refl
-taken_all next [] (suc i) is = absurd (omega (arith, is))
-taken_all next (r ∷ rows) zero is = absurd (omega (arith, is))
-taken_all next (r ∷ rows) (suc i) is = ap (λ (l : List PairRow). row_in r (next r) ∷ l) (taken_all next rows i (omega (arith, is)))
-
-pub taken_length : (next : Next) (rows : List PairRow) (i : ℕ) → length (taken next rows i) ≡ length rows
-taken_length next [] zero = refl
-taken_length next [] (suc i) = refl
-taken_length next (r ∷ rows) zero = refl
-taken_length next (r ∷ rows) (suc i) = omega (arith, taken_length next rows i)
-
 -- What stands at the next place is as it was.
-pub taken_at : (next : Next) (rows : List PairRow) (i : ℕ) → slice_get (taken next rows i) i ≡ slice_get rows i
+pub taken_at : (next : NextStates) (rows : List PairRow) (i : ℕ) → slice_get (taken next rows i) i ≡ slice_get rows i
 taken_at next [] zero = refl
 taken_at next [] (suc i) = refl
 taken_at next (r ∷ rows) zero = refl
 taken_at next (r ∷ rows) (suc i) = taken_at next rows i
 
-pub taken_has : (next : Next) (rows : List PairRow) (i : ℕ) (row : PairRow) → slice_get rows i ≡ Some row → list_any (is_of row.device) (taken next rows i) ≡ true
+pub taken_has : (next : NextStates) (rows : List PairRow) (i : ℕ) (row : PairRow) → slice_get rows i ≡ Some row → list_any (is_of row.device) (taken next rows i) ≡ true
 taken_has next [] i row is = absurd cc
 taken_has next (r ∷ rows) zero row is =
     let same : r ≡ row = cc is in
@@ -135,7 +113,7 @@ one_on : (i : ℕ) → suc (i + 1) ≡ suc i + 1
 one_on i = omega arith
 
 -- A row stays on its device.
-pub device_still : (next : Next) (row : PairRow) → (row_in row (next row)).device ≡ row.device
+pub device_still : (next : NextStates) (row : PairRow) → (row_in row (next row)).device ≡ row.device
 device_still next row = by_state (next row)
   where
     by_state : (state : Option PairState) → (row_in row state).device ≡ row.device
@@ -143,7 +121,7 @@ device_still next row = by_state (next row)
     by_state None = refl
 
 -- A row that doesn't change is taken as it is.
-pub taken_none : (next : Next) (rows : List PairRow) (i : ℕ) (row : PairRow) → slice_get rows i ≡ Some row → next row ≡ None → taken next rows i ≡ taken next rows (i + 1)
+pub taken_none : (next : NextStates) (rows : List PairRow) (i : ℕ) (row : PairRow) → slice_get rows i ≡ Some row → next row ≡ None → taken next rows i ≡ taken next rows (i + 1)
 taken_none next [] i row is none = absurd cc
 taken_none next (r ∷ rows) zero row is none =
     let same : r ≡ row = cc is in
@@ -151,7 +129,7 @@ taken_none next (r ∷ rows) zero row is none =
 taken_none next (r ∷ rows) (suc i) row is none = ap (λ (l : List PairRow). row_in r (next r) ∷ l) (taken_none next rows i row is none) ∙ ap (λ (n : ℕ). taken next (r ∷ rows) n) (one_on i)
 
 -- One that changes is taken by a change of its device's state.
-pub taken_some : (next : Next) (rows : List PairRow) (i : ℕ) (row : PairRow) (state : PairState) → none_clash rows ≡ true → slice_get rows i ≡ Some row → next row ≡ Some state → with_state row.device state (taken next rows i) ≡ taken next rows (i + 1)
+pub taken_some : (next : NextStates) (rows : List PairRow) (i : ℕ) (row : PairRow) (state : PairState) → none_clash rows ≡ true → slice_get rows i ≡ Some row → next row ≡ Some state → with_state row.device state (taken next rows i) ≡ taken next rows (i + 1)
 taken_some next [] i row state apart is some = absurd cc
 taken_some next (r ∷ rows) zero row state apart is some =
     let same : r ≡ row = cc is in

@@ -12,7 +12,7 @@ use Rattle.record_rows.specs.Deeds.Deed.{Changed}
 use Rattle.site_store.specs.RingPlants.{AllMean, AreDurable}
 use Rattle.site_store.specs.Ring.{FitsBehind}
 use Rattle.site_store.specs.Deeds.{with_time_and_rows}
-use Rattle.site_store.specs.Doing.{BeginsDeeds, DoesDeeds}
+use Rattle.site_store.specs.DoneDeeds.{BeginsDeeds, DoesDeeds}
 use Rattle.site_store.specs.Exceptions.{Exceptions}
 use Rattle.site_means.specs.declared.means.Means.{Means}
 use Rattle.site_means.specs.Laws.{with_group}

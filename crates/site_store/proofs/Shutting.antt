@@ -7,7 +7,7 @@ use Rattle.crash_plant.specs.Bytes.{Torn}
 use Rattle.crash_plant.specs.Gates.{Shuts}
 use Rattle.crash_plant.specs.declared.device.Device.TheVariants.{Control}
 use Rattle.crash_plant.specs.Calls.{WorksOn}
-use Rattle.crash_plant.specs.Moments.{Follows, IsDurable, Kept, PlantState, Same, Standing, on}
+use Rattle.crash_plant.specs.Moments.{Follows, IsDurable, SamePast, PlantState, Same, Standing, on}
 use Rattle.crash_plant.proofs.Behind.{same_after, shuts, torn_here}
 use Rattle.crash_plant.proofs.Steps.{follows_then, kept_trans, site_trans}
 use Rattle.control_set.specs.declared.value.Mark.{Mark}
@@ -198,13 +198,13 @@ control_here lengths x y same = record {
 }
 
 -- Reads come before the gates are shut.
-pub control_after : (lengths : List ℕ) (old mid new : Standing) → Kept old mid → Follows Same old mid → Kept mid new → Follows (ShutsControl lengths) mid new → Follows (ShutsControl lengths) old new
+pub control_after : (lengths : List ℕ) (old mid new : Standing) → SamePast old mid → Follows Same old mid → SamePast mid new → Follows (ShutsControl lengths) mid new → Follows (ShutsControl lengths) old new
 control_after lengths old mid new kept same more shuts =
     follows_then old mid new Same (ShutsControl lengths) (ShutsControl lengths) kept.later same more shuts
     (λ x y here step. control_here lengths x y step) (λ x y z here there step last. subst (λ (l : List ℕ). ShutsControl lengths l z) step last)
 
 module _ (lengths : List ℕ) (p q : ℕ) (halves : AreHalves p q) (idle counted : Front) (old mid : Standing) (long : 1024 ≤ length old.bytes) (durable : IsDurable old) (idle_is : idle ≡ front_at p old.bytes) (counted_is : counted ≡ front_at q old.bytes) (order : idle.number ≤ counted.number)
-    (kept : Kept old mid) (one : Follows (Shuts p) old mid) where
+    (kept : SamePast old mid) (one : Follows (Shuts p) old mid) where
   abbrev b : Bool
   b = halves.0
 
@@ -220,7 +220,7 @@ module _ (lengths : List ℕ) (p q : ℕ) (halves : AreHalves p q) (idle counted
   pub one_follows : Follows (ShutsControl lengths) old mid
   one_follows t from to c left = let start = one t from to c left in (start.0, start.1, one_step start.0 c start.1 start.2)
 
-  pub both_follow : (new : Standing) → IsDurable mid → slice_index mid.bytes p ≢ 1 → Kept mid new → Follows (Shuts q) mid new → Follows (ShutsControl lengths) old new
+  pub both_follow : (new : Standing) → IsDurable mid → slice_index mid.bytes p ≢ 1 → SamePast mid new → Follows (Shuts q) mid new → Follows (ShutsControl lengths) old new
   both_follow new mid_durable off more two =
       follows_then old mid new (Shuts p) (Shuts q) (ShutsControl lengths) kept.later one more two one_step
       (λ x y z here there step last. subst (λ (l : List ℕ). ShutsControl lengths l z) (sym (durable x here))
@@ -230,7 +230,7 @@ module _ (lengths : List ℕ) (p q : ℕ) (halves : AreHalves p q) (idle counted
 
 module _ (tells : Type 0) (told : tells) (old one two : PlantState) (first : WorksOn tells (λ d. d ≡ Control) old one) (second : WorksOn tells (λ d. d ≡ Control) one two)
     (first_reads : Follows Same (on old Control) (on one Control)) (second_reads : Follows Same (on one Control) (on two Control)) where
-  both_kept : Kept (on old Control) (on two Control)
+  both_kept : SamePast (on old Control) (on two Control)
   both_kept = kept_trans (on old Control) (on one Control) (on two Control) ((first.elapses told).kept Control) ((second.elapses told).kept Control)
 
   both_read : Follows Same (on old Control) (on two Control)

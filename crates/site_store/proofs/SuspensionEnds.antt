@@ -10,13 +10,13 @@ use Rattle.record_rows.specs.Deeds.{Deed}
 use Rattle.record_rows.specs.Deeds.Deed.{Changed, Marked as MarkedDeed}
 use Rattle.record_rows.specs.Hits.{hit_now, rows_hit}
 use Rattle.record_rows.specs.Records.{rows_with_hits}
-use Rattle.site_store.specs.Doing.{BeginsDeeds, DoesDeeds}
+use Rattle.site_store.specs.DoneDeeds.{BeginsDeeds, DoesDeeds}
 use Rattle.site_store.specs.Exceptions.{Exceptions}
 use Rattle.site_store.proofs.Single.{no_call}
 use Rattle.state_set.specs.Slots.{are_rows}
 use Rattle.state_set.proofs.Behind.{rows_from}
 use Rattle.xrc_journal.specs.declared.job.VolumeJob.{VolumeJob}
-use Rattle.xrc_journal.specs.Bodies.{Held}
+use Rattle.xrc_journal.specs.Bodies.{BodyState}
 use Rattle.xrc_journal.specs.Items.{Item, body_spelling, form_of, none_earlier}
 use Rattle.xrc_journal.specs.RingWalks.{AllEndThrough}
 use Rattle.site_store.specs.declared.hits.Hits.{Hits}
@@ -98,7 +98,7 @@ none_hit view site other jobs first is told failed level was none =
     let first_is : map has_job_failed first ≡ site.failed = ap (map has_job_failed) was ∙ sym failed ∙ ap (λ (s : SiteState). s.failed) is in
     (λ i. hit_now (sym first_is i) (sym rows i)) ∙ none_of (hit_now (map has_job_failed first) view.table.rows) none
 
-pub are_formed : {V : Type 0} (tells : Type 0) (cut : Stamp) (view site : SiteState) (other : List PairRow) (old : PlantState) (jobs first now : List (VolumeJob V)) (hits : Hits) (body : Held) (room : ℕ) → view ≡ site → view.told ≡ cond view.is_ahead other view.table.rows → view.failed ≡ map has_job_failed jobs
+pub are_formed : {V : Type 0} (tells : Type 0) (cut : Stamp) (view site : SiteState) (other : List PairRow) (old : PlantState) (jobs first now : List (VolumeJob V)) (hits : Hits) (body : BodyState) (room : ℕ) → view ≡ site → view.told ≡ cond view.is_ahead other view.table.rows → view.failed ≡ map has_job_failed jobs
     → MayRecord tells site old → site.time ≤ cut.0 → first ≡ jobs → now ≡ jobs → true ≡ are_some (hit_now (map has_job_failed first) view.table.rows) → AreHits view.level cut (map has_job_failed now) false view.table.rows hits → KeepsRows view.table.rows
     → body ≡ record { items = pairs_with_next (with_hits hits) view.table.rows; room = room } → length (body_spelling body.items) ≤ 64 * 31 → AreFormed tells cut site old hits
 are_formed tells cut view site other old jobs first now hits body room is told failed ready late was same some are rules put short =
@@ -112,7 +112,7 @@ are_formed tells cut view site other old jobs first now hits body room is told f
       some = subst (λ (x : Type 0). x) (λ i. hit_now (first_is i) (rows i) ≢ []) (some_of (hit_now (map has_job_failed first) view.table.rows) some);
       are = subst (λ (x : Type 0). x) (λ i. AreHits (is i).level cut (now_is i) false (rows i) hits) are;
       rules = subst KeepsRows rows rules;
-      short = subst (λ (l : List Item). length (body_spelling l) ≤ 64 * 31) (ap (λ (h : Held). h.items) put ∙ ap (pairs_with_next (with_hits hits)) rows) short;
+      short = subst (λ (l : List Item). length (body_spelling l) ≤ 64 * 31) (ap (λ (h : BodyState). h.items) put ∙ ap (pairs_with_next (with_hits hits)) rows) short;
     }
 
 module _ (tells : Type 0) (cut : Stamp) (site : SiteState) (old : PlantState) (hits : Hits) (formed : AreFormed tells cut site old hits) where

@@ -9,12 +9,12 @@ use Rattle.crash_plant.specs.Choices.{Choice, IsChoice}
 use Rattle.crash_plant.specs.Moments.{Follows, IsDurable, PlantState, Same, on}
 use Rattle.crash_plant.proofs.Choices.{part_still}
 use Rattle.crash_plant.proofs.Steps.{works_on_more, works_on_trans}
-use Rattle.applier.specs.Back.{OnlyReads, WorksOnLent}
+use Rattle.applier.specs.Returns.{OnlyReads, WorksOnLent}
 use Rattle.applier.proofs.Works.{lent_of_works, works_lent_more, works_lent_trans}
 use Rattle.pair_table.specs.declared.row.PairRow.{PairRow}
 use Rattle.pair_table.specs.declared.row.PairState.TheVariants.{Duplex}
 use Rattle.record_rows.specs.Deeds.Deed.{Marked}
-use Rattle.site_store.specs.Doing.{DoesDeeds}
+use Rattle.site_store.specs.DoneDeeds.{DoesDeeds}
 use Rattle.site_store.specs.Exceptions.{Exceptions}
 use Rattle.site_store.proofs.Composing.{begin_behind, go_on}
 use Rattle.site_store.proofs.Single.{reads_and_syncs}

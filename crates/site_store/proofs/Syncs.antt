@@ -1,5 +1,5 @@
 -- Calls that sync volumes, over plain states.
-use Rattle.std.proofs.Common.{◌≡◌, ◌≢◌, ◌⊎◌, inl, inr, ℕ, ◌+◌, ◌≤◌, ◌<◌, Bool, true, false, List, length, map, set, get_or, is_none, slice_index_or, refl, sym, ap, subst, ◌∙◌, arith, length-set, get_or-set_other, get_or-set_same}
+use Rattle.std.proofs.Common.{◌≡◌, ◌≢◌, inl, inr, ℕ, ◌+◌, ◌≤◌, ◌<◌, Bool, true, false, List, length, map, set, get_or, is_none, slice_index_or, refl, sym, ap, subst, ◌∙◌, arith, length-set, get_or-set_other, get_or-set_same}
 use Rattle.std.proofs.lemmas.Bool.{cases_eq}
 use Rattle.std.proofs.lemmas.List.{length-map}
 use Rattle.crash_plant.specs.declared.device.Device.{Device}
@@ -11,7 +11,7 @@ use Rattle.crash_plant.proofs.Steps.{follows_here, follows_then, works_on_here, 
 use Rattle.xrc_journal.specs.declared.job.VolumeJob.{VolumeJob}
 use Rattle.site_store.specs.Causes.{FailsAlone}
 use Rattle.site_store.specs.Jobs.{are_home_from, has_job_failed}
-use Rattle.site_store.specs.Marking.{IsAmong, IsMarked, Syncs}
+use Rattle.site_store.specs.Marking.{IsAmong, Syncs}
 use Rattle.site_store.proofs.HitRows.{flag_at}
 use Rattle.site_store.proofs.HomeJobs.{home_set, job_at, map_set}
 use Rattle.site_store.proofs.Calls.{durable_same}
@@ -52,27 +52,6 @@ syncs_more tells among more a b wider x = record { same = x.same; moments = x.mo
 -- What is durable stays so.
 pub durable_synced : (tells : Type 0) (told : tells) (among : Device → Type 0) (a b : PlantState) (d : Device) → Syncs tells among a b → IsDurable (on a d) → IsDurable (on b d)
 durable_synced tells told among a b d x durable = durable_same a b d (x.moments told d) ((x.only.elapses told).kept d).later (x.same told d) durable
-
--- No count rises but one that doesn't.
-pub count_one : (tells : Type 0) (among : Device → Type 0) (device : Device) (a b : PlantState) → Syncs tells among a b → ((d : Device) → among d → d ≡ device) → b.faults device ≡ a.faults device → (d : Device) → b.faults d ≡ a.faults d
-count_one tells among device a b x narrow same d = elim (device_cases d device) [
-  | inl is ↦ subst (λ (e : Device). b.faults e ≡ a.faults e) (sym is) same
-  | inr other ↦ x.only.others_faults d (λ is. other (narrow d is))
-]
-
--- ---- the mark behind them
-
-module _ (tells : Type 0) (written : List Bool) (a b c : PlantState) (syncs : Syncs tells (IsAmong written) a b) (puts : WorksOn tells IsMarked b c) where
-  pub touches : WorksOn tells (λ d. IsAmong written d ⊎ IsMarked d) a c
-  touches = works_on_trans tells (λ d. IsAmong written d ⊎ IsMarked d) a b c (works_on_more tells (IsAmong written) _ a b (λ d is. inl is) syncs.only) (works_on_more tells IsMarked _ b c (λ d is. inr is) puts)
-
-  pub volume_same : tells → (d : ℕ) → c.bytes (Volume d) ≡ a.bytes (Volume d)
-  volume_same told d = (puts.others told (Volume d) (λ no. no)).bytes ∙ syncs.same told (Volume d)
-
-  pub volume_moments : tells → (d : ℕ) → Follows Same (on a (Volume d)) (on c (Volume d))
-  volume_moments told d =
-      follows_then (on a (Volume d)) (on b (Volume d)) (on c (Volume d)) Same Same Same ((syncs.only.elapses told).kept (Volume d)).later (syncs.moments told (Volume d)) ((puts.elapses told).kept (Volume d)) (puts.others told (Volume d) (λ no. no)).images
-      (λ p q here e. e) (λ p q r here there e more. more ∙ e)
 
 -- ---- jobs whose volumes are synced one after another
 

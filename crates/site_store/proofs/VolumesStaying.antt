@@ -5,7 +5,7 @@ use Rattle.crash_plant.specs.declared.device.Device.TheVariants.{Control, Volume
 use Rattle.crash_plant.specs.Calls.{Elapses, WorksOn}
 use Rattle.crash_plant.specs.Moments.{PlantState, Same, on}
 use Rattle.crash_plant.proofs.Steps.{elapses_trans, follows_here, follows_then}
-use Rattle.applier.specs.Back.{OnlyReads, WorksOnLent}
+use Rattle.applier.specs.Returns.{OnlyReads, WorksOnLent}
 use Rattle.site_store.specs.Records.{IsJournal, VolumesStay}
 
 -- Nothing was done.

@@ -10,7 +10,7 @@ use Rattle.crash_plant.specs.declared.spot.Spot.{Spot}
 use Rattle.control_set.proofs.Keeps.{number_kept}
 use Rattle.pair_table.specs.declared.row.PairRow.{PairRow}
 use Rattle.xrc_journal.specs.Items.{Form, Item}
-use Rattle.xrc_journal.specs.Records.{Found, Head, record_head_at, record_or, is_body_length, stretch, walk_one}
+use Rattle.xrc_journal.specs.Records.{Found, RecordHead, record_head_at, record_or, is_body_length, stretch, walk_one}
 use Rattle.xrc_journal.specs.Records.Found.{End, Group, Switch, Damaged}
 use Rattle.xrc_journal.specs.Walks.{Logged}
 use Rattle.xrc_journal.specs.RingWalks.{LeadsTo, WalkPlace, WalkRecord, WalksThrough, found_there, journal_images, walk_at}
@@ -58,7 +58,7 @@ fits_first volumes place rows items none =
     by_first (Some k) e = absurd cc
 
 -- a record that is found has a number below the last
-number_below : (size : ℕ) (at : Spot) (last : ℕ) (left : Left) (head : Head) (next : Left) → record_head_at size at last left ≡ Ok (head, next) → at.number < 2 ^ 64 - 1
+number_below : (size : ℕ) (at : Spot) (last : ℕ) (left : Left) (head : RecordHead) (next : Left) → record_head_at size at last left ≡ Ok (head, next) → at.number < 2 ^ 64 - 1
 unfolding record_head_at
 number_below size at last left head next e =
     let expected : ℕ → Bool = λ n. nat_eq n at.number && nat_lt n (2 ^ 64 - 1) in
@@ -68,10 +68,10 @@ number_below size at last left head next e =
     omega (arith, eqb-true two.0.0 at.number kept.0, ltb-true two.0.0 (2 ^ 64 - 1) kept.1)
 
 module _ (form : Form) (sets : ℕ) (journal : List ℕ) (at : Spot) (last time : ℕ) (after : Spot) where
-  abbrev header : Result (Head × Left) Bad
+  abbrev header : Result (RecordHead × Left) Bad
   header = record_head_at (length journal) at last (at_place (at.place + 1) (stretch (at.place + 1) 21 journal))
 
-  by_header : (read : Result (Head × Left) Bad) → header ≡ read → record_or form sets journal at read ≡ Switch time after → at.number < 2 ^ 64 - 1
+  by_header : (read : Result (RecordHead × Left) Bad) → header ≡ read → record_or form sets journal at read ≡ Switch time after → at.number < 2 ^ 64 - 1
   by_header (Ok head) is e = number_below (length journal) at last (at_place (at.place + 1) (stretch (at.place + 1) 21 journal)) head.0 head.1 is
   by_header (Err bad) is e = absurd cc
 

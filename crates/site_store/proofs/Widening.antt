@@ -6,7 +6,7 @@ use Rattle.crash_plant.specs.Choices.{Choice, IsChoice}
 use Rattle.crash_plant.specs.Moments.{PlantState}
 use Rattle.pair_table.specs.declared.row.PairRow.{PairRow}
 use Rattle.record_rows.specs.Deeds.{Deed, entries_by_deed, rows_by_deed}
-use Rattle.site_store.specs.Doing.{BeginsDeeds, DoesDeeds, with_next}
+use Rattle.site_store.specs.DoneDeeds.{BeginsDeeds, DoesDeeds, with_next}
 use Rattle.site_store.specs.Exceptions.{Exceptions, excepted_behind, excepted_by_deed, is_kept, is_whole_on}
 use Rattle.site_store.specs.DeedLaws.{MoreMayBeExcepted}
 use Rattle.site_store.specs.Seeing.{SeesBehind}

@@ -12,7 +12,7 @@ use Rattle.site_means.specs.Sight.{means_of, content_of}
 use Rattle.site_store.specs.Jobs.{has_device, has_job_failed}
 use Rattle.site_store.specs.Sites.{SiteState, has_failed, is_written}
 use Rattle.site_store.specs.Standing.{none_excepted}
-use Rattle.site_store.specs.Doing.{DoesDeeds}
+use Rattle.site_store.specs.DoneDeeds.{DoesDeeds}
 use Rattle.site_store.specs.Exceptions.{Exceptions}
 
 -- on each volume of the plant the same content

@@ -8,7 +8,7 @@ use Rattle.pair_table.specs.declared.level.Level.{Level}
 use Rattle.pair_table.specs.declared.row.PairRow.{PairRow}
 use Rattle.pair_table.specs.Tables.{KeepsRows, row_of}
 use Rattle.tod_stamp.specs.declared.stamp.Stamp.{Stamp}
-use Rattle.xrc_journal.specs.Bodies.{Held}
+use Rattle.xrc_journal.specs.Bodies.{BodyState}
 use Rattle.xrc_journal.specs.Items.{AreItems, Item, anywhere, body_spelling}
 use Rattle.xrc_journal.specs.Items.Item.{Pair, Gone}
 use Rattle.record_rows.specs.Hits.{hit_now, rows_marked}
@@ -21,7 +21,7 @@ use Rattle.site_store.specs.declared.way.Way.TheVariants.{Here, Switched, Marked
 use Rattle.site_store.specs.Sites.{SiteState}
 use Rattle.site_store.specs.Standing.{SiteStands, StandsFast}
 use Rattle.record_rows.specs.Deeds.{Deed}
-use Rattle.site_store.specs.Doing.{BeginsDeeds, DoesDeeds}
+use Rattle.site_store.specs.DoneDeeds.{BeginsDeeds, DoesDeeds}
 use Rattle.site_store.specs.Exceptions.{Exceptions}
 use Rattle.record_rows.specs.Deeds.Deed.{Changed, Marked}
 use Rattle.site_store.specs.declared.hits.Hits.{Hits}
@@ -98,7 +98,7 @@ pub record AreChangeItems (cut : ℕ) (change : Change) (failed : List Bool) (si
   pub lead : Lead plant.volumes items site.told (rows_with_hits site.level cut failed site.table.rows)
 
 -- The record of a change as it is formed: the rows that it names, and behind them those of the hits at its cut.
-pub record FormsChange (level : Level) (cut : Stamp) (failed : List Bool) (change : Change) (rows : List PairRow) (held now : Held) : Type 0 where
+pub record FormsChange (level : Level) (cut : Stamp) (failed : List Bool) (change : Change) (rows : List PairRow) (held now : BodyState) : Type 0 where
   pub hits : Hits
   pub are : AreHits level cut failed false rows hits
   pub now_is : now ≡ record { items = changed_items change rows ++ pairs_with_next (with_hits hits) rows; room = held.room }

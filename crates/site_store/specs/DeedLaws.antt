@@ -20,7 +20,7 @@ use Rattle.record_rows.specs.Deeds.{Deed, entries_by_deed, rows_behind, time_by_
 use Rattle.site_store.specs.Deeds.{content_behind, content_by_deed, means_behind}
 use Rattle.record_rows.specs.Deeds.Deed.{Logged, Changed, Marked}
 use Rattle.site_store.specs.DeedChanges.{AreByChanges, DeedOfChanges, changes_of, deeds_of}
-use Rattle.site_store.specs.Doing.{BeginsDeeds, DoesDeeds, points_of, with_next}
+use Rattle.site_store.specs.DoneDeeds.{BeginsDeeds, DoesDeeds, points_of, with_next}
 use Rattle.site_store.specs.Exceptions.{Exceptions, excepted_behind}
 use Rattle.site_store.specs.Seeing.{MeansByDeed, MeansTheSame, SeesBehind}
 

@@ -22,14 +22,14 @@ use Rattle.site_store.specs.declared.hits.Hits.{Hits}
 -- ---- rows that change their state
 
 -- what becomes of a row's state, if it changes
-abbrev pub Next : Type 0
-Next = PairRow → Option PairState
+abbrev pub NextStates : Type 0
+NextStates = PairRow → Option PairState
 
 abbrev pub pair_in : PairRow → Option PairState → List Item
 pair_in row (Some state) = Pair (in_state state row) ∷ []
 pair_in row None = []
 
-abbrev pub pair_with_next : Next → PairRow → List Item
+abbrev pub pair_with_next : NextStates → PairRow → List Item
 pair_with_next next row = pair_in row (next row)
 
 -- A row is one in its new state too.
@@ -37,11 +37,11 @@ abbrev pub is_row_in : PairRow → Option PairState → Bool
 is_row_in row (Some state) = is_row (in_state state row)
 is_row_in row None = true
 
-abbrev pub stays_row : Next → PairRow → Bool
+abbrev pub stays_row : NextStates → PairRow → Bool
 stays_row next row = is_row_in row (next row)
 
 -- the items of the rows that change
-abbrev pub pairs_with_next : Next → List PairRow → List Item
+abbrev pub pairs_with_next : NextStates → List PairRow → List Item
 pairs_with_next next rows = flat_map (pair_with_next next) rows
 
 -- ---- hits
@@ -58,7 +58,7 @@ is_hit_by hits device = slice_index_or hits.devices device false
 abbrev pub next_by_hits : Hits → (device : ℕ) → PairState → Option PairState
 next_by_hits hits device state = state_by_hits (is_hit_by hits device) hits.reaches hits.time state
 
-abbrev pub with_hits : Hits → Next
+abbrev pub with_hits : Hits → NextStates
 with_hits hits row = next_by_hits hits row.device row.state
 
 -- there are some
@@ -79,5 +79,5 @@ state_or state (Some next) = next
 state_or state None = state
 
 -- What the group makes of a row, and hits behind it.
-abbrev pub with_group_and_hits : FormedGroup → Hits → Next
+abbrev pub with_group_and_hits : FormedGroup → Hits → NextStates
 with_group_and_hits group hits row = let grouped = state_with_group group row in later_state (next_by_hits hits row.device (state_or row.state grouped)) grouped

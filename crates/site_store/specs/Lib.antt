@@ -2,13 +2,13 @@ pub mod Deeds
 pub mod Exceptions
 pub mod DeedChanges
 pub mod Seeing
-pub mod Doing
+pub mod DoneDeeds
 pub mod DeedLaws
 pub mod Ring
 pub mod RingLaws
 pub mod RingPlants
 pub mod Applying
-pub mod Between
+pub mod IdleSites
 pub mod Causes
 pub mod Changing
 pub mod Commands

@@ -6,13 +6,13 @@ use Rattle.crash_plant.specs.declared.device.Device.{Device}
 use Rattle.crash_plant.specs.declared.device.Device.TheVariants.{Volume}
 use Rattle.crash_plant.specs.Calls.{NoneLent}
 use Rattle.crash_plant.specs.Moments.{PlantState}
-use Rattle.applier.specs.Back.{OnlyReads}
+use Rattle.applier.specs.Returns.{OnlyReads}
 use Rattle.pair_table.specs.declared.row.PairRow.{PairRow}
 use Rattle.pair_table.specs.Tables.{KeepsRows}
 use Rattle.pending_queue.specs.Entries.{WaitingEntry}
 use Rattle.pending_queue.specs.Groups.{FormedGroup}
 use Rattle.xrc_journal.specs.declared.job.VolumeJob.{VolumeJob}
-use Rattle.xrc_journal.specs.Bodies.{Held}
+use Rattle.xrc_journal.specs.Bodies.{BodyState}
 use Rattle.xrc_journal.specs.Items.{AreItems, Item, body_spelling, form_of}
 use Rattle.xrc_journal.specs.Items.Item.{Image, Delta, Pair, Gone}
 use Rattle.xrc_journal.specs.Contents.{HasItem, content_through}
@@ -31,11 +31,11 @@ use Rattle.site_store.specs.Sites.{SiteState}
 use Rattle.site_store.specs.Standing.{Leaves, SiteStands, row_has_volume}
 use Rattle.record_rows.specs.Deeds.{Deed}
 use Rattle.site_store.specs.Deeds.{kinds_of}
-use Rattle.site_store.specs.Doing.{BeginsDeeds, DoesDeeds}
+use Rattle.site_store.specs.DoneDeeds.{BeginsDeeds, DoesDeeds}
 use Rattle.site_store.specs.Exceptions.{Exceptions}
 use Rattle.record_rows.specs.Deeds.Deed.{Logged, Marked}
 use Rattle.site_store.specs.declared.hits.Hits.{Hits}
-use Rattle.site_store.specs.Hits.{Next, pairs_with_next, with_group_and_hits}
+use Rattle.site_store.specs.Hits.{NextStates, pairs_with_next, with_group_and_hits}
 use Rattle.site_store.specs.Jobs.{are_home_from, has_device}
 use Rattle.site_store.specs.Ways.{is_spent, way_of}
 use Rattle.site_store.specs.Records.{IsOfRecord, behind_record, behind_way, one_more}
@@ -102,7 +102,7 @@ DrawEntries tells rows entries failed images plant =
     tells → (d x : ℕ) → d < plant.volumes → slice_index_or failed d false ≡ false → HasEntry rows d x entries → AreDrawn rows entries images plant d x
 
 -- A body holds images alone, which keep the rules on one record wherever their tracks are allowed, and are short enough for the entries.
-pub record HoldsImages (entries : List WaitingEntry) (held now : Held) : Type 0 where
+pub record HoldsImages (entries : List WaitingEntry) (held now : BodyState) : Type 0 where
   pub images : list_all is_image now.items ≡ true
   pub allowed : AreItemsWhereAllowed now.items
   pub short : length (body_spelling now.items) ≤ 56669 * length entries
@@ -117,7 +117,7 @@ abbrev pub is_formed : List PairRow → List WaitingEntry → (failed : List Boo
 is_formed rows entries failed device = list_any (is_entry_of_device rows device) entries && not (slice_index_or failed device false)
 
 -- a body with the pairs of rows that change behind its items
-abbrev pub with_pairs : Next → List PairRow → Held → Held
+abbrev pub with_pairs : NextStates → List PairRow → BodyState → BodyState
 with_pairs next rows held = record { items = held.items ++ pairs_with_next next rows; room = held.room }
 
 -- One image of each track that has an entry, but for the tracks of failed volumes, and behind them pairs that lead from the rows before
@@ -137,7 +137,7 @@ pub record AreItemsOf (tells : Type 0) (group : FormedGroup) (failed : List Bool
 
 -- The record of a group as it is formed with hits: its items, and for which volumes there are some. The items fit the rows, which are
 -- those of a table.
-pub record FormsRecord (tells : Type 0) (group : FormedGroup) (rows : List PairRow) (plant : PlantState) (held now : Held)
+pub record FormsRecord (tells : Type 0) (group : FormedGroup) (rows : List PairRow) (plant : PlantState) (held now : BodyState)
     (due failed : List Bool) (hits : Hits) : Type 0 where
   pub items : AreItemsOf tells group failed rows (rows_in_states (with_group_and_hits group hits) rows) plant now.items
   pub fit : first_unfit plant.volumes 0 rows now.items ≡ None

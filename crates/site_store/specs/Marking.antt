@@ -20,7 +20,7 @@ use Rattle.site_store.specs.declared.store_error.StoreError.TheVariants.{Spent}
 use Rattle.site_store.specs.Sites.{SiteState, has_failed, is_written}
 use Rattle.site_store.specs.Jobs.{has_device}
 use Rattle.site_store.specs.Standing.{SiteStands, StandsFast}
-use Rattle.site_store.specs.Doing.{BeginsDeeds, DoesDeeds}
+use Rattle.site_store.specs.DoneDeeds.{BeginsDeeds, DoesDeeds}
 use Rattle.site_store.specs.Exceptions.{Exceptions}
 use Rattle.record_rows.specs.Deeds.Deed.{Marked}
 use Rattle.site_store.specs.Records.{VolumesStay, behind_mark}

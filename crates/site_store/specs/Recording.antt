@@ -6,7 +6,7 @@ use Rattle.crash_plant.specs.Choices.{AllFollow}
 use Rattle.crash_plant.specs.Moments.{PlantState}
 use Rattle.xrc_journal.specs.Appending.{IsWholeBody, MayGrow, room_for}
 use Rattle.tod_stamp.specs.declared.stamp.Stamp.{Stamp}
-use Rattle.xrc_journal.specs.Bodies.{Held}
+use Rattle.xrc_journal.specs.Bodies.{BodyState}
 use Rattle.xrc_journal.specs.Items.{Item, form_of}
 use Rattle.xrc_journal.specs.Records.{next_set}
 use Rattle.xrc_journal.specs.RingWalks.{AllEndThrough, behind_logged}
@@ -26,7 +26,7 @@ abbrev pub group_with : (cut : ℕ) → List Item → Logged
 group_with cut items = record { time = cut; items = items }
 
 -- the same of a body's items
-abbrev pub group_in : Stamp → Held → Logged
+abbrev pub group_in : Stamp → BodyState → Logged
 group_in cut body = group_with cut.0 body.items
 
 -- ---- before the record

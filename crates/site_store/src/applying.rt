@@ -1,7 +1,7 @@
 //! The last group, applied to the volumes.
 
 ghost use Rattle.std.specs.Prelude.{◌≡◌, ◌≤◌, ◌&&◌, not, ℕ, false, length, slice_index_or, IsTrue};
-ghost use Rattle.applier.specs.Back.{WorksOnLent};
+ghost use Rattle.applier.specs.Returns.{WorksOnLent};
 ghost use Rattle.crash_plant.specs.Calls.{NoneLent, Silent};
 ghost use Rattle.xrc_journal.specs.Items.{AreItems, form_of};
 ghost use Rattle.site_store.specs.Applying.{Applies, AppliesToJobs, AreNoted, DoesApply, excepted_by_apply};

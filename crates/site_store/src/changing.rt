@@ -1,7 +1,7 @@
 //! A command's change, logged.
 
 ghost use Rattle.std.specs.Prelude.{◌≡◌, ◌≢◌, ◌≤◌, ◌+◌, ◌*◌, ◌++◌, [], true, false, length, map, OnOk, IsErrOf, IsTrue};
-ghost use Rattle.applier.specs.Back.{WorksOnLent};
+ghost use Rattle.applier.specs.Returns.{WorksOnLent};
 ghost use Rattle.crash_plant.specs.Calls.{Silent, WorksOn};
 ghost use Rattle.xrc_journal.specs.Items.{body_spelling};
 ghost use Rattle.site_store.specs.declared.store_error.StoreError.TheVariants.{Spent};

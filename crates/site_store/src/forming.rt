@@ -4,7 +4,7 @@ ghost use Rattle.std.specs.Prelude.{◌≡◌, ◌↔◌, ◌<◌, ◌≤◌, �
 ghost use Rattle.std.specs.List.{All, list_any};
 ghost use Rattle.crash_plant.specs.Calls.{NoneLent};
 ghost use Rattle.xrc_journal.specs.Contents.{HasItem};
-ghost use Rattle.applier.specs.Back.{OnlyReads, WorksOnLent};
+ghost use Rattle.applier.specs.Returns.{OnlyReads, WorksOnLent};
 ghost use Rattle.image_former.specs.Entries.{HasEntry, entry_device, is_row_of, row_device};
 ghost use Rattle.image_former.specs.Jobs.{HasFailed};
 ghost use Rattle.pending_queue.specs.Entries.{IsOfWrite};

@@ -1,7 +1,7 @@
 //! A formed group, logged.
 
 ghost use Rattle.std.specs.Prelude.{◌≡◌, ◌≤◌, ◌<◌, ◌+◌, ◌-◌, ◌*◌, ◌^◌, true, length, map, IsErrOf, OnOk};
-ghost use Rattle.applier.specs.Back.{OnlyReads, WorksOnLent};
+ghost use Rattle.applier.specs.Returns.{OnlyReads, WorksOnLent};
 ghost use Rattle.crash_plant.specs.Calls.{NoneLent, Silent};
 ghost use Rattle.site_store.specs.declared.store_error.StoreError.TheVariants.{Spent};
 ghost use Rattle.site_store.specs.declared.way.Way.TheVariants.{Marked};

@@ -1,7 +1,7 @@
 //! The next mark.
 
 ghost use Rattle.std.specs.Prelude.{◌≡◌, ◌≤◌, ◌<◌, ◌+◌, ◌-◌, ◌^◌, [], true, false, length, map, replicate, OnOk, IfOk, IsErrOf, IsTrue};
-ghost use Rattle.applier.specs.Back.{WorksOnLent};
+ghost use Rattle.applier.specs.Returns.{WorksOnLent};
 ghost use Rattle.crash_plant.specs.Calls.{Silent, WorksOn};
 ghost use Rattle.pair_table.specs.Tables.{with_rows};
 ghost use Rattle.record_rows.specs.Hits.{hit_now};

@@ -3,7 +3,7 @@
 ghost use Rattle.std.specs.Prelude.{◌≡◌, ◌≤◌, ◌*◌, length, OnOk, IsErrOf, IsTrue};
 ghost use Rattle.pair_table.specs.Tables.{KeepsRows, are_below};
 ghost use Rattle.xrc_journal.specs.Items.{body_spelling};
-ghost use Rattle.applier.specs.Back.{WorksOnLent};
+ghost use Rattle.applier.specs.Returns.{WorksOnLent};
 ghost use Rattle.crash_plant.specs.Calls.{Silent};
 ghost use Rattle.site_store.specs.declared.store_error.StoreError.TheVariants.{Spent};
 ghost use Rattle.site_store.specs.Causes.{FailByCounts, HasStoreCause};

@@ -1,7 +1,7 @@
 //! The volumes that were written since a mark, synced before the next one.
 
 ghost use Rattle.std.specs.Prelude.{◌≡◌, true, false, length, IsTrue};
-ghost use Rattle.applier.specs.Back.{OnlyReads, WorksOnLent};
+ghost use Rattle.applier.specs.Returns.{OnlyReads, WorksOnLent};
 ghost use Rattle.crash_plant.specs.declared.device.Device.TheVariants.{Volume as VolumeDevice};
 ghost use Rattle.crash_plant.specs.Calls.{IsThere, NoneLent};
 ghost use Rattle.crash_plant.specs.Moments.{IsDurable, on};

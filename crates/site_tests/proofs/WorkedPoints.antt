@@ -9,7 +9,7 @@ use Rattle.pair_table.specs.declared.row.PairRow.{PairRow}
 use Rattle.pair_table.specs.Rows.{is_suspended}
 use Rattle.row_changes.specs.Changes.{Timed}
 use Rattle.row_changes.specs.Changes.RowChange.{Hit, MarkedHit}
-use Rattle.row_changes.specs.Toward.{hit_count, hits}
+use Rattle.row_changes.specs.Spans.{hit_count, hits}
 use Rattle.site_tests.specs.PointVectors.{CutRowIsWorked, EndedRowIsWorked, FailingRowIsWorked, MarkedRowIsWorked, ResumedMarkIsWorked, ResumedRowIsWorked, line_asking, timed_change}
 
 -- One change hits a device once at most.

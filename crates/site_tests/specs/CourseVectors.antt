@@ -5,7 +5,7 @@ use Rattle.pair_table.specs.declared.level.Level.TheVariants.{Volume as VolumeLe
 use Rattle.pair_table.specs.Tables.{Table}
 use Rattle.xrc_command.specs.declared.line.Line.{Line}
 use Rattle.site_tests.specs.ChangeVectors.{no_rises}
-use Rattle.consistency.specs.Bears.{Run, Stage}
+use Rattle.consistency.specs.Stages.{Run, Stage}
 use Rattle.consistency.specs.Courses.{Answered}
 
 -- ---- the session ABC, begun at 50 without pairs

@@ -19,7 +19,7 @@ use Rattle.write_trace.specs.declared.trace.Trace.{Trace}
 use Rattle.write_trace.specs.declared.trace.TraceEnd.{TraceEnd}
 use Rattle.write_trace.specs.declared.trace.TraceEnd.TheVariants.{BadTrace, Ended}
 use Rattle.xrc_command.specs.declared.line.Line.{Line}
-use Rattle.consistency.specs.Bears.{Run}
+use Rattle.consistency.specs.Stages.{Run}
 use Rattle.consistency.specs.Leads.{Point}
 use Rattle.consistency.specs.Owing.{tracks_asked, tracks_owed}
 use Rattle.passages.specs.Points.{AreLinked}

@@ -7,7 +7,7 @@ ghost use Rattle.pair_table.specs.declared.row.SuspendCause.TheVariants.{Control
 ghost use Rattle.row_changes.specs.Changes.RowChange.{Break, Hit, MarkedHit, Mature, Reached};
 ghost use Rattle.row_changes.specs.Changes.Due.{NoneDue};
 ghost use Rattle.row_changes.specs.Changes.{after_changes, may_all_come, since};
-ghost use Rattle.row_changes.specs.Toward.{AreCounted, all_broke, is_hit_at};
+ghost use Rattle.row_changes.specs.Spans.{AreCounted, all_broke, is_hit_at};
 ghost use Rattle.site_tests.specs.ChangeVectors.{at_time, no_breaks, no_rises, two_rows};
 
 /// A hit suspends its device's row alone under level VOLUME, and the others too under level SESSION. Each needs a fault.

@@ -8,7 +8,7 @@ use Rattle.crash_plant.specs.Calls.{NoneLent}
 use Rattle.crash_plant.specs.Moments.{PlantState}
 use Rattle.pair_table.specs.declared.level.Level.{Level}
 use Rattle.pair_table.specs.Naming.{Naming}
-use Rattle.site_store.specs.Between.{IsSiteIdle}
+use Rattle.site_store.specs.IdleSites.{IsSiteIdle}
 use Rattle.site_store.specs.Commands.{MayDo}
 use Rattle.site_store.specs.Sites.{SiteState, new_site}
 use Rattle.xrecover.specs.Works.{Works}

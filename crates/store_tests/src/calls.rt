@@ -8,7 +8,7 @@ ghost use Rattle.pair_table.specs.declared.command.Change.TheVariants.{Added as 
 ghost use Rattle.site_store.specs.Changing.{MayChange};
 ghost use Rattle.site_store.specs.Logging.{IsOfSomeRow};
 ghost use Rattle.site_store.specs.Standing.{HasLengths};
-ghost use Rattle.site_store.specs.Between.{IsSiteIdle, IsSiteLogged};
+ghost use Rattle.site_store.specs.IdleSites.{IsSiteIdle, IsSiteLogged};
 
 use crate::entries::is_row_of;
 use crash_plant::{Device, Plant};

@@ -1,7 +1,7 @@
 //! A command's change whose record needs a mark first, in which the sync of a volume fails.
 
 ghost use Rattle.crash_plant.specs.Calls.{NoneLent};
-ghost use Rattle.site_store.specs.Between.{IsSiteIdle};
+ghost use Rattle.site_store.specs.IdleSites.{IsSiteIdle};
 
 use crate::calls::{log_applied, put_row};
 use crate::fixtures::{

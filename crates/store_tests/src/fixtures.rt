@@ -4,7 +4,7 @@ ghost use Rattle.std.specs.Prelude.{◌≡◌, IfOk, OnOk};
 ghost use Rattle.crash_plant.specs.Calls.{NoneLent};
 ghost use Rattle.crash_plant.specs.MemoryPlant.{memory_state};
 ghost use Rattle.crash_plant.specs.PlainPlant.{plain_state};
-ghost use Rattle.site_store.specs.Between.{IsSiteIdle};
+ghost use Rattle.site_store.specs.IdleSites.{IsSiteIdle};
 
 use crate::calls::{JOURNAL_LENGTH, put_row, session, start_at};
 use crate::entries::add;

@@ -2,7 +2,7 @@
 
 ghost use Rattle.crash_plant.specs.Calls.{NoneLent};
 ghost use Rattle.crash_plant.specs.MemoryPlant.{memory_state};
-ghost use Rattle.site_store.specs.Between.{IsSiteIdle, IsSiteLogged};
+ghost use Rattle.site_store.specs.IdleSites.{IsSiteIdle, IsSiteLogged};
 
 use crate::calls::{apply, log, mark, step, suspend};
 use crate::entries::whole;

@@ -3,7 +3,7 @@
 
 ghost use Rattle.std.specs.Prelude.{◌≡◌, OnOk};
 ghost use Rattle.crash_plant.specs.Calls.{NoneLent};
-ghost use Rattle.site_store.specs.Between.{IsSiteIdle};
+ghost use Rattle.site_store.specs.IdleSites.{IsSiteIdle};
 
 use crate::calls::{log, log_applied, mark, suspend};
 use crate::entries::{add, longest};

@@ -2,7 +2,7 @@
 
 ghost use Rattle.crash_plant.specs.Calls.{NoneLent};
 ghost use Rattle.crash_plant.specs.MemoryPlant.{memory_state};
-ghost use Rattle.site_store.specs.Between.{IsSiteIdle};
+ghost use Rattle.site_store.specs.IdleSites.{IsSiteIdle};
 
 use crate::calls::{log_applied, mark, put_row};
 use crate::fixtures::{DUPLEX, assert_same, paired, plant, recovered, row, states_of, suspended};

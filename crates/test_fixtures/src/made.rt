@@ -2,7 +2,7 @@
 
 ghost use Rattle.std.specs.Prelude.{◌≡◌, true, false, IfOk};
 ghost use Rattle.crash_plant.specs.Calls.{IsThere, NoneLent};
-ghost use Rattle.crash_plant.specs.Made.{IsMade, Resizes, SameDevices};
+ghost use Rattle.crash_plant.specs.NewPlants.{IsMade, Resizes, SameDevices};
 ghost use Rattle.crash_plant.specs.MemoryPlant.{IsPlannedAs, memory_state};
 ghost use Rattle.crash_plant.specs.Moments.{on, IsDurable};
 ghost use Rattle.crash_plant.specs.PlainPlant.{plain_state};

@@ -11,7 +11,7 @@ use Rattle.write_trace.specs.declared.trace.Trace.{Trace}
 use Rattle.write_trace.specs.declared.trace.HeaderError.{HeaderError}
 use Rattle.write_trace.specs.declared.trace.TraceEnd.{TraceEnd}
 use Rattle.write_trace.specs.Headers.{Base}
-use Rattle.write_trace.specs.Good.{trace_of}
+use Rattle.write_trace.specs.WholeTraces.{trace_of}
 
 -- A header of one volume of one cylinder, a whole track at 64 and an update at 6E: 60 bytes.
 abbrev pub one_trace : List ℕ

@@ -1,5 +1,5 @@
 //! Worked traces: what the definitions give for them.
-#![tactic(auto, unfolding(write_trace::specs::Good::trace_of, write_trace::specs::Good::entries_from, write_trace::specs::Headers::header_at, write_trace::specs::Headers::version_at, write_trace::specs::Headers::volumes_at, write_trace::specs::Headers::volume_at, write_trace::specs::Headers::bases_at, write_trace::specs::Headers::base_at, write_trace::specs::Headers::place_at, write_trace::specs::Entries::entry_at, write_trace::specs::Entries::write_at, write_trace::specs::Entries::kind_at, ckd_track::specs::Fields::update_at, write_trace::specs::Entries::format_at, write_trace::specs::Entries::whole_at, tod_stamp::specs::Fields::bytes_at, tod_stamp::specs::Fields::number_at, ckd_track::specs::Images::image_at, ckd_track::specs::Images::records_at, ckd_track::specs::Images::record_at, ckd_track::specs::Images::record_after_head))]
+#![tactic(auto, unfolding(write_trace::specs::WholeTraces::trace_of, write_trace::specs::WholeTraces::entries_from, write_trace::specs::Headers::header_at, write_trace::specs::Headers::version_at, write_trace::specs::Headers::volumes_at, write_trace::specs::Headers::volume_at, write_trace::specs::Headers::bases_at, write_trace::specs::Headers::base_at, write_trace::specs::Headers::place_at, write_trace::specs::Entries::entry_at, write_trace::specs::Entries::write_at, write_trace::specs::Entries::kind_at, ckd_track::specs::Fields::update_at, write_trace::specs::Entries::format_at, write_trace::specs::Entries::whole_at, tod_stamp::specs::Fields::bytes_at, tod_stamp::specs::Fields::number_at, ckd_track::specs::Images::image_at, ckd_track::specs::Images::records_at, ckd_track::specs::Images::record_at, ckd_track::specs::Images::record_after_head))]
 
 ghost use Rattle.std.specs.Prelude.{◌≡◌, ◌++◌, ◌∷◌, [], true, false, Ok, Err, codes, length, take, slice_set};
 ghost use Rattle.std.specs.List.{flat_map};
@@ -10,7 +10,7 @@ ghost use Rattle.write_trace.specs.declared.trace.HeaderError.TheVariants.{BadHe
 ghost use Rattle.write_trace.specs.declared.trace.TraceEnd.TheVariants.{Ended, BadTrace, ReadFault};
 ghost use Rattle.write_trace.specs.Headers.{header_spelling};
 ghost use Rattle.write_trace.specs.Entries.{entry_spelling};
-ghost use Rattle.write_trace.specs.Good.{trace_of};
+ghost use Rattle.write_trace.specs.WholeTraces.{trace_of};
 ghost use Rattle.trace_tests.specs.TraceVectors.{header_with, large_header, last_track, plain, two_bases, on_three, one_trace, one_header, first_entry, second_entry, read_one, one_with};
 
 /// The trace's spelling.

@@ -38,12 +38,6 @@ module _ {X : Type 0} where
   ticket_or (Waits t) = t
   ticket_or (InTurn t x) = t
 
-  abbrev state_or : X → Stage X → X
-  state_or d Spent = d
-  state_or d Idle = d
-  state_or d (Waits t) = d
-  state_or d (InTurn t x) = x
-
   waits_le : (st : Stage X) → waits st ≤ lives st
   waits_le Spent = omega arith
   waits_le Idle = omega arith

@@ -201,10 +201,6 @@ module _ {X E R N : Type 0} where
   abbrev pub IsSameSeat : Seat (Option X) (View X E R N) → Seat (Option X) (View X E R N) → Type 0
   IsSameSeat p q = (q.table_id ≡ p.table_id) × (q.id ≡ p.id)
 
-  -- the seat's calls so far
-  abbrev pub calls : Seat (Option X) (View X E R N) → List (Ticketed E R)
-  calls p = p.me.0.mine
-
   -- The seat's ticket is served: the slot is out with the seat, and the state that came with it is the one of which its notes are true.
   abbrev pub IsServed : (X → E → R → X → Type 0) → (X → N → Type 0) → Seat (Option X) (View X E R N) → Seat (Option X) (View X E R N) → Type 0
   IsServed steps says p q = (t : ℕ) × (x : X) × (q.me ≡ (staged p.me.0 (InTurn t x), (0, Some x) ∷ [])) × AllTrue says x p.me.0.notes × IsReached steps p.me.0.first x

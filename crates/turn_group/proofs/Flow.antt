@@ -18,7 +18,7 @@ use Rattle.group_state.specs.Machine.{Call, Reply, reply_to, group_after}
 use Rattle.group_state.specs.Machine.Call.{Join, NextWanted, Copied, Raise, Break, Form, Carry, Drop, Resume, Forget}
 use Rattle.group_state.specs.Machine.Reply.{Formed, Nothing}
 use Rattle.group_state.specs.Runs.{Answer, May, Runs, shown_by}
-use Rattle.group_state.specs.Sound.{Sound, KeepsGroup}
+use Rattle.group_state.specs.SoundStates.{Sound, KeepsGroup}
 use Rattle.group_state.proofs.SoundLaws.{all_kept}
 use Rattle.group_state.proofs.Stands.{at_each}
 use Rattle.turn_group.specs.Queues.{waiting_at, gained, is_shown_by, falls, stays_in, stays_of, own_part, part_by, part_of_groups, QueuesFlow}

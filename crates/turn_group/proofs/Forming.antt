@@ -15,7 +15,7 @@ use Rattle.group_state.specs.declared.volume.Volume.{Volume}
 use Rattle.group_state.specs.Volumes.{volume_of, passes}
 use Rattle.group_state.specs.Controls.{ControlState, new_control, counts, lesser, due_of}
 use Rattle.group_state.specs.Groups.{Group, Shown, control_at, cut_of, shown_at, shown_in}
-use Rattle.group_state.specs.Sound.{Sound, KeepsGroup, may_wait, is_entry_of, is_entry_of_control, has_told, HaveTold}
+use Rattle.group_state.specs.SoundStates.{Sound, KeepsGroup, may_wait, is_entry_of, is_entry_of_control, has_told, HaveTold}
 use Rattle.group_state.specs.Machine.{steps}
 use Rattle.group_state.specs.Machine.Call.{Form}
 use Rattle.group_state.specs.Runs.{shown_by}

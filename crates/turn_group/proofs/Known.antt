@@ -8,7 +8,7 @@ use Rattle.group_state.specs.declared.volume.Volume.{Volume}
 use Rattle.group_state.specs.Volumes.{volume_of, with_volume, noted_write, with_write, with_writes, copied_track, formed_track, with_formed_copies, dropped_volume, is_wanted}
 use Rattle.group_state.specs.Controls.{ControlState, new_control, fits, fits_track, joined, copied, raised, broke, dropped, formed, due_of}
 use Rattle.group_state.specs.Groups.{Group, control_at, with_control, cut_of}
-use Rattle.group_state.specs.Sound.{passes_or_none, is_track_within, are_within}
+use Rattle.group_state.specs.SoundStates.{passes_or_none, is_track_within, are_within}
 use Rattle.group_state.specs.Machine.{Call, Reply, group_after}
 use Rattle.group_state.specs.Machine.Call.{Join, NextWanted, Copied, Raise, Break, Form, Carry, Drop, Resume, Forget}
 use Rattle.group_state.proofs.SoundLaws.{length_dropped}

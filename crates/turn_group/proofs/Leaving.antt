@@ -10,7 +10,7 @@ use Rattle.group_state.specs.declared.phase.Phase.TheVariants.{Telling, Broken, 
 use Rattle.group_state.specs.Volumes.{is_wanted}
 use Rattle.group_state.specs.Controls.{ControlState, new_control, is_telling, fits, fits_track, room_of, joined, copied, raised, broke, dropped, formed, phase_after}
 use Rattle.group_state.specs.Groups.{Group, control_at, with_control, cut_of, gives_nothing, formed_at, shown_at}
-use Rattle.group_state.specs.Machine.{Call, Reply, reply_to, group_after, copy_reply, steps}
+use Rattle.group_state.specs.Machine.{Call, Reply, reply_to, group_after, reply_to_copied, steps}
 use Rattle.group_state.specs.Machine.Call.{Join, NextWanted, Copied, Raise, Break, Form, Drop}
 use Rattle.group_state.specs.Machine.Reply.{Made, Joined, Held, Formed, Nothing}
 use Rattle.group_state.proofs.Stands.{at_each}
@@ -53,7 +53,7 @@ copy_leaves : (s : Group) (k v x : ℕ) (at : Stamp) (slot : List Rec) (floor : 
     → LeavesNotes s (group_after s (Copied k v x at slot)) (Copied k v x at slot) (reply_to s (Copied k v x at slot)) (ReaderNote k floor telling)
 copy_leaves s k v x at slot floor telling h = choose (is_wanted v x (control_at s k).volumes) (fits_track (control_at s k) slot)
   where
-    choose : (t u : Bool) → LeavesNotes s (cond (t && u) (with_control k (copied v x at slot) s) s) (Copied k v x at slot) (copy_reply t u (room_of (control_at s k))) (ReaderNote k floor telling)
+    choose : (t u : Bool) → LeavesNotes s (cond (t && u) (with_control k (copied v x at slot) s) s) (Copied k v x at slot) (reply_to_copied t u (room_of (control_at s k))) (ReaderNote k floor telling)
     choose true true = record {
       own = own_with s k (copied v x at slot) floor telling h.0 h.1;
       others = others_with s k (copied v x at slot) (known_copied s k v x);

@@ -2,11 +2,11 @@
 use Rattle.std.proofs.Common.{◌≡◌, ℕ, ◌<◌, ◌≤◌, Bool, true, List, [], ◌∷◌, length, refl, sym, ap, ◌∙◌, subst}
 use Rattle.tod_stamp.specs.declared.stamp.Stamp.{Stamp}
 use Rattle.ckd_track.specs.declared.write.Batch.{Batch}
-use Rattle.cut_core.specs.Legal.{are_in}
+use Rattle.cut_core.specs.LegalHistories.{are_in}
 use Rattle.turn.specs.Turn.{IsSameSeat, Took, MayPass, HasPassed, HasCalled}
 use Rattle.turn.proofs.Calls.{may_pass, has_called, same_notes, noted, still}
 use Rattle.group_state.specs.Groups.{Group, control_at}
-use Rattle.group_state.specs.Sound.{KeepsGroup, MayTell, MayJoin}
+use Rattle.group_state.specs.SoundStates.{KeepsGroup, MayTell, MayJoin}
 use Rattle.group_state.specs.Machine.{Call, Reply}
 use Rattle.group_state.specs.Runs.{MayCopy}
 use Rattle.group_state.proofs.Kept.{kept_next}

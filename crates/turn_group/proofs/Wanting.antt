@@ -8,7 +8,7 @@ use Rattle.change_map.proofs.InSets.{had_within}
 use Rattle.group_state.specs.declared.volume.Volume.{Volume}
 use Rattle.group_state.specs.Volumes.{volume_of, passes, wants, is_wanted}
 use Rattle.group_state.specs.Groups.{Group, control_at}
-use Rattle.group_state.specs.Sound.{has_sizes, Sound}
+use Rattle.group_state.specs.SoundStates.{has_sizes, Sound}
 use Rattle.turn_group.specs.Notes.{known_volume}
 use Rattle.turn_group.specs.Seats.{is_track_of_control}
 use Rattle.turn_group.proofs.Known.{HasSizesOf, sizes_in, sizes_at}

@@ -8,7 +8,7 @@ use Rattle.pending_queue.specs.Entries.{WaitingEntry, entries_of, copy_of, copy_
 use Rattle.group_state.specs.Volumes.{is_wanted}
 use Rattle.group_state.specs.Controls.{ControlState, carried_writes, fits, fits_track}
 use Rattle.group_state.specs.Groups.{Group, Shown, control_at}
-use Rattle.group_state.specs.Sound.{KeepsGroup, is_entry_of_control}
+use Rattle.group_state.specs.SoundStates.{KeepsGroup, is_entry_of_control}
 use Rattle.group_state.specs.Machine.{Call, Reply, group_after}
 use Rattle.group_state.specs.Machine.Call.{Join, Copied, Form, Drop}
 use Rattle.group_state.specs.Runs.{Answer, Runs, shown_by}

@@ -7,14 +7,14 @@ use Rattle.tod_stamp.specs.declared.stamp.Stamp.{Stamp}
 use Rattle.xrc_edge.specs.Order.{is_in_order}
 use Rattle.ckd_track.specs.Writes.{is_earlier}
 use Rattle.ckd_track.specs.declared.write.Batch.{Batch}
-use Rattle.cut_core.specs.Legal.{are_in}
+use Rattle.cut_core.specs.LegalHistories.{are_in}
 use Rattle.pending_queue.specs.Entries.{all_keep_rules}
 use Rattle.turn.specs.declared.view.View.{View}
 use Rattle.turn.specs.Turn.{ticketed, HasCalled}
 use Rattle.group_state.specs.Volumes.{volume_of, passes}
 use Rattle.group_state.specs.Controls.{is_telling}
 use Rattle.group_state.specs.Groups.{Group, new_group, control_at}
-use Rattle.group_state.specs.Sound.{KeepsGroup, are_within, is_track_within}
+use Rattle.group_state.specs.SoundStates.{KeepsGroup, are_within, is_track_within}
 use Rattle.group_state.specs.Machine.{Call, Reply}
 use Rattle.turn_group.specs.Notes.{KnownVolume, SeatNote, volumes_known, last_after, known_after, floor_after, note_after}
 use Rattle.group_state.specs.Calls.{telling_after}

@@ -11,7 +11,7 @@ ghost use Rattle.group_state.specs.Answers.{join_reply, run_reply, copy_reply, f
 ghost use Rattle.turn_group.specs.Seats.{new_mover, new_readers, SeatMayTell, SeatMayJoin, SeatMayCopy, is_track_of_control, ReaderCalled, MoverCalled, IsSeated, calls_at, AllFrom, AreAtTheirPlaces, IsOwn};
 ghost use Rattle.turn.specs.Turn.{IsSameSeat, first_view, lists};
 ghost use Rattle.std.specs.List.{list_all};
-ghost use Rattle.group_state.specs.Sound.{KeepsGroup};
+ghost use Rattle.group_state.specs.SoundStates.{KeepsGroup};
 ghost use Rattle.turn_group.specs.Notes.{KeepsNotes, notes_of, is_of_carried, says};
 ghost use Rattle.turn_group.specs.Notes.SeatNote.{MoverNote};
 ghost use Rattle.turn_group.specs.Histories.{OneHistory};

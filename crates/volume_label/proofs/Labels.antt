@@ -10,7 +10,7 @@ use Rattle.tod_stamp.specs.Names.{is_name, is_serial, is_field, name_in, serial_
 use Rattle.tod_stamp.proofs.NameLaws.{and_true, both_true, fields_spelled, length-name_field, names_back}
 use Rattle.tod_stamp.proofs.FieldLaws.{IsBytes-drop, wide32}
 use Rattle.crash_plant.specs.Bytes.{patched, Torn}
-use Rattle.crash_plant.specs.Moments.{Standing, Follows, Kept, Same}
+use Rattle.crash_plant.specs.Moments.{Standing, Follows, SamePast, Same}
 use Rattle.crash_plant.proofs.Steps.{follows_then}
 use Rattle.volume_label.specs.declared.label.Label.{Label}
 use Rattle.volume_label.specs.Labels.{holds_cylinders, label_of, label_spelling, with_serial}
@@ -114,5 +114,5 @@ pub torn_fourteen : (n : ℕ) (old new : List ℕ) → n ≡ 14 → Torn 0 n old
 torn_fourteen n old new is torn = subst (λ (k : ℕ). Torn 0 k old new) is torn
 
 -- Written, and then synced.
-pub written_then_synced : (a b c : Standing) → Kept a b → Follows (Torn 0 14) a b → Kept b c → Follows Same b c → Follows (Torn 0 14) a c
+pub written_then_synced : (a b c : Standing) → SamePast a b → Follows (Torn 0 14) a b → SamePast b c → Follows Same b c → Follows (Torn 0 14) a c
 written_then_synced a b c past torn k same = follows_then a b c (Torn 0 14) Same (Torn 0 14) past.later torn k same (λ x y here came. came) (λ x y z here there came is. subst (λ (l : List ℕ). Torn 0 14 x l) (sym is) came)

@@ -13,8 +13,8 @@ use Rattle.write_trace.specs.declared.trace.Trace.{Trace}
 use Rattle.write_trace.specs.declared.trace.TraceEnd.TheVariants.{Ended}
 use Rattle.write_trace.specs.Headers.{Base, are_volumes, header_at, header_spelling, is_header_of}
 use Rattle.write_trace.specs.Entries.{are_entries, entry_at}
-use Rattle.write_trace.specs.Good.{after_header, bad_end, bad_start, entries_from, last_entry_stamp, most_bytes, trace_of, whole_trace}
-use Rattle.write_trace.specs.Unread.{seen}
+use Rattle.write_trace.specs.WholeTraces.{after_header, bad_end, bad_start, entries_from, last_entry_stamp, most_bytes, trace_of, whole_trace}
+use Rattle.write_trace.specs.UnreadBytes.{seen}
 use Rattle.write_trace.proofs.HeaderAgain.{headers_back}
 use Rattle.write_trace.proofs.Rows.{row, row_is_all}
 

@@ -5,7 +5,7 @@ use Rattle.std.proofs.lemmas.List.{length-replicate}
 use Rattle.crash_plant.specs.declared.device.Device.TheVariants.{Control, State, Journal, Volume}
 use Rattle.crash_plant.specs.Bytes.{patched}
 use Rattle.crash_plant.specs.Calls.{IsThere}
-use Rattle.crash_plant.specs.Made.{IsMade}
+use Rattle.crash_plant.specs.NewPlants.{IsMade}
 use Rattle.crash_plant.specs.Moments.{PlantState}
 use Rattle.crash_plant.specs.PlainLaws.{plain_length_told}
 use Rattle.crash_plant.specs.PlainPlant.{plain_state}

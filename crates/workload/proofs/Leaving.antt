@@ -4,7 +4,7 @@ use Rattle.xrc_edge.specs.Causes.{Rose}
 use Rattle.crash_plant.specs.declared.device.Device.{Device}
 use Rattle.crash_plant.specs.declared.plain_plant.PlainPlant.{PlainPlant}
 use Rattle.crash_plant.specs.Calls.{SameLoan, WorksOn}
-use Rattle.crash_plant.specs.Made.{SameConsole}
+use Rattle.crash_plant.specs.NewPlants.{SameConsole}
 use Rattle.crash_plant.specs.Moments.{PlantState}
 use Rattle.crash_plant.specs.PlainPlant.{plain_state}
 use Rattle.crash_plant.proofs.Choices.{device_cases}

@@ -4,7 +4,7 @@ use Rattle.std.specs.List.{All}
 use Rattle.xrc_edge.specs.Order.{never_fall}
 use Rattle.write_trace.specs.declared.trace.Trace.{Trace}
 use Rattle.write_trace.specs.declared.trace.TraceEnd.TheVariants.{Ended}
-use Rattle.write_trace.specs.Good.{trace_of}
+use Rattle.write_trace.specs.WholeTraces.{trace_of}
 use Rattle.xrc_command.specs.declared.line.Line.{Line}
 use Rattle.xrc_command.specs.Lines.{IsLine}
 use Rattle.workload.specs.declared.layout.TheConstants.{CONTROLS}

@@ -5,7 +5,7 @@ use Rattle.crash_plant.specs.declared.device.Device.{Device}
 use Rattle.crash_plant.specs.declared.device.Device.TheVariants.{Control, State, Journal, Volume}
 use Rattle.crash_plant.specs.Bytes.{patched}
 use Rattle.crash_plant.specs.Calls.{NoneLent, SameLoan, SameSite}
-use Rattle.crash_plant.specs.Made.{SameConsole}
+use Rattle.crash_plant.specs.NewPlants.{SameConsole}
 use Rattle.crash_plant.specs.Moments.{PlantState}
 use Rattle.volume_label.specs.declared.label.Label.{Label}
 use Rattle.volume_label.specs.Labels.{label_spelling, volume_need}

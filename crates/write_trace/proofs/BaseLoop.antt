@@ -13,18 +13,18 @@ use Rattle.write_trace.specs.declared.header.VolumeHead.{VolumeHead}
 use Rattle.write_trace.specs.declared.header.Header.{Header}
 use Rattle.write_trace.specs.declared.trace.HeaderError.{HeaderError}
 use Rattle.write_trace.specs.declared.trace.HeaderError.TheVariants.{BadHeader, HeaderFault, NoMemory}
-use Rattle.write_trace.specs.Headers.{Base, mark, is_mark, tracks_of, is_track_of, is_from, are_volumes, are_bases, is_header_of, version_at, volumes_at, base_at, bases_at, header_at}
-use Rattle.write_trace.specs.Good.{whole_trace}
+use Rattle.write_trace.specs.Headers.{Base, trace_mark, is_trace_mark, tracks_of, is_track_of, is_from, are_volumes, are_bases, is_header_of, version_at, volumes_at, base_at, bases_at, header_at}
+use Rattle.write_trace.specs.WholeTraces.{whole_trace}
 use Rattle.write_trace.proofs.FieldSteps.{and_true}
-use Rattle.write_trace.specs.Unread.{unread, seen}
+use Rattle.write_trace.specs.UnreadBytes.{unread, seen}
 use Rattle.write_trace.specs.Answers.{ReaderState}
 use Rattle.write_trace.specs.Starts.{ReadsHeader, Starts}
-use Rattle.write_trace.specs.Reached.{Reader, ReachesHeader, Reached, ReadsPart}
+use Rattle.write_trace.specs.HeaderProgress.{HeaderRest, ReachesHeader, Reached, ReadsPart}
 use Rattle.write_trace.specs.HeaderParts.{header_front_at}
 use Rattle.write_trace.proofs.HeaderSteps.{bytes_keep}
 
 -- readers that give the same
-pub reached_same : (start now : Option (List ℕ)) (remains others : Reader) (held : Left) → ((left : Left) → remains left ≡ others left) → Reached start now remains held → Reached start now others held
+pub reached_same : (start now : Option (List ℕ)) (remains others : HeaderRest) (held : Left) → ((left : Left) → remains left ≡ others left) → Reached start now remains held → Reached start now others held
 reached_same start now remains others held same reached bytes told =
     let r = reached bytes told in
     record { left = r.left; told = r.told; given = r.given; all = r.all; long = r.long; reads = λ more. r.reads more ∙ same (seen held.place (held.bytes ++ more)) }
@@ -129,9 +129,9 @@ behind_head head = bases_at 1 head.0.0 head.0.1 (0, 0) head.1 >>= λ base. Ok (r
 mark_is_first : (left : Left) (x : ℕ × Left) → version_at 1 left ≡ Ok x → x.0 ≡ 1
 unfolding version_at
 mark_is_first left x e =
-    let a = bind_ok (bytes_at 4 (is_mark 1) left) (λ m. Ok (slice_index m.0 3 - 48, m.1)) x e in
-    let rule : bytes_eq a.0.0 (mark 1) ≡ true = only (bytes_eq a.0.0 (mark 1)) (bytes_keep 4 (is_mark 1) left a.0 a.1) in
-    sym (first_is (slice_index a.0.0 3 - 48, a.0.1) x a.2) ∙ ap (λ (m : List ℕ). slice_index m 3 - 48) ((bytes_eq-Decides a.0.0 (mark 1)).0 rule)
+    let a = bind_ok (bytes_at 4 (is_trace_mark 1) left) (λ m. Ok (slice_index m.0 3 - 48, m.1)) x e in
+    let rule : bytes_eq a.0.0 (trace_mark 1) ≡ true = only (bytes_eq a.0.0 (trace_mark 1)) (bytes_keep 4 (is_trace_mark 1) left a.0 a.1) in
+    sym (first_is (slice_index a.0.0 3 - 48, a.0.1) x a.2) ∙ ap (λ (m : List ℕ). slice_index m 3 - 48) ((bytes_eq-Decides a.0.0 (trace_mark 1)).0 rule)
   where
     only : (b : Bool) → (b || false) ≡ true → b ≡ true
     only true h = refl

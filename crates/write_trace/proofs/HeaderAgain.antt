@@ -11,7 +11,7 @@ use Rattle.tod_stamp.proofs.NameLaws.{fields_back, length-name_field}
 use Rattle.ckd_track.specs.Tracks.{is_track}
 use Rattle.ckd_track.specs.Images.{image}
 use Rattle.write_trace.specs.declared.header.VolumeHead.{VolumeHead}
-use Rattle.write_trace.specs.Headers.{Base, cylinder_width, most_cylinders, mark, tracks_of, is_track_of, place_spelling, volume_spelling, base_spelling, header_spelling, are_volumes, is_from, are_bases, is_mark, version_at, is_new_serial, volume_at, volumes_at, base_at, bases_at, header_at}
+use Rattle.write_trace.specs.Headers.{Base, cylinder_width, most_cylinders, trace_mark, tracks_of, is_track_of, place_spelling, volume_spelling, base_spelling, header_spelling, are_volumes, is_from, are_bases, is_trace_mark, version_at, is_new_serial, volume_at, volumes_at, base_at, bases_at, header_at}
 use Rattle.write_trace.specs.Laws.{HeadersReadBack}
 use Rattle.write_trace.proofs.FieldSteps.{both_true, and_true, cylinder_limit, cylinder_wide}
 use Rattle.write_trace.proofs.FieldsAgain.{in_limit, FirstVolume, first_volume, place_again, image_back}
@@ -77,13 +77,13 @@ bases_again version place volumes low (b ∷ base) rest few are kept =
 
 -- ---- headers
 
-version_again : (place : ℕ) (rest : List ℕ) → version_at 1 (at_place place (mark 1 ++ rest)) ≡ Ok (1, at_place (place + 4) rest)
+version_again : (place : ℕ) (rest : List ℕ) → version_at 1 (at_place place (trace_mark 1 ++ rest)) ≡ Ok (1, at_place (place + 4) rest)
 unfolding version_at
-version_again place rest = rw (bytes_again 4 (is_mark 1) place (mark 1) rest refl refl) refl
+version_again place rest = rw (bytes_again 4 (is_trace_mark 1) place (trace_mark 1) rest refl refl) refl
 
 -- the fields of a header, one after another
 header_fields : (place : ℕ) (volumes : List VolumeHead) (base : List Base) (rest : List ℕ) → within 1 32 (length volumes) ≡ true → are_volumes 1 [] volumes ≡ true → are_bases volumes (0, 0) base ≡ true
-    → header_at 1 (at_place place (mark 1 ++ (to_be_bytes w16 (length volumes) ++ (flat_map (volume_spelling 1) volumes ++ (to_be_bytes w32 (length base) ++ (flat_map (base_spelling 1) base ++ rest))))))
+    → header_at 1 (at_place place (trace_mark 1 ++ (to_be_bytes w16 (length volumes) ++ (flat_map (volume_spelling 1) volumes ++ (to_be_bytes w32 (length base) ++ (flat_map (base_spelling 1) base ++ rest))))))
     ≡ Ok (record { version = 1; volumes = volumes; base = base }, at_place (place + 4 + 2 + length (flat_map (volume_spelling 1) volumes) + 4 + length (flat_map (base_spelling 1) base)) rest)
 unfolding header_at
 header_fields place volumes base rest number are kept =
@@ -108,7 +108,7 @@ headers_first : (place : ℕ) (version : ℕ) (volumes : List VolumeHead) (base 
 headers_first place version volumes base rest first number are kept =
     subst (λ v. header_at 1 (at_place place (header_spelling (record { version = v; volumes = volumes; base = base }) ++ rest))
     ≡ Ok (record { version = v; volumes = volumes; base = base }, at_place (place + length (header_spelling (record { version = v; volumes = volumes; base = base }))) rest)) first
-    (ap (λ (t : List ℕ). header_at 1 (at_place place t)) (regrouped (mark 1) count heads many tracks rest)
+    (ap (λ (t : List ℕ). header_at 1 (at_place place t)) (regrouped (trace_mark 1) count heads many tracks rest)
     ∙ header_fields place volumes base rest number are kept
     ∙ ap (λ n. Ok (record { version = 1; volumes = volumes; base = base }, at_place n rest)) end)
   where
@@ -127,9 +127,9 @@ headers_first place version volumes base rest first number are kept =
     end : place + 4 + 2 + length (flat_map (volume_spelling 1) volumes) + 4 + length (flat_map (base_spelling 1) base) ≡ place + length (header_spelling (record { version = 1; volumes = volumes; base = base }))
     end = omega (
       arith,
-      length-append (mark 1 ++ to_be_bytes w16 (length volumes) ++ flat_map (volume_spelling 1) volumes ++ to_be_bytes w32 (length base)) (flat_map (base_spelling 1) base),
-      length-append (mark 1 ++ to_be_bytes w16 (length volumes) ++ flat_map (volume_spelling 1) volumes) (to_be_bytes w32 (length base)),
-      length-append (mark 1 ++ to_be_bytes w16 (length volumes)) (flat_map (volume_spelling 1) volumes),
+      length-append (trace_mark 1 ++ to_be_bytes w16 (length volumes) ++ flat_map (volume_spelling 1) volumes ++ to_be_bytes w32 (length base)) (flat_map (base_spelling 1) base),
+      length-append (trace_mark 1 ++ to_be_bytes w16 (length volumes) ++ flat_map (volume_spelling 1) volumes) (to_be_bytes w32 (length base)),
+      length-append (trace_mark 1 ++ to_be_bytes w16 (length volumes)) (flat_map (volume_spelling 1) volumes),
     )
 
 pub headers_back : HeadersReadBack

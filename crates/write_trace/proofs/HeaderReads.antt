@@ -14,7 +14,7 @@ use Rattle.ckd_track.specs.Tracks.{is_track}
 use Rattle.ckd_track.specs.Images.{image}
 use Rattle.write_trace.specs.declared.header.VolumeHead.{VolumeHead}
 use Rattle.write_trace.specs.declared.header.Header.{Header}
-use Rattle.write_trace.specs.Headers.{Base, cylinder_width, most_cylinders, mark, tracks_of, is_track_of, place_spelling, volume_spelling, base_spelling, header_spelling, are_volumes, is_from, are_bases, is_header_of, is_mark, version_at, is_new_serial, volume_at, volumes_at, place_at, image_field, base_at, bases_at, header_at}
+use Rattle.write_trace.specs.Headers.{Base, cylinder_width, most_cylinders, trace_mark, tracks_of, is_track_of, place_spelling, volume_spelling, base_spelling, header_spelling, are_volumes, is_from, are_bases, is_header_of, is_trace_mark, version_at, is_new_serial, volume_at, volumes_at, place_at, image_field, base_at, bases_at, header_at}
 use Rattle.write_trace.specs.Laws.{HeadersAreSpelled}
 use Rattle.write_trace.proofs.FieldSteps.{both_true, and_true, given_is, none_taken, cylinder_limit, cylinder_wide, place_takes, image_takes}
 
@@ -24,14 +24,14 @@ first_or : (b : Bool) → (b || false) ≡ true → b ≡ true
 first_or true e = refl
 first_or false e = absurd cc
 
-version_takes : (left : Left) (version : ℕ) (next : Left) → IsBytes left.bytes → version_at 1 left ≡ Ok (version, next) → Takes left (mark 1) next × (version ≡ 1)
+version_takes : (left : Left) (version : ℕ) (next : Left) → IsBytes left.bytes → version_at 1 left ≡ Ok (version, next) → Takes left (trace_mark 1) next × (version ≡ 1)
 unfolding version_at
 version_takes left version next fits e =
-    let one = bind_ok (bytes_at 4 (is_mark 1) left) (λ m. Ok (slice_index m.0 3 - 48, m.1)) (version, next) e in
-    let bytes = bytes_takes 4 (is_mark 1) left one.0.0 one.0.1 fits one.1 in
-    let is : one.0.0 ≡ mark 1 = (bytes_eq-Decides one.0.0 (mark 1)).0 (first_or (bytes_eq one.0.0 (mark 1)) bytes.2) in
+    let one = bind_ok (bytes_at 4 (is_trace_mark 1) left) (λ m. Ok (slice_index m.0 3 - 48, m.1)) (version, next) e in
+    let bytes = bytes_takes 4 (is_trace_mark 1) left one.0.0 one.0.1 fits one.1 in
+    let is : one.0.0 ≡ trace_mark 1 = (bytes_eq-Decides one.0.0 (trace_mark 1)).0 (first_or (bytes_eq one.0.0 (trace_mark 1)) bytes.2) in
     let given = given_is (slice_index one.0.0 3 - 48, one.0.1) (version, next) one.2 in (
-      subst (λ (n : Left). Takes left (mark 1) n) (ap (λ (p : ℕ × Left). p.1) given) (subst (λ (t : List ℕ). Takes left t one.0.1) is bytes.0),
+      subst (λ (n : Left). Takes left (trace_mark 1) n) (ap (λ (p : ℕ × Left). p.1) given) (subst (λ (t : List ℕ). Takes left t one.0.1) is bytes.0),
       sym (ap (λ (p : ℕ × Left). p.0) given) ∙ ap (λ (t : List ℕ). slice_index t 3 - 48) is,
     )
 
@@ -154,7 +154,7 @@ header_takes left h next fits e =
     let start = version_takes left one.0.0 one.0.1 fits one.1 in
     behind_mark one.0.0 one.0.1 start.1 start.0 one.2
   where
-    behind_mark : (version : ℕ) (after : Left) → version ≡ 1 → Takes left (mark 1) after
+    behind_mark : (version : ℕ) (after : Left) → version ≡ 1 → Takes left (trace_mark 1) after
         → behind_version version after ≡ Ok (h, next)
         → HeaderTaken left h next
     behind_mark version after first start e =
@@ -168,11 +168,11 @@ header_takes left h next fits e =
         let five = bind_ok (bases_at version volumes four.0.0 (0, 0) four.0.1) (λ b. Ok (record { version = version; volumes = volumes; base = b.0 }, b.1)) (h, next) four.2 in
         let tracks = bases_take version volumes four.0.0 (0, 0) four.0.1 five.0.0 five.0.1 many.takes.rest_bytes five.1 in
         let found : Header = record { version = version; volumes = volumes; base = five.0.0 } in
-        let texts = λ (v n k : ℕ). (((mark v ++ to_be_bytes w16 n) ++ flat_map (volume_spelling version) volumes) ++ to_be_bytes w32 k) ++ flat_map (base_spelling version) five.0.0 in
-        let a = Takes-then left (mark 1) after (to_be_bytes w16 two.0.0) two.0.1 start count.takes in
-        let b = Takes-then left (mark 1 ++ to_be_bytes w16 two.0.0) two.0.1 (flat_map (volume_spelling version) volumes) three.0.1 a heads.takes in
-        let c = Takes-then left ((mark 1 ++ to_be_bytes w16 two.0.0) ++ flat_map (volume_spelling version) volumes) three.0.1 (to_be_bytes w32 four.0.0) four.0.1 b many.takes in
-        let whole : Takes left (texts 1 two.0.0 four.0.0) five.0.1 = Takes-then left (((mark 1 ++ to_be_bytes w16 two.0.0) ++ flat_map (volume_spelling version) volumes) ++ to_be_bytes w32 four.0.0) four.0.1 (flat_map (base_spelling version) five.0.0) five.0.1 c tracks.takes in
+        let texts = λ (v n k : ℕ). (((trace_mark v ++ to_be_bytes w16 n) ++ flat_map (volume_spelling version) volumes) ++ to_be_bytes w32 k) ++ flat_map (base_spelling version) five.0.0 in
+        let a = Takes-then left (trace_mark 1) after (to_be_bytes w16 two.0.0) two.0.1 start count.takes in
+        let b = Takes-then left (trace_mark 1 ++ to_be_bytes w16 two.0.0) two.0.1 (flat_map (volume_spelling version) volumes) three.0.1 a heads.takes in
+        let c = Takes-then left ((trace_mark 1 ++ to_be_bytes w16 two.0.0) ++ flat_map (volume_spelling version) volumes) three.0.1 (to_be_bytes w32 four.0.0) four.0.1 b many.takes in
+        let whole : Takes left (texts 1 two.0.0 four.0.0) five.0.1 = Takes-then left (((trace_mark 1 ++ to_be_bytes w16 two.0.0) ++ flat_map (volume_spelling version) volumes) ++ to_be_bytes w32 four.0.0) four.0.1 (flat_map (base_spelling version) five.0.0) five.0.1 c tracks.takes in
         let spelled : texts 1 two.0.0 four.0.0 ≡ texts version (length volumes) (length five.0.0) = ap (λ v. texts v two.0.0 four.0.0) (sym first) ∙ ap (λ n. texts version n four.0.0) (sym heads.number) ∙ ap (λ k. texts version (length volumes) k) (sym tracks.number) in
         subst (λ (p : Header × Left). HeaderTaken left p.0 p.1) (given_is (found, five.0.1) (h, next) five.2) (record {
           takes = subst (λ (t : List ℕ). Takes left t five.0.1) spelled whole;

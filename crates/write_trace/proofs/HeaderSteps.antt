@@ -14,7 +14,7 @@ use Rattle.write_trace.specs.Headers.{tracks_of, version_at, is_new_serial, volu
 use Rattle.write_trace.proofs.FieldSteps.{both_true, and_true}
 use Rattle.write_trace.specs.declared.stop.Stop.{Stop}
 use Rattle.write_trace.specs.declared.stop.Stop.TheVariants as stops
-use Rattle.write_trace.specs.Gives.{GivesField, Fails}
+use Rattle.write_trace.specs.FieldReads.{GivesField, Fails}
 use Rattle.write_trace.specs.HeaderParts.{seen_after, header_front_at}
 
 -- ---- serials that were seen

@@ -12,7 +12,7 @@ use Rattle.write_trace.specs.declared.trace.Trace.{Trace}
 use Rattle.write_trace.specs.declared.trace.HeaderError.{HeaderError}
 use Rattle.write_trace.specs.Headers.{header_spelling, are_volumes, are_bases, is_header_of, header_at}
 use Rattle.write_trace.specs.Entries.{entry_spelling}
-use Rattle.write_trace.specs.Good.{most_bytes, whole_trace, bad_start, entries_from, after_header, trace_of}
+use Rattle.write_trace.specs.WholeTraces.{most_bytes, whole_trace, bad_start, entries_from, after_header, trace_of}
 use Rattle.write_trace.specs.Laws.{BeginsWithEntries, EntriesAreLongest, TracesAreFound}
 use Rattle.write_trace.proofs.FieldSteps.{both_true}
 use Rattle.write_trace.proofs.HeaderReads.{header_takes}

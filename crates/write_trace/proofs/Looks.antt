@@ -6,12 +6,12 @@ use Rattle.tod_stamp.specs.Fields.Bad.{Cut, Broken}
 use Rattle.write_trace.specs.declared.header.VolumeHead.{VolumeHead}
 use Rattle.write_trace.specs.declared.entry.Entry.{Entry}
 use Rattle.write_trace.specs.Entries.{entry_spelling, entry_at, stamp_of}
-use Rattle.write_trace.specs.Good.{most_bytes}
+use Rattle.write_trace.specs.WholeTraces.{most_bytes}
 use Rattle.write_trace.specs.declared.next.Stopped.{Stopped}
 use Rattle.write_trace.specs.declared.stop.Stop.{Stop}
 use Rattle.write_trace.specs.declared.stop.Stop.TheVariants as stops
-use Rattle.write_trace.specs.Gives.{Fails}
-use Rattle.write_trace.specs.Unread.{unread, seen, IsAtEnd}
+use Rattle.write_trace.specs.FieldReads.{Fails}
+use Rattle.write_trace.specs.UnreadBytes.{unread, seen, IsAtEnd}
 use Rattle.write_trace.specs.Answers.{ReaderState, IsBadThere}
 use Rattle.write_trace.specs.Steps.{ReadOf, TakesEntry, IsCut, IsBroken, Tries}
 use Rattle.write_trace.proofs.Ahead.{seen_skip, ahead_is, full_ahead, bad_ahead}

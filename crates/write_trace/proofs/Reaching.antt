@@ -9,10 +9,10 @@ use Rattle.write_trace.specs.declared.header.Header.{Header}
 use Rattle.write_trace.specs.declared.trace.HeaderError.{HeaderError}
 use Rattle.write_trace.specs.declared.trace.HeaderError.TheVariants.{BadHeader, HeaderFault, NoMemory}
 use Rattle.write_trace.specs.Headers.{header_at}
-use Rattle.write_trace.specs.Good.{most_bytes, whole_trace}
-use Rattle.write_trace.specs.Unread.{unread, seen, IsAtEnd}
+use Rattle.write_trace.specs.WholeTraces.{most_bytes, whole_trace}
+use Rattle.write_trace.specs.UnreadBytes.{unread, seen, IsAtEnd}
 use Rattle.write_trace.specs.Starts.{IsBadHeader, FailsInHeader}
-use Rattle.write_trace.specs.Reached.{Reader, Reached, Waits, IsCutThere, Gathers, ReadsPart}
+use Rattle.write_trace.specs.HeaderProgress.{HeaderRest, Reached, StaysReached, IsCutThere, Gathers, ReadsPart}
 use Rattle.write_trace.proofs.Steady.{IsSteady}
 use Rattle.write_trace.proofs.Ahead.{ahead_is, read_ahead, broken_ahead, full_ahead, seen_skip}
 
@@ -34,7 +34,7 @@ parts_of (x ∷ short) (y ∷ long) behind rest e le =
 
 -- ---- pieces
 
-pub waits_more : (before now : Option (List ℕ)) (old new : Left) → new.place ≡ old.place → unread new.bytes now ≡ unread old.bytes before → length old.bytes ≤ length new.bytes → Waits before now old new
+pub waits_more : (before now : Option (List ℕ)) (old new : Left) → new.place ≡ old.place → unread new.bytes now ≡ unread old.bytes before → length old.bytes ≤ length new.bytes → StaysReached before now old new
 waits_more before now old new at same le start remains reached bytes told =
     let r = reached bytes told in
     let ahead = ahead_is new.bytes now (old.bytes ++ r.left) (same ∙ ap (unread old.bytes) r.told) in
@@ -81,7 +81,7 @@ part_broken part steady start now remains old place broken reached bytes told =
 
 -- ---- bytes that end within a field
 
-pub bad_when_full : (start before : Option (List ℕ)) (remains : Reader) (held : Left) (place : ℕ) → most_bytes ≤ held.place + length held.bytes → Reached start before remains held → IsCutThere remains held place → IsBadHeader start place
+pub bad_when_full : (start before : Option (List ℕ)) (remains : HeaderRest) (held : Left) (place : ℕ) → most_bytes ≤ held.place + length held.bytes → Reached start before remains held → IsCutThere remains held place → IsBadHeader start place
 bad_when_full start before remains held place full reached cut bytes told =
     let r = reached bytes told in
     (Cut place, at_whole bytes r.given r.left r.all ∙ r.reads r.left ∙ ap remains (full_ahead held.place held.bytes r.left full) ∙ cut, refl)
@@ -96,7 +96,7 @@ still_left before now held left same told =
     let ahead = ahead_is held now (held ++ left) (same ∙ ap (unread held) told) in
     ahead.1 ∙ ap (λ (t : List ℕ). Some t) (sym (append_cancel_left held left ahead.0 ahead.2))
 
-pub bad_at_end : (start before now : Option (List ℕ)) (remains : Reader) (held : Left) (place : ℕ) → unread held.bytes now ≡ unread held.bytes before → IsAtEnd now → Reached start before remains held → IsCutThere remains held place → IsBadHeader start place
+pub bad_at_end : (start before now : Option (List ℕ)) (remains : HeaderRest) (held : Left) (place : ℕ) → unread held.bytes now ≡ unread held.bytes before → IsAtEnd now → Reached start before remains held → IsCutThere remains held place → IsBadHeader start place
 bad_at_end start before now remains held place same end reached cut bytes told =
     let r = reached bytes told in
     let nothing : r.left ≡ [] = end_more now r.left (still_left before now held.bytes r.left same r.told) end in
@@ -106,7 +106,7 @@ bad_at_end start before now remains held place same end reached cut bytes told =
 some_is : (a b : List ℕ) → (let p : Option (List ℕ) = Some a in let q : Option (List ℕ) = Some b in p ≡ q) → a ≡ b
 some_is a b e = cc
 
-pub fails_there : (start before now : Option (List ℕ)) (remains : Reader) (held : Left) (place : ℕ) → unread held.bytes now ≡ unread held.bytes before → held.place + length held.bytes ≤ most_bytes → Reached start before remains held → IsCutThere remains held place → FailsInHeader start now
+pub fails_there : (start before now : Option (List ℕ)) (remains : HeaderRest) (held : Left) (place : ℕ) → unread held.bytes now ≡ unread held.bytes before → held.place + length held.bytes ≤ most_bytes → Reached start before remains held → IsCutThere remains held place → FailsInHeader start now
 fails_there start before now remains held place same within reached cut bytes left told now_told =
     let r = reached bytes told in
     let is : r.left ≡ left = some_is r.left left (sym (still_left before now held.bytes r.left same r.told) ∙ now_told) in (
@@ -145,17 +145,17 @@ takes_part part used old new visible x is le read skip =
 
 -- ---- what came of reading a part, after pieces came
 
-pub part_done : {A : Type 0} (part : Left → Result (A × Left) Bad) → IsSteady part → (before now : Option (List ℕ)) (faults risen : ℕ) (old mid new : Left) (x : A) → Waits before now old mid → risen ≡ faults
+pub part_done : {A : Type 0} (part : Left → Result (A × Left) Bad) → IsSteady part → (before now : Option (List ℕ)) (faults risen : ℕ) (old mid new : Left) (x : A) → StaysReached before now old mid → risen ≡ faults
     → TakesPart part mid new x → ReadsPart part before now faults risen old new (Ok x)
 part_done part steady before now faults risen old mid new x waits same takes =
     (λ start remains reached. part_read part steady start now remains mid new x takes.same takes.reads (waits start (λ left. part left >>= remains) reached), same)
 
-pub part_bad : {A : Type 0} (part : Left → Result (A × Left) Bad) → IsSteady part → (before now : Option (List ℕ)) (faults risen : ℕ) (old mid new : Left) (place : ℕ) → Waits before now old mid → risen ≡ faults
+pub part_bad : {A : Type 0} (part : Left → Result (A × Left) Bad) → IsSteady part → (before now : Option (List ℕ)) (faults risen : ℕ) (old mid new : Left) (place : ℕ) → StaysReached before now old mid → risen ≡ faults
     → part (seen mid.place mid.bytes) ≡ Err (Broken place) → ReadsPart part before now faults risen old new (Err (BadHeader place))
 part_bad part steady before now faults risen old mid new place waits same broken =
     (λ start remains reached. part_broken part steady start now remains mid place broken (waits start (λ left. part left >>= remains) reached), same)
 
-pub part_ends : {A : Type 0} (part : Left → Result (A × Left) Bad) (a b c : Option (List ℕ)) (f g h : ℕ) (old mid new : Left) (place : ℕ) (error : HeaderError) → Waits a b old mid → g ≡ f
+pub part_ends : {A : Type 0} (part : Left → Result (A × Left) Bad) (a b c : Option (List ℕ)) (f g h : ℕ) (old mid new : Left) (place : ℕ) (error : HeaderError) → StaysReached a b old mid → g ≡ f
     → part (seen mid.place mid.bytes) ≡ Err (Cut place) → Gathers b c g h place mid new {A = Unit {0}} (Err error) → ReadsPart part a c f h old new (Err error)
 part_ends part a b c f g h old mid new place (BadHeader bad) waits same cut gathers =
     (λ start remains reached. gathers.0 start (λ left. part left >>= remains) (waits start (λ left. part left >>= remains) reached) (ap (λ (q : Result (_ × Left) Bad). q >>= remains) cut), gathers.1 ∙ same)

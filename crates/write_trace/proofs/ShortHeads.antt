@@ -7,16 +7,16 @@ use Rattle.tod_stamp.specs.Fields.{◌>>=◌, Left, Bad, bytes_at, number_at, wi
 use Rattle.tod_stamp.specs.Fields.Bad.{Cut}
 use Rattle.tod_stamp.specs.Names.{before_spaces}
 use Rattle.write_trace.specs.declared.header.VolumeHead.{VolumeHead}
-use Rattle.write_trace.specs.Headers.{tracks_of, is_mark, is_new_serial, version_at, volume_at, volumes_at, base_at}
-use Rattle.write_trace.specs.Good.{most_bytes}
+use Rattle.write_trace.specs.Headers.{tracks_of, is_trace_mark, is_new_serial, version_at, volume_at, volumes_at, base_at}
+use Rattle.write_trace.specs.WholeTraces.{most_bytes}
 use Rattle.write_trace.proofs.FieldSteps.{both_true}
-use Rattle.write_trace.specs.Unread.{seen}
+use Rattle.write_trace.specs.UnreadBytes.{seen}
 use Rattle.write_trace.specs.HeaderParts.{header_front_at}
 use Rattle.write_trace.proofs.Short.{IsShort, short_more, short_then, short_done, short_number, short_bytes, short_base, cut_is_short}
 
 short_version : IsShort 4 (version_at 1)
 unfolding version_at
-short_version = short_then 4 0 (bytes_at 4 (is_mark 1)) (λ m. Ok (slice_index m.0 3 - 48, m.1)) (short_bytes 4 (is_mark 1)) (λ m. short_done (slice_index m 3 - 48))
+short_version = short_then 4 0 (bytes_at 4 (is_trace_mark 1)) (λ m. Ok (slice_index m.0 3 - 48, m.1)) (short_bytes 4 (is_trace_mark 1)) (λ m. short_done (slice_index m 3 - 48))
 
 volume_made : List ℕ → ℕ → VolumeHead
 volume_made field cylinders = record { serial = before_spaces field; cylinders = cylinders }

@@ -5,18 +5,18 @@ use Rattle.std.specs.Int.{w16, w32}
 use Rattle.tod_stamp.specs.Fields.{◌>>=◌, Left, Bad, bytes_at, number_at, within}
 use Rattle.tod_stamp.specs.Names.{before_spaces}
 use Rattle.write_trace.specs.declared.header.VolumeHead.{VolumeHead}
-use Rattle.write_trace.specs.Headers.{tracks_of, is_mark, is_new_serial, cylinder_width, most_cylinders, version_at, volume_at, volumes_at}
+use Rattle.write_trace.specs.Headers.{tracks_of, is_trace_mark, is_new_serial, cylinder_width, most_cylinders, version_at, volume_at, volumes_at}
 use Rattle.write_trace.specs.HeaderParts.{header_front_at}
 use Rattle.write_trace.proofs.Steady.{IsSteady, steady_number, steady_bytes, steady_done, steady_then}
 use Rattle.write_trace.proofs.Forward.{IsForward, forward_number, forward_bytes, forward_done, forward_then}
 
 steady_version : (newest : ℕ) → IsSteady (version_at newest)
 unfolding version_at
-steady_version newest = steady_then (bytes_at 4 (is_mark newest)) (λ m. Ok (slice_index m.0 3 - 48, m.1)) (steady_bytes 4 (is_mark newest)) (λ m. steady_done (slice_index m 3 - 48))
+steady_version newest = steady_then (bytes_at 4 (is_trace_mark newest)) (λ m. Ok (slice_index m.0 3 - 48, m.1)) (steady_bytes 4 (is_trace_mark newest)) (λ m. steady_done (slice_index m 3 - 48))
 
 forward_version : (newest : ℕ) → IsForward (version_at newest)
 unfolding version_at
-forward_version newest = forward_then (bytes_at 4 (is_mark newest)) (λ m. Ok (slice_index m.0 3 - 48, m.1)) (forward_bytes 4 (is_mark newest)) (λ m. forward_done (slice_index m 3 - 48))
+forward_version newest = forward_then (bytes_at 4 (is_trace_mark newest)) (λ m. Ok (slice_index m.0 3 - 48, m.1)) (forward_bytes 4 (is_trace_mark newest)) (λ m. forward_done (slice_index m 3 - 48))
 
 volume_made : List ℕ → ℕ → VolumeHead
 volume_made field cylinders = record { serial = before_spaces field; cylinders = cylinders }

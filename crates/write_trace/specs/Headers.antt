@@ -28,8 +28,8 @@ abbrev pub most_cylinders : (version : ℕ) → ℕ
 most_cylinders version = if version == 1 then MOST_CYLINDERS else 1000000
 
 -- `XTR1` and `XTR2`
-abbrev pub mark : (version : ℕ) → List ℕ
-mark version = codes "XTR" ++ (48 + version) ∷ []
+abbrev pub trace_mark : (version : ℕ) → List ℕ
+trace_mark version = codes "XTR" ++ (48 + version) ∷ []
 
 -- ---- tracks of volumes
 
@@ -60,7 +60,7 @@ base_spelling version b = place_spelling version b.0 b.1 ++ image b.2
 
 -- the mark, the number of volumes and the volumes, the number of base tracks and the base tracks
 abbrev pub header_spelling : Header → List ℕ
-header_spelling h = mark h.version
+header_spelling h = trace_mark h.version
     ++ to_be_bytes w16 (length h.volumes) ++ flat_map (volume_spelling h.version) h.volumes
     ++ to_be_bytes w32 (length h.base) ++ flat_map (base_spelling h.version) h.base
 
@@ -88,12 +88,12 @@ is_header_of version h = h.version == version && within 1 MOST_VOLUMES (length h
 -- ---- reading it, with the first bad field
 
 -- the mark of a version up to the newest that is read
-abbrev pub is_mark : (newest : ℕ) → List ℕ → Bool
-is_mark newest bytes = bytes_eq bytes (mark 1) || (nat_le 2 newest && bytes_eq bytes (mark 2))
+abbrev pub is_trace_mark : (newest : ℕ) → List ℕ → Bool
+is_trace_mark newest bytes = bytes_eq bytes (trace_mark 1) || (nat_le 2 newest && bytes_eq bytes (trace_mark 2))
 
 unfoldable pub version_at : (newest : ℕ) → Left → Result (ℕ × Left) Bad
 version_at newest left = do
-  m ← bytes_at 4 (is_mark newest) left
+  m ← bytes_at 4 (is_trace_mark newest) left
   Ok (slice_index m.0 3 - 48, m.1)
 
 -- a field of a valid serial that isn't among those before

@@ -9,7 +9,7 @@ use Rattle.write_trace.specs.declared.entry.Entry.{Entry}
 use Rattle.write_trace.specs.declared.trace.Trace.{Trace}
 use Rattle.write_trace.specs.Headers.{are_volumes, header_spelling, is_header_of, header_at}
 use Rattle.write_trace.specs.Entries.{entry_spelling, is_entry, are_entries, entry_at}
-use Rattle.write_trace.specs.Good.{most_bytes, trace_of}
+use Rattle.write_trace.specs.WholeTraces.{most_bytes, trace_of}
 
 -- What a header that keeps the rules spells is read again, whatever follows.
 abbrev pub HeadersReadBack : Type 0

@@ -5,8 +5,8 @@ use Rattle.tod_stamp.specs.Fields.{Left}
 use Rattle.write_trace.specs.declared.entry.Entry.{Entry}
 use Rattle.write_trace.specs.declared.trace.TraceEnd.{TraceEnd}
 use Rattle.write_trace.specs.declared.trace.TraceEnd.TheVariants.{Ended, BadTrace, ReadFault}
-use Rattle.write_trace.specs.Good.{entries_from, end_of, last_entry_stamp}
-use Rattle.write_trace.specs.Unread.{unread, seen}
+use Rattle.write_trace.specs.WholeTraces.{entries_from, end_of, last_entry_stamp}
+use Rattle.write_trace.specs.UnreadBytes.{unread, seen}
 use Rattle.write_trace.specs.Answers.{ReaderState}
 
 -- the good entries of bytes that stand where a reader is, and what is left behind them

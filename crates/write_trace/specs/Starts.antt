@@ -7,8 +7,8 @@ use Rattle.write_trace.specs.declared.header.Header.{Header}
 use Rattle.write_trace.specs.declared.trace.HeaderError.{HeaderError}
 use Rattle.write_trace.specs.declared.trace.HeaderError.TheVariants.{BadHeader, HeaderFault, NoMemory}
 use Rattle.write_trace.specs.Headers.{header_at, is_header_of}
-use Rattle.write_trace.specs.Good.{whole_trace, most_bytes}
-use Rattle.write_trace.specs.Unread.{unread, seen}
+use Rattle.write_trace.specs.WholeTraces.{whole_trace, most_bytes}
+use Rattle.write_trace.specs.UnreadBytes.{unread, seen}
 use Rattle.write_trace.specs.Answers.{ReaderState}
 
 -- The bytes begin with this header, and the reader stands behind it, with all bytes that follow ahead of it. Also where the source

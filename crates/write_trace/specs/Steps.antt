@@ -9,8 +9,8 @@ use Rattle.write_trace.specs.declared.entry.Entry.TheVariants.{Written, Idle}
 use Rattle.write_trace.specs.declared.trace.TraceEnd.{TraceEnd}
 use Rattle.write_trace.specs.declared.trace.TraceEnd.TheVariants.{Ended, BadTrace, ReadFault}
 use Rattle.write_trace.specs.Entries.{entry_spelling, entry_at, is_entry, stamp_of}
-use Rattle.write_trace.specs.Good.{most_bytes}
-use Rattle.write_trace.specs.Unread.{unread, seen}
+use Rattle.write_trace.specs.WholeTraces.{most_bytes}
+use Rattle.write_trace.specs.UnreadBytes.{unread, seen}
 use Rattle.write_trace.specs.Answers.{ReaderState, answer_of, EndsThere, IsBadThere, FailsThere}
 use Rattle.write_trace.specs.declared.next.Next.{Next}
 use Rattle.write_trace.specs.declared.next.Next.TheVariants as answers

@@ -24,7 +24,7 @@ impl<'a> Model for Cursor<'a> {
 }
 
 impl<'a> Cursor<'a> {
-    ghost use Rattle.write_trace.specs.Gives.{GivesField};
+    ghost use Rattle.write_trace.specs.FieldReads.{GivesField};
 
     #[inline]
     pub fn new(place: u64, bytes: &'a [u8]) -> Cursor<'a>

@@ -7,7 +7,7 @@ ghost use Rattle.ckd_track.specs.declared.rec.Rec as records;
 ghost use Rattle.ckd_track.specs.declared.fault.ImageError.{ImageError};
 ghost use Rattle.write_trace.specs.Headers.{place_at, cylinders_of, as_field, image_field};
 ghost use Rattle.write_trace.specs.Entries.{format_at, whole_at, kind_at, write_at, entry_at, records_field};
-ghost use Rattle.write_trace.specs.Gives.{GivesField, Fails};
+ghost use Rattle.write_trace.specs.FieldReads.{GivesField, Fails};
 ghost use Rattle.write_trace.specs.Steps.{ReadOf};
 ghost use Rattle.ckd_track.specs.Fields.{update_at};
 

@@ -5,7 +5,7 @@ ghost use Rattle.tod_stamp.specs.Names.{is_serial};
 ghost use Rattle.tod_stamp.specs.Fields.{within};
 ghost use Rattle.ckd_track.specs.Tracks.{is_track};
 ghost use Rattle.write_trace.specs.Headers.{are_volumes, are_bases, cylinders_of, is_track_of, is_from};
-ghost use Rattle.write_trace.specs.Seen.{serials_of, names};
+ghost use Rattle.write_trace.specs.SeenSerials.{serials_of, is_named_before};
 
 use ckd_track::Track;
 use tod_stamp::{MOST_CYLINDERS, MOST_VOLUMES, Serial, TRACKS_OF_CYLINDER};
@@ -53,7 +53,7 @@ impl Header {
 
 /// Whether one of the volumes has the serial of these bytes.
 fn has_serial(volumes: &[VolumeHead], serial: &[u8]) -> bool
-    ensures { result ≡ names (serials_of volumes.now) serial.now }
+    ensures { result ≡ is_named_before (serials_of volumes.now) serial.now }
 {
     let mut found = false;
     for volume in volumes {

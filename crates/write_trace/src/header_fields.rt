@@ -6,7 +6,7 @@ ghost use Rattle.std.specs.List.{list_any, All};
 ghost use Rattle.ckd_track.specs.Tracks.{IsTrack};
 ghost use Rattle.tod_stamp.specs.Fields.{after, number_at};
 ghost use Rattle.write_trace.specs.Headers.{most_cylinders, tracks_of, is_track_of, is_from, are_volumes, base_at, version_at, volume_at, volumes_at};
-ghost use Rattle.write_trace.specs.Gives.{GivesField};
+ghost use Rattle.write_trace.specs.FieldReads.{GivesField};
 ghost use Rattle.write_trace.specs.HeaderParts.{seen_after, header_front_at};
 
 use crate::cursor::Cursor;

@@ -5,7 +5,7 @@ ghost use Rattle.tod_stamp.specs.declared.limits.TheConstants.{MOST_VOLUMES};
 ghost use Rattle.write_trace.specs.Headers.{is_track_of, is_from, are_volumes, are_bases, base_at, bases_at};
 ghost use Rattle.ckd_track.specs.Tracks.{IsTrack};
 ghost use Rattle.write_trace.specs.Starts.{Starts};
-ghost use Rattle.write_trace.specs.Reached.{Gathers, ReadsPart};
+ghost use Rattle.write_trace.specs.HeaderProgress.{Gathers, ReadsPart};
 ghost use Rattle.write_trace.specs.HeaderParts.{header_front_at};
 
 use crate::header::{BaseList, BaseTrack, Header, VolumeHead, VolumeList};

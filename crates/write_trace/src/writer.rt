@@ -7,7 +7,7 @@ ghost use Rattle.ckd_track.specs.Effects.{keeps_rules};
 ghost use Rattle.ckd_track.specs.Entries.{tag_of};
 ghost use Rattle.write_trace.specs.declared.entry.Entry.TheVariants.{Written, Idle as idle_entry};
 ghost use Rattle.write_trace.specs.Entries.{entry_spelling};
-ghost use Rattle.write_trace.specs.Headers.{mark, most_cylinders, place_spelling, volume_spelling, base_spelling, header_spelling, is_header_of};
+ghost use Rattle.write_trace.specs.Headers.{trace_mark, most_cylinders, place_spelling, volume_spelling, base_spelling, header_spelling, is_header_of};
 
 use crate::header::{BaseTrack, Header, VolumeHead};
 use byteorder::{BigEndian, ByteOrder};
@@ -105,7 +105,7 @@ fn append_bases(alloc: Global, out: &mut Bytes, base: &[BaseTrack]) -> Result<()
 /// The mark of version 1, and the number of volumes.
 fn header_head(count: usize) -> [u8; 6]
     requires { count < 2 ^ 16 }
-    ensures { result ≡ mark 1 ++ to_be_bytes w16 count }
+    ensures { result ≡ trace_mark 1 ++ to_be_bytes w16 count }
 {
     let mut head = *b"XTR1\0\0";
     BigEndian::write_u16(&mut head[4..], count as u16);

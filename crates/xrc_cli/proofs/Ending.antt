@@ -7,8 +7,8 @@ use Rattle.crash_plant.specs.declared.device.Device.TheVariants.{Control, Volume
 use Rattle.crash_plant.specs.Calls.{Says, WorksOnConsole}
 use Rattle.crash_plant.specs.Moments.{PlantState}
 use Rattle.xrc_command.specs.declared.line.Line.{Line}
-use Rattle.consistency.specs.Bears.{Run}
-use Rattle.consistency.specs.Between.{RunGoesOn}
+use Rattle.consistency.specs.Stages.{Run}
+use Rattle.consistency.specs.Pauses.{RunGoesOn}
 use Rattle.consistency.specs.Courses.{Answered, replies_of, texts_of}
 use Rattle.consistency.specs.Leads.{Point}
 use Rattle.consistency.proofs.Keeping.{keeps_says_status, keeps_throughout}
@@ -20,7 +20,7 @@ use Rattle.xrc_status.specs.declared.stop.Stop.{Stop}
 use Rattle.xrc_status.specs.declared.stop.Stop.TheVariants.{BadLine, ConsoleFault, NoMemory, Spent}
 use Rattle.xrc_status.specs.Saying.{SaidWhole, SaysLast}
 use Rattle.xrc_status.specs.Stops.{last_line, status_of}
-use Rattle.xrc_session.specs.Between.{stage_behind}
+use Rattle.xrc_session.specs.LinePauses.{stage_behind}
 use Rattle.xrc_session.specs.Frames.{ChangesRows, KeepsPlant, rows_passed}
 use Rattle.xrc_session.specs.Lanes.{AllTold, SourceBytes}
 use Rattle.xrc_session.specs.Openings.{ComesEarly, IsOfSite, OpensInOrder, opening_stop, stop_of_headers, stop_of_site}
@@ -39,7 +39,7 @@ use Rattle.xrc_cli.proofs.Stopping.{EndsBy, ends_by, is_console, is_of_headers, 
 
 -- What is so where a script was run, before the line of a stop is said.
 pub record RanScript {S P : Type 0} (tells : Type 0) (state : P → PlantState) (left : S → Option (List ℕ)) (faults : S → ℕ) (session : List ℕ) (storage : ℕ) (before now : List (Lane S)) (old mid : P) (result : Result (Unit {0}) Stop) : Type 0 where
-  pub many : length now ≡ length before
+  pub lanes_stay : length now ≡ length before
   pub opens : OpensInOrder left faults storage before now (state old) result
   pub early : IfErr result (λ stop. ComesEarly stop → mid ≡ old)
   pub unopened : (sources : List SourceBytes) (stop : Stop) → AllTold left faults before now sources → opening_stop storage (state old) sources ≡ Some stop → mid ≡ old
@@ -91,12 +91,12 @@ module _ (tells : Type 0) (told : tells) (session : List ℕ) (sources : List So
       asked = part.asked;
       bears = part.bears;
       exact = exact;
-      none = none;
+      unstarted = none;
       begun = begun;
-      forth = λ up some. (None, tt, (next, forth up some));
-      along = λ some. (None, tt, (next, along some));
+      goes_forth = λ up some. (None, tt, (next, forth up some));
+      on_trail = λ some. (None, tt, (next, along some));
       ends = applies_so_far run lines a old mid part.applied applied;
-      others = volumes;
+      volumes = volumes;
       done = λ zero. absurd (omega (arith, zero, ap status_of is));
       stopped = λ not. record {
         stop = stop;
@@ -108,11 +108,11 @@ module _ (tells : Type 0) (told : tells) (session : List ℕ) (sources : List So
         script = part.script ∙ ap (λ (l : List ℕ). l ++ mid.script) (sym (append-nil (texts_of (lines ++ a ∷ []))));
         one_line = omega arith;
         said = λ other. absurd (other (ap status_of is));
-        last = λ three. LastInPart lines a part.front.0 refl part.front.1 part.front.2;
+        in_part = λ three. LastInPart lines a part.front.0 refl part.front.1 part.front.2;
         bad = λ bad. absurd (none_bad tells _ _ mid.script bad);
         of_bad = λ n line. absurd (let clash : ConsoleFault ≡ BadLine n = sym is ∙ line in cc clash);
         spent = λ spent. absurd (omega (arith, spent, ap status_of is));
-        now = part.behind;
+        bears_now = part.behind;
       };
     }
 
@@ -169,11 +169,11 @@ module _ (tells : Type 0) (told : tells) (session : List ℕ) (sources : List So
       script = goes.now.script ∙ ap (λ (l : List ℕ). texts_of lines ++ text ++ l) (sym says.script);
       one_line = goes.now.one_line;
       said = λ other. said_behind (λ is. other (ap status_of is));
-      last = λ three. AllReplies (silent (is_console old new stop ends three) ∙ goes.now.said);
+      in_part = λ three. AllReplies (silent (is_console old new stop ends three) ∙ goes.now.said);
       bad = λ is. bad (subst (λ (l : List ℕ). IsBadBehind tells lines text l) says.script is);
       of_bad = λ n is. let line = of_bad n is in (line.0, subst (λ (l : List ℕ). IsBadBehind tells lines text l) (sym says.script) line.1);
       spent = λ is. own_spent_still tells told mid new works run (stage_behind run lines text old) old (spent (is_spent old new stop ends is));
-      now = λ started. bears_still tells told mid new works run (stage_behind run lines text old) (replies_of lines) (goes.now.bears started);
+      bears_now = λ started. bears_still tells told mid new works run (stage_behind run lines text old) (replies_of lines) (goes.now.bears started);
     }
 
     pub ran_to_stop : Ran tells session sources old new (status_of stop)
@@ -188,16 +188,16 @@ module _ (tells : Type 0) (told : tells) (session : List ℕ) (sources : List So
           let none = stop_says_none stop (status_known old new stop ends) in
           keeps_says_status run lines text old mid new up (goes.keeps up) tells told works (last_line stop) says none.0 none.1;
       exact = exact;
-      none = none;
+      unstarted = none;
       begun = begun;
-      forth = λ up some.
+      goes_forth = λ up some.
           let heard = (stage_behind run lines text old).next in
           (heard, heard_behind heard refl, (next, forth_still tells told mid new works (omega (arith, up, since)) run lines heard trail next old (forth up some)));
-      along = λ some.
+      on_trail = λ some.
           let heard = (stage_behind run lines text old).next in
           (heard, heard_behind heard refl, (next, along_still tells told mid new works run lines heard trail next (along some)));
       ends = λ up number below ended. inl (applies_on run lines old mid new goes.now.later works.site (works.elapses told) applied up number below ended);
-      others = rows_still tells told mid new works (rows_passed trail.points) old goes.now.site goes.now.later volumes;
+      volumes = rows_still tells told mid new works (rows_passed trail.points) old goes.now.site goes.now.later volumes;
       done = λ zero. absurd (not_done old new stop ends zero);
       stopped = λ not. stops_with;
     }
@@ -209,11 +209,11 @@ module _ {S P : Type 0} (tells : Type 0) (state : P → PlantState) (left : S �
 
   pub ends_done : RanScript tells state left faults session storage before now old mid done → EndsScriptRun tells state left faults session storage before now old mid 0
   ends_done r = record {
-    many = r.many;
+    lanes_stay = r.lanes_stay;
     cause = record {
       known = refl;
       counts = λ d store not. r.counts.devices d store (λ stop. no_err _ stop);
-      quiet = λ is. r.counts.console (λ stop. no_err _ stop);
+      console_count = λ is. r.counts.console (λ stop. no_err _ stop);
       console = λ is. absurd (omega (arith, is));
       journal = λ is. absurd (omega (arith, is));
       control = λ is. absurd (omega (arith, is));
@@ -240,12 +240,12 @@ module _ {S P : Type 0} (tells : Type 0) (state : P → PlantState) (left : S �
           asked = is.goes.now.asked;
           bears = λ up. keeps_throughout runs.run runs.lines [] (state old) (state mid) (is.goes.keeps up);
           exact = is.exact;
-          none = is.none;
+          unstarted = is.unstarted;
           begun = is.begun;
-          forth = λ up some. (None, tt, (None, is.forth up some));
-          along = λ some. (None, tt, (None, is.along some));
+          goes_forth = λ up some. (None, tt, (None, is.goes_forth up some));
+          on_trail = λ some. (None, tt, (None, is.on_trail some));
           ends = λ up number below ended. inl (runs.ends.2 up number below ended);
-          others = is.volumes;
+          volumes = is.volumes;
           done = λ zero. is;
           stopped = λ not. absurd (not refl);
         };
@@ -297,7 +297,7 @@ module _ {S P : Type 0} (tells : Type 0) (state : P → PlantState) (left : S �
     module _ (told : tells) (below : AreCountsBelow (state new)) (sources : List SourceBytes) (given : AllTold left faults before now sources) (none : opening_stop storage (state old) sources ≡ None) where
       not_early : ComesEarly stop → ⊥
       not_early (inl site) =
-          let due : stop_of_site storage (length sources) (state old) ≡ Some stop = ap (λ (n : ℕ). stop_of_site storage n (state old)) given.many ∙ r.opens.of_site stop site refl in
+          let due : stop_of_site storage (length sources) (state old) ≡ Some stop = ap (λ (n : ℕ). stop_of_site storage n (state old)) given.lanes_stay ∙ r.opens.of_site stop site refl in
           let stops : opening_stop storage (state old) sources ≡ Some stop = ap (λ (o : Option Stop). elim o [ Some x ↦ Some x | None ↦ stop_of_headers 0 [] sources ]) due in
           cc (none, stops)
       not_early (inr header) = let stops = r.opens.of_headers sources stop given header refl in cc (none, stops)
@@ -328,18 +328,18 @@ module _ {S P : Type 0} (tells : Type 0) (state : P → PlantState) (left : S �
           → (0 < (state old).clock → 0 < trail.started → GoesForth runs.run (lines_said runs.lines part) (line_asked (stage_behind runs.run runs.lines runs.text (state old)).next part) trail next (state old) (state mid))
           → Ran tells session sources (state old) (state new) (status_of stop)
       by_part None goes exact begun along forth =
-          ran_to_stop tells told session sources stop (state old) (state mid) runs.run runs.lines trail next runs.text (state new) at_line.stops.stopped.none ends r.keeps last (λ other. r.counts.console (λ is. other (err_is stop ConsoleFault is))) over_now late_now goes exact begun along forth at_line.stops.volumes
+          ran_to_stop tells told session sources stop (state old) (state mid) runs.run runs.lines trail next runs.text (state new) at_line.stops.stopped.unstarted ends r.keeps last (λ other. r.counts.console (λ is. other (err_is stop ConsoleFault is))) over_now late_now goes exact begun along forth at_line.stops.volumes
           at_line.stops.spent at_line.bad at_line.of_bad (λ is. ap (λ (p : P). (state p).said (state p).clock) (silent is)) as_were at_line.applied
       by_part (Some a) stands exact begun along forth =
           subst (λ (p : P). Ran tells session sources (state old) (state p) (status_of stop)) (sym (silent stands.0))
-          (ran_in_part tells told session sources stop (state old) (state mid) runs.run runs.lines trail next a at_line.stops.stopped.none runs.over stands.0 late stands.2 exact begun along forth at_line.stops.volumes as_were_mid at_line.applied)
+          (ran_in_part tells told session sources stop (state old) (state mid) runs.run runs.lines trail next a at_line.stops.stopped.unstarted runs.over stands.0 late stands.2 exact begun along forth at_line.stops.volumes as_were_mid at_line.applied)
 
       ran_now : Ran tells session sources (state old) (state new) (status_of stop)
-      ran_now = by_part at_line.stops.stopped.part at_line.stops.stopped.stands at_line.stops.stopped.exact at_line.stops.stopped.begun at_line.stops.stopped.along at_line.stops.stopped.forth
+      ran_now = by_part at_line.stops.stopped.part at_line.stops.stopped.stands at_line.stops.stopped.exact at_line.stops.stopped.begun at_line.stops.stopped.on_trail at_line.stops.stopped.goes_forth
 
     pub ends_stopped : EndsScriptRun tells state left faults session storage before now old new (status_of stop)
     ends_stopped = record {
-      many = r.many;
+      lanes_stay = r.lanes_stay;
       cause = status_cause (state old) (state new) stop ends as_were;
       keeps = keeps_still tells stop session (state old) (state mid) (state new) r.keeps last;
       opens = opens_now;

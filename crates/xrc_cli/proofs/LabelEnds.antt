@@ -63,6 +63,8 @@ module _ (tells : Type 0) (device : ℕ) (label : Label) where
     volume = λ is. absurd (omega arith);
     console = λ is. absurd (omega arith);
     complete = λ has room none. absurd (not has);
+    volume_count = λ other. s.front.only.faults (Volume device);
+    console_count = λ is. absurd (omega arith);
     says = λ told. s.front.moments told;
     whole = λ told. said_or_rose (last_line BadSite) 16 a c (λ is. absurd (omega arith)) (s.whole told);
     labelled = λ told. not_done;
@@ -82,6 +84,8 @@ module _ (tells : Type 0) (device : ℕ) (label : Label) where
     volume = λ is. absurd (omega arith);
     console = λ is. absurd (omega arith);
     complete = λ again room none. absurd (not room);
+    volume_count = λ other. s.front.only.faults (Volume device);
+    console_count = λ is. absurd (omega arith);
     says = λ told. s.front.moments told;
     whole = λ told. said_or_rose (last_line (TooSmall (Volume device) (volume_need label.cylinders))) 14 a c (λ is. absurd (omega arith)) (s.whole told);
     labelled = λ told. not_done;
@@ -111,6 +115,8 @@ module _ (tells : Type 0) (device : ℕ) (label : Label) where
       volume = λ is. rises;
       console = λ is. absurd (omega arith);
       complete = λ again enough none. absurd (none.devices (Volume device) rises);
+      volume_count = λ other. absurd (other refl);
+      console_count = λ is. absurd (omega arith);
       says = says_later (last_line VolumeFault) s.front.only s.front.moments;
       whole = λ told. whole_or_rose told (s.whole told);
       labelled = λ told. not_done;
@@ -133,7 +139,7 @@ module _ (tells : Type 0) (device : ℕ) (label : Label) where
         early (inl is) = absurd (omega arith)
         early (inr is) = absurd (omega arith)
 
-    module _ (durable : tells → IsDurable (on b (Volume device))) (begins : tells → take 14 (b.bytes (Volume device)) ≡ label_spelling label)
+    module _ (same : b.faults (Volume device) ≡ a.faults (Volume device)) (durable : tells → IsDurable (on b (Volume device))) (begins : tells → take 14 (b.bytes (Volume device)) ≡ label_spelling label)
         (valid : tells → label_of (b.lengths (Volume device)) (take 14 (b.bytes (Volume device))) ≡ Some label) where
       stands : WorksOnConsole tells b c → tells → HasLabelToStay device label c
       stands o told = bears b c told o (durable told) (begins told) (valid told)
@@ -147,6 +153,8 @@ module _ (tells : Type 0) (device : ℕ) (label : Label) where
         volume = λ bad. absurd (omega arith);
         console = λ bad. absurd (omega arith);
         complete = λ again enough none. refl;
+        volume_count = λ other. s.front.only.faults (Volume device) ∙ same;
+        console_count = λ done. s.quiet is ∙ w.console_faults;
         says = says_later (label_line device label) s.front.only s.front.moments;
         whole = λ told. inl (whole_later (label_line device label) told (s.whole told is));
         labelled = λ told done. stands s.front.only told;
@@ -164,6 +172,8 @@ module _ (tells : Type 0) (device : ℕ) (label : Label) where
         volume = λ bad. absurd (omega arith);
         console = λ bad. rises;
         complete = λ again enough none. absurd (none.console rises);
+        volume_count = λ other. s.front.only.faults (Volume device) ∙ same;
+        console_count = λ bad. absurd (omega arith);
         says = says_later (label_line device label) s.front.only s.front.moments;
         whole = λ told. inr ((λ bad. absurd (omega arith)), rises);
         labelled = λ told done. stands s.front.only told;

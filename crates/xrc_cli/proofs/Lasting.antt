@@ -2,7 +2,7 @@
 use Rattle.xrc_session.proofs.Growing.{says_grows}
 use Rattle.mover.specs.Working.{ShowsLast}
 use Rattle.consistency.specs.Moments.{BearsTime}
-use Rattle.std.proofs.Common.{◌≡◌, ◌⊎◌, inl, inr, ℕ, zero, suc, ◌+◌, ◌<◌, ◌≤◌, ◌^◌, List, [], ◌∷◌, ◌++◌, take, Option, Some, None, refl, sym, ap, subst, ◌∙◌, append_assoc, append-nil, arith}
+use Rattle.std.proofs.Common.{◌≡◌, ◌⊎◌, inl, inr, ℕ, zero, suc, ◌+◌, ◌<◌, ◌≤◌, List, [], ◌∷◌, ◌++◌, take, Option, Some, None, refl, sym, ap, subst, ◌∙◌, append_assoc, append-nil, arith}
 use Rattle.std.specs.Prelude.{◌-◌, codes, IsSomeAnd}
 use Rattle.std.proofs.lemmas.Bool.{cases_lt}
 use Rattle.xrc_edge.specs.Causes.{Rose}
@@ -22,7 +22,7 @@ use Rattle.xrc_command.specs.declared.line.Line.{Line}
 use Rattle.passages.specs.Points.{GoesThrough, Throughout, last_point}
 use Rattle.passages.proofs.InARow.{moments_rise}
 use Rattle.consistency.specs.Bearing.{ShowsPoint}
-use Rattle.consistency.specs.Bears.{Run, Stage}
+use Rattle.consistency.specs.Stages.{Run, Stage}
 use Rattle.consistency.specs.Courses.{Answered, texts_of}
 use Rattle.consistency.specs.Leads.{Point}
 use Rattle.consistency.specs.Ways.{PassedPoint, Way}
@@ -46,14 +46,6 @@ use Rattle.xrc_session.proofs.SafeStarts.{leaves_console, leaves_then}
 use Rattle.xrc_session.proofs.Started.{formats_on}
 
 -- ---- counts
-
--- A count that rose has risen still, if it hasn't fallen since.
-rose_since : (before mid now : ℕ) → before ≤ mid → mid ≤ now → Rose before mid → Rose before now
-rose_since before mid now first later (inl less) = inl (omega (arith, less, later))
-rose_since before mid now first later (inr most) = elim (cases_lt now (2 ^ 64)) [
-  | inl short ↦ inr (omega (arith, short, later, most))
-  | inr over ↦ inl (omega (arith, over, most, first))
-]
 
 module _ (old mid new : PlantState) (faults : (d : Device) → new.faults d ≡ mid.faults d) where
   device_still : (d : Device) → Rose (old.faults d) (mid.faults d) → Rose (old.faults d) (new.faults d)

@@ -100,7 +100,7 @@ module _ (old new : PlantState) where
   uncounted status known not as_were = record {
     known = known;
     counts = as_were;
-    quiet = λ is. absurd (never 0 is refl);
+    console_count = λ is. absurd (never 0 is refl);
     console = λ is. absurd (never 3 is refl);
     journal = λ is. absurd (never 5 is refl);
     control = λ is. absurd (never 6 is refl);
@@ -122,7 +122,7 @@ module _ (old new : PlantState) where
   status_cause _ (ByConsole rose) as_were = record {
     known = refl;
     counts = by_status stops.ConsoleFault as_were;
-    quiet = λ is. absurd (omega (arith, is));
+    console_count = λ is. absurd (omega (arith, is));
     console = λ is. rose;
     journal = λ is. absurd (omega (arith, is));
     control = λ is. absurd (omega (arith, is));
@@ -131,7 +131,7 @@ module _ (old new : PlantState) where
   status_cause _ (ByJournal j rose) as_were = record {
     known = refl;
     counts = by_status (stops.JournalFault j) as_were;
-    quiet = λ is. absurd (omega (arith, is));
+    console_count = λ is. absurd (omega (arith, is));
     console = λ is. absurd (omega (arith, is));
     journal = λ is. (j, rose, λ other not. as_were (Journal other) tt (λ same. not (let one : j ≡ other = cc same in sym one)));
     control = λ is. absurd (omega (arith, is));
@@ -140,7 +140,7 @@ module _ (old new : PlantState) where
   status_cause _ (ByControl rose) as_were = record {
     known = refl;
     counts = by_status stops.ControlFault as_were;
-    quiet = λ is. absurd (omega (arith, is));
+    console_count = λ is. absurd (omega (arith, is));
     console = λ is. absurd (omega (arith, is));
     journal = λ is. absurd (omega (arith, is));
     control = λ is. rose;
@@ -149,7 +149,7 @@ module _ (old new : PlantState) where
   status_cause _ (ByState rose) as_were = record {
     known = refl;
     counts = by_status stops.StateFault as_were;
-    quiet = λ is. absurd (omega (arith, is));
+    console_count = λ is. absurd (omega (arith, is));
     console = λ is. absurd (omega (arith, is));
     journal = λ is. absurd (omega (arith, is));
     control = λ is. absurd (omega (arith, is));

@@ -10,5 +10,5 @@ pub record SaysDone (tells : Type 0) (text : List ℕ) (old new : PlantState) (s
   pub known : (status ≡ 0) ⊎ (status ≡ 3)
   pub front : SaysFront tells text old new
   pub whole : tells → status ≡ 0 → SaidWhole text old new
-  pub quiet : status ≡ 0 → new.console_faults ≡ old.console_faults
+  pub console_count : status ≡ 0 → new.console_faults ≡ old.console_faults
   pub console : status ≡ 3 → Rose old.console_faults new.console_faults

@@ -7,7 +7,7 @@ use Rattle.crash_plant.specs.declared.device.Device.TheVariants.{Control, State,
 use Rattle.crash_plant.specs.Moments.{PlantState}
 use Rattle.xrc_command.specs.declared.line.Line.{Line}
 use Rattle.site_store.specs.Records.{IsStore}
-use Rattle.consistency.specs.Bears.{Run}
+use Rattle.consistency.specs.Stages.{Run}
 use Rattle.consistency.specs.Courses.{Answered, AreAsked, IsCourse, lines_begun, replies_of, texts_of}
 use Rattle.consistency.specs.Moments.{BearsThroughout, BearsTime}
 use Rattle.script_lines.specs.Texts.{has_feed}
@@ -18,7 +18,7 @@ use Rattle.xrc_status.specs.declared.stop.Stop.TheVariants.{BadLine, ConsoleFaul
 use Rattle.xrc_status.specs.Saying.{SaysLast}
 use Rattle.xrc_status.specs.Stops.{last_line, status_of}
 use Rattle.xrc_session.specs.AppliedEnds.{AppliesEndsSoFar}
-use Rattle.xrc_session.specs.Between.{stage_behind}
+use Rattle.xrc_session.specs.LinePauses.{stage_behind}
 use Rattle.xrc_session.specs.Ends.{IsRunDone}
 use Rattle.xrc_session.specs.Frames.{ChangesRows, KeepsPlant, rows_passed}
 use Rattle.xrc_session.specs.Lanes.{AllTold, SourceBytes}
@@ -40,7 +40,7 @@ may_end_run status = status == 0 || status == 1 || status == 3 || status == 4 ||
 pub record HasStatusCause (status : ℕ) (old new : PlantState) : Type 0 where
   pub known : IsTrue (may_end_run status)
   pub counts : (d : Device) → IsStore d → status ≢ status_of (stop_of_device d) → new.faults d ≡ old.faults d
-  pub quiet : status ≡ 0 → new.console_faults ≡ old.console_faults
+  pub console_count : status ≡ 0 → new.console_faults ≡ old.console_faults
   pub console : status ≡ 3 → Rose old.console_faults new.console_faults
   pub journal : status ≡ 5 → (j : ℕ) × Rose (old.faults (Journal j)) (new.faults (Journal j)) × ((other : ℕ) → other ≢ j → new.faults (Journal other) ≡ old.faults (Journal other))
   pub control : status ≡ 6 → Rose (old.faults Control) (new.faults Control)
@@ -80,8 +80,8 @@ pub data SaidInPart (lines : List Answered) (old new : PlantState) : Type 0 wher
 -- the script.
 --   counts: no count of the control, the state or a journal changes but with its own stop
 --   spent: 24 comes only once the session has started, or in the work for its start, where its own numbers are spent
---   now: whatever a crash leaves bears a time, not before any that the replies tell, also on a plant that keeps no past
---   last: at 3 the console failed in hearing, or in saying the reply to the last of the lines
+--   bears_now: whatever a crash leaves bears a time, not before any that the replies tell, also on a plant that keeps no past
+--   in_part: at 3 the console failed in hearing, or in saying the reply to the last of the lines
 pub record StopsWith (tells : Type 0) (run : Run) (lines : List Answered) (old new : PlantState) (status : ℕ) : Type 0 where
   pub stop : Stop
   pub is : status ≡ status_of stop
@@ -92,11 +92,11 @@ pub record StopsWith (tells : Type 0) (run : Run) (lines : List Answered) (old n
   pub script : old.script ≡ texts_of lines ++ text ++ new.script
   pub one_line : lines_begun text ≤ 1
   pub said : status ≢ 3 → SaidBehind lines (last_line stop) stop old new
-  pub last : status ≡ 3 → SaidInPart lines old new
+  pub in_part : status ≡ 3 → SaidInPart lines old new
   pub bad : IsBadBehind tells lines text new.script → (stop ≡ BadLine (length lines + 1)) ⊎ ((stop ≡ ConsoleFault) × (has_feed text ≡ false))
   pub of_bad : (n : ℕ) → stop ≡ BadLine n → (n ≡ length lines + 1) × IsBadBehind tells lines text new.script
   pub spent : status ≡ 24 → AreOwnSpent run (stage_behind run lines text old) old new
-  pub now : let s = stage_behind run lines text old in IsTrue s.table.is_started → AtNow (BearsTime run s (replies_of lines) new) new
+  pub bears_now : let s = stage_behind run lines text old in IsTrue s.table.is_started → AtNow (BearsTime run s (replies_of lines) new) new
 
 -- ---- the whole
 
@@ -118,16 +118,16 @@ pub record Ran (tells : Type 0) (session : List ℕ) (sources : List SourceBytes
   -- Each reply is exactly its line's, and the points before its command bring the changes that are said of the line.
   pub exact : AreExact run lines trail
   -- Once the session has started, its trail begins with the line that started it. Without a start no point was passed.
-  pub none : trail.started ≡ 0 → trail.points ≡ []
+  pub unstarted : trail.started ≡ 0 → trail.points ≡ []
   pub begun : HasBegunTrail run lines trail
   -- From the start's reply on the devices go from point to point and never back.
-  pub forth : 0 < old.clock → 0 < trail.started → (heard : Option Line) × IsHeardBehind run lines old new heard × ((next : Option Point) × GoesForth run lines heard trail next old new)
+  pub goes_forth : 0 < old.clock → 0 < trail.started → (heard : Option Line) × IsHeardBehind run lines old new heard × ((next : Option Point) × GoesForth run lines heard trail next old new)
   -- So they stand at its end, also on a plant that keeps no past.
-  pub along : 0 < trail.started → (heard : Option Line) × IsHeardBehind run lines old new heard × ((next : Option Point) × StandsOnTrail run lines heard trail next new)
+  pub on_trail : 0 < trail.started → (heard : Option Line) × IsHeardBehind run lines old new heard × ((next : Option Point) × StandsOnTrail run lines heard trail next new)
   -- Behind each line behind which the session has ended all is applied and marked.
   pub ends : AppliesEndsSoFar run lines old new
   -- Of the volumes only the slots of pairs that had a row are written.
-  pub others : ChangesRows (rows_passed trail.points) old new
+  pub volumes : ChangesRows (rows_passed trail.points) old new
   -- Done: the script was heard to its end, so much was said, and all is applied.
   pub done : status ≡ 0 → IsRunDone run lines trail old new
   -- Not done: the line of the status was said behind the replies. 4 is a bad line, and nothing else.
@@ -136,7 +136,7 @@ pub record Ran (tells : Type 0) (session : List ℕ) (sources : List SourceBytes
 -- What is so where a run of a session over lanes that had no readers has ended with a status. What it says of what was heard and of what a crash
 -- leaves, it says of plants and sources that tell their bytes, and whose counts end below the largest number.
 pub record EndsScriptRun {S P : Type 0} (tells : Type 0) (state : P → PlantState) (left : S → Option (List ℕ)) (faults : S → ℕ) (session : List ℕ) (storage : ℕ) (before now : List (Lane S)) (old new : P) (status : ℕ) : Type 0 where
-  pub many : length now ≡ length before
+  pub lanes_stay : length now ≡ length before
   pub cause : HasStatusCause status (state old) (state new)
   pub keeps : KeepsPlant tells (state old) (state new)
   pub opens : OpensFirst tells left faults storage before now (state old) (state new) status

@@ -16,7 +16,7 @@ use Rattle.tod_stamp.specs.Names.{is_name_char, is_name, is_serial, is_session, 
 use Rattle.tod_stamp.specs.Fields.{first_place}
 use Rattle.tod_stamp.specs.Stamps.{stamp_of_digits, first_other, is_hex}
 use Rattle.tod_stamp.proofs.NameLaws.{both_true, names_are_read, read_are_names}
-use Rattle.xrc_command.specs.Reading.{text_at, time_at, positive_before, cut, split_at, before_space, from_space, read_name, serial_of, session_of}
+use Rattle.xrc_command.specs.Reading.{text_at, time_at, positive_before, parted_at, split_at, before_space, from_space, read_name, serial_of, session_of}
 use Rattle.tod_stamp.specs.Options.{◌>>=◌}
 
 -- ---- steps
@@ -111,7 +111,7 @@ pub split_takes : (end : ℕ) (text name rest : List ℕ) → split_at end text 
 unfolding split_at
 split_takes end text name rest e = choose (position (λ byte. nat_eq byte end) text) refl e
   where
-    choose : (o : Option ℕ) → position (λ byte. nat_eq byte end) text ≡ o → cut text o ≡ Some (name, rest) → text ≡ name ++ end ∷ rest
+    choose : (o : Option ℕ) → position (λ byte. nat_eq byte end) text ≡ o → parted_at text o ≡ Some (name, rest) → text ≡ name ++ end ∷ rest
     choose None is f = absurd cc
     choose (Some place) is f =
         let at = position-Some (λ byte. nat_eq byte end) text place 0 is in

@@ -24,13 +24,13 @@ use Rattle.xrc_command.specs.Lines.{IsLine}
 unfoldable pub text_at : (expected text : List ℕ) → Option (List ℕ)
 text_at expected text = if bytes_eq (take (length expected) text) expected then Some (drop (length expected) text) else None
 
-abbrev pub cut : (text : List ℕ) → Option ℕ → Option (List ℕ × List ℕ)
-cut text None = None
-cut text (Some place) = Some (take place text, drop (place + 1) text)
+abbrev pub parted_at : (text : List ℕ) → Option ℕ → Option (List ℕ × List ℕ)
+parted_at text None = None
+parted_at text (Some place) = Some (take place text, drop (place + 1) text)
 
 -- what stands before the first byte `end`, and what follows that byte
 unfoldable pub split_at : (end : ℕ) → (text : List ℕ) → Option (List ℕ × List ℕ)
-split_at end text = cut text (position (λ byte. byte == end) text)
+split_at end text = parted_at text (position (λ byte. byte == end) text)
 
 -- what stands before the first space
 unfoldable pub before_space : List ℕ → List ℕ

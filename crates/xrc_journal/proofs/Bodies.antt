@@ -9,7 +9,7 @@ use Rattle.xrc_journal.specs.Reading.{Items}
 use Rattle.ckd_track.specs.declared.rec.Rec.{Rec}
 use Rattle.ckd_track.specs.Tracks.{is_track}
 use Rattle.xrc_journal.specs.Items.Item.{Image}
-use Rattle.xrc_journal.specs.Bodies.{Held, items_of, held_in, HoldsItems, with_item, are_late, have_image, IsNextItem}
+use Rattle.xrc_journal.specs.Bodies.{BodyState, items_of, held_in, HoldsItems, with_item, are_late, have_image, IsNextItem}
 use Rattle.xrc_journal.proofs.Fields.{both_true, and_true}
 use Rattle.xrc_journal.proofs.ItemsAgain.{bodies_again}
 
@@ -37,7 +37,7 @@ holds_by items used buffer are within spelled shut =
     let is = items_are items (take used buffer) are spelled in
     record {
       holds = record { within = within; shut = shut; keep = subst (λ (l : List Item). are_items_behind anywhere none_earlier l ≡ true) (sym is) are; spelled = spelled ∙ ap body_spelling (sym is) };
-      seen = ap (λ (l : List Item). let h : Held = record { items = l; room = length buffer - 1 } in h) is;
+      seen = ap (λ (l : List Item). let h : BodyState = record { items = l; room = length buffer - 1 } in h) is;
     }
 
 -- what stands at a place where bytes and a 0 were put
@@ -101,16 +101,16 @@ put_thrice place front back old one two new fits first second third =
     third ∙ (λ i. patched (end i) (0 ∷ []) (both i)) ∙ patched_twice place (front ++ back) (0 ∷ []) old (omega (arith, fits, length-append front back))
 
 -- what a body holds once an item of two parts was put
-pub record PutIn (item : Item) (held : Held) (used : ℕ) (old new : List ℕ) : Type 0 where
+pub record PutIn (item : Item) (held : BodyState) (used : ℕ) (old new : List ℕ) : Type 0 where
   pub size : length new ≡ length old
   pub holds : HoldsItems used new
   pub seen : held_in used new ≡ with_item item held
 
-pub put_in : (item : Item) (held : Held) (used : ℕ) (front back old new : List ℕ) → held ≡ held_in used old → HoldsItems used old → is_item anywhere (behind_all held.items none_earlier) item ≡ true → front ++ back ≡ item_spelling item
+pub put_in : (item : Item) (held : BodyState) (used : ℕ) (front back old new : List ℕ) → held ≡ held_in used old → HoldsItems used old → is_item anywhere (behind_all held.items none_earlier) item ≡ true → front ++ back ≡ item_spelling item
     → length (body_spelling held.items) + length front + length back ≤ held.room → new ≡ patched used (front ++ back ++ 0 ∷ []) old → PutIn item held (used + (length front + length back)) old new
 put_in item held used front back old new view holds is spelled fits put =
-    let items_is : held.items ≡ items_of (take used old) = ap (λ (h : Held). h.items) view in
-    let room_is : held.room ≡ length old - 1 = ap (λ (h : Held). h.room) view in
+    let items_is : held.items ≡ items_of (take used old) = ap (λ (h : BodyState). h.items) view in
+    let room_is : held.room ≡ length old - 1 = ap (λ (h : BodyState). h.room) view in
     let used_is : length (body_spelling held.items) ≡ used = ap (λ (l : List Item). length (body_spelling l)) items_is ∙ sym (ap length holds.spelled) ∙ omega (arith, holds.within, length-take used old) in
     let len = length-append front back in
     let within : used + length (front ++ back) + 1 ≤ length old = omega (arith, fits, used_is, room_is, len, holds.within) in
@@ -119,7 +119,7 @@ put_in item held used front back old new view holds is spelled fits put =
     record {
       size = put_size used (front ++ back) old new within put;
       holds = subst (λ (n : ℕ). HoldsItems n new) end more.holds;
-      seen = ap (λ (n : ℕ). held_in n new) (sym end) ∙ more.seen ∙ ap (λ (h : Held). with_item item h) (sym view);
+      seen = ap (λ (n : ℕ). held_in n new) (sym end) ∙ more.seen ∙ ap (λ (h : BodyState). with_item item h) (sym view);
     }
 
 -- an image that may follow items

@@ -8,21 +8,21 @@ use Rattle.tod_stamp.specs.declared.stamp.Stamp.{Stamp}
 use Rattle.crash_plant.specs.declared.spot.Spot.{Spot}
 use Rattle.xrc_journal.specs.declared.header.Header.{Header}
 use Rattle.xrc_journal.specs.declared.header.Header.TheVariants.{Group as GroupHeader, Switch as SwitchHeader}
-use Rattle.xrc_journal.specs.Records.{Head, is_body_length, record_head_at, most_body}
+use Rattle.xrc_journal.specs.Records.{RecordHead, is_body_length, record_head_at, most_body}
 use Rattle.xrc_journal.specs.Answers.{header_of, keeps_header, u64_in, u32_in}
 use Rattle.xrc_journal.proofs.Fields.{both_true}
 use Rattle.xrc_journal.proofs.RecordsRead.{group_fits}
 use Rattle.xrc_journal.proofs.Steps.{number_step, byte_step}
 
 -- one field more, and the last
-field : {A : Type 0} (r : Result A Bad) (b s : Bool) (x : A) (e : Bad) (then : A → Result (Head × Left) Bad) (h : Option Header) → r ≡ cond b (Ok x) (Err e) → header_of (then x) ≡ cond s h None → header_of (r >>= then) ≡ cond (b && s) h None
+field : {A : Type 0} (r : Result A Bad) (b s : Bool) (x : A) (e : Bad) (then : A → Result (RecordHead × Left) Bad) (h : Option Header) → r ≡ cond b (Ok x) (Err e) → header_of (then x) ≡ cond s h None → header_of (r >>= then) ≡ cond (b && s) h None
 field {A = A} r b s x e then h is next = ap (λ (q : Result A Bad). header_of (q >>= then)) is ∙ by_rule b
   where
     by_rule : (b : Bool) → header_of (cond b (Ok x) (Err e) >>= then) ≡ cond (b && s) h None
     by_rule true = next
     by_rule false = refl
 
-last_field : {A : Type 0} (r : Result A Bad) (b : Bool) (x : A) (e : Bad) (then : A → Result (Head × Left) Bad) (h : Option Header) → r ≡ cond b (Ok x) (Err e) → header_of (then x) ≡ h → header_of (r >>= then) ≡ cond b h None
+last_field : {A : Type 0} (r : Result A Bad) (b : Bool) (x : A) (e : Bad) (then : A → Result (RecordHead × Left) Bad) (h : Option Header) → r ≡ cond b (Ok x) (Err e) → header_of (then x) ≡ h → header_of (r >>= then) ≡ cond b h None
 last_field {A = A} r b x e then h is next = ap (λ (q : Result A Bad). header_of (q >>= then)) is ∙ by_rule b
   where
     by_rule : (b : Bool) → header_of (cond b (Ok x) (Err e) >>= then) ≡ cond b h None

@@ -2,7 +2,7 @@
 use Rattle.std.proofs.Common.{◌≡◌, ◌≢◌, ℕ, ◌+◌, ◌≤◌, ◌<◌, List, ◌∷◌, ◌++◌, length, take, drop, slice_index, sym, ap, ◌∙◌, arith, append_assoc, length-take}
 use Rattle.std.proofs.lemmas.List.{drop_at, get_or-drop}
 use Rattle.crash_plant.specs.Bytes.{patched, Torn}
-use Rattle.crash_plant.specs.Moments.{Standing, Kept, Follows}
+use Rattle.crash_plant.specs.Moments.{Standing, SamePast, Follows}
 use Rattle.crash_plant.proofs.Patches.{patched_torn, torn_more, torn_twice}
 use Rattle.crash_plant.proofs.Steps.{follows_then}
 use Rattle.crash_plant.proofs.Behind.{byte_before, from_gate, torn_again, torn_here}
@@ -45,7 +45,7 @@ module _ (size needed place : ℕ) (behind : List ℕ) where
     same_size : length y ≡ size
     same_size = (patched_torn (place + 1) behind b y (omega (arith, range, long)) is).size ∙ long
 
-    pub follows_opened : (a d e : Standing) → IsShutAt place a → Kept a d → Follows (Torn (place + 1) (length behind)) a d → ((x : List ℕ) → d.images d.clock x → x ≡ y) → Kept d e → Follows (Torn place 1) d e → Follows (PutsRecord size needed place behind) a e
+    pub follows_opened : (a d e : Standing) → IsShutAt place a → SamePast a d → Follows (Torn (place + 1) (length behind)) a d → ((x : List ℕ) → d.images d.clock x → x ≡ y) → SamePast d e → Follows (Torn place 1) d e → Follows (PutsRecord size needed place behind) a e
     follows_opened a d e shut past torn durable kept gate = follows_then a d e (Torn (place + 1) (length behind)) (Torn place 1) (PutsRecord size needed place behind) past.later torn kept gate
         (λ x z here first. puts_staged x z (shut x here) first)
         (λ x z w here there first second.

@@ -8,12 +8,12 @@ use Rattle.tod_stamp.proofs.FieldLaws.{at_place, wide16, wide32, wide64, number_
 use Rattle.crash_plant.specs.declared.spot.Spot.{Spot}
 use Rattle.xrc_journal.specs.Items.{Form, body_spelling}
 use Rattle.xrc_journal.specs.Reading.{Items, items_at}
-use Rattle.xrc_journal.specs.Records.{Head, record_header_spelling, gated_record_spelling, most_body, next_set, is_body_length, record_head_at, stretch, group_or, switch_or, record_or, walk_one}
+use Rattle.xrc_journal.specs.Records.{RecordHead, record_header_spelling, gated_record_spelling, most_body, next_set, is_body_length, record_head_at, stretch, group_or, switch_or, record_or, walk_one}
 use Rattle.xrc_journal.specs.Laws.{HasRecordAt, GroupsAreWalked, SwitchesAreWalked}
 use Rattle.xrc_journal.proofs.Fields.{and_true, byte_again}
 use Rattle.xrc_journal.proofs.ItemsAgain.{bodies_again}
 
-abbrev pub head_of : (kind time len : ℕ) → Head
+abbrev pub head_of : (kind time len : ℕ) → RecordHead
 head_of kind time len = record { kind = kind; time = time; len = len }
 
 four_parts : (a b c rest : List ℕ) → (a ++ b ++ c) ++ rest ≡ a ++ (b ++ (c ++ rest))
@@ -46,7 +46,7 @@ module _ (journal : List ℕ) (place kind number time : ℕ) (body : List ℕ) (
   body_is = ap (λ (l : List ℕ). take (length body) l) (sym (drop-drop 22 place journal) ∙ ap (λ (l : List ℕ). drop 22 l) from) ∙ take_at body stands.0 (length body) refl
 
 -- a record whose gate is open and whose header is read
-pub opened : (form : Form) (sets : ℕ) (journal : List ℕ) (at : Spot) (last : ℕ) (head : Head) (left : Left) → slice_index journal at.place ≡ 1
+pub opened : (form : Form) (sets : ℕ) (journal : List ℕ) (at : Spot) (last : ℕ) (head : RecordHead) (left : Left) → slice_index journal at.place ≡ 1
     → record_head_at (length journal) at last (at_place (at.place + 1) (stretch (at.place + 1) 21 journal)) ≡ Ok (head, left) → walk_one form sets journal at last ≡ record_or form sets journal at (Ok (head, left))
 unfolding walk_one
 opened form sets journal at last head left gate read = rw (eq-eqb (slice_index journal at.place) 1 gate, read) refl

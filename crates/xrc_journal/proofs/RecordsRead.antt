@@ -8,7 +8,7 @@ use Rattle.tod_stamp.proofs.FieldLaws.{at_place, IsBytes-take, IsBytes-drop, bin
 use Rattle.crash_plant.specs.declared.spot.Spot.{Spot}
 use Rattle.xrc_journal.specs.Items.{Item, Form, body_spelling}
 use Rattle.xrc_journal.specs.Reading.{Items, items_at}
-use Rattle.xrc_journal.specs.Records.{Head, record_header_spelling, most_body, is_body_length, record_head_at, next_set, spot_after, spot_in, stretch, group_or, switch_or, switch_of, record_or, walk_one}
+use Rattle.xrc_journal.specs.Records.{RecordHead, record_header_spelling, most_body, is_body_length, record_head_at, next_set, spot_after, spot_in, stretch, group_or, switch_or, switch_of, record_or, walk_one}
 use Rattle.xrc_journal.specs.Records.Found.{End, Group, Switch}
 use Rattle.xrc_journal.specs.Laws.{EndsAreShut, GroupsAreSpelled, SwitchesAreSpelled}
 use Rattle.xrc_journal.proofs.Fields.{both_true, given_is, one_byte}
@@ -21,7 +21,7 @@ use Rattle.xrc_journal.proofs.Steps.{number_kept}
 -- how a group was found at a spot
 pub record GroupFound (form : Form) (journal : List ℕ) (at : Spot) (last time : ℕ) (items : List Item) (after : Spot) : Type 0 where
   pub gate : slice_index journal at.place ≡ 1
-  pub head : Head
+  pub head : RecordHead
   pub left : Left
   pub header : record_head_at (length journal) at last (at_place (at.place + 1) (stretch (at.place + 1) 21 journal)) ≡ Ok (head, left)
   pub kind : nat_eq head.kind 1 ≡ true
@@ -29,19 +29,19 @@ pub record GroupFound (form : Form) (journal : List ℕ) (at : Spot) (last time 
   pub time_is : head.time ≡ time
   pub after_is : spot_after at head.len ≡ after
 
-items_are : (read : Items) (bad : Option ℕ) (at : Spot) (head : Head) (time : ℕ) (items : List Item) (after : Spot) → read.bad ≡ bad → group_or at head read bad ≡ Group time items after
+items_are : (read : Items) (bad : Option ℕ) (at : Spot) (head : RecordHead) (time : ℕ) (items : List Item) (after : Spot) → read.bad ≡ bad → group_or at head read bad ≡ Group time items after
     → (read ≡ record { good = items; bad = None }) × (head.time ≡ time) × (spot_after at head.len ≡ after)
 items_are read None at head time items after is e =
     let same : (head.time ≡ time) × (read.good ≡ items) × (spot_after at head.len ≡ after) = (cc, cc, cc) in
     ((λ i. record { good = same.1 i; bad = is i }), same.0, same.2)
 items_are read (Some place) at head time items after is e = absurd cc
 
-switch_is_none : (at : Spot) (head : Head) (set : Result (ℕ × Left) Bad) (time : ℕ) (items : List Item) (after : Spot) → switch_or at head set ≡ Group time items after → ⊥
+switch_is_none : (at : Spot) (head : RecordHead) (set : Result (ℕ × Left) Bad) (time : ℕ) (items : List Item) (after : Spot) → switch_or at head set ≡ Group time items after → ⊥
 switch_is_none at head (Ok set) time items after e = cc
 switch_is_none at head (Err bad) time items after e = cc
 
 module _ (form : Form) (sets : ℕ) (journal : List ℕ) (at : Spot) (last time : ℕ) (items : List Item) (after : Spot) where
-  by_kind : (head : Head) (left : Left) (group : Bool) → slice_index journal at.place ≡ 1 → record_head_at (length journal) at last (at_place (at.place + 1) (stretch (at.place + 1) 21 journal)) ≡ Ok (head, left) → nat_eq head.kind 1 ≡ group
+  by_kind : (head : RecordHead) (left : Left) (group : Bool) → slice_index journal at.place ≡ 1 → record_head_at (length journal) at last (at_place (at.place + 1) (stretch (at.place + 1) 21 journal)) ≡ Ok (head, left) → nat_eq head.kind 1 ≡ group
       → cond group (group_or at head (items_at form (at.place + 22) (stretch (at.place + 22) head.len journal)) (items_at form (at.place + 22) (stretch (at.place + 22) head.len journal)).bad) (switch_of sets journal at head) ≡ Group time items after
       → GroupFound form journal at last time items after
   by_kind head left true gate header kind e =
@@ -49,7 +49,7 @@ module _ (form : Form) (sets : ℕ) (journal : List ℕ) (at : Spot) (last time 
       record { gate = gate; head = head; left = left; header = header; kind = kind; read = are.0; time_is = are.1; after_is = are.2 }
   by_kind head left false gate header kind e = absurd (switch_is_none at head _ time items after e)
 
-  by_head : (read : Result (Head × Left) Bad) → slice_index journal at.place ≡ 1 → record_head_at (length journal) at last (at_place (at.place + 1) (stretch (at.place + 1) 21 journal)) ≡ read → record_or form sets journal at read ≡ Group time items after
+  by_head : (read : Result (RecordHead × Left) Bad) → slice_index journal at.place ≡ 1 → record_head_at (length journal) at last (at_place (at.place + 1) (stretch (at.place + 1) 21 journal)) ≡ read → record_or form sets journal at read ≡ Group time items after
       → GroupFound form journal at last time items after
   by_head (Ok head) gate header e = by_kind head.0 head.1 (nat_eq head.0.kind 1) gate header refl e
   by_head (Err bad) gate header e = absurd cc
@@ -73,15 +73,15 @@ found_group form sets journal at last time items after f =
 
 -- ---- gates that end a walk
 
-found_or : (form : Form) (sets : ℕ) (journal : List ℕ) (at : Spot) (read : Result (Head × Left) Bad) → record_or form sets journal at read ≡ End → ⊥
+found_or : (form : Form) (sets : ℕ) (journal : List ℕ) (at : Spot) (read : Result (RecordHead × Left) Bad) → record_or form sets journal at read ≡ End → ⊥
 found_or form sets journal at (Err bad) e = cc
 found_or form sets journal at (Ok head) e = by_kind (nat_eq head.0.kind 1) _ _ e
   where
-    not_group : (at : Spot) (head : Head) (read : Items) (bad : Option ℕ) → group_or at head read bad ≡ End → ⊥
+    not_group : (at : Spot) (head : RecordHead) (read : Items) (bad : Option ℕ) → group_or at head read bad ≡ End → ⊥
     not_group at head read None e = cc
     not_group at head read (Some place) e = cc
 
-    not_switch : (at : Spot) (head : Head) (set : Result (ℕ × Left) Bad) → switch_or at head set ≡ End → ⊥
+    not_switch : (at : Spot) (head : RecordHead) (set : Result (ℕ × Left) Bad) → switch_or at head set ≡ End → ⊥
     not_switch at head (Ok set) e = cc
     not_switch at head (Err bad) e = cc
 
@@ -102,7 +102,7 @@ shut_is_end form sets journal at last shut = rw (ne_eqb (slice_index journal at.
 -- ---- what a header says
 
 -- what was read as a header
-pub record HeadTaken (size : ℕ) (at : Spot) (last : ℕ) (left : Left) (head : Head) (next : Left) : Type 0 where
+pub record HeadTaken (size : ℕ) (at : Spot) (last : ℕ) (left : Left) (head : RecordHead) (next : Left) : Type 0 where
   pub takes : Takes left (record_header_spelling head.kind at.number head.time head.len) next
   pub kind : within 1 2 head.kind ≡ true
   pub number : at.number < 2 ^ 64 - 1
@@ -110,7 +110,7 @@ pub record HeadTaken (size : ℕ) (at : Spot) (last : ℕ) (left : Left) (head :
   pub stamp : head.time < 2 ^ 64
   pub fits : is_body_length size at head.kind head.len ≡ true
 
-pub head_takes : (size : ℕ) (at : Spot) (last : ℕ) (left : Left) (head : Head) (next : Left) → IsBytes left.bytes → record_head_at size at last left ≡ Ok (head, next) → HeadTaken size at last left head next
+pub head_takes : (size : ℕ) (at : Spot) (last : ℕ) (left : Left) (head : RecordHead) (next : Left) → IsBytes left.bytes → record_head_at size at last left ≡ Ok (head, next) → HeadTaken size at last left head next
 unfolding record_head_at
 head_takes size at last left head next fits e =
     let expected : ℕ → Bool = λ n. nat_eq n at.number && nat_lt n (2 ^ 64 - 1) in
@@ -128,7 +128,7 @@ head_takes size at last left head next fits e =
     let front2 = Takes-then left (one.0.0 ∷ []) one.0.1 (to_be_bytes w64 two.0.0) two.0.1 tag number.takes in
     let front3 = Takes-then left (one.0.0 ∷ to_be_bytes w64 two.0.0) two.0.1 (to_be_bytes w64 three.0.0) three.0.1 front2 time.takes in
     let whole = Takes-then left (one.0.0 ∷ to_be_bytes w64 two.0.0 ++ to_be_bytes w64 three.0.0) three.0.1 (to_be_bytes w32 four.0.0) four.0.1 front3 len.takes in
-    subst (λ (p : Head × Left). HeadTaken size at last left p.0 p.1) (given_is (record { kind = one.0.0; time = three.0.0; len = four.0.0 }, four.0.1) (head, next) four.2) (record {
+    subst (λ (p : RecordHead × Left). HeadTaken size at last left p.0 p.1) (given_is (record { kind = one.0.0; time = three.0.0; len = four.0.0 }, four.0.1) (head, next) four.2) (record {
       takes = subst (λ (n : ℕ). Takes left (record_header_spelling one.0.0 n three.0.0 four.0.0) four.0.1) number_is whole;
       kind = kind.kept;
       number = omega (arith, number_is, ltb-true two.0.0 (2 ^ 64 - 1) is.1);
@@ -138,7 +138,7 @@ head_takes size at last left head next fits e =
     })
 
 -- a group's body and the 24 bytes after it lie in the data set
-pub group_fits : (size : ℕ) (at : Spot) (head : Head) → nat_eq head.kind 1 ≡ true → is_body_length size at head.kind head.len ≡ true → (head.len ≤ most_body) × (at.place + 22 + head.len + 24 ≤ size)
+pub group_fits : (size : ℕ) (at : Spot) (head : RecordHead) → nat_eq head.kind 1 ≡ true → is_body_length size at head.kind head.len ≡ true → (head.len ≤ most_body) × (at.place + 22 + head.len + 24 ≤ size)
 group_fits size at head kind fits =
     let test = ap (λ (b : Bool). cond b (nat_le head.len most_body && nat_le (at.place + 22 + head.len + 24) size) (nat_eq head.len 2)) (sym kind) ∙ fits in
     let both = both_true (nat_le head.len most_body) (nat_le (at.place + 22 + head.len + 24) size) test in
@@ -200,7 +200,7 @@ groups_spelled form sets journal at after last time items fits e =
 -- how a switch was found at a spot
 record SwitchFound (sets : ℕ) (journal : List ℕ) (at : Spot) (last time : ℕ) (after : Spot) : Type 0 where
   gate : slice_index journal at.place ≡ 1
-  head : Head
+  head : RecordHead
   left : Left
   header : record_head_at (length journal) at last (at_place (at.place + 1) (stretch (at.place + 1) 21 journal)) ≡ Ok (head, left)
   kind : nat_eq head.kind 1 ≡ false
@@ -210,17 +210,17 @@ record SwitchFound (sets : ℕ) (journal : List ℕ) (at : Spot) (last time : �
   time_is : head.time ≡ time
   after_is : spot_in set at ≡ after
 
-switch_is : (at : Spot) (head : Head) (read : Result (ℕ × Left) Bad) (time : ℕ) (after : Spot) → switch_or at head read ≡ Switch time after
+switch_is : (at : Spot) (head : RecordHead) (read : Result (ℕ × Left) Bad) (time : ℕ) (after : Spot) → switch_or at head read ≡ Switch time after
     → (set : ℕ × Left) × (read ≡ Ok set) × (head.time ≡ time) × (spot_in set.0 at ≡ after)
 switch_is at head (Ok set) time after e = (set, refl, cc, cc)
 switch_is at head (Err bad) time after e = absurd cc
 
-group_is_none : (at : Spot) (head : Head) (read : Items) (bad : Option ℕ) (time : ℕ) (after : Spot) → group_or at head read bad ≡ Switch time after → ⊥
+group_is_none : (at : Spot) (head : RecordHead) (read : Items) (bad : Option ℕ) (time : ℕ) (after : Spot) → group_or at head read bad ≡ Switch time after → ⊥
 group_is_none at head read None time after e = cc
 group_is_none at head read (Some place) time after e = cc
 
 module _ (form : Form) (sets : ℕ) (journal : List ℕ) (at : Spot) (last time : ℕ) (after : Spot) where
-  by_kind_of : (head : Head) (left : Left) (group : Bool) → slice_index journal at.place ≡ 1 → record_head_at (length journal) at last (at_place (at.place + 1) (stretch (at.place + 1) 21 journal)) ≡ Ok (head, left) → nat_eq head.kind 1 ≡ group
+  by_kind_of : (head : RecordHead) (left : Left) (group : Bool) → slice_index journal at.place ≡ 1 → record_head_at (length journal) at last (at_place (at.place + 1) (stretch (at.place + 1) 21 journal)) ≡ Ok (head, left) → nat_eq head.kind 1 ≡ group
       → cond group (group_or at head (items_at form (at.place + 22) (stretch (at.place + 22) head.len journal)) (items_at form (at.place + 22) (stretch (at.place + 22) head.len journal)).bad) (switch_of sets journal at head) ≡ Switch time after
       → SwitchFound sets journal at last time after
   by_kind_of head left true gate header kind e = absurd (group_is_none at head (items_at form (at.place + 22) (stretch (at.place + 22) head.len journal)) _ time after e)
@@ -228,7 +228,7 @@ module _ (form : Form) (sets : ℕ) (journal : List ℕ) (at : Spot) (last time 
       let is = switch_is at head (number_at w16 (λ n. nat_eq n (next_set sets at.set)) (at_place (at.place + 22) (stretch (at.place + 22) 2 journal))) time after e in
       record { gate = gate; head = head; left = left; header = header; kind = kind; set = is.0.0; rest = is.0.1; read = is.1; time_is = is.2; after_is = is.3 }
 
-  by_head_of : (read : Result (Head × Left) Bad) → slice_index journal at.place ≡ 1 → record_head_at (length journal) at last (at_place (at.place + 1) (stretch (at.place + 1) 21 journal)) ≡ read → record_or form sets journal at read ≡ Switch time after
+  by_head_of : (read : Result (RecordHead × Left) Bad) → slice_index journal at.place ≡ 1 → record_head_at (length journal) at last (at_place (at.place + 1) (stretch (at.place + 1) 21 journal)) ≡ read → record_or form sets journal at read ≡ Switch time after
       → SwitchFound sets journal at last time after
   by_head_of (Ok head) gate header e = by_kind_of head.0 head.1 (nat_eq head.0.kind 1) gate header refl e
   by_head_of (Err bad) gate header e = absurd cc

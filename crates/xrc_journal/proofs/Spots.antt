@@ -11,7 +11,7 @@ use Rattle.crash_plant.specs.declared.spot.Spot.{Spot}
 use Rattle.xrc_journal.specs.declared.header.Header.{Header}
 use Rattle.xrc_journal.specs.declared.header.Header.TheVariants.{Group as GroupHeader, Switch as SwitchHeader}
 use Rattle.xrc_journal.specs.Items.{Item, Form}
-use Rattle.xrc_journal.specs.Records.{Found, Head, is_body_length, record_head_at, stretch, next_set, spot_in, switch_or, switch_of, group_of, walk_one}
+use Rattle.xrc_journal.specs.Records.{Found, RecordHead, is_body_length, record_head_at, stretch, next_set, spot_in, switch_or, switch_of, group_of, walk_one}
 use Rattle.xrc_journal.specs.Records.Found.{Switch, Damaged}
 use Rattle.xrc_edge.specs.Causes.{Rose}
 use Rattle.crash_plant.specs.declared.device.Device.{Device}
@@ -19,7 +19,7 @@ use Rattle.crash_plant.specs.Moments.{PlantState, on, Same}
 use Rattle.crash_plant.proofs.Steps.{works_on_trans}
 use Rattle.crash_plant.proofs.Behind.{same_after}
 use Rattle.xrc_journal.specs.declared.spot.Walked.{Walked}
-use Rattle.xrc_journal.specs.Bodies.{Held}
+use Rattle.xrc_journal.specs.Bodies.{BodyState}
 use Rattle.xrc_journal.specs.declared.spot.WalkError.{WalkError}
 use Rattle.xrc_journal.specs.declared.spot.WalkError.TheVariants.{Damaged as WalkDamaged, Fault as WalkFault}
 use Rattle.xrc_journal.specs.Answers.{header_of, group_at, switch_at, told_of, items_found, Finds, ReadsOnly, WalkCause}
@@ -28,7 +28,7 @@ use Rattle.xrc_journal.proofs.Steps.{number_step, number_cut}
 use Rattle.xrc_journal.proofs.RecordsAgain.{opened}
 
 -- the header at a spot
-abbrev pub header_at : (journal : List ℕ) → Spot → (last : ℕ) → Result (Head × Left) Bad
+abbrev pub header_at : (journal : List ℕ) → Spot → (last : ℕ) → Result (RecordHead × Left) Bad
 header_at journal at last = record_head_at (length journal) at last (at_place (at.place + 1) (stretch (at.place + 1) 21 journal))
 
 group_time : (t s : Stamp) (n m : ℕ) → (let x : Option Header = Some (GroupHeader t n) in let y : Option Header = Some (GroupHeader s m) in x ≡ y) → t ≡ s
@@ -38,7 +38,7 @@ switch_time : (t s : Stamp) → (let x : Option Header = Some (SwitchHeader t) i
 switch_time t s e = cc
 
 module _ (form : Form) (sets : ℕ) (journal : List ℕ) (at : Spot) (last : ℕ) (gate : slice_index journal at.place ≡ 1) where
-  group_kind : (head : Head) (left : Left) (group : Bool) (time : Stamp) (len : ℕ) → header_at journal at last ≡ Ok (head, left) → nat_eq head.kind 1 ≡ group
+  group_kind : (head : RecordHead) (left : Left) (group : Bool) (time : Stamp) (len : ℕ) → header_at journal at last ≡ Ok (head, left) → nat_eq head.kind 1 ≡ group
       → cond group (Some (GroupHeader (record { 0 = head.time }) head.len)) (Some (SwitchHeader (record { 0 = head.time }))) ≡ Some (GroupHeader time len) → walk_one form sets journal at last ≡ group_at form journal at time.0 len
   group_kind head left true time len is kind e =
       let t = ap (λ (s : Stamp). s.0) (group_time _ time _ len e) in
@@ -49,18 +49,18 @@ module _ (form : Form) (sets : ℕ) (journal : List ℕ) (at : Spot) (last : ℕ
   pub group_by : (time : Stamp) (len : ℕ) → header_of (header_at journal at last) ≡ Some (GroupHeader time len) → walk_one form sets journal at last ≡ group_at form journal at time.0 len
   group_by time len e = by_head (header_at journal at last) refl e
     where
-      by_head : (r : Result (Head × Left) Bad) → header_at journal at last ≡ r → header_of r ≡ Some (GroupHeader time len) → walk_one form sets journal at last ≡ group_at form journal at time.0 len
+      by_head : (r : Result (RecordHead × Left) Bad) → header_at journal at last ≡ r → header_of r ≡ Some (GroupHeader time len) → walk_one form sets journal at last ≡ group_at form journal at time.0 len
       by_head (Ok head) is e = group_kind head.0 head.1 (nat_eq head.0.kind 1) time len is refl e
       by_head (Err bad) is e = absurd cc
 
-  switch_kind : (head : Head) (left : Left) (group : Bool) (time : Stamp) → header_at journal at last ≡ Ok (head, left) → nat_eq head.kind 1 ≡ group
+  switch_kind : (head : RecordHead) (left : Left) (group : Bool) (time : Stamp) → header_at journal at last ≡ Ok (head, left) → nat_eq head.kind 1 ≡ group
       → cond group (Some (GroupHeader (record { 0 = head.time }) head.len)) (Some (SwitchHeader (record { 0 = head.time }))) ≡ Some (SwitchHeader time) → walk_one form sets journal at last ≡ switch_at sets journal at time.0
   switch_kind head left true time is kind e = absurd cc
   switch_kind head left false time is kind e =
       let t = ap (λ (s : Stamp). s.0) (switch_time _ time e) in
       opened form sets journal at last head left gate is ∙ ap (λ (b : Bool). cond b (group_of form journal at head) (switch_of sets journal at head)) kind ∙ switch_same head ∙ (λ i. switch_at sets journal at (t i))
     where
-      switch_same : (head : Head) → switch_of sets journal at head ≡ switch_at sets journal at head.time
+      switch_same : (head : RecordHead) → switch_of sets journal at head ≡ switch_at sets journal at head.time
       switch_same head = by_set (number_at w16 (λ n. nat_eq n (next_set sets at.set)) (at_place (at.place + 22) (stretch (at.place + 22) 2 journal)))
         where
           by_set : (r : Result (ℕ × Left) Bad) → switch_or at head r ≡ switch_or at (record { kind = 2; time = head.time; len = 2 }) r
@@ -70,11 +70,11 @@ module _ (form : Form) (sets : ℕ) (journal : List ℕ) (at : Spot) (last : ℕ
   pub switch_by : (time : Stamp) → header_of (header_at journal at last) ≡ Some (SwitchHeader time) → walk_one form sets journal at last ≡ switch_at sets journal at time.0
   switch_by time e = by_head (header_at journal at last) refl e
     where
-      by_head : (r : Result (Head × Left) Bad) → header_at journal at last ≡ r → header_of r ≡ Some (SwitchHeader time) → walk_one form sets journal at last ≡ switch_at sets journal at time.0
+      by_head : (r : Result (RecordHead × Left) Bad) → header_at journal at last ≡ r → header_of r ≡ Some (SwitchHeader time) → walk_one form sets journal at last ≡ switch_at sets journal at time.0
       by_head (Ok head) is e = switch_kind head.0 head.1 (nat_eq head.0.kind 1) time is refl e
       by_head (Err bad) is e = absurd cc
 
-  header_bad_by : (r : Result (Head × Left) Bad) → header_at journal at last ≡ r → header_of r ≡ None → walk_one form sets journal at last ≡ Damaged at.place []
+  header_bad_by : (r : Result (RecordHead × Left) Bad) → header_at journal at last ≡ r → header_of r ≡ None → walk_one form sets journal at last ≡ Damaged at.place []
   unfolding walk_one
   header_bad_by (Ok head) is e = absurd (some_kind (nat_eq head.0.kind 1) e)
     where
@@ -97,7 +97,7 @@ number_long w rule left n next e =
     let long : byte_len w ≤ length left.bytes = ltb-false (length left.bytes) (byte_len w) one.0 in
     omega (arith, long, length-drop (byte_len w) left.bytes, ap (λ (p : ℕ × Left). length p.1.bytes) two.1)
 
-pub header_long : (size : ℕ) (at : Spot) (last : ℕ) (left : Left) (head : Head × Left) → record_head_at size at last left ≡ Ok head → 21 ≤ length left.bytes
+pub header_long : (size : ℕ) (at : Spot) (last : ℕ) (left : Left) (head : RecordHead × Left) → record_head_at size at last left ≡ Ok head → 21 ≤ length left.bytes
 unfolding record_head_at
 header_long size at last left head e =
     let expected : ℕ → Bool = λ n. nat_eq n at.number && nat_lt n (2 ^ 64 - 1) in
@@ -110,7 +110,7 @@ header_long size at last left head e =
 pub cut_header : (journal : List ℕ) (at : Spot) (last : ℕ) → length journal < at.place + 22 → header_of (header_at journal at last) ≡ None
 cut_header journal at last short = by_head (header_at journal at last) refl
   where
-    by_head : (r : Result (Head × Left) Bad) → header_at journal at last ≡ r → header_of r ≡ None
+    by_head : (r : Result (RecordHead × Left) Bad) → header_at journal at last ≡ r → header_of r ≡ None
     by_head (Err bad) is = refl
     by_head (Ok head) is = absurd (omega (arith, short, header_long (length journal) at last (at_place (at.place + 1) (stretch (at.place + 1) 21 journal)) head is, length-take 21 (drop (at.place + 1) journal), length-drop (at.place + 1) journal))
 
@@ -158,13 +158,13 @@ reads_only_trans tells device a b c x y = record {
 
 -- ---- answers
 
-held_none : (held : Held) (items : List Item) → held.items ≡ [] → items ≡ [] → held ≡ record { items = items; room = held.room }
+held_none : (held : BodyState) (items : List Item) → held.items ≡ [] → items ≡ [] → held ≡ record { items = items; room = held.room }
 held_none held items empty none = let same = empty ∙ sym none in λ i. record { items = same i; room = held.room }
 
-pub finds_damaged : (set place : ℕ) (found : Found) (held : Held) → found ≡ Damaged place [] → held.items ≡ [] → Finds set found (Err (WalkDamaged set place)) held held
+pub finds_damaged : (set place : ℕ) (found : Found) (held : BodyState) → found ≡ Damaged place [] → held.items ≡ [] → Finds set found (Err (WalkDamaged set place)) held held
 finds_damaged set place found held is empty = record { told = sym (ap (λ (f : Found). told_of set f) is); held = held_none held (items_found found) empty (ap items_found is) }
 
-pub finds_switch : (set sets : ℕ) (journal : List ℕ) (at : Spot) (time : ℕ) (result : Result Walked WalkError) (held : Held) → result ≡ told_of set (switch_at sets journal at time) → held.items ≡ [] → Finds set (switch_at sets journal at time) result held held
+pub finds_switch : (set sets : ℕ) (journal : List ℕ) (at : Spot) (time : ℕ) (result : Result Walked WalkError) (held : BodyState) → result ≡ told_of set (switch_at sets journal at time) → held.items ≡ [] → Finds set (switch_at sets journal at time) result held held
 finds_switch set sets journal at time result held told empty = record { told = told; held = held_none held (items_found (switch_at sets journal at time)) empty (by_set (number_at w16 (λ n. nat_eq n (next_set sets at.set)) (at_place (at.place + 22) (stretch (at.place + 22) 2 journal)))) }
   where
     by_set : (r : Result (ℕ × Left) Bad) → items_found (switch_or at (record { kind = 2; time = time; len = 2 }) r) ≡ []

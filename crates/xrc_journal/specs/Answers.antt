@@ -15,9 +15,9 @@ use Rattle.xrc_journal.specs.declared.spot.Walked.{Walked}
 use Rattle.xrc_journal.specs.declared.spot.Walked.TheVariants.{End as WalkedEnd, Group as WalkedGroup, Switch as WalkedSwitch}
 use Rattle.xrc_journal.specs.declared.spot.WalkError.{WalkError}
 use Rattle.xrc_journal.specs.declared.spot.WalkError.TheVariants.{Damaged as WalkDamaged, Fault as WalkFault}
-use Rattle.xrc_journal.specs.Bodies.{Held}
+use Rattle.xrc_journal.specs.Bodies.{BodyState}
 use Rattle.xrc_journal.specs.Items.{Item, Form, item_spelling}
-use Rattle.xrc_journal.specs.Records.{Found, Head, is_body_length, stretch, next_set, group_or, switch_or}
+use Rattle.xrc_journal.specs.Records.{Found, RecordHead, is_body_length, stretch, next_set, group_or, switch_or}
 use Rattle.xrc_journal.specs.Reading.{items_at}
 
 -- the fields at their places
@@ -32,7 +32,7 @@ keeps_header size at last bytes =
     within 1 2 (slice_index bytes 0) && ((u64_in bytes 1 == at.number && nat_lt (u64_in bytes 1) (2 ^ 64 - 1)) && (nat_le last (u64_in bytes 9) && is_body_length size at (slice_index bytes 0) (u32_in bytes 17)))
 
 -- the times of a group and of a switch, and the length of a group's body
-abbrev pub header_of : Result (Head × Left) Bad → Option Header
+abbrev pub header_of : Result (RecordHead × Left) Bad → Option Header
 header_of (Ok head) = if head.0.kind == 1 then Some (GroupHeader (record { 0 = head.0.time }) head.0.len) else Some (SwitchHeader (record { 0 = head.0.time }))
 header_of (Err bad) = None
 
@@ -72,7 +72,7 @@ abbrev pub NoFault : Result Walked WalkError → Type 0
 NoFault result = (j : ℕ) → ¬ IsErrOf result (WalkFault j)
 
 -- What stands there was answered, and its items are held.
-pub record Finds (set : ℕ) (found : Found) (result : Result Walked WalkError) (old new : Held) : Type 0 where
+pub record Finds (set : ℕ) (found : Found) (result : Result Walked WalkError) (old new : BodyState) : Type 0 where
   pub told : result ≡ told_of set found
   pub held : new ≡ record { items = items_found found; room = old.room }
 

@@ -5,7 +5,7 @@ use Rattle.xrc_journal.specs.Items.Item.{Image, Delta, Pair, Gone}
 use Rattle.xrc_journal.specs.Reading.{Items, items_at}
 
 -- what a body holds
-pub record Held : Type 0 where
+pub record BodyState : Type 0 where
   pub items : List Item
   -- the most bytes that the items may have
   pub room : ℕ
@@ -15,7 +15,7 @@ abbrev pub items_of : List ℕ → List Item
 items_of bytes = (items_at anywhere 0 bytes).good
 
 -- what a buffer holds whose first bytes are used
-abbrev pub held_in : (used : ℕ) → (buffer : List ℕ) → Held
+abbrev pub held_in : (used : ℕ) → (buffer : List ℕ) → BodyState
 held_in used buffer = record { items = items_of (take used buffer); room = length buffer - 1 }
 
 -- The used bytes are the items of a group, all of them, and a closed gate stands behind them.
@@ -26,11 +26,11 @@ pub record HoldsItems (used : ℕ) (buffer : List ℕ) : Type 0 where
   pub spelled : take used buffer ≡ body_spelling (items_of (take used buffer))
 
 -- no items, in the same room
-abbrev pub without_items : Held → Held
+abbrev pub without_items : BodyState → BodyState
 without_items held = record { items = []; room = held.room }
 
 -- one item more, in the same room
-abbrev pub with_item : Item → Held → Held
+abbrev pub with_item : Item → BodyState → BodyState
 with_item item held = record { items = held.items ++ item ∷ []; room = held.room }
 
 -- whether an item of a row is among them
@@ -42,7 +42,7 @@ abbrev pub have_image : List Item → (device track : ℕ) → Bool
 have_image items device track = is_drawn (behind_all items none_earlier).drawn device track
 
 -- The item fits into the rest of the room.
-abbrev pub FitsInRoom : Held → Item → Type 0
+abbrev pub FitsInRoom : BodyState → Item → Type 0
 FitsInRoom held item = length (body_spelling held.items) + length (item_spelling item) ≤ held.room
 
 -- The bytes spell an item that may follow these.
@@ -52,7 +52,7 @@ pub record IsNextItem (items : List Item) (bytes : List ℕ) : Type 0 where
   pub spelled : bytes ≡ item_spelling item
 
 -- The item that the bytes spell was put behind these.
-abbrev pub PutsItem : (bytes : List ℕ) → (old new : Held) → Type 0
+abbrev pub PutsItem : (bytes : List ℕ) → (old new : BodyState) → Type 0
 PutsItem bytes old new = (item : Item) → IsTrue (is_item anywhere (behind_all old.items none_earlier) item) → bytes ≡ item_spelling item → new ≡ with_item item old
 
 -- ---- bytes of a body that is read
@@ -96,6 +96,6 @@ pub record GoodFront (form : Form) (bytes : List ℕ) (n : ℕ) : Type 0 where
   pub read : (place : ℕ) → items_at form place bytes ≡ record { good = items_of (take n bytes); bad = if n == length bytes then None else Some (place + n) }
 
 -- The good items were taken, and the first bad place given.
-pub record Takes (read : Items) (bad : Option ℕ) (old new : Held) : Type 0 where
+pub record Takes (read : Items) (bad : Option ℕ) (old new : BodyState) : Type 0 where
   pub items : new ≡ record { items = read.good; room = old.room }
   pub bad_is : bad ≡ read.bad

@@ -40,14 +40,14 @@ abbrev pub is_body_length : (size : ℕ) → Spot → (kind len : ℕ) → Bool
 is_body_length size at kind len = if kind == 1 then nat_le len most_body && nat_le (at.place + FRONT + len + SWITCH) size else len == 2
 
 -- kind, time and body length of a record
-pub record Head : Type 0 where
+pub record RecordHead : Type 0 where
   pub kind : ℕ
   pub time : ℕ
   pub len : ℕ
 
 -- The header of a record in a data set of so many bytes. The number is the expected one and isn't the last of all, and the
 -- time isn't below that of the record before.
-unfoldable pub record_head_at : (size : ℕ) → Spot → (last : ℕ) → Left → Result (Head × Left) Bad
+unfoldable pub record_head_at : (size : ℕ) → Spot → (last : ℕ) → Left → Result (RecordHead × Left) Bad
 record_head_at size at last left = do
   kind ← number_at w8 (within 1 2) left
   number ← number_at w64 (λ n. n == at.number && nat_lt n (2 ^ 64 - 1)) kind.1
@@ -76,25 +76,25 @@ spot_in set at = record { set = set; place = 0; number = at.number + 1 }
 abbrev pub stretch : (from count : ℕ) → List ℕ → List ℕ
 stretch from count bytes = take count (drop from bytes)
 
-abbrev pub group_or : Spot → Head → Items → Option ℕ → Found
+abbrev pub group_or : Spot → RecordHead → Items → Option ℕ → Found
 group_or at head items None = Group head.time items.good (spot_after at head.len)
 group_or at head items (Some place) = Damaged place items.good
 
 -- A switch to another set than the next is bad at its gate.
-abbrev pub switch_or : Spot → Head → Result (ℕ × Left) Bad → Found
+abbrev pub switch_or : Spot → RecordHead → Result (ℕ × Left) Bad → Found
 switch_or at head (Ok set) = Switch head.time (spot_in set.0 at)
 switch_or at head (Err bad) = Damaged at.place []
 
-abbrev pub group_of : Form → (journal : List ℕ) → Spot → Head → Found
+abbrev pub group_of : Form → (journal : List ℕ) → Spot → RecordHead → Found
 group_of form journal at head =
     let items = items_at form (at.place + FRONT) (stretch (at.place + FRONT) head.len journal) in
     group_or at head items items.bad
 
-abbrev pub switch_of : (sets : ℕ) → (journal : List ℕ) → Spot → Head → Found
+abbrev pub switch_of : (sets : ℕ) → (journal : List ℕ) → Spot → RecordHead → Found
 switch_of sets journal at head = switch_or at head (number_at w16 (λ n. n == next_set sets at.set) (record { place = at.place + FRONT; bytes = stretch (at.place + FRONT) 2 journal }))
 
 -- A bad header is bad at the gate.
-abbrev pub record_or : Form → (sets : ℕ) → (journal : List ℕ) → Spot → Result (Head × Left) Bad → Found
+abbrev pub record_or : Form → (sets : ℕ) → (journal : List ℕ) → Spot → Result (RecordHead × Left) Bad → Found
 record_or form sets journal at (Ok head) = if head.0.kind == 1 then group_of form journal at head.0 else switch_of sets journal at head.0
 record_or form sets journal at (Err bad) = Damaged at.place []
 

@@ -33,9 +33,9 @@ pub struct Body {
 }
 
 impl Model for Body {
-    ghost use Rattle.xrc_journal.specs.Bodies.{Held, HoldsItems, held_in};
+    ghost use Rattle.xrc_journal.specs.Bodies.{BodyState, HoldsItems, held_in};
 
-    ghost Value = { Held };
+    ghost Value = { BodyState };
 
     ghost view = { λ body. held_in body.used body.buffer.items.items };
 

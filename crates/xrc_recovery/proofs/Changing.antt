@@ -18,7 +18,7 @@ use Rattle.site_means.proofs.ReadAll.{reads_none}
 use Rattle.xrecover.specs.Pairs.{AreFaulty, duplex_devices, is_duplex}
 use Rattle.xrecover.specs.declared.labelling.Labelling.{Labelling}
 use Rattle.xrecover.specs.declared.labelling.Labelling.TheVariants.{AsPrimary, AsItIs}
-use Rattle.xrecover.specs.Redone.{BearsLabel, Draws, IsRedone, Recovers, Redone}
+use Rattle.xrecover.specs.RedoneVolumes.{BearsLabel, Draws, IsRedone, Recovers, Redone}
 use Rattle.xrecover.specs.Works.{Nothing, Works}
 use Rattle.xrecover.specs.Labels.{AreNamed, LabelsLast, TreatsLabels}
 use Rattle.xrecover.proofs.Labels.{keeps_same, keeps_then, last_before, named_still}

@@ -17,8 +17,8 @@ use Rattle.xrecover.specs.Answers.{IsRecoverable, IsGoodOrCalledFor}
 use Rattle.xrecover.specs.Answers as recovery
 use Rattle.xrecover.specs.Pairs.{AreFaulty}
 use Rattle.xrecover.specs.declared.labelling.Labelling.{Labelling}
-use Rattle.xrecover.specs.Redone.{Redone, meant_rows}
-use Rattle.xrecover.specs.Sees.{IsSettled, SeesSame}
+use Rattle.xrecover.specs.RedoneVolumes.{Redone, meant_rows}
+use Rattle.xrecover.specs.Sights.{IsSettled, SeesSame}
 use Rattle.xrecover.specs.Works.{Nothing, Works}
 use Rattle.xrecover.specs.Labels.{TreatsLabels}
 use Rattle.site_means.proofs.ReadAll.{reads_none}

@@ -11,8 +11,8 @@ use Rattle.crash_plant.specs.Calls.{Elapses, NoneRose, Says, WorksOnConsole}
 use Rattle.site_means.specs.Answers.{need}
 use Rattle.site_means.specs.Sight.{walked}
 use Rattle.xrecover.specs.declared.labelling.Labelling.{Labelling}
-use Rattle.xrecover.specs.Redone.{meant_rows}
-use Rattle.xrecover.specs.Sees.{SeesSame}
+use Rattle.xrecover.specs.RedoneVolumes.{meant_rows}
+use Rattle.xrecover.specs.Sights.{SeesSame}
 use Rattle.xrecover.specs.Works.{Nothing, Works}
 use Rattle.xrecover.proofs.Works.{rose_later}
 use Rattle.xrc_status.specs.declared.stop.Stop.{Stop}
@@ -288,7 +288,7 @@ ends_done tells labelling session a b v e = record {
   done = λ told is. e.done told;
   counts = λ is d here. e.counts d here (λ no. cc);
   failed = λ told is. absurd (omega (arith, is));
-  cut = λ told is. absurd (omega (arith, is));
+  in_part = λ told is. absurd (omega (arith, is));
   console_count = λ is. e.console_count (λ is. cc);
   console_once = e.console_once;
   once = e.once;
@@ -329,7 +329,7 @@ module _ (tells : Type 0) (labelling : Labelling) (session : List ℕ) (a b c : 
             let same = is_volume stop is in
             let f = e.failed told (ap (λ (s : Stop). Err s) same) in
             (f.0, f.1, report_then tells (last_line VolumeFault) a b c (subst (λ (s : Stop). SaysLast tells (last_line s) b c) same last) told labelling session f.0 ((e.changes.elapses told).kept Control).later counts f.2);
-        cut = λ told is.
+        in_part = λ told is.
             let same = is_console stop is in
             let f = e.stopped told (ap (λ (s : Stop). Err s) same) in
             (f.0, subst (λ (s : PlantState). Reports labelling session f.0 a s) (sym (quiet same)) f.1);

@@ -284,7 +284,7 @@ query_done tells session a b v e = record {
   stopped = λ other. absurd (other refl);
   complete = λ told site ready none. inl refl;
   done = λ told is. e.done told;
-  cut = λ told is. absurd (omega (arith, is));
+  in_part = λ told is. absurd (omega (arith, is));
   counts = λ is d. e.counts d (λ no. cc);
   console_count = λ is. e.console_count (λ no. cc);
   console_once = e.console_once;
@@ -319,7 +319,7 @@ module _ (tells : Type 0) (session : List ℕ) (a b c : PlantState) (stop : Stop
         };
         complete = λ told site ready none. inr (ap status_of (e.complete told site ready (none_before a b c o.faults counts last.later none)));
         done = λ told is. absurd (not_done stop is);
-        cut = λ told is.
+        in_part = λ told is.
             let same = is_console stop is in
             subst (λ (s : PlantState). SaysReport session a s) (sym (quiet same)) (e.stopped told (ap (λ (s : Stop). Err s) same));
         counts = λ is. absurd (not_done stop is);

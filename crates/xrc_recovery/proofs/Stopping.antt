@@ -15,7 +15,7 @@ use Rattle.xrecover.specs.declared.recover_error.RecoverError.{RecoverError}
 use Rattle.xrecover.specs.declared.recover_error.RecoverError.TheVariants.{Site, Other}
 use Rattle.xrecover.specs.Answers.{EndsLate, IsGoodOrCalledFor, IsMeant, IsOther, IsRecoverable, IsTooSmall}
 use Rattle.xrecover.specs.Pairs.{first_small}
-use Rattle.xrecover.specs.Redone.{meant_rows, rows_of}
+use Rattle.xrecover.specs.RedoneVolumes.{meant_rows, rows_of}
 use Rattle.xrc_status.specs.declared.stop.Stop.{Stop}
 use Rattle.xrc_status.specs.declared.stop.Stop.TheVariants.{NoMemory, BadWords, ConsoleFault, BadLine, JournalFault, ControlFault, StateFault, BadHeader, HeaderFault, NoSession, OtherSession, Damaged, VolumeFault, TooSmall, BadSite, Spent}
 use Rattle.xrc_recovery.specs.Stops.{CallsFor, HasRisen, StopsEarly, IsReady, stop_of}

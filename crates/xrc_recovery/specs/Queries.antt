@@ -84,7 +84,7 @@ pub record EndsQuery (tells : Type 0) (session : List ℕ) (old new : PlantState
   pub complete : tells → IsSite old → HasMeaning old session → NoneRose old new → (status ≡ 0) ⊎ (status ≡ 1)
   -- Done: the report of what the devices mean was said, and nothing else. Where the console failed it was said in part.
   pub done : tells → status ≡ 0 → SaysReportWhole session old new
-  pub cut : tells → status ≡ 3 → SaysReport session old new
+  pub in_part : tells → status ≡ 3 → SaysReport session old new
   -- Done, no count rose. No call on the console comes behind one that failed.
   pub counts : status ≡ 0 → (d : Device) → new.faults d ≡ old.faults d
   pub console_count : status ≡ 0 → new.console_faults ≡ old.console_faults

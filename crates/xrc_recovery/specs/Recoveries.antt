@@ -14,8 +14,8 @@ use Rattle.xrecover.specs.declared.recover_error.RecoverError.{RecoverError}
 use Rattle.xrecover.specs.declared.recover_error.RecoverError.TheVariants.{Site}
 use Rattle.xrecover.specs.Answers.{IsEarly, IsGoodOrCalledFor, IsRecoverable, TellsFaults}
 use Rattle.xrecover.specs.Pairs.{AreFaulty}
-use Rattle.xrecover.specs.Redone.{Recovers, Redone, meant_rows}
-use Rattle.xrecover.specs.Sees.{IsSettled, SeesSame}
+use Rattle.xrecover.specs.RedoneVolumes.{Recovers, Redone, meant_rows}
+use Rattle.xrecover.specs.Sights.{IsSettled, SeesSame}
 use Rattle.xrecover.specs.Works.{Nothing, Works}
 use Rattle.xrecover.specs.Labels.{TreatsLabels}
 use Rattle.xrc_status.specs.declared.stop.Stop.{Stop}

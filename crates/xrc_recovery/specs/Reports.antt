@@ -9,7 +9,7 @@ use Rattle.site_means.specs.declared.means.Means.{Means}
 use Rattle.site_means.specs.Sight.{walked}
 use Rattle.xrecover.specs.declared.labelling.Labelling.{Labelling}
 use Rattle.xrecover.specs.Pairs.{AreFaulty, is_duplex}
-use Rattle.xrecover.specs.Redone.{Redone}
+use Rattle.xrecover.specs.RedoneVolumes.{Redone}
 use Rattle.xrecover.specs.Answers.{IsRecoverable}
 use Rattle.xrc_status.specs.Saying.{SaidWhole}
 use Rattle.xrc_recovery.specs.Texts.{recovered_text}

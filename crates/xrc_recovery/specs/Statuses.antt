@@ -9,8 +9,8 @@ use Rattle.crash_plant.specs.Choices.{AllFollow}
 use Rattle.site_means.specs.Answers.{IsExamined, first_short, need}
 use Rattle.site_means.specs.Sight.{walked}
 use Rattle.xrecover.specs.declared.labelling.Labelling.{Labelling}
-use Rattle.xrecover.specs.Redone.{Recovers, meant_rows}
-use Rattle.xrecover.specs.Sees.{IsSettled, SeesSame}
+use Rattle.xrecover.specs.RedoneVolumes.{Recovers, meant_rows}
+use Rattle.xrecover.specs.Sights.{IsSettled, SeesSame}
 use Rattle.xrecover.specs.Works.{Nothing}
 use Rattle.xrecover.specs.Labels.{TreatsLabels}
 use Rattle.xrc_status.specs.declared.stop.Stop.{Stop}
@@ -72,7 +72,7 @@ pub record EndsRecovery (tells : Type 0) (labelling : Labelling) (session : List
   -- console failed it was said in part.
   pub done : tells → status ≡ 0 → ReportsAll labelling session [] old new
   pub failed : tells → status ≡ 13 → (failed : List ℕ) × (failed ≢ []) × ReportsThen labelling session failed (last_line VolumeFault) old new
-  pub cut : tells → status ≡ 3 → (failed : List ℕ) × Reports labelling session failed old new
+  pub in_part : tells → status ≡ 3 → (failed : List ℕ) × Reports labelling session failed old new
   -- Done, no count rose but those of volumes. No call on the console comes behind one that failed.
   pub counts : status ≡ 0 → (d : Device) → IsExamined d → new.faults d ≡ old.faults d
   pub console_count : status ≡ 0 → new.console_faults ≡ old.console_faults

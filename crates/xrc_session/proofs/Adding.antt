@@ -14,17 +14,17 @@ use Rattle.group_state.specs.Controls.{ControlState, begun_volume}
 use Rattle.group_state.specs.Groups.{control_at, with_control}
 use Rattle.group_state.specs.Machine.Call.{Carry}
 use Rattle.group_state.specs.Machine.Reply.{Made}
-use Rattle.group_state.specs.Sound.{passes_or_none}
+use Rattle.group_state.specs.SoundStates.{passes_or_none}
 use Rattle.group_state.proofs.VolumeLaws.{none_found}
-use Rattle.consistency.specs.Bears.{tracks_of_row}
-use Rattle.fed_logs.specs.Told.{is_settled_in, is_track_settled}
+use Rattle.consistency.specs.Stages.{tracks_of_row}
+use Rattle.fed_logs.specs.ToldTracks.{is_settled_in, is_track_settled}
 use Rattle.fed_logs.proofs.Keeping.{steps_keep}
 use Rattle.fed_logs.specs.Feeds.{truth_of}
 use Rattle.fed_logs.specs.Logs.{is_of_size}
 use Rattle.fed_logs.specs.Moves.{HasRowIn, IsDuplex}
-use Rattle.mover.specs.Told.{CarriedAsLive, held_by_choice, is_copied_to, is_mapped, is_owed, is_to_be_copied}
+use Rattle.mover.specs.OwedTracks.{CarriedAsLive, held_by_choice, is_copied_to, is_mapped, is_owed, is_to_be_copied}
 use Rattle.mover.proofs.Pairs.{among_of, contains_of}
-use Rattle.xrc_session.specs.BetweenEpochs.{Between, MayAdd, StandsBetween}
+use Rattle.xrc_session.specs.EpochPauses.{Between, MayAdd, StandsBetween}
 use Rattle.xrc_session.specs.CarriedLaws.{AddedRowsStand}
 use Rattle.xrc_session.proofs.Calls.{begin_itself, begin_other, keeps_begin}
 use Rattle.xrc_session.proofs.CarriedRows.{added_others, added_own, added_there, among_either}

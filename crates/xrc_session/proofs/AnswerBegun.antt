@@ -27,7 +27,7 @@ use Rattle.pair_table.specs.Refusals.{is_of_primary, refuses_command, refuses_fo
 use Rattle.pair_table.specs.Tables.{are_below, changed_row, in_state, is_of, none_clash, row_of}
 use Rattle.pair_table.proofs.StateLaws.{state_of_primary}
 use Rattle.group_state.specs.Groups.{Group}
-use Rattle.consistency.specs.Bears.{primaries_named, tracks_of_row, volumes_named}
+use Rattle.consistency.specs.Stages.{primaries_named, tracks_of_row, volumes_named}
 use Rattle.mover.proofs.Pairs.{Among, among_of, contains_of}
 use Rattle.xrc_session.specs.Answering.{ControlsCount}
 use Rattle.xrc_session.specs.CarriedLaws.{BegunControlsCount, FitsOn}

@@ -2,7 +2,7 @@
 use Rattle.std.proofs.Common.{◌≡◌, ◌≢◌, ℕ, Bool, true, List, [], Result, Ok, Err, refl, sym, ap, subst, true≢false}
 use Rattle.std.specs.Prelude.{IsErrOf}
 use Rattle.std.specs.List.{Contains}
-use Rattle.applier.specs.Back.{WorksOnLent}
+use Rattle.applier.specs.Returns.{WorksOnLent}
 use Rattle.applier.proofs.Works.{works_lent_more}
 use Rattle.crash_plant.specs.Moments.{PlantState}
 use Rattle.pair_table.specs.declared.command.Change.{Change}
@@ -14,7 +14,7 @@ use Rattle.record_rows.specs.Records.{rows_with_hits}
 use Rattle.xrc_command.specs.declared.line.Line.{Line}
 use Rattle.site_store.specs.declared.store_error.StoreError.{StoreError}
 use Rattle.site_store.specs.declared.store_error.StoreError.TheVariants.{Spent}
-use Rattle.site_store.specs.Between.{IsSiteIdle}
+use Rattle.site_store.specs.IdleSites.{IsSiteIdle}
 use Rattle.site_store.specs.Causes.{FailByCounts, HasStoreCause}
 use Rattle.site_store.specs.Changing.{LogsChange, changed_items}
 use Rattle.site_store.specs.Marking.{Marks}

@@ -18,7 +18,7 @@ use Rattle.group_state.specs.Groups.{Group}
 use Rattle.record_rows.specs.Hits.{hit_changes, hit_now, is_device_suspended, marked_changes, rows_hit}
 use Rattle.record_rows.specs.Records.{rows_with_hits}
 use Rattle.record_rows.proofs.Counting.{hits_count, marks_count, once}
-use Rattle.row_changes.specs.Toward.{hit_count}
+use Rattle.row_changes.specs.Spans.{hit_count}
 use Rattle.consistency.specs.Ways.{hits_stand}
 use Rattle.xrc_command.specs.declared.line.Line.{Line}
 use Rattle.xrc_journal.specs.Items.{Item}

@@ -6,12 +6,12 @@ use Rattle.std.proofs.lemmas.Bool.{le-leb}
 use Rattle.pair_table.specs.declared.row.PairRow.{PairRow}
 use Rattle.pair_table.specs.Tables.{is_of}
 use Rattle.row_changes.specs.Changes.{Due, Timed, may_end}
-use Rattle.row_changes.specs.Toward.{hit_count}
+use Rattle.row_changes.specs.Spans.{hit_count}
 use Rattle.xrc_command.specs.declared.line.Line.{Line}
 use Rattle.record_rows.specs.Hits.{due_behind_mark, hit_changes, hit_now, marked_changes, rows_marked}
 use Rattle.record_rows.specs.Records.{rows_with_hits}
 use Rattle.record_rows.proofs.HitRows.{hit_have_rows}
-use Rattle.consistency.specs.Bears.{IsTime, Run, Stage, accepts_end, breaks_of}
+use Rattle.consistency.specs.Stages.{IsTime, Run, Stage, accepts_end, breaks_of}
 use Rattle.consistency.specs.Bearing.{MayBeMeant}
 use Rattle.consistency.specs.Leads.{HitsLead, Point}
 use Rattle.consistency.specs.Ways.{HasCountedHits, IsAtWork, IsCommanding, IsLegOf, IsMarking, Leg, MayTakeEffect, Way, commanded_point, hits_stand, leg_to, stage_point, table_at}
@@ -20,7 +20,7 @@ use Rattle.consistency.proofs.Answering.{leg_behind_command}
 use Rattle.consistency.proofs.CountingHits.{command_is_counted, leg_is_counted, mark_is_counted}
 use Rattle.consistency.proofs.Leading.{leads_itself, leads_rise}
 use Rattle.consistency.proofs.Legs.{command_may_be_meant, leg_is_marked, leg_may_be_meant, mark_may_be_meant}
-use Rattle.mover.specs.Working.{Asked}
+use Rattle.mover.specs.Working.{LinesAsked}
 use Rattle.xrc_session.specs.Answering.{AreOfCommand, stage_then}
 use Rattle.xrc_session.specs.Answering.AreOfCommand.{OfCommand, BehindMark}
 use Rattle.xrc_session.proofs.AnswerAhead.{AreAhead, NextPoint, leg_behind, leg_next, passed_at, passed_by}
@@ -67,7 +67,7 @@ next_mark run l hit = record { point = mark_there run l hit; way = mark_by l hit
 
 -- ---- each comes next
 
-module _ (run : Run) (stage : Stage) (asked : Asked) (l : Leg) (line : Line) (leg : IsLegOf run stage l) (heard : stage.next ≡ Some line) (asked_is : asked l.answered ≡ Some line)
+module _ (run : Run) (stage : Stage) (asked : LinesAsked) (l : Leg) (line : Line) (leg : IsLegOf run stage l) (heard : stage.next ≡ Some line) (asked_is : asked l.answered ≡ Some line)
     (at_work : IsAtWork run asked l) (may : MayTakeEffect run line l) where
   goes : stage.table.is_ended ≡ false
   goes = sym leg.whole.leads.goes_on ∙ at_work.goes_on

@@ -23,15 +23,15 @@ use Rattle.site_store.specs.Changing.{changed_items}
 use Rattle.site_store.specs.Commands.{IsToLog, MayDo, behind_command}
 use Rattle.site_store.specs.Jobs.{has_device}
 use Rattle.site_store.specs.Sites.{SiteState}
-use Rattle.consistency.specs.Bears.{Run, Stage}
+use Rattle.consistency.specs.Stages.{Run, Stage}
 use Rattle.consistency.specs.Leads.{Point}
 use Rattle.consistency.specs.Ways.{Leg, PassedPoint}
 use Rattle.mover.specs.Moves.{IsOfMover, is_device_of_row, is_worked_on}
-use Rattle.mover.specs.Working.{Asked}
+use Rattle.mover.specs.Working.{LinesAsked}
 use Rattle.xrc_status.specs.declared.stop.Stop.{Stop}
 use Rattle.xrc_status.specs.declared.stop.Stop.TheVariants.{NoMemory, Spent}
 use Rattle.xrc_session.specs.Answering.{EndsCommand, IsDoneFrom, IsSiteBehind, IsSiteCommanded, MayAnswer, MayLogChange, answer_told, group_taken, is_end_accepted}
-use Rattle.xrc_session.specs.Between.{MayCommandSite, RisesCover}
+use Rattle.xrc_session.specs.LinePauses.{MayCommandSite, RisesCover}
 use Rattle.xrc_session.specs.Bringing.{IsWorkOfStore}
 use Rattle.xrc_session.specs.Frames.{SuspendsByCounts}
 use Rattle.xrc_session.specs.Stops.{HasStopCause, IsSpentNow}
@@ -126,7 +126,7 @@ module _ (tells : Type 0) (names : Naming) (line : Line) (site : SiteState) (pla
   }
 
   -- In each run the line is answered with the refusal.
-  pub refused_ends : (flag : site.mark.ended ≡ site.table.is_ended) (run : Run) (stage : Stage) (asked : Asked) (l : Leg) (first : Point) (points : List PassedPoint) (group : Option Group) (began : PlantState)
+  pub refused_ends : (flag : site.mark.ended ≡ site.table.is_ended) (run : Run) (stage : Stage) (asked : LinesAsked) (l : Leg) (first : Point) (points : List PassedPoint) (group : Option Group) (began : PlantState)
       → MayAnswer run stage line asked l first points names site group began plant → RisesCover run began plant
       → EndsCommand run stage line asked l first points site group began plant plant (Ok (record { answer = Err why; tracks = 0 }))
   refused_ends flag run stage asked l first points group began m cover = by_flag site.table.is_ended refl

@@ -2,7 +2,7 @@
 use Rattle.std.proofs.Common.{◌≡◌, ℕ, suc, ◌+◌, ◌≤◌, true, false, List, [], ◌∷◌, ◌++◌, Option, Some, None, Result, Ok, Err, sym, ap, subst, ◌∙◌, arith, true≢false}
 use Rattle.std.specs.Prelude.{fold}
 use Rattle.std.proofs.lemmas.Bool.{and_parts}
-use Rattle.applier.specs.Back.{WorksOnLent}
+use Rattle.applier.specs.Returns.{WorksOnLent}
 use Rattle.crash_plant.specs.declared.device.Device.{Device}
 use Rattle.crash_plant.specs.declared.device.Device.TheVariants.{Volume}
 use Rattle.crash_plant.specs.Calls.{Elapses, SameSite}
@@ -18,7 +18,7 @@ use Rattle.site_means.specs.Images.{shape_of}
 use Rattle.xrc_command.specs.declared.line.Line.{Line}
 use Rattle.site_store.specs.Sites.{SiteState}
 use Rattle.consistency.specs.Answering.{answered_by, points_before, reply_content, tracks_of_command}
-use Rattle.consistency.specs.Bears.{Run, Stage, accepts}
+use Rattle.consistency.specs.Stages.{Run, Stage, accepts}
 use Rattle.consistency.specs.Bearing.{ShowsPoint}
 use Rattle.consistency.specs.Courses.{stage_after}
 use Rattle.consistency.specs.Leads.{Point}
@@ -28,11 +28,11 @@ use Rattle.consistency.specs.Ways.{ComesBy, IsCommanding, IsEnding, IsLegOf, Leg
 use Rattle.consistency.specs.Ways.Way.{Commanded, Ending}
 use Rattle.consistency.proofs.Answering.{leg_behind_end}
 use Rattle.mover.specs.Moves.{IsOfMover}
-use Rattle.mover.specs.Working.{Asked}
+use Rattle.mover.specs.Working.{LinesAsked}
 use Rattle.xrc_status.specs.declared.stop.Stop.{Stop}
 use Rattle.xrc_session.specs.declared.answering.LineAnswer.{LineAnswer}
 use Rattle.xrc_session.specs.Answering.{AnswersCommands, AreOfCommand, EndsCommand, EndsMark, HasCommanded, HasMarked, IsMarkedSite, IsSiteCommanded, MarksOn, MayAnswer, MayEndBy, is_end_accepted, stage_then}
-use Rattle.xrc_session.specs.Between.{RisesCover}
+use Rattle.xrc_session.specs.LinePauses.{RisesCover}
 use Rattle.xrc_session.specs.declared.kept.Kept.{Kept}
 use Rattle.xrc_session.specs.Steps.{BeginsToPass, PassesPointsOn, TellsAnswer}
 use Rattle.xrc_session.specs.Trails.{AreHitsOfFaults}
@@ -42,7 +42,7 @@ use Rattle.xrc_session.proofs.AnswerEnds.{end_comes, ends_no_query, next_ended, 
 
 -- ---- in a run
 
-module _ (run : Run) (stage : Stage) (asked : Asked) (l : Leg) (first : Point) (points : List PassedPoint) (names : Naming) (line : Line) (group now : Option Group) (answered : LineAnswer) (tells : Type 0) (was site next : SiteState) (began old mid new : PlantState)
+module _ (run : Run) (stage : Stage) (asked : LinesAsked) (l : Leg) (first : Point) (points : List PassedPoint) (names : Naming) (line : Line) (group now : Option Group) (answered : LineAnswer) (tells : Type 0) (was site next : SiteState) (began old mid new : PlantState)
     (m : MayAnswer run stage line asked l first points names was group began old) (c : IsSiteCommanded tells names line answered.answer was site mid) (flag : was.mark.ended ≡ was.table.is_ended) (ends : is_end_accepted answered.answer ≡ true)
     (more : List PassedPoint) (passes : PassesPointsOn run stage asked l more None old mid) (h : HasCommanded run stage line asked l first points more answered site began mid now) where
   abbrev behind : Leg

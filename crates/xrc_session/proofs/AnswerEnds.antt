@@ -1,7 +1,7 @@
 -- An end that is accepted: its command, and the mark behind it.
 use Rattle.std.proofs.Common.{◌≡◌, inl, inr, ℕ, ◌≤◌, Bool, true, false, List, Option, Some, None, Result, Ok, Err, refl, sym, ap, subst, ◌∙◌, arith, true≢false}
 use Rattle.std.specs.Prelude.{IsErrOf, if◌then◌else◌, is_none}
-use Rattle.applier.specs.Back.{WorksOnLent}
+use Rattle.applier.specs.Returns.{WorksOnLent}
 use Rattle.applier.proofs.Works.{works_lent_trans}
 use Rattle.xrc_edge.specs.Causes.{Rose}
 use Rattle.crash_plant.specs.declared.device.Device.{Device}
@@ -21,7 +21,7 @@ use Rattle.pair_table.specs.Tables.{Table, with_rows}
 use Rattle.xrc_command.specs.declared.line.Line.{Line}
 use Rattle.site_store.specs.Records.{IsStore}
 use Rattle.site_store.specs.Sites.{SiteState}
-use Rattle.consistency.specs.Bears.{accepts}
+use Rattle.consistency.specs.Stages.{accepts}
 use Rattle.consistency.specs.Replying.{is_query}
 use Rattle.mover.specs.Moves.{IsOfMover}
 use Rattle.xrc_status.specs.declared.stop.Stop.{Stop}

@@ -20,7 +20,7 @@ use Rattle.xrc_status.specs.declared.stop.Stop.TheVariants.{NoMemory, Spent}
 use Rattle.xrc_session.specs.declared.answering.LineAnswer.{LineAnswer}
 use Rattle.xrc_session.specs.declared.kept.Kept.{Kept}
 use Rattle.xrc_session.specs.Answering.{AnswersCommands, EndsCommand, IsDoneFrom, IsSiteCommanded, LogsCommands, answer_told, change_result, group_taken}
-use Rattle.xrc_session.specs.Between.{MayCommandSite}
+use Rattle.xrc_session.specs.LinePauses.{MayCommandSite}
 use Rattle.xrc_session.specs.Bringing.{IsWorkOfStore}
 use Rattle.xrc_session.specs.Stops.{IsSpentNow}
 use Rattle.xrc_session.specs.Taking.{KeepsForRows}

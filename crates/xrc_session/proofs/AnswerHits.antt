@@ -12,18 +12,18 @@ use Rattle.pair_table.specs.Devices.{is_among}
 use Rattle.pair_table.specs.Tables.{is_of}
 use Rattle.row_changes.specs.Changes.{Due, Timed, are_hit, due_after_mark, is_of_mark, is_of_record}
 use Rattle.row_changes.specs.Changes.Due.{NoneDue}
-use Rattle.row_changes.specs.Toward.{all_broke, hit_count, is_hit_at}
+use Rattle.row_changes.specs.Spans.{all_broke, hit_count, is_hit_at}
 use Rattle.record_rows.specs.Hits.{due_behind_mark, hit_changes, hit_now, marked_changes, rows_hit, rows_marked}
 use Rattle.record_rows.specs.Records.{rows_with_hits}
 use Rattle.record_rows.proofs.Counting.{counts_append, hits_count, marks_count, once}
 use Rattle.record_rows.proofs.HitRows.{hit_have_rows}
-use Rattle.consistency.specs.Bears.{Run, Stage, breaks_of}
+use Rattle.consistency.specs.Stages.{Run, Stage, breaks_of}
 use Rattle.consistency.specs.Leads.{HitsLead, MarkedHitsLead, Point}
 use Rattle.consistency.specs.Ways.{HasCountedHits, IsLegOf, IsOnTheWay, Leg, are_at_time, hits_of_leg, leg_by, leg_to, stage_point}
 use Rattle.consistency.specs.Ways.Way.{Commanded, Ending, MarkedFor}
 use Rattle.consistency.proofs.Leading.{hits_whole, leads_itself}
 use Rattle.mover.specs.Moves.{most_faults}
-use Rattle.xrc_session.specs.Between.{RisesCover}
+use Rattle.xrc_session.specs.LinePauses.{RisesCover}
 use Rattle.xrc_session.specs.Trails.{AreHitsOfFaults}
 
 -- ---- what leads

@@ -27,24 +27,24 @@ use Rattle.site_store.specs.declared.store_error.StoreError.{StoreError}
 use Rattle.site_store.specs.Causes.{FailByCounts}
 use Rattle.site_store.specs.Changing.{DoesChange, LogsChange, MayChange, change_deeds_of, changed_items, table_with_hits, told_by_mark}
 use Rattle.site_store.specs.Commands.{excepted_by_change}
-use Rattle.site_store.specs.Doing.{BeginsDeeds, DoesDeeds, PassedDeed}
+use Rattle.site_store.specs.DoneDeeds.{BeginsDeeds, DoesDeeds, PassedDeed}
 use Rattle.site_store.specs.Exceptions.{Exceptions, excepted_behind}
 use Rattle.site_store.specs.Records.{VolumesStay}
 use Rattle.site_store.specs.Sites.{SiteState}
 use Rattle.site_store.specs.Standing.{Leaves, SiteStands}
 use Rattle.site_store.proofs.ChangeEnds.{told_is}
 use Rattle.site_store.proofs.Commanded.{commands_leave}
-use Rattle.consistency.specs.Bears.{Run, Stage, accepts_end, breaks_of, names_of}
+use Rattle.consistency.specs.Stages.{Run, Stage, accepts_end, breaks_of, names_of}
 use Rattle.consistency.specs.Bearing.{MayBeMeant, ShowsPoint}
 use Rattle.consistency.specs.Leads.{Point}
 use Rattle.consistency.specs.Replying.{is_query}
 use Rattle.consistency.specs.Steps.{names_at}
 use Rattle.consistency.specs.Ways.{HasCountedHits, hits_stand, IsAtWork, IsLegOf, Leg, MayTakeEffect, PassedPoint, Way, commanded_point, leg_after, leg_by, table_at}
 use Rattle.consistency.specs.Ways.Way.{OnTheWay}
-use Rattle.mover.specs.Working.{Asked}
+use Rattle.mover.specs.Working.{LinesAsked}
 use Rattle.xrc_session.specs.Answering.{AreOfCommand, IsDoneFrom, MayAnswer, stage_then}
-use Rattle.xrc_session.specs.Between.{GoesOnFrom, RisesCover, StandsForSite, site_point}
-use Rattle.xrc_session.specs.BetweenEpochs.{Between, StandsBetween}
+use Rattle.xrc_session.specs.LinePauses.{GoesOnFrom, RisesCover, StandsForSite, site_point}
+use Rattle.xrc_session.specs.EpochPauses.{Between, StandsBetween}
 use Rattle.xrc_session.specs.CarriedLaws.{FitsOn, IsWithoutEntries}
 use Rattle.xrc_session.specs.Frames.{ChangesRows}
 use Rattle.xrc_session.specs.Lanes.{sizes_of}
@@ -77,7 +77,7 @@ two_moments (t ∷ u ∷ v ∷ moments) count = absurd (omega (arith, count))
 -- ---- in a run
 
 -- A command's change is logged in a run: its site is one that did the command, and the run's session is there.
-pub record IsLoggedIn (tells : Type 0) (run : Run) (stage : Stage) (asked : Asked) (l : Leg) (first : Point) (points : List PassedPoint) (names : Naming) (line : Line) (change : Change) (was site next : SiteState) (began old new : PlantState) (g : Group) : Type 0 where
+pub record IsLoggedIn (tells : Type 0) (run : Run) (stage : Stage) (asked : LinesAsked) (l : Leg) (first : Point) (points : List PassedPoint) (names : Naming) (line : Line) (change : Change) (was site next : SiteState) (began old new : PlantState) (g : Group) : Type 0 where
   pub told : tells
   pub from : IsDoneFrom names line change was site old
   pub apart : none_clash was.told ≡ true
@@ -92,7 +92,7 @@ pub record IsLoggedIn (tells : Type 0) (run : Run) (stage : Stage) (asked : Aske
 
 -- A line's points were passed, with hits behind its command, up to the site's point.
 --   leg: the leg of the stage behind the line is there, if the command is no end that is accepted
-pub record IsLinePassed (run : Run) (stage : Stage) (line : Line) (asked : Asked) (l : Leg) (site : SiteState) (began old new : PlantState) : Type 0 where
+pub record IsLinePassed (run : Run) (stage : Stage) (line : Line) (asked : LinesAsked) (l : Leg) (site : SiteState) (began old new : PlantState) : Type 0 where
   pub more : List PassedPoint
   pub hits : List Timed
   pub passes : PassesPointsOn run stage asked l more None old new
@@ -102,7 +102,7 @@ pub record IsLinePassed (run : Run) (stage : Stage) (line : Line) (asked : Asked
   pub leg : accepts_end run (table_at run l.point) stage.next ≡ false → IsLegOf run (stage_then run stage line l hits) (fold leg_after l more)
   pub unhit : is_query line.command ≡ true → hits ≡ []
 
-module _ (tells : Type 0) (run : Run) (stage : Stage) (asked : Asked) (l : Leg) (first : Point) (points : List PassedPoint) (names : Naming) (line : Line) (change : Change) (was site next : SiteState) (began old new : PlantState) (g : Group)
+module _ (tells : Type 0) (run : Run) (stage : Stage) (asked : LinesAsked) (l : Leg) (first : Point) (points : List PassedPoint) (names : Naming) (line : Line) (change : Change) (was site next : SiteState) (began old new : PlantState) (g : Group)
     (h : IsLoggedIn tells run stage asked l first points names line change was site next began old new g) where
   abbrev cut : ℕ
   cut = line.time.0

@@ -7,30 +7,30 @@ use Rattle.crash_plant.specs.Moments.{PlantState}
 use Rattle.pair_table.specs.declared.level.Level.{Level}
 use Rattle.pair_table.specs.declared.row.PairRow.{PairRow}
 use Rattle.row_changes.specs.Changes.{Timed, may_end}
-use Rattle.row_changes.specs.Toward.{is_hit_at}
+use Rattle.row_changes.specs.Spans.{is_hit_at}
 use Rattle.record_rows.specs.Deeds.{Deed}
 use Rattle.record_rows.specs.Deeds.Deed.{Marked}
 use Rattle.record_rows.specs.Hits.{hit_changes, hit_now}
 use Rattle.site_means.specs.Images.{shape_of}
 use Rattle.xrc_command.specs.declared.line.Line.{Line}
 use Rattle.site_store.specs.declared.store_error.StoreError.{StoreError}
-use Rattle.site_store.specs.Between.{IsSiteIdle}
+use Rattle.site_store.specs.IdleSites.{IsSiteIdle}
 use Rattle.site_store.specs.Causes.{FailByCounts}
-use Rattle.site_store.specs.Doing.{DoesDeeds, PassedDeed}
+use Rattle.site_store.specs.DoneDeeds.{DoesDeeds, PassedDeed}
 use Rattle.site_store.specs.Marking.{DoesMark, Marks, rows_at_mark}
 use Rattle.site_store.specs.Sites.{SiteState}
-use Rattle.consistency.specs.Bears.{IsTime, Run, Stage, accepts_end, breaks_of}
+use Rattle.consistency.specs.Stages.{IsTime, Run, Stage, accepts_end, breaks_of}
 use Rattle.consistency.specs.Bearing.{MayBeMeant, ShowsPoint}
 use Rattle.consistency.specs.Leads.{HitsLead, Point}
 use Rattle.consistency.specs.Ways.{ComesBy, HasCountedHits, IsAtWork, IsCommanding, IsEnding, IsLegOf, IsToEnd, Leg, PassedPoint, Way, leg_after, leg_by, leg_to, table_at}
 use Rattle.consistency.specs.Ways.Way.{Commanded, Ending}
 use Rattle.consistency.proofs.CountingHits.{command_is_counted, end_is_counted, leg_is_counted}
 use Rattle.consistency.proofs.Legs.{command_may_be_meant, ending_may_be_meant, leg_is_hit, leg_may_be_meant}
-use Rattle.mover.specs.Working.{Asked}
+use Rattle.mover.specs.Working.{LinesAsked}
 use Rattle.xrc_session.specs.Answering.{EndsMark, IsMarkedAt, MayEndBy, way_of_mark}
 use Rattle.xrc_session.specs.Answering.IsMarkedAt.{IsOnWay, IsAtEnd}
-use Rattle.xrc_session.specs.Between.{RisesCover, site_point}
-use Rattle.xrc_session.specs.BetweenEpochs.{Between}
+use Rattle.xrc_session.specs.LinePauses.{RisesCover, site_point}
+use Rattle.xrc_session.specs.EpochPauses.{Between}
 use Rattle.xrc_session.specs.Frames.{ChangesRows}
 use Rattle.xrc_session.specs.Lanes.{sizes_of}
 use Rattle.xrc_session.specs.Resting.{ArePointsBehind, IsPointBehind, ShowsBefore}
@@ -74,7 +74,7 @@ told_are ended failed site = record { first = refl; behind = behind }
 -- ---- it comes next
 
 -- A mark's point comes next at a leg, may be meant, and each of its hits has a fault and comes at the leg's time.
-pub record IsMarkNext (run : Run) (stage : Stage) (asked : Asked) (l : Leg) (ended : Bool) (failed : List Bool) (site : SiteState) (began new : PlantState) : Type 0 where
+pub record IsMarkNext (run : Run) (stage : Stage) (asked : LinesAsked) (l : Leg) (ended : Bool) (failed : List Bool) (site : SiteState) (began new : PlantState) : Type 0 where
   pub line : ℕ
   pub comes : ComesBy run asked l (marked_point ended failed site) (way_of_mark ended line (marked_hits failed site))
   pub meant : MayBeMeant run stage (marked_point ended failed site)
@@ -83,7 +83,7 @@ pub record IsMarkNext (run : Run) (stage : Stage) (asked : Asked) (l : Leg) (end
   pub point : (leg_next l (marked_next ended line failed site)).point ≡ marked_point ended failed site
   pub are_hits : IsTrue (list_all (is_hit_at l.point.time) (marked_hits failed site))
 
-module _ (run : Run) (stage : Stage) (asked : Asked) (l : Leg) (failed : List Bool) (site : SiteState) (began old new : PlantState) (here : l.point ≡ site_point site) (of_run : IsSiteOfRun run site) (up : NoneFalls old new)
+module _ (run : Run) (stage : Stage) (asked : LinesAsked) (l : Leg) (failed : List Bool) (site : SiteState) (began old new : PlantState) (here : l.point ≡ site_point site) (of_run : IsSiteOfRun run site) (up : NoneFalls old new)
     (before : AreHitsOfFaults l began old) (cover : RisesCover run began new) (own : AreOfFaults (marked_hits failed site) old new) where
   -- The mark's hits lead to its point, but for the flag.
   lead : (flag : Bool) → l.point.is_ended ≡ flag → HitsLead run.level (breaks_of run) l.point (marked_point flag failed site) (marked_hits failed site)
@@ -183,7 +183,7 @@ module _ (run : Run) (stage : Stage) (asked : Asked) (l : Leg) (failed : List Bo
 -- ---- it is passed
 
 module _ (tells : Type 0) (told : tells) (site next : SiteState) (ended : Bool) (old new : PlantState) (idle : IsSiteIdle tells site old) (none : hit_now site.failed site.told ≡ []) (fails : FailByCounts site.failed next.failed old.faults new.faults)
-    (up : NoneFalls old new) (run : Run) (stage : Stage) (asked : Asked) (l : Leg) (began : PlantState) (may : MayEndBy run stage asked l ended site began old) (cover : RisesCover run began new) where
+    (up : NoneFalls old new) (run : Run) (stage : Stage) (asked : LinesAsked) (l : Leg) (began : PlantState) (may : MayEndBy run stage asked l ended site began old) (cover : RisesCover run began new) where
   abbrev b : Between
   b = record { run = run; size = sizes_of run.traces; excepted = may.rows.excepted; group = may.group; point = site_point site; done = may.rows.done }
 

@@ -19,7 +19,7 @@ use Rattle.site_means.specs.Images.{shape_of}
 use Rattle.xrc_command.specs.declared.line.Line.{Line}
 use Rattle.site_store.specs.Sites.{SiteState}
 use Rattle.consistency.specs.Answering.{answered_by, reply_content}
-use Rattle.consistency.specs.Bears.{Run, Stage, accepts_end, breaks_of, names_of}
+use Rattle.consistency.specs.Stages.{Run, Stage, accepts_end, breaks_of, names_of}
 use Rattle.consistency.specs.Bearing.{MayBeMeant, ShowsPoint}
 use Rattle.consistency.specs.Courses.{replied_after}
 use Rattle.consistency.specs.Leads.{LeadsWhole, Point}
@@ -29,11 +29,11 @@ use Rattle.consistency.specs.Ways.Way.{Commanded}
 use Rattle.consistency.proofs.CountingHits.{counted_through}
 use Rattle.consistency.proofs.Leading.{whole_itself}
 use Rattle.consistency.proofs.Legs.{ended_may_be_meant}
-use Rattle.mover.specs.Working.{Asked}
+use Rattle.mover.specs.Working.{LinesAsked}
 use Rattle.mover.proofs.Pairs.{among_of}
 use Rattle.xrc_session.specs.Answering.{EndsCommand, MayAnswer, stage_then}
 use Rattle.xrc_session.specs.Answering.AreOfCommand.{OfCommand}
-use Rattle.xrc_session.specs.Between.{GoesOnFrom, RisesCover, site_point}
+use Rattle.xrc_session.specs.LinePauses.{GoesOnFrom, RisesCover, site_point}
 use Rattle.xrc_session.specs.Steps.{BeginsToPass, PassesPointsOn}
 use Rattle.xrc_session.specs.Trails.{AreHitsOfFaults}
 use Rattle.xrc_session.proofs.AnswerAhead.{AreAhead, NextPoint, passed_at, passed_by}
@@ -58,7 +58,7 @@ refused_stays names table line why is = λ i. if is_none (is i) then accepted na
 none_resumed : (why : Refusal) (device : ℕ) → (let r : Result Change Refusal = Err why in r ≡ Ok (Resumed device)) → ⊥
 none_resumed why device is = cc
 
-module _ (run : Run) (stage : Stage) (line : Line) (asked : Asked) (l : Leg) (first : Point) (points : List PassedPoint) (names : Naming) (site : SiteState) (group : Option Group) (began plant : PlantState)
+module _ (run : Run) (stage : Stage) (line : Line) (asked : LinesAsked) (l : Leg) (first : Point) (points : List PassedPoint) (names : Naming) (site : SiteState) (group : Option Group) (began plant : PlantState)
     (m : MayAnswer run stage line asked l first points names site group began plant) (cover : RisesCover run began plant) (flag : site.mark.ended ≡ site.table.is_ended) where
   here : l.point ≡ site_point site
   here = m.at.here

@@ -15,19 +15,19 @@ use Rattle.row_changes.specs.Changes.{Timed, after_change, row_after_change}
 use Rattle.row_changes.specs.Changes.RowChange.{Hit}
 use Rattle.record_rows.specs.Hits.{hit_now, rows_hit}
 use Rattle.record_rows.specs.Records.{rows_with_hits}
-use Rattle.record_rows.specs.Told.{InPlaces}
+use Rattle.record_rows.specs.ToldRows.{InPlaces}
 use Rattle.site_means.specs.declared.means.Means.{Means}
 use Rattle.site_means.specs.Images.{shape_of}
 use Rattle.site_means.specs.Sight.{meant_by}
 use Rattle.xrc_command.specs.declared.line.Line.{Line}
-use Rattle.site_store.specs.Between.{IsSiteIdle}
+use Rattle.site_store.specs.IdleSites.{IsSiteIdle}
 use Rattle.site_store.specs.Exceptions.{Exceptions}
 use Rattle.site_store.specs.Marking.{Marks}
 use Rattle.site_store.specs.Records.{IsOfMark, IsOfRecord}
 use Rattle.site_store.specs.Sites.{SiteState, meant_for}
 use Rattle.site_store.specs.Standing.{Leaves, SiteStands, none_excepted}
 use Rattle.site_store.proofs.Between.{may_mark}
-use Rattle.consistency.specs.Bears.{Run, accepts_end, breaks_of, names_of}
+use Rattle.consistency.specs.Stages.{Run, accepts_end, breaks_of, names_of}
 use Rattle.consistency.specs.Bearing.{ShowsPoint}
 use Rattle.consistency.specs.Leads.{Point}
 use Rattle.consistency.specs.Steps.{names_at}

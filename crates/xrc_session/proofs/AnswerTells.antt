@@ -22,14 +22,14 @@ use Rattle.passages.specs.Points.{AreLinked}
 use Rattle.row_changes.specs.Changes.{Timed, after_changes}
 use Rattle.xrc_command.specs.declared.line.Line.{Line}
 use Rattle.consistency.specs.Answering.{is_command_of, points_before, tracks_of_command}
-use Rattle.consistency.specs.Bears.{Run, Stage, accepts, accepts_end, tracks_of_row}
+use Rattle.consistency.specs.Stages.{Run, Stage, accepts, accepts_end, tracks_of_row}
 use Rattle.consistency.specs.Leads.{Point}
 use Rattle.consistency.specs.Owing.{has_pair_in, is_same_state, owes_in, owes_track, tracks_asked, was_duplex}
 use Rattle.consistency.specs.Replying.{told_tracks}
 use Rattle.consistency.specs.Steps.{table_on_the_way}
 use Rattle.consistency.specs.Ways.{ComesBy, ComesNext, IsLegOf, Leg, PassedPoint, Way, leg_after, leg_by, table_at}
 use Rattle.consistency.specs.Ways.Way.{Commanded, MarkedFor, OnTheWay}
-use Rattle.mover.specs.Working.{Asked}
+use Rattle.mover.specs.Working.{LinesAsked}
 use Rattle.mover.proofs.Pairs.{Among}
 use Rattle.mover.proofs.Pairs.Among.{Here, Later}
 use Rattle.xrc_session.specs.Answering.{AreOfCommand}
@@ -169,7 +169,7 @@ asked_still run first points more rows time End apart same taken = refl
 
 -- ---- points before a line's command
 
-module _ (run : Run) (asked : Asked) (number : ℕ) (hits : List Timed) where
+module _ (run : Run) (asked : LinesAsked) (number : ℕ) (hits : List Timed) where
   cut_here : (n : PassedPoint) (rest : List PassedPoint) (P : PassedPoint → Type 0) → is_command_of number n.way ≡ true → All P (points_before number (n ∷ rest))
   cut_here n rest P is = subst (λ (b : Bool). All P (cond b [] (n ∷ points_before number rest))) (sym is) (All-nil P)
 

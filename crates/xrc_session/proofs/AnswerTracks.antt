@@ -28,11 +28,11 @@ use Rattle.group_state.specs.declared.volume.Volume.{Volume}
 use Rattle.group_state.specs.Volumes.{owed, owed_in, passes, volume_of}
 use Rattle.group_state.proofs.SoundLaws.{count_cons}
 use Rattle.record_rows.specs.Records.{rows_with_hits}
-use Rattle.record_rows.specs.Told.{InPlaces}
+use Rattle.record_rows.specs.ToldRows.{InPlaces}
 use Rattle.fed_logs.specs.Logs.{is_of_size}
 use Rattle.site_store.specs.Sites.{SiteState}
 use Rattle.consistency.specs.Answering.{tracks_of_command}
-use Rattle.consistency.specs.Bears.{Run, names_of, tracks_of_row}
+use Rattle.consistency.specs.Stages.{Run, names_of, tracks_of_row}
 use Rattle.consistency.specs.Leads.{Point}
 use Rattle.consistency.specs.Owing.{owes_track, tracks_asked, tracks_owed}
 use Rattle.consistency.specs.Replying.{told_tracks}
@@ -40,7 +40,7 @@ use Rattle.consistency.specs.Ways.{PassedPoint}
 use Rattle.mover.specs.Epochs.{IsSamePair}
 use Rattle.mover.proofs.Pairs.{Among, among_cases, contains_of, found_of_device}
 use Rattle.mover.proofs.Pairs.Among.{Here, Later}
-use Rattle.xrc_session.specs.Between.{GoesOnFrom}
+use Rattle.xrc_session.specs.LinePauses.{GoesOnFrom}
 use Rattle.xrc_session.specs.Taking.{KeepsForRows, MayTake, tracks_of_added, tracks_owed_to, tracks_to_copy}
 use Rattle.xrc_session.proofs.AnswerSites.{hits_in_places}
 use Rattle.xrc_session.proofs.CarriedRows.{among_either}

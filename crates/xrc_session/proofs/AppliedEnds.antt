@@ -11,7 +11,7 @@ use Rattle.site_means.specs.Images.{Shape}
 use Rattle.site_means.specs.Meaning.{meaning_in}
 use Rattle.site_means.specs.Sight.{walked, walked_by}
 use Rattle.site_means.proofs.Goes.{shape_same}
-use Rattle.consistency.specs.Bears.{Run, Stage}
+use Rattle.consistency.specs.Stages.{Run, Stage}
 use Rattle.consistency.specs.Courses.{Answered, replies_of, stage_at}
 use Rattle.consistency.proofs.Lines.{stage_front}
 use Rattle.consistency.proofs.Standing.{console_choice}

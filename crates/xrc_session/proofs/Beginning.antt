@@ -10,14 +10,14 @@ use Rattle.group_state.specs.declared.volume.Volume.{Volume}
 use Rattle.group_state.specs.Volumes.{passes, volume_of}
 use Rattle.group_state.specs.Controls.{ControlState, new_control}
 use Rattle.group_state.specs.Groups.{Group, control_at}
-use Rattle.group_state.specs.Sound.{passes_or_none}
-use Rattle.fed_logs.specs.Told.{AllHold, HeldTracks, is_track_settled}
+use Rattle.group_state.specs.SoundStates.{passes_or_none}
+use Rattle.fed_logs.specs.ToldTracks.{AllHold, HeldTracks, is_track_settled}
 use Rattle.fed_logs.specs.Feeds.{truth_of}
 use Rattle.fed_logs.specs.Logs.{is_of_size}
 use Rattle.fed_logs.specs.Moves.{HasRowIn, IsDuplex, IsLive}
-use Rattle.mover.specs.Told.{IsFailed, IsUnfailed, held_by_choice, is_volume_kept}
+use Rattle.mover.specs.OwedTracks.{IsFailed, IsUnfailed, held_by_choice, is_volume_kept}
 use Rattle.mover.proofs.Pairs.{Among, among_cases, among_of}
-use Rattle.xrc_session.specs.BetweenEpochs.{Between, MayBegin, StandsBetween}
+use Rattle.xrc_session.specs.EpochPauses.{Between, MayBegin, StandsBetween}
 use Rattle.xrc_session.specs.CarriedLaws.{FirstRowsStand}
 
 module _ (start : PlantState) (b : Between) (may : MayBegin start b) where

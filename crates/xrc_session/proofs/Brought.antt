@@ -19,7 +19,7 @@ use Rattle.mover.specs.Moves.{MoverWorks}
 use Rattle.mover.specs.Rounds.{AreLanesOf}
 use Rattle.xrc_status.specs.declared.stop.Stop.{Stop}
 use Rattle.xrc_session.specs.declared.kept.Kept.{Kept}
-use Rattle.xrc_session.specs.Between.{IsReadyForEpoch}
+use Rattle.xrc_session.specs.LinePauses.{IsReadyForEpoch}
 use Rattle.xrc_session.specs.Bringing.{IsSiteBrought}
 use Rattle.xrc_session.specs.Frames.{SuspendsByCounts}
 use Rattle.xrc_session.specs.Joins.{RestsAt}

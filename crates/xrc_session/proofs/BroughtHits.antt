@@ -8,11 +8,11 @@ use Rattle.pair_table.specs.declared.level.Level.{Level}
 use Rattle.pair_table.specs.declared.row.PairRow.{PairRow}
 use Rattle.group_state.specs.Runs.{Answer}
 use Rattle.row_changes.specs.Changes.{Due}
-use Rattle.row_changes.specs.Toward.{hit_count}
+use Rattle.row_changes.specs.Spans.{hit_count}
 use Rattle.record_rows.specs.Deeds.{rows_behind, rows_by_deed, time_by_deed}
 use Rattle.record_rows.specs.Hits.{hit_changes, hit_now, is_device_suspended, rows_marked, told_changes}
 use Rattle.record_rows.specs.GroupRows.{group_changes}
-use Rattle.record_rows.specs.Told.{due_after_changes}
+use Rattle.record_rows.specs.ToldRows.{due_after_changes}
 use Rattle.site_store.specs.DeedChanges.{AreByChanges, DeedOfChanges, changes_of, deeds_of}
 use Rattle.mover.specs.Moves.{AreHitsCounted, most_faults}
 use Rattle.mover.specs.Steps.{AreMade, IsDeedMade}

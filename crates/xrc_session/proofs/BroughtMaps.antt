@@ -10,7 +10,7 @@ use Rattle.record_rows.specs.Deeds.{rows_by_deed}
 use Rattle.passages.specs.Points.{last_point}
 use Rattle.site_store.specs.DeedChanges.{DeedOfChanges, deeds_of}
 use Rattle.site_store.specs.Sites.{SiteState}
-use Rattle.consistency.specs.Bears.{breaks_of}
+use Rattle.consistency.specs.Stages.{breaks_of}
 use Rattle.consistency.specs.Leads.{Point}
 use Rattle.consistency.specs.Ways.{PassedPoint}
 use Rattle.fed_logs.specs.Logs.{BeginsLog}
@@ -19,10 +19,10 @@ use Rattle.mover.specs.declared.lane.Lane.{Lane}
 use Rattle.mover.specs.Bearing.{IsEpochOf, RunSoFar}
 use Rattle.mover.specs.Epochs.{ReachedBy, point_of}
 use Rattle.mover.specs.Points.{point_behind, point_by, points_by}
-use Rattle.mover.specs.Silent.{all_silent, with_silent}
-use Rattle.mover.specs.Told.{CarriedAsLive, held_by_choice}
+use Rattle.mover.specs.SilentBreaks.{all_silent, with_silent}
+use Rattle.mover.specs.OwedTracks.{CarriedAsLive, held_by_choice}
 use Rattle.mover.proofs.Leading.{count_deeds}
-use Rattle.xrc_session.specs.Between.{site_point}
+use Rattle.xrc_session.specs.LinePauses.{site_point}
 use Rattle.mover.specs.Moves.{LogsEntriesOf}
 use Rattle.xrc_session.specs.MapsLaws.{ReachesLimit}
 use Rattle.xrc_session.specs.MapsOwed.{HasCutOrNoRow, HaveRowsOf, MapsOwed, MapsRest}

@@ -15,17 +15,17 @@ use Rattle.group_state.specs.Groups.{Group}
 use Rattle.group_state.specs.Runs.{Answer}
 use Rattle.row_changes.specs.Changes.{Timed}
 use Rattle.row_changes.specs.Changes.Due.{NoneDue}
-use Rattle.row_changes.specs.Toward.{hit_count, is_break}
+use Rattle.row_changes.specs.Spans.{hit_count, is_break}
 use Rattle.record_rows.specs.Deeds.{rows_behind, time_meant_behind}
 use Rattle.record_rows.proofs.Counting.{counts_append}
 use Rattle.passages.specs.Points.{last_point}
 use Rattle.site_means.specs.Images.{shape_of}
 use Rattle.xrc_command.specs.declared.line.Line.{Line}
 use Rattle.site_store.specs.DeedChanges.{DeedOfChanges, changes_of, deeds_of}
-use Rattle.site_store.specs.Doing.{DoesDeeds}
+use Rattle.site_store.specs.DoneDeeds.{DoesDeeds}
 use Rattle.site_store.specs.Exceptions.{Exceptions}
 use Rattle.site_store.specs.Sites.{SiteState}
-use Rattle.consistency.specs.Bears.{Run, Stage, breaks_of}
+use Rattle.consistency.specs.Stages.{Run, Stage, breaks_of}
 use Rattle.consistency.specs.Bearing.{MayBeMeant, ShowsPoint}
 use Rattle.consistency.specs.Leads.{Point}
 use Rattle.consistency.specs.Ways.{IsAtWork, IsLegOf, Leg, MayTakeEffect, PassedPoint, hits_of_leg, is_ending, last_answered, leg_after, leg_to}
@@ -40,8 +40,8 @@ use Rattle.mover.specs.Bearing.{IsEpochOf, IsForLine, PassesOn, RunSoFar, Stands
 use Rattle.mover.specs.Epochs.{AllTurnOut, AreStepsOf, EpochGoes, ReachedBy, end_result, point_of}
 use Rattle.mover.specs.Moves.{Did, IsLeftBehind, MoverWorks, most_faults}
 use Rattle.mover.specs.Points.{point_behind, point_by, points_by}
-use Rattle.mover.specs.Silent.{all_silent, with_silent}
-use Rattle.mover.specs.Working.{Asked, IsOnItsWay, PassesPoints, StandsForRows, Work, WorkBegins, last_point_of, named_steps}
+use Rattle.mover.specs.SilentBreaks.{all_silent, with_silent}
+use Rattle.mover.specs.Working.{LinesAsked, IsOnItsWay, PassesPoints, StandsForRows, Work, WorkBegins, last_point_of, named_steps}
 use Rattle.mover.proofs.Bearing.{leg_there}
 use Rattle.mover.proofs.EarlyBreaks.{made_early, named_early}
 use Rattle.mover.proofs.EpochGoing.{none_waits}
@@ -50,7 +50,7 @@ use Rattle.mover.proofs.EpochWork.{epochs_bear, steps_are, work, work_begins}
 use Rattle.mover.proofs.Leading.{count_deeds, fewer_hits, flag_there, rows_there, silent_points, time_there}
 use Rattle.mover.proofs.LogParts.{contains_filtered}
 use Rattle.mover.proofs.Passing.{done_deeds_pass_points, points_are_on_the_way}
-use Rattle.xrc_session.specs.Between.{GoesOnFrom, RisesCover, StandsForSite, site_point}
+use Rattle.xrc_session.specs.LinePauses.{GoesOnFrom, RisesCover, StandsForSite, site_point}
 use Rattle.xrc_session.specs.MapsOwed.{MapsOwed, MapsRest}
 use Rattle.xrc_session.specs.Frames.{rows_passed}
 use Rattle.xrc_session.specs.Lanes.{sizes_of}
@@ -91,7 +91,7 @@ pub record IsInRun {S : Type 0} (tells : Type 0) (left : S → Option (List ℕ)
   pub run : Run
   pub stage : Stage
   pub line : Line
-  pub asked : Asked
+  pub asked : LinesAsked
   pub leg : Leg
   pub first : Point
   pub points : List PassedPoint

@@ -10,13 +10,13 @@ use Rattle.group_state.specs.declared.volume.Volume.{Volume}
 use Rattle.group_state.specs.Volumes.{begun, dropped_volume, has_volume, passes, resumed_volume, volume_of, wants, with_volume}
 use Rattle.group_state.specs.Controls.{ControlState, begun_volume, dropped, forgotten, new_control, resumed}
 use Rattle.group_state.specs.Groups.{Group, control_at, with_control}
-use Rattle.group_state.specs.Sound.{KeepsGroup, MayCarry, are_distinct, is_dropped}
+use Rattle.group_state.specs.SoundStates.{KeepsGroup, MayCarry, are_distinct, is_dropped}
 use Rattle.group_state.proofs.Kept.{KeepsOne, kept_call, keeps_begun, keeps_dropped, keeps_forgotten, keeps_resumed}
 use Rattle.group_state.proofs.SoundLaws.{all_filter}
 use Rattle.group_state.proofs.VolumeLaws.{Keeps, found_behind, found_with, found_without}
 use Rattle.fed_logs.specs.Logs.{IsPlanDone}
 use Rattle.fed_logs.proofs.Standing.{at_with}
-use Rattle.mover.specs.Told.{is_copied_to, is_mapped, is_owed, is_volume_kept}
+use Rattle.mover.specs.OwedTracks.{is_copied_to, is_mapped, is_owed, is_volume_kept}
 use Rattle.mover.proofs.Copying.{kept_behind_drop}
 use Rattle.xrc_session.proofs.CarriedRows.{IsOther}
 

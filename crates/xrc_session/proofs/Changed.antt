@@ -18,11 +18,11 @@ use Rattle.pair_table.proofs.FindLaws.{all-snoc}
 use Rattle.group_state.specs.Groups.{Group, control_at}
 use Rattle.group_state.specs.Machine.{group_after}
 use Rattle.group_state.specs.Machine.Call.{Carry, Drop}
-use Rattle.group_state.specs.Sound.{MayCarry}
+use Rattle.group_state.specs.SoundStates.{MayCarry}
 use Rattle.record_rows.specs.Hits.{is_device_suspended}
 use Rattle.fed_logs.specs.Logs.{IsPlanDone}
 use Rattle.fed_logs.specs.Moves.{Plans, plans_without}
-use Rattle.xrc_session.specs.BetweenEpochs.{Between, StandsBetween}
+use Rattle.xrc_session.specs.EpochPauses.{Between, StandsBetween}
 use Rattle.xrc_session.specs.CarriedLaws.{FitsOn, TakenRowsStand}
 use Rattle.xrc_session.specs.Taking.{IfAdds, KeepsForRows, MayTake, calls_of_change}
 use Rattle.xrc_session.proofs.Adding.{added_rows_stand}

@@ -35,7 +35,7 @@ use Rattle.group_state.specs.Groups.{Group, control_at}
 use Rattle.row_changes.specs.Changes.{hit_row, reached_row, since}
 use Rattle.record_rows.specs.Hits.{hit_now, is_by_device, is_device_suspended, is_down}
 use Rattle.record_rows.specs.Records.{rows_with_hits}
-use Rattle.record_rows.specs.Told.{InPlaces}
+use Rattle.record_rows.specs.ToldRows.{InPlaces}
 use Rattle.record_rows.proofs.Devices.{apart_first, apart_in_map, apart_of, devices_apart, found_in_map, none_at, row_at_place}
 use Rattle.record_rows.proofs.HitRows.{among_hit, held, hit_is_told, told_row, told_rows}
 use Rattle.mover.proofs.Pairs.{Among, among_of, contains_of, found_of_device}

@@ -8,7 +8,7 @@ use Rattle.crash_plant.specs.declared.device.Device.{Device}
 use Rattle.crash_plant.specs.declared.device.Device.TheVariants.{Control, Journal, State, Volume}
 use Rattle.crash_plant.specs.Calls.{Elapses, SameSite, WorksOnConsole}
 use Rattle.crash_plant.specs.Choices.{AtNow, Choice, IsChoice}
-use Rattle.crash_plant.specs.Moments.{IsDurable, Kept, PlantState, Same, Standing, Stays, on}
+use Rattle.crash_plant.specs.Moments.{IsDurable, SamePast, PlantState, Same, Standing, Stays, on}
 use Rattle.crash_plant.proofs.Choices.{part_before}
 use Rattle.crash_plant.proofs.Steps.{follows_then, none_lent_console}
 use Rattle.pair_table.specs.declared.row.PairRow.{PairRow}
@@ -19,7 +19,7 @@ use Rattle.site_means.specs.Meaning.{chosen_in, meaning_in}
 use Rattle.site_means.proofs.Goes.{shape_same}
 use Rattle.xrc_command.specs.declared.line.Line.{Line}
 use Rattle.group_state.specs.Groups.{Group}
-use Rattle.site_store.specs.Between.{IsSiteIdle}
+use Rattle.site_store.specs.IdleSites.{IsSiteIdle}
 use Rattle.site_store.specs.Commands.{LabelsFit, label_has_volume}
 use Rattle.site_store.specs.Exceptions.{Exceptions}
 use Rattle.site_store.specs.Sites.{SiteState, has_failed}
@@ -27,20 +27,20 @@ use Rattle.site_store.specs.Standing.{AreApplied, FitsPlant, MayRecord, SiteStan
 use Rattle.site_store.proofs.MarkFits.{lengths_still, site_fits}
 use Rattle.site_store.proofs.Seeing.{same_content}
 use Rattle.consistency.specs.Bearing.{ShowsPoint}
-use Rattle.consistency.specs.Bears.{Run, Stage}
+use Rattle.consistency.specs.Stages.{Run, Stage}
 use Rattle.consistency.specs.Courses.{Answered, replies_of, texts_of}
 use Rattle.consistency.specs.Leads.{Point}
 use Rattle.consistency.specs.Ways.{IsLegOf, Leg, PassedPoint}
 use Rattle.consistency.proofs.Standing.{console_choice}
 use Rattle.fed_logs.specs.Logs.{BeginsLog, Sizes}
 use Rattle.fed_logs.specs.Moves.{Plans}
-use Rattle.fed_logs.specs.Told.{HeldTracks}
+use Rattle.fed_logs.specs.ToldTracks.{HeldTracks}
 use Rattle.mover.specs.declared.lane.Lane.{Lane}
 use Rattle.mover.specs.Epochs.{MayBeginEpoch}
-use Rattle.mover.specs.Told.{held_by_choice, held_of_row, is_row_of_volume}
+use Rattle.mover.specs.OwedTracks.{held_by_choice, held_of_row, is_row_of_volume}
 use Rattle.mover.specs.Working.{StandsForRows}
-use Rattle.xrc_session.specs.Between.{GoesOnFrom, HasNotBegun, IsAtSite, IsBetween, IsReadyForEpoch, IsUnderWay, IsUnstarted, LeavesAll, MayCommandSite, RestsAtSite, StandsAtLeg, StandsBehindLines, StandsForSite, site_point}
-use Rattle.xrc_session.specs.BetweenEpochs.{Between, StandsBetween}
+use Rattle.xrc_session.specs.LinePauses.{GoesOnFrom, HasNotBegun, IsAtSite, IsBetween, IsReadyForEpoch, IsUnderWay, IsUnstarted, LeavesAll, MayCommandSite, RestsAtSite, StandsAtLeg, StandsBehindLines, StandsForSite, site_point}
+use Rattle.xrc_session.specs.EpochPauses.{Between, StandsBetween}
 use Rattle.xrc_session.specs.Frames.{ChangesRows, rows_passed}
 use Rattle.xrc_session.specs.Lanes.{sizes_of}
 use Rattle.xrc_session.specs.States.{SessionState}
@@ -51,7 +51,7 @@ use Rattle.xrc_session.proofs.Trails.{forth_heard, goes_forth_said, next_heard}
 -- ---- devices that are left alone
 
 -- A device that was left alone is left alone by further calls.
-pub stays_then : (a b c : Standing) → a.clock ≤ b.clock → Stays a b → Kept b c → Stays b c → Stays a c
+pub stays_then : (a b c : Standing) → a.clock ≤ b.clock → Stays a b → SamePast b c → Stays b c → Stays a c
 stays_then a b c later x k y = record {
   bytes = y.bytes ∙ x.bytes;
   images = follows_then a b c Same Same Same later x.images k y.images (λ p q here e. e) (λ p q r here there e more. more ∙ e);
@@ -158,13 +158,13 @@ module _ (tells : Type 0) (old new : PlantState) (works : WorksOnConsole tells o
       begins = way.begins;
       rowless = way.rowless;
       next = way.next;
-      forth = λ up. by_past (cases_lt 0 old.clock) up;
+      goes_forth = λ up. by_past (cases_lt 0 old.clock) up;
       at = at_leg_on run stage (last_leg run lines trail) site began way.at;
       goes_on = λ on. some_goes_on run (first_leg run lines trail).point trail.points site s.group (way.goes_on on);
     }
       where
         by_past : (0 < old.clock) ⊎ (old.clock ≤ 0) → 0 < new.clock → GoesForth run lines stage.next trail None began new
-        by_past (inl past) up = goes_forth_said run lines stage.next trail began old new works.site (works.elapses told) past (way.forth past) tells told works
+        by_past (inl past) up = goes_forth_said run lines stage.next trail began old new works.site (works.elapses told) past (way.goes_forth past) tells told works
         by_past (inr none) up = let still = ((works.elapses told).kept Control).still (omega (arith, none)) in absurd (omega (arith, up, still))
 
     -- What a session has come to behind its lines stays as it is.
@@ -263,7 +263,7 @@ behind_heard run lines stage heard trail s began now all said stands = record { 
             begins = way.begins;
             rowless = way.rowless;
             next = next_heard run lines trail stage.next heard rests.rest.marked up way.next;
-            forth = λ past. forth_heard run lines trail stage.next heard began now rests.rest.marked up all said (way.forth past);
+            goes_forth = λ past. forth_heard run lines trail stage.next heard began now rests.rest.marked up all said (way.goes_forth past);
             at = record { here = way.at.here; shows = way.at.shows; leg = leg_heard run stage heard (last_leg run lines trail) way.at.leg; counted = way.at.counted };
             goes_on = way.goes_on;
           };

@@ -7,8 +7,8 @@ use Rattle.pair_table.specs.Commands.{accepted}
 use Rattle.pair_table.specs.Refusals.{refusal}
 use Rattle.pair_table.specs.Tables.{Table}
 use Rattle.row_changes.specs.Changes.{Timed}
-use Rattle.row_changes.specs.Toward.{AreCounted}
-use Rattle.consistency.specs.Bears.{Run, Stage, breaks_of, names_of}
+use Rattle.row_changes.specs.Spans.{AreCounted}
+use Rattle.consistency.specs.Stages.{Run, Stage, breaks_of, names_of}
 use Rattle.consistency.specs.Courses.{Answered, IsAnswered, IsCourse, is_whole_line, last_line_time, next_line, stage_after, stage_at, texts_of}
 use Rattle.consistency.specs.Keeping.{stage_now}
 use Rattle.consistency.specs.Steps.{is_active, names_at, table_on_the_way}

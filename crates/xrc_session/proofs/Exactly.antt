@@ -19,7 +19,7 @@ use Rattle.tod_stamp.specs.Stamps.{stamp_text}
 use Rattle.tod_stamp.specs.declared.stamp.Stamp.{Stamp}
 use Rattle.xrc_command.specs.declared.line.Line.{Line}
 use Rattle.consistency.specs.Answering.{ReplyContent, points_before, reply_content, tracks_of_command}
-use Rattle.consistency.specs.Bears.{Run, Stage, breaks_of, names_of}
+use Rattle.consistency.specs.Stages.{Run, Stage, breaks_of, names_of}
 use Rattle.consistency.specs.Courses.{Answered, IsCourse, stage_at}
 use Rattle.consistency.specs.Leads.{Point}
 use Rattle.consistency.specs.Replying.{IsExact, own_line, reply_text, report_before, told_tracks}
@@ -27,7 +27,7 @@ use Rattle.consistency.specs.Steps.{names_at, table_on_the_way}
 use Rattle.consistency.specs.Ways.{Leg, PassedPoint, leg_after, leg_at}
 use Rattle.passages.specs.Points.{last_point}
 use Rattle.consistency.proofs.Lines.{at_or_last, same_some, stage_front}
-use Rattle.mover.specs.Working.{Asked}
+use Rattle.mover.specs.Working.{LinesAsked}
 use Rattle.xrc_session.specs.Trails.{AreExact, AreNext, IsExactBy, BeginsAtStart, Trail, asked_with, first_leg, last_leg, with_points}
 use Rattle.xrc_session.proofs.Asked.{later_points}
 use Rattle.xrc_session.proofs.Courses.{unstarted_before}

@@ -17,7 +17,7 @@ use Rattle.pair_table.specs.Tables.{in_state, is_of}
 use Rattle.pending_queue.specs.Groups.{FormedGroup}
 use Rattle.row_changes.specs.Changes.{RowChange, Timed, after_change, after_changes, hit_row, reached_row, row_after_change, since}
 use Rattle.row_changes.specs.Changes.RowChange.{Break, Hit, MarkedHit, Mature, Reached}
-use Rattle.row_changes.specs.Toward.{hit_count, hits}
+use Rattle.row_changes.specs.Spans.{hit_count, hits}
 use Rattle.record_rows.proofs.Counting.{counts_append}
 use Rattle.record_rows.specs.GroupRows.{breaking, group_changes, is_shown_done, matured_by, matured_state, maturing, maturing_of, shown_break}
 use Rattle.record_rows.specs.Hits.{hit_changes, is_device_suspended, marked_changes, told_changes}

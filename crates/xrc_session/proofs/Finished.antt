@@ -33,16 +33,16 @@ use Rattle.site_store.specs.Sites.{SiteState, has_failed}
 use Rattle.site_store.specs.Standing.{SiteStands}
 use Rattle.group_state.specs.Groups.{Group}
 use Rattle.fed_logs.specs.Moves.{HasRowIn, IsDuplex}
-use Rattle.mover.specs.Told.{held_by_choice}
+use Rattle.mover.specs.OwedTracks.{held_by_choice}
 use Rattle.mover.proofs.Excepting.{none_excepted}
 use Rattle.consistency.specs.Bearing.{ShowsPoint}
-use Rattle.consistency.specs.Bears.{Run, Stage, tracks_of_row}
-use Rattle.consistency.specs.Between.{RunGoesOn}
+use Rattle.consistency.specs.Stages.{Run, Stage, tracks_of_row}
+use Rattle.consistency.specs.Pauses.{RunGoesOn}
 use Rattle.consistency.specs.Courses.{Answered, stage_at}
 use Rattle.consistency.specs.Leads.{Point}
 use Rattle.consistency.specs.Ways.{Leg, PassedPoint, stage_point}
 use Rattle.consistency.proofs.Lines.{same_some}
-use Rattle.xrc_session.specs.Between.{GoesOnFrom, RestsAtSite, StandsForSite, site_point, stage_behind}
+use Rattle.xrc_session.specs.LinePauses.{GoesOnFrom, RestsAtSite, StandsForSite, site_point, stage_behind}
 use Rattle.xrc_session.specs.Ends.{IsApplied, rows_at_end}
 use Rattle.xrc_session.specs.Lanes.{sizes_of}
 use Rattle.xrc_session.specs.States.{SessionState}

@@ -7,7 +7,7 @@ use Rattle.crash_plant.specs.Moments.{PlantState}
 use Rattle.crash_plant.proofs.Steps.{works_on_here}
 use Rattle.pair_table.specs.Tables.{Table}
 use Rattle.record_rows.specs.Hits.{hit_now}
-use Rattle.site_store.specs.Between.{IsSiteIdle}
+use Rattle.site_store.specs.IdleSites.{IsSiteIdle}
 use Rattle.site_store.specs.Records.{VolumesStay}
 use Rattle.site_store.specs.Sites.{SiteState}
 use Rattle.site_store.proofs.MarkFits.{reads_choice}

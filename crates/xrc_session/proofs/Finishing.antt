@@ -14,28 +14,28 @@ use Rattle.ckd_track.specs.SlotPlaces.{slot_track}
 use Rattle.primary_ctl.specs.Primaries.{primary}
 use Rattle.record_rows.specs.Hits.{hit_now}
 use Rattle.row_changes.specs.Changes.{Timed, after_changes}
-use Rattle.row_changes.specs.Toward.{is_hit_at}
+use Rattle.row_changes.specs.Spans.{is_hit_at}
 use Rattle.passages.specs.Points.{last_point}
 use Rattle.site_means.specs.Images.{shape_of}
 use Rattle.site_means.specs.Sight.{walked}
 use Rattle.xrc_command.specs.declared.line.Line.{Line}
-use Rattle.site_store.specs.Between.{IsSiteIdle}
+use Rattle.site_store.specs.IdleSites.{IsSiteIdle}
 use Rattle.site_store.specs.Records.{VolumesStay}
 use Rattle.site_store.specs.Sites.{SiteState}
 use Rattle.group_state.specs.Groups.{Group}
 use Rattle.consistency.specs.Bearing.{ShowsPoint}
-use Rattle.consistency.specs.Bears.{Run, Stage, tracks_of_row}
-use Rattle.consistency.specs.Between.{RunGoesOn}
+use Rattle.consistency.specs.Stages.{Run, Stage, tracks_of_row}
+use Rattle.consistency.specs.Pauses.{RunGoesOn}
 use Rattle.consistency.specs.Courses.{Answered, stage_at}
 use Rattle.consistency.specs.Leads.{Point}
 use Rattle.consistency.specs.Ways.{IsAtWork, Leg, PassedPoint, leg_after, stage_point}
 use Rattle.consistency.specs.Ways.Way.{OnTheWay}
-use Rattle.mover.specs.Working.{Asked}
+use Rattle.mover.specs.Working.{LinesAsked}
 use Rattle.xrc_status.specs.declared.stop.Stop.{Stop}
 use Rattle.xrc_status.specs.declared.stop.Stop.TheVariants.{Spent}
 use Rattle.xrc_session.specs.Answering.{EndsMark, IsMarkedSite, MarksOn, MayEndBy}
 use Rattle.xrc_session.specs.Answering.IsMarkedAt.{IsOnWay}
-use Rattle.xrc_session.specs.Between.{GoesOnFrom, HasNotBegun, RestsAtSite, RisesCover, StandsBehindLines, StandsForSite, site_point, stage_behind}
+use Rattle.xrc_session.specs.LinePauses.{GoesOnFrom, HasNotBegun, RestsAtSite, RisesCover, StandsBehindLines, StandsForSite, site_point, stage_behind}
 use Rattle.xrc_session.specs.Ends.{IsApplied, IsRunDone, StopsInLine}
 use Rattle.xrc_session.specs.Lines.{MayFinish}
 use Rattle.xrc_session.specs.States.{SessionState}
@@ -71,11 +71,11 @@ module _ (run : Run) (lines : List Answered) (trail : Trail) (s : SessionState) 
     goes = goes;
     at_end = at_end;
     exact = exact;
-    none = λ unstarted. not_begun.points;
+    unstarted = λ unstarted. not_begun.points;
     begun = λ on. absurd (true≢false (sym on ∙ ap (λ (t : Table). t.is_started) stage_table ∙ off));
-    along = λ some. absurd (omega (arith, some, not_begun.started));
+    on_trail = λ some. absurd (omega (arith, some, not_begun.started));
     rows = λ some. absurd (omega (arith, some, not_begun.started));
-    forth = λ past some. absurd (omega (arith, some, not_begun.started));
+    goes_forth = λ past some. absurd (omega (arith, some, not_begun.started));
     volumes = stands.volumes;
     applied = λ on. absurd (true≢false (sym on ∙ ap (λ (t : Table). t.is_started) stage_table ∙ off));
   }
@@ -113,11 +113,11 @@ module _ (run : Run) (lines : List Answered) (trail : Trail) (s : SessionState) 
           goes = goes;
           at_end = at_end;
           exact = exact;
-          none = λ unstarted. absurd (omega (arith, unstarted, rests.under_way.some));
+          unstarted = λ unstarted. absurd (omega (arith, unstarted, rests.under_way.some));
           begun = λ on. (rests.under_way.some, rests.under_way.begins);
-          along = λ some. subst (λ (o : Option Line). StandsOnTrail run lines o trail None old) nothing_next (rests_on_trail run lines stage trail s began old site rests);
+          on_trail = λ some. subst (λ (o : Option Line). StandsOnTrail run lines o trail None old) nothing_next (rests_on_trail run lines stage trail s began old site rests);
           rows = λ some. ([], refl, ap (λ (p : Point). p.rows) (sym last_is ∙ rests.rest.point));
-          forth = λ past some. subst (λ (o : Option Line). GoesForth run lines o trail None began old) nothing_next (rests.under_way.forth (omega (arith, past, goes.now.later)));
+          goes_forth = λ past some. subst (λ (o : Option Line). GoesForth run lines o trail None began old) nothing_next (rests.under_way.goes_forth (omega (arith, past, goes.now.later)));
           volumes = stands.volumes;
           applied = λ on. all_applied run lines site old old point_is (slot_is_meant run site old read shows_site walk) (λ d. refl) walk;
         }
@@ -125,7 +125,7 @@ module _ (run : Run) (lines : List Answered) (trail : Trail) (s : SessionState) 
     -- ---- one that goes on
 
     module _ (goes_on : site.table.is_ended ≡ false) (own : s.table ≡ site.table) where
-      abbrev asked : Asked
+      abbrev asked : LinesAsked
       asked = asked_with lines None
 
       at_work : IsAtWork run asked l
@@ -158,7 +158,7 @@ module _ (run : Run) (lines : List Answered) (trail : Trail) (s : SessionState) 
         begins = rests.under_way.begins;
         rowless = rests.under_way.rowless;
         next = subst (λ (o : Option Line). AreNext run lines o trail) nothing_next rests.under_way.next;
-        forth = λ up. subst (λ (o : Option Line). GoesForth run lines o trail None began old) nothing_next (rests.under_way.forth up);
+        goes_forth = λ up. subst (λ (o : Option Line). GoesForth run lines o trail None began old) nothing_next (rests.under_way.goes_forth up);
         marked = rests.rest.marked;
         answered = omega (arith, rests.rest.answered);
         volumes = stands.volumes;
@@ -178,15 +178,15 @@ module _ (run : Run) (lines : List Answered) (trail : Trail) (s : SessionState) 
               goes = goes_still run lines trail [] None began old new nothing_next within same past silent (n ∷ []) None passes;
               at_end = silent.script ∙ at_end;
               exact = exact_still run lines trail [] None began old new nothing_next within same past silent (n ∷ []) None passes;
-              none = λ unstarted. absurd (omega (arith, unstarted, within.some));
+              unstarted = λ unstarted. absurd (omega (arith, unstarted, within.some));
               begun = λ on. (within.some, record { within = within.begins.within; before = within.begins.before; after = within.begins.after });
-              along = λ some. along_still run lines trail [] None began old new nothing_next within same past silent (n ∷ []) None passes;
+              on_trail = λ some. along_still run lines trail [] None began old new nothing_next within same past silent (n ∷ []) None passes;
               rows = λ some. (
                 hits,
                 subst (λ (t : ℕ). list_all (is_hit_at t) hits ≡ true) (ap (λ (p : Point). p.time) rests.rest.point) are,
                 ap (λ (p : Point). p.rows) (last_append (first_leg run lines trail).point trail.points (n ∷ [])) ∙ comes.1.leads.rows ∙ ap (λ (p : Point). after_changes run.level hits p.rows) rests.rest.point,
               );
-              forth = λ up started. forth_still run lines trail [] None began old new nothing_next within same past silent (n ∷ []) None passes (omega (arith, up, goes.now.later));
+              goes_forth = λ up started. forth_still run lines trail [] None began old new nothing_next within same past silent (n ∷ []) None passes (omega (arith, up, goes.now.later));
               volumes = volumes_still run lines trail [] None began old new nothing_next within same past silent (n ∷ []) None passes;
               applied = λ on.
                   all_applied run lines site old new point_is (λ place r at duplex x low. slot_holds run site some.0 old some.2.rows idle none_hit read shows_site place r at duplex x low) (volumes.bytes told)

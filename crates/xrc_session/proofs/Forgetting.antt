@@ -11,16 +11,16 @@ use Rattle.group_state.specs.Controls.{ControlState, forgotten, new_control}
 use Rattle.group_state.specs.Groups.{control_at, with_control}
 use Rattle.group_state.specs.Machine.Call.{Forget}
 use Rattle.group_state.specs.Machine.Reply.{Made}
-use Rattle.group_state.specs.Sound.{Sound, are_distinct, passes_or_none}
+use Rattle.group_state.specs.SoundStates.{Sound, are_distinct, passes_or_none}
 use Rattle.group_state.proofs.SoundLaws.{all_filter}
-use Rattle.fed_logs.specs.Told.{is_track_settled}
+use Rattle.fed_logs.specs.ToldTracks.{is_track_settled}
 use Rattle.fed_logs.proofs.Keeping.{steps_keep}
 use Rattle.fed_logs.specs.Feeds.{truth_of}
 use Rattle.fed_logs.specs.Logs.{is_of_size}
 use Rattle.fed_logs.specs.Moves.{HasRowIn, IsDuplex, IsLive}
-use Rattle.mover.specs.Told.{IsFailed, IsUnfailed, held_by_choice}
+use Rattle.mover.specs.OwedTracks.{IsFailed, IsUnfailed, held_by_choice}
 use Rattle.mover.proofs.Pairs.{Among, among_of, contains_of}
-use Rattle.xrc_session.specs.BetweenEpochs.{Between, MayForget, StandsBetween}
+use Rattle.xrc_session.specs.EpochPauses.{Between, MayForget, StandsBetween}
 use Rattle.xrc_session.specs.CarriedLaws.{ForgottenRowsStand}
 use Rattle.xrc_session.proofs.Calls.{forget_itself, forget_other, keeps_forget}
 use Rattle.xrc_session.proofs.CarriedRows.{among_kept, without_others, without_own}

@@ -11,7 +11,7 @@ use Rattle.crash_plant.specs.Moments.{Follows, IsDurable, PlantState, Same, on}
 use Rattle.crash_plant.proofs.Behind.{same_after}
 use Rattle.crash_plant.proofs.Choices.{choices_then, part_still, past_choice}
 use Rattle.control_set.specs.Slots.{lengths_of}
-use Rattle.applier.specs.Back.{WorksOnLent}
+use Rattle.applier.specs.Returns.{WorksOnLent}
 use Rattle.applier.proofs.Works.{lent_of_works, none_lent_lent, works_lent_more, works_lent_trans}
 use Rattle.pair_table.specs.declared.level.Level.{Level}
 use Rattle.pair_table.specs.declared.names.NamedDevice.{NamedDevice}
@@ -34,7 +34,7 @@ use Rattle.site_store.proofs.Calls.{all_same}
 use Rattle.site_store.proofs.LogReads.{fits_still, stands_read}
 use Rattle.xrc_status.specs.declared.stop.Stop.{Stop}
 use Rattle.xrc_status.specs.declared.stop.Stop.TheVariants as stops
-use Rattle.xrc_session.specs.Between.{MayCommandSite}
+use Rattle.xrc_session.specs.LinePauses.{MayCommandSite}
 use Rattle.xrc_session.specs.Runs.{AreLabels}
 use Rattle.xrc_session.specs.Starting.{FormatsFirst, IsSafeThroughout, IsWorkOfStart, MeansStart, ShutsOrStarts, ShutsSite}
 use Rattle.xrc_session.specs.Stops.{HasStopCause, StopsByCount, stop_of_store}

@@ -13,8 +13,8 @@ use Rattle.site_means.specs.Images.{Shape, shape_of}
 use Rattle.site_means.proofs.Goes.{shape_same}
 use Rattle.xrc_command.specs.declared.line.Line.{Line}
 use Rattle.consistency.specs.Bearing.{GoesThroughPoints, ShowsPoint}
-use Rattle.consistency.specs.Bears.{Run, Stage}
-use Rattle.consistency.specs.Between.{AreToldOf, HadExactReply, HasPassed, RunGoesOn, asked_in}
+use Rattle.consistency.specs.Stages.{Run, Stage}
+use Rattle.consistency.specs.Pauses.{AreToldOf, HadExactReply, HasPassed, RunGoesOn, asked_in}
 use Rattle.consistency.specs.Courses.{Answered, last_line_time, lines_begun, lines_begun_from, next_line, replies_of, stage_at, texts_of}
 use Rattle.consistency.specs.Keeping.{stage_now}
 use Rattle.consistency.specs.Moments.{BearsTime}

@@ -1,6 +1,6 @@
 -- Calls of a session in turn: why they stop, what their counts say, and how lanes read on.
 use Rattle.xrc_session.proofs.Growing.{grows_then, here_grows, silent_grows}
-use Rattle.std.proofs.Common.{◌≡◌, ◌⊎◌, inl, inr, ℕ, ◌^◌, ◌<◌, ◌≤◌, true, List, [], ◌∷◌, ◌++◌, length, Option, Some, None, refl, sym, ap, subst, ◌∙◌, arith}
+use Rattle.std.proofs.Common.{◌≡◌, ◌⊎◌, inl, inr, ℕ, ◌≤◌, true, List, [], ◌∷◌, ◌++◌, length, Option, Some, None, refl, sym, ap, subst, ◌∙◌, arith}
 use Rattle.std.specs.Prelude.{IfErr, IsErrOf, IsSomeAnd, Ok, Err, Result, slice_index_or}
 use Rattle.std.specs.List.{Contains}
 use Rattle.xrc_edge.specs.Causes.{Rose}
@@ -11,8 +11,8 @@ use Rattle.crash_plant.specs.Moments.{PlantState}
 use Rattle.crash_plant.proofs.Steps.{elapses_trans, none_lent_console, silent_trans, site_trans}
 use Rattle.sidefile.specs.declared.hand.Halt.{Halt}
 use Rattle.pair_table.specs.declared.row.PairRow.{PairRow}
-use Rattle.applier.specs.Back.{WorksOnLent}
-use Rattle.consistency.specs.Bears.{Run}
+use Rattle.applier.specs.Returns.{WorksOnLent}
+use Rattle.consistency.specs.Stages.{Run}
 use Rattle.record_rows.specs.Hits.{is_device_suspended}
 use Rattle.group_state.specs.Runs.{Answer}
 use Rattle.fed_logs.specs.Reads.{ReadsOn}
@@ -28,20 +28,16 @@ use Rattle.mover.specs.TurningOut.{AllMayGoOn, AllReadOn}
 use Rattle.site_store.specs.Records.{IsStore}
 use Rattle.xrc_status.specs.declared.stop.Stop.{Stop}
 use Rattle.xrc_status.specs.declared.stop.Stop.TheVariants as stops
-use Rattle.xrc_session.specs.Between.{AreCountsFrom, RisesCover}
+use Rattle.xrc_session.specs.LinePauses.{AreCountsFrom, RisesCover}
 use Rattle.xrc_session.specs.Frames.{CountRose, KeepsPlant, SuspendsByCounts, SaidGrows}
 use Rattle.xrc_session.specs.Lanes.{AllWent}
-use Rattle.xrc_session.specs.Stops.{HasRunCause, HasStopCause, StopsByCount, stop_of_device}
+use Rattle.xrc_session.specs.Stops.{HasStopCause, StopsByCount, stop_of_device}
 
 -- ---- causes
 
 rose_before : (a b c : ℕ) → a ≤ b → Rose b c → Rose a c
 rose_before a b c le (inl rose) = inl (omega (arith, le, rose))
 rose_before a b c le (inr most) = inr most
-
-rose_later : (a b c : ℕ) → b ≤ c → c < 2 ^ 64 → Rose a b → Rose a c
-rose_later a b c le low (inl rose) = inl (omega (arith, le, rose))
-rose_later a b c le low (inr most) = inr (omega (arith, le, low, most))
 
 -- No count of a plant has fallen.
 pub record NoneFell (old new : PlantState) : Type 0 where
@@ -66,10 +62,6 @@ cause_before old mid new (stops.Damaged d place) fell cause = cause
 cause_before old mid new stops.VolumeFault fell cause = cause
 cause_before old mid new (stops.TooSmall d needed) fell cause = cause
 cause_before old mid new stops.BadSite fell cause = cause
-
-pub run_cause_before : (old mid new : PlantState) (stop : Stop) → NoneFell old mid → HasRunCause mid new stop → HasRunCause old new stop
-run_cause_before old mid new stop fell (inl cause) = inl (cause_before old mid new stop fell cause)
-run_cause_before old mid new stop fell (inr bad) = inr bad
 
 -- ---- counts
 

@@ -19,7 +19,7 @@ use Rattle.record_rows.specs.Hits.{hit_now, rows_hit}
 use Rattle.row_changes.specs.Changes.RowChange.{Hit}
 use Rattle.xrc_journal.specs.Items.{Item}
 use Rattle.turn_group.specs.Notes.{known_of, volumes_known}
-use Rattle.site_store.specs.Between.{IsSiteIdle}
+use Rattle.site_store.specs.IdleSites.{IsSiteIdle}
 use Rattle.site_store.specs.Changing.{IsBehindChange, LogsChange, changed_items}
 use Rattle.site_store.specs.Commands.{behind_command}
 use Rattle.site_store.specs.Records.{behind_way}

@@ -25,7 +25,7 @@ use Rattle.group_state.specs.Volumes.{begun, dropped_volume, resumed_volume}
 use Rattle.group_state.proofs.SoundLaws.{length_dropped}
 use Rattle.group_state.proofs.VolumeLaws.{all_with, all_without}
 use Rattle.pending_queue.specs.Entries.{entry_tracks}
-use Rattle.consistency.specs.Bears.{tracks_of_row}
+use Rattle.consistency.specs.Stages.{tracks_of_row}
 use Rattle.fed_logs.proofs.Standing.{at_with, same_count}
 use Rattle.xrc_session.specs.Taking.{IfAdds, after_calls, calls_of_change, carry_calls, command_calls, drop_between, drop_call, drop_calls, forget_calls, owes_again, resume_calls, stands_again, state_by_command, tracks_owed_to}
 use Rattle.mover.specs.declared.lane.Lane.{Lane}

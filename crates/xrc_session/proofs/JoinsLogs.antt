@@ -15,12 +15,12 @@ use Rattle.group_state.specs.Groups.{Group, Shown, control_at, cut_of, formed_at
 use Rattle.group_state.specs.Machine.{Call, Reply}
 use Rattle.group_state.specs.Machine.Call.{Join, NextWanted, Copied, Raise, Break, Form, Carry, Drop, Resume, Forget}
 use Rattle.group_state.specs.Runs.{Answer, Runs}
-use Rattle.group_state.specs.Sound.{KeepsGroup}
+use Rattle.group_state.specs.SoundStates.{KeepsGroup}
 use Rattle.group_state.specs.Volumes.{passes, volume_of}
 use Rattle.group_state.proofs.Kept.{kept_form}
 use Rattle.record_rows.specs.Deeds.{Deed}
 use Rattle.record_rows.specs.Deeds.Deed.{Logged, Changed, Marked}
-use Rattle.record_rows.specs.Told.{InPlaces}
+use Rattle.record_rows.specs.ToldRows.{InPlaces}
 use Rattle.site_store.specs.DeedChanges.{deeds_of}
 use Rattle.fed_logs.specs.Feeds.{is_call_of_reader, part_of_mover}
 use Rattle.fed_logs.specs.Logs.{IsPlanDone, Stand, is_call_of_seat}
@@ -31,7 +31,7 @@ use Rattle.fed_logs.proofs.Standing.{kept_drop, kept_read, stands_drop, stands_f
 use Rattle.fed_logs.proofs.Went.{form_shown, went_read}
 use Rattle.turn_group.specs.Notes.{known_of, known_volume, volumes_known}
 use Rattle.turn_group.proofs.Known.{HasSizesOf, sizes_at, sizes_in}
-use Rattle.mover.specs.Told.{IsAny, is_volume_kept}
+use Rattle.mover.specs.OwedTracks.{IsAny, is_volume_kept}
 use Rattle.mover.proofs.Pairs.{among_of, contains_of, is_of_volume_at, named_by, pair_before, pair_of, pairs_of}
 use Rattle.xrc_session.specs.Taking.{KeepsForRows}
 use Rattle.mover.specs.Dropping.{is_duplex_state}

@@ -10,15 +10,15 @@ use Rattle.pair_table.specs.Rows.{is_suspended}
 use Rattle.group_state.specs.declared.volume.Volume.{Volume}
 use Rattle.group_state.specs.Controls.{ControlState, new_control}
 use Rattle.group_state.specs.Groups.{Group, control_at}
-use Rattle.group_state.specs.Sound.{Sound, are_distinct}
+use Rattle.group_state.specs.SoundStates.{Sound, are_distinct}
 use Rattle.group_state.specs.Volumes.{has_volume, passes, volume_of}
 use Rattle.group_state.proofs.VolumeLaws.{has_found}
-use Rattle.consistency.specs.Bears.{tracks_of_row}
+use Rattle.consistency.specs.Stages.{tracks_of_row}
 use Rattle.turn_group.specs.Notes.{KnownVolume, known_of, known_volume, volumes_known}
 use Rattle.turn_group.proofs.Known.{map_at}
 use Rattle.fed_logs.specs.Logs.{is_of_size}
 use Rattle.fed_logs.specs.Moves.{HasRowIn}
-use Rattle.mover.specs.Told.{IsAny}
+use Rattle.mover.specs.OwedTracks.{IsAny}
 use Rattle.mover.proofs.Pairs.{among_of, found_row, named_by}
 use Rattle.xrc_session.specs.Taking.{KeepsForRow, KeepsForRows}
 use Rattle.xrc_session.proofs.Knowing.{never_both}

@@ -21,18 +21,18 @@ use Rattle.group_state.specs.Controls.{ControlState, begun_volume, counts, dropp
 use Rattle.group_state.specs.Groups.{Group, control_at, with_control}
 use Rattle.group_state.specs.Machine.{group_after}
 use Rattle.group_state.specs.Machine.Call.{Carry, Drop, Forget, Resume}
-use Rattle.group_state.specs.Sound.{KeepsGroup, MayCarry, Sound, are_distinct}
+use Rattle.group_state.specs.SoundStates.{KeepsGroup, MayCarry, Sound, are_distinct}
 use Rattle.group_state.proofs.SoundLaws.{length_dropped}
 use Rattle.group_state.proofs.VolumeLaws.{has_none}
-use Rattle.consistency.specs.Bears.{tracks_of_row}
+use Rattle.consistency.specs.Stages.{tracks_of_row}
 use Rattle.fed_logs.specs.Logs.{is_of_size}
 use Rattle.fed_logs.specs.Moves.{HasRowIn}
 use Rattle.fed_logs.proofs.Standing.{at_with, same_count}
-use Rattle.mover.specs.Told.{IsAny, is_volume_kept}
+use Rattle.mover.specs.OwedTracks.{IsAny, is_volume_kept}
 use Rattle.mover.proofs.Copying.{kept_within}
 use Rattle.mover.proofs.Pairs.{Among, Apart, among_of, apart_among, apart_still}
 use Rattle.mover.proofs.Pairs.Among.{Here, Later}
-use Rattle.xrc_session.specs.BetweenEpochs.{Between, StandsBetween}
+use Rattle.xrc_session.specs.EpochPauses.{Between, StandsBetween}
 use Rattle.xrc_session.specs.CarriedLaws.{StandingRowsAreKept}
 use Rattle.xrc_session.specs.Taking.{KeepsForRow, KeepsForRows}
 use Rattle.xrc_session.proofs.Calls.{KeepsOther, begin_itself, begin_other, drop_itself, drop_other, forget_itself, forget_other, kept_other, keeps_begin, keeps_drop, keeps_forget, keeps_resume, other_at, own_is, plan_other, resume_itself, resume_other}

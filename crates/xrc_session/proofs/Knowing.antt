@@ -13,15 +13,15 @@ use Rattle.pair_table.specs.Tables.{are_below, in_state, with_state}
 use Rattle.group_state.specs.declared.volume.Volume.{Volume}
 use Rattle.group_state.specs.Volumes.{passes, resumed_volume, volume_of, wants}
 use Rattle.group_state.specs.Groups.{control_at}
-use Rattle.group_state.specs.Sound.{passes_or_none}
+use Rattle.group_state.specs.SoundStates.{passes_or_none}
 use Rattle.record_rows.specs.Hits.{is_device_suspended}
-use Rattle.consistency.specs.Bears.{tracks_of_row}
+use Rattle.consistency.specs.Stages.{tracks_of_row}
 use Rattle.fed_logs.specs.Logs.{BeginsLog, is_of_size}
 use Rattle.fed_logs.specs.Moves.{HasRowIn, Plans}
-use Rattle.mover.specs.Told.{held_by_choice, is_mapped, is_owed, is_volume_kept}
+use Rattle.mover.specs.OwedTracks.{held_by_choice, is_mapped, is_owed, is_volume_kept}
 use Rattle.mover.proofs.Ending.{below_pairs}
 use Rattle.mover.proofs.Pairs.{among_of, contains_of, pair_before, pairs_of}
-use Rattle.xrc_session.specs.BetweenEpochs.{Between, StandsBetween}
+use Rattle.xrc_session.specs.EpochPauses.{Between, StandsBetween}
 use Rattle.xrc_session.proofs.CarriedRows.{IsOther, stated_own, stated_pairs}
 
 -- ---- flags

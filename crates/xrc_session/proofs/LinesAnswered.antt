@@ -20,8 +20,8 @@ use Rattle.site_store.specs.Sites.{SiteState}
 use Rattle.group_state.specs.Groups.{Group}
 use Rattle.consistency.specs.Answering.{answered_by, reply_content, points_before}
 use Rattle.consistency.specs.Bearing.{MayBeMeant, ShowsPoint}
-use Rattle.consistency.specs.Bears.{Run, Stage, accepts, accepts_end, breaks_of, names_of}
-use Rattle.consistency.specs.Between.{AreToldOf, HasPassed, MayReply, asked_in}
+use Rattle.consistency.specs.Stages.{Run, Stage, accepts, accepts_end, breaks_of, names_of}
+use Rattle.consistency.specs.Pauses.{AreToldOf, HasPassed, MayReply, asked_in}
 use Rattle.consistency.specs.Courses.{Answered, IsAnswered, stage_after, stage_at}
 use Rattle.consistency.specs.Leads.{Comes, Point}
 use Rattle.consistency.specs.Replying.{HasNames, HasRunNames, IsExact}
@@ -36,13 +36,13 @@ use Rattle.consistency.proofs.Replying.{inactive_exactly}
 use Rattle.passages.specs.Points.{AreLinked}
 use Rattle.mover.specs.declared.lane.Lane.{Lane}
 use Rattle.mover.specs.Epochs.{LanesBrokeAs}
-use Rattle.mover.specs.Working.{Asked}
+use Rattle.mover.specs.Working.{LinesAsked}
 use Rattle.xrc_status.specs.declared.stop.Stop.TheVariants.{NoMemory}
 use Rattle.xrc_session.specs.declared.answering.LineAnswer.{LineAnswer}
 use Rattle.xrc_session.specs.Answering.{AreOfCommand, HasCommanded, stage_then}
 use Rattle.xrc_session.specs.Answering.AreOfCommand.{BehindMark, OfCommand, OfEnd}
 use Rattle.xrc_session.specs.AppliedEnds.{IsAllApplied}
-use Rattle.xrc_session.specs.Between.{GoesOnFrom, HasComeToRest, HasNotBegun, IsRunOfSession, RestsAtSite, StandsAtLeg, StandsBehindLines, site_point, stage_behind}
+use Rattle.xrc_session.specs.LinePauses.{GoesOnFrom, HasComeToRest, HasNotBegun, IsRunOfSession, RestsAtSite, StandsAtLeg, StandsBehindLines, site_point, stage_behind}
 use Rattle.xrc_session.specs.Ends.{StopsInLine}
 use Rattle.xrc_session.specs.States.{SessionState, site_time}
 use Rattle.xrc_session.specs.Steps.{IsExactBehind, IsToReply, PassesPointsOn, TellsAnswer, line_answered}
@@ -72,7 +72,7 @@ ended_stays : (run : Run) (table : Table) (line : Line) → table.is_ended ≡ t
 ended_stays run table line ended = subst (λ (e : Bool). (commanded (breaks_of run) (names_of run) (record table { is_ended = e }) line).is_ended ≡ true) (sym ended) refl
 
 -- Its lines change nothing.
-ended_command : (run : Run) (asked : Asked) (number : ℕ) (hits : List Timed) (l : Leg) (more : List PassedPoint) → l.point.is_ended ≡ true → AreOfCommand number hits more → AreLinked (ComesNext run asked) leg_after l more → hits ≡ []
+ended_command : (run : Run) (asked : LinesAsked) (number : ℕ) (hits : List Timed) (l : Leg) (more : List PassedPoint) → l.point.is_ended ≡ true → AreOfCommand number hits more → AreLinked (ComesNext run asked) leg_after l more → hits ≡ []
 ended_command run asked number hits l more ended (OfCommand n is) linked = ((subst (λ (w : Way). ComesBy run asked l n.point w) is linked.0.0).2.ended ended).1
 ended_command run asked number hits l more ended (OfEnd n m own behind is ends all) linked =
     let come = subst (λ (w : Way). ComesBy run asked l n.point w) is linked.0.0 in
@@ -125,7 +125,7 @@ module _ {S : Type 0} (run : Run) (lines : List Answered) (trail : Trail) (more 
   abbrev stage : Stage
   stage = stage_behind run lines text began
 
-  abbrev asked : Asked
+  abbrev asked : LinesAsked
   asked = asked_with lines (Some line)
 
   abbrev l : Leg
@@ -203,13 +203,13 @@ module _ {S : Type 0} (run : Run) (lines : List Answered) (trail : Trail) (more 
 
     passed : 0 < new.clock → HasPassed run (asked_in (lines ++ a ∷ [])) first after.points new new.clock
     passed up =
-        let forth = behind.forth up in
+        let forth = behind.goes_forth up in
         record {
           rowless = forth.rowless;
           from = forth.from;
           begins = forth.begins;
           goes = forth.goes;
-          linked = subst (λ (f : Asked). AreLinked (ComesNext run f) leg_after first after.points) (sym (asked_of_lines lines a)) forth.linked;
+          linked = subst (λ (f : LinesAsked). AreLinked (ComesNext run f) leg_after first after.points) (sym (asked_of_lines lines a)) forth.linked;
         }
 
     told : 0 < new.clock → AreToldOf run stage lines (first_leg run (lines ++ a ∷ []) after) after.points a new new.clock
@@ -285,7 +285,7 @@ module _ {S : Type 0} (run : Run) (lines : List Answered) (trail : Trail) (more 
       answered = begun.answered ∙ omega (arith, at_leg.answered, length_push lines a);
       not_ending =
           ap (λ (n : ℕ). accepts_end run (table_at run last.point) (last_answered (asked_with (lines ++ a ∷ []) None) n)) begun.answered
-          ∙ ap (λ (f : Asked). accepts_end run (table_at run last.point) (f l.answered)) (sym (asked_then run lines after a before.started))
+          ∙ ap (λ (f : LinesAsked). accepts_end run (table_at run last.point) (f l.answered)) (sym (asked_then run lines after a before.started))
           ∙ ap (accepts_end run (table_at run last.point)) (asked_is ∙ heard)
           ∙ not_ending (accepts_end run (table_at run last.point) (Some line)) refl;
     }
@@ -305,9 +305,9 @@ module _ {S : Type 0} (run : Run) (lines : List Answered) (trail : Trail) (more 
         begins = begins_behind;
         rowless = ap (λ (k : Leg). k.point.rows) first_is ∙ before.rowless;
         next = subst (λ (o : Option Line). AreNext run (lines ++ a ∷ []) o after) (sym nothing_next) (next_answered run lines after a before.started behind.next);
-        forth = λ up.
+        goes_forth = λ up.
             subst (λ (o : Option Line). GoesForth run (lines ++ a ∷ []) o after None began new) (sym nothing_next)
-            (forth_answered run lines after a before.started began new (behind.forth up));
+            (forth_answered run lines after a before.started began new (behind.goes_forth up));
         at =
             subst (λ (k : Leg). StandsAtLeg run behind_stage k site began new) (sym last_is)
             (subst (λ (x : Stage). StandsAtLeg run x last site began new) (sym stage_is) at);
@@ -341,14 +341,14 @@ module _ {S : Type 0} (run : Run) (lines : List Answered) (trail : Trail) (more 
       part = None;
       stands = behind.goes;
       exact = behind.exact;
-      none = λ unstarted. absurd (omega (arith, unstarted, behind.some));
+      unstarted = λ unstarted. absurd (omega (arith, unstarted, behind.some));
       begun = λ on. (behind.some, behind.begins);
       next = None;
-      along = λ some.
+      on_trail = λ some.
           subst (λ (o : Option Line). StandsOnTrail run lines o after None new) (sym heard)
           (shown_on_trail run lines (Some line) after new behind.rowless behind.next behind.marked
           (subst (λ (p : Point). AtNow (ShowsPoint run (shape_of new) p) new) (sym (ap (λ (k : Leg). k.point) joined ∙ at.here)) at.shows));
-      forth = λ past some. subst (λ (o : Option Line). GoesForth run lines o after None began new) (sym heard) (behind.forth (omega (arith, past, behind.goes.now.later)));
+      goes_forth = λ past some. subst (λ (o : Option Line). GoesForth run lines o after None began new) (sym heard) (behind.goes_forth (omega (arith, past, behind.goes.now.later)));
     };
     volumes = behind.volumes;
     spent = λ is. absurd cc;

@@ -14,7 +14,7 @@ use Rattle.pair_table.specs.declared.command.CommandError.TheVariants as errors
 use Rattle.pair_table.specs.declared.command.Refusal.{Refusal}
 use Rattle.pair_table.specs.declared.level.Level.{Level}
 use Rattle.pair_table.specs.declared.row.PairRow.{PairRow}
-use Rattle.pair_table.specs.Commands.{MayCommand, answer, table_after}
+use Rattle.pair_table.specs.Commands.{answer, table_after}
 use Rattle.pair_table.specs.Naming.{Naming}
 use Rattle.pair_table.specs.Refusals.{refusal}
 use Rattle.pair_table.specs.Tables.{Table}
@@ -23,7 +23,7 @@ use Rattle.mover.specs.declared.lane.Lane.{Lane}
 use Rattle.xrc_command.specs.declared.line.Line.{Line}
 use Rattle.xrc_session.specs.declared.answering.LineAnswer.{LineAnswer}
 use Rattle.xrc_session.specs.Answering.{answer_told}
-use Rattle.xrc_session.specs.Between.{IsAtSite, IsBetween, IsUnstarted}
+use Rattle.xrc_session.specs.LinePauses.{IsAtSite, IsBetween, IsUnstarted}
 use Rattle.xrc_session.specs.Frames.{SuspendsByCounts}
 use Rattle.xrc_session.specs.Lines.{IsBegunTable, IsStartAnswered, IsStartedAt}
 use Rattle.xrc_session.specs.Replying.{level_in}
@@ -34,10 +34,6 @@ use Rattle.xrc_session.proofs.LinesBegun.{started_means}
 use Rattle.xrc_session.proofs.SafeStarts.{begins_none, leaves_here}
 
 -- ---- the table's command
-
--- Any command may come to no rows.
-pub may_command_none : (names : Naming) (rows : List PairRow) → rows ≡ [] → MayCommand names rows
-may_command_none names rows none = subst (MayCommand names) (sym none) (record { named = refl; below = refl })
 
 -- The answer that has a start's level is that of a start that was done.
 pub level_in_done : (answered : Result Change Refusal) (c : Command) (level : Level) → level_in answered c ≡ Some level → answered ≡ Ok changes.Started

@@ -20,7 +20,7 @@ use Rattle.pair_table.specs.Refusals.{refusal}
 use Rattle.pair_table.specs.Tables.{Table, new_table}
 use Rattle.site_store.specs.Records.{VolumesStay}
 use Rattle.site_store.specs.Sites.{SiteState}
-use Rattle.consistency.specs.Bears.{Run, Stage}
+use Rattle.consistency.specs.Stages.{Run, Stage}
 use Rattle.consistency.specs.Courses.{Answered}
 use Rattle.mover.specs.declared.lane.Lane.{Lane}
 use Rattle.mover.specs.Epochs.{LanesBrokeAs}
@@ -29,7 +29,7 @@ use Rattle.xrc_status.specs.declared.stop.Stop.{Stop}
 use Rattle.xrc_status.specs.declared.stop.Stop.TheVariants.{NoMemory, Spent}
 use Rattle.xrc_session.specs.declared.answering.LineAnswer.{LineAnswer}
 use Rattle.xrc_session.specs.Answering.{answer_told}
-use Rattle.xrc_session.specs.Between.{AreCountsFrom, IsAtSite, IsBetween, IsRunOver, IsUnstarted, stage_behind}
+use Rattle.xrc_session.specs.LinePauses.{AreCountsFrom, IsAtSite, IsBetween, IsRunOver, IsUnstarted, stage_behind}
 use Rattle.xrc_session.specs.Lines.{IsDoneLine, IsStartedAt, StandsStartedAt}
 use Rattle.xrc_session.specs.Replying.{level_in}
 use Rattle.xrc_session.specs.Starting.{MeansStart, level_started}
@@ -88,9 +88,6 @@ started_command session line level is = by_command line.command is
 module _ {S : Type 0} (tells : Type 0) (left : S → Option (List ℕ)) (s : SessionState) (lanes : List (Lane S)) (old : PlantState) (between : IsBetween tells s lanes old) (unstarted : s.site ≡ None) (line : Line) where
   pub fresh : s.table ≡ new_table s.session
   fresh = (unstarted_is tells s lanes old between unstarted).table
-
-  pub no_rows : s.table.rows ≡ []
-  no_rows = ap (λ (t : Table). t.rows) fresh
 
   same_here : SameSite old old
   same_here = (works_on_here tells (λ d. ⊥) old).site

@@ -15,7 +15,7 @@ use Rattle.site_means.specs.Sight.{meant_by}
 use Rattle.site_store.specs.Sites.{SiteState, meant_for}
 use Rattle.site_store.proofs.MarkFits.{lengths_still}
 use Rattle.group_state.specs.Groups.{Group, new_group}
-use Rattle.consistency.specs.Bears.{Run, breaks_of, names_of}
+use Rattle.consistency.specs.Stages.{Run, breaks_of, names_of}
 use Rattle.consistency.specs.Steps.{names_at}
 use Rattle.mover.specs.declared.lane.Lane.{Lane}
 use Rattle.mover.specs.Epochs.{AreSameLanes, LanesBrokeAs}
@@ -23,7 +23,7 @@ use Rattle.mover.specs.Lanes.{IsReaderOf, IsSameLane, MayGoOn}
 use Rattle.mover.specs.Readers.{LaneReaderState}
 use Rattle.mover.specs.Rounds.{AreLanesOf}
 use Rattle.mover.specs.TurningOut.{AllMayGoOn}
-use Rattle.xrc_session.specs.Between.{AreCountsFrom, HasCut, IsAtSite, IsBetween, IsReadyForEpoch, IsRunOfSession, IsRunOver, IsUnstarted, MayCommandSite}
+use Rattle.xrc_session.specs.LinePauses.{AreCountsFrom, HasCut, IsAtSite, IsBetween, IsReadyForEpoch, IsRunOfSession, IsRunOver, IsUnstarted, MayCommandSite}
 use Rattle.xrc_session.specs.Bringing.{BreakOnAsTraces}
 use Rattle.xrc_session.specs.Lanes.{HaveHeadsOf, primaries_in}
 use Rattle.xrc_session.specs.Lines.{IsBegunTable, IsStartedAt, StandsStartedAt}

@@ -28,7 +28,7 @@ use Rattle.mover.specs.Rounds.{AreLanesOf}
 use Rattle.mover.specs.TurningOut.{AllMayGoOn}
 use Rattle.xrc_command.specs.declared.line.Line.{Line}
 use Rattle.xrc_session.specs.Answering.{ControlsCount, IsSiteAnswered, group_taken, is_end_accepted}
-use Rattle.xrc_session.specs.Between.{HasCut, IsAtSite, IsBetween, IsReadyForEpoch, IsUnstarted, MayCommandSite}
+use Rattle.xrc_session.specs.LinePauses.{HasCut, IsAtSite, IsBetween, IsReadyForEpoch, IsUnstarted, MayCommandSite}
 use Rattle.xrc_session.specs.Bringing.{IsSiteBrought}
 use Rattle.xrc_session.specs.Joins.{StaysForReaders}
 use Rattle.xrc_session.specs.Lanes.{HaveVolumes, primaries_in, with_lanes_broken}

@@ -10,7 +10,7 @@ use Rattle.group_state.specs.Groups.{Group}
 use Rattle.mover.specs.declared.lane.Lane.{Lane}
 use Rattle.xrc_command.specs.declared.line.Line.{Line}
 use Rattle.xrc_session.specs.declared.answering.LineAnswer.{LineAnswer}
-use Rattle.xrc_session.specs.Between.{IsAtSite, IsBetween, IsUnstarted}
+use Rattle.xrc_session.specs.LinePauses.{IsAtSite, IsBetween, IsUnstarted}
 use Rattle.xrc_session.specs.Lines.{IsDoneLine, IsSameSession, IsStartedAt, KeepsStart, StartsByLine}
 use Rattle.xrc_session.specs.Starting.{level_started}
 use Rattle.xrc_session.specs.States.{SessionState, session_time, site_time}

@@ -12,20 +12,20 @@ use Rattle.pair_table.specs.Tables.{Table}
 use Rattle.group_state.specs.Groups.{Group}
 use Rattle.site_store.specs.Sites.{SiteState}
 use Rattle.consistency.specs.Answering.{is_command_of}
-use Rattle.consistency.specs.Bears.{Run, Stage, breaks_of, names_of}
+use Rattle.consistency.specs.Stages.{Run, Stage, breaks_of, names_of}
 use Rattle.consistency.specs.Courses.{Answered}
 use Rattle.consistency.specs.Leads.{Point}
 use Rattle.consistency.specs.Steps.{names_at}
 use Rattle.consistency.specs.Ways.{IsAtWork, Leg, PassedPoint, leg_after, stage_point}
 use Rattle.mover.specs.declared.lane.Lane.{Lane}
 use Rattle.mover.specs.Epochs.{AllTurnOut, LanesBrokeAs}
-use Rattle.mover.specs.Working.{Asked}
+use Rattle.mover.specs.Working.{LinesAsked}
 use Rattle.xrc_command.specs.declared.line.Line.{Line}
 use Rattle.xrc_status.specs.declared.stop.Stop.{Stop}
 use Rattle.xrc_status.specs.declared.stop.Stop.TheVariants.{Spent}
 use Rattle.xrc_session.specs.declared.answering.LineAnswer.{LineAnswer}
 use Rattle.xrc_session.specs.Answering.{EndsCommand, HasCommanded, IsSiteAnswered, MayAnswer}
-use Rattle.xrc_session.specs.Between.{GoesOnFrom, HasCut, IsAtSite, IsRunOfSession, RestsAtSite, StandsAtLeg, site_point, stage_behind}
+use Rattle.xrc_session.specs.LinePauses.{GoesOnFrom, HasCut, IsAtSite, IsRunOfSession, RestsAtSite, StandsAtLeg, site_point, stage_behind}
 use Rattle.xrc_session.specs.Ends.{StopsInLine}
 use Rattle.xrc_session.specs.Lanes.{HaveHeadsOf}
 use Rattle.xrc_session.specs.States.{SessionState, session_time, site_time}
@@ -46,7 +46,7 @@ module _ {S : Type 0} (tells : Type 0) (run : Run) (lines : List Answered) (trai
   abbrev stage : Stage
   stage = stage_behind run lines text began
 
-  abbrev asked : Asked
+  abbrev asked : LinesAsked
   asked = asked_with lines (Some line)
 
   abbrev l : Leg

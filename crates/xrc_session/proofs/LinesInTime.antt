@@ -15,21 +15,21 @@ use Rattle.pair_table.specs.Naming.{Naming}
 use Rattle.pair_table.specs.Tables.{Table}
 use Rattle.group_state.specs.Groups.{Group}
 use Rattle.site_store.specs.Sites.{SiteState}
-use Rattle.consistency.specs.Bears.{Run, Stage, breaks_of, names_of}
+use Rattle.consistency.specs.Stages.{Run, Stage, breaks_of, names_of}
 use Rattle.consistency.specs.Courses.{Answered}
 use Rattle.consistency.specs.Leads.{Point}
 use Rattle.consistency.specs.Steps.{names_at}
 use Rattle.consistency.specs.Ways.{Leg, PassedPoint, leg_after}
 use Rattle.mover.specs.declared.lane.Lane.{Lane}
 use Rattle.mover.specs.Epochs.{AllTurnOut, AreSameLanes, LanesBrokeAs}
-use Rattle.mover.specs.Working.{Asked}
+use Rattle.mover.specs.Working.{LinesAsked}
 use Rattle.xrc_command.specs.declared.line.Line.{Line}
 use Rattle.xrc_status.specs.declared.stop.Stop.{Stop}
 use Rattle.xrc_status.specs.declared.stop.Stop.TheVariants.{Spent}
 use Rattle.xrc_session.specs.declared.answering.LineAnswer.{LineAnswer}
 use Rattle.xrc_session.specs.declared.kept.Kept.{Kept}
 use Rattle.xrc_session.specs.Answering.{AnswersCommands, IsSiteAnswered, MayAnswer, group_taken, is_end_accepted}
-use Rattle.xrc_session.specs.Between.{HasCut, IsAtSite, IsBetween, IsReadyForEpoch, IsRunOver, RestsAtSite, RisesCover, stage_behind}
+use Rattle.xrc_session.specs.LinePauses.{HasCut, IsAtSite, IsBetween, IsReadyForEpoch, IsRunOver, RestsAtSite, RisesCover, stage_behind}
 use Rattle.xrc_session.specs.Bringing.{BreakOnAsTraces, IsSiteBrought, IsWorkOfStore}
 use Rattle.xrc_session.specs.Frames.{SuspendsByCounts}
 use Rattle.xrc_session.specs.Lanes.{HaveVolumes, with_lanes_broken}
@@ -50,26 +50,9 @@ use Rattle.xrc_session.proofs.Readying.{heads_stay}
 
 -- ---- results
 
--- What is so of each value of a result that was done.
-pub ok_map : {T : Type 0} (P Q : T → Type 0) (r : Result T Stop) → ((value : T) → P value → Q value) → IfOk r P → IfOk r Q
-ok_map {T} P Q (Ok value) f is = f value is
-ok_map {T} P Q (Err stop) f is = tt
-
-pub ok_both : {T : Type 0} (P Q : T → Type 0) (r : Result T Stop) → IfOk r P → IfOk r Q → IfOk r (λ value. P value × Q value)
-ok_both {T} P Q (Ok value) x y = (x, y)
-ok_both {T} P Q (Err stop) x y = tt
-
-pub ok_with : {T : Type 0} (P : T → Type 0) (X : Type 0) (r : Result T Stop) → IfOk r P → OnOk r X → IfOk r (λ value. P value × X)
-ok_with {T} P X (Ok value) x y = (x, y)
-ok_with {T} P X (Err stop) x y = tt
-
 pub ok_then : {T : Type 0} (P : T → Type 0) (X : Type 0) (r : Result T Stop) → ((value : T) → P value → X) → IfOk r P → OnOk r X
 ok_then {T} P X (Ok value) f is = f value is
 ok_then {T} P X (Err stop) f is = tt
-
-pub on_map : {T : Type 0} (X Y : Type 0) (r : Result T Stop) → (X → Y) → OnOk r X → OnOk r Y
-on_map {T} X Y (Ok value) f is = f is
-on_map {T} X Y (Err stop) f is = tt
 
 -- ---- rows
 

@@ -10,7 +10,7 @@ use Rattle.crash_plant.specs.Moments.{PlantState}
 use Rattle.crash_plant.proofs.Steps.{works_on_console_here}
 use Rattle.pair_table.specs.Tables.{new_table}
 use Rattle.site_store.specs.Sites.{SiteState}
-use Rattle.consistency.specs.Bears.{Run}
+use Rattle.consistency.specs.Stages.{Run}
 use Rattle.consistency.specs.Courses.{Answered, last_line_time, lines_begun}
 use Rattle.consistency.proofs.Between.{runs_begin}
 use Rattle.script_lines.specs.declared.next.Next.TheVariants as next
@@ -21,7 +21,7 @@ use Rattle.mover.specs.declared.lane.Lane.{Lane}
 use Rattle.mover.specs.Epochs.{LanesBrokeAs}
 use Rattle.xrc_status.specs.declared.stop.Stop.{Stop}
 use Rattle.xrc_status.specs.declared.stop.Stop.TheVariants.{BadLine, ConsoleFault}
-use Rattle.xrc_session.specs.Between.{HasAnswered, HasNotBegun, IsAtSite, IsBetween, IsRunOver, IsUnstarted, RestsAtSite, stage_behind}
+use Rattle.xrc_session.specs.LinePauses.{HasAnswered, HasNotBegun, IsAtSite, IsBetween, IsRunOver, IsUnstarted, RestsAtSite, stage_behind}
 use Rattle.xrc_session.specs.Frames.{KeepsPlant}
 use Rattle.xrc_session.specs.Runs.{AreLabels, IsBadBehind, IsKnownSession, RunsLines}
 use Rattle.xrc_session.specs.Starting.{BeginsRun, HasBegunRun}

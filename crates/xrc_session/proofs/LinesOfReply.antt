@@ -13,7 +13,7 @@ use Rattle.xrc_status.specs.Saying.{SaidWhole, SaysText}
 use Rattle.xrc_status.specs.declared.stop.Stop.{Stop}
 use Rattle.xrc_status.specs.declared.stop.Stop.TheVariants.{ConsoleFault, NoMemory}
 use Rattle.xrc_session.specs.declared.answering.LineAnswer.{LineAnswer}
-use Rattle.xrc_session.specs.Between.{IsBetween}
+use Rattle.xrc_session.specs.LinePauses.{IsBetween}
 use Rattle.xrc_session.specs.Frames.{KeepsPlant, SuspendsByCounts}
 use Rattle.xrc_session.specs.Lines.{IsDoneLine, IsSameSession, IsStartAnswered, KeepsStart, StartsByLine}
 use Rattle.xrc_session.specs.Replying.{reply_composed}

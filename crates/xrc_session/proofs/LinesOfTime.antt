@@ -19,7 +19,7 @@ use Rattle.xrc_status.specs.declared.stop.Stop.{Stop}
 use Rattle.xrc_session.specs.declared.answering.LineAnswer.{LineAnswer}
 use Rattle.xrc_session.specs.declared.kept.Kept.{Kept}
 use Rattle.xrc_session.specs.Answering.{AnswersCommands, ControlsCount, IsSiteAnswered, group_taken, is_end_accepted}
-use Rattle.xrc_session.specs.Between.{HasCut, IsAtSite, IsBetween, IsReadyForEpoch, MayCommandSite}
+use Rattle.xrc_session.specs.LinePauses.{HasCut, IsAtSite, IsBetween, IsReadyForEpoch, MayCommandSite}
 use Rattle.xrc_session.specs.Bringing.{BreakOnAsTraces, IsSiteBrought, IsWorkOfStore}
 use Rattle.xrc_session.specs.Frames.{KeepsPlant, SuspendsByCounts}
 use Rattle.xrc_session.specs.Lanes.{with_lanes_broken}

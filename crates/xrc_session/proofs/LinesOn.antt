@@ -9,7 +9,7 @@ use Rattle.crash_plant.specs.Moments.{IsDurable, PlantState, on}
 use Rattle.pair_table.specs.declared.level.Level.{Level}
 use Rattle.pair_table.specs.declared.names.NamedDevice.{NamedDevice}
 use Rattle.site_store.specs.Sites.{SiteState}
-use Rattle.consistency.specs.Bears.{Run}
+use Rattle.consistency.specs.Stages.{Run}
 use Rattle.consistency.specs.Courses.{Answered, first_line, last_line_time, later_line, most_lines}
 use Rattle.script_lines.specs.declared.next.Next.TheVariants as next
 use Rattle.script_lines.specs.NextLines.{IsNextLine}
@@ -22,7 +22,7 @@ use Rattle.mover.proofs.TurningOut.{traces_turn_out}
 use Rattle.xrc_status.specs.declared.stop.Stop.{Stop}
 use Rattle.xrc_status.specs.declared.stop.Stop.TheVariants.{BadLine}
 use Rattle.xrc_session.specs.AppliedEnds.{AppliesEnds}
-use Rattle.xrc_session.specs.Between.{IsBetween, IsRunOfSession, IsRunOver, LeavesAll}
+use Rattle.xrc_session.specs.LinePauses.{IsBetween, IsRunOfSession, IsRunOver, LeavesAll}
 use Rattle.xrc_session.specs.Frames.{KeepsPlant}
 use Rattle.xrc_session.specs.Lanes.{AllWent}
 use Rattle.xrc_session.specs.Lines.{IsSameSession, KeepsStart, StartsByLine}

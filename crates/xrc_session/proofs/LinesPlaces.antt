@@ -11,7 +11,7 @@ use Rattle.xrc_status.specs.declared.stop.Stop.{Stop}
 use Rattle.xrc_session.specs.declared.kept.Kept.{Kept}
 use Rattle.xrc_session.specs.declared.place.Place.{Place}
 use Rattle.xrc_session.specs.declared.place.Place.TheVariants.{Started, Unstarted}
-use Rattle.xrc_session.specs.Between.{IsBetween}
+use Rattle.xrc_session.specs.LinePauses.{IsBetween}
 use Rattle.xrc_session.specs.Lanes.{AllWent}
 use Rattle.xrc_session.specs.States.{SessionState, site_in, table_in}
 use Rattle.xrc_session.specs.Stops.{HasStopCause, StopsByCount}

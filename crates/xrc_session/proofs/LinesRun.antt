@@ -10,7 +10,7 @@ use Rattle.crash_plant.specs.Moments.{PlantState}
 use Rattle.write_trace.specs.declared.trace.Trace.{Trace}
 use Rattle.pair_table.specs.declared.names.NamedDevice.{NamedDevice}
 use Rattle.site_store.specs.Sites.{SiteState}
-use Rattle.consistency.specs.Bears.{Run}
+use Rattle.consistency.specs.Stages.{Run}
 use Rattle.consistency.specs.Courses.{Answered, first_line, is_whole_line, last_line_time, later_line, lines_begun, most_lines, texts_of, stage_at}
 use Rattle.consistency.proofs.Lines.{whole_at_end}
 use Rattle.script_lines.specs.declared.next.Next.TheVariants as next
@@ -25,7 +25,7 @@ use Rattle.mover.proofs.TurningOut.{traces_turn_out}
 use Rattle.xrc_command.specs.declared.line.Line.{Line}
 use Rattle.xrc_status.specs.declared.stop.Stop.{Stop}
 use Rattle.xrc_status.specs.declared.stop.Stop.TheVariants.{Spent}
-use Rattle.xrc_session.specs.Between.{HasAnswered, HasNotBegun, IsBetween, IsRunOver, LeavesAll, RestsAtSite, stage_behind}
+use Rattle.xrc_session.specs.LinePauses.{HasAnswered, HasNotBegun, IsBetween, IsRunOver, LeavesAll, RestsAtSite, stage_behind}
 use Rattle.xrc_session.specs.Ends.{StopsInLine}
 use Rattle.xrc_session.specs.Frames.{KeepsPlant}
 use Rattle.xrc_session.specs.Lanes.{AllWent, HaveHeadsOf}
@@ -81,11 +81,11 @@ hearing_stops {S} run lines trail text s lanes began now stop answered unstarted
     part = None;
     stands = answered.goes;
     exact = answered.exact;
-    none = λ unstarted_trail. by_none s.site unstarted_trail answered.stands.place;
+    unstarted = λ unstarted_trail. by_none s.site unstarted_trail answered.stands.place;
     begun = λ on. by_begun s.site refl on answered.stands.place;
     next = None;
-    along = λ some. by_along s.site some answered.stands.place;
-    forth = λ past some. by_place s.site (omega (arith, past, answered.goes.now.later)) some answered.stands.place;
+    on_trail = λ some. by_along s.site some answered.stands.place;
+    goes_forth = λ past some. by_place s.site (omega (arith, past, answered.goes.now.later)) some answered.stands.place;
   };
   volumes = answered.stands.volumes;
   spent = λ is. absurd (other is);
@@ -108,7 +108,7 @@ hearing_stops {S} run lines trail text s lanes began now stop answered unstarted
     by_place : (o : Option SiteState) → 0 < now.clock → 0 < trail.started → MatchOption o (HasNotBegun trail began now) (RestsAtSite run lines (stage_behind run lines text began) trail s began now)
         → GoesForth run lines (stage_behind run lines text began).next trail None began now
     by_place None up some none = absurd (omega (arith, some, none.started))
-    by_place (Some site) up some rests = rests.under_way.forth up
+    by_place (Some site) up some rests = rests.under_way.goes_forth up
 
 -- ---- stops
 

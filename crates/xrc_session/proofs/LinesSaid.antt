@@ -9,8 +9,8 @@ use Rattle.crash_plant.specs.declared.device.Device.TheVariants.{Control}
 use Rattle.crash_plant.specs.Calls.{Says, WorksOnConsole}
 use Rattle.crash_plant.specs.Moments.{PlantState}
 use Rattle.site_store.specs.Sites.{SiteState}
-use Rattle.consistency.specs.Bears.{Run, Stage}
-use Rattle.consistency.specs.Between.{MayReply, RunGoesOn}
+use Rattle.consistency.specs.Stages.{Run, Stage}
+use Rattle.consistency.specs.Pauses.{MayReply, RunGoesOn}
 use Rattle.consistency.specs.Courses.{Answered, AreAsked, IsAnswered, IsCourse, replies_of, stage_at, texts_of}
 use Rattle.consistency.specs.Moments.{BearsThroughout}
 use Rattle.consistency.proofs.Between.{replies_fail, replies_go_on}
@@ -21,7 +21,7 @@ use Rattle.xrc_status.specs.Saying.{SaidWhole}
 use Rattle.xrc_status.specs.declared.stop.Stop.TheVariants.{ConsoleFault}
 use Rattle.xrc_session.specs.declared.answering.LineAnswer.{LineAnswer}
 use Rattle.xrc_session.specs.AppliedEnds.{AppliesEnds, IsAllApplied}
-use Rattle.xrc_session.specs.Between.{HasAnswered, HasNotBegun, RestsAtSite, StandsBehindLines, stage_behind}
+use Rattle.xrc_session.specs.LinePauses.{HasAnswered, HasNotBegun, RestsAtSite, StandsBehindLines, stage_behind}
 use Rattle.xrc_session.specs.Ends.{StopsInLine}
 use Rattle.xrc_session.specs.Replying.{reply_composed}
 use Rattle.xrc_session.specs.States.{SessionState}
@@ -95,11 +95,11 @@ module _ {S : Type 0} (run : Run) (lines : List Answered) (trail : Trail) (text 
       part = Some a;
       stands = (refl, refl, in_part);
       exact = exact_all;
-      none = λ unstarted_trail. by_none s.site unstarted_trail stands.place;
+      unstarted = λ unstarted_trail. by_none s.site unstarted_trail stands.place;
       begun = λ on. by_begun s.site refl on stands.place;
       next = None;
-      along = λ some. by_along s.site some stands.place;
-      forth = λ past some. by_place s.site (omega (arith, past, to.goes.now.later, later)) some stands.place;
+      on_trail = λ some. by_along s.site some stands.place;
+      goes_forth = λ past some. by_place s.site (omega (arith, past, to.goes.now.later, later)) some stands.place;
     };
     volumes = stands.volumes;
     spent = λ is. absurd cc;
@@ -125,4 +125,4 @@ module _ {S : Type 0} (run : Run) (lines : List Answered) (trail : Trail) (text 
           → GoesForth run (lines ++ a ∷ []) None trail None began new
       by_place None up some none = absurd (omega (arith, some, none.started))
       by_place (Some site) up some rests =
-          subst (λ (o : Option Line). GoesForth run (lines ++ a ∷ []) o trail None began new) (none_next run began.script (lines ++ a ∷ [])) (rests.under_way.forth up)
+          subst (λ (o : Option Line). GoesForth run (lines ++ a ∷ []) o trail None began new) (none_next run began.script (lines ++ a ∷ [])) (rests.under_way.goes_forth up)

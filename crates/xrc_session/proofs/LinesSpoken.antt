@@ -20,7 +20,7 @@ use Rattle.site_store.specs.Records.{IsStore}
 use Rattle.site_store.specs.Sites.{SiteState}
 use Rattle.ckd_track.specs.declared.write.Cause.{Cause}
 use Rattle.xquery_report.specs.Replies.{reply_line}
-use Rattle.consistency.specs.Bears.{Run}
+use Rattle.consistency.specs.Stages.{Run}
 use Rattle.consistency.specs.Courses.{Answered}
 use Rattle.mover.specs.declared.lane.Lane.{Lane}
 use Rattle.xrc_command.specs.declared.line.Line.{Line}
@@ -28,7 +28,7 @@ use Rattle.xrc_status.specs.Saying.{SaidWhole, SaysText}
 use Rattle.xrc_status.specs.declared.stop.Stop.{Stop}
 use Rattle.xrc_status.specs.declared.stop.Stop.TheVariants.{ConsoleFault}
 use Rattle.xrc_session.specs.declared.answering.LineAnswer.{LineAnswer}
-use Rattle.xrc_session.specs.Between.{IsBetween, IsRunOver}
+use Rattle.xrc_session.specs.LinePauses.{IsBetween, IsRunOver}
 use Rattle.xrc_session.specs.Frames.{KeepsPlant, SuspendsByCounts}
 use Rattle.xrc_session.specs.Lines.{IsDoneLine, IsStartAnswered}
 use Rattle.xrc_session.specs.Replying.{causes_in, reply_composed, report_in, reported_site, time_told}

@@ -15,28 +15,28 @@ use Rattle.pair_table.specs.Naming.{Naming}
 use Rattle.pair_table.specs.Tables.{Table, new_table}
 use Rattle.state_set.specs.Slots.{started_table}
 use Rattle.row_changes.specs.Changes.Due.{NoneDue}
-use Rattle.row_changes.specs.Toward.{hit_count}
+use Rattle.row_changes.specs.Spans.{hit_count}
 use Rattle.site_means.specs.Images.{shape_of}
 use Rattle.site_store.specs.Records.{VolumesStay}
 use Rattle.site_store.specs.Sites.{SiteState}
 use Rattle.group_state.specs.Groups.{Group}
 use Rattle.consistency.specs.Bearing.{ShowsPoint}
-use Rattle.consistency.specs.Bears.{Run, Stage, accepts_end, breaks_of, names_of}
+use Rattle.consistency.specs.Stages.{Run, Stage, accepts_end, breaks_of, names_of}
 use Rattle.consistency.specs.Courses.{Answered, replies_of, stage_after, stage_at}
 use Rattle.consistency.specs.Leads.{Point}
 use Rattle.consistency.specs.Steps.{names_at}
-use Rattle.consistency.specs.Between.{RunGoesOn}
+use Rattle.consistency.specs.Pauses.{RunGoesOn}
 use Rattle.consistency.specs.Ways.{Leg, PassedPoint, is_ending, leg_at, stage_point, table_at}
 use Rattle.consistency.proofs.Keeping.{stage_answered}
 use Rattle.consistency.proofs.Legs.{leg_begins}
 use Rattle.consistency.proofs.Lines.{stage_front, stage_more}
 use Rattle.mover.specs.declared.lane.Lane.{Lane}
 use Rattle.mover.specs.Epochs.{LanesBrokeAs}
-use Rattle.mover.specs.Working.{Asked}
+use Rattle.mover.specs.Working.{LinesAsked}
 use Rattle.xrc_command.specs.declared.line.Line.{Line}
 use Rattle.xrc_status.specs.declared.stop.Stop.TheVariants.{NoMemory}
 use Rattle.xrc_session.specs.declared.answering.LineAnswer.{LineAnswer}
-use Rattle.xrc_session.specs.Between.{GoesOnFrom, HasNotBegun, IsRunOfSession, RestsAtSite, StandsAtLeg, StandsBehindLines, site_point, stage_behind}
+use Rattle.xrc_session.specs.LinePauses.{GoesOnFrom, HasNotBegun, IsRunOfSession, RestsAtSite, StandsAtLeg, StandsBehindLines, site_point, stage_behind}
 use Rattle.xrc_session.specs.Frames.{ChangesRows, rows_passed}
 use Rattle.xrc_session.specs.Starting.{StandsStarted, level_started}
 use Rattle.xrc_session.specs.States.{SessionState, site_time}
@@ -187,7 +187,7 @@ module _ {S : Type 0} (run : Run) (lines : List Answered) (trail : Trail) (text 
 
     not_ending : is_ending run (asked_with (lines ++ a ∷ []) None) first ≡ false
     not_ending =
-        ap (λ (f : Asked). accepts_end run (table_at run first.point) (f (length lines))) (sym (sym (asked_of_lines lines a) ∙ asked_of_none (lines ++ a ∷ [])))
+        ap (λ (f : LinesAsked). accepts_end run (table_at run first.point) (f (length lines))) (sym (sym (asked_of_lines lines a) ∙ asked_of_none (lines ++ a ∷ [])))
         ∙ ap (accepts_end run (table_at run first.point)) (asked_there lines (Some line) (length lines) refl)
         ∙ ap (λ (c : Command). accepts_end run (table_at run first.point) (Some (record line { command = c }))) command
 
@@ -203,7 +203,7 @@ module _ {S : Type 0} (run : Run) (lines : List Answered) (trail : Trail) (text 
         };
         rowless = rowless;
         next = tt;
-        forth = λ up. subst (λ (o : Option Line). GoesForth run (lines ++ a ∷ []) o begun None began new) (sym (none_next run began.script (lines ++ a ∷ []))) (forth up);
+        goes_forth = λ up. subst (λ (o : Option Line). GoesForth run (lines ++ a ∷ []) o begun None began new) (sym (none_next run began.script (lines ++ a ∷ []))) (forth up);
         at = at;
         goes_on = λ on.
             subst (λ (o : Option Group). IsSomeAnd o (GoesOnFrom run first.point [] site new)) (sym started.group_is)

@@ -18,8 +18,8 @@ use Rattle.state_set.specs.Slots.{started_table}
 use Rattle.site_store.specs.Records.{VolumesStay}
 use Rattle.site_store.specs.Sites.{SiteState}
 use Rattle.consistency.specs.Answering.{answered_by, reply_content}
-use Rattle.consistency.specs.Bears.{Run, Stage, accepts, breaks_of, names_of}
-use Rattle.consistency.specs.Between.{RunGoesOn}
+use Rattle.consistency.specs.Stages.{Run, Stage, accepts, breaks_of, names_of}
+use Rattle.consistency.specs.Pauses.{RunGoesOn}
 use Rattle.consistency.specs.Courses.{Answered, IsAnswered, stage_at}
 use Rattle.consistency.specs.Leads.{Point}
 use Rattle.consistency.specs.Replying.{HasNames, IsExact, told_tracks}
@@ -34,7 +34,7 @@ use Rattle.xrc_command.specs.declared.line.Line.{Line}
 use Rattle.xrc_status.specs.declared.stop.Stop.{Stop}
 use Rattle.xrc_status.specs.declared.stop.Stop.TheVariants.{NoMemory, Spent}
 use Rattle.xrc_session.specs.declared.answering.LineAnswer.{LineAnswer}
-use Rattle.xrc_session.specs.Between.{HasNotBegun, RestsAtSite, StandsBehindLines, stage_behind}
+use Rattle.xrc_session.specs.LinePauses.{HasNotBegun, RestsAtSite, StandsBehindLines, stage_behind}
 use Rattle.xrc_session.specs.Ends.{StopsInLine}
 use Rattle.xrc_session.specs.Frames.{ChangesRows, rows_passed}
 use Rattle.xrc_session.specs.Replying.{level_in}
@@ -201,11 +201,11 @@ module _ {S : Type 0} (run : Run) (lines : List Answered) (trail : Trail) (text 
         part = None;
         stands = unstarted_goes;
         exact = heard.answered.exact;
-        none = λ unstarted_trail. not_begun.points;
+        unstarted = λ unstarted_trail. not_begun.points;
         begun = λ on. absurd (true≢false (sym on ∙ off));
         next = None;
-        along = λ some. absurd (omega (arith, some, not_begun.started));
-        forth = λ past some. absurd (omega (arith, some, not_begun.started));
+        on_trail = λ some. absurd (omega (arith, some, not_begun.started));
+        goes_forth = λ past some. absurd (omega (arith, some, not_begun.started));
       };
       volumes = unstarted_volumes;
       spent = spent;

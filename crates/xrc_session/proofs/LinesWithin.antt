@@ -10,8 +10,8 @@ use Rattle.pair_table.specs.Tables.{Table}
 use Rattle.xrc_command.specs.declared.line.Line.{Line}
 use Rattle.site_store.specs.Sites.{SiteState}
 use Rattle.consistency.specs.Bearing.{MayBeMeant}
-use Rattle.consistency.specs.Bears.{Run, Stage}
-use Rattle.consistency.specs.Between.{RunGoesOn}
+use Rattle.consistency.specs.Stages.{Run, Stage}
+use Rattle.consistency.specs.Pauses.{RunGoesOn}
 use Rattle.consistency.specs.Courses.{Answered, stage_at}
 use Rattle.consistency.specs.Leads.{Point}
 use Rattle.consistency.specs.Ways.{ComesNext, Leg, PassedPoint, leg_after, stage_point}
@@ -20,7 +20,7 @@ use Rattle.passages.proofs.InARow.{links_go_on}
 use Rattle.mover.specs.declared.lane.Lane.{Lane}
 use Rattle.xrc_status.specs.declared.stop.Stop.{Stop}
 use Rattle.xrc_status.specs.declared.stop.Stop.TheVariants.{Spent}
-use Rattle.xrc_session.specs.Between.{HasAnswered, HasNotBegun, RestsAtSite, StandsBehindLines, stage_behind}
+use Rattle.xrc_session.specs.LinePauses.{HasAnswered, HasNotBegun, RestsAtSite, StandsBehindLines, stage_behind}
 use Rattle.xrc_session.specs.Ends.{StopsInLine}
 use Rattle.xrc_session.specs.Frames.{ChangesRows, rows_passed}
 use Rattle.xrc_session.specs.States.{SessionState}
@@ -43,7 +43,7 @@ pub record IsWithin (run : Run) (lines : List Answered) (trail : Trail) (text : 
   pub begins : BeginsAtStart run lines trail
   pub rowless : (first_leg run lines trail).point.rows ≡ []
   pub next : AreNext run lines line trail
-  pub forth : 0 < now.clock → GoesForth run lines line trail None began now
+  pub goes_forth : 0 < now.clock → GoesForth run lines line trail None began now
   pub marked : (last_leg run lines trail).marked ≡ []
   pub answered : length lines ≤ (last_leg run lines trail).answered
   pub volumes : ChangesRows (rows_passed trail.points) began now
@@ -75,7 +75,7 @@ module _ (run : Run) (lines : List Answered) (trail : Trail) (text : List ℕ) (
         by_past (inr none) = let still = (elapses.kept Control).still (omega (arith, none)) in absurd (omega (arith, up, still))
 
     pub forth_still : 0 < old.clock → GoesForth run lines line (with_points more trail) next began new
-    forth_still past = goes_forth_on run lines line trail began old new site elapses past (within.forth past) stage more next within.marked passes
+    forth_still past = goes_forth_on run lines line trail began old new site elapses past (within.goes_forth past) stage more next within.marked passes
 
     pub along_still : StandsOnTrail run lines line (with_points more trail) next new
     along_still = passed_on_trail run lines line trail stage more next old new within.rowless within.next within.marked passes
@@ -110,11 +110,11 @@ module _ (run : Run) (lines : List Answered) (trail : Trail) (text : List ℕ) (
           part = None;
           stands = goes_still more next passes;
           exact = exact_still more next passes;
-          none = λ unstarted. absurd (omega (arith, unstarted, within.some));
+          unstarted = λ unstarted. absurd (omega (arith, unstarted, within.some));
           begun = λ on. (within.some, record { within = within.begins.within; before = within.begins.before; after = within.begins.after });
           next = next;
-          along = λ some. subst (λ (o : Option Line). StandsOnTrail run lines o (with_points more trail) next new) (sym heard) (along_still more next passes);
-          forth = λ past some. subst (λ (o : Option Line). GoesForth run lines o (with_points more trail) next began new) (sym heard) (forth_still more next passes (omega (arith, past, within.goes.now.later)));
+          on_trail = λ some. subst (λ (o : Option Line). StandsOnTrail run lines o (with_points more trail) next new) (sym heard) (along_still more next passes);
+          goes_forth = λ past some. subst (λ (o : Option Line). GoesForth run lines o (with_points more trail) next began new) (sym heard) (forth_still more next passes (omega (arith, past, within.goes.now.later)));
         };
         volumes = volumes_still more next passes;
         spent = λ is. record { spent = spent is; own = inl has_started };
@@ -129,7 +129,7 @@ module _ (run : Run) (lines : List Answered) (trail : Trail) (text : List ℕ) (
     begins = record { within = within.begins.within; before = within.begins.before; after = within.begins.after };
     rowless = within.rowless;
     next = links_go_on Leg PassedPoint (ComesNext run (asked_with lines line)) leg_after first trail.points more within.next passes.linked;
-    forth = λ up. forth_still more None passes (past_before more None passes up);
+    goes_forth = λ up. forth_still more None passes (past_before more None passes up);
     marked = subst (λ (k : Leg). k.marked ≡ []) (sym joined) none;
     answered = subst (λ (k : Leg). length lines ≤ k.answered) (sym joined) all;
     volumes = volumes_still more None passes;
@@ -158,7 +158,7 @@ module _ {S : Type 0} (run : Run) (lines : List Answered) (trail : Trail) (text 
     begins = rests_at.under_way.begins;
     rowless = rests_at.under_way.rowless;
     next = subst (λ (o : Option Line). AreNext run lines o trail) heard.next rests_at.under_way.next;
-    forth = λ up. subst (λ (o : Option Line). GoesForth run lines o trail None began old) heard.next (rests_at.under_way.forth up);
+    goes_forth = λ up. subst (λ (o : Option Line). GoesForth run lines o trail None began old) heard.next (rests_at.under_way.goes_forth up);
     marked = rests_at.rest.marked;
     answered = omega (arith, rests_at.rest.answered);
     volumes = heard.answered.stands.volumes;

@@ -18,7 +18,7 @@ use Rattle.mover.specs.Rounds.{AreLanesOf}
 use Rattle.site_store.specs.Standing.{HasLengths}
 use Rattle.xrc_status.specs.declared.stop.Stop.{Stop}
 use Rattle.xrc_status.specs.declared.stop.Stop.TheVariants.{BadSite, HeaderFault, NoMemory}
-use Rattle.xrc_session.specs.Between.{IsBetween}
+use Rattle.xrc_session.specs.LinePauses.{IsBetween}
 use Rattle.xrc_session.specs.Lanes.{HaveVolumes, SourceBytes, primaries_in}
 use Rattle.xrc_session.specs.Openings.{AreLanesOpened, ComesEarly, IsOfHeaders, IsOfSite, OpensInOrder, StopsByHeaders, first_too_short, has_site_numbers, opening_stop, session_need, stop_of_headers, stop_of_length, stop_of_site}
 use Rattle.xrc_session.specs.States.{SessionState}

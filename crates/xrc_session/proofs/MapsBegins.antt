@@ -19,7 +19,7 @@ use Rattle.group_state.specs.Machine.Reply.{Made}
 use Rattle.group_state.specs.Machine.Call.{Join, NextWanted, Copied, Raise, Break, Form, Carry, Drop, Resume, Forget}
 use Rattle.group_state.specs.Calls.{is_by_reader}
 use Rattle.group_state.specs.Runs.{Answer}
-use Rattle.group_state.specs.Sound.{has_told, is_dropped, is_entry_of_control}
+use Rattle.group_state.specs.SoundStates.{has_told, is_dropped, is_entry_of_control}
 use Rattle.group_state.proofs.FormLaws.{all_at}
 use Rattle.record_rows.specs.Deeds.{Deed, rows_behind, rows_by_deed, time_by_deed}
 use Rattle.record_rows.specs.Deeds.Deed.{Logged}
@@ -27,7 +27,7 @@ use Rattle.record_rows.specs.Hits.{is_by_device, is_device_suspended}
 use Rattle.fed_logs.specs.Feeds.{IsFedBy, is_call_of_reader}
 use Rattle.fed_logs.specs.Logs.{BeginsLog, IsFedLog, Sizes, is_call_of_seat}
 use Rattle.fed_logs.specs.Moves.{AreQuiet, HasRowIn, IsDuplex, IsKeptWhole, IsLogged, KeepsCall, KeepsDropped, KeepsShown, Plans, ShowsNothing, is_plan_shown_done, plans_with_shown, plans_without}
-use Rattle.fed_logs.specs.Told.{HeldTracks, floor_of, has_changed, held_behind_group}
+use Rattle.fed_logs.specs.ToldTracks.{HeldTracks, floor_of, has_changed, held_behind_group}
 use Rattle.fed_logs.proofs.Bearing.{kept_shown}
 use Rattle.fed_logs.proofs.Keeping.{at_map, told_to_last}
 use Rattle.fed_logs.proofs.Standing.{at_with}

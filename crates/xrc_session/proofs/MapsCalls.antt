@@ -15,10 +15,10 @@ use Rattle.group_state.specs.Controls.{ControlState, broke, copied, dropped, for
 use Rattle.group_state.specs.Groups.{Group, control_at, formed_at, with_control}
 use Rattle.group_state.specs.Machine.{Call, Reply}
 use Rattle.group_state.specs.Runs.{May}
-use Rattle.group_state.specs.Sound.{MayJoin, Sound, is_dropped}
+use Rattle.group_state.specs.SoundStates.{MayJoin, Sound, is_dropped}
 use Rattle.group_state.specs.Calls.{is_by_reader}
 use Rattle.group_state.proofs.SoundLaws.{dropped_none, none_waits}
-use Rattle.fed_logs.specs.Told.{floor_of, has_changed}
+use Rattle.fed_logs.specs.ToldTracks.{floor_of, has_changed}
 use Rattle.fed_logs.specs.Feeds.{IsFedBy, entries_between}
 use Rattle.fed_logs.proofs.Keeping.{at_map}
 use Rattle.fed_logs.proofs.Standing.{at_with}

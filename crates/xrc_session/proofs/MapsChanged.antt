@@ -11,7 +11,7 @@ use Rattle.write_trace.specs.Writes.{writes_of}
 use Rattle.xrc_edge.specs.Order.{in_order, put_in_order}
 use Rattle.primary_ctl.specs.States.{is_on}
 use Rattle.primary_ctl.specs.Primaries.{ControlWrite, all_writes, is_on_track, is_written_earlier, write_of_control}
-use Rattle.consistency.specs.Bears.{Run}
+use Rattle.consistency.specs.Stages.{Run}
 use Rattle.consistency.specs.Owing.{is_changed}
 use Rattle.xrc_session.specs.Maps.{has_write_between}
 

@@ -23,13 +23,13 @@ use Rattle.group_state.specs.Controls.{ControlState, counts, resumed}
 use Rattle.group_state.specs.Groups.{Group, control_at}
 use Rattle.group_state.specs.Machine.{Call, group_after}
 use Rattle.group_state.specs.Machine.Call.{Drop, Resume}
-use Rattle.group_state.specs.Sound.{KeepsGroup}
+use Rattle.group_state.specs.SoundStates.{KeepsGroup}
 use Rattle.group_state.specs.Volumes.{owed, owed_in, passes, resumed_volume, volume_of}
 use Rattle.group_state.proofs.Kept.{kept_next}
 use Rattle.record_rows.specs.Hits.{is_by_device, is_device_suspended}
 use Rattle.record_rows.proofs.Devices.{apart_of}
 use Rattle.passages.specs.Points.{last_point}
-use Rattle.consistency.specs.Bears.{Run, tracks_of_row}
+use Rattle.consistency.specs.Stages.{Run, tracks_of_row}
 use Rattle.consistency.specs.Leads.{Point}
 use Rattle.consistency.specs.Owing.{has_pair_in, is_changed, is_same_state, owes_in, owes_track, was_duplex}
 use Rattle.consistency.specs.Ways.{PassedPoint}

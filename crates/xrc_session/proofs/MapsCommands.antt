@@ -17,7 +17,7 @@ use Rattle.group_state.specs.Controls.{counts}
 use Rattle.group_state.specs.Groups.{Group, control_at}
 use Rattle.group_state.specs.Machine.{Call}
 use Rattle.group_state.specs.Machine.Call.{Drop, Forget}
-use Rattle.record_rows.specs.Told.{InPlaces}
+use Rattle.record_rows.specs.ToldRows.{InPlaces}
 use Rattle.mover.proofs.Failing.{among_map}
 use Rattle.mover.proofs.Pairs.{Among, among_cases, apart_among}
 use Rattle.mover.proofs.Pairs.Among.{Here, Later}

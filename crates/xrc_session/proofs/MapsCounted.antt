@@ -13,7 +13,7 @@ use Rattle.group_state.specs.Machine.Call.{Join, NextWanted, Copied, Raise, Brea
 use Rattle.group_state.specs.Runs.{Answer, May}
 use Rattle.fed_logs.specs.Feeds.{is_call_of_reader}
 use Rattle.fed_logs.specs.Logs.{IsFedLog, is_call_of_seat}
-use Rattle.fed_logs.specs.Told.{floor_of}
+use Rattle.fed_logs.specs.ToldTracks.{floor_of}
 use Rattle.fed_logs.proofs.Keeping.{at_map}
 use Rattle.fed_logs.proofs.Standing.{at_with}
 use Rattle.fed_logs.proofs.ReadCalls.{answer_of, drop_log, form_log, read_on}

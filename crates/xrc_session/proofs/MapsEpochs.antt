@@ -12,10 +12,10 @@ use Rattle.group_state.specs.declared.phase.Phase.{Phase}
 use Rattle.group_state.specs.declared.phase.Phase.TheVariants.{Telling, Broken, Reported}
 use Rattle.group_state.specs.Controls.{counts, is_telling, new_control}
 use Rattle.group_state.specs.Groups.{Group, control_at}
-use Rattle.group_state.specs.Sound.{KeepsGroup, has_told}
+use Rattle.group_state.specs.SoundStates.{KeepsGroup, has_told}
 use Rattle.group_state.proofs.FormLaws.{all_at}
 use Rattle.passages.specs.Points.{last_point}
-use Rattle.consistency.specs.Bears.{Run, breaks_of}
+use Rattle.consistency.specs.Stages.{Run, breaks_of}
 use Rattle.consistency.specs.Leads.{Point}
 use Rattle.consistency.specs.Ways.{PassedPoint}
 use Rattle.site_store.specs.DeedChanges.{deeds_of}
@@ -23,7 +23,7 @@ use Rattle.site_store.specs.Sites.{SiteState}
 use Rattle.fed_logs.specs.Feeds.{part_of_mover}
 use Rattle.fed_logs.specs.Logs.{IsFedLog}
 use Rattle.fed_logs.specs.ShownBreaks.{BreaksAreToCome, BrokeAsTraces}
-use Rattle.fed_logs.specs.Told.{floor_of}
+use Rattle.fed_logs.specs.ToldTracks.{floor_of}
 use Rattle.fed_logs.proofs.Bearing.{reached_holds}
 use Rattle.fed_logs.proofs.Keeping.{told_to_last}
 use Rattle.fed_logs.proofs.ReadCalls.{some_trace}

@@ -9,7 +9,7 @@ use Rattle.ckd_track.specs.declared.write.Batch.{Batch}
 use Rattle.ckd_track.specs.declared.write.Write.{Write}
 use Rattle.change_map.specs.Sets.{has_track}
 use Rattle.change_map.proofs.InSets.{has_none}
-use Rattle.cut_core.specs.Legal.{are_in}
+use Rattle.cut_core.specs.LegalHistories.{are_in}
 use Rattle.pending_queue.specs.Entries.{copies, copy_head, copy_of, due, entries_of, entry_stamp, entry_tracks, is_later, is_of_volume, left}
 use Rattle.group_state.specs.declared.phase.Phase.{Phase}
 use Rattle.group_state.specs.declared.phase.Phase.TheVariants.{Telling, Broken, Reported}
@@ -20,13 +20,13 @@ use Rattle.group_state.specs.Groups.{Group, control_at, cut_of, formed_at, new_g
 use Rattle.group_state.specs.Machine.{Call, group_after}
 use Rattle.group_state.specs.Machine.Call.{Join, NextWanted, Copied, Raise, Break, Form, Carry, Drop, Resume, Forget}
 use Rattle.group_state.specs.Runs.{May}
-use Rattle.group_state.specs.Sound.{KeepsGroup, Sound, has_told}
+use Rattle.group_state.specs.SoundStates.{KeepsGroup, Sound, has_told}
 use Rattle.group_state.proofs.FormLaws.{all_at}
 use Rattle.group_state.proofs.GroupLaws.{length_new}
 use Rattle.group_state.proofs.SoundLaws.{all_filter, all_joined, all_kept, all_up}
 use Rattle.group_state.proofs.Stands.{new_at}
 use Rattle.group_state.proofs.VolumeLaws.{found_behind, found_with, found_without}
-use Rattle.fed_logs.specs.Told.{floor_of}
+use Rattle.fed_logs.specs.ToldTracks.{floor_of}
 use Rattle.fed_logs.proofs.Keeping.{at_map, told_to_last}
 use Rattle.fed_logs.proofs.Standing.{at_with, formed_count, same_count}
 use Rattle.xrc_session.specs.Maps.{CallsKeepMaps, KeepsMaps, NewGroupsKeepMaps, waits_above}

@@ -14,7 +14,7 @@ use Rattle.group_state.specs.Groups.{Group, control_at, cut_of, formed_at, with_
 use Rattle.group_state.specs.Machine.{Call, Reply}
 use Rattle.group_state.specs.Machine.Call.{Join, NextWanted, Copied, Raise, Break, Form, Carry, Drop, Resume, Forget}
 use Rattle.group_state.specs.Runs.{Answer}
-use Rattle.group_state.specs.Sound.{is_dropped}
+use Rattle.group_state.specs.SoundStates.{is_dropped}
 use Rattle.fed_logs.specs.Feeds.{is_call_of_reader}
 use Rattle.fed_logs.specs.Logs.{IsFedLog, is_call_of_seat, is_of_size}
 use Rattle.fed_logs.proofs.Keeping.{at_map}

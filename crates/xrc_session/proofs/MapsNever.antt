@@ -16,10 +16,10 @@ use Rattle.group_state.specs.Groups.{Group, control_at, cut_of, formed_at, shown
 use Rattle.group_state.specs.Machine.{Call, Reply}
 use Rattle.group_state.specs.Machine.Call.{Join, NextWanted, Copied, Raise, Break, Form, Carry, Drop, Resume, Forget}
 use Rattle.group_state.specs.Runs.{Answer}
-use Rattle.group_state.specs.Sound.{KeepsGroup, is_dropped}
+use Rattle.group_state.specs.SoundStates.{KeepsGroup, is_dropped}
 use Rattle.record_rows.specs.Deeds.{Deed, rows_by_deed, time_by_deed}
 use Rattle.record_rows.specs.Deeds.Deed.{Logged, Changed, Marked}
-use Rattle.record_rows.specs.Told.{InPlaces}
+use Rattle.record_rows.specs.ToldRows.{InPlaces}
 use Rattle.fed_logs.specs.Feeds.{is_call_of_reader, part_of_mover}
 use Rattle.fed_logs.specs.Logs.{IsFedLog, is_call_of_seat}
 use Rattle.fed_logs.specs.Moves.{AreFewer, AreQuiet, HasRowIn, IsDuplex, IsKeptWhole, IsLogged, KeepsCall, KeepsShown, MakesAllDeeds, Plans, ShowsNothing, is_plan_shown_done, plans_with_shown, plans_without}

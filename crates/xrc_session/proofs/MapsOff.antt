@@ -9,7 +9,7 @@ use Rattle.group_state.specs.Groups.{Group, control_at, cut_of, with_control}
 use Rattle.group_state.specs.Machine.{Call, group_after, reply_to}
 use Rattle.group_state.specs.Machine.Call.{Join, NextWanted, Copied, Raise, Break, Form, Carry, Drop, Resume, Forget}
 use Rattle.group_state.specs.Runs.{May}
-use Rattle.group_state.specs.Sound.{KeepsGroup, is_dropped}
+use Rattle.group_state.specs.SoundStates.{KeepsGroup, is_dropped}
 use Rattle.group_state.specs.Volumes.{is_wanted, passes, volume_of}
 use Rattle.group_state.proofs.Kept.{kept_next}
 use Rattle.group_state.proofs.SoundLaws.{all_filter, dropped_none, none_waits}

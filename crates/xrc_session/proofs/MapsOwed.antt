@@ -17,24 +17,24 @@ use Rattle.group_state.specs.Groups.{Group, control_at}
 use Rattle.group_state.specs.Machine.{Call}
 use Rattle.group_state.specs.Machine.Call.{Join, NextWanted, Copied, Raise, Break, Form, Carry, Drop, Resume, Forget}
 use Rattle.group_state.specs.Runs.{Answer, Runs}
-use Rattle.group_state.specs.Sound.{KeepsGroup}
+use Rattle.group_state.specs.SoundStates.{KeepsGroup}
 use Rattle.group_state.specs.Volumes.{volume_of}
 use Rattle.group_state.proofs.Kept.{kept_next}
 use Rattle.record_rows.specs.Deeds.{Deed, rows_behind, rows_by_deed, time_by_deed, time_meant_behind}
 use Rattle.record_rows.specs.Hits.{is_by_device, is_device_suspended}
 use Rattle.passages.specs.Points.{last_point}
-use Rattle.consistency.specs.Bears.{Run, tracks_of_row}
+use Rattle.consistency.specs.Stages.{Run, tracks_of_row}
 use Rattle.consistency.specs.Leads.{Point}
 use Rattle.consistency.specs.Owing.{is_changed, owes_in, owes_track, was_duplex}
 use Rattle.consistency.specs.Ways.{PassedPoint}
 use Rattle.fed_logs.specs.Feeds.{is_answer_of_mover, part_of_mover}
 use Rattle.fed_logs.specs.Logs.{Sizes, is_of_size}
 use Rattle.fed_logs.specs.Moves.{Plans}
-use Rattle.fed_logs.specs.Told.{HeldTracks, floor_of}
+use Rattle.fed_logs.specs.ToldTracks.{HeldTracks, floor_of}
 use Rattle.fed_logs.proofs.Bearing.{reached_holds}
 use Rattle.fed_logs.proofs.ReadCalls.{some_trace}
 use Rattle.mover.specs.Dropping.{owed_by_call, owed_by_calls, owed_in_turn, owes_hit, owes_suspended, owes_through, stood_duplex}
-use Rattle.mover.specs.Told.{IsCarriedAsLive}
+use Rattle.mover.specs.OwedTracks.{IsCarriedAsLive}
 use Rattle.mover.proofs.Copying.{kept_within}
 use Rattle.xrc_session.specs.Maps.{BecomesAt, KeepsMaps, RestsAtCut, RowsGo, maps_track, has_write_between}
 use Rattle.xrc_session.specs.MapsOwed.{HasCutOrNoRow, HaveRowsOf, DeedsLeadTo, MapsOwed, MapsOwedBehindLogs, MapsRest, SuspendedUpTo}

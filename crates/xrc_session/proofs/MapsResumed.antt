@@ -18,7 +18,7 @@ use Rattle.group_state.specs.Machine.{Call, group_after}
 use Rattle.group_state.specs.Machine.Call.{Drop, Resume}
 use Rattle.group_state.specs.Volumes.{is_wanted, passes, resumed_volume, volume_of, wants}
 use Rattle.group_state.proofs.Kept.{kept_next}
-use Rattle.consistency.specs.Bears.{Run, tracks_of_row}
+use Rattle.consistency.specs.Stages.{Run, tracks_of_row}
 use Rattle.consistency.specs.Leads.{Point}
 use Rattle.consistency.specs.Owing.{owes_track}
 use Rattle.consistency.specs.Ways.{PassedPoint}

@@ -11,7 +11,7 @@ use Rattle.pair_table.specs.Rows.{is_suspended}
 use Rattle.pair_table.specs.Tables.{in_state, none_clash}
 use Rattle.record_rows.specs.Deeds.{Deed, rows_behind, rows_by_deed, time_by_deed}
 use Rattle.record_rows.specs.Hits.{is_device_suspended}
-use Rattle.record_rows.specs.Told.{InPlaces}
+use Rattle.record_rows.specs.ToldRows.{InPlaces}
 use Rattle.fed_logs.specs.Moves.{HasRowIn}
 use Rattle.mover.specs.Dropping.{is_duplex_row, is_duplex_state, stood_duplex}
 use Rattle.mover.proofs.Pairs.{among_of, apart_still, found_row, is_of_volume_at, pair_of, pairs_of}

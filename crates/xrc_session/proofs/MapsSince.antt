@@ -14,11 +14,11 @@ use Rattle.group_state.specs.declared.volume.Volume.{Volume}
 use Rattle.group_state.specs.Volumes.{carries, dropped_volume, passes, volume_of, wants}
 use Rattle.group_state.specs.Controls.{ControlState, dropped, formed}
 use Rattle.group_state.specs.Groups.{Group, control_at, shown_at}
-use Rattle.group_state.specs.Sound.{KeepsGroup, Sound, is_entry_of_control}
+use Rattle.group_state.specs.SoundStates.{KeepsGroup, Sound, is_entry_of_control}
 use Rattle.group_state.proofs.OwnParts.{own_part}
 use Rattle.group_state.proofs.SoundLaws.{all_filter, all_kept, tracks_within}
 use Rattle.group_state.proofs.VolumeLaws.{found_with}
-use Rattle.fed_logs.specs.Told.{has_no_later_copy, is_no_later_copy}
+use Rattle.fed_logs.specs.ToldTracks.{has_no_later_copy, is_no_later_copy}
 use Rattle.fed_logs.specs.Logs.{IsPlanDone}
 use Rattle.xrc_session.specs.Maps.{maps_track, has_write_between, waits_above}
 use Rattle.xrc_session.proofs.MapsVolumes.{is_live}

@@ -14,7 +14,7 @@ use Rattle.pair_table.specs.Rows.{is_suspended}
 use Rattle.pair_table.specs.Tables.{in_state, is_of, row_of}
 use Rattle.row_changes.specs.Changes.{Due, RowChange, Timed, after_change, after_changes, due_after, hit_row, is_of_record, may_come, may_mature, reached_row, row_after_change, row_may_mature, since, suspended_by}
 use Rattle.row_changes.specs.Changes.RowChange.{Break, Hit, MarkedHit, Mature, Reached}
-use Rattle.record_rows.specs.Told.{InPlaces}
+use Rattle.record_rows.specs.ToldRows.{InPlaces}
 use Rattle.site_store.specs.DeedChanges.{DeedOfChanges, deeds_of}
 use Rattle.consistency.specs.Leads.{Comes, Point}
 use Rattle.consistency.specs.Ways.{are_at_time}

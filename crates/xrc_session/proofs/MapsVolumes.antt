@@ -12,7 +12,7 @@ use Rattle.pending_queue.specs.Maps.{with_tracks}
 use Rattle.primary_ctl.specs.States.{is_on}
 use Rattle.group_state.specs.declared.volume.Volume.{Volume}
 use Rattle.group_state.specs.Volumes.{copied_track, dropped_volume, formed_track, noted_write, passes, volume_of, with_formed_copies, with_formed_copy, with_volume, with_write, with_writes}
-use Rattle.group_state.specs.Sound.{are_within, is_dropped, is_track_within, passes_or_none}
+use Rattle.group_state.specs.SoundStates.{are_within, is_dropped, is_track_within, passes_or_none}
 use Rattle.group_state.proofs.SoundLaws.{all_within_write, length_dropped, written_keeps}
 use Rattle.group_state.proofs.VolumeLaws.{found_with}
 use Rattle.fed_logs.specs.Logs.{is_of_size}

@@ -19,10 +19,10 @@ use Rattle.group_state.specs.Controls.{ControlState, broke, carried_writes, copi
 use Rattle.group_state.specs.Groups.{Group, control_at, formed_at, with_control}
 use Rattle.group_state.specs.Machine.{Call, Reply}
 use Rattle.group_state.specs.Runs.{May}
-use Rattle.group_state.specs.Sound.{Sound, are_up_to, has_told}
+use Rattle.group_state.specs.SoundStates.{Sound, are_up_to, has_told}
 use Rattle.group_state.specs.Calls.{is_by_reader}
 use Rattle.group_state.proofs.SoundLaws.{written_keeps}
-use Rattle.fed_logs.specs.Told.{floor_of, has_changed, has_no_later_copy, is_no_later_copy}
+use Rattle.fed_logs.specs.ToldTracks.{floor_of, has_changed, has_no_later_copy, is_no_later_copy}
 use Rattle.fed_logs.specs.Feeds.{IsFedBy, entries_between}
 use Rattle.fed_logs.proofs.Keeping.{at_map, told_to_last}
 use Rattle.fed_logs.proofs.Standing.{at_with}

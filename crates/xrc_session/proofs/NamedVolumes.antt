@@ -16,7 +16,7 @@ use Rattle.pair_table.specs.Naming.{MayName, Naming, are_alike, none_alike, with
 use Rattle.pair_table.specs.Rows.{are_in_ranges}
 use Rattle.pair_table.proofs.NamingLaws.{apart_more}
 use Rattle.pair_table.proofs.PutLaws.{name_sym}
-use Rattle.consistency.specs.Bears.{volumes_named}
+use Rattle.consistency.specs.Stages.{volumes_named}
 use Rattle.xrc_session.specs.Openings.{AreSerialsNamed, NamesApart, first_named_again, is_named_in, serials_in_header}
 
 -- ---- tests

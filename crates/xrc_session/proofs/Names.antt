@@ -18,7 +18,7 @@ use Rattle.pair_table.specs.Commands.{answer, answer_by, change_of}
 use Rattle.pair_table.specs.Naming.{Naming, has_volumes, numbers_set, primary_of}
 use Rattle.pair_table.specs.Refusals.{refuses_primary}
 use Rattle.pair_table.specs.Tables.{Table}
-use Rattle.consistency.specs.Bears.{Run, breaks_of, names_of, primaries_named, volumes_named}
+use Rattle.consistency.specs.Stages.{Run, breaks_of, names_of, primaries_named, volumes_named}
 use Rattle.consistency.specs.Steps.{broken_at, names_at}
 use Rattle.mover.specs.declared.lane.Lane.{Lane}
 use Rattle.mover.specs.Lanes.{broken_by, reader_in}

@@ -6,7 +6,7 @@ use Rattle.crash_plant.specs.Moments.{PlantState}
 use Rattle.site_means.specs.Images.{shape_of}
 use Rattle.xrc_command.specs.declared.line.Line.{Line}
 use Rattle.consistency.specs.Bearing.{MayBeMeant, ShowsPoint}
-use Rattle.consistency.specs.Bears.{Run, Stage}
+use Rattle.consistency.specs.Stages.{Run, Stage}
 use Rattle.consistency.specs.Courses.{Answered}
 use Rattle.consistency.specs.Leads.{Point}
 use Rattle.consistency.specs.Ways.{ComesNext, Leg, PassedPoint, leg_after}
@@ -14,7 +14,7 @@ use Rattle.site_store.specs.Sites.{SiteState}
 use Rattle.passages.specs.Points.{last_point}
 use Rattle.passages.proofs.InARow.{links_go_on}
 use Rattle.mover.specs.Working.{IsOnItsWay, ShowsLast}
-use Rattle.xrc_session.specs.Between.{RestsAtSite}
+use Rattle.xrc_session.specs.LinePauses.{RestsAtSite}
 use Rattle.xrc_session.specs.States.{SessionState}
 use Rattle.xrc_session.specs.Steps.{PassesPointsOn}
 use Rattle.xrc_session.specs.Trails.{AreNext, StandsOnTrail, Trail, asked_with, first_leg, last_leg, with_points}

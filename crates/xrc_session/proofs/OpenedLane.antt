@@ -11,10 +11,10 @@ use Rattle.write_trace.specs.declared.trace.HeaderError.{HeaderError}
 use Rattle.write_trace.specs.declared.trace.HeaderError.TheVariants as header
 use Rattle.write_trace.specs.declared.trace.Trace.{Trace}
 use Rattle.write_trace.specs.Answers.{ReaderState}
-use Rattle.write_trace.specs.Good.{after_header, bad_start, entries_from, most_bytes, trace_of, whole_trace}
+use Rattle.write_trace.specs.WholeTraces.{after_header, bad_start, entries_from, most_bytes, trace_of, whole_trace}
 use Rattle.write_trace.specs.Headers.{header_at}
 use Rattle.write_trace.specs.Starts.{ReadsHeader, Starts}
-use Rattle.write_trace.specs.Unread.{seen}
+use Rattle.write_trace.specs.UnreadBytes.{seen}
 use Rattle.mover.specs.declared.lane.Lane.{Lane}
 use Rattle.xrc_status.specs.declared.stop.Stop.{Stop}
 use Rattle.xrc_status.specs.declared.stop.Stop.TheVariants.{BadHeader, HeaderFault, NoMemory}

@@ -31,17 +31,17 @@ use Rattle.group_state.specs.Controls.{ControlState, counts, is_telling, new_con
 use Rattle.group_state.specs.Groups.{Group, control_at, new_group}
 use Rattle.group_state.proofs.GroupLaws.{length_new}
 use Rattle.group_state.proofs.Stands.{new_at}
-use Rattle.record_rows.specs.Told.{InPlaces}
+use Rattle.record_rows.specs.ToldRows.{InPlaces}
 use Rattle.site_store.specs.Commands.{label_has_volume}
 use Rattle.site_store.specs.Sites.{SiteState}
-use Rattle.consistency.specs.Bears.{volumes_named}
+use Rattle.consistency.specs.Stages.{volumes_named}
 use Rattle.mover.specs.declared.lane.Lane.{Lane}
 use Rattle.mover.specs.Readers.{LaneReaderState}
 use Rattle.mover.specs.Lanes.{IsReaderOf, IsSameLane, broken_by, heads_of, reader_in}
 use Rattle.mover.specs.Rounds.{AreLanesOf}
 use Rattle.mover.specs.Epochs.{AreSameLanes, IsSamePair, LanesBrokeAs, break_below}
 use Rattle.xrc_session.specs.Answering.{ControlsCount}
-use Rattle.xrc_session.specs.Between.{IsReadyForEpoch, IsUnstarted, MayCommandSite}
+use Rattle.xrc_session.specs.LinePauses.{IsReadyForEpoch, IsUnstarted, MayCommandSite}
 use Rattle.xrc_session.specs.Bringing.{IsSiteBrought}
 use Rattle.xrc_session.specs.Joins.{AreNamedOfLanes, HasInHeader}
 use Rattle.xrc_session.specs.Lanes.{HaveHeadsOf, HaveVolumes, heads_of_reader, primaries_in, with_lanes_broken}

@@ -16,21 +16,21 @@ use Rattle.record_rows.specs.Deeds.{Deed, entries_by_deed, rows_by_deed}
 use Rattle.record_rows.specs.Deeds.Deed.{Logged, Changed, Marked}
 use Rattle.site_means.specs.Sight.{content_of}
 use Rattle.site_store.specs.Deeds.{content_behind, content_by_deed, kinds_of}
-use Rattle.site_store.specs.Doing.{DoesDeeds}
+use Rattle.site_store.specs.DoneDeeds.{DoesDeeds}
 use Rattle.site_store.specs.Exceptions.{Exceptions, excepted_behind, excepted_by_deed, is_kept, is_whole_on}
 use Rattle.site_store.specs.Seeing.{SeesBehind}
 use Rattle.site_store.proofs.Seeing.{same_content}
-use Rattle.fed_logs.specs.Told.{AllHold, after_entries, has_no_later_copy, is_queued_up_to, is_settled_in}
+use Rattle.fed_logs.specs.ToldTracks.{AllHold, after_entries, has_no_later_copy, is_queued_up_to, is_settled_in}
 use Rattle.fed_logs.specs.Feeds.{truth_of}
 use Rattle.fed_logs.specs.Logs.{BeginsLog}
 use Rattle.fed_logs.specs.Moves.{HasRowIn}
-use Rattle.mover.specs.Told.{ExceptedAreOwed, IsAny, held_by_choice, is_owed, is_volume_kept}
+use Rattle.mover.specs.OwedTracks.{ExceptedAreOwed, IsAny, held_by_choice, is_owed, is_volume_kept}
 use Rattle.mover.proofs.Bearing.{below_among}
 use Rattle.mover.proofs.Ending.{copy_decides, settled_copy, settled_kept, settled_low}
 use Rattle.mover.proofs.Excepting.{excepted_before, none_excepted, unfailed_is_kept}
 use Rattle.mover.proofs.Held.{held_is}
 use Rattle.mover.proofs.Pairs.{among_of}
-use Rattle.xrc_session.specs.BetweenEpochs.{Between, StandsBetween}
+use Rattle.xrc_session.specs.EpochPauses.{Between, StandsBetween}
 use Rattle.xrc_session.specs.CarriedLaws.{IsWithoutEntries, RecordedRowsStand, RowsStandBehindDeeds}
 
 content_still : (d x : ℕ) (rows : List PairRow) (deed : Deed) → entries_by_deed deed ≡ [] → (t : Option (List Rec)) → content_by_deed d x rows deed t ≡ t

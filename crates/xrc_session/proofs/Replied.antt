@@ -23,7 +23,7 @@ use Rattle.xquery_report.specs.Reports.{report_text}
 use Rattle.tod_stamp.specs.Stamps.{stamp_text}
 use Rattle.site_store.specs.Sites.{SiteState}
 use Rattle.consistency.specs.Answering.{ReplyContent, answered_by, reply_content}
-use Rattle.consistency.specs.Bears.{Run, Stage, accepts, breaks_of, names_of}
+use Rattle.consistency.specs.Stages.{Run, Stage, accepts, breaks_of, names_of}
 use Rattle.consistency.specs.Courses.{Answered, replied_after, stage_after, stage_at}
 use Rattle.consistency.specs.Leads.{Point}
 use Rattle.consistency.specs.Replying.{is_query, is_reported, own_line, report_before, told_tracks}
@@ -36,7 +36,7 @@ use Rattle.mover.specs.Epochs.{LanesBrokeAs, break_below}
 use Rattle.mover.specs.Lanes.{broken_by, reader_in}
 use Rattle.xrc_command.specs.declared.line.Line.{Line}
 use Rattle.xrc_session.specs.declared.answering.LineAnswer.{LineAnswer}
-use Rattle.xrc_session.specs.Between.{HasNotBegun, RestsAtSite, StandsBehindLines, stage_behind}
+use Rattle.xrc_session.specs.LinePauses.{HasNotBegun, RestsAtSite, StandsBehindLines, stage_behind}
 use Rattle.xrc_session.specs.Replying.{cause_in, causes_in, reply_composed, report_in, reported_site, time_told}
 use Rattle.xrc_session.specs.States.{SessionState, site_time, session_time}
 use Rattle.xrc_session.specs.Steps.{IsExactBehind, IsToReply, content_behind_lines, line_answered}

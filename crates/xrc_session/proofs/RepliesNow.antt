@@ -8,8 +8,8 @@ use Rattle.crash_plant.specs.Calls.{WorksOnConsole}
 use Rattle.crash_plant.specs.Choices.{AtNow}
 use Rattle.crash_plant.specs.Moments.{PlantState}
 use Rattle.site_means.specs.Images.{shape_of}
-use Rattle.consistency.specs.Bears.{Run, Stage}
-use Rattle.consistency.specs.Between.{MayReply, RunGoesOn}
+use Rattle.consistency.specs.Stages.{Run, Stage}
+use Rattle.consistency.specs.Pauses.{MayReply, RunGoesOn}
 use Rattle.consistency.specs.Courses.{Answered, IsAnswered, last_line_time, replies_of, stage_after, stage_at, texts_of}
 use Rattle.consistency.specs.Keeping.{stage_now}
 use Rattle.consistency.specs.Moments.{AreUpTo, BearsTime}

@@ -23,20 +23,20 @@ use Rattle.site_means.specs.Images.{Shape, shape_of}
 use Rattle.site_means.specs.Sight.{content_of, means_of}
 use Rattle.site_means.proofs.Goes.{shape_same}
 use Rattle.site_store.specs.Deeds.{means_behind, means_by_deed}
-use Rattle.site_store.specs.Doing.{GoesThroughDeeds, PassedDeed, points_of, with_next}
+use Rattle.site_store.specs.DoneDeeds.{GoesThroughDeeds, PassedDeed, points_of, with_next}
 use Rattle.site_store.specs.Exceptions.{Exceptions, excepted_behind, excepted_by_deed, is_kept, is_whole_on}
 use Rattle.site_store.specs.Seeing.{SeesBehind}
 use Rattle.site_store.proofs.Contents.{only_entries}
 use Rattle.site_store.proofs.Points.{are_first}
 use Rattle.site_store.proofs.Turning.{means_are}
-use Rattle.consistency.specs.Bears.{HoldsPrimaries, tracks_of_row}
+use Rattle.consistency.specs.Stages.{HoldsPrimaries, tracks_of_row}
 use Rattle.fed_logs.specs.Moves.{HasRowIn, IsDuplex}
-use Rattle.mover.specs.Told.{held_by_choice}
+use Rattle.mover.specs.OwedTracks.{held_by_choice}
 use Rattle.mover.proofs.Bearing.{below_among}
 use Rattle.mover.proofs.Excepting.{none_excepted, unfailed_is_kept}
 use Rattle.mover.proofs.Held.{held_is}
 use Rattle.mover.proofs.Pairs.{among_of}
-use Rattle.xrc_session.specs.BetweenEpochs.{Between, StandsBetween}
+use Rattle.xrc_session.specs.EpochPauses.{Between, StandsBetween}
 use Rattle.consistency.specs.Bearing.{GoesThroughPoints, ShowsPoint}
 use Rattle.consistency.specs.Leads.{Point}
 use Rattle.consistency.specs.Ways.{Way}

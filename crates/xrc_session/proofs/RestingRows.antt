@@ -20,16 +20,16 @@ use Rattle.row_changes.specs.Changes.{hit_row, reached_row, since}
 use Rattle.record_rows.specs.Deeds.{Deed, entries_by_deed, rows_by_deed}
 use Rattle.record_rows.specs.Deeds.Deed.{Changed, Marked}
 use Rattle.record_rows.specs.Hits.{hit_now, is_device_suspended, is_down, is_hit_now, rows_hit, rows_marked}
-use Rattle.record_rows.specs.Told.{InPlaces}
+use Rattle.record_rows.specs.ToldRows.{InPlaces}
 use Rattle.record_rows.proofs.Telling.{only_failed}
 use Rattle.site_store.specs.Exceptions.{Exceptions, excepted_behind, excepted_by_deed, is_kept, is_whole_on}
 use Rattle.site_store.proofs.Widening.{more_excepted}
 use Rattle.fed_logs.specs.Moves.{HasRowIn}
-use Rattle.mover.specs.Told.{ExceptedAreOwed, IsUnfailed}
+use Rattle.mover.specs.OwedTracks.{ExceptedAreOwed, IsUnfailed}
 use Rattle.mover.proofs.Excepting.{excepted_before, unfailed_is_kept}
 use Rattle.mover.proofs.Pairs.{Among, among_cases, among_of, contains_of}
 use Rattle.mover.proofs.Pairs.Among.{Here, Later}
-use Rattle.xrc_session.specs.BetweenEpochs.{Between, StandsBetween}
+use Rattle.xrc_session.specs.EpochPauses.{Between, StandsBetween}
 use Rattle.xrc_session.specs.CarriedLaws.{IsWithoutEntries, between_taken}
 use Rattle.xrc_session.specs.Taking.{IsSuspendedSince, as_pending, drop_between, rows_by_command, stands_again}
 use Rattle.xrc_session.proofs.Changed.{taken_rows_stand}

@@ -12,15 +12,15 @@ use Rattle.group_state.specs.Controls.{ControlState, resumed}
 use Rattle.group_state.specs.Groups.{control_at, with_control}
 use Rattle.group_state.specs.Machine.Call.{Resume}
 use Rattle.group_state.specs.Machine.Reply.{Owed}
-use Rattle.group_state.specs.Sound.{passes_or_none}
+use Rattle.group_state.specs.SoundStates.{passes_or_none}
 use Rattle.record_rows.specs.Hits.{is_device_suspended}
 use Rattle.fed_logs.proofs.Keeping.{steps_keep}
 use Rattle.fed_logs.specs.Feeds.{truth_of}
 use Rattle.fed_logs.specs.Logs.{is_of_size}
 use Rattle.fed_logs.specs.Moves.{HasRowIn, IsDuplex}
-use Rattle.mover.specs.Told.{IsFailed, IsUnfailed, held_by_choice, is_copied_to, is_mapped, is_owed, is_volume_kept}
+use Rattle.mover.specs.OwedTracks.{IsFailed, IsUnfailed, held_by_choice, is_copied_to, is_mapped, is_owed, is_volume_kept}
 use Rattle.mover.proofs.Pairs.{Among, among_of, apart_still}
-use Rattle.xrc_session.specs.BetweenEpochs.{Between, MayResume, StandsBetween}
+use Rattle.xrc_session.specs.EpochPauses.{Between, MayResume, StandsBetween}
 use Rattle.xrc_session.specs.CarriedLaws.{ResumedRowsStand}
 use Rattle.xrc_session.proofs.Calls.{keeps_resume, resume_itself, resume_other}
 use Rattle.xrc_session.proofs.CarriedRows.{stated_held, stated_others, stated_there}

@@ -14,8 +14,8 @@ use Rattle.write_trace.specs.declared.header.Header.{Header}
 use Rattle.write_trace.specs.declared.header.VolumeHead.{VolumeHead}
 use Rattle.write_trace.specs.declared.trace.HeaderError.{HeaderError}
 use Rattle.write_trace.specs.declared.trace.Trace.{Trace}
-use Rattle.write_trace.specs.Good.{after_header, bad_start, entries_from, trace_of, whole_trace}
-use Rattle.write_trace.specs.Headers.{are_volumes, bases_at, header_at, is_mark, mark, tracks_of, version_at, volumes_at}
+use Rattle.write_trace.specs.WholeTraces.{after_header, bad_start, entries_from, trace_of, whole_trace}
+use Rattle.write_trace.specs.Headers.{are_volumes, bases_at, header_at, is_trace_mark, trace_mark, tracks_of, version_at, volumes_at}
 use Rattle.write_trace.proofs.HeaderSteps.{bytes_keep, volumes_keep}
 use Rattle.write_trace.proofs.FieldsAgain.{first_volume}
 use Rattle.pair_table.specs.declared.names.NamedDevice.{NamedDevice}
@@ -23,7 +23,7 @@ use Rattle.pair_table.specs.declared.names.NamedVolume.{NamedVolume}
 use Rattle.volume_label.specs.Labels.{label_of, with_serial}
 use Rattle.volume_label.specs.declared.label.Label.{Label}
 use Rattle.volume_label.proofs.Labels.{name_parts}
-use Rattle.consistency.specs.Bears.{primaries_named, volumes_named}
+use Rattle.consistency.specs.Stages.{primaries_named, volumes_named}
 use Rattle.xrc_session.specs.Lanes.{AreTracesGiven, SourceBytes, bytes_given, trace_given}
 use Rattle.xrc_session.specs.Runs.{AreLabels, GivesLabel, front_of_volume, named_by}
 use Rattle.xrc_session.specs.Runs.AreLabels.{Given, Last}
@@ -34,8 +34,8 @@ use Rattle.xrc_session.specs.Runs.AreLabels.{Given, Last}
 version_keeps : (left : Left) (x : ℕ × Left) → version_at 1 left ≡ Ok x → x.0 ≡ 1
 unfolding version_at
 version_keeps left x e =
-    let one = bind_ok (bytes_at 4 (is_mark 1) left) (λ m. Ok (slice_index m.0 3 - 48, m.1)) x e in
-    let is : one.0.0 ≡ mark 1 = (bytes_eq-Decides one.0.0 (mark 1)).0 (first_or (bytes_eq one.0.0 (mark 1)) (bytes_keep 4 (is_mark 1) left one.0 one.1)) in
+    let one = bind_ok (bytes_at 4 (is_trace_mark 1) left) (λ m. Ok (slice_index m.0 3 - 48, m.1)) x e in
+    let is : one.0.0 ≡ trace_mark 1 = (bytes_eq-Decides one.0.0 (trace_mark 1)).0 (first_or (bytes_eq one.0.0 (trace_mark 1)) (bytes_keep 4 (is_trace_mark 1) left one.0 one.1)) in
     first_is (slice_index one.0.0 3 - 48, one.0.1) x one.2 ∙ ap (λ (t : List ℕ). slice_index t 3 - 48) is
   where
     first_or : (b : Bool) → (b || false) ≡ true → b ≡ true

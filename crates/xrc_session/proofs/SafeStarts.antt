@@ -25,7 +25,7 @@ use Rattle.site_store.proofs.Fresh.{first_here}
 use Rattle.site_store.proofs.Seeing.{same_means}
 use Rattle.consistency.specs.Courses.{Answered, texts_of}
 use Rattle.consistency.proofs.Standing.{console_choice}
-use Rattle.xrc_session.specs.Between.{LeavesAll}
+use Rattle.xrc_session.specs.LinePauses.{LeavesAll}
 use Rattle.xrc_session.specs.Starting.{BeginsByLine, BeginsRun, FormatsFirst, HasBegunRun, HasStartedRun, HearsStart, IsSafeUpTo, IsStartOfScript, IsUnsaid, LeavesVolumes, MeansStart, ShutsOrStarts, ShutsSite, StandsBehindStart, StartsBehind, StartsSafely, level_started, reply_to_start}
 use Rattle.xrc_session.specs.Starting.BeginsRun.{Starting, Unstarted}
 use Rattle.xrc_session.proofs.Consoles.{stays_then}

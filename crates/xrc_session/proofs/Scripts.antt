@@ -12,9 +12,9 @@ use Rattle.pair_table.specs.declared.level.Level.TheVariants as levels
 use Rattle.pair_table.specs.declared.names.NamedDevice.{NamedDevice}
 use Rattle.pair_table.specs.Tables.{Table}
 use Rattle.record_rows.specs.Hits.{hit_now}
-use Rattle.site_store.specs.Between.{IsSiteIdle}
+use Rattle.site_store.specs.IdleSites.{IsSiteIdle}
 use Rattle.site_store.specs.Sites.{SiteState}
-use Rattle.consistency.specs.Bears.{Run}
+use Rattle.consistency.specs.Stages.{Run}
 use Rattle.consistency.specs.Courses.{Answered, last_line_time}
 use Rattle.consistency.specs.Replying.{HasRunNames}
 use Rattle.consistency.proofs.Between.{runs_begin}
@@ -26,7 +26,7 @@ use Rattle.xrc_status.specs.declared.stop.Stop.{Stop}
 use Rattle.xrc_status.specs.declared.stop.Stop.TheVariants as stops
 use Rattle.xrc_session.specs.AppliedEnds.{AppliesEnds}
 use Rattle.xrc_session.proofs.AppliedEnds.{applies_on}
-use Rattle.xrc_session.specs.Between.{IsAtSite, IsBetween, IsRunOfSession, IsRunOver, IsUnstarted, RisesCover}
+use Rattle.xrc_session.specs.LinePauses.{IsAtSite, IsBetween, IsRunOfSession, IsRunOver, IsUnstarted, RisesCover}
 use Rattle.xrc_session.specs.Lanes.{AllTold, AllWent, AreTracesGiven, HaveHeadsOf, SourceBytes, TurnOutFrom, trace_given}
 use Rattle.xrc_session.specs.Lines.{MayFinish}
 use Rattle.xrc_session.specs.Openings.{ComesEarly, OpensInOrder, first_named_again, opening_stop, serial_place, serials_in_header, stop_of_header, stop_of_headers, stop_of_site}
@@ -159,7 +159,7 @@ module _ {S : Type 0} (tells : Type 0) (left : S → Option (List ℕ)) (faults 
             ends = record {
               stops = record {
                 trail = no_trail;
-                stopped = record { part = None; stands = runs_begin old run; exact = λ n a at. absurd cc; begun = λ on. absurd (cc on); none = λ unstarted. refl; next = None; along = λ started. absurd (omega (arith, started)); forth = λ past started. absurd (omega (arith, started)) };
+                stopped = record { part = None; stands = runs_begin old run; exact = λ n a at. absurd cc; begun = λ on. absurd (cc on); unstarted = λ unstarted. refl; next = None; on_trail = λ started. absurd (omega (arith, started)); goes_forth = λ past started. absurd (omega (arith, started)) };
                 volumes = changes_rows_none [] old old (λ d within. leaves_here old (Volume d));
                 spent = λ is. let clash : stops.NoMemory ≡ stops.Spent = sym memory ∙ is in absurd cc;
               };

@@ -9,16 +9,16 @@ use Rattle.pair_table.specs.Tables.{are_below, none_clash}
 use Rattle.group_state.specs.Volumes.{volume_of}
 use Rattle.group_state.specs.Controls.{ControlState, counts}
 use Rattle.group_state.specs.Groups.{Group, control_at, with_control}
-use Rattle.group_state.specs.Sound.{KeepsGroup, passes_or_none}
-use Rattle.consistency.specs.Bears.{tracks_of_row}
-use Rattle.fed_logs.specs.Told.{AllHold, after_entries, is_queued_up_to, is_settled_in}
+use Rattle.group_state.specs.SoundStates.{KeepsGroup, passes_or_none}
+use Rattle.consistency.specs.Stages.{tracks_of_row}
+use Rattle.fed_logs.specs.ToldTracks.{AllHold, after_entries, is_queued_up_to, is_settled_in}
 use Rattle.fed_logs.specs.Feeds.{truth_of}
 use Rattle.fed_logs.specs.Logs.{BeginsLog, is_of_size}
 use Rattle.fed_logs.specs.Moves.{HasRowIn, IsDuplex, IsLive, Plans}
 use Rattle.fed_logs.proofs.Standing.{at_with, same_count}
-use Rattle.mover.specs.Told.{CarriedAsLive, IsAny, IsFailed, IsUnfailed, held_by_choice, is_owed, is_volume_kept}
+use Rattle.mover.specs.OwedTracks.{CarriedAsLive, IsAny, IsFailed, IsUnfailed, held_by_choice, is_owed, is_volume_kept}
 use Rattle.mover.proofs.Copying.{kept_within}
-use Rattle.xrc_session.specs.BetweenEpochs.{Between, StandsBetween}
+use Rattle.xrc_session.specs.EpochPauses.{Between, StandsBetween}
 use Rattle.xrc_session.proofs.Calls.{KeepsOther, kept_other, other_at, owed_other, own_is, plan_other}
 use Rattle.xrc_session.proofs.CarriedRows.{IsOther, OthersSame}
 

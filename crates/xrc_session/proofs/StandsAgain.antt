@@ -16,7 +16,7 @@ use Rattle.group_state.specs.Controls.{ControlState, new_control, resumed}
 use Rattle.group_state.specs.Groups.{Group, control_at}
 use Rattle.group_state.specs.Machine.{group_after}
 use Rattle.group_state.specs.Machine.Call.{Resume}
-use Rattle.group_state.specs.Sound.{Sound}
+use Rattle.group_state.specs.SoundStates.{Sound}
 use Rattle.group_state.proofs.SoundLaws.{all_up, count_cons, dropped_none, none_waits}
 use Rattle.fed_logs.specs.Logs.{IsPlanDone}
 use Rattle.mover.proofs.Pairs.{Among, among_of}

@@ -25,14 +25,14 @@ use Rattle.group_state.proofs.GroupLaws.{length_new}
 use Rattle.group_state.proofs.Kept.{kept_first}
 use Rattle.group_state.proofs.Stands.{new_at}
 use Rattle.turn_group.specs.Notes.{known_of, volumes_known}
-use Rattle.record_rows.specs.Told.{InPlaces}
+use Rattle.record_rows.specs.ToldRows.{InPlaces}
 use Rattle.site_means.specs.Images.{Shape, shape_of}
 use Rattle.site_means.specs.Sight.{means_in}
 use Rattle.site_means.proofs.Goes.{shape_same}
 use Rattle.xrc_command.specs.declared.line.Line.{Line}
 use Rattle.site_store.specs.Sites.{SiteState, new_site}
 use Rattle.site_store.specs.Standing.{SiteStands, none_excepted}
-use Rattle.consistency.specs.Bears.{Run, Stage}
+use Rattle.consistency.specs.Stages.{Run, Stage}
 use Rattle.consistency.specs.Bearing.{ShowsPoint}
 use Rattle.consistency.specs.Leads.{Point}
 use Rattle.consistency.specs.Ways.{Leg, PassedPoint, leg_at}
@@ -40,11 +40,11 @@ use Rattle.mover.specs.declared.lane.Lane.{Lane}
 use Rattle.mover.specs.Bearing.{StandsSoFar}
 use Rattle.mover.specs.Epochs.{AllTurnOut, IsSamePair, point_of}
 use Rattle.mover.specs.Rounds.{AreLanesOf}
-use Rattle.mover.specs.Working.{Asked, StandsForRows}
+use Rattle.mover.specs.Working.{LinesAsked, StandsForRows}
 use Rattle.xrc_status.specs.declared.stop.Stop.TheVariants as stops
 use Rattle.xrc_session.specs.declared.kept.Kept.{Kept}
 use Rattle.xrc_session.specs.Beginnings.{HasJustStarted, run_at_start, stage_at_start}
-use Rattle.xrc_session.specs.Between.{AreCountsFrom, HasCut, IsReadyForEpoch, MayCommandSite, RisesCover, StandsForSite, site_point}
+use Rattle.xrc_session.specs.LinePauses.{AreCountsFrom, HasCut, IsReadyForEpoch, MayCommandSite, RisesCover, StandsForSite, site_point}
 use Rattle.xrc_session.specs.MapsOwed.{MapsOwed, MapsRest}
 use Rattle.xrc_session.specs.Bringing.{IsSiteBrought}
 use Rattle.xrc_session.specs.Lanes.{sizes_of, with_lanes_broken}
@@ -189,7 +189,7 @@ module _ {S : Type 0} (tells : Type 0) (told : tells) (left : S → Option (List
     abbrev leg : Leg
     leg = leg_at stage 0
 
-    abbrev asked : Asked
+    abbrev asked : LinesAsked
     asked n = Some line
 
     is_new : site ≡ new_site controls volumes run.session run.level at

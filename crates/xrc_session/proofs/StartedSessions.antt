@@ -8,14 +8,14 @@ use Rattle.crash_plant.specs.Choices.{AtNow, Choice, IsChoice}
 use Rattle.crash_plant.specs.Moments.{PlantState}
 use Rattle.group_state.specs.Controls.{ControlState, new_control}
 use Rattle.group_state.specs.Groups.{Group, control_at, new_group}
-use Rattle.group_state.specs.Sound.{KeepsGroup}
+use Rattle.group_state.specs.SoundStates.{KeepsGroup}
 use Rattle.group_state.proofs.GroupLaws.{length_new}
 use Rattle.group_state.proofs.Kept.{kept_first}
 use Rattle.group_state.proofs.Stands.{new_at}
 use Rattle.site_means.specs.Images.{shape_of}
 use Rattle.site_means.specs.Sight.{meant_by}
 use Rattle.xrc_command.specs.declared.line.Line.{Line}
-use Rattle.consistency.specs.Bears.{Run}
+use Rattle.consistency.specs.Stages.{Run}
 use Rattle.fed_logs.specs.Logs.{Sizes}
 use Rattle.fed_logs.specs.ShownBreaks.{BreaksAreToCome, BrokeAsTraces, StillTells}
 use Rattle.fed_logs.proofs.BreaksToCome.{all_breaks_are_to_come}
@@ -23,7 +23,7 @@ use Rattle.fed_logs.proofs.ShownBreaks.{new_groups_are_unbroken}
 use Rattle.consistency.specs.Bearing.{ShowsPoint}
 use Rattle.consistency.specs.Leads.{Point}
 use Rattle.consistency.proofs.Legs.{leg_begins}
-use Rattle.xrc_session.specs.BetweenEpochs.{Between, HasNothing, MayBegin}
+use Rattle.xrc_session.specs.EpochPauses.{Between, HasNothing, MayBegin}
 use Rattle.xrc_session.proofs.Beginning.{first_rows_stand}
 use Rattle.site_store.specs.Sites.{SiteState, meant_for}
 use Rattle.site_store.specs.Standing.{none_excepted}

@@ -13,12 +13,12 @@ use Rattle.group_state.specs.Runs.{Answer}
 use Rattle.row_changes.specs.Changes.{Due}
 use Rattle.row_changes.specs.Changes.Due.{NoneDue}
 use Rattle.record_rows.specs.Deeds.{Deed, rows_behind, rows_by_deed, time_by_deed, time_meant_behind}
-use Rattle.record_rows.specs.Told.{due_after_changes}
+use Rattle.record_rows.specs.ToldRows.{due_after_changes}
 use Rattle.site_means.specs.declared.means.Means.{Means}
 use Rattle.site_means.specs.Sight.{means_of, meant_by}
 use Rattle.site_store.specs.DeedChanges.{DeedOfChanges, deeds_of}
 use Rattle.site_store.specs.Deeds.{means_behind, means_by_deed}
-use Rattle.site_store.specs.Doing.{BeginsDeeds, with_next}
+use Rattle.site_store.specs.DoneDeeds.{BeginsDeeds, with_next}
 use Rattle.site_store.specs.Exceptions.{Exceptions}
 use Rattle.site_store.specs.Seeing.{SeesBehind}
 use Rattle.site_store.specs.Sites.{SiteState, meant_for}
@@ -31,7 +31,7 @@ use Rattle.mover.specs.Epochs.{EpochGoes, TimesRiseTo}
 use Rattle.mover.specs.Moves.{InPlacesByDeeds, KeepsPair}
 use Rattle.mover.specs.Steps.{AreMade, IsDeedMade}
 use Rattle.mover.specs.Steps.IsDeedMade.{Suspends, Marks, MarksFirst, Records, RecordsBehind}
-use Rattle.record_rows.specs.Told.{InPlaces}
+use Rattle.record_rows.specs.ToldRows.{InPlaces}
 use Rattle.xrc_session.specs.Starting.{MeansStart, StaysStarted}
 
 -- ---- deeds without rows

@@ -13,17 +13,17 @@ use Rattle.group_state.specs.Controls.{ControlState, dropped}
 use Rattle.group_state.specs.Groups.{control_at, with_control}
 use Rattle.group_state.specs.Machine.Call.{Drop}
 use Rattle.group_state.specs.Machine.Reply.{Made}
-use Rattle.group_state.specs.Sound.{passes_or_none}
+use Rattle.group_state.specs.SoundStates.{passes_or_none}
 use Rattle.record_rows.specs.Hits.{is_device_suspended}
 use Rattle.fed_logs.proofs.Keeping.{steps_keep}
 use Rattle.fed_logs.specs.Feeds.{truth_of}
 use Rattle.fed_logs.specs.Logs.{IsPlanDone, is_of_size}
 use Rattle.fed_logs.specs.Moves.{HasRowIn, IsDuplex, IsLive, plans_without}
 use Rattle.fed_logs.proofs.Standing.{same_count, sized_drop}
-use Rattle.mover.specs.Told.{IsFailed, IsUnfailed, held_by_choice, is_mapped, is_owed, is_to_be_copied, is_volume_kept}
+use Rattle.mover.specs.OwedTracks.{IsFailed, IsUnfailed, held_by_choice, is_mapped, is_owed, is_to_be_copied, is_volume_kept}
 use Rattle.mover.proofs.Copying.{dropped_mapped, drops_later, kept_dropped}
 use Rattle.mover.proofs.Pairs.{Among, among_of, apart_still}
-use Rattle.xrc_session.specs.BetweenEpochs.{Between, MaySuspend, StandsBetween}
+use Rattle.xrc_session.specs.EpochPauses.{Between, MaySuspend, StandsBetween}
 use Rattle.xrc_session.specs.CarriedLaws.{SuspendedRowsStand}
 use Rattle.xrc_session.proofs.Calls.{drop_itself, drop_other, keeps_drop, own_is}
 use Rattle.xrc_session.proofs.CarriedRows.{IsOther, stated_held, stated_others, stated_there}

@@ -14,13 +14,13 @@ use Rattle.crash_plant.proofs.Steps.{site_trans}
 use Rattle.pair_table.specs.Tables.{Table}
 use Rattle.row_changes.specs.Changes.{Due, Timed, may_end}
 use Rattle.row_changes.specs.Changes.Due.{NoneDue}
-use Rattle.row_changes.specs.Toward.{AreCounted}
+use Rattle.row_changes.specs.Spans.{AreCounted}
 use Rattle.site_means.specs.Images.{Shape, shape_of}
 use Rattle.site_means.proofs.Goes.{shape_same}
 use Rattle.xrc_command.specs.declared.line.Line.{Line}
 use Rattle.consistency.specs.Bearing.{GoesThroughPoints, MayBeMeant, ShowsPoint}
-use Rattle.consistency.specs.Bears.{IsTime, Run, Stage}
-use Rattle.consistency.specs.Between.{RunGoesOn, ShowsMeant}
+use Rattle.consistency.specs.Stages.{IsTime, Run, Stage}
+use Rattle.consistency.specs.Pauses.{RunGoesOn, ShowsMeant}
 use Rattle.consistency.specs.Courses.{Answered, AreAsked, last_line_time, next_line, replies_of, stage_at, texts_of}
 use Rattle.consistency.specs.Keeping.{stage_now}
 use Rattle.consistency.specs.Leads.{Point, may_rest}
@@ -35,7 +35,7 @@ use Rattle.consistency.proofs.Moments.{points_stay}
 use Rattle.consistency.proofs.Standing.{console_choice}
 use Rattle.passages.specs.Points.{AreLinked, Throughout, last_point}
 use Rattle.passages.proofs.InARow.{in_a_row, links_go_on, moments_rise}
-use Rattle.mover.specs.Working.{Asked, IsOnItsWay, ShowsLast}
+use Rattle.mover.specs.Working.{LinesAsked, IsOnItsWay, ShowsLast}
 use Rattle.xrc_session.specs.Steps.{PassesPointsOn}
 use Rattle.xrc_session.specs.Trails.{AreNext, GoesForth, Trail, asked_with, first_leg, last_leg, with_points}
 use Rattle.xrc_session.specs.WrittenLines.{AreWrittenByLines}
@@ -55,7 +55,7 @@ last_meant run s p (n ∷ points) may all =
     last_meant run s n.point points (All-head (λ (m : PassedPoint). MayBeMeant run s m.point) n points all) (All-tail (λ (m : PassedPoint). MayBeMeant run s m.point) n points all)
 
 -- What may be meant is shown now, by each choice that shows the last of points or the one on its way.
-module _ (run : Run) (s : Stage) (asked : Asked) (l : Leg) (points : List PassedPoint) (next : Option Point) (old new : PlantState) (may : MayBeMeant run s l.point) (passes : PassesPointsOn run s asked l points next old new) where
+module _ (run : Run) (s : Stage) (asked : LinesAsked) (l : Leg) (points : List PassedPoint) (next : Option Point) (old new : PlantState) (may : MayBeMeant run s l.point) (passes : PassesPointsOn run s asked l points next old new) where
   pub next_meant : IfSome next (MayBeMeant run s)
   next_meant = of_next next passes.on_its_way
     where
@@ -111,7 +111,7 @@ module _ (first old new : PlantState) (run : Run) (lines : List Answered) (text 
       }
 
   -- A run goes on through calls that pass points.
-  pub works_to_run : (asked : Asked) (l : Leg) (points : List PassedPoint) (next : Option Point) → (s.table.is_started ≡ true → MayBeMeant run s l.point × PassesPointsOn run s asked l points next old new) → RunGoesOn run lines text first new
+  pub works_to_run : (asked : LinesAsked) (l : Leg) (points : List PassedPoint) (next : Option Point) → (s.table.is_started ≡ true → MayBeMeant run s l.point × PassesPointsOn run s asked l points next old new) → RunGoesOn run lines text first new
   works_to_run asked l points next works = by_past (cases_lt 0 first.clock)
     where
       by_past : (0 < first.clock) ⊎ (first.clock ≤ 0) → RunGoesOn run lines text first new
@@ -255,7 +255,7 @@ module _ (run : Run) (lines : List Answered) (trail : Trail) where
     pub next_answered : AreNext run lines (Some a.line) trail → AreNext run (lines ++ a ∷ []) None trail
     next_answered linked =
         subst (λ (l : Leg). AreLinked (ComesNext run (asked_with (lines ++ a ∷ []) None)) leg_after l trail.points) (sym first_then)
-        (subst (λ (f : Asked). AreLinked (ComesNext run f) leg_after (first_leg run lines trail) trail.points) asked_then linked)
+        (subst (λ (f : LinesAsked). AreLinked (ComesNext run f) leg_after (first_leg run lines trail) trail.points) asked_then linked)
 
     pub forth_answered : (began now : PlantState) → GoesForth run lines (Some a.line) trail None began now → GoesForth run (lines ++ a ∷ []) None trail None began now
     forth_answered began now forth = record {

@@ -22,7 +22,7 @@ use Rattle.primary_ctl.specs.Primaries.{none_falls}
 use Rattle.primary_ctl.specs.States.{PrimaryState}
 use Rattle.sidefile.specs.declared.hand.Halt.{Halt}
 use Rattle.sidefile.specs.declared.hand.Halt.TheVariants as halts
-use Rattle.sidefile.specs.Ahead.{IsAhead}
+use Rattle.sidefile.specs.AheadEntries.{IsAhead}
 use Rattle.sidefile.specs.States.{SidefileState}
 use Rattle.group_state.specs.Runs.{Answer}
 use Rattle.fed_logs.specs.FeedLaws.{ComeSo, IsBehindHeader}

@@ -11,7 +11,7 @@ use Rattle.passages.specs.Points.{last_point}
 use Rattle.passages.proofs.InARow.{moments_rise}
 use Rattle.site_means.specs.Images.{shape_of}
 use Rattle.consistency.specs.Bearing.{GoesThroughPoints, ShowsPoint}
-use Rattle.consistency.specs.Bears.{Run}
+use Rattle.consistency.specs.Stages.{Run}
 use Rattle.consistency.specs.Leads.{Point}
 use Rattle.consistency.specs.Ways.{PassedPoint, Way, is_on_the_way}
 use Rattle.xrc_session.specs.Frames.{ChangesRows}

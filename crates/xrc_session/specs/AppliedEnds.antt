@@ -3,7 +3,7 @@ use Rattle.std.specs.Prelude.{◌≡◌, ◌⊎◌, ℕ, suc, ◌<◌, ◌≤◌
 use Rattle.crash_plant.specs.Choices.{AtMoment}
 use Rattle.crash_plant.specs.Moments.{PlantState}
 use Rattle.site_means.specs.Sight.{walked}
-use Rattle.consistency.specs.Bears.{Run}
+use Rattle.consistency.specs.Stages.{Run}
 use Rattle.consistency.specs.Courses.{Answered, replies_of, stage_at}
 
 -- All that was journaled is on the volumes, and marked: whatever a crash at a moment leaves has no item behind the mark.

@@ -7,7 +7,7 @@ use Rattle.crash_plant.specs.Moments.{PlantState}
 use Rattle.xrc_command.specs.declared.line.Line.{Line}
 use Rattle.state_set.specs.Slots.{started_table}
 use Rattle.group_state.specs.Groups.{Group, most_records, new_group}
-use Rattle.consistency.specs.Bears.{Run, Stage}
+use Rattle.consistency.specs.Stages.{Run, Stage}
 use Rattle.fed_logs.specs.Logs.{Sizes}
 use Rattle.consistency.specs.Ways.{leg_at}
 use Rattle.site_store.specs.Sites.{SiteState, new_site}

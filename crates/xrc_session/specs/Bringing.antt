@@ -1,11 +1,11 @@
 -- What the work for a line's time leaves of a site.
 use Rattle.std.specs.Prelude.{◌≡◌, ℕ, ◌≤◌, List, Option, Result, IsTrue, IfErr, IsErrOf, OnOk}
 use Rattle.std.specs.List.{list_all}
-use Rattle.applier.specs.Back.{WorksOnLent}
+use Rattle.applier.specs.Returns.{WorksOnLent}
 use Rattle.crash_plant.specs.Moments.{PlantState}
 use Rattle.pair_table.specs.Tables.{with_rows}
-use Rattle.record_rows.specs.Told.{InPlaces}
-use Rattle.row_changes.specs.Toward.{is_settled}
+use Rattle.record_rows.specs.ToldRows.{InPlaces}
+use Rattle.row_changes.specs.Spans.{is_settled}
 use Rattle.site_store.specs.Sites.{SiteState}
 use Rattle.write_trace.specs.declared.trace.Trace.{Trace}
 use Rattle.mover.specs.declared.lane.Lane.{Lane}

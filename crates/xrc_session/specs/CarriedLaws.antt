@@ -19,13 +19,13 @@ use Rattle.group_state.specs.Groups.{Group, control_at}
 use Rattle.group_state.specs.Machine.Call.{Carry, Drop, Forget, Resume}
 use Rattle.record_rows.specs.Deeds.{Deed, entries_by_deed, rows_by_deed}
 use Rattle.record_rows.specs.Records.{rows_with_hits}
-use Rattle.consistency.specs.Bears.{tracks_of_row}
+use Rattle.consistency.specs.Stages.{tracks_of_row}
 use Rattle.fed_logs.specs.Logs.{Sizes}
 use Rattle.fed_logs.specs.Moves.{plans_without}
-use Rattle.site_store.specs.Doing.{DoesDeeds}
-use Rattle.mover.specs.Told.{ExceptedAreOwed}
+use Rattle.site_store.specs.DoneDeeds.{DoesDeeds}
+use Rattle.mover.specs.OwedTracks.{ExceptedAreOwed}
 use Rattle.site_store.specs.Exceptions.{excepted_behind, excepted_by_deed}
-use Rattle.xrc_session.specs.BetweenEpochs.{Between, MayAdd, MayBegin, MayForget, MayResume, MaySuspend, StandsBetween, between_after}
+use Rattle.xrc_session.specs.EpochPauses.{Between, MayAdd, MayBegin, MayForget, MayResume, MaySuspend, StandsBetween, between_after}
 use Rattle.xrc_session.specs.Taking.{IfAdds, KeepsForRows, MayTake, after_calls, calls_of_change, is_begun, plans_after_calls}
 
 -- Without a row and without a volume the state stands for the rows.

@@ -1,9 +1,9 @@
 -- The law of a line that ends the session. It is the contract of a public function.
 use Rattle.std.specs.Prelude.{◌≡◌, ◌++◌, ℕ, List, false}
 use Rattle.row_changes.specs.Changes.{Timed}
-use Rattle.row_changes.specs.Toward.{AreCounted}
+use Rattle.row_changes.specs.Spans.{AreCounted}
 use Rattle.consistency.specs.Answering.{answered_by}
-use Rattle.consistency.specs.Bears.{Run, Stage}
+use Rattle.consistency.specs.Stages.{Run, Stage}
 use Rattle.consistency.specs.Courses.{IsAnswered}
 use Rattle.consistency.specs.Leads.{Point}
 use Rattle.consistency.specs.Replying.{HasNames, IsExact}

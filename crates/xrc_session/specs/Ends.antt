@@ -9,17 +9,17 @@ use Rattle.pair_table.specs.declared.row.PairRow.{PairRow}
 use Rattle.pair_table.specs.declared.row.PairState.TheVariants.{Duplex}
 use Rattle.primary_ctl.specs.Primaries.{primary}
 use Rattle.row_changes.specs.Changes.{Timed, after_changes}
-use Rattle.row_changes.specs.Toward.{is_hit_at}
+use Rattle.row_changes.specs.Spans.{is_hit_at}
 use Rattle.passages.specs.Points.{last_point}
 use Rattle.applier.specs.Slots.{BeginsWithTrack}
 use Rattle.site_means.specs.Sight.{walked}
-use Rattle.consistency.specs.Bears.{Run, tracks_of_row}
+use Rattle.consistency.specs.Stages.{Run, tracks_of_row}
 use Rattle.consistency.specs.Courses.{Answered, stage_at}
-use Rattle.consistency.specs.Between.{RunGoesOn}
+use Rattle.consistency.specs.Pauses.{RunGoesOn}
 use Rattle.xrc_status.specs.declared.stop.Stop.{Stop}
 use Rattle.xrc_status.specs.declared.stop.Stop.TheVariants.{Spent}
 use Rattle.xrc_session.specs.Frames.{ChangesRows, rows_passed}
-use Rattle.xrc_session.specs.Between.{stage_behind}
+use Rattle.xrc_session.specs.LinePauses.{stage_behind}
 use Rattle.xrc_session.specs.Starting.{AreOwnSpent}
 use Rattle.xrc_session.specs.Stops.{IsStopped}
 use Rattle.xrc_session.specs.Trails.{AreExact, GoesForth, Trail, HasBegunTrail, StandsOnTrail, first_leg}
@@ -46,11 +46,11 @@ pub record IsRunDone (run : Run) (lines : List Answered) (trail : Trail) (began 
   pub goes : RunGoesOn run lines [] began now
   pub at_end : now.script ≡ []
   pub exact : AreExact run lines trail
-  pub none : trail.started ≡ 0 → trail.points ≡ []
+  pub unstarted : trail.started ≡ 0 → trail.points ≡ []
   pub begun : HasBegunTrail run lines trail
-  pub along : 0 < trail.started → StandsOnTrail run lines None trail None now
+  pub on_trail : 0 < trail.started → StandsOnTrail run lines None trail None now
   pub rows : 0 < trail.started → StaysAtLastLine run lines trail
-  pub forth : 0 < began.clock → 0 < trail.started → GoesForth run lines None trail None began now
+  pub goes_forth : 0 < began.clock → 0 < trail.started → GoesForth run lines None trail None began now
   pub volumes : ChangesRows (rows_passed trail.points) began now
   pub applied : IsTrue (stage_at run lines (length lines)).table.is_started → IsApplied run lines now
 

@@ -10,7 +10,7 @@ use Rattle.pair_table.specs.declared.row.PairRow.{PairRow}
 use Rattle.pair_table.specs.Naming.{Naming}
 use Rattle.group_state.specs.Groups.{Group, control_at}
 use Rattle.group_state.specs.Runs.{Answer, Runs}
-use Rattle.group_state.specs.Sound.{KeepsGroup}
+use Rattle.group_state.specs.SoundStates.{KeepsGroup}
 use Rattle.record_rows.specs.Deeds.{Deed}
 use Rattle.record_rows.specs.Hits.{hit_now}
 use Rattle.fed_logs.specs.Feeds.{part_of_mover}

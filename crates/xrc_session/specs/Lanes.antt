@@ -5,12 +5,12 @@ use Rattle.tod_stamp.specs.declared.limits.TheConstants.{TRACKS_OF_CYLINDER}
 use Rattle.write_trace.specs.declared.header.VolumeHead.{VolumeHead}
 use Rattle.write_trace.specs.declared.trace.HeaderError.{HeaderError}
 use Rattle.write_trace.specs.declared.trace.Trace.{Trace}
-use Rattle.write_trace.specs.Good.{trace_of}
+use Rattle.write_trace.specs.WholeTraces.{trace_of}
 use Rattle.write_trace.specs.Headers.{cylinders_of}
 use Rattle.pair_table.specs.declared.names.NamedVolume.{NamedVolume}
 use Rattle.pair_table.specs.Naming.{Naming, with_broken}
 use Rattle.group_state.specs.Runs.{Answer}
-use Rattle.consistency.specs.Bears.{volumes_named}
+use Rattle.consistency.specs.Stages.{volumes_named}
 use Rattle.fed_logs.specs.Logs.{Sizes}
 use Rattle.mover.specs.declared.lane.Lane.{Lane}
 use Rattle.mover.specs.Readers.{LaneReaderState}

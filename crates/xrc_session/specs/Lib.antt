@@ -1,4 +1,4 @@
-pub mod BetweenEpochs
+pub mod EpochPauses
 pub mod CarriedLaws
 pub mod Taking
 pub mod Joins
@@ -14,7 +14,7 @@ pub mod Openings
 pub mod Trails
 pub mod Frames
 pub mod AppliedEnds
-pub mod Between
+pub mod LinePauses
 pub mod Stops
 pub mod Starting
 pub mod Ends

@@ -4,17 +4,17 @@ use Rattle.crash_plant.specs.Calls.{NoneLent}
 use Rattle.crash_plant.specs.Moments.{PlantState}
 use Rattle.pair_table.specs.declared.command.Change.TheVariants.{Started}
 use Rattle.pair_table.specs.declared.level.Level.{Level}
-use Rattle.consistency.specs.Bears.{Run, breaks_of, names_of}
+use Rattle.consistency.specs.Stages.{Run, breaks_of, names_of}
 use Rattle.consistency.specs.Steps.{names_at}
 use Rattle.record_rows.specs.Hits.{hit_now}
 use Rattle.state_set.specs.Slots.{started_table}
-use Rattle.site_store.specs.Between.{IsSiteIdle}
+use Rattle.site_store.specs.IdleSites.{IsSiteIdle}
 use Rattle.site_store.specs.Sites.{SiteState}
 use Rattle.mover.specs.declared.lane.Lane.{Lane}
 use Rattle.mover.specs.Epochs.{LanesBrokeAs}
 use Rattle.xrc_command.specs.declared.line.Line.{Line}
 use Rattle.xrc_session.specs.declared.answering.LineAnswer.{LineAnswer}
-use Rattle.xrc_session.specs.Between.{IsBetween}
+use Rattle.xrc_session.specs.LinePauses.{IsBetween}
 use Rattle.xrc_session.specs.Starting.{StandsStarted, level_started}
 use Rattle.xrc_session.specs.States.{SessionState, session_time}
 

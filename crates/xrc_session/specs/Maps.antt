@@ -9,7 +9,7 @@ use Rattle.pair_table.specs.Rows.{is_suspended}
 use Rattle.pair_table.specs.Tables.{none_clash}
 use Rattle.record_rows.specs.Deeds.{Deed, rows_behind, rows_by_deed, time_by_deed}
 use Rattle.record_rows.specs.Hits.{is_by_device}
-use Rattle.record_rows.specs.Told.{InPlaces}
+use Rattle.record_rows.specs.ToldRows.{InPlaces}
 use Rattle.change_map.specs.Sets.{has_track}
 use Rattle.write_trace.specs.declared.trace.Trace.{Trace}
 use Rattle.write_trace.specs.Writes.{writes_of}
@@ -20,11 +20,11 @@ use Rattle.group_state.specs.Controls.{ControlState, counts}
 use Rattle.group_state.specs.Groups.{Group, control_at, new_group}
 use Rattle.group_state.specs.Machine.{Call, Reply, steps}
 use Rattle.group_state.specs.Runs.{Answer, May}
-use Rattle.group_state.specs.Sound.{KeepsGroup, is_dropped}
+use Rattle.group_state.specs.SoundStates.{KeepsGroup, is_dropped}
 use Rattle.fed_logs.specs.Feeds.{part_of_mover}
 use Rattle.fed_logs.specs.Logs.{BeginsLog, IsFedLog, Sizes, is_of_size}
 use Rattle.fed_logs.specs.Moves.{MakesAllDeeds, Plans}
-use Rattle.fed_logs.specs.Told.{HeldTracks, floor_of}
+use Rattle.fed_logs.specs.ToldTracks.{HeldTracks, floor_of}
 use Rattle.mover.specs.Dropping.{owed_by_calls, stood_duplex}
 use Rattle.mover.specs.Moves.{KeepsPair, LogsEntriesOf}
 

@@ -3,9 +3,9 @@ use Rattle.std.specs.Prelude.{◌≡◌, ℕ, ◌<◌, ◌++◌, List, false, Op
 use Rattle.crash_plant.specs.Moments.{PlantState}
 use Rattle.pair_table.specs.Tables.{none_clash}
 use Rattle.group_state.specs.Groups.{Group}
-use Rattle.group_state.specs.Sound.{KeepsGroup}
+use Rattle.group_state.specs.SoundStates.{KeepsGroup}
 use Rattle.passages.specs.Points.{last_point}
-use Rattle.consistency.specs.Bears.{Run}
+use Rattle.consistency.specs.Stages.{Run}
 use Rattle.consistency.specs.Leads.{Point}
 use Rattle.consistency.specs.Ways.{PassedPoint}
 use Rattle.site_store.specs.DeedChanges.{deeds_of}
@@ -13,11 +13,11 @@ use Rattle.site_store.specs.Sites.{SiteState}
 use Rattle.fed_logs.specs.Logs.{BeginsLog, Sizes}
 use Rattle.fed_logs.specs.Moves.{Plans}
 use Rattle.fed_logs.specs.ShownBreaks.{BreaksAreToCome, BrokeAsTraces}
-use Rattle.fed_logs.specs.Told.{HeldTracks}
+use Rattle.fed_logs.specs.ToldTracks.{HeldTracks}
 use Rattle.mover.specs.declared.ends.EpochEnd.TheVariants as ends
 use Rattle.mover.specs.declared.lane.Lane.{Lane}
 use Rattle.mover.specs.Epochs.{AllTurnOut, EpochGoes, ReachedBy, point_of}
-use Rattle.mover.specs.Told.{CarriedAsLive}
+use Rattle.mover.specs.OwedTracks.{CarriedAsLive}
 use Rattle.mover.specs.Moves.{LogsEntriesOf}
 use Rattle.xrc_session.specs.MapsOwed.{HasCutOrNoRow, HaveRowsOf, MapsOwed, MapsRest}
 

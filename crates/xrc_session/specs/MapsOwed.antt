@@ -14,16 +14,16 @@ use Rattle.group_state.specs.Runs.{Answer}
 use Rattle.group_state.specs.Volumes.{passes, volume_of}
 use Rattle.record_rows.specs.Deeds.{Deed, rows_by_deed, time_meant_behind}
 use Rattle.passages.specs.Points.{last_point}
-use Rattle.consistency.specs.Bears.{Run, tracks_of_row}
+use Rattle.consistency.specs.Stages.{Run, tracks_of_row}
 use Rattle.consistency.specs.Leads.{Point}
 use Rattle.consistency.specs.Owing.{owes_track}
 use Rattle.consistency.specs.Ways.{PassedPoint}
 use Rattle.fed_logs.specs.Feeds.{part_of_mover}
 use Rattle.fed_logs.specs.Logs.{BeginsLog, IsFedLog, Sizes}
 use Rattle.fed_logs.specs.Moves.{MakesAllDeeds, Plans}
-use Rattle.fed_logs.specs.Told.{HeldTracks}
+use Rattle.fed_logs.specs.ToldTracks.{HeldTracks}
 use Rattle.mover.specs.Dropping.{OwesExactly}
-use Rattle.mover.specs.Told.{CarriedAsLive}
+use Rattle.mover.specs.OwedTracks.{CarriedAsLive}
 use Rattle.mover.specs.Moves.{LogsEntriesOf}
 use Rattle.xrc_session.specs.Maps.{KeepsMaps, RestsAtCut, RowsGo}
 

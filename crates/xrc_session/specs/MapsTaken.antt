@@ -13,7 +13,7 @@ use Rattle.pair_table.specs.Tables.{row_of}
 use Rattle.group_state.specs.Groups.{Group, control_at}
 use Rattle.record_rows.specs.Hits.{is_device_suspended}
 use Rattle.passages.specs.Points.{last_point}
-use Rattle.consistency.specs.Bears.{Run, tracks_of_row}
+use Rattle.consistency.specs.Stages.{Run, tracks_of_row}
 use Rattle.consistency.specs.Leads.{Point}
 use Rattle.consistency.specs.Owing.{has_pair_in, owes_track}
 use Rattle.consistency.specs.Ways.{PassedPoint}

@@ -16,7 +16,7 @@ use Rattle.pair_table.specs.Naming.{Naming, none_alike}
 use Rattle.primary_ctl.specs.States.{PrimaryState}
 use Rattle.sidefile.specs.States.{SidefileState}
 use Rattle.site_means.specs.Answers.{examined}
-use Rattle.consistency.specs.Bears.{volumes_named}
+use Rattle.consistency.specs.Stages.{volumes_named}
 use Rattle.fed_logs.specs.FeedLaws.{IsFirstFeed}
 use Rattle.mover.specs.declared.lane.Lane.{Lane}
 use Rattle.mover.specs.Lanes.{first_reader, reader_in}

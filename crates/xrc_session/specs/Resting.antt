@@ -13,7 +13,7 @@ use Rattle.passages.specs.Telling.{told_by}
 use Rattle.record_rows.specs.Deeds.{Deed, entries_by_deed, rows_behind, rows_by_deed, time_by_deed, time_meant_behind}
 use Rattle.record_rows.specs.Deeds.Deed.{Logged, Changed, Marked}
 use Rattle.record_rows.specs.Hits.{hit_now}
-use Rattle.site_store.specs.Doing.{BeginsDeeds, DoesDeeds, PassedDeed, points_of, with_next}
+use Rattle.site_store.specs.DoneDeeds.{BeginsDeeds, DoesDeeds, PassedDeed, points_of, with_next}
 use Rattle.site_store.specs.Exceptions.{Exceptions, excepted_behind}
 use Rattle.site_store.specs.Seeing.{SeesBehind}
 use Rattle.site_means.specs.Images.{shape_of}
@@ -21,12 +21,12 @@ use Rattle.site_means.specs.Sight.{walked}
 use Rattle.consistency.specs.Bearing.{GoesThroughPoints, ShowsPoint}
 use Rattle.consistency.specs.Leads.{Point}
 use Rattle.consistency.specs.Ways.{Way}
-use Rattle.mover.specs.Told.{ExceptedAreOwed}
-use Rattle.xrc_session.specs.BetweenEpochs.{Between, StandsBetween}
+use Rattle.mover.specs.OwedTracks.{ExceptedAreOwed}
+use Rattle.xrc_session.specs.EpochPauses.{Between, StandsBetween}
 use Rattle.xrc_session.specs.CarriedLaws.{FitsOn, IsWithoutEntries, between_taken}
 use Rattle.xrc_session.specs.Taking.{IfAdds, MayTake, after_calls, calls_of_change}
 use Rattle.site_store.specs.declared.store_error.StoreError.{StoreError}
-use Rattle.site_store.specs.Between.{IsSiteIdle}
+use Rattle.site_store.specs.IdleSites.{IsSiteIdle}
 use Rattle.site_store.specs.Changing.{DoesChange, LogsChange, MayChange, change_deeds_of, changed_items, table_with_hits}
 use Rattle.site_store.specs.Commands.{IsToLog, LabelsFit, MayDo, behind_command, excepted_by_change}
 use Rattle.site_store.specs.Marking.{Marks, MayMark, excepted_with_waiting, rows_at_mark}

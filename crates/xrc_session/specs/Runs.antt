@@ -7,7 +7,7 @@ use Rattle.pair_table.specs.declared.names.NamedDevice.{NamedDevice}
 use Rattle.pair_table.specs.Naming.{Naming}
 use Rattle.volume_label.specs.Labels.{label_of}
 use Rattle.volume_label.specs.declared.label.Label.{Label}
-use Rattle.consistency.specs.Bears.{Run}
+use Rattle.consistency.specs.Stages.{Run}
 use Rattle.consistency.specs.Courses.{Answered, last_line_time}
 use Rattle.script_lines.specs.NextLines.{IsNextLine}
 use Rattle.script_lines.specs.Texts.{has_feed}
@@ -18,7 +18,7 @@ use Rattle.xrc_session.specs.Ends.{IsRunDone, StopsInLine}
 use Rattle.mover.specs.declared.lane.Lane.{Lane}
 use Rattle.mover.specs.Moves.{most_faults}
 use Rattle.xrc_session.specs.AppliedEnds.{AppliesEnds}
-use Rattle.xrc_session.specs.Between.{HasAnswered, IsRunOver}
+use Rattle.xrc_session.specs.LinePauses.{HasAnswered, IsRunOver}
 use Rattle.xrc_session.specs.States.{SessionState}
 use Rattle.xrc_session.specs.Lanes.{AllTold, AreTracesGiven, SourceBytes}
 use Rattle.xrc_session.specs.Openings.{opening_stop}

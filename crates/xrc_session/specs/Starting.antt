@@ -24,14 +24,14 @@ use Rattle.site_store.specs.Formats.{ShutsFirst, started_means}
 use Rattle.site_store.specs.Records.{VolumesStay}
 use Rattle.site_store.specs.Sites.{SiteState, first_mark}
 use Rattle.site_store.specs.Standing.{HasLengths}
-use Rattle.consistency.specs.Bears.{Run, Stage}
+use Rattle.consistency.specs.Stages.{Run, Stage}
 use Rattle.consistency.specs.Courses.{Answered, AreAsked, last_line_time, lines_begun, next_line, texts_of}
 use Rattle.consistency.specs.Bearing.{ShowsPoint}
 use Rattle.mover.specs.declared.lane.Lane.{Lane}
 use Rattle.mover.specs.Epochs.{AllTurnOut}
 use Rattle.mover.specs.Rounds.{AreLanesOf}
 use Rattle.xrc_status.specs.declared.stop.Stop.{Stop}
-use Rattle.xrc_session.specs.Between.{AreCountsFrom, GoesOnFrom, HasCut, IsReadyForEpoch, LeavesAll, MayCommandSite, RisesCover, site_point}
+use Rattle.xrc_session.specs.LinePauses.{AreCountsFrom, GoesOnFrom, HasCut, IsReadyForEpoch, LeavesAll, MayCommandSite, RisesCover, site_point}
 use Rattle.xrc_session.specs.Lanes.{HaveHeadsOf, with_lanes_broken}
 use Rattle.xrc_status.specs.declared.stop.Stop.TheVariants.{Spent}
 use Rattle.xrc_session.specs.Stops.{HasStopCause, IsSpentNow, StopsByCount}

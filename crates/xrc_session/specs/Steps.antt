@@ -10,14 +10,14 @@ use Rattle.site_means.specs.Images.{shape_of}
 use Rattle.xrc_command.specs.declared.line.Line.{Line}
 use Rattle.site_store.specs.Sites.{SiteState}
 use Rattle.group_state.specs.Groups.{Group}
-use Rattle.consistency.specs.Bears.{Run, Stage}
+use Rattle.consistency.specs.Stages.{Run, Stage}
 use Rattle.consistency.specs.Courses.{Answered}
 use Rattle.consistency.specs.Steps.{table_on_the_way}
-use Rattle.mover.specs.Working.{Asked, IsOnItsWay, ShowsLast}
+use Rattle.mover.specs.Working.{LinesAsked, IsOnItsWay, ShowsLast}
 use Rattle.passages.specs.Points.{AreLinked, last_point}
 use Rattle.consistency.specs.Answering.{ReplyContent, answered_by, reply_content, points_before}
 use Rattle.consistency.specs.Bearing.{GoesThroughPoints, MayBeMeant, ShowsPoint}
-use Rattle.consistency.specs.Between.{MayReply, RunGoesOn}
+use Rattle.consistency.specs.Pauses.{MayReply, RunGoesOn}
 use Rattle.consistency.specs.Leads.{Point}
 use Rattle.consistency.specs.Replying.{IsExact, is_reported, told_tracks}
 use Rattle.consistency.specs.Ways.{ComesNext, IsAtWork, Leg, MayTakeEffect, PassedPoint, leg_after}
@@ -29,7 +29,7 @@ use Rattle.xrc_session.specs.declared.answering.LineAnswer.{LineAnswer}
 use Rattle.xrc_session.specs.declared.kept.Kept.{Kept}
 use Rattle.xrc_session.specs.AppliedEnds.{IsAllApplied}
 use Rattle.xrc_session.specs.MapsOwed.{HasCutOrNoRow}
-use Rattle.xrc_session.specs.Between.{GoesOnFrom, HasAnswered, IsRunOver, RisesCover, StandsAtLeg, StandsBehindLines, stage_behind}
+use Rattle.xrc_session.specs.LinePauses.{GoesOnFrom, HasAnswered, IsRunOver, RisesCover, StandsAtLeg, StandsBehindLines, stage_behind}
 use Rattle.xrc_session.specs.Ends.{IsRunDone, StopsInLine}
 use Rattle.xrc_session.specs.States.{SessionState, session_time}
 use Rattle.xrc_session.specs.Frames.{ChangesRows, rows_passed}
@@ -41,7 +41,7 @@ use Rattle.xrc_session.specs.Trails.{AreExact, BeginsAtStart, BringsChanges, Tra
 -- Calls pass points from a leg of a stage on, each next by its way, and each may be meant at the stage. One may be on its way at the end. Of the
 -- volumes only slots of the points' rows are written.
 --   written: they are written part by part
-pub record PassesPointsOn (run : Run) (stage : Stage) (asked : Asked) (l : Leg) (points : List PassedPoint) (next : Option Point) (old new : PlantState) : Type 0 where
+pub record PassesPointsOn (run : Run) (stage : Stage) (asked : LinesAsked) (l : Leg) (points : List PassedPoint) (next : Option Point) (old new : PlantState) : Type 0 where
   pub goes : 0 < old.clock → GoesThroughPoints run new old.clock l.point points new.clock next
   pub linked : AreLinked (ComesNext run asked) leg_after l points
   pub may : All (λ n. MayBeMeant run stage n.point) points
@@ -51,13 +51,13 @@ pub record PassesPointsOn (run : Run) (stage : Stage) (asked : Asked) (l : Leg) 
   pub written : 0 < old.clock → PassesInParts new old.clock new.clock l.point points
 
 -- So they do, as far as they come.
-abbrev pub BeginsToPass : Run → Stage → Asked → Leg → (old new : PlantState) → Type 0
+abbrev pub BeginsToPass : Run → Stage → LinesAsked → Leg → (old new : PlantState) → Type 0
 BeginsToPass run stage asked l old new = (points : List PassedPoint) × ((next : Option Point) × PassesPointsOn run stage asked l points next old new)
 
 -- ---- to a line's time
 
 -- Work for the time of a stage's next line may begin at a leg, at which no row has changed since the last reply.
-pub record MayBring (run : Run) (stage : Stage) (line : Line) (asked : Asked) (l : Leg) (first : Point) (points : List PassedPoint) (site : SiteState) (began now : PlantState) (group : Group) : Type 0 where
+pub record MayBring (run : Run) (stage : Stage) (line : Line) (asked : LinesAsked) (l : Leg) (first : Point) (points : List PassedPoint) (site : SiteState) (began now : PlantState) (group : Group) : Type 0 where
   pub heard : stage.next ≡ Some line
   pub asked_is : asked l.answered ≡ Some line
   pub active : stage.table.is_ended ≡ false
@@ -68,7 +68,7 @@ pub record MayBring (run : Run) (stage : Stage) (line : Line) (asked : Asked) (l
   pub cut : HasCutOrNoRow site.time site.told group
 
 -- The work has come to the line's time, at a leg behind these points: the line's command may take effect, and the work may go on from there.
-pub record HasBrought (run : Run) (stage : Stage) (line : Line) (asked : Asked) (l : Leg) (first : Point) (points : List PassedPoint) (site : SiteState) (began now : PlantState) (group : Group) : Type 0 where
+pub record HasBrought (run : Run) (stage : Stage) (line : Line) (asked : LinesAsked) (l : Leg) (first : Point) (points : List PassedPoint) (site : SiteState) (began now : PlantState) (group : Group) : Type 0 where
   pub asked_is : asked l.answered ≡ Some line
   pub at : StandsAtLeg run stage l site began now
   pub at_work : IsAtWork run asked l
@@ -76,7 +76,7 @@ pub record HasBrought (run : Run) (stage : Stage) (line : Line) (asked : Asked) 
   pub goes_on : GoesOnFrom run first points site now group
 
 -- How it ends.
-abbrev pub EndsBringing : Run → Stage → Line → Asked → Leg → (first : Point) → List PassedPoint → SiteState → Option Group → (began old new : PlantState) → Result (Unit {0}) Stop → Type 0
+abbrev pub EndsBringing : Run → Stage → Line → LinesAsked → Leg → (first : Point) → List PassedPoint → SiteState → Option Group → (began old new : PlantState) → Result (Unit {0}) Stop → Type 0
 EndsBringing run stage line asked l first points site group began old new (Ok done) =
     (more : List PassedPoint) × PassesPointsOn run stage asked l more None old new × IsSomeAnd group (HasBrought run stage line asked (fold leg_after l more) first (points ++ more) site began new)
 EndsBringing run stage line asked l first points site group began old new (Err stop) = BeginsToPass run stage asked l old new
@@ -179,6 +179,6 @@ FinishesRuns s began old new result = (run : Run) (lines : List Answered) (trail
 
 -- In each run whose traces turn out so, work for the time of a line may begin at a leg, and comes to the line's time.
 abbrev pub BringsOn : {S : Type 0} → (left : S → Option (List ℕ)) → (limit : ℕ) → (lanes after : List (Lane S)) → (kept kept_now : Kept) → (site site_now : SiteState) → (began old new : PlantState) → Result (Unit {0}) Stop → Type 0
-BringsOn left limit lanes after kept kept_now site site_now began old new result = (run : Run) (stage : Stage) (line : Line) (asked : Asked) (l : Leg) (first : Point) (points : List PassedPoint)
+BringsOn left limit lanes after kept kept_now site site_now began old new result = (run : Run) (stage : Stage) (line : Line) (asked : LinesAsked) (l : Leg) (first : Point) (points : List PassedPoint)
     → line.time.0 ≡ limit → run.level ≡ site.level → IsSomeAnd kept.group (MayBring run stage line asked l first points site began old) → AllTurnOut left run.traces lanes after → RisesCover run began new
     → EndsBringing run stage line asked l first points site_now kept_now.group began old new result

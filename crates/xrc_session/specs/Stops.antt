@@ -16,15 +16,15 @@ use Rattle.site_store.specs.declared.store_error.StoreError.{StoreError}
 use Rattle.site_store.specs.declared.store_error.StoreError.TheVariants as store
 use Rattle.site_store.specs.Records.{IsStore}
 use Rattle.site_store.specs.Ways.{most}
-use Rattle.consistency.specs.Bears.{Run}
+use Rattle.consistency.specs.Stages.{Run}
 use Rattle.consistency.specs.Courses.{Answered, AreAsked, IsCourse, replies_of, texts_of}
 use Rattle.consistency.specs.Moments.{BearsThroughout, BearsTime}
-use Rattle.consistency.specs.Between.{RunGoesOn}
+use Rattle.consistency.specs.Pauses.{RunGoesOn}
 use Rattle.consistency.specs.Leads.{Point}
 use Rattle.xrc_status.specs.declared.stop.Stop.{Stop}
 use Rattle.xrc_status.specs.declared.stop.Stop.TheVariants as stops
 use Rattle.xrc_session.specs.AppliedEnds.{IsAllApplied}
-use Rattle.xrc_session.specs.Between.{stage_behind}
+use Rattle.xrc_session.specs.LinePauses.{stage_behind}
 use Rattle.xrc_session.specs.Trails.{AreExact, GoesForth, Trail, HasBegunTrail, StandsOnTrail}
 
 -- ---- which stop
@@ -125,8 +125,8 @@ pub record IsStopped (run : Run) (lines : List Answered) (trail : Trail) (text :
   pub part : Option Answered
   pub stands : StandsStopped run lines text part began now stop
   pub exact : AreExact run (lines_said lines part) trail
-  pub none : trail.started ≡ 0 → trail.points ≡ []
+  pub unstarted : trail.started ≡ 0 → trail.points ≡ []
   pub begun : HasBegunTrail run (lines_said lines part) trail
   pub next : Option Point
-  pub along : 0 < trail.started → StandsOnTrail run (lines_said lines part) (line_asked (stage_behind run lines text began).next part) trail next now
-  pub forth : 0 < began.clock → 0 < trail.started → GoesForth run (lines_said lines part) (line_asked (stage_behind run lines text began).next part) trail next began now
+  pub on_trail : 0 < trail.started → StandsOnTrail run (lines_said lines part) (line_asked (stage_behind run lines text began).next part) trail next now
+  pub goes_forth : 0 < began.clock → 0 < trail.started → GoesForth run (lines_said lines part) (line_asked (stage_behind run lines text began).next part) trail next began now

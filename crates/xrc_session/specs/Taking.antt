@@ -17,14 +17,14 @@ use Rattle.group_state.specs.Groups.{Group, control_at}
 use Rattle.group_state.specs.Machine.{Call, group_after}
 use Rattle.group_state.specs.Machine.Call.{Carry, Drop, Forget, Resume}
 use Rattle.group_state.specs.Runs.{May}
-use Rattle.group_state.specs.Sound.{KeepsGroup}
+use Rattle.group_state.specs.SoundStates.{KeepsGroup}
 use Rattle.record_rows.specs.Hits.{is_by_device, is_device_suspended}
-use Rattle.record_rows.specs.Told.{InPlaces}
-use Rattle.consistency.specs.Bears.{tracks_of_row}
+use Rattle.record_rows.specs.ToldRows.{InPlaces}
+use Rattle.consistency.specs.Stages.{tracks_of_row}
 use Rattle.consistency.specs.Owing.{is_same_state}
 use Rattle.fed_logs.specs.Logs.{IsPlanDone}
 use Rattle.fed_logs.specs.Moves.{Plans, plans_without}
-use Rattle.mover.specs.Told.{IsCarriedAsLive, KeptHaveRows}
+use Rattle.mover.specs.OwedTracks.{IsCarriedAsLive, KeptHaveRows}
 
 -- ---- what is kept for rows
 

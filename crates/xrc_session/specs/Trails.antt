@@ -7,11 +7,11 @@ use Rattle.row_changes.specs.Changes.{after_changes}
 use Rattle.site_means.specs.Images.{shape_of}
 use Rattle.xrc_command.specs.declared.line.Line.{Line}
 use Rattle.consistency.specs.Answering.{points_before}
-use Rattle.consistency.specs.Bears.{Run, Stage}
+use Rattle.consistency.specs.Stages.{Run, Stage}
 use Rattle.consistency.specs.Courses.{Answered, replies_of, stage_at}
 use Rattle.passages.specs.Points.{AreLinked, last_point}
 use Rattle.consistency.specs.Bearing.{GoesThroughPoints, ShowsPoint}
-use Rattle.consistency.specs.Between.{asked_in}
+use Rattle.consistency.specs.Pauses.{asked_in}
 use Rattle.consistency.specs.Leads.{Point}
 use Rattle.consistency.specs.Replying.{IsExact}
 use Rattle.consistency.specs.Ways.{ComesBy, ComesNext, Leg, PassedPoint, Way, hits_of_leg, leg_after, leg_at}

@@ -4,11 +4,11 @@ ghost use Rattle.std.specs.Option.{option_map};
 ghost use Rattle.std.specs.Prelude.{◌≡◌, [], true, false, Ok, Err, IfOk, IsSomeAnd, OnOk};
 ghost use Rattle.xrc_session.specs.Taking.{KeepsForRows, tracks_to_copy};
 ghost use Rattle.record_rows.specs.Hits.{hit_now};
-ghost use Rattle.site_store.specs.Between.{IsSiteIdle};
+ghost use Rattle.site_store.specs.IdleSites.{IsSiteIdle};
 ghost use Rattle.site_store.specs.Changing.{changed_items};
 ghost use Rattle.site_store.specs.Records.{VolumesStay};
 ghost use Rattle.xrc_session.specs.Answering.{group_taken, AnswersCommands, ControlsCount, IsMarkedSite, IsSiteAnswered, IsSiteBehind, IsSiteCommanded, LogsCommands, MarksOn, MayLogChange, answer_told, change_result, is_end_accepted};
-ghost use Rattle.xrc_session.specs.Between.{MayCommandSite};
+ghost use Rattle.xrc_session.specs.LinePauses.{MayCommandSite};
 ghost use Rattle.xrc_session.specs.Bringing.{IsWorkOfStore};
 ghost use Rattle.xrc_status.specs.declared.stop.Stop.TheVariants as stops;
 

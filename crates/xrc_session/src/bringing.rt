@@ -2,7 +2,7 @@
 
 ghost use Rattle.std.specs.Prelude.{◌≡◌, ◌≤◌, false, length, IsSomeAnd, OnOk};
 ghost use Rattle.mover.specs.Epochs.{AreSameLanes};
-ghost use Rattle.xrc_session.specs.Between.{HasCut, IsReadyForEpoch};
+ghost use Rattle.xrc_session.specs.LinePauses.{HasCut, IsReadyForEpoch};
 ghost use Rattle.xrc_session.specs.Bringing.{BreakOnAsTraces, IsSiteBrought, IsWorkOfStore};
 ghost use Rattle.xrc_session.specs.Lanes.{AllWent, with_lanes_broken};
 ghost use Rattle.xrc_session.specs.Starting.{StaysStarted};

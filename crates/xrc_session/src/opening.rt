@@ -3,7 +3,7 @@
 ghost use Rattle.std.specs.Prelude.{◌≡◌, ◌⊎◌, ◌<◌, ◌≤◌, ◌+◌, ◌*◌, ◌++◌, ◌∷◌, [], ℕ, length, None, Some, Ok, Err, IfErr, IsErrOf, OnOk, IsTrue, slice_index_or};
 ghost use Rattle.xrc_edge.specs.Causes.{Rose};
 ghost use Rattle.write_trace.specs.Headers.{are_volumes};
-ghost use Rattle.consistency.specs.Bears.{volumes_named};
+ghost use Rattle.consistency.specs.Stages.{volumes_named};
 ghost use Rattle.pair_table.specs.Naming.{none_alike};
 ghost use Rattle.xrc_status.specs.declared.stop.Stop.TheVariants.{HeaderFault, NoMemory};
 ghost use Rattle.mover.specs.Lanes.{reader_in};

@@ -2,10 +2,10 @@
 
 ghost use Rattle.std.specs.Prelude.{◌≡◌, ◌⊎◌, ◌≤◌, true, false, Err, None, Some, IfErr, IfOk, IfSome, IsSome, OnOk};
 ghost use Rattle.crash_plant.specs.Calls.{HearsNothing, NoneLent, Silent};
-ghost use Rattle.consistency.specs.Bears.{Run};
+ghost use Rattle.consistency.specs.Stages.{Run};
 ghost use Rattle.mover.specs.Epochs.{AreSameLanes};
 ghost use Rattle.xrc_status.specs.declared.stop.Stop.TheVariants as stops;
-ghost use Rattle.xrc_session.specs.Between.{AreCountsFrom, IsBetween, IsRunOver};
+ghost use Rattle.xrc_session.specs.LinePauses.{AreCountsFrom, IsBetween, IsRunOver};
 ghost use Rattle.xrc_session.specs.Frames.{KeepsPlant, SuspendsByCounts};
 ghost use Rattle.xrc_session.specs.Lanes.{AllWent, HaveNoReader, TurnOutFrom};
 ghost use Rattle.xrc_session.specs.Lines.{MayFinish, IsBegunTable, IsDoneLine, IsNewSession, IsSameSession, IsStartedAt, StandsStartedAt, KeepsStart, IsStartAnswered, StartsByLine};

@@ -2,7 +2,7 @@
 
 ghost use Rattle.std.specs.Prelude.{◌≡◌, ◌⊎◌, ◌≤◌, List, None, Some, IfErr, OnOk};
 ghost use Rattle.crash_plant.specs.Calls.{NoneLent};
-ghost use Rattle.xrc_session.specs.Between.{IsBetween};
+ghost use Rattle.xrc_session.specs.LinePauses.{IsBetween};
 ghost use Rattle.xrc_session.specs.Frames.{KeepsPlant};
 ghost use Rattle.xrc_session.specs.Lanes.{AllTold, AllWent, HaveNoReader, SourceBytes};
 ghost use Rattle.xrc_session.specs.Openings.{ComesEarly, OpensInOrder, opening_stop};

@@ -5,7 +5,7 @@ ghost use Rattle.crash_plant.specs.Calls.{NoneLent};
 ghost use Rattle.mover.specs.Epochs.{AreSameLanes};
 ghost use Rattle.site_store.specs.Sites.{new_site};
 ghost use Rattle.site_store.specs.Standing.{HasLengths, SiteStands, none_excepted};
-ghost use Rattle.xrc_session.specs.Between.{MayCommandSite};
+ghost use Rattle.xrc_session.specs.LinePauses.{MayCommandSite};
 ghost use Rattle.xrc_session.specs.Lanes.{AllWent};
 ghost use Rattle.xrc_session.specs.Runs.{AreLabels};
 ghost use Rattle.xrc_session.specs.Starting.{MayBeStarted, IsSafeStart, IsSiteStarted, IsWorkOfStart, StartsRuns};

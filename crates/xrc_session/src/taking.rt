@@ -9,7 +9,7 @@ ghost use Rattle.pair_table.specs.Tables.{row_of};
 ghost use Rattle.pair_table.specs.Rows.{cause_number};
 ghost use Rattle.pair_table.specs.declared.row.PairState.TheVariants.{Suspended};
 ghost use Rattle.record_rows.specs.Hits.{is_by_device, is_device_suspended};
-ghost use Rattle.consistency.specs.Bears.{tracks_of_row};
+ghost use Rattle.consistency.specs.Stages.{tracks_of_row};
 ghost use Rattle.xrc_session.specs.Taking.{AllMay, KeepsForRows, MayTake, after_calls, calls_of_change, carry_calls, command_calls};
 ghost use Rattle.xrc_session.specs.Taking.{drop_between, drop_by, drop_call, drop_calls, forget_calls, is_adding, is_begun, is_suspended_as};
 ghost use Rattle.xrc_session.specs.Taking.{resume_calls, stands_again, state_by_command, tracks_owed_to, tracks_to_copy};

@@ -10,7 +10,7 @@ use Rattle.site_means.specs.Walk.WalkStep.{GoesOn, Breaks}
 use Rattle.site_means.proofs.Goes.{entered_here, entered_stays, rest_breaks, rest_ends, rest_goes, rest_of}
 use Rattle.site_means.proofs.Agreeing.{mark_here}
 use Rattle.site_means.specs.Answers.{Enters}
-use Rattle.xrecover.specs.Redone.{Draws}
+use Rattle.xrecover.specs.RedoneVolumes.{Draws}
 use Rattle.xrecover.proofs.Contents.{Done, done_none}
 use Rattle.std.specs.Prelude.{unwrap_or}
 use Rattle.xrc_journal.specs.Items.{form_of}
@@ -30,7 +30,7 @@ use Rattle.site_means.proofs.Meanings.{by_walk}
 use Rattle.tod_stamp.specs.declared.stamp.Stamp.{Stamp}
 use Rattle.site_means.specs.declared.site_error.SiteError.{SiteError}
 use Rattle.site_means.specs.declared.site_error.SiteError.TheVariants.{NoSession, Damaged as DamagedError, Fault, TooSmall, NoMemory}
-use Rattle.xrecover.specs.Again.{FoundAgain}
+use Rattle.xrecover.specs.Rereading.{FoundAgain}
 use Rattle.xrecover.specs.Answers.{HasWalk}
 
 -- the walk behind a record

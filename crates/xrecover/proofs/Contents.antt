@@ -19,7 +19,7 @@ use Rattle.applier.specs.Slots.{BeginsWithTrack, DiffersInSlots, HoldsContent}
 use Rattle.applier.proofs.Ranges.{range_part}
 use Rattle.applier.proofs.Contents.{same_slot}
 use Rattle.applier.proofs.InSlots.{has_either, slots_apart}
-use Rattle.xrecover.specs.Redone.{Draws, Redoes}
+use Rattle.xrecover.specs.RedoneVolumes.{Draws, Redoes}
 
 -- ---- content
 

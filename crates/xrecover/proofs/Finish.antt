@@ -14,9 +14,8 @@ use Rattle.site_means.proofs.Meanings.{same_seen, seen_meaning, seen_reached}
 use Rattle.xrc_journal.specs.Items.{Item}
 use Rattle.xrecover.specs.declared.recover_error.RecoverError.{RecoverError}
 use Rattle.xrecover.specs.Answers.{EndsLate, HasWalk, IsLate, IsOf, IsRecoverable, IsGoodOrCalledFor}
-use Rattle.xrecover.specs.Pairs.{AreFaulty}
 use Rattle.xrecover.specs.declared.labelling.Labelling.{Labelling}
-use Rattle.xrecover.specs.Redone.{BearsLabel, Draws, Recovers, Redone, meant_rows, rows_of}
+use Rattle.xrecover.specs.RedoneVolumes.{BearsLabel, Draws, Recovers, Redone, meant_rows, rows_of}
 use Rattle.xrecover.specs.Works.{Nothing, Works}
 use Rattle.xrecover.specs.Labels.{TreatsLabels}
 use Rattle.xrecover.proofs.Labels.{treats_behind}
@@ -80,13 +79,5 @@ module _ (tells : Type 0) (old one : PlantState) (reads : ReadsAll tells old one
 -- ---- counts, where none rose while it was read
 
 module _ (old one new : Device → ℕ) (same : (d : Device) → one d ≡ old d) where
-  pub faulty_since : (rows : List PairRow) (failed : List ℕ) → AreFaulty rows one new failed → AreFaulty rows old new failed
-  faulty_since rows failed f = record {
-    has_failed = f.has_failed;
-    listed = f.listed;
-    are_duplex = f.are_duplex;
-    counted = λ v. subst (λ (n : ℕ). FailsByCount (f.has_failed v) n (new (Volume v))) (same (Volume v)) (f.counted v);
-  }
-
   pub once_since : ((v : ℕ) → new (Volume v) ≤ one (Volume v) + 1) → (v : ℕ) → new (Volume v) ≤ old (Volume v) + 1
   once_since once v = omega (arith, once v, same (Volume v))

@@ -18,7 +18,7 @@ use Rattle.xrc_journal.specs.Jobs.{FailsByCount}
 use Rattle.xrecover.specs.Pairs.{AreFaulty, HasDuplex, duplex_devices, is_duplex, is_duplex_of}
 use Rattle.xrecover.specs.Works.{Nothing, OfOneVolume, Works}
 use Rattle.xrecover.specs.declared.labelling.Labelling.{Labelling}
-use Rattle.xrecover.specs.Redone.{BearsLabel, Draws, IsRedone, Recovers, Redoes, Redone}
+use Rattle.xrecover.specs.RedoneVolumes.{BearsLabel, Draws, IsRedone, Recovers, Redoes, Redone}
 use Rattle.xrecover.proofs.Relations.{recovers_same, redoes_same}
 use Rattle.xrecover.proofs.Rows.{recovers_one}
 use Rattle.xrecover.proofs.Works.{works_more, works_reads, works_trans}
@@ -213,9 +213,6 @@ going_other tells labelling items front r failed a b other g = record {
 module _ (tells : Type 0) (labelling : Labelling) (items : List Item) (front : List PairRow) (r : PairRow) (failed : List ℕ) (flag : Bool) (a b c : PlantState) (going : Going tells labelling items front failed a b) (duplex : is_duplex r.state ≡ true) (apart : Apart front r)
     (works : Works tells (OfOneVolume r.device (Redoes r.device items)) b c) (counts : (v : ℕ) → v ≢ r.device → c.faults (Volume v) ≡ b.faults (Volume v)) (cause : FailsByCount flag (b.faults (Volume r.device)) (c.faults (Volume r.device)))
     (redone : tells → flag ≡ false → IsRedone labelling r items b c) where
-  now_failed : ℕ → Bool
-  now_failed = with_flag r.device flag going.has_failed
-
   -- Its volume had not failed, and its count stood.
   unfailed : going.has_failed r.device ≡ false
   unfailed = by_flag (going.has_failed r.device) refl

@@ -9,7 +9,7 @@ use Rattle.ckd_track.specs.Images.{image}
 use Rattle.ckd_track.specs.SlotPlaces.{slot_place, slot_track}
 use Rattle.crash_plant.specs.declared.device.Device.TheVariants.{Volume}
 use Rattle.crash_plant.specs.Bytes.{Torn}
-use Rattle.crash_plant.specs.Moments.{Standing, PlantState, on, Follows, IsDurable, Kept, Same}
+use Rattle.crash_plant.specs.Moments.{Standing, PlantState, on, Follows, IsDurable, SamePast, Same}
 use Rattle.crash_plant.proofs.Steps.{follows_here, follows_then}
 use Rattle.applier.specs.Slots.{BeginsWithTrack, DiffersInSlots}
 use Rattle.pair_table.specs.declared.row.PairRow.{PairRow}
@@ -22,7 +22,7 @@ use Rattle.xrc_journal.specs.Items.{Item}
 use Rattle.xrc_journal.specs.Contents.{content_through}
 use Rattle.xrecover.specs.declared.labelling.Labelling.{Labelling}
 use Rattle.xrecover.specs.declared.labelling.Labelling.TheVariants.{AsPrimary, AsItIs}
-use Rattle.xrecover.specs.Redone.{BearsLabel, Draws, Recovers, SameLabel}
+use Rattle.xrecover.specs.RedoneVolumes.{BearsLabel, Draws, Recovers, SameLabel}
 use Rattle.xrecover.specs.Works.{OfOneVolume, Works}
 use Rattle.xrecover.specs.Labels.{AreNamed, IsNamed, KeepsLabel, LabelsLast, TreatsLabel, TreatsLabels}
 use Rattle.xrecover.proofs.Going.{Apart, none_duplex, same_row}
@@ -60,7 +60,7 @@ module _ (device : ℕ) (items : List Item) where
   label_kept a b f t from to z left = inl (f t from to z left)
 
   -- or nothing changed before,
-  pub last_behind : (a b c : Standing) → a.clock ≤ b.clock → Follows Same a b → b.bytes ≡ a.bytes → Kept b c → LabelsLast device items b c → LabelsLast device items a c
+  pub last_behind : (a b c : Standing) → a.clock ≤ b.clock → Follows Same a b → b.bytes ≡ a.bytes → SamePast b c → LabelsLast device items b c → LabelsLast device items a c
   last_behind a b c le f same k last t from to z left = elim (cases_lt t b.clock) [
     | inl early ↦ inl (label_same a b f t from (omega (arith, early)) z (k.same t (omega (arith, early)) (omega (arith, early)) z left))
     | inr late ↦ elim (last t late to z left) [
@@ -70,7 +70,7 @@ module _ (device : ℕ) (items : List Item) where
   ]
 
   -- or nothing changes afterwards.
-  pub last_before : (a b c : Standing) → a.clock ≤ b.clock → LabelsLast device items a b → Kept b c → Follows Same b c → c.bytes ≡ b.bytes → LabelsLast device items a c
+  pub last_before : (a b c : Standing) → a.clock ≤ b.clock → LabelsLast device items a b → SamePast b c → Follows Same b c → c.bytes ≡ b.bytes → LabelsLast device items a c
   last_before a b c le last k f same t from to z left = elim (cases_lt t b.clock) [
     | inl early ↦ elim (last t from (omega (arith, early)) z (k.same t (omega (arith, early)) (omega (arith, early)) z left)) [
       | inl was ↦ inl was
@@ -85,7 +85,7 @@ module _ (device : ℕ) (items : List Item) where
   ]
 
   -- The slots were redone before, and hold their content in the end.
-  pub last_redone : (a b c : Standing) → a.clock ≤ b.clock → Follows SameLabel a b → Draws device items a.bytes c.bytes → Kept b c → LabelsLast device [] b c → LabelsLast device items a c
+  pub last_redone : (a b c : Standing) → a.clock ≤ b.clock → Follows SameLabel a b → Draws device items a.bytes c.bytes → SamePast b c → LabelsLast device [] b c → LabelsLast device items a c
   last_redone a b c le f draws k last t from to z left = elim (cases_lt t b.clock) [
     | inl early ↦ inl (f t from (omega (arith, early)) z (k.same t (omega (arith, early)) (omega (arith, early)) z left))
     | inr late ↦ elim (last t late to z left) [
@@ -95,7 +95,7 @@ module _ (device : ℕ) (items : List Item) where
   ]
 
 -- A label is written behind a sync.
-pub label_last : (device : ℕ) (a b c : Standing) → a.clock ≤ b.clock → Follows Same a b → b.bytes ≡ a.bytes → IsDurable b → Kept b c → Follows (Torn 0 14) b c → Torn 0 14 b.bytes c.bytes → LabelsLast device [] a c
+pub label_last : (device : ℕ) (a b c : Standing) → a.clock ≤ b.clock → Follows Same a b → b.bytes ≡ a.bytes → IsDurable b → SamePast b c → Follows (Torn 0 14) b c → Torn 0 14 b.bytes c.bytes → LabelsLast device [] a c
 label_last device a b c le f same durable k torn now = last_behind device [] a b c le f same k
     (λ t from to z left. let start = torn t from to z left in inr ((λ x none. absurd cc), start.2.after ∙ ap (λ (l : List ℕ). drop 14 l) (durable start.0 start.1) ∙ sym now.after))
 
@@ -195,7 +195,7 @@ named_pair tells told rows i r items step a b c keeps is apart before works coun
 -- ---- what becomes of labels
 
 -- A label that stays, and stays again.
-pub keeps_then : (a b c : Standing) → a.clock ≤ b.clock → KeepsLabel a b → Kept b c → KeepsLabel b c → KeepsLabel a c
+pub keeps_then : (a b c : Standing) → a.clock ≤ b.clock → KeepsLabel a b → SamePast b c → KeepsLabel b c → KeepsLabel a c
 keeps_then a b c le k kept l = record {
   bytes = l.bytes ∙ k.bytes;
   moments = follows_then a b c SameLabel SameLabel SameLabel le k.moments kept l.moments (λ p q here s. s) (λ p q r here there e f. f ∙ e);
@@ -217,7 +217,7 @@ treats_kept AsItIs row items a b k = k
 
 -- The items of the walk were applied, and then the volume was finished.
 pub treats_redone : (labelling : Labelling) (row : PairRow) (items : List Item) (a b c : PlantState) → a.clock ≤ b.clock → KeepsLabel (on a (Volume row.device)) (on b (Volume row.device)) → Draws row.device items (a.bytes (Volume row.device)) (c.bytes (Volume row.device))
-    → a.faults (Volume row.device) ≤ b.faults (Volume row.device) → Kept (on b (Volume row.device)) (on c (Volume row.device)) → TreatsLabel labelling row [] b c → TreatsLabel labelling row items a c
+    → a.faults (Volume row.device) ≤ b.faults (Volume row.device) → SamePast (on b (Volume row.device)) (on c (Volume row.device)) → TreatsLabel labelling row [] b c → TreatsLabel labelling row items a c
 treats_redone AsPrimary row items a b c le k draws count kept t = (
   last_redone row.device items (on a (Volume row.device)) (on b (Volume row.device)) (on c (Volume row.device)) le k.moments draws kept t.0,
   named_then row a b c k.bytes count t.1,

@@ -16,7 +16,7 @@ use Rattle.applier.specs.Slots.{DiffersInSlots}
 use Rattle.applier.proofs.Ranges.{torn_apart}
 use Rattle.pair_table.specs.declared.row.PairRow.{PairRow}
 use Rattle.xrecover.specs.Works.{OfOneVolume}
-use Rattle.xrecover.specs.Redone.{Recovers, Redoes}
+use Rattle.xrecover.specs.RedoneVolumes.{Recovers, Redoes}
 
 module _ (v : ℕ) where
   pub redoes_here : (items : List Item) (b : List ℕ) → Redoes v items b b

@@ -13,7 +13,7 @@ use Rattle.volume_label.specs.Labels.{volume_need}
 use Rattle.xrc_journal.specs.Items.{Item}
 use Rattle.xrecover.specs.Pairs.{HasDuplex, first_small, is_duplex, is_duplex_of, is_small}
 use Rattle.xrecover.specs.Works.{OfOneVolume}
-use Rattle.xrecover.specs.Redone.{Recovers, Redoes}
+use Rattle.xrecover.specs.RedoneVolumes.{Recovers, Redoes}
 use Rattle.xrecover.proofs.Relations.{redoes_then}
 
 pub below_at : (volumes : ℕ) (rows : List PairRow) (i : ℕ) (r : PairRow) → are_below volumes rows ≡ true → slice_get rows i ≡ Some r → r.device < volumes

@@ -30,8 +30,8 @@ use Rattle.site_means.proofs.Found.{group_ends, next_within, switch_leads}
 use Rattle.site_means.proofs.Goes.{goes_by}
 use Rattle.site_means.proofs.Drawn.{contents_are_drawn}
 use Rattle.xrecover.specs.Pairs.{HasDuplex, is_duplex_of}
-use Rattle.xrecover.specs.Redone.{Recovers, Redoes}
-use Rattle.xrecover.specs.Sees.{IsSettled, SeesSame}
+use Rattle.xrecover.specs.RedoneVolumes.{Recovers, Redoes}
+use Rattle.xrecover.specs.Sights.{IsSettled, SeesSame}
 use Rattle.xrecover.specs.Works.{Works}
 use Rattle.xrecover.proofs.Contents.{item_cases, track_kept}
 use Rattle.xrecover.proofs.Deltas.{walked_drawn}

@@ -12,13 +12,13 @@ use Rattle.site_means.specs.Sight.{walked}
 use Rattle.xrc_journal.specs.Items.{Item}
 use Rattle.xrc_journal.specs.Jobs.{FailsByCount}
 use Rattle.xrecover.specs.Answers.{HasWalk, IsLate}
-use Rattle.xrecover.specs.Again.{IsWalkFault}
+use Rattle.xrecover.specs.Rereading.{IsWalkFault}
 use Rattle.site_means.specs.declared.site_error.SiteError.{SiteError}
 use Rattle.xrecover.specs.declared.recover_error.RecoverError.TheVariants.{Site}
 use Rattle.xrecover.specs.declared.labelling.Labelling.{Labelling}
 use Rattle.xrecover.specs.Pairs.{first_small, is_duplex}
 use Rattle.xrecover.specs.Works.{OfOneVolume, Works}
-use Rattle.xrecover.specs.Redone.{IsRedone, Recovers, Redoes}
+use Rattle.xrecover.specs.RedoneVolumes.{IsRedone, Recovers, Redoes}
 use Rattle.xrecover.proofs.Going.{Going, apart_before, going_duplex, going_other, recovers_more, take_more}
 use Rattle.xrecover.proofs.Later.{SameWalk, enters_before, walk_later}
 use Rattle.xrecover.proofs.Rows.{below_at, duplex_at, long_at, recovers_one}

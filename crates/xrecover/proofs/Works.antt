@@ -3,7 +3,7 @@ use Rattle.std.proofs.Common.{◌≡◌, ◌≢◌, ◌≤◌, inl, inr, ℕ, Li
 use Rattle.std.proofs.lemmas.Bool.{cases_eq, cases_lt}
 use Rattle.crash_plant.specs.declared.device.Device.{Device}
 use Rattle.crash_plant.specs.declared.device.Device.TheVariants.{Control, State, Journal, Volume}
-use Rattle.crash_plant.specs.Moments.{Standing, PlantState, on, Follows, Kept, Same}
+use Rattle.crash_plant.specs.Moments.{Standing, PlantState, on, Follows, SamePast, Same}
 use Rattle.crash_plant.specs.Calls.{Elapses, Lends, SameLoan, Silent, TakesBack, WorksOn}
 use Rattle.crash_plant.proofs.Choices.{device_cases}
 use Rattle.crash_plant.proofs.Lent.{lent_kept, lent_moments}
@@ -15,7 +15,7 @@ use Rattle.xrc_journal.specs.Items.{Item}
 use Rattle.xrc_journal.specs.Contents.{HasItem}
 use Rattle.applier.specs.Slots.{DiffersInSlots}
 use Rattle.xrecover.specs.Works.{Nothing, OfOneVolume, Works}
-use Rattle.xrecover.specs.Redone.{Redoes}
+use Rattle.xrecover.specs.RedoneVolumes.{Redoes}
 use Rattle.xrecover.proofs.Relations.{differs_redoes, one_more, one_same, one_then, redoes_same, redoes_then}
 
 -- two calls
@@ -94,7 +94,7 @@ module _ (tells : Type 0) (v : ℕ) (step : List ℕ → List ℕ → Type 0) (s
   lent_elapses : tells → Elapses a d
   lent_elapses told = record {
     kept = λ e. elim (device_cases e (Volume v)) [
-      | inl here ↦ subst (λ (f : Device). Kept (on a f) (on d f)) (sym here) (lent_kept tells told v a b b d first last lends (kept_here (on b (Volume v))) loan back)
+      | inl here ↦ subst (λ (f : Device). SamePast (on a f) (on d f)) (sym here) (lent_kept tells told v a b b d first last lends (kept_here (on b (Volume v))) loan back)
       | inr other ↦ kept_trans (on a e) (on b e) (on d e) (lends.rest.kept told e other) (back.rest.kept told e other)
     ];
     heard = λ t up to. back.rest.heard told t (omega (arith, up, (lends.rest.goes_on told).0)) (omega (arith, to, (lends.rest.goes_on told).0)) ∙ lends.rest.heard told t up to;
@@ -114,7 +114,7 @@ module _ (tells : Type 0) (v : ℕ) (step : List ℕ → List ℕ → Type 0) (s
     script = (back.rest.silent told).script ∙ (lends.rest.silent told).script;
   }
 
-  pub lent_works : (tells → Kept first last) → first.faults ≤ last.faults → (tells → step first.bytes last.bytes) → (tells → Follows step first last) → Works tells (OfOneVolume v step) a d
+  pub lent_works : (tells → SamePast first last) → first.faults ≤ last.faults → (tells → step first.bytes last.bytes) → (tells → Follows step first last) → Works tells (OfOneVolume v step) a d
   lent_works past later bytes moments = record {
     site = site_trans a b d lends.rest.site back.rest.site;
     home = none_lent_again tells v a b b d first last lends (λ w. record { is_lent = refl; since = refl; lent = kept_here (b.lent w); clock = refl }) refl back;

@@ -1,7 +1,7 @@
 pub mod Pairs
 pub mod Works
-pub mod Redone
+pub mod RedoneVolumes
 pub mod Labels
 pub mod Answers
-pub mod Again
-pub mod Sees
+pub mod Rereading
+pub mod Sights

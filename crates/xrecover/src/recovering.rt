@@ -18,9 +18,9 @@ ghost use Rattle.xrecover.specs.Pairs.{AreFaulty, first_small};
 ghost use Rattle.xrecover.specs.Answers.{HasWalk, IsEarly, IsLate, IsRecoverable, IsGoodOrCalledFor, TellsFaults};
 ghost use Rattle.xrecover.specs.Works.{Nothing, Works};
 ghost use Rattle.xrecover.specs.declared.labelling.Labelling.TheVariants.{AsItIs, AsPrimary};
-ghost use Rattle.xrecover.specs.Redone.{Recovers, Redone, meant_rows};
+ghost use Rattle.xrecover.specs.RedoneVolumes.{Recovers, Redone, meant_rows};
 ghost use Rattle.xrecover.specs.Labels.{AreNamed, KeepsLabels, LabelsLast, TreatsLabels};
-ghost use Rattle.xrecover.specs.Sees.{IsSettled, SeesSame};
+ghost use Rattle.xrecover.specs.Sights.{IsSettled, SeesSame};
 
 use crate::meaning::{Meant, is_duplex, read_meant};
 use crate::redoing::redo_pair;

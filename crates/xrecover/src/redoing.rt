@@ -13,9 +13,9 @@ ghost use Rattle.site_means.specs.Answers.{FaultsAreCounted, HasSpot, ReadsAll};
 ghost use Rattle.site_means.specs.Sight.{walked};
 ghost use Rattle.site_means.specs.Steps.{HoldsEveryBody};
 ghost use Rattle.xrecover.specs.Answers.{HasWalk, TellsFaults};
-ghost use Rattle.xrecover.specs.Again.{FoundAgain, IsBehind, IsWalkFault};
+ghost use Rattle.xrecover.specs.Rereading.{FoundAgain, IsBehind, IsWalkFault};
 ghost use Rattle.xrecover.specs.Works.{OfOneVolume, Works};
-ghost use Rattle.xrecover.specs.Redone.{Draws, IsRedone, Redoes};
+ghost use Rattle.xrecover.specs.RedoneVolumes.{Draws, IsRedone, Redoes};
 ghost use Rattle.xrecover.specs.Labels.{KeepsLabel, TreatsLabel};
 
 use crate::Labelling;

@@ -4,14 +4,14 @@ ghost use Rattle.std.specs.Prelude.{◌≡◌, ◌≢◌, ◌≤◌, ◌<◌, �
 ghost use Rattle.ckd_track.specs.SlotPlaces.{slot_end};
 ghost use Rattle.crash_plant.specs.declared.device.Device.{Device as AnyDevice};
 ghost use Rattle.crash_plant.specs.declared.device.Device.TheVariants.{Volume};
-ghost use Rattle.crash_plant.specs.Moments.{Follows, IsDurable, Kept, on};
+ghost use Rattle.crash_plant.specs.Moments.{Follows, IsDurable, SamePast, on};
 ghost use Rattle.crash_plant.specs.Calls.{NoneLent};
 ghost use Rattle.xrc_journal.specs.Items.{AreItems, form_of};
 ghost use Rattle.xrc_journal.specs.Contents.{HasItem};
 ghost use Rattle.xrc_journal.specs.Jobs.{FailsByCount};
 ghost use Rattle.applier.specs.Slots.{DiffersInSlots, HoldsContent};
 ghost use Rattle.xrecover.specs.Works.{OfOneVolume, Works};
-ghost use Rattle.xrecover.specs.Redone.{BearsLabel, Redoes};
+ghost use Rattle.xrecover.specs.RedoneVolumes.{BearsLabel, Redoes};
 ghost use Rattle.xrecover.specs.Labels.{TreatsLabel};
 
 use crate::Labelling;
@@ -48,7 +48,7 @@ fn apply_lent<D: Disk>(device: u16, volume: D, tools: Tools) -> (D, Tools, bool)
     ensures body { result.1.body ≡ tools.body }
     ensures length { (D.state result.0).length_is ≡ (D.state volume).length_is }
     ensures cause { FailsByCount result.2 (D.state volume).faults (D.state result.0).faults }
-    ensures past { D.tells → Kept (D.state volume) (D.state result.0) }
+    ensures past { D.tells → SamePast (D.state volume) (D.state result.0) }
     ensures moments { D.tells → Follows (DiffersInSlots device tools.body.items) (D.state volume) (D.state result.0) }
     ensures bytes { D.tells → DiffersInSlots device tools.body.items (D.state volume).bytes (D.state result.0).bytes }
     ensures content { D.tells → result.2 ≡ false → HoldsContent device tools.body.items (D.state volume).bytes (D.state result.0).bytes }

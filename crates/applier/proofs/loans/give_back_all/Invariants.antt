@@ -1,7 +1,7 @@
 use Rattle.std.proofs.Common.{◌≡◌, ◌++◌, List, map, take, drop}
 use Rattle.xrc_journal.specs.declared.job.VolumeJob.{VolumeJob}
 use Rattle.applier.specs.Disks.{without_disk}
-use Rattle.applier.specs.Out.{AreOut}
+use Rattle.applier.specs.Loans.{AreOut}
 use Rattle.applier.proofs.Giving.{AreHalfBack}
 use Rattle.applier.proofs.loans.give_back_all.Given as goal
 

@@ -1,4 +1,4 @@
-use Rattle.applier.specs.Out.{AreOut}
+use Rattle.applier.specs.Loans.{AreOut}
 use Rattle.applier.proofs.Lending.{LendsSoFar}
 use Rattle.applier.proofs.loans.lend_all.Given as goal
 

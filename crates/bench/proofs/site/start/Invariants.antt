@@ -1,4 +1,4 @@
-use Rattle.site_store.specs.Between.{IsSiteIdle}
+use Rattle.site_store.specs.IdleSites.{IsSiteIdle}
 use Rattle.bench.proofs.site.start.Given as goal
 
 abbrev pub invariant-loop-device : goal.invariant-loop-device

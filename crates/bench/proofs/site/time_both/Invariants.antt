@@ -1,5 +1,5 @@
 use Rattle.crash_plant.specs.Calls.{NoneLent}
-use Rattle.site_store.specs.Between.{IsSiteIdle}
+use Rattle.site_store.specs.IdleSites.{IsSiteIdle}
 use Rattle.bench.proofs.site.time_both.Given as goal
 
 abbrev pub invariant-loop-group : goal.invariant-loop-group

@@ -1,7 +1,7 @@
 use Rattle.std.proofs.Common.{◌≡◌, ◌<◌, length, sym, ap, subst, ◌∙◌}
 use Rattle.copy_plan.specs.Plans.{PlanState, fresh_plan}
 use Rattle.group_state.specs.Groups.{Group, control_at}
-use Rattle.group_state.specs.Sound.{MayCarry}
+use Rattle.group_state.specs.SoundStates.{MayCarry}
 use Rattle.bench_mover.specs.Starting.{carrying_group, no_copy}
 use Rattle.bench_mover.proofs.StartingGroup.{may_carry}
 use Rattle.bench_mover.proofs.starting.carry.Goals as goal

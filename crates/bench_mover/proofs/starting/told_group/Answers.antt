@@ -1,6 +1,6 @@
 use Rattle.std.proofs.Common.{◌<◌, length, sym, subst}
 use Rattle.group_state.specs.Groups.{Group, control_at}
-use Rattle.group_state.specs.Sound.{MayTell}
+use Rattle.group_state.specs.SoundStates.{MayTell}
 use Rattle.bench_mover.specs.Starting.{start_time}
 use Rattle.bench_mover.proofs.StartingGroup.{may_raise}
 use Rattle.bench_mover.proofs.starting.told_group.Goals as goal

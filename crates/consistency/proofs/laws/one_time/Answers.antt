@@ -2,7 +2,7 @@ use Rattle.std.proofs.Common.{◌≡◌, ◌≤◌, ℕ, Bool, true, false, Opti
 use Rattle.std.specs.Prelude.{unwrap_or}
 use Rattle.site_means.specs.declared.means.Means.{Means}
 use Rattle.xrc_command.specs.declared.line.Line.{Line}
-use Rattle.consistency.specs.Bears.{IsTime, Stage}
+use Rattle.consistency.specs.Stages.{IsTime, Stage}
 use Rattle.consistency.proofs.laws.one_time.Goals as goal
 
 -- The time is at most that of a line that was heard, where the session goes on.

@@ -1,7 +1,7 @@
 use Rattle.std.proofs.Common.{List, ◌≡◌, ◌+◌, ◌++◌, ◌∷◌, [], ℕ, length, get_or, take, map, sym, ◌∙◌, ap, subst}
 use Rattle.std.proofs.lemmas.List.{take_more, map_push}
 use Rattle.crash_plant.specs.declared.entry.Entry.{Entry}
-use Rattle.crash_plant.specs.Left.{all_filled, filled}
+use Rattle.crash_plant.specs.DiskRemains.{all_filled, filled}
 use Rattle.crash_plant.specs.Pasts.{Note, Fits, note_of}
 use Rattle.crash_plant.proofs.Lefts.{fit_at, fit_take, filled_push, length-all_filled}
 use Rattle.crash_plant.proofs.left.fill_all.Goals as goal

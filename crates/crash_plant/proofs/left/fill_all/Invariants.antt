@@ -1,5 +1,5 @@
 use Rattle.std.proofs.Common.{◌≡◌, take, map}
-use Rattle.crash_plant.specs.Left.{all_filled}
+use Rattle.crash_plant.specs.DiskRemains.{all_filled}
 use Rattle.crash_plant.specs.Pasts.{note_of}
 use Rattle.crash_plant.proofs.left.fill_all.Given as goal
 

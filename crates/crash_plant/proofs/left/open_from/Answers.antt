@@ -1,6 +1,6 @@
 use Rattle.std.proofs.Common.{◌≡◌, ◌≤◌, ◌+◌, ◌++◌, ◌∷◌, [], ℕ, drop, get_or, take, map, sym, subst}
 use Rattle.std.proofs.lemmas.List.{take_more}
-use Rattle.crash_plant.specs.Left.{open_writes}
+use Rattle.crash_plant.specs.DiskRemains.{open_writes}
 use Rattle.crash_plant.specs.Pasts.{note_of}
 use Rattle.crash_plant.proofs.Lefts.{open_next}
 use Rattle.crash_plant.proofs.left.open_from.Goals as goal

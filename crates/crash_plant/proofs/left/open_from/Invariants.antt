@@ -1,5 +1,5 @@
 use Rattle.std.proofs.Common.{◌≡◌, ◌≤◌, drop, take, map}
-use Rattle.crash_plant.specs.Left.{open_writes}
+use Rattle.crash_plant.specs.DiskRemains.{open_writes}
 use Rattle.crash_plant.specs.Pasts.{note_of}
 use Rattle.crash_plant.proofs.left.open_from.Given as goal
 

@@ -1,5 +1,5 @@
 use Rattle.std.proofs.Common.{rules}
-use Rattle.crash_plant.specs.Fresh.{absent, fresh_of, fresh_place}
+use Rattle.crash_plant.specs.FreshDisks.{absent, fresh_of, fresh_place}
 use Rattle.crash_plant.proofs.Seen.{row_push, same_length_push, taken}
 use Rattle.crash_plant.proofs.memory_disks.shelves.Goals as goal
 

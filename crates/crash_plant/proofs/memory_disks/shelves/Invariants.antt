@@ -1,6 +1,6 @@
 use Rattle.std.proofs.Common.{◌≡◌, ◌<◌, ◌++◌, ℕ, length}
 use Rattle.crash_plant.specs.Devices.{seen_at}
-use Rattle.crash_plant.specs.Fresh.{absent, fresh_of, fresh_place}
+use Rattle.crash_plant.specs.FreshDisks.{absent, fresh_of, fresh_place}
 use Rattle.crash_plant.proofs.memory_disks.shelves.Given as goal
 
 abbrev pub invariant-loop-place : goal.invariant-loop-place

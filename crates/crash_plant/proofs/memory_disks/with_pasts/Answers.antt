@@ -1,7 +1,7 @@
 use Rattle.std.proofs.Common.{rules}
 use Rattle.crash_plant.specs.declared.memory_disk.MemoryDisk.{MemoryDisk}
 use Rattle.crash_plant.specs.declared.shelf.Shelf.TheVariants.{Here}
-use Rattle.crash_plant.specs.Fresh.{absent, fresh_of, fresh_disk}
+use Rattle.crash_plant.specs.FreshDisks.{absent, fresh_of, fresh_disk}
 use Rattle.crash_plant.proofs.Seen.{row_push, same_length_push, taken}
 use Rattle.crash_plant.proofs.FreshDisks.{fresh_is}
 use Rattle.crash_plant.proofs.memory_disks.with_pasts.Goals as goal

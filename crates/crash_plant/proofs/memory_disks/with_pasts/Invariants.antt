@@ -2,7 +2,7 @@ use Rattle.std.proofs.Common.{◌≡◌, ◌<◌, ◌++◌, ℕ, length}
 use Rattle.crash_plant.specs.declared.memory_disk.MemoryDisk.{MemoryDisk}
 use Rattle.crash_plant.specs.declared.shelf.Shelf.TheVariants.{Here}
 use Rattle.crash_plant.specs.Devices.{seen_at}
-use Rattle.crash_plant.specs.Fresh.{absent, fresh_of, fresh_disk}
+use Rattle.crash_plant.specs.FreshDisks.{absent, fresh_of, fresh_disk}
 use Rattle.crash_plant.proofs.memory_disks.with_pasts.Given as goal
 
 abbrev pub invariant-loop-disk : goal.invariant-loop-disk

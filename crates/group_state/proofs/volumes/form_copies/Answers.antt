@@ -6,7 +6,7 @@ use Rattle.pending_queue.specs.declared.head.EntryHead.{EntryHead}
 use Rattle.pending_queue.specs.Entries.{WaitingEntry, copies, due, is_due}
 use Rattle.group_state.specs.declared.volume.Volume.{Volume}
 use Rattle.group_state.specs.Volumes.{with_volume, formed_track, with_formed_copies, volume_of, passes}
-use Rattle.group_state.specs.Sound.{may_form}
+use Rattle.group_state.specs.SoundStates.{may_form}
 use Rattle.group_state.proofs.FormLaws.{formed_more, may_form_next}
 use Rattle.group_state.proofs.volumes.form_copies.Goals as goal
 use Rattle.group_state.proofs.volumes.form_copies.Goals.{then-is_due_copy, else-is_due_copy}

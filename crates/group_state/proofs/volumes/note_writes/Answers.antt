@@ -3,7 +3,7 @@ use Rattle.std.proofs.lemmas.List.Sums.{fold_more}
 use Rattle.ckd_track.specs.declared.write.Write.{Write}
 use Rattle.group_state.specs.declared.volume.Volume.{Volume}
 use Rattle.group_state.specs.Volumes.{with_write, with_writes}
-use Rattle.group_state.specs.Sound.{are_within}
+use Rattle.group_state.specs.SoundStates.{are_within}
 use Rattle.group_state.proofs.SoundLaws.{all_within_write}
 use Rattle.group_state.proofs.volumes.note_writes.Goals as goal
 

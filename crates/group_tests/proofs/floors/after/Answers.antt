@@ -1,8 +1,8 @@
 use Rattle.std.proofs.Common.{[], take, map, sym, subst, ◌∙◌}
 use Rattle.std.specs.Prelude.{IsTrue}
-use Rattle.cut_core.specs.Legal.{is_legal_next}
-use Rattle.cut_core.specs.Seen.{history_event}
-use Rattle.cut_core.specs.Standing.{StandsAfter}
+use Rattle.cut_core.specs.LegalHistories.{is_legal_next}
+use Rattle.cut_core.specs.HistoryEvents.{history_event}
+use Rattle.cut_core.specs.Floors.{StandsAfter}
 use Rattle.group_tests.proofs.Rows.{legal_at, seen_more}
 use Rattle.group_tests.proofs.floors.after.Goals as goal
 

@@ -1,6 +1,6 @@
 use Rattle.std.proofs.Common.{refl, sym, subst}
 use Rattle.group_state.specs.Groups.{Group}
-use Rattle.group_tests.specs.Ready.{CarriesFirst}
+use Rattle.group_tests.specs.ReadyStates.{CarriesFirst}
 use Rattle.group_tests.proofs.Ready.{ready_formed}
 use Rattle.group_tests.proofs.held.form.Goals as goal
 

@@ -1,8 +1,8 @@
 use Rattle.std.proofs.Common.{ap, sym, subst}
 use Rattle.tod_stamp.specs.declared.stamp.Stamp.{Stamp}
 use Rattle.group_state.specs.Groups.{Group, control_at}
-use Rattle.group_state.specs.Sound.{MayJoin}
-use Rattle.group_tests.specs.Ready.{CarriesFirst}
+use Rattle.group_state.specs.SoundStates.{MayJoin}
+use Rattle.group_tests.specs.ReadyStates.{CarriesFirst}
 use Rattle.group_tests.proofs.Ready.{may_join, ready_joined}
 use Rattle.group_tests.proofs.held.join.Goals as goal
 

@@ -1,6 +1,6 @@
 use Rattle.std.proofs.Common.{sym, subst, arith}
 use Rattle.tod_stamp.specs.declared.stamp.Stamp.{Stamp}
-use Rattle.group_tests.specs.Tried.{AreTried}
+use Rattle.group_tests.specs.Trials.{AreTried}
 use Rattle.group_tests.proofs.Tried.{tried_later}
 use Rattle.group_tests.proofs.trials.a_queue_keeps_what_a_plain_list_keeps.Goals as goal
 

@@ -1,6 +1,6 @@
 use Rattle.std.proofs.Common.{◌≡◌, ◌<◌, length}
 use Rattle.std.specs.Prelude.{◌^◌}
-use Rattle.group_tests.specs.Tried.{AreTried}
+use Rattle.group_tests.specs.Trials.{AreTried}
 use Rattle.group_tests.proofs.trials.a_queue_keeps_what_a_plain_list_keeps.Given as goal
 
 abbrev pub invariant-loop : goal.invariant-loop

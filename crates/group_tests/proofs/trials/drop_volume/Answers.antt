@@ -4,7 +4,7 @@ use Rattle.std.proofs.lemmas.List.{length-replicate}
 use Rattle.pending_queue.specs.Entries.{is_of_volume, entry_tracks}
 use Rattle.pending_queue.specs.Queues.{QueueState}
 use Rattle.group_state.proofs.SoundLaws.{length_tracks}
-use Rattle.group_tests.specs.Tried.{AreTried}
+use Rattle.group_tests.specs.Trials.{AreTried}
 use Rattle.group_tests.proofs.Tried.{tried_filter, tried_tracks}
 use Rattle.group_tests.proofs.trials.drop_volume.Goals as goal
 

@@ -4,7 +4,7 @@ use Rattle.ckd_track.specs.declared.write.Batch.{Batch}
 use Rattle.ckd_track.specs.Writes.{writes_never_fall}
 use Rattle.pending_queue.specs.Entries.{entry_of, entries_of, last_stamp}
 use Rattle.pending_queue.specs.Queues.{QueueState, QueueInRegion, with_waiting}
-use Rattle.group_tests.specs.Tried.{AreTried}
+use Rattle.group_tests.specs.Trials.{AreTried}
 use Rattle.group_tests.proofs.Tried.{on_either, tried_last, tried_more}
 use Rattle.group_tests.proofs.trials.push.Goals as goal
 

@@ -1,5 +1,5 @@
 use Rattle.std.proofs.Common.{refl, ap, ◌∙◌}
-use Rattle.xrc_journal.specs.Bodies.{Held}
+use Rattle.xrc_journal.specs.Bodies.{BodyState}
 use Rattle.image_former.specs.Steps.{GoesBy}
 use Rattle.image_former.proofs.Lists.{zip_refl, zip_trans}
 use Rattle.image_former.proofs.Going.{by_here, by_then, ready_after}
@@ -17,8 +17,8 @@ pub loop-body-preserved : goal.loop-body-preserved
 loop-body-preserved g c = (
   zip_trans (GoesBy g.D.Disk.state g.D.Disk.tells c.args.table.now.rows c.args.formed.now.entries) (by_then g.D.Disk.state g.D.Disk.tells c.args.table.now.rows c.args.formed.now.entries)
       c.args.jobs.now c.loop-body.jobs c.form_images.new.jobs c.loop-body.invariant.0 c.form_images.ensures.goes,
-  ap (λ (h : Held). h.items) c.clear.ensures,
-  ap (λ (h : Held). h.room) c.clear.ensures ∙ c.form_images.ensures.room ∙ c.loop-body.invariant.2,
+  ap (λ (h : BodyState). h.items) c.clear.ensures,
+  ap (λ (h : BodyState). h.room) c.clear.ensures ∙ c.form_images.ensures.room ∙ c.loop-body.invariant.2,
 )
 
 pub returns-clause-goes : goal.returns-clause-goes

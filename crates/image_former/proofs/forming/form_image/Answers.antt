@@ -3,7 +3,7 @@ use Rattle.std.proofs.lemmas.Bool.{both_ways}
 use Rattle.std.proofs.lemmas.List.{get_or_default}
 use Rattle.xrc_journal.specs.declared.job.VolumeJob.{VolumeJob}
 use Rattle.xrc_journal.specs.Items.{Item}
-use Rattle.xrc_journal.specs.Bodies.{Held}
+use Rattle.xrc_journal.specs.Bodies.{BodyState}
 use Rattle.image_former.specs.Steps.{AreFormed, GoesBy}
 use Rattle.image_former.proofs.Lists.{zip_refl}
 use Rattle.image_former.proofs.Going.{by_here}
@@ -65,6 +65,6 @@ returns-clause-formed g c =
     let all = all_go g.D.Disk.state g.D.Disk.tells c.args.table.now.rows c.args.formed.now.entries c.args.place c.head-head.result c.args.jobs.now c.requires.ready c.head-head.ensures c.device_of.result c.device_of.ensures.device c.device_of.ensures.rules c.job_place-job.result c.job_place-job.ensures.within c.job_place-job.ensures.device (sym c.has_earlier.ensures ∙ c.if-has_earlier.false) c.index-jobs-job-2.result c.form_track.new.job c.form_track.ensures.goes
     c.form_track.ensures.whole (λ whole. c.in_ok-form_track.ensures.ok ∙ sym good) in
     subst (λ (l : List Item). AreFormed g.D.Disk.state g.D.Disk.tells c.args.table.now.rows c.args.formed.now.entries (take (c.args.place + 1) c.args.formed.now.entries) (set c.args.jobs.now c.job_place-job.result c.form_track.new.job) l)
-    (ap (λ (h : Held). h.items) (sym c.put_track.ensures.put))
+    (ap (λ (h : BodyState). h.items) (sym c.put_track.ensures.put))
     (formed_then g.D.Disk.state g.D.Disk.tells c.args.table.now.rows c.args.formed.now.entries c.args.place c.head-head.result c.args.jobs.now c.requires.ready c.head-head.ensures c.device_of.result c.device_of.ensures.device c.device_of.ensures.rules c.job_place-job.result c.job_place-job.ensures.within c.job_place-job.ensures.device (sym c.has_earlier.ensures ∙ c.if-has_earlier.false) c.index-jobs-job-2.result c.form_track.new.job c.form_track.ensures.goes
     c.args.body.now.items c.index-jobs-job-3.result good c.in_ok-form_track.ensures.ok all c.in_ok-form_track.ensures.content c.put_track.ensures.short c.requires.formed)

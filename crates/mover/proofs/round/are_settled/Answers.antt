@@ -5,7 +5,7 @@ use Rattle.std.specs.Option.{option_copied}
 use Rattle.std.proofs.lemmas.Bool.{and_from, not-true}
 use Rattle.std.proofs.lemmas.List.{take_all}
 use Rattle.pair_table.specs.declared.row.PairRow.{PairRow}
-use Rattle.row_changes.specs.Toward.{is_settled}
+use Rattle.row_changes.specs.Spans.{is_settled}
 use Rattle.mover.proofs.SamePairs.{all_more, all_there, true_of_not}
 use Rattle.mover.proofs.round.are_settled.Goals as goal
 

@@ -1,6 +1,6 @@
 use Rattle.std.proofs.Common.{◌≡◌, take, true}
 use Rattle.std.specs.List.{list_all}
-use Rattle.row_changes.specs.Toward.{is_settled}
+use Rattle.row_changes.specs.Spans.{is_settled}
 use Rattle.mover.proofs.round.are_settled.Given as goal
 
 -- each row before is settled

@@ -4,7 +4,7 @@ use Rattle.mover.specs.declared.lane.Lane.{Lane}
 use Rattle.mover.specs.Rounds.{AreLanesOf}
 use Rattle.xrc_session.proofs.JoinsLanes.{lanes_later}
 use Rattle.mover_tests.specs.Courses.{AreAtLimit, MayGoTo}
-use Rattle.mover_tests.proofs.Bringing.{goes_then, there_then}
+use Rattle.mover_tests.proofs.Bringing.{goes_then}
 use Rattle.mover_tests.proofs.Going.{taken_back}
 use Rattle.mover_tests.proofs.courses.brought_as_far.Goals as goal
 

@@ -4,7 +4,7 @@ use Rattle.std.proofs.lemmas.List.Sorted.{IsPartitionPoint-from_clause}
 use Rattle.xrc_edge.proofs.OrderLaws.{parted}
 use Rattle.pending_queue.specs.declared.placed.Placed.{Placed}
 use Rattle.pending_queue.specs.Entries.{head_before}
-use Rattle.pending_queue.specs.Placed.{placed_before}
+use Rattle.pending_queue.specs.PlacedEntries.{placed_before}
 use Rattle.pending_queue.proofs.Places.{placed_order, none_after}
 use Rattle.pending_queue.proofs.placed.place_of.Goals as goal
 

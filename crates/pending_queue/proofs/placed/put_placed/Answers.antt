@@ -2,7 +2,7 @@ use Rattle.std.proofs.Common.{List, length, get_or, ◌∙◌, sym, ap, arith}
 use Rattle.std.specs.Prelude.{is_ok}
 use Rattle.std.proofs.lemmas.Bool.{cond-true}
 use Rattle.pending_queue.specs.declared.placed.Placed.{Placed}
-use Rattle.pending_queue.specs.Placed.{placed_before}
+use Rattle.pending_queue.specs.PlacedEntries.{placed_before}
 use Rattle.xrc_edge.proofs.Merges.{order_put_at}
 use Rattle.pending_queue.proofs.Places.{placed_order}
 use Rattle.pending_queue.proofs.placed.put_placed.Goals as goal

@@ -1,4 +1,4 @@
-use Rattle.applier.specs.Out.{AreWorkedOn}
+use Rattle.applier.specs.Loans.{AreWorkedOn}
 use Rattle.plant_tests.proofs.loans.work_all.Given as goal
 
 abbrev pub invariant-loop-job : goal.invariant-loop-job

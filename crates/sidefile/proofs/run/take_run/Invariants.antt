@@ -1,5 +1,5 @@
 use Rattle.std.proofs.Common.{◌-◌}
-use Rattle.write_trace.specs.Good.{most_bytes}
+use Rattle.write_trace.specs.WholeTraces.{most_bytes}
 use Rattle.sidefile.proofs.Collects.{Collected}
 use Rattle.sidefile.proofs.run.take_run.Given as goal
 

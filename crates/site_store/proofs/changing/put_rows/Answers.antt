@@ -2,7 +2,7 @@ use Rattle.std.proofs.Common.{◌≡◌, ◌+◌, get_or, Some, None, ap, subst,
 use Rattle.std.specs.Option.{option_copied}
 use Rattle.pair_table.specs.Tables.{row_of}
 use Rattle.site_store.specs.Changing.{pair_item}
-use Rattle.xrc_journal.specs.Bodies.{Held}
+use Rattle.xrc_journal.specs.Bodies.{BodyState}
 use Rattle.xrc_journal.specs.Items.Item.{Pair}
 use Rattle.site_store.proofs.DevicePuts.{Put, found_is_row, pair_length, put_none, put_one}
 use Rattle.site_store.proofs.changing.put_rows.Goals as goal
@@ -26,6 +26,6 @@ loop-device-preserved c =
           (ap pair_item is) (omega (arith, long)) (w.body-is ∙ w.put_row.ensures)
       | in_default w ↦
           let is : row_of device rows ≡ None = sym found ∙ ap option_copied w.in_default.is in
-          subst (λ (h : Held). Put (λ d. pair_item (row_of d rows)) c.args.body.now h c.args.devices.now (c.loop-device.device-index + 1)) (sym w.body-is)
+          subst (λ (h : BodyState). Put (λ d. pair_item (row_of d rows)) c.args.body.now h c.args.devices.now (c.loop-device.device-index + 1)) (sym w.body-is)
           (put_none (λ d. pair_item (row_of d rows)) c.args.body.now c.loop-device.body c.args.devices.now c.loop-device.device-index device c.loop-device-test.true refl c.loop-device.invariant (ap pair_item is))
     ]

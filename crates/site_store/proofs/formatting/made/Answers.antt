@@ -2,7 +2,7 @@ use Rattle.std.proofs.Common.{rules, ◌≡◌, ◌∙◌, ℕ, false, [], lengt
 use Rattle.std.proofs.lemmas.List.{length-map, length-replicate}
 use Rattle.control_set.specs.declared.value.Mark.{Mark}
 use Rattle.pair_table.specs.Tables.{Table}
-use Rattle.xrc_journal.specs.Bodies.{Held}
+use Rattle.xrc_journal.specs.Bodies.{BodyState}
 use Rattle.site_store.specs.Jobs.{has_job_failed}
 use Rattle.site_store.specs.Sites.{first_spot}
 use Rattle.site_store.proofs.formatting.made.Goals as goal
@@ -12,7 +12,7 @@ invariant_of-result g c =
     let count : c.from.result ≡ c.args.volumes = omega (arith, c.from.ensures) in
     let due : c.in_ok-vec.field-0.items ≡ replicate c.args.volumes false = c.in_ok-vec.ensures.items_if_clones_equal (search rules) ∙ ap (λ (n : ℕ). replicate n false) count in
     record {
-      room_is = ap (λ (h : Held). h.room) c.in_ok-make.ensures ∙ omega (arith, c.journal_length-room.ensures);
+      room_is = ap (λ (h : BodyState). h.room) c.in_ok-make.ensures ∙ omega (arith, c.journal_length-room.ensures);
       marked_is = sym (ap (λ (m : Mark). m.at) c.first_mark.ensures);
       told_is = ap (λ (t : Table). t.session) c.in_ok-started-2.ensures ∙ sym (ap (λ (t : Table). t.session) c.in_ok-started.ensures);
       home = c.in_ok-jobs.ensures.home;

@@ -5,7 +5,7 @@ use Rattle.std.proofs.lemmas.List.{get_or-take, length-map}
 use Rattle.xrc_journal.specs.declared.job.VolumeJob.{VolumeJob}
 use Rattle.xrc_journal.specs.Contents.{HasItem}
 use Rattle.applier.specs.Disks.{without_disk}
-use Rattle.applier.specs.Out.{LendsWhere}
+use Rattle.applier.specs.Loans.{LendsWhere}
 use Rattle.applier.proofs.Moving.{worked_on}
 use Rattle.image_former.specs.Entries.{HasEntry}
 use Rattle.image_former.specs.Jobs.{is_failed_of}

@@ -1,7 +1,7 @@
 use Rattle.std.proofs.Common.{◌≡◌, ◌+◌, Option, Some, None, sym, ap, subst, ◌∙◌, arith}
 use Rattle.std.specs.Prelude.{slice_get}
 use Rattle.std.specs.Option.{option_copied}
-use Rattle.xrc_journal.specs.Bodies.{Held}
+use Rattle.xrc_journal.specs.Bodies.{BodyState}
 use Rattle.site_store.specs.Hits.{with_hits}
 use Rattle.site_store.proofs.HitRows.{row_below}
 use Rattle.site_store.proofs.RowPuts.{Puts, changed_is_row, changed_length, puts_none, puts_one, row_at_is}
@@ -31,7 +31,7 @@ loop-place-preserved c =
           puts_one next_of c.args.body.now c.loop-place.body rows i row there c.loop-place.invariant state c.match-next_state.body next is_one (w.body-is ∙ w.put_row.ensures)
       | in_default-next_state w ↦
           let none : next_of row ≡ None = sym c.next_state.ensures.state ∙ w.in_default-next_state.is in
-          subst (λ (h : Held). Puts next_of c.args.body.now h rows (i + 1)) (sym w.body-is) (puts_none next_of c.args.body.now c.loop-place.body rows i row there c.loop-place.invariant none)
+          subst (λ (h : BodyState). Puts next_of c.args.body.now h rows (i + 1)) (sym w.body-is) (puts_none next_of c.args.body.now c.loop-place.body rows i row there c.loop-place.invariant none)
     ]
 
 pub next_state-requires : goal.next_state-requires

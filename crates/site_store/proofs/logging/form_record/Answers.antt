@@ -2,7 +2,7 @@ use Rattle.std.proofs.Common.{◌≤◌, ◌&&◌, inl, inr, not, Bool, false, L
 use Rattle.std.proofs.lemmas.Bool.{cases_lt}
 use Rattle.std.proofs.lemmas.List.{length-map}
 use Rattle.site_means.specs.Walk.{first_unfit}
-use Rattle.xrc_journal.specs.Bodies.{Held}
+use Rattle.xrc_journal.specs.Bodies.{BodyState}
 use Rattle.xrc_journal.specs.Items.{Item}
 use Rattle.site_store.specs.Hits.{pairs_with_next, with_group_and_hits}
 use Rattle.site_store.specs.Jobs.{has_job_failed}
@@ -30,7 +30,7 @@ returns-clause-forms g c =
     let entries = c.args.formed.now.entries in
     let next = with_group_and_hits c.args.formed.now c.hits_at-hits.result in
     let images = c.form_group.new.body.items in
-    let parts = ap (λ (h : Held). h.items) c.put_changed.ensures.put in
+    let parts = ap (λ (h : BodyState). h.items) c.put_changed.ensures.put in
     record {
       items = record {
         images = images;
@@ -45,7 +45,7 @@ returns-clause-forms g c =
       };
       fit = ap (λ (l : List Item). first_unfit old.volumes 0 rows l) parts ∙ formed_fit next old images rows c.form_group.ensures.images.images c.put_changed.ensures.rules c.requires.may.have;
       rules = c.put_changed.ensures.rules;
-      room = ap (λ (h : Held). h.room) c.put_changed.ensures.put ∙ c.form_group.ensures.images.room;
+      room = ap (λ (h : BodyState). h.room) c.put_changed.ensures.put ∙ c.form_group.ensures.images.room;
       short = omega (arith, c.put_changed.ensures.short, c.form_group.ensures.images.short);
       due_is = λ d.
           let same = due_items rows entries d (get_or (map has_job_failed c.form_group.new.jobs) d false) images (pairs_with_next next rows) c.put_changed.new.body.items (pairs_are next rows) parts (λ x. by_flags _ _ d c.form_group.new.jobs c.form_group.ensures.idle (c.form_group.ensures.tracks d x)) in

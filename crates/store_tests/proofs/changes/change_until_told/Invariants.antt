@@ -1,4 +1,4 @@
-use Rattle.site_store.specs.Between.{IsSiteIdle}
+use Rattle.site_store.specs.IdleSites.{IsSiteIdle}
 use Rattle.store_tests.proofs.changes.change_until_told.Given as goal
 
 abbrev pub invariant-loop : goal.invariant-loop

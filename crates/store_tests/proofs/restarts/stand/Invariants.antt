@@ -1,4 +1,4 @@
-use Rattle.site_store.specs.Between.{IsSiteIdle}
+use Rattle.site_store.specs.IdleSites.{IsSiteIdle}
 use Rattle.store_tests.proofs.restarts.stand.Given as goal
 
 abbrev pub invariant-loop-time : goal.invariant-loop-time

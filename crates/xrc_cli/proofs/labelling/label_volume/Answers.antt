@@ -12,7 +12,7 @@ pub returns-in-Ok : goal.returns-in-Ok
 returns-in-Ok g c =
     let w = c.write_label.ensures in let s = c.in-Ok.ensures in
     labelled g.P.Plant.tells c.args.device c.args.label.now (g.P.Plant.state c.args.plant.now) (g.P.Plant.state c.write_label.new.plant) (g.P.Plant.state c.say_done.new.plant)
-    (search rules) (search rules) w.others w.moments w.torn s.durable s.begins (λ told. s.stands told (search rules)) c.say_done.result (search rules)
+    (search rules) (search rules) w.others w.moments w.torn s.cause.ok s.durable s.begins (λ told. s.stands told (search rules)) c.say_done.result (search rules)
 
 pub returns-in-Err : goal.returns-in-Err
 returns-in-Err g c =

@@ -2,7 +2,7 @@ use Rattle.std.proofs.Common.{◌≡◌, false, nat_eq, slice_index, refl, sym, 
 use Rattle.std.proofs.lemmas.Bool.{eqb-false}
 use Rattle.crash_plant.specs.declared.device.Device.TheVariants.{Journal as JournalDevice}
 use Rattle.xrc_journal.specs.Items.{form_of}
-use Rattle.xrc_journal.specs.Bodies.{Held}
+use Rattle.xrc_journal.specs.Bodies.{BodyState}
 use Rattle.xrc_journal.specs.Records.{Found, walk_one}
 use Rattle.xrc_journal.specs.Records.Found.{End}
 use Rattle.xrc_journal.specs.Answers.{told_of, items_found}
@@ -23,7 +23,7 @@ returns-in-Ok-false-clause-finds g c = λ told none.
     let empty = sym (ap items_found is) in
     record {
       told = sym (ap (λ (f : Found). told_of c.args.at.set f) is);
-      held = c.clear.ensures ∙ (λ i. let h : Held = record { items = empty i; room = c.args.into.now.room } in h);
+      held = c.clear.ensures ∙ (λ i. let h : BodyState = record { items = empty i; room = c.args.into.now.room } in h);
     }
 
 pub returns-in-Err-clause-finds : goal.returns-in-Err-clause-finds

@@ -12,7 +12,7 @@ use Rattle.xrecover.specs.declared.recover_error.RecoverError.TheVariants.{Site}
 use Rattle.xrecover.specs.Answers.{IsLate, TellsFaults}
 use Rattle.xrecover.proofs.Fails.{tells_none, tells_site}
 use Rattle.xrecover.specs.Pairs.{AreFaulty}
-use Rattle.xrecover.specs.Redone.{Recovers, Redone}
+use Rattle.xrecover.specs.RedoneVolumes.{Recovers, Redone}
 use Rattle.xrecover.specs.Works.{Works}
 use Rattle.xrecover.specs.Labels.{TreatsLabels}
 use Rattle.crash_plant.specs.declared.device.Device.{Device}

@@ -11,7 +11,7 @@ use Rattle.xrecover.specs.declared.recover_error.RecoverError.{RecoverError}
 use Rattle.xrecover.specs.declared.recover_error.RecoverError.TheVariants.{Site}
 use Rattle.xrecover.specs.declared.meaning.Meant.{Meant}
 use Rattle.xrecover.specs.Answers.{EndsLate, IsRecoverable, IsGoodOrCalledFor, TellsFaults}
-use Rattle.xrecover.specs.Redone.{Recovers, meant_rows}
+use Rattle.xrecover.specs.RedoneVolumes.{Recovers, meant_rows}
 use Rattle.xrecover.proofs.Fails.{so_good, tells_again, tells_memory, tells_none, tells_so}
 use Rattle.xrecover.proofs.Finish.{all_redone, all_treated, all_works, ends_late, late_says, no_writes, once_since, read_works, walk_now}
 use Rattle.xrecover.proofs.Labels.{treats_read}

@@ -4,7 +4,7 @@ use Rattle.crash_plant.specs.declared.device.Device.TheVariants.{Journal}
 use Rattle.crash_plant.specs.declared.spot.Spot.{Spot}
 use Rattle.xrc_journal.specs.declared.spot.Walked.{Walked}
 use Rattle.xrc_journal.specs.Items.{Item, form_of}
-use Rattle.xrc_journal.specs.Bodies.{Held}
+use Rattle.xrc_journal.specs.Bodies.{BodyState}
 use Rattle.xrc_journal.specs.Records.{walk_one}
 use Rattle.xrc_journal.specs.Records.Found.{Group}
 use Rattle.xrc_journal.specs.Answers.{WalkGoesOn, items_found}
@@ -52,7 +52,7 @@ returns-in-Ok-Group-clause-finds g c = λ told.
     let time = c.in-Ok-Group.time in
     let after = c.in-Ok-Group.after in
     let finds = c.in-Ok-Group.ensures.finds told (λ j e. absurd cc) in
-    let items_are = ap (λ (h : Held). h.items) finds.held in
+    let items_are = ap (λ (h : BodyState). h.items) finds.held in
     inl (told_group c.args.at.set found time after (sym finds.told ∙ ap Ok c.in-Ok-Group.field-0-is) ∙ ap (λ (l : List Item). Group time.0 l after) (sym items_are))
 
 pub returns-in-Ok-Switch-clause-finds : goal.returns-in-Ok-Switch-clause-finds
@@ -61,7 +61,7 @@ returns-in-Ok-Switch-clause-finds g c = λ told.
     let found = walk_one (form_of old) old.journals (old.bytes (Journal c.args.at.set)) c.args.at c.args.last.0 in
     let finds = c.in-Ok-Switch.ensures.finds told (λ j e. absurd cc) in
     let is = told_switch c.args.at.set found c.in-Ok-Switch.time c.in-Ok-Switch.after (sym finds.told ∙ ap Ok c.in-Ok-Switch.field-0-is) in
-    inr (is, ap (λ (h : Held). h.items) finds.held ∙ ap items_found is)
+    inr (is, ap (λ (h : BodyState). h.items) finds.held ∙ ap items_found is)
 
 pub returns-in-Err-Damaged-clause-finds : goal.returns-in-Err-Damaged-clause-finds
 returns-in-Err-Damaged-clause-finds g c = λ told.

@@ -9,14 +9,14 @@ use Rattle.crash_plant.specs.declared.spot.Spot.{Spot}
 use Rattle.xrc_journal.specs.Items.{form_of, none_earlier}
 use Rattle.xrc_journal.specs.Jobs.{FailsByCount}
 use Rattle.xrc_journal.specs.Records.{Found, walk_one}
-use Rattle.xrc_journal.specs.Bodies.{Held}
+use Rattle.xrc_journal.specs.Bodies.{BodyState}
 use Rattle.applier.specs.Slots.{DiffersInSlots, HoldsContent}
 use Rattle.site_means.specs.declared.site_error.SiteError.{SiteError}
 use Rattle.site_means.specs.declared.site_error.SiteError.TheVariants.{Fault}
 use Rattle.site_means.specs.Images.{shape_of}
 use Rattle.site_means.specs.Sight.{walked}
-use Rattle.xrecover.specs.Again.{FoundAgain, IsBehind}
-use Rattle.xrecover.specs.Redone.{Draws}
+use Rattle.xrecover.specs.Rereading.{FoundAgain, IsBehind}
+use Rattle.xrecover.specs.RedoneVolumes.{Draws}
 use Rattle.xrecover.proofs.Again.{Next, all_again, fault_again, found_same, of_walk, reads_again, reads_first, reads_next}
 use Rattle.xrecover.proofs.Contents.{Done, done_then}
 use Rattle.xrecover.specs.Answers.{TellsFaults}
@@ -212,6 +212,6 @@ loop-tools-preserved g c =
           (label_read g.P.Plant.tells told v old cur mid ((inv.works.elapses told).kept (Volume v)).later (inv.label told) c.read_again.ensures.reads) c.apply_body-again.ensures.works;
       set = omega (arith, behind.set, reading.journals, applying.journals);
       place = omega (arith, behind.place, reading.lengths (Journal c.in-Some.after.set), applying.lengths (Journal c.in-Some.after.set));
-      room = ap (λ (h : Held). h.room) c.apply_body-again.ensures.body ∙ c.read_again.ensures.room ∙ inv.room;
+      room = ap (λ (h : BodyState). h.room) c.apply_body-again.ensures.body ∙ c.read_again.ensures.room ∙ inv.room;
       reads = λ told. reads_next (shape_of old) old.bytes items its v a b e at after last time.0 (inv.reads told) (next told) (done told);
     }

@@ -5,7 +5,7 @@ use Rattle.crash_plant.specs.Moments.{on}
 use Rattle.site_means.specs.Images.{shape_of}
 use Rattle.site_means.specs.Sight.{walked}
 use Rattle.xrecover.specs.Works.{OfOneVolume, Works}
-use Rattle.xrecover.specs.Redone.{Redoes}
+use Rattle.xrecover.specs.RedoneVolumes.{Redoes}
 use Rattle.xrecover.specs.Labels.{KeepsLabel}
 use Rattle.xrecover.proofs.Again.{Reads}
 use Rattle.xrecover.proofs.redoing.redo_items.Given as goal

@@ -4,7 +4,7 @@ use Rattle.crash_plant.specs.declared.device.Device.TheVariants.{Volume}
 use Rattle.site_means.specs.declared.site_error.SiteError.TheVariants.{Fault}
 use Rattle.site_means.specs.Sight.{walked}
 use Rattle.xrecover.specs.Works.{OfOneVolume}
-use Rattle.xrecover.specs.Redone.{Redoes}
+use Rattle.xrecover.specs.RedoneVolumes.{Redoes}
 use Rattle.xrecover.proofs.Relations.{one_then, redoes_more, redoes_then}
 use Rattle.xrecover.proofs.Contents.{draws_behind}
 use Rattle.xrecover.proofs.Fails.{counted_then, no_volume, tells_none}

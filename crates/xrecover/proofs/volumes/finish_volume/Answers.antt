@@ -4,7 +4,7 @@ use Rattle.crash_plant.specs.declared.device.Device.TheVariants.{Volume}
 use Rattle.crash_plant.specs.Moments.{on}
 use Rattle.xrc_journal.specs.Jobs.{FailsByCount}
 use Rattle.xrecover.specs.Works.{OfOneVolume}
-use Rattle.xrecover.specs.Redone.{Redoes}
+use Rattle.xrecover.specs.RedoneVolumes.{Redoes}
 use Rattle.xrecover.proofs.Relations.{label_redoes, one_then, redoes_same, redoes_then}
 use Rattle.xrecover.proofs.Works.{works_one, works_trans}
 use Rattle.xrecover.specs.declared.labelling.Labelling.{Labelling}

@@ -1,5 +1,5 @@
 use Rattle.std.proofs.Common.{◌&&◌}
-use Rattle.crash_plant.specs.Fails.{after_call, fails_now, is_stopping}
+use Rattle.crash_plant.specs.Failures.{after_call, fails_now, is_stopping}
 use Rattle.crash_plant.proofs.Planned.{one_more, any_one_more, stops_at}
 use Rattle.crash_plant.proofs.fail_plan.FailPlan.meet.Goals as goal
 

@@ -1,6 +1,6 @@
 use Rattle.std.proofs.Common.{◌≡◌, ◌||◌, ◌++◌, take, drop, map}
 use Rattle.std.specs.List.{list_any}
-use Rattle.crash_plant.specs.Fails.{after_call, fails_now, is_stopping}
+use Rattle.crash_plant.specs.Failures.{after_call, fails_now, is_stopping}
 use Rattle.crash_plant.proofs.fail_plan.FailPlan.meet.Given as goal
 
 abbrev pub invariant-loop-planned : goal.invariant-loop-planned

@@ -3,7 +3,7 @@ use Rattle.std.specs.List.{list_any}
 use Rattle.crash_plant.specs.declared.device.Device.{Device}
 use Rattle.crash_plant.specs.declared.device.Device.TheVariants.{Journal, Volume}
 use Rattle.crash_plant.specs.declared.fail_plan.Planned.{Planned}
-use Rattle.crash_plant.specs.Fails.{after_call, fails_now, is_stopping}
+use Rattle.crash_plant.specs.Failures.{after_call, fails_now, is_stopping}
 use Rattle.crash_plant.specs.FailPlans.{IsPlanned, plan_faults, plan_items}
 use Rattle.crash_plant.proofs.Counts.{cause_along}
 use Rattle.crash_plant.proofs.Seen.{journal_was, journal_is, volume_was, volume_is, seen_of_journal, seen_of_volume}

@@ -1,7 +1,7 @@
 use Rattle.std.proofs.Common.{[]}
 use Rattle.std.specs.Prelude.{Some}
 use Rattle.crash_plant.specs.declared.device.Device.TheVariants.{Journal}
-use Rattle.crash_plant.specs.Fails.{planned_at}
+use Rattle.crash_plant.specs.Failures.{planned_at}
 use Rattle.crash_plant.specs.FailPlans.{plan_faults, plan_items}
 use Rattle.crash_plant.proofs.Seen.{seen_push, length_push}
 use Rattle.crash_plant.proofs.fail_plans.FailPlans.of_journals.Goals as goal

@@ -2,7 +2,7 @@ use Rattle.std.proofs.Common.{◌≡◌, ◌<◌, ℕ, [], length}
 use Rattle.std.specs.Prelude.{Some}
 use Rattle.crash_plant.specs.declared.device.Device.TheVariants.{Journal}
 use Rattle.crash_plant.specs.Devices.{seen_at}
-use Rattle.crash_plant.specs.Fails.{planned_at}
+use Rattle.crash_plant.specs.Failures.{planned_at}
 use Rattle.crash_plant.specs.FailPlans.{plan_faults, plan_items}
 use Rattle.crash_plant.proofs.fail_plans.FailPlans.of_journals.Given as goal
 

@@ -1,5 +1,5 @@
 use Rattle.std.proofs.Common.{◌-◌, List, ℕ, length, take, drop, map, sym, ◌∙◌, ap, subst}
-use Rattle.crash_plant.specs.Left.{all_filled, open_writes}
+use Rattle.crash_plant.specs.DiskRemains.{all_filled, open_writes}
 use Rattle.crash_plant.specs.MemoryDisk.{past_of, first_held, held}
 use Rattle.crash_plant.specs.Pasts.{Note, AllFit, note_of}
 use Rattle.crash_plant.proofs.Lefts.{notes_behind, open_writes_fit}

@@ -1,7 +1,7 @@
 use Rattle.std.proofs.Common.{◌<◌, length, get_or, rules}
 use Rattle.std.proofs.lemmas.List.{get_or_default}
 use Rattle.std.proofs.lemmas.List.Edits.{map_over_more}
-use Rattle.cut_core.specs.Standing.{told_after_form}
+use Rattle.cut_core.specs.Floors.{told_after_form}
 use Rattle.cut_core.proofs.floors.Floors.form.Goals as goal
 
 pub loop-k-preserved : goal.loop-k-preserved

@@ -1,6 +1,6 @@
 -- The controls before the index are as the form leaves them, and the others as before.
 use Rattle.std.proofs.Common.{◌≡◌, ◌++◌, map, take, drop}
-use Rattle.cut_core.specs.Standing.{told_after_form}
+use Rattle.cut_core.specs.Floors.{told_after_form}
 use Rattle.cut_core.proofs.floors.Floors.form.Given as goal
 
 abbrev pub invariant-loop-k : goal.invariant-loop-k

@@ -1,7 +1,7 @@
 use Rattle.std.proofs.Common.{List, [], ◌∷◌, ◌++◌, Bool, true, ap, sym, subst, ◌∙◌, arith}
 use Rattle.change_map.specs.Sets.{no_track}
 use Rattle.group_state.specs.Controls.{ControlState}
-use Rattle.group_state.specs.Sound.{KeepsVolumes, MayCarry}
+use Rattle.group_state.specs.SoundStates.{KeepsVolumes, MayCarry}
 use Rattle.group_state.proofs.Numbers.{volumes_begun}
 use Rattle.group_state.proofs.control.Control.carry.Goals as goal
 

@@ -3,7 +3,7 @@ use Rattle.tod_stamp.specs.declared.stamp.Stamp.{Stamp}
 use Rattle.group_state.specs.declared.volume.Volume.{Volume}
 use Rattle.group_state.specs.Volumes.{with_volume, copied_track, is_wanted}
 use Rattle.group_state.specs.Controls.{ControlState, copied}
-use Rattle.group_state.specs.Sound.{KeepsVolumes, is_track_within}
+use Rattle.group_state.specs.SoundStates.{KeepsVolumes, is_track_within}
 use Rattle.group_state.proofs.SoundLaws.{last_up_to, written_back}
 use Rattle.group_state.proofs.Numbers.{volumes_copied}
 use Rattle.group_state.proofs.control.Control.copied.Goals as goal

@@ -3,7 +3,7 @@ use Rattle.pending_queue.specs.Entries.{entry_tracks}
 use Rattle.group_state.specs.declared.volume.Volume.{Volume}
 use Rattle.group_state.specs.Volumes.{with_volume, dropped_volume}
 use Rattle.group_state.specs.Controls.{ControlState}
-use Rattle.group_state.specs.Sound.{KeepsVolumes}
+use Rattle.group_state.specs.SoundStates.{KeepsVolumes}
 use Rattle.group_state.proofs.Numbers.{volumes_dropped}
 use Rattle.group_state.proofs.SoundLaws.{written_back}
 use Rattle.group_state.proofs.control.Control.drop_volume.Goals as goal

@@ -3,7 +3,7 @@ use Rattle.std.specs.List.{remove}
 use Rattle.group_state.specs.declared.volume.Volume.{Volume}
 use Rattle.group_state.specs.Volumes.{without_number}
 use Rattle.group_state.specs.Controls.{ControlState}
-use Rattle.group_state.specs.Sound.{KeepsVolumes, is_dropped}
+use Rattle.group_state.specs.SoundStates.{KeepsVolumes, is_dropped}
 use Rattle.group_state.proofs.Numbers.{volumes_forgotten}
 use Rattle.group_state.proofs.control.Control.forget.Goals as goal
 

@@ -3,7 +3,7 @@ use Rattle.pending_queue.specs.Entries.{copies, due}
 use Rattle.group_state.specs.declared.volume.Volume.{Volume}
 use Rattle.group_state.specs.Volumes.{with_formed_copies}
 use Rattle.group_state.specs.Controls.{ControlState}
-use Rattle.group_state.specs.Sound.{KeepsVolumes}
+use Rattle.group_state.specs.SoundStates.{KeepsVolumes}
 use Rattle.pending_queue.proofs.EntryLaws.{due_within}
 use Rattle.group_state.proofs.SoundLaws.{written_back}
 use Rattle.group_state.proofs.Numbers.{volumes_formed}

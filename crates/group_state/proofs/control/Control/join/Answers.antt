@@ -9,7 +9,7 @@ use Rattle.pending_queue.proofs.VolumeLaws.{carried_never_fall}
 use Rattle.group_state.specs.declared.volume.Volume.{Volume}
 use Rattle.group_state.specs.Volumes.{is_carried, with_writes}
 use Rattle.group_state.specs.Controls.{ControlState, fits}
-use Rattle.group_state.specs.Sound.{KeepsVolumes, MayJoin}
+use Rattle.group_state.specs.SoundStates.{KeepsVolumes, MayJoin}
 use Rattle.group_state.proofs.SoundLaws.{batch_rises, written_back}
 use Rattle.group_state.proofs.Numbers.{volumes_joined}
 use Rattle.group_state.proofs.control.Control.join.Goals as goal

@@ -1,6 +1,6 @@
 use Rattle.std.proofs.Common.{sym, subst}
 use Rattle.group_state.specs.Controls.{ControlState}
-use Rattle.group_state.specs.Sound.{MayTell}
+use Rattle.group_state.specs.SoundStates.{MayTell}
 use Rattle.group_state.proofs.Numbers.{volumes_raised}
 use Rattle.group_state.proofs.control.Control.raise.Goals as goal
 

@@ -2,7 +2,7 @@ use Rattle.std.proofs.Common.{◌≡◌, List, ◌++◌, length, drop, take, ap,
 use Rattle.group_state.specs.declared.volume.Volume.{Volume}
 use Rattle.group_state.specs.Volumes.{with_volume, resumed_volume}
 use Rattle.group_state.specs.Controls.{ControlState, resumed}
-use Rattle.group_state.specs.Sound.{KeepsVolumes, is_dropped}
+use Rattle.group_state.specs.SoundStates.{KeepsVolumes, is_dropped}
 use Rattle.group_state.proofs.Numbers.{volumes_resumed}
 use Rattle.group_state.proofs.SoundLaws.{written_back}
 use Rattle.group_state.proofs.control.Control.resume.Goals as goal

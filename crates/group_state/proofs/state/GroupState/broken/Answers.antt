@@ -1,7 +1,7 @@
 use Rattle.std.proofs.Common.{◌≡◌, sym, subst}
 use Rattle.group_state.specs.Controls.{ControlState, broke}
 use Rattle.group_state.specs.Groups.{control_at}
-use Rattle.group_state.specs.Sound.{MayTell}
+use Rattle.group_state.specs.SoundStates.{MayTell}
 use Rattle.group_state.proofs.Kept.{keeps_then, keeps_broke, kept_call}
 use Rattle.group_state.proofs.state.GroupState.broken.Goals as goal
 

@@ -1,7 +1,7 @@
 use Rattle.std.proofs.Common.{◌≡◌, sym, subst}
 use Rattle.group_state.specs.Controls.{ControlState, begun_volume}
 use Rattle.group_state.specs.Groups.{control_at}
-use Rattle.group_state.specs.Sound.{MayCarry}
+use Rattle.group_state.specs.SoundStates.{MayCarry}
 use Rattle.group_state.proofs.Kept.{keeps_result, keeps_begun, kept_call}
 use Rattle.group_state.proofs.state.GroupState.carry.Goals as goal
 

@@ -2,7 +2,7 @@ use Rattle.std.proofs.Common.{◌≡◌, ap, sym, ◌∙◌}
 use Rattle.group_state.specs.Volumes.{is_wanted}
 use Rattle.group_state.specs.Controls.{ControlState, copied}
 use Rattle.group_state.specs.Groups.{control_at}
-use Rattle.group_state.specs.Sound.{is_track_within}
+use Rattle.group_state.specs.SoundStates.{is_track_within}
 use Rattle.group_state.proofs.Kept.{keeps_result, keeps_copied, control_here, kept_call}
 use Rattle.group_state.proofs.state.GroupState.copied.Goals as goal
 

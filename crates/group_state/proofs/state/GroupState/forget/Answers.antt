@@ -1,7 +1,7 @@
 use Rattle.std.proofs.Common.{◌≡◌, ap, ◌∙◌}
 use Rattle.group_state.specs.Controls.{ControlState, forgotten}
 use Rattle.group_state.specs.Groups.{control_at}
-use Rattle.group_state.specs.Sound.{is_dropped}
+use Rattle.group_state.specs.SoundStates.{is_dropped}
 use Rattle.group_state.proofs.Kept.{keeps_then, keeps_forgotten, kept_call}
 use Rattle.group_state.proofs.state.GroupState.forget.Goals as goal
 

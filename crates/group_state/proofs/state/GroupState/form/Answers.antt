@@ -9,7 +9,7 @@ use Rattle.group_state.specs.Controls.{ControlState, formed, lesser, has_news, d
 use Rattle.group_state.specs.Groups.{Group, HasRoomForNews, has_few, cut_of, gives_nothing, formed_at, shown_at, shown_in, with_news}
 use Rattle.group_state.specs.Machine.Reply.{Formed as Shows, Nothing as Quiet}
 use Rattle.group_state.specs.Answers.{form_reply}
-use Rattle.group_state.specs.Sound.{KeepsGroup}
+use Rattle.group_state.specs.SoundStates.{KeepsGroup}
 use Rattle.group_state.proofs.SoundLaws.{written_back}
 use Rattle.group_state.proofs.GroupLaws.{all_few}
 use Rattle.group_state.proofs.Kept.{kept_form}

@@ -1,7 +1,7 @@
 use Rattle.std.proofs.Common.{◌≡◌, sym, subst}
 use Rattle.group_state.specs.Controls.{ControlState, joined}
 use Rattle.group_state.specs.Groups.{control_at}
-use Rattle.group_state.specs.Sound.{MayJoin}
+use Rattle.group_state.specs.SoundStates.{MayJoin}
 use Rattle.group_state.proofs.Kept.{keeps_result, keeps_joined, kept_call}
 use Rattle.group_state.proofs.state.GroupState.join_ref.Goals as goal
 

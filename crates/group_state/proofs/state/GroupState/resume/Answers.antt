@@ -1,7 +1,7 @@
 use Rattle.std.proofs.Common.{◌≡◌, ap, ◌∙◌}
 use Rattle.group_state.specs.Controls.{ControlState, resumed}
 use Rattle.group_state.specs.Groups.{control_at}
-use Rattle.group_state.specs.Sound.{is_dropped}
+use Rattle.group_state.specs.SoundStates.{is_dropped}
 use Rattle.group_state.proofs.Kept.{keeps_then, keeps_resumed, kept_call}
 use Rattle.group_state.proofs.state.GroupState.resume.Goals as goal
 

@@ -3,7 +3,7 @@ use Rattle.std.specs.Option.{option_map}
 use Rattle.std.proofs.lemmas.List.{length-map}
 use Rattle.std.proofs.lemmas.Option.{slice_get-map}
 use Rattle.pending_queue.specs.Entries.{WaitingEntry}
-use Rattle.pending_queue.specs.Placed.{PlacedState, placed_entry, placed_entries}
+use Rattle.pending_queue.specs.PlacedEntries.{PlacedState, placed_entry, placed_entries}
 use Rattle.pending_queue.proofs.Places.{entry_at}
 use Rattle.pending_queue.proofs.placed.PlacedList.head.Goals as goal
 

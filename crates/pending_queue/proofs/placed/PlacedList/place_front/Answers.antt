@@ -4,7 +4,7 @@ use Rattle.std.proofs.lemmas.List.{length-map}
 use Rattle.ckd_track.specs.Slots.{with_bytes}
 use Rattle.pending_queue.specs.declared.placed.Placed.{Placed}
 use Rattle.pending_queue.specs.Entries.{WaitingEntry, IsOfWrite, entry_by, stands_before}
-use Rattle.pending_queue.specs.Placed.{PlacedState, placed_entry}
+use Rattle.pending_queue.specs.PlacedEntries.{PlacedState, placed_entry}
 use Rattle.xrc_edge.specs.Order.{in_order, is_in_order}
 use Rattle.pending_queue.proofs.VolumeLaws.{some_entry}
 use Rattle.pending_queue.proofs.Places.{IsNew, IsPut, put, ordered_map, same_size, whole_again, first_one}

@@ -5,7 +5,7 @@ use Rattle.std.proofs.Common.{rules, ◌≡◌, ◌<◌, ◌^◌, ℕ, Bool, Res
 use Rattle.crash_plant.specs.declared.device.Device.TheVariants.{Journal}
 use Rattle.pair_table.specs.Tables.{are_below}
 use Rattle.xrc_journal.specs.Items.{Item, form_of}
-use Rattle.xrc_journal.specs.Bodies.{Held}
+use Rattle.xrc_journal.specs.Bodies.{BodyState}
 use Rattle.xrc_journal.specs.Records.{Found, walk_one}
 use Rattle.xrc_journal.specs.Records.Found.{Group, Damaged}
 use Rattle.xrc_journal.specs.declared.spot.Walked.{Walked}
@@ -55,7 +55,7 @@ returns-in-Ok-Group-clause-passes g c = λ told.
     let after = c.in-Ok-Group.after in
     let finds = c.in-Ok-Group.ensures.finds told (λ j e. absurd cc) in
     let items = c.walk.new.into.items in
-    let items_are : items ≡ items_found found = ap (λ (h : Held). h.items) finds.held in
+    let items_are : items ≡ items_found found = ap (λ (h : BodyState). h.items) finds.held in
     let first = told_group self.at.set found time after (sym finds.told ∙ ap Ok c.in-Ok-Group.field-0-is) in
     let is : found ≡ Group time.0 items after = first ∙ ap (λ (l : List Item). Group time.0 l after) (sym items_are) in
     let ends : after.place < 2 ^ 64 = search rules in
@@ -90,7 +90,7 @@ returns-in-Err-Damaged-clause-passes g c = λ told.
     let place = c.in-Err-Damaged.place in
     let finds = c.in-Err-Damaged.ensures.finds told (λ j e. absurd cc) in
     let items = c.walk.new.into.items in
-    let items_are : items ≡ items_found found = ap (λ (h : Held). h.items) finds.held in
+    let items_are : items ≡ items_found found = ap (λ (h : BodyState). h.items) finds.held in
     let first = told_damaged self.at.set found _ place (sym finds.told ∙ ap Err c.in-Err-Damaged.field-0-is) in
     let is : found ≡ Damaged place items = first ∙ ap (λ (l : List Item). Damaged place l) (sym items_are) in
     let ends : place < 2 ^ 64 = search rules in

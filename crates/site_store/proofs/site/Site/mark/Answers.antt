@@ -1,7 +1,7 @@
 use Rattle.std.proofs.Common.{◌≡◌, ◌^◌, ◌-◌, ◌<◌, Bool, List, length, map, IsTrue, sym, ap, subst, ◌∙◌, arith}
 use Rattle.std.specs.Vec.{with_items}
 use Rattle.std.proofs.lemmas.List.{length-map, with_items_is}
-use Rattle.applier.specs.Back.{WorksOnLent}
+use Rattle.applier.specs.Returns.{WorksOnLent}
 use Rattle.xrc_journal.specs.declared.job.VolumeJob.{VolumeJob}
 use Rattle.site_store.specs.Causes.{FailByCounts}
 use Rattle.site_store.specs.Jobs.{are_home_from, has_job_failed}

@@ -8,7 +8,7 @@ use Rattle.pair_table.specs.declared.row.PairRow.{PairRow}
 use Rattle.pair_table.specs.Tables.{Table, are_below, with_rows}
 use Rattle.record_rows.specs.ChangedRows.{rows_in_states}
 use Rattle.record_rows.specs.Records.{rows_with_hits}
-use Rattle.xrc_journal.specs.Bodies.{Held}
+use Rattle.xrc_journal.specs.Bodies.{BodyState}
 use Rattle.site_store.specs.declared.store_error.StoreError.{StoreError}
 use Rattle.site_store.specs.declared.store_error.StoreError.TheVariants.{Spent}
 use Rattle.site_store.specs.declared.way.Way.TheVariants.{Marked}
@@ -49,24 +49,24 @@ take_hits-requires g c = rows_below _ c.args.self.now (g.P.Plant.state c.args.pl
 pub invariant_of-self : goal.invariant_of-self
 invariant_of-self g c =
     let s = c.self.inside in
-    keeps_still s.controls s.body.room c.form_hits.new.body.room s.mark.at s.journal.marked s.journal.marked s.waits s.body.items c.form_hits.new.body.items s.due.items s.jobs.items c.self.invariant (ap (λ (h : Held). h.room) c.form_hits.ensures.put) refl refl
+    keeps_still s.controls s.body.room c.form_hits.new.body.room s.mark.at s.journal.marked s.journal.marked s.waits s.body.items c.form_hits.new.body.items s.due.items s.jobs.items c.self.invariant (ap (λ (h : BodyState). h.room) c.form_hits.ensures.put) refl refl
 
 pub invariant_of-self-then-eq : goal.invariant_of-self-then-eq
 invariant_of-self-then-eq g c =
     let s = c.self.inside in
-    keeps_still s.controls s.body.room c.form_hits.new.body.room s.mark.at s.journal.marked s.journal.marked s.waits s.body.items c.form_hits.new.body.items s.due.items s.jobs.items c.self.invariant (ap (λ (h : Held). h.room) c.form_hits.ensures.put) refl refl
+    keeps_still s.controls s.body.room c.form_hits.new.body.room s.mark.at s.journal.marked s.journal.marked s.waits s.body.items c.form_hits.new.body.items s.due.items s.jobs.items c.self.invariant (ap (λ (h : BodyState). h.room) c.form_hits.ensures.put) refl refl
 
 pub invariant_of-self-in_err-put_record : goal.invariant_of-self-in_err-put_record
 invariant_of-self-in_err-put_record g c =
     let s = c.self.inside in
     keeps_still s.controls s.body.room c.form_hits.new.body.room s.mark.at s.journal.marked c.put_record.new.journal.marked s.waits s.body.items c.form_hits.new.body.items s.due.items s.jobs.items c.self.invariant
-    (ap (λ (h : Held). h.room) c.form_hits.ensures.put) c.put_record.ensures.marked refl
+    (ap (λ (h : BodyState). h.room) c.form_hits.ensures.put) c.put_record.ensures.marked refl
 
 pub invariant_of-self-2 : goal.invariant_of-self-2
 invariant_of-self-2 g c =
     let s = c.self.inside in
     keeps_still s.controls s.body.room c.form_hits.new.body.room s.mark.at s.journal.marked c.put_record.new.journal.marked s.waits s.body.items c.form_hits.new.body.items s.due.items s.jobs.items c.self.invariant
-    (ap (λ (h : Held). h.room) c.form_hits.ensures.put) c.put_record.ensures.marked (ap (λ (t : Table). t.session) c.take_hits.ensures)
+    (ap (λ (h : BodyState). h.room) c.form_hits.ensures.put) c.put_record.ensures.marked (ap (λ (t : Table). t.session) c.take_hits.ensures)
 
 -- ---- no device is hit
 
@@ -93,7 +93,7 @@ rows_are : (g : given.Over) (c : After-way_from-way g) → c.self.inside.table.r
 rows_are g c = told_there _ c.args.self.now c.self.inside.told.rows c.self.view_is refl c.requires.ready.level
 
 items_are : (g : given.Over) (c : After-way_from-way g) → c.form_hits.new.body.items ≡ pairs_with_next (with_hits c.hits_at-hits.result) c.args.self.now.told
-items_are g c = ap (λ (h : Held). h.items) c.form_hits.ensures.put ∙ ap (pairs_with_next (with_hits c.hits_at-hits.result)) (rows_are g c)
+items_are g c = ap (λ (h : BodyState). h.items) c.form_hits.ensures.put ∙ ap (pairs_with_next (with_hits c.hits_at-hits.result)) (rows_are g c)
 
 way_is : (g : given.Over) (c : After-way_from-way g) → c.way_from-way.result ≡ way_of (g.P.Plant.state c.args.plant.now) c.args.self.now (pairs_with_next (with_hits c.hits_at-hits.result) c.args.self.now.told)
 way_is g c = c.way_from-way.ensures ∙ (λ i. way_from (g.P.Plant.state c.args.plant.now) (c.self.view_is i).at (c.self.view_is i).mark.at (items_are g c i))

@@ -4,7 +4,7 @@ use Rattle.site_store.specs.declared.store_error.StoreError.{StoreError}
 use Rattle.mover.specs.declared.ends.EpochEnd.TheVariants as ends
 use Rattle.xrc_status.specs.declared.stop.Stop.{Stop}
 use Rattle.xrc_status.specs.declared.stop.Stop.TheVariants as stops
-use Rattle.xrc_session.specs.Between.{IsReadyForEpoch}
+use Rattle.xrc_session.specs.LinePauses.{IsReadyForEpoch}
 use Rattle.xrc_session.specs.Bringing.{IsWorkOfStore}
 use Rattle.xrc_session.proofs.Brought.{all_went, brings_badly, brings_well, epoch_may, hits_by_counts, is_brought, lanes_few, lanes_may, none_taken, ready_again, stays_so, taken}
 use Rattle.xrc_session.proofs.BroughtWorks.{works_badly, works_well, works_without}

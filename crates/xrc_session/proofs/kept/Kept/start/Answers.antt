@@ -9,7 +9,7 @@ use Rattle.group_state.specs.Groups.{Group}
 use Rattle.site_store.specs.Sites.{SiteState}
 use Rattle.site_store.proofs.MarkFits.{reads_choice}
 use Rattle.xrc_status.specs.declared.stop.Stop.{Stop}
-use Rattle.xrc_session.specs.Between.{IsReadyForEpoch}
+use Rattle.xrc_session.specs.LinePauses.{IsReadyForEpoch}
 use Rattle.xrc_session.specs.Starting.{IsSafeStart, IsSafeThroughout, IsWorkOfStart, MeansStart}
 use Rattle.xrc_session.specs.Runs.{AreLabels}
 use Rattle.xrc_session.proofs.InTurn.{went_here}

@@ -5,7 +5,7 @@ use Rattle.tod_stamp.specs.declared.stamp.Stamp.{Stamp}
 use Rattle.ckd_track.specs.declared.write.Batch.{Batch}
 use Rattle.ckd_track.specs.declared.write.Write.{Write}
 use Rattle.xrc_edge.specs.Order.{is_in_order}
-use Rattle.cut_core.specs.Legal.{are_in}
+use Rattle.cut_core.specs.LegalHistories.{are_in}
 use Rattle.change_map.specs.Sets.{has_track}
 use Rattle.copy_plan.specs.Plans.{PlanState}
 use Rattle.pending_queue.specs.Entries.{WaitingEntry, entries_never_fall, entry_stamp, is_copy_of}

@@ -15,9 +15,9 @@ use Rattle.group_state.specs.Groups.{Group, control_at}
 use Rattle.group_state.specs.Machine.{Call, group_after}
 use Rattle.group_state.specs.Machine.Call.{Carry, Drop, Forget, Resume}
 use Rattle.group_state.specs.Runs.{May}
-use Rattle.group_state.specs.Sound.{KeepsGroup}
+use Rattle.group_state.specs.SoundStates.{KeepsGroup}
 use Rattle.record_rows.specs.Hits.{is_device_suspended}
-use Rattle.consistency.specs.Bears.{Run, tracks_of_row}
+use Rattle.consistency.specs.Stages.{Run, tracks_of_row}
 use Rattle.fed_logs.specs.Logs.{Sizes}
 use Rattle.fed_logs.specs.Moves.{Plans}
 use Rattle.consistency.specs.Leads.{Point}

@@ -2,7 +2,7 @@
 use Rattle.std.specs.Prelude.{◌≡◌, ℕ, ◌+◌, ◌<◌, ◌≤◌, Bool, true, ◌&&◌, not, List, length, slice_index_or, is_some}
 use Rattle.crash_plant.specs.declared.device.Device.{Device}
 use Rattle.crash_plant.specs.declared.device.Device.TheVariants.{Volume}
-use Rattle.crash_plant.specs.Moments.{Standing, PlantState, on, GoesOn, Kept, Stays}
+use Rattle.crash_plant.specs.Moments.{Standing, PlantState, on, GoesOn, SamePast, Stays}
 use Rattle.crash_plant.specs.Calls.{NoneLent, SameSite, SameLoan, Silent}
 use Rattle.xrc_journal.specs.declared.job.VolumeJob.{VolumeJob}
 use Rattle.applier.specs.Disks.{OnDisks, AreApart, IsLentTo}
@@ -16,7 +16,7 @@ pub record LendsWhere {D : Type 0} (wanted : Bool) (old new : VolumeJob D) : Typ
 
 -- Calls were made on a disk, or none.
 pub record WorkedOn (own : Type 0) (old new : Standing) : Type 0 where
-  pub past : own → Kept old new
+  pub past : own → SamePast old new
   pub length_is : new.length_is ≡ old.length_is
   pub faults : old.faults ≤ new.faults
 
@@ -44,11 +44,11 @@ pub record IsOut (tells : Type 0) (start plant : PlantState) (v : ℕ) (lent : S
   pub is_lent : plant.is_lent v ≡ true
   pub since : tells → start.clock < plant.lent_since v
   pub since_now : tells → plant.lent_since v ≤ plant.clock + 1
-  pub past : tells → Kept (plant.lent v) lent
+  pub past : tells → SamePast (plant.lent v) lent
   pub clock : (plant.lent v).clock ≡ lent.clock
   pub same_length : plant.lengths (Volume v) ≡ start.lengths (Volume v)
   pub same_faults : plant.faults (Volume v) ≡ start.faults (Volume v)
-  pub kept : tells → Kept (on start (Volume v)) (on plant (Volume v))
+  pub kept : tells → SamePast (on start (Volume v)) (on plant (Volume v))
   pub before : tells → (t : ℕ) → 0 < start.clock → start.clock ≤ t → t < plant.lent_since v → t ≤ plant.clock → (c : List ℕ) → plant.images t (Volume v) c → start.images start.clock (Volume v) c
   pub before_all : tells → (t : ℕ) → 0 < start.clock → start.clock ≤ t → t < plant.lent_since v → t ≤ plant.clock → (c : List ℕ) → start.images start.clock (Volume v) c → plant.images t (Volume v) c
 
@@ -59,7 +59,7 @@ pub record LeavesBut (tells : Type 0) (among : Device → Type 0) (old new : Pla
   pub goes_on : tells → GoesOn old.clock new.clock
   pub heard : tells → (t : ℕ) → 0 < old.clock → t ≤ old.clock → new.heard t ≡ old.heard t
   pub said : tells → (t : ℕ) → 0 < old.clock → t ≤ old.clock → new.said t ≡ old.said t
-  pub kept : tells → (d : Device) → ¬ among d → Kept (on old d) (on new d)
+  pub kept : tells → (d : Device) → ¬ among d → SamePast (on old d) (on new d)
   pub silent : tells → Silent old new
   pub others : tells → (d : Device) → ¬ among d → Stays (on old d) (on new d)
   pub others_faults : (d : Device) → ¬ among d → new.faults d ≡ old.faults d

@@ -13,24 +13,24 @@ use Rattle.group_state.specs.Groups.{Group, new_group}
 use Rattle.passages.specs.Points.{last_point}
 use Rattle.record_rows.specs.Hits.{hit_now}
 use Rattle.site_means.specs.Images.{shape_of}
-use Rattle.site_store.specs.Between.{IsSiteIdle}
+use Rattle.site_store.specs.IdleSites.{IsSiteIdle}
 use Rattle.site_store.specs.Commands.{LabelsFit, MayDo}
 use Rattle.site_store.specs.Sites.{SiteState}
 use Rattle.site_store.specs.Standing.{HasLengths, SiteStands}
 use Rattle.site_store.specs.Exceptions.{Exceptions}
 use Rattle.fed_logs.specs.Moves.{Plans}
 use Rattle.fed_logs.specs.ShownBreaks.{BreaksAreToCome, BrokeAsTraces}
-use Rattle.consistency.specs.Bears.{Run, Stage, breaks_of, names_of}
+use Rattle.consistency.specs.Stages.{Run, Stage, breaks_of, names_of}
 use Rattle.consistency.specs.Courses.{Answered, stage_at}
 use Rattle.consistency.specs.Keeping.{stage_now}
 use Rattle.consistency.specs.Steps.{names_at}
 use Rattle.consistency.specs.Bearing.{ShowsPoint}
-use Rattle.consistency.specs.Between.{RunGoesOn}
+use Rattle.consistency.specs.Pauses.{RunGoesOn}
 use Rattle.consistency.specs.Leads.{Point}
 use Rattle.consistency.specs.Replying.{HasRunNames}
 use Rattle.consistency.specs.Ways.{IsLegOf, Leg, PassedPoint, is_ending, stage_point}
 use Rattle.xrc_session.specs.AppliedEnds.{AppliesEnds}
-use Rattle.xrc_session.specs.BetweenEpochs.{StandsBetween}
+use Rattle.xrc_session.specs.EpochPauses.{StandsBetween}
 use Rattle.xrc_session.specs.Taking.{KeepsForRows}
 use Rattle.mover.specs.declared.lane.Lane.{Lane}
 use Rattle.mover.specs.Epochs.{AllTurnOut, LanesBrokeAs, MayBeginEpoch, point_of}
@@ -159,7 +159,7 @@ pub record IsUnderWay (run : Run) (lines : List Answered) (stage : Stage) (trail
   pub begins : BeginsAtStart run lines trail
   pub rowless : (first_leg run lines trail).point.rows ≡ []
   pub next : AreNext run lines stage.next trail
-  pub forth : 0 < now.clock → GoesForth run lines stage.next trail None began now
+  pub goes_forth : 0 < now.clock → GoesForth run lines stage.next trail None began now
   pub at : StandsAtLeg run stage (last_leg run lines trail) site began now
   pub goes_on : site.table.is_ended ≡ false → IsSomeAnd s.group (GoesOnFrom run (first_leg run lines trail).point trail.points site now)
 

@@ -1,9 +1,9 @@
 -- What lines make of the table of a session of which no volume fails.
 use Rattle.std.specs.Prelude.{ℕ, List, map, take, fold, if◌then◌else◌}
 use Rattle.pair_table.specs.Tables.{Table, with_rows}
-use Rattle.row_changes.specs.Toward.{next_row}
+use Rattle.row_changes.specs.Spans.{next_row}
 use Rattle.xrc_command.specs.declared.line.Line.{Line}
-use Rattle.consistency.specs.Bears.{Run, Stage, breaks_of, names_of}
+use Rattle.consistency.specs.Stages.{Run, Stage, breaks_of, names_of}
 use Rattle.consistency.specs.Courses.{Answered, first_stage, replied_after}
 use Rattle.consistency.specs.Steps.{commanded, is_active}
 

@@ -2,11 +2,11 @@
 use Rattle.std.specs.Prelude.{◌≡◌, ◌⊎◌, ℕ, ◌<◌, ◌≤◌, true, false, List, length, slice_index_or}
 use Rattle.crash_plant.specs.declared.device.Device.{Device}
 use Rattle.crash_plant.specs.declared.device.Device.TheVariants.{Volume}
-use Rattle.crash_plant.specs.Moments.{Standing, PlantState, on, Kept, Follows, Same, Stays, OwnImage}
+use Rattle.crash_plant.specs.Moments.{Standing, PlantState, on, SamePast, Follows, Same, Stays, OwnImage}
 use Rattle.crash_plant.specs.Calls.{SameSite, SameLoan, Elapses, Silent}
 use Rattle.xrc_journal.specs.declared.job.VolumeJob.{VolumeJob}
 use Rattle.applier.specs.Disks.{OnDisks, IsLentTo}
-use Rattle.applier.specs.Out.{IsLentFrom}
+use Rattle.applier.specs.Loans.{IsLentFrom}
 
 -- A volume that was lent since the start is back. At every moment a crash leaves on it what it could at the start, or what it
 -- could on the disk at one of the disk's own moments; and now what it can leave on the disk now.
@@ -16,7 +16,7 @@ pub record IsBack (tells : Type 0) (start now : PlantState) (v : ℕ) (lent give
   pub faults : now.faults (Volume v) ≡ given.faults
   pub later : lent.faults ≤ given.faults
   pub bytes : tells → now.bytes (Volume v) ≡ given.bytes
-  pub kept : tells → Kept (on start (Volume v)) (on now (Volume v))
+  pub kept : tells → SamePast (on start (Volume v)) (on now (Volume v))
   pub images : tells → (t : ℕ) → start.clock ≤ t → t ≤ now.clock → (c : List ℕ) → now.images t (Volume v) c → start.images start.clock (Volume v) c ⊎ OwnImage lent.clock given c
   pub last : tells → (c : List ℕ) → now.images now.clock (Volume v) c → given.images given.clock c
   pub last_all : tells → (c : List ℕ) → given.images given.clock c → now.images now.clock (Volume v) c

@@ -6,14 +6,14 @@ use Rattle.change_map.specs.Sets.{has_track}
 use Rattle.pending_queue.specs.Entries.{WaitingEntry, write_of, entry_of}
 use Rattle.cut_core.specs.Events.{Event, floor, is_broken_after, is_live, last_cut}
 use Rattle.cut_core.specs.Shares.{Share, share}
-use Rattle.cut_core.specs.Groups.{Entry, waiting_in}
-use Rattle.cut_core.specs.Legal.{are_legal}
-use Rattle.cut_core.specs.Once.{is_of_control}
+use Rattle.cut_core.specs.Groups.{CarriedEntry, waiting_in}
+use Rattle.cut_core.specs.LegalHistories.{are_legal}
+use Rattle.cut_core.specs.Fates.{is_of_control}
 use Rattle.group_state.specs.declared.volume.Volume.{Volume}
 use Rattle.group_state.specs.Volumes.{volume_of, passes, wants}
 use Rattle.group_state.specs.Controls.{ControlState, is_telling, counts}
 use Rattle.group_state.specs.Groups.{Group, control_at}
-use Rattle.group_state.specs.Sound.{passes_or_none}
+use Rattle.group_state.specs.SoundStates.{passes_or_none}
 
 -- ---- entries
 
@@ -24,7 +24,7 @@ HasContent w None = IsTrue w.is_copy
 HasContent w (Some kind) = w ≡ entry_of w.head.control (write_of w.head kind)
 
 -- An entry that waits is the history's.
-pub record IsSeen (w : WaitingEntry) (e : Entry) : Type 0 where
+pub record IsSeen (w : WaitingEntry) (e : CarriedEntry) : Type 0 where
   pub control : w.head.control ≡ e.control
   pub volume : w.head.volume ≡ e.volume
   pub track : w.head.track ≡ e.track
@@ -32,7 +32,7 @@ pub record IsSeen (w : WaitingEntry) (e : Entry) : Type 0 where
   pub content : HasContent w e.kind
 
 -- one for one, in order
-abbrev pub AreSeen : List WaitingEntry → List Entry → Type 0
+abbrev pub AreSeen : List WaitingEntry → List CarriedEntry → Type 0
 AreSeen waiting entries = AllZip IsSeen waiting entries
 
 -- ---- volumes

@@ -1,7 +1,7 @@
 -- What floors stand for: a legal history, of which they keep each control's floor and phase, and the last cut.
 use Rattle.std.specs.Prelude.{◌≡◌, ℕ, ◌<◌, ◌==◌, min, List, [], IsTrue, Some, slice_get, if◌then◌else◌}
 use Rattle.cut_core.specs.Events.{Event, floor, is_broken_after, is_done, last_cut}
-use Rattle.cut_core.specs.Legal.{are_legal}
+use Rattle.cut_core.specs.LegalHistories.{are_legal}
 use Rattle.tod_stamp.specs.declared.stamp.Stamp.{Stamp}
 use Rattle.cut_core.specs.declared.told.Phase.{Phase}
 use Rattle.cut_core.specs.declared.told.Phase.TheVariants.{Telling, Broken, Done}

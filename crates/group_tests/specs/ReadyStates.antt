@@ -4,7 +4,7 @@ use Rattle.std.specs.List.{list_all}
 use Rattle.ckd_track.specs.declared.write.Write.{Write}
 use Rattle.group_state.specs.Controls.{is_telling}
 use Rattle.group_state.specs.Groups.{Group, control_at}
-use Rattle.group_state.specs.Sound.{is_track_within}
+use Rattle.group_state.specs.SoundStates.{is_track_within}
 
 -- Its control tells, and has told no later time; no form was at a later one.
 pub record CarriesFirst (time : ℕ) (s : Group) : Type 0 where

@@ -8,16 +8,16 @@ use Rattle.write_trace.specs.declared.header.Header.{Header}
 use Rattle.write_trace.specs.declared.trace.HeaderError.{HeaderError}
 use Rattle.write_trace.specs.declared.trace.HeaderError.TheVariants.{BadHeader, HeaderFault, NoMemory}
 use Rattle.write_trace.specs.Headers.{header_at}
-use Rattle.write_trace.specs.Unread.{seen}
+use Rattle.write_trace.specs.UnreadBytes.{seen}
 use Rattle.write_trace.specs.Starts.{IsBadHeader, FailsInHeader}
 
 -- what remains to be read of a header
-abbrev pub Reader : Type 0
-Reader = Left → Result (Header × Left) Bad
+abbrev pub HeaderRest : Type 0
+HeaderRest = Left → Result (Header × Left) Bad
 
 -- Of the bytes of a source that has these left, some were given. Whatever follows those, the header is what the reader
 -- gives from the bytes held on.
-pub record ReachesHeader (now : Option (List ℕ)) (remains : Reader) (held : Left) (bytes : List ℕ) : Type 0 where
+pub record ReachesHeader (now : Option (List ℕ)) (remains : HeaderRest) (held : Left) (bytes : List ℕ) : Type 0 where
   pub left : List ℕ
   pub told : now ≡ Some left
   pub given : List ℕ
@@ -26,26 +26,26 @@ pub record ReachesHeader (now : Option (List ℕ)) (remains : Reader) (held : Le
   pub reads : (more : List ℕ) → header_at 1 (seen 0 (given ++ more)) ≡ remains (seen held.place (held.bytes ++ more))
 
 -- the same where the source told its bytes at the start
-abbrev pub Reached : (start now : Option (List ℕ)) → Reader → Left → Type 0
+abbrev pub Reached : (start now : Option (List ℕ)) → HeaderRest → Left → Type 0
 Reached start now remains held = (bytes : List ℕ) → start ≡ Some bytes → ReachesHeader now remains held bytes
 
 -- ---- one piece more
 
 -- whatever remained to be read remains
-abbrev pub Waits : (before now : Option (List ℕ)) → (old new : Left) → Type 0
-Waits before now old new = (start : Option (List ℕ)) (remains : Reader) → Reached start before remains old → Reached start now remains new
+abbrev pub StaysReached : (before now : Option (List ℕ)) → (old new : Left) → Type 0
+StaysReached before now old new = (start : Option (List ℕ)) (remains : HeaderRest) → Reached start before remains old → Reached start now remains new
 
 -- the bytes held end within the field that begins there
-abbrev pub IsCutThere : Reader → Left → (place : ℕ) → Type 0
+abbrev pub IsCutThere : HeaderRest → Left → (place : ℕ) → Type 0
 IsCutThere remains held place = remains (seen held.place held.bytes) ≡ Err (Cut place)
 
 -- What came of a call for one piece more, where the bytes held may end within the field that begins at the place.
 abbrev pub Gathers : (before now : Option (List ℕ)) → (faults risen : ℕ) → (place : ℕ) → (old new : Left) → {A : Type 0} → Result A HeaderError → Type 0
-Gathers before now faults risen place old new (Ok done) = Waits before now old new × (length old.bytes < length new.bytes) × (length new.bytes ≤ 65536) × (risen ≡ faults)
+Gathers before now faults risen place old new (Ok done) = StaysReached before now old new × (length old.bytes < length new.bytes) × (length new.bytes ≤ 65536) × (risen ≡ faults)
 Gathers before now faults risen place old new (Err (BadHeader bad)) =
-    ((start : Option (List ℕ)) (remains : Reader) → Reached start before remains old → IsCutThere remains old place → IsBadHeader start bad) × (risen ≡ faults)
+    ((start : Option (List ℕ)) (remains : HeaderRest) → Reached start before remains old → IsCutThere remains old place → IsBadHeader start bad) × (risen ≡ faults)
 Gathers before now faults risen place old new (Err HeaderFault) =
-    ((start : Option (List ℕ)) (remains : Reader) → Reached start before remains old → IsCutThere remains old place → FailsInHeader start now) × Rose faults risen
+    ((start : Option (List ℕ)) (remains : HeaderRest) → Reached start before remains old → IsCutThere remains old place → FailsInHeader start now) × Rose faults risen
 Gathers before now faults risen place old new (Err NoMemory) = ⊥
 
 -- ---- one part of a header

@@ -7,7 +7,7 @@ use Rattle.crash_plant.specs.Moments.{PlantState}
 use Rattle.site_means.specs.Images.{shape_of}
 use Rattle.row_changes.specs.Changes.{after_changes}
 use Rattle.xrc_command.specs.declared.line.Line.{Line}
-use Rattle.consistency.specs.Bears.{Run, Stage}
+use Rattle.consistency.specs.Stages.{Run, Stage}
 use Rattle.consistency.specs.Courses.{Answered, AreAsked, IsAnswered, IsCourse, lines_begun, replies_of, stage_after, stage_at, texts_of}
 use Rattle.consistency.specs.Keeping.{Keeps, stage_now}
 use Rattle.consistency.specs.Moments.{AreUpTo, BearsTime}

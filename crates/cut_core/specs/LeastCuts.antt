@@ -2,7 +2,7 @@
 use Rattle.std.specs.Prelude.{ℕ, ◌<◌, ◌≤◌, List, [], IsTrue}
 use Rattle.cut_core.specs.Events.{Event, floor, is_live, last_cut}
 use Rattle.cut_core.specs.Events.Event.{Form}
-use Rattle.cut_core.specs.Legal.{are_legal, is_legal_next, least_floor}
+use Rattle.cut_core.specs.LegalHistories.{are_legal, is_legal_next, least_floor}
 
 -- no floor of a live control is below the last cut
 abbrev pub FloorsAreAbove : Type 0

@@ -5,10 +5,10 @@ use Rattle.ckd_track.specs.declared.write.Cause.{Cause}
 use Rattle.write_trace.specs.declared.entry.Entry.{Entry}
 use Rattle.write_trace.specs.declared.trace.TraceEnd.{TraceEnd}
 use Rattle.write_trace.specs.declared.trace.TraceEnd.TheVariants.{Ended, BadTrace, ReadFault}
-use Rattle.write_trace.specs.Good.{entries_from, last_entry_stamp, end_of}
+use Rattle.write_trace.specs.WholeTraces.{entries_from, last_entry_stamp, end_of}
 use Rattle.write_trace.specs.declared.next.Stopped.{Stopped}
 use Rattle.write_trace.specs.declared.next.Stopped.TheVariants.{AtEnd, NoMemory}
-use Rattle.write_trace.specs.Unread.{unread, seen}
+use Rattle.write_trace.specs.UnreadBytes.{unread, seen}
 use Rattle.write_trace.specs.Answers.{ReaderState}
 use Rattle.sidefile.specs.Breaks.{cause_of}
 

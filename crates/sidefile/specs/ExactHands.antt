@@ -7,31 +7,31 @@ use Rattle.write_trace.specs.Answers.{ReaderState}
 use Rattle.sidefile.specs.declared.hand.Hand.{Hand}
 use Rattle.sidefile.specs.declared.hand.Hand.TheVariants.{Batch, AtLimit, Broken, NoMemory}
 use Rattle.sidefile.specs.Runs.{runs}
-use Rattle.sidefile.specs.Ahead.{IsAhead, IsFault, ahead, cause_ahead}
+use Rattle.sidefile.specs.AheadEntries.{IsAhead, IsFault, ahead, cause_ahead}
 use Rattle.sidefile.specs.Hands.{hand, left_after}
 
 -- what a sidefile has before it: the entry that waits, and its reader
-pub record Front : Type 0 where
+pub record SidefileFront : Type 0 where
   pub waiting : Option Entry
   pub reader : ReaderState
 
-abbrev pub runs_ahead : Front → List ℕ → List (List Entry)
+abbrev pub runs_ahead : SidefileFront → List ℕ → List (List Entry)
 runs_ahead front bytes = runs (ahead front.waiting front.reader bytes)
 
 -- The hand of all runs that are ahead.
-abbrev pub IsHand : (control limit : ℕ) → Front → (bytes : List ℕ) → Hand → Type 0
+abbrev pub IsHand : (control limit : ℕ) → SidefileFront → (bytes : List ℕ) → Hand → Type 0
 IsHand control limit old bytes given = given ≡ hand control (cause_ahead old.reader bytes) limit (runs_ahead old bytes)
 
 -- Were just these bytes behind those that were used, the same would be handed over, however the trace ends, and their runs would be
 -- left. Where the source failed behind them, it failed behind them all.
-pub record HandsSame (control limit : ℕ) (old new : Front) (used bytes : List ℕ) (given : Hand) : Type 0 where
+pub record HandsSame (control limit : ℕ) (old new : SidefileFront) (used bytes : List ℕ) (given : Hand) : Type 0 where
   pub hand : (cause : Option Cause) → given ≡ hand control cause limit (runs_ahead old (used ++ bytes))
   pub runs : runs_ahead new bytes ≡ left_after given (runs_ahead old (used ++ bytes))
   pub fault : IsFault new.reader bytes → IsFault old.reader (used ++ bytes)
 
 -- The runs that the hand left are ahead afterwards, with the same end. A reader that goes on went on before, and what is behind the
 -- bytes that were used has made no difference.
-pub record LeavesRuns (control limit : ℕ) (told : Option (List ℕ)) (old new : Front) (bytes : List ℕ) (given : Hand) : Type 0 where
+pub record LeavesRuns (control limit : ℕ) (told : Option (List ℕ)) (old new : SidefileFront) (bytes : List ℕ) (given : Hand) : Type 0 where
   pub used : List ℕ
   pub rest : List ℕ
   pub split : bytes ≡ used ++ rest
@@ -42,7 +42,7 @@ pub record LeavesRuns (control limit : ℕ) (told : Option (List ℕ)) (old new 
   pub fronts : new.reader.stopped ≡ None → (front : List ℕ) → HandsSame control limit old new used front given
 
 -- The source failed behind these bytes, which are all that it gave: the hand of their runs. It still tells what it has left.
-pub record FailsBehind (control limit : ℕ) (now : Option (List ℕ)) (old : Front) (bytes : List ℕ) (given : Hand) : Type 0 where
+pub record FailsBehind (control limit : ℕ) (now : Option (List ℕ)) (old : SidefileFront) (bytes : List ℕ) (given : Hand) : Type 0 where
   pub front : List ℕ
   pub left : List ℕ
   pub split : bytes ≡ front ++ left
@@ -52,7 +52,7 @@ pub record FailsBehind (control limit : ℕ) (now : Option (List ℕ)) (old : Fr
   pub hand : given ≡ hand control (Some ReadFault) limit (runs_ahead old front)
 
 -- The hand that is due. Where there was no memory nothing is said.
-abbrev pub IsDue : (control limit : ℕ) → (before now : Option (List ℕ)) → (old new : Front) → Hand → Type 0
+abbrev pub IsDue : (control limit : ℕ) → (before now : Option (List ℕ)) → (old new : SidefileFront) → Hand → Type 0
 IsDue control limit before now old new (Batch batch) =
     (bytes : List ℕ) → IsAhead old.reader before bytes → IsHand control limit old bytes (Batch batch) × LeavesRuns control limit now old new bytes (Batch batch)
 IsDue control limit before now old new AtLimit = (bytes : List ℕ) → IsAhead old.reader before bytes → IsHand control limit old bytes AtLimit × LeavesRuns control limit now old new bytes AtLimit

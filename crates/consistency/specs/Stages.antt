@@ -15,7 +15,7 @@ use Rattle.pair_table.specs.Naming.{Naming}
 use Rattle.pair_table.specs.Refusals.{refusal}
 use Rattle.pair_table.specs.Tables.{Table}
 use Rattle.row_changes.specs.Changes.{Timed, after_changes}
-use Rattle.row_changes.specs.Toward.{AreCounted, Toward}
+use Rattle.row_changes.specs.Spans.{AreCounted, Toward}
 use Rattle.site_means.specs.Images.{Images, Shape}
 use Rattle.site_means.specs.Sight.{content_in}
 use Rattle.xrc_command.specs.declared.line.Line.{Line}

@@ -13,11 +13,11 @@ use Rattle.group_state.specs.declared.volume.Volume.{Volume}
 use Rattle.group_state.specs.Controls.{ControlState}
 use Rattle.group_state.specs.Groups.{Group, control_at}
 use Rattle.group_state.specs.Volumes.{is_wanted, passes, volume_of}
-use Rattle.group_state.specs.Sound.{is_dropped}
+use Rattle.group_state.specs.SoundStates.{is_dropped}
 use Rattle.record_rows.specs.Hits.{is_device_suspended}
-use Rattle.consistency.specs.Bears.{tracks_of_row}
+use Rattle.consistency.specs.Stages.{tracks_of_row}
 use Rattle.site_means.specs.Sight.{content_of}
-use Rattle.fed_logs.specs.Told.{HeldTracks}
+use Rattle.fed_logs.specs.ToldTracks.{HeldTracks}
 use Rattle.fed_logs.specs.Logs.{Sizes, is_of_size}
 use Rattle.fed_logs.specs.Moves.{HasRowIn}
 use Rattle.site_store.specs.Exceptions.{Exceptions}
