@@ -41,22 +41,20 @@ fn in_memory<R: Print + Eprint + Clock>(rt: &R, alloc: Global) -> Result<()> {
     sets::run(rt, alloc, TRACKS, TIMES)
 }
 
-/// Writes and reads a trace of each kind.
-fn traces<R: Files<File = File> + Print>(rt: &R, alloc: Global, file: &str) -> Result<()> {
+/// Writes and reads a trace.
+fn trace<R: Files<File = File> + Print>(rt: &R, alloc: Global, file: &str) -> Result<()> {
     bench_parts::write_file(rt, alloc, file, TRACE_UPDATES, TRACE_TRACKS)?;
-    read::run(rt, alloc, file)?;
-    bench_parts::write_spread(rt, alloc, file, TRACE_UPDATES)?;
     read::run(rt, alloc, file)
 }
 
-/// Runs all. The file is a trace of each kind, and then a volume. The names of a site's files begin with its name.
+/// Runs all. The file is a trace, and then a volume. The names of a site's files begin with its name.
 pub fn run<R>(rt: &R, alloc: Global, file: &str, input: Stdin, output: Stdout) -> Result<()>
 where
     R: Files<File = File> + Print + Eprint + Clock + Threads + Wait + Sync,
 {
     in_memory(rt, alloc)?;
     turns::run(rt, alloc, CONTROLS, TURNS)?;
-    traces(rt, alloc, file)?;
+    trace(rt, alloc, file)?;
     site::run(rt, alloc, file, GROUPS)?;
     plant::run(rt, alloc, file, BLOCKS, input, output)
 }

@@ -44,7 +44,6 @@ where
         Asked::Region => region::run(rt, alloc, region::ROUNDS),
         Asked::Sets { tracks, times } => sets::run(rt, alloc, tracks, times),
         Asked::Site { file, groups } => site::run(rt, alloc, file, groups),
-        Asked::Spread { file, updates } => bench_parts::write_spread(rt, alloc, file, updates),
         Asked::Turn { controls, times } => turns::run(rt, alloc, controls, times),
         Asked::Write {
             file,

@@ -1,7 +1,7 @@
 //! What the words of a command line ask for.
 
 pub const USAGE: &str =
-    "say: apply, queue, region, sets TRACKS TIMES, turn CONTROLS TIMES, plant FILE BLOCKS, site FILE GROUPS, read FILE, write FILE UPDATES TRACKS, spread FILE UPDATES, or check FILE";
+    "say: apply, queue, region, sets TRACKS TIMES, turn CONTROLS TIMES, plant FILE BLOCKS, site FILE GROUPS, read FILE, write FILE UPDATES TRACKS, or check FILE";
 
 /// What is to be done. A file is named as the words name it.
 #[derive(Clone, Copy)]
@@ -26,10 +26,6 @@ pub enum Asked<'words> {
     Site {
         file: &'words str,
         groups: u32,
-    },
-    Spread {
-        file: &'words str,
-        updates: u32,
     },
     Turn {
         controls: u16,
@@ -73,10 +69,6 @@ fn with_two<'words>(word: &str, first: &'words str, second: &str) -> Option<Aske
         "site" => Some(Asked::Site {
             file: first,
             groups: second,
-        }),
-        "spread" => Some(Asked::Spread {
-            file: first,
-            updates: second,
         }),
         "turn" => Some(Asked::Turn {
             controls: first.parse().ok()?,

@@ -13,9 +13,9 @@ use Rattle.site_store.specs.declared.store_error.StoreError.{StoreError}
 use Rattle.site_store.specs.Causes.{FailByCounts}
 use Rattle.site_store.specs.Changing.{LogsChange, changed_items, pair_item}
 use Rattle.site_store.specs.Commands.{behind_put}
-use Rattle.site_store.specs.Records.{behind_way}
+use Rattle.site_store.specs.Records.{behind_placement}
 use Rattle.site_store.specs.Sites.{SiteState}
-use Rattle.site_store.proofs.ByWays.{RecordWay, by_ways}
+use Rattle.site_store.proofs.ByPlacements.{RecordPlacement, by_placements}
 use Rattle.bench_mover.specs.PutRows.{PutsRow}
 
 -- the row that is put is its device's
@@ -28,11 +28,11 @@ row_put row (r ∷ rows) = by_device (row.device == r.device) refl (row_put row 
     by_device false is more = (λ i. cond (is i) (Some r) (row_of row.device (with_row row rows))) ∙ more
 
 -- A mark that is made before a record leaves the controls, and no group behind the last mark.
-way_controls : (site : SiteState) (way : RecordWay) → (behind_way way site).controls ≡ site.controls
-way_controls site = by_ways (λ (w : RecordWay). (behind_way w site).controls ≡ site.controls) refl refl refl
+placement_controls : (site : SiteState) (placement : RecordPlacement) → (behind_placement placement site).controls ≡ site.controls
+placement_controls site = by_placements (λ (w : RecordPlacement). (behind_placement w site).controls ≡ site.controls) refl refl refl
 
-way_marked : (site : SiteState) (way : RecordWay) → site.since ≡ 0 → (behind_way way site).since ≡ 0
-way_marked site = by_ways (λ (w : RecordWay). site.since ≡ 0 → (behind_way w site).since ≡ 0) (λ e. e) (λ e. e) (λ e. refl)
+placement_marked : (site : SiteState) (placement : RecordPlacement) → site.since ≡ 0 → (behind_placement placement site).since ≡ 0
+placement_marked site = by_placements (λ (w : RecordPlacement). site.since ≡ 0 → (behind_placement w site).since ≡ 0) (λ e. e) (λ e. e) (λ e. refl)
 
 module _ {P : Type 0} (row : PairRow) (cut : ℕ) (site put next : SiteState) (old : PlantState) (was is : P) (before now : Device → ℕ) (put_is : put ≡ behind_put row site) where
   items_are : changed_items (Added row.device) put.table.rows ≡ Pair row ∷ []
@@ -48,7 +48,7 @@ module _ {P : Type 0} (row : PairRow) (cut : ℕ) (site put next : SiteState) (o
       let next_is = rows.behind.next_is in record {
         told = ap (λ (s : SiteState). s.told) next_is ∙ ap (λ (s : SiteState). rows_with_hits s.level cut next.failed s.table.rows) put_is;
         time = ap (λ (s : SiteState). s.time) next_is;
-        controls = ap (λ (s : SiteState). s.controls) next_is ∙ way_controls put rows.way ∙ ap (λ (s : SiteState). s.controls) put_is;
-        marked = λ none. ap (λ (s : SiteState). s.since) next_is ∙ way_marked put rows.way (ap (λ (s : SiteState). s.since) put_is ∙ none);
+        controls = ap (λ (s : SiteState). s.controls) next_is ∙ placement_controls put rows.placement ∙ ap (λ (s : SiteState). s.controls) put_is;
+        marked = λ none. ap (λ (s : SiteState). s.since) next_is ∙ placement_marked put rows.placement (ap (λ (s : SiteState). s.since) put_is ∙ none);
         failed = subst (λ (s : SiteState). FailByCounts s.failed next.failed before now) put_is fails;
       }

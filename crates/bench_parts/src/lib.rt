@@ -9,4 +9,4 @@ mod trace;
 pub use measure::{NO_MEMORY, copied, hundredths, micros_since};
 pub use names::serial;
 pub use reading::{Counts, read_file};
-pub use trace::{IMAGE, full_image, write_cylinder, write_file, write_spread};
+pub use trace::{IMAGE, full_image, write_cylinder, write_file};

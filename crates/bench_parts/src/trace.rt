@@ -1,7 +1,6 @@
 //! Writing the traces that are read, copied and brought to devices.
 
-ghost use Rattle.std.specs.Prelude.{◌≤◌, ◌<◌, ◌+◌, ◌^◌, IfOk};
-ghost use Rattle.bench_parts.specs.declared.trace.TheConstants.{SPREAD_TRACKS};
+ghost use Rattle.std.specs.Prelude.{◌≤◌, IfOk};
 
 use crate::measure::{NO_MEMORY, copied};
 use anyhow::{Context, Result, bail};
@@ -20,23 +19,14 @@ const HEADER: [u8; 18] = *b"XTR1\x00\x01PRIM01\xFF\xF0\x00\x00\x00\x00";
 /// The tracks of that volume.
 const TRACKS: u32 = 982_800;
 
-/// The header of a trace that is copied: one volume of 100 cylinders without base tracks.
-const SPREAD_HEADER: [u8; 18] = *b"XTR1\x00\x01PRIM01\x00\x64\x00\x00\x00\x00";
-
-/// The tracks of that volume.
-const SPREAD_TRACKS: u32 = 1_500;
-
-/// The time of its first entry.
-const SPREAD_BEGIN: u32 = 1;
-
 /// The header of a trace that is brought to devices: one volume of one cylinder without base tracks.
 const CYLINDER_HEADER: [u8; 18] = *b"XTR1\x00\x01PRIM01\x00\x01\x00\x00\x00\x00";
 
 /// The time of its first entry. A session may have started before it.
 const CYLINDER_BEGIN: u32 = 2;
 
-/// How far the track of an update stands behind that of the one before. It has no divisor in common with the number of tracks of
-/// either volume, so that each has its turn.
+/// How far the track of an update stands behind the track of the one before. It has no divisor in common with the tracks of a
+/// cylinder, so that each has its turn.
 const STRIDE: u32 = 601;
 
 /// The bytes of the image of a track of 12 records of 80 bytes.
@@ -132,32 +122,29 @@ impl Gathered {
         Ok(())
     }
 
-    /// Each track of a volume as a whole, at the times from one on.
-    fn put_tracks(&mut self, alloc: Global, kind: Kind, tracks: u32, begin: u32) -> Result<()> {
+    /// Each track of a cylinder as a whole, at times of their own.
+    fn put_tracks(&mut self, alloc: Global, kind: Kind) -> Result<()> {
         let mut write = Write {
             volume: 0,
             track: 0,
-            stamp: Stamp(u64::from(begin)),
+            stamp: Stamp(u64::from(CYLINDER_BEGIN)),
             kind,
         };
-        for track in 0..tracks {
+        for track in 0..TRACKS_OF_CYLINDER {
             write.track = track;
-            write.stamp = Stamp(u64::from(begin) + u64::from(track));
+            write.stamp = Stamp(u64::from(CYLINDER_BEGIN + track));
             self.put(alloc, &write)?;
         }
         Ok(())
     }
 
-    /// So many updates of records of the tracks of a volume, each at a later time than the one before, from one on.
-    fn put_updates(&mut self, alloc: Global, tracks: u32, begin: u32, count: u32) -> Result<()>
-        requires some { 1 ≤ tracks }
-        requires few { tracks ≤ SPREAD_TRACKS }
-    {
+    /// So many updates of records of the tracks of a cylinder, each at a later time than the one before, from one on.
+    fn put_updates(&mut self, alloc: Global, begin: u32, count: u32) -> Result<()> {
         for turn in 0..count {
-            let number = 1 + (turn / tracks % u32::from(RECORDS)) as u8;
+            let number = 1 + (turn / TRACKS_OF_CYLINDER % u32::from(RECORDS)) as u8;
             let write = Write {
                 volume: 0,
-                track: turn % tracks * STRIDE % tracks,
+                track: turn % TRACKS_OF_CYLINDER * STRIDE % TRACKS_OF_CYLINDER,
                 stamp: Stamp(u64::from(begin) + u64::from(turn)),
                 kind: update(alloc, number).ok().context(NO_MEMORY)?,
             };
@@ -183,49 +170,6 @@ pub fn write_file<R: Files<File = File>>(
     gathered.flush()
 }
 
-/// Writes a trace of all tracks of a volume, at the times from one on, and then so many updates spread over them, each with a stamp of
-/// its own. Tells the last stamp.
-fn write_volume<R: Files<File = File>>(
-    rt: &R,
-    alloc: Global,
-    name: &str,
-    header: &[u8],
-    tracks: u32,
-    begin: u32,
-    updates: u32,
-) -> Result<Stamp>
-    requires some { 1 ≤ tracks }
-    requires few { tracks ≤ SPREAD_TRACKS }
-    requires early { begin + tracks < 2 ^ 32 }
-    ensures { IfOk result (λ last. begin ≤ last.0) }
-{
-    let mut gathered = Gathered::begin(rt, alloc, name, header)?;
-    let track = full_track(alloc, &BEFORE).ok().context(NO_MEMORY)?;
-    gathered.put_tracks(alloc, Kind::Whole { track }, tracks, begin)?;
-    gathered.put_updates(alloc, tracks, begin + tracks, updates)?;
-    gathered.flush()?;
-    Ok(Stamp(u64::from(begin + tracks - 1) + u64::from(updates)))
-}
-
-/// Writes a trace of the 1,500 tracks of a volume, and then so many updates spread over them, each with a stamp of its own.
-pub fn write_spread<R: Files<File = File>>(
-    rt: &R,
-    alloc: Global,
-    name: &str,
-    updates: u32,
-) -> Result<()> {
-    write_volume(
-        rt,
-        alloc,
-        name,
-        &SPREAD_HEADER,
-        SPREAD_TRACKS,
-        SPREAD_BEGIN,
-        updates,
-    )?;
-    Ok(())
-}
-
 /// Writes a trace of the 15 tracks of a volume, and then so many updates, each of another track than the one before and with a stamp of
 /// its own. Tells the last stamp.
 pub fn write_cylinder<R: Files<File = File>>(
@@ -236,15 +180,13 @@ pub fn write_cylinder<R: Files<File = File>>(
 ) -> Result<Stamp>
     ensures { IfOk result (λ last. 1 ≤ last.0) }
 {
-    write_volume(
-        rt,
-        alloc,
-        name,
-        &CYLINDER_HEADER,
-        TRACKS_OF_CYLINDER,
-        CYLINDER_BEGIN,
-        updates,
-    )
+    let mut gathered = Gathered::begin(rt, alloc, name, &CYLINDER_HEADER)?;
+    let track = full_track(alloc, &BEFORE).ok().context(NO_MEMORY)?;
+    gathered.put_tracks(alloc, Kind::Whole { track })?;
+    let begin = CYLINDER_BEGIN + TRACKS_OF_CYLINDER;
+    gathered.put_updates(alloc, begin, updates)?;
+    gathered.flush()?;
+    Ok(Stamp(u64::from(begin - 1) + u64::from(updates)))
 }
 
 /// The image of a track of such a trace before its updates.

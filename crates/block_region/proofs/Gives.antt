@@ -4,7 +4,7 @@ use Rattle.std.proofs.lemmas.Bool.{ne_eqb, cond-false}
 use Rattle.std.proofs.lemmas.List.{length-set}
 use Rattle.block_region.specs.Blocks.{blocks_of}
 use Rattle.block_region.specs.Regions.{RegionState, ChainState, Holds, with_chain, without_chain, block_count, taken_blocks, free_blocks}
-use Rattle.block_region.specs.Runs.{hop, chains_from, KeepsRuns}
+use Rattle.block_region.specs.Runs.{hop, chains_from, AreRunsSound}
 use Rattle.block_region.specs.declared.region.Region.TheInside.{Inside}
 use Rattle.block_region.specs.declared.chain.Chain.TheInside.{Inside as ChainInside}
 use Rattle.block_region.proofs.Views.{count_fits, room_is, len_is}
@@ -14,11 +14,11 @@ pub record Given (bytes next lens : List ℕ) (first_free free first count last 
   pub fits : free + count < 2 ^ 32
   pub last_inside : last < length next
   pub first_inside : first < length lens
-  pub keeps : KeepsRuns bytes (set next last first_free) (set lens first 0) first (free + count)
+  pub keeps : AreRunsSound bytes (set next last first_free) (set lens first 0) first (free + count)
   pub given : record { chains = chains_from bytes (set next last first_free) 0 (set lens first 0) } ≡ without_chain region chain
   pub room : free_blocks (without_chain region chain) ≡ free_blocks region + blocks_of chain.len
 
-pub gives : (bytes next lens : List ℕ) (first_free free first len count last : ℕ) (region : RegionState) (chain : ChainState) → KeepsRuns bytes next lens first_free free
+pub gives : (bytes next lens : List ℕ) (first_free free first len count last : ℕ) (region : RegionState) (chain : ChainState) → AreRunsSound bytes next lens first_free free
     → record { chains = chains_from bytes next 0 lens } ≡ region → record { first = first; len = len } ≡ chain → Holds region chain → 0 < len
     → count ≡ blocks_of len → last ≡ hop next (count - 1) first
     → Given bytes next lens first_free free first count last region chain
@@ -43,10 +43,10 @@ gives bytes next lens first_free free first len count last region chain kept vie
     last_same : last ≡ last_block bytes next lens first_free free first kept some'
     last_same = last_is ∙ ap (λ n. hop next (n - 1) first) all
 
-    keeps : KeepsRuns bytes (set next last first_free) (set lens first 0) first (free + count)
+    keeps : AreRunsSound bytes (set next last first_free) (set lens first 0) first (free + count)
     keeps =
-        subst (λ b. KeepsRuns bytes (set next b first_free) (set lens first 0) first (free + count)) (sym last_same)
-        (subst (λ n. KeepsRuns bytes (set next (last_block bytes next lens first_free free first kept some') first_free) (set lens first 0) first (free + n)) (sym all)
+        subst (λ b. AreRunsSound bytes (set next b first_free) (set lens first 0) first (free + count)) (sym last_same)
+        (subst (λ n. AreRunsSound bytes (set next (last_block bytes next lens first_free free first kept some') first_free) (set lens first 0) first (free + n)) (sym all)
         (given_keeps bytes next lens first_free free first kept some'))
 
     without : without_chain region chain ≡ with_chain region first []
@@ -67,7 +67,7 @@ gives bytes next lens first_free free first len count last region chain kept vie
     new_count = ap (λ (r : RegionState). block_count r) without ∙ length-set region.chains first []
 
 -- the same of a region's fields, where the links were seen as a slice
-pub gave : (r : Inside) (c : ChainInside) (region : RegionState) (chain : ChainState) (seen : List ℕ) (count last : ℕ) → KeepsRuns r.bytes.items r.next.items r.lens.items r.first_free r.free
+pub gave : (r : Inside) (c : ChainInside) (region : RegionState) (chain : ChainState) (seen : List ℕ) (count last : ℕ) → AreRunsSound r.bytes.items r.next.items r.lens.items r.first_free r.free
     → record { chains = chains_from r.bytes.items r.next.items 0 r.lens.items } ≡ region → record { first = c.first; len = c.len } ≡ chain → Holds region chain → 0 < c.len
     → count ≡ blocks_of c.len → seen ≡ r.next.items → last ≡ hop seen (count - 1) c.first
     → Given r.bytes.items r.next.items r.lens.items r.first_free r.free c.first count last region chain

@@ -4,11 +4,11 @@ use Rattle.std.proofs.lemmas.Bool.{cases_eq, cases_lt}
 use Rattle.std.proofs.lemmas.List.{get_or-set_same, get_or-set_other, get_or_past, length-set}
 use Rattle.std.proofs.lemmas.List.Sums.{sum_by-set}
 use Rattle.block_region.specs.Blocks.{blocks_of}
-use Rattle.block_region.specs.Runs.{hop, chains_from, run_first, run_count, IsRun, KeepsRuns}
+use Rattle.block_region.specs.Runs.{hop, chains_from, run_first, run_count, IsRun, AreRunsSound}
 use Rattle.block_region.proofs.RunLaws.{hop-add, hop-set, same_gathered, changed-chains}
 use Rattle.block_region.proofs.Views.{run_of}
 
-module _ (bytes next lens : List ℕ) (first_free free first : ℕ) (kept : KeepsRuns bytes next lens first_free free) (some : 0 < get_or lens first 0) where
+module _ (bytes next lens : List ℕ) (first_free free first : ℕ) (kept : AreRunsSound bytes next lens first_free free) (some : 0 < get_or lens first 0) where
   abbrev count : ℕ
   count = blocks_of (get_or lens first 0)
 
@@ -125,7 +125,7 @@ module _ (bytes next lens : List ℕ) (first_free free first : ℕ) (kept : Keep
   apart' (suc i) zero k l a b same = absurd (crossed i l k b a (sym same))
   apart' (suc i) (suc j) k l a b same = chains_apart i j k l a b same
 
-  pub given_keeps : KeepsRuns bytes next' lens' first (free + count)
+  pub given_keeps : AreRunsSound bytes next' lens' first (free + count)
   given_keeps = record {
     few = omega (arith, kept.few, same_length);
     sized = omega (arith, kept.sized, same_length);

@@ -6,7 +6,7 @@ use Rattle.std.proofs.lemmas.List.{get_or-replicate, get_or_past, ext_get_or, le
 use Rattle.std.proofs.lemmas.List.Folds.{sum_by-replicate}
 use Rattle.std.proofs.lemmas.List.FromFn.{get_or-map-range_with_len, length-map-range_with_len}
 use Rattle.block_region.specs.Blocks.{blocks_of}
-use Rattle.block_region.specs.Runs.{hop, run_bytes, chains_from, run_first, run_count, KeepsRuns}
+use Rattle.block_region.specs.Runs.{hop, run_bytes, chains_from, run_first, run_count, AreRunsSound}
 use Rattle.block_region.proofs.RunLaws.{length-chains, chain_of}
 
 module _ (bytes next lens : List ℕ) (blocks : ℕ) (few : blocks < 2 ^ 32) (sized : length bytes ≡ 512 * blocks)
@@ -45,7 +45,7 @@ module _ (bytes next lens : List ℕ) (blocks : ℕ) (few : blocks < 2 ^ 32) (si
   apart' (suc i) zero k l a b same = absurd (no_chain i k a)
   apart' (suc i) (suc j) k l a b same = absurd (no_chain i k a)
 
-  pub made_keeps : KeepsRuns bytes next lens 0 blocks
+  pub made_keeps : AreRunsSound bytes next lens 0 blocks
   made_keeps = record {
     few = omega (arith, few, length_next);
     sized = omega (arith, sized, length_next);

@@ -4,7 +4,7 @@ use Rattle.std.proofs.lemmas.List.{get_or-set_same, length-set, set_past, get_or
 use Rattle.std.specs.Vec.{with_items}
 use Rattle.block_region.specs.Blocks.{blocks_of, block_at}
 use Rattle.block_region.specs.Regions.{RegionState, chain_bytes_at, with_chain, block_count, taken_blocks, free_blocks}
-use Rattle.block_region.specs.Runs.{hop, run_bytes, chains_from, KeepsRuns}
+use Rattle.block_region.specs.Runs.{hop, run_bytes, chains_from, AreRunsSound}
 use Rattle.block_region.specs.declared.region.Region.TheInside.{Inside}
 use Rattle.block_region.proofs.RunLaws.{length-chains, chain_of}
 use Rattle.block_region.proofs.Views.{room_is}
@@ -24,13 +24,13 @@ filled_in old new next seen_old seen_next first given behind a b fact =
 
 pub record Taken (bytes' next lens : List ℕ) (first_free free count behind : ℕ) (region : RegionState) (given : List ℕ) : Type 0 where
   pub first_inside : first_free < length lens
-  pub keeps : KeepsRuns bytes' next (set lens first_free (length given)) behind (free - count)
+  pub keeps : AreRunsSound bytes' next (set lens first_free (length given)) behind (free - count)
   pub fresh : chain_bytes_at region first_free ≡ []
   pub taken : record { chains = chains_from bytes' next 0 (set lens first_free (length given)) } ≡ with_chain region first_free given
   pub begins : chain_bytes_at (with_chain region first_free given) first_free ≡ given
   pub room : free_blocks (with_chain region first_free given) + blocks_of (length given) ≡ free_blocks region
 
-pub takes : (bytes bytes' put next lens : List ℕ) (first_free free count behind : ℕ) (region : RegionState) (given : List ℕ) → KeepsRuns bytes next lens first_free free
+pub takes : (bytes bytes' put next lens : List ℕ) (first_free free count behind : ℕ) (region : RegionState) (given : List ℕ) → AreRunsSound bytes next lens first_free free
     → record { chains = chains_from bytes next 0 lens } ≡ region → Filled bytes put next first_free given behind → bytes' ≡ put
     → count ≡ blocks_of (length given) → count ≤ free → 0 < length given
     → Taken bytes' next lens first_free free count behind region given
@@ -55,10 +55,10 @@ takes bytes bytes' put next lens first_free free count behind region given kept 
     fresh_len : get_or lens first_free 0 ≡ 0
     fresh_len = first_fresh bytes next lens first_free free kept positive
 
-    keeps : KeepsRuns bytes' next (set lens first_free (length given)) behind (free - count)
+    keeps : AreRunsSound bytes' next (set lens first_free (length given)) behind (free - count)
     keeps =
-        subst (λ b. KeepsRuns bytes' next (set lens first_free (length given)) b (free - count)) (sym fill.behind_is)
-        (subst (λ n. KeepsRuns bytes' next (set lens first_free (length given)) (hop next (blocks_of (length given)) first_free) (free - n)) (sym count_is)
+        subst (λ b. AreRunsSound bytes' next (set lens first_free (length given)) b (free - count)) (sym fill.behind_is)
+        (subst (λ n. AreRunsSound bytes' next (set lens first_free (length given)) (hop next (blocks_of (length given)) first_free) (free - n)) (sym count_is)
         (taken_keeps bytes bytes' next lens first_free free (length given) kept some fits (ap length is ∙ fill.len)))
 
     taken : record { chains = chains_from bytes' next 0 (set lens first_free (length given)) } ≡ with_chain region first_free given
@@ -73,7 +73,7 @@ takes bytes bytes' put next lens first_free free count behind region given kept 
     new_room = room_is bytes' next (set lens first_free (length given)) behind (free - count) keeps (with_chain region first_free given) taken
 
 -- the same of a region's fields, where they were seen as slices
-pub took : (r : Inside) (region : RegionState) (given old links put : List ℕ) (count behind : ℕ) → KeepsRuns r.bytes.items r.next.items r.lens.items r.first_free r.free
+pub took : (r : Inside) (region : RegionState) (given old links put : List ℕ) (count behind : ℕ) → AreRunsSound r.bytes.items r.next.items r.lens.items r.first_free r.free
     → record { chains = chains_from r.bytes.items r.next.items 0 r.lens.items } ≡ region → old ≡ r.bytes.items → links ≡ r.next.items
     → length put ≡ length old → run_bytes put links r.first_free (length given) ≡ given
     → ((other : ℕ) → ((k : ℕ) → k < blocks_of (length given) → ¬ (other ≡ hop links k r.first_free)) → block_at put other ≡ block_at old other)
@@ -86,7 +86,7 @@ took r region given old links put count behind kept view same_bytes same_next le
     (with_items_is r.bytes put (omega (arith, len, ap length same_bytes, r.bytes.ok.0))) count_is room some
 
 -- A chain of no bytes begins at no block.
-pub takes_none : (bytes next lens : List ℕ) (first_free free none : ℕ) (region : RegionState) (given : List ℕ) → KeepsRuns bytes next lens first_free free
+pub takes_none : (bytes next lens : List ℕ) (first_free free none : ℕ) (region : RegionState) (given : List ℕ) → AreRunsSound bytes next lens first_free free
     → record { chains = chains_from bytes next 0 lens } ≡ region → none ≡ 2 ^ 32 - 1 → (chain_bytes_at region none ≡ []) × (region ≡ with_chain region none given)
 takes_none bytes next lens first_free free none region given kept view is =
     let past : length region.chains ≤ none = omega (arith, kept.few, kept.rows, length-chains bytes next 0 lens, ap (λ (r : RegionState). block_count r) view) in (

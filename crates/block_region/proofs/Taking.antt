@@ -4,10 +4,10 @@ use Rattle.std.proofs.lemmas.Bool.{cases_eq, cases_lt}
 use Rattle.std.proofs.lemmas.List.{get_or-set_same, get_or-set_other, length-set}
 use Rattle.std.proofs.lemmas.List.Sums.{sum_by-set}
 use Rattle.block_region.specs.Blocks.{blocks_of, block_at}
-use Rattle.block_region.specs.Runs.{hop, run_bytes, chains_from, run_first, run_count, KeepsRuns}
+use Rattle.block_region.specs.Runs.{hop, run_bytes, chains_from, run_first, run_count, AreRunsSound}
 use Rattle.block_region.proofs.RunLaws.{hop-add, same_gathered, changed-chains}
 
-module _ (bytes next lens : List ℕ) (first_free free : ℕ) (kept : KeepsRuns bytes next lens first_free free) (some : 0 < free) where
+module _ (bytes next lens : List ℕ) (first_free free : ℕ) (kept : AreRunsSound bytes next lens first_free free) (some : 0 < free) where
   pub first_inside : first_free < length next
   first_inside = kept.within 0 0 some
 
@@ -18,7 +18,7 @@ module _ (bytes next lens : List ℕ) (first_free free : ℕ) (kept : KeepsRuns 
     | inr not ↦ omega arith
   ]
 
-module _ (bytes bytes' next lens : List ℕ) (first_free free len : ℕ) (kept : KeepsRuns bytes next lens first_free free) (some : 0 < len) (room : blocks_of len ≤ free) where
+module _ (bytes bytes' next lens : List ℕ) (first_free free len : ℕ) (kept : AreRunsSound bytes next lens first_free free) (some : 0 < len) (room : blocks_of len ≤ free) where
   abbrev count : ℕ
   count = blocks_of len
 
@@ -89,7 +89,7 @@ module _ (bytes bytes' next lens : List ℕ) (first_free free len : ℕ) (kept :
   apart' (suc i) zero k l a b same = absurd (crossed i l k b a (sym same))
   apart' (suc i) (suc j) k l a b same = let both = chains_apart i j k l a b same in (ap suc both.0, both.1)
 
-  pub taken_keeps : length bytes' ≡ length bytes → KeepsRuns bytes' next lens' behind (free - count)
+  pub taken_keeps : length bytes' ≡ length bytes → AreRunsSound bytes' next lens' behind (free - count)
   taken_keeps same = record {
     few = kept.few;
     sized = same ∙ kept.sized;

@@ -6,10 +6,10 @@ use Rattle.std.proofs.lemmas.List.{get_or_past, take_all}
 use Rattle.std.proofs.lemmas.List.Sums.{get_or-le-sum_by}
 use Rattle.block_region.specs.Blocks.{blocks_of}
 use Rattle.block_region.specs.Regions.{RegionState, ChainState, Holds, chain_bytes, chain_bytes_at, taken_blocks, block_count}
-use Rattle.block_region.specs.Runs.{run_bytes, chains_from, IsRun, KeepsRuns}
+use Rattle.block_region.specs.Runs.{run_bytes, chains_from, IsRun, AreRunsSound}
 use Rattle.block_region.proofs.RunLaws.{length-run, length-chains, chain_of, taken-chains}
 
-module _ (bytes next lens : List ℕ) (first_free free : ℕ) (kept : KeepsRuns bytes next lens first_free free) where
+module _ (bytes next lens : List ℕ) (first_free free : ℕ) (kept : AreRunsSound bytes next lens first_free free) where
   pub run_of : (first : ℕ) → IsRun next first (blocks_of (get_or lens first 0))
   run_of first = record {
     within = λ k lt. kept.within (suc first) k lt;

@@ -36,8 +36,8 @@ abbrev pub run_count : (free : ℕ) → (lens : List ℕ) → (run : ℕ) → �
 run_count free lens zero = free
 run_count free lens (suc first) = blocks_of (get_or lens first 0)
 
--- What every region keeps: each block lies in one run, at one place.
-pub record KeepsRuns (bytes next lens : List ℕ) (first_free free : ℕ) : Type 0 where
+-- The runs of a region are sound: each block lies in one run, at one place.
+pub record AreRunsSound (bytes next lens : List ℕ) (first_free free : ℕ) : Type 0 where
   pub few : length next < 2 ^ 32
   pub sized : length bytes ≡ 512 * length next
   pub rows : length lens ≡ length next

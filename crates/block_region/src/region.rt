@@ -27,13 +27,13 @@ pub struct Region {
 
 impl Model for Region {
     ghost use Rattle.block_region.specs.Regions.{RegionState};
-    ghost use Rattle.block_region.specs.Runs.{chains_from, KeepsRuns};
+    ghost use Rattle.block_region.specs.Runs.{chains_from, AreRunsSound};
 
     ghost Value = { RegionState };
 
     ghost view = { λ region. record { chains = chains_from region.bytes.items region.next.items 0 region.lens.items } };
 
-    ghost invariant = { λ region. KeepsRuns region.bytes.items region.next.items region.lens.items region.first_free region.free };
+    ghost invariant = { λ region. AreRunsSound region.bytes.items region.next.items region.lens.items region.first_free region.free };
 }
 
 impl Region {

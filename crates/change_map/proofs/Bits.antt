@@ -10,7 +10,7 @@ use Rattle.std.proofs.Math.Nat.{div-le_self}
 use Rattle.std.proofs.Math.Seq.{take-append_seam}
 use Rattle.std.proofs.lemmas.Option.{IfSome_then}
 use Rattle.change_map.specs.Sets.{has_track, least_from, union, every_track}
-use Rattle.change_map.specs.Words.{has_bit, set_in, IsNextBit, KeepsWords}
+use Rattle.change_map.specs.Words.{has_bit, set_in, IsNextBit, AreWordsSound}
 use Rattle.change_map.proofs.InSets.{least_none, least_some, length_union, has_union}
 use Rattle.change_map.proofs.InWords.{written_here, written_else, read_here, in_length, in_has, in_has_all, in_is}
 
@@ -109,7 +109,7 @@ next_sooner ws place later r le none next = IfSome_then r next (
     )
 
 -- the next bit is the least track
-pub next_is_least : (n : ℕ) (ws : List ℕ) (x : ℕ) (r : Option ℕ) → KeepsWords n ws
+pub next_is_least : (n : ℕ) (ws : List ℕ) (x : ℕ) (r : Option ℕ) → AreWordsSound n ws
     → (r ≡ None → (y : ℕ) → x ≤ y → has_bit ws y ≡ false) → IfSome r (IsNextBit ws x) → r ≡ least_from (set_in n ws) x
 next_is_least n ws x None keeps none some = sym (least_none (set_in n ws) x (λ y from. in_has_all n ws keeps y ∙ none refl y from))
 next_is_least n ws x (Some y) keeps none some =
@@ -197,8 +197,8 @@ or_in n us vs ws each =
     ∙ sym (each x)
     )
 
-pub or_keeps : (n : ℕ) (us vs ws : List ℕ) → KeepsWords n us → KeepsWords n vs → length ws ≡ length us
-    → ((x : ℕ) → has_bit ws x ≡ (has_bit us x || has_bit vs x)) → KeepsWords n ws
+pub or_keeps : (n : ℕ) (us vs ws : List ℕ) → AreWordsSound n us → AreWordsSound n vs → length ws ≡ length us
+    → ((x : ℕ) → has_bit ws x ≡ (has_bit us x || has_bit vs x)) → AreWordsSound n ws
 or_keeps n us vs ws keeps others long each = record {
   few = keeps.few;
   whole = long ∙ keeps.whole;
@@ -210,7 +210,7 @@ pub all_in : (n : ℕ) (ws : List ℕ) → ((x : ℕ) → has_bit ws x ≡ nat_l
 all_in n ws each =
     in_is n ws (every_track n) (length-replicate n true) (λ x within. get_or-replicate n x true false within ∙ sym (lt-ltb x n within) ∙ sym (each x))
 
-pub all_keeps : (n : ℕ) (us ws : List ℕ) → KeepsWords n us → length ws ≡ length us → ((x : ℕ) → has_bit ws x ≡ nat_lt x n) → KeepsWords n ws
+pub all_keeps : (n : ℕ) (us ws : List ℕ) → AreWordsSound n us → length ws ≡ length us → ((x : ℕ) → has_bit ws x ≡ nat_lt x n) → AreWordsSound n ws
 all_keeps n us ws keeps long each = record { few = keeps.few; whole = long ∙ keeps.whole; clear = λ x past. each x ∙ le-ltb x n past }
 
 -- items written over all of a row are all that it has

@@ -7,7 +7,7 @@ use Rattle.std.proofs.lemmas.Bool.{cases_eq}
 use Rattle.std.proofs.lemmas.List.Sums.{sum_by_more}
 use Rattle.std.proofs.lemmas.List.FromFn.{sum_by-map-range_with_len_more}
 use Rattle.change_map.specs.Sets.{size}
-use Rattle.change_map.specs.Words.{has_bit, set_in, KeepsWords}
+use Rattle.change_map.specs.Words.{has_bit, set_in, AreWordsSound}
 use Rattle.change_map.proofs.InWords.{read_here}
 
 one_bit : (b : ℕ) → b < 2 → count_ones b ≡ b
@@ -69,7 +69,7 @@ size_past ws n (suc d) clear =
     let next : n + suc d ≡ n + d + 1 = omega arith in
     omega (arith, ap (λ m. size (set_in m ws)) next, size_more ws (n + d), ap {B = ℕ} (λ b. cond b 1 0) (clear (n + d) (omega arith)), size_past ws n d clear)
 
-pub size_kept : (n : ℕ) (ws : List ℕ) → KeepsWords n ws → size (set_in (64 * length ws) ws) ≡ size (set_in n ws)
+pub size_kept : (n : ℕ) (ws : List ℕ) → AreWordsSound n ws → size (set_in (64 * length ws) ws) ≡ size (set_in n ws)
 size_kept n ws keeps =
     let end : n + (64 * length ws - n) ≡ 64 * length ws = omega (arith, keeps.whole) in
     ap (λ m. size (set_in m ws)) (sym end) ∙ size_past ws n (64 * length ws - n) keeps.clear

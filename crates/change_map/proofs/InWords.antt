@@ -7,7 +7,7 @@ use Rattle.std.proofs.lemmas.List.{get_or-set_same, get_or-set_other, get_or-rep
 use Rattle.std.proofs.lemmas.List.FromFn.{length-map-range_with_len, get_or-map-range_with_len, fill_by_all}
 use Rattle.std.proofs.lemmas.Nat.Bits.{bit_at-zero, bit_at_set_same, bit_at_set_other, bit_at_clear_same, bit_at_clear_other, shr_and_one}
 use Rattle.change_map.specs.Sets.{has_track, with_track, without_track, no_track}
-use Rattle.change_map.specs.Words.{has_bit, set_in, KeepsWords}
+use Rattle.change_map.specs.Words.{has_bit, set_in, AreWordsSound}
 
 pub in_length : (n : ℕ) (ws : List ℕ) → length (set_in n ws) ≡ n
 in_length n ws = length-map-range_with_len (has_bit ws) 0 n
@@ -16,7 +16,7 @@ pub in_has : (n : ℕ) (ws : List ℕ) (x : ℕ) → x < n → has_track (set_in
 in_has n ws x within = get_or-map-range_with_len (has_bit ws) 0 n x x false within (omega arith)
 
 -- a map's set has a track exactly where its bit is set, past its end too
-pub in_has_all : (n : ℕ) (ws : List ℕ) → KeepsWords n ws → (x : ℕ) → has_track (set_in n ws) x ≡ has_bit ws x
+pub in_has_all : (n : ℕ) (ws : List ℕ) → AreWordsSound n ws → (x : ℕ) → has_track (set_in n ws) x ≡ has_bit ws x
 in_has_all n ws keeps x = elim (cases_lt x n) [
   | inl within ↦ in_has n ws x within
   | inr past ↦
@@ -44,7 +44,7 @@ unfolding has_bit
 read_here ws k w y is at = ap (λ u. nat_eq (bit_at u (y % 64)) 1) (is ∙ ap (λ i. get_or ws i 0) (sym at))
 
 -- A word takes the place of its old one, in which only the bit of one track may differ.
-module _ (n : ℕ) (ws : List ℕ) (x w v : ℕ) (flag : Bool) (keeps : KeepsWords n ws) (within : x < n) (is : w ≡ get_or ws (x / 64) 0) (here : nat_eq (bit_at v (x % 64)) 1 ≡ flag) (others : (i : ℕ) → i < 64 → i ≢ x % 64 → bit_at v i ≡ bit_at w i) where
+module _ (n : ℕ) (ws : List ℕ) (x w v : ℕ) (flag : Bool) (keeps : AreWordsSound n ws) (within : x < n) (is : w ≡ get_or ws (x / 64) 0) (here : nat_eq (bit_at v (x % 64)) 1 ≡ flag) (others : (i : ℕ) → i < 64 → i ≢ x % 64 → bit_at v i ≡ bit_at w i) where
   inside : x / 64 < length ws
   inside = omega (arith, keeps.whole)
 
@@ -73,7 +73,7 @@ module _ (n : ℕ) (ws : List ℕ) (x w v : ℕ) (flag : Bool) (keeps : KeepsWor
       ]
       )
 
-  pub changed_keeps : KeepsWords n (set ws (x / 64) v)
+  pub changed_keeps : AreWordsSound n (set ws (x / 64) v)
   changed_keeps = record {
     few = keeps.few;
     whole = length-set ws (x / 64) v ∙ keeps.whole;
@@ -81,7 +81,7 @@ module _ (n : ℕ) (ws : List ℕ) (x w v : ℕ) (flag : Bool) (keeps : KeepsWor
   }
 
 -- a read word of a map, at the place of a track
-module _ (n : ℕ) (ws : List ℕ) (x w : ℕ) (keeps : KeepsWords n ws) (within : x < n) (read : w ≡ get_or ws (x / 64) w) where
+module _ (n : ℕ) (ws : List ℕ) (x w : ℕ) (keeps : AreWordsSound n ws) (within : x < n) (read : w ≡ get_or ws (x / 64) w) where
   held_word : x / 64 < length ws
   held_word = omega (arith, keeps.whole)
 
@@ -100,7 +100,7 @@ module _ (n : ℕ) (ws : List ℕ) (x w : ℕ) (keeps : KeepsWords n ws) (within
       changed n ws x w (bit_or w (1 * 2 ^ (x % 64) % 18446744073709551616)) true keeps within is_word
       (ap (λ b. nat_eq b 1) (bit_at_set_same w64 w (x % 64) low)) (λ i _ apart. bit_at_set_other w64 w (x % 64) low i apart)
 
-  pub set_keeps : KeepsWords n (set ws (x / 64) (bit_or w (1 * 2 ^ (x % 64) % 18446744073709551616)))
+  pub set_keeps : AreWordsSound n (set ws (x / 64) (bit_or w (1 * 2 ^ (x % 64) % 18446744073709551616)))
   set_keeps =
       changed_keeps n ws x w (bit_or w (1 * 2 ^ (x % 64) % 18446744073709551616)) true keeps within is_word
       (ap (λ b. nat_eq b 1) (bit_at_set_same w64 w (x % 64) low)) (λ i _ apart. bit_at_set_other w64 w (x % 64) low i apart)
@@ -110,7 +110,7 @@ module _ (n : ℕ) (ws : List ℕ) (x w : ℕ) (keeps : KeepsWords n ws) (within
       changed n ws x w (bit_and w (bit_not w64 (1 * 2 ^ (x % 64) % 18446744073709551616))) false keeps within is_word
       (ap (λ b. nat_eq b 1) (bit_at_clear_same w64 w (x % 64) low)) (λ i small apart. bit_at_clear_other w64 w (x % 64) low i small apart)
 
-  pub clear_keeps : KeepsWords n (set ws (x / 64) (bit_and w (bit_not w64 (1 * 2 ^ (x % 64) % 18446744073709551616))))
+  pub clear_keeps : AreWordsSound n (set ws (x / 64) (bit_and w (bit_not w64 (1 * 2 ^ (x % 64) % 18446744073709551616))))
   clear_keeps =
       changed_keeps n ws x w (bit_and w (bit_not w64 (1 * 2 ^ (x % 64) % 18446744073709551616))) false keeps within is_word
       (ap (λ b. nat_eq b 1) (bit_at_clear_same w64 w (x % 64) low)) (λ i small apart. bit_at_clear_other w64 w (x % 64) low i small apart)
@@ -130,7 +130,7 @@ none_in n k ws are =
     ap (set_in n) are
     ∙ in_is n (replicate k 0) (no_track n) (length-replicate n false) (λ x within. get_or-replicate n x false false within ∙ sym (none_bit k x))
 
-pub none_keeps : (n k : ℕ) (ws : List ℕ) → n < 2 ^ 32 → k ≡ (n + 63) / 64 → ws ≡ replicate k 0 → KeepsWords n ws
+pub none_keeps : (n k : ℕ) (ws : List ℕ) → n < 2 ^ 32 → k ≡ (n + 63) / 64 → ws ≡ replicate k 0 → AreWordsSound n ws
 none_keeps n k ws few enough are = record {
   few = few;
   whole = ap length are ∙ length-replicate {A = ℕ} k 0 ∙ enough;

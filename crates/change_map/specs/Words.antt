@@ -10,8 +10,8 @@ has_bit words x = bit_at (slice_index words (x / 64)) (x % 64) == 1
 abbrev pub set_in : (tracks : ℕ) → List ℕ → List Bool
 set_in tracks words = map (has_bit words) (range_with_len 0 tracks)
 
--- What every map keeps: there are words for its tracks and no more, and no bit past its last track is set.
-pub record KeepsWords (tracks : ℕ) (words : List ℕ) : Type 0 where
+-- The words of a map are sound: there are words for its tracks and no more, and no bit past its last track is set.
+pub record AreWordsSound (tracks : ℕ) (words : List ℕ) : Type 0 where
   pub few : tracks < 2 ^ 32
   pub whole : length words ≡ (tracks + 63) / 64
   pub clear : (x : ℕ) → tracks ≤ x → has_bit words x ≡ false

@@ -20,13 +20,13 @@ pub struct ChangeMap {
 
 impl Model for ChangeMap {
     ghost use Rattle.std.specs.Prelude.{List, Bool};
-    ghost use Rattle.change_map.specs.Words.{set_in, KeepsWords};
+    ghost use Rattle.change_map.specs.Words.{set_in, AreWordsSound};
 
     ghost Value = { List Bool };
 
     ghost view = { λ map. set_in map.tracks map.words.items };
 
-    ghost invariant = { λ map. KeepsWords map.tracks map.words.items };
+    ghost invariant = { λ map. AreWordsSound map.tracks map.words.items };
 }
 
 impl ChangeMap {

@@ -14,7 +14,7 @@ use Rattle.pair_table.specs.Tables.{Table}
 use Rattle.row_changes.specs.Changes.{Timed}
 use Rattle.row_changes.specs.Spans.{AreCounted, hit_count}
 use Rattle.xrc_command.specs.declared.line.Line.{Line}
-use Rattle.consistency.specs.Stages.{Run, Stage, accepts, accepts_end, breaks_of, names_of}
+use Rattle.consistency.specs.Stages.{ScriptRun, Stage, accepts, accepts_end, breaks_of, names_of}
 use Rattle.consistency.specs.Courses.{Answered, IsAnswered, stage_after}
 use Rattle.consistency.specs.Replies.{IsReply}
 use Rattle.consistency.specs.Steps.{commanded, is_active, names_at, table_after_line, table_on_the_way}
@@ -34,12 +34,12 @@ never_twice true same a b c rest = refl
 never_twice false true a b c rest = refl
 never_twice false false a b c rest = refl
 
-not_started_twice : (run : Run) (p : Point) (line : Line) (level : Level) → line.command ≡ Start level → accepts run (table_at run p) line ≡ false
+not_started_twice : (run : ScriptRun) (p : Point) (line : Line) (level : Level) → line.command ≡ Start level → accepts run (table_at run p) line ≡ false
 not_started_twice run p line level is =
     ap (λ (c : Command). accepts run (table_at run p) (record line { command = c })) is
     ∙ never_twice p.is_ended (bytes_eq line.session run.session) Ended NoSession SessionExists None
 
-pub content_as_accepted : (run : Run) (s : Stage) (first : Point) (points : List PassedPoint) (number : ℕ) (text reply : List ℕ) (line : Line) (changes hits : List Timed)
+pub content_as_accepted : (run : ScriptRun) (s : Stage) (first : Point) (points : List PassedPoint) (number : ℕ) (text reply : List ℕ) (line : Line) (changes hits : List Timed)
     → is_ok (reply_content run s first points number (answered_by run s text reply line changes hits)).answer ≡ accepts run (table_on_the_way run.level changes s.table) line
 content_as_accepted run s first points number text reply line changes hits =
     let table = table_on_the_way run.level changes s.table in
@@ -60,7 +60,7 @@ is_of_line : (way : Way) (number : ℕ) (hits : List Timed) → (way ≡ Command
 is_of_line way number hits (inl command) = ap (is_command_of number) command ∙ eq-eqb number number refl
 is_of_line way number hits (inr mark) = ap (is_command_of number) mark ∙ eq-eqb number number refl
 
-pub told_before : (run : Run) (s : Stage) (first : Point) (xs ys : List PassedPoint) (n : PassedPoint) (number : ℕ) (hits : List Timed) (a : Answered) → (n.way ≡ Commanded number hits) ⊎ (n.way ≡ MarkedFor number hits)
+pub told_before : (run : ScriptRun) (s : Stage) (first : Point) (xs ys : List PassedPoint) (n : PassedPoint) (number : ℕ) (hits : List Timed) (a : Answered) → (n.way ≡ Commanded number hits) ⊎ (n.way ≡ MarkedFor number hits)
     → reply_content run s first (xs ++ n ∷ ys) number a ≡ reply_content run s first xs number a
 told_before run s first xs ys n number hits a is =
     let table = table_on_the_way run.level a.changes s.table in
@@ -68,7 +68,7 @@ told_before run s first xs ys n number hits a is =
 
 -- ---- a line of a session that goes on
 
-module _ (run : Run) (s : Stage) (goes : s.table.is_ended ≡ false) (l : Leg) (leg : IsLegOf run s l) (line : Line) (q : Point) (hits : List Timed) (effect : TakesEffect run line l q hits) (text reply : List ℕ) where
+module _ (run : ScriptRun) (s : Stage) (goes : s.table.is_ended ≡ false) (l : Leg) (leg : IsLegOf run s l) (line : Line) (q : Point) (hits : List Timed) (effect : TakesEffect run line l q hits) (text reply : List ℕ) where
   abbrev table_then : Table
   table_then = table_after_line run.level (breaks_of run) (names_of run) s.table line l.changes hits
 
@@ -144,7 +144,7 @@ module _ (run : Run) (s : Stage) (goes : s.table.is_ended ≡ false) (l : Leg) (
       by_end false is holds = absurd cc
 
 -- A line is answered where the session isn't active: before its start, and once it has ended.
-pub inactive_is_answered : (run : Run) (s : Stage) (text reply : List ℕ) (line : Line) → is_active s.table ≡ false → AreCounted run.rises s.past → ((level : Level) → line.command ≡ Start level → accepts run s.table line ≡ true → level ≡ run.level)
+pub inactive_is_answered : (run : ScriptRun) (s : Stage) (text reply : List ℕ) (line : Line) → is_active s.table ≡ false → AreCounted run.rises s.past → ((level : Level) → line.command ≡ Start level → accepts run s.table line ≡ true → level ≡ run.level)
     → IsReply (accepts run s.table line) line reply → IsAnswered run s (answered_by run s text reply line [] [])
 inactive_is_answered run s text reply line off counted level said = record {
   step = record { active = λ on. absurd (differ (is_active s.table) on off); still = λ still. (refl, refl); made = refl };
@@ -159,7 +159,7 @@ inactive_is_answered run s text reply line off counted level said = record {
 
 -- ---- legs behind a line
 
-module _ (run : Run) (s : Stage) (goes : s.table.is_ended ≡ false) (l : Leg) (leg : IsLegOf run s l) (q : Point) (hits : List Timed) (c : IsCommanding run s.next l q hits) (text reply : List ℕ) where
+module _ (run : ScriptRun) (s : Stage) (goes : s.table.is_ended ≡ false) (l : Leg) (leg : IsLegOf run s l) (q : Point) (hits : List Timed) (c : IsCommanding run s.next l q hits) (text reply : List ℕ) where
   pub command_is_answered : AreCounted run.rises (s.past ++ l.changes ++ hits) → IsReply (accepts run (table_at run l.point) c.line) c.line reply → IsAnswered run s (answered_by run s text reply c.line l.changes hits)
   command_is_answered = line_is_answered run s goes l leg c.line q hits (c.active (leg_goes run s goes l leg)) text reply
 

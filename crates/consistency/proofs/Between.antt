@@ -21,7 +21,7 @@ use Rattle.site_means.specs.Images.{Shape, shape_of}
 use Rattle.site_means.specs.Sight.{means_of}
 use Rattle.site_means.proofs.Goes.{shape_same}
 use Rattle.xrc_command.specs.declared.line.Line.{Line}
-use Rattle.consistency.specs.Stages.{AreAfterLine, AreOnTheWay, Run, Stage, breaks_of, names_of}
+use Rattle.consistency.specs.Stages.{AreAfterLine, AreOnTheWay, ScriptRun, Stage, breaks_of, names_of}
 use Rattle.consistency.specs.Courses.{Answered, IsAnswered, last_line_time, replies_of, stage_after, stage_at, texts_of}
 use Rattle.consistency.specs.Keeping.{stage_now}
 use Rattle.consistency.specs.Moments.{AreUpTo, BearsThroughout, BearsTime, MeansTable}
@@ -42,7 +42,7 @@ use Rattle.consistency.proofs.Leading.{leads_toward, whole_itself}
 use Rattle.consistency.proofs.Replying.{exact_says_up_to}
 
 -- A run that has made no call yet goes on.
-pub runs_begin : (plant : PlantState) (run : Run) → RunGoesOn run [] [] plant plant
+pub runs_begin : (plant : PlantState) (run : ScriptRun) → RunGoesOn run [] [] plant plant
 runs_begin plant run =
     let begun = keeps_begins run plant in
     record {
@@ -69,7 +69,7 @@ up_to_later early late times le all = All-weaker (λ z. z ≤ early) (λ z. z �
 
 -- ---- exact replies
 
-module _ (old new : PlantState) (site : SameSite old new) (elapses : Elapses old new) (run : Run) where
+module _ (old new : PlantState) (site : SameSite old new) (elapses : Elapses old new) (run : ScriptRun) where
   module _ (up : 0 < old.clock) where
     -- Points that were passed stay passed.
     passed_stay : (asked : ℕ → Option Line) (first : Leg) (points : List PassedPoint) (to : ℕ) → to ≤ old.clock → HasPassed run asked first points old to → HasPassed run asked first points new to
@@ -99,7 +99,7 @@ module _ (old new : PlantState) (site : SameSite old new) (elapses : Elapses old
   }
 
 -- The replies to some lines and to one more were exact.
-exact_more : (run : Run) (began : ℕ) (plant : PlantState) (lines : List Answered) (a : Answered) → HadExactReplies run lines began plant → HadExactReply run (stage_at run lines (length lines)) lines a began plant → HadExactReplies run (lines ++ a ∷ []) began plant
+exact_more : (run : ScriptRun) (began : ℕ) (plant : PlantState) (lines : List Answered) (a : Answered) → HadExactReplies run lines began plant → HadExactReply run (stage_at run lines (length lines)) lines a began plant → HadExactReplies run (lines ++ a ∷ []) began plant
 exact_more run began plant lines a all one n b at = elim (at_or_last lines a n b at) [
   | inl here ↦ put n b (omega (arith, slice_get_within lines n b here)) (all n b here)
   | inr last ↦ put n b (omega (arith, last.0)) (there n b last.0 last.1)
@@ -118,7 +118,7 @@ exact_more run began plant lines a all one n b at = elim (at_or_last lines a n b
 
 -- ---- works
 
-pub works_go_on : (first old new : PlantState) (run : Run) (lines : List Answered) (text : List ℕ) → RunGoesOn run lines text first old → SameSite old new → Elapses old new → Silent old new
+pub works_go_on : (first old new : PlantState) (run : ScriptRun) (lines : List Answered) (text : List ℕ) → RunGoesOn run lines text first old → SameSite old new → Elapses old new → Silent old new
     → ((stage_now run first.script lines text).table.is_started ≡ true → AtEveryMoment (ShowsMeant run (stage_now run first.script lines text) new) old new) → RunGoesOn run lines text first new
 works_go_on first old new run lines text goes site elapses silent means = record {
   now = record {
@@ -148,7 +148,7 @@ works_go_on first old new run lines text goes site elapses silent means = record
       not_earlier = up_to_later (stage_at run lines (length lines)).replied shown.0.time (times_said (replies_of lines)) shown.1.in_time.0 goes.now.times;
     }
 
-pub passages_go_on : (first old new : PlantState) (run : Run) (lines : List Answered) (text : List ℕ) (p : Point) (points : List PassedPoint) (next : Option Point) → RunGoesOn run lines text first old
+pub passages_go_on : (first old new : PlantState) (run : ScriptRun) (lines : List Answered) (text : List ℕ) (p : Point) (points : List PassedPoint) (next : Option Point) → RunGoesOn run lines text first old
     → SameSite old new → Elapses old new → Silent old new
     → (let s = stage_now run first.script lines text in s.table.is_started ≡ true → GoesThroughPoints run new old.clock p points new.clock next × MayBeMeant run s p × All (λ n. MayBeMeant run s n.point) points × IfSome next (MayBeMeant run s))
     → RunGoesOn run lines text first new
@@ -160,7 +160,7 @@ passages_go_on first old new run lines text p points next goes site elapses sile
 -- ---- a stage's own point
 
 -- The point of a stage may be meant at it, where no line was heard.
-pub stages_are_points : (run : Run) (s : Stage) → s.next ≡ None → AreCounted run.rises s.past → MayBeMeant run s (stage_point s)
+pub stages_are_points : (run : ScriptRun) (s : Stage) → s.next ≡ None → AreCounted run.rises s.past → MayBeMeant run s (stage_point s)
 stages_are_points run s none counted = record { ended = inr refl; in_time = (omega arith, timed s.next none); rows = rested s.table.is_ended }
   where
     timed : (n : Option Line) → n ≡ None → (let T : Type 0 = elim n [ None ↦ s.replied ≡ s.replied | Some line ↦ elim s.table.is_ended [ true ↦ s.replied ≡ s.replied | false ↦ s.replied ≤ line.time.0 ] ] in T)
@@ -181,7 +181,7 @@ stages_are_points run s none counted = record { ended = inr refl; in_time = (ome
 
 -- ---- replies
 
-module _ (run : Run) (lines : List Answered) (from : Leg) (points : List PassedPoint) (a : Answered) (first old new : PlantState) (goes : RunGoesOn run lines a.text first old)
+module _ (run : ScriptRun) (lines : List Answered) (from : Leg) (points : List PassedPoint) (a : Answered) (first old new : PlantState) (goes : RunGoesOn run lines a.text first old)
     (reply : MayReply run (stage_now run first.script lines a.text) lines from points a old) (tells : Type 0) (told : tells) (works : WorksOnConsole tells old new) (says : Says a.reply old new) where
   abbrev s : Stage
   s = stage_now run first.script lines a.text

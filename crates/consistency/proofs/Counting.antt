@@ -6,7 +6,7 @@ use Rattle.std.proofs.lemmas.Bool.{or_parts}
 use Rattle.std.proofs.lemmas.List.Sums.{sum_by-append}
 use Rattle.tod_stamp.proofs.TextLaws.{texts_back}
 use Rattle.xrc_command.specs.declared.line.Line.{Line}
-use Rattle.consistency.specs.Stages.{Run}
+use Rattle.consistency.specs.Stages.{ScriptRun}
 use Rattle.consistency.specs.Courses.{Answered, IsCourse, StandsAt, replies_of}
 use Rattle.consistency.specs.Replies.{IsReply, answer_word, are_reply, is_answer, is_reply_line, reply_count}
 use Rattle.consistency.specs.Times.{AreWhole, whole_lines}
@@ -47,7 +47,7 @@ count_replies (x ∷ lines) (suc n) within each =
       ap (count_by is_reply_line) (lines_append x.reply (replies_of (take n lines)) first.0) ∙ count_append is_reply_line (whole_lines x.reply) (whole_lines (replies_of (take n lines))) ∙ omega (arith, first.1, rest.1),
     )
 
-pub replies_counted : (run : Run) (lines : List Answered) (heard said : List ℕ) → ((n : ℕ) (a : Answered) → slice_get lines n ≡ Some a → a.line.time.0 < 2 ^ 64) → IsCourse run lines → (at : StandsAt lines heard said) → reply_count said ≡ at.answered
+pub replies_counted : (run : ScriptRun) (lines : List Answered) (heard said : List ℕ) → ((n : ℕ) (a : Answered) → slice_get lines n ≡ Some a → a.line.time.0 < 2 ^ 64) → IsCourse run lines → (at : StandsAt lines heard said) → reply_count said ≡ at.answered
 replies_counted run lines heard said stamped course at =
     let counted = count_replies lines at.answered at.within (λ m a is. (reply_whole _ a.line a.reply (course m a is).is_reply, one_reply _ a.line a.reply (stamped m a is) (course m a is).is_reply)) in
     ap reply_count at.said_is ∙ ap (count_by is_reply_line) (lines_append (replies_of (take at.answered lines)) at.part counted.0)

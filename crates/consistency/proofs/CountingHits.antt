@@ -6,7 +6,7 @@ use Rattle.std.proofs.lemmas.List.Sums.{sum_by-append}
 use Rattle.row_changes.specs.Changes.{Timed}
 use Rattle.row_changes.specs.Spans.{AreCounted, hit_count, hits}
 use Rattle.xrc_command.specs.declared.line.Line.{Line}
-use Rattle.consistency.specs.Stages.{Run, Stage}
+use Rattle.consistency.specs.Stages.{ScriptRun, Stage}
 use Rattle.consistency.specs.Leads.{Point}
 use Rattle.consistency.specs.Ways.{ComesBy, HasCountedHits, IsLegOf, Leg, Way, hits_of_leg, hits_through, leg_by}
 use Rattle.consistency.specs.Ways.Way.{Commanded, Ending, MarkedFor, OnTheWay}
@@ -20,20 +20,20 @@ count_three device xs ys zs = omega (arith, count_both device (xs ++ ys) zs, cou
 -- ---- the next point
 
 -- No hit is forgotten by the next point.
-pub hits_stay : (run : Run) (asked : ℕ → Option Line) (l : Leg) (q : Point) (way : Way) (device : ℕ) → ComesBy run asked l q way → hits_of_leg l device ≤ hits_of_leg (leg_by l q way) device
+pub hits_stay : (run : ScriptRun) (asked : ℕ → Option Line) (l : Leg) (q : Point) (way : Way) (device : ℕ) → ComesBy run asked l q way → hits_of_leg l device ≤ hits_of_leg (leg_by l q way) device
 hits_stay run asked l q (OnTheWay changes) device next = omega (arith, count_both device l.changes changes)
 hits_stay run asked l q (MarkedFor line more) device next = omega (arith, ap (hit_count device) next.1.none_marked)
 hits_stay run asked l q (Commanded line more) device next = omega (arith, le-max_left (hit_count device l.marked) (hit_count device more))
 hits_stay run asked l q (Ending line more) device next = omega (arith, le-max_left (hit_count device l.marked) (hit_count device more))
 
 -- A mark's hits are counted behind the command too, and once.
-pub marked_hits_counted : (run : Run) (asked : ℕ → Option Line) (l : Leg) (p q : Point) (number : ℕ) (marked more : List Timed) (device : ℕ) → ComesBy run asked l p (MarkedFor number marked)
+pub marked_hits_counted : (run : ScriptRun) (asked : ℕ → Option Line) (l : Leg) (p q : Point) (number : ℕ) (marked more : List Timed) (device : ℕ) → ComesBy run asked l p (MarkedFor number marked)
     → hits_of_leg (leg_by (leg_by l p (MarkedFor number marked)) q (Commanded number more)) device ≡ hits_of_leg l device + max (hit_count device marked) (hit_count device more)
 marked_hits_counted run asked l p q number marked more device next = omega (arith, ap (hit_count device) next.1.none_marked)
 
 -- ---- a stage
 
-module _ (run : Run) (s : Stage) (l : Leg) (leg : IsLegOf run s l) where
+module _ (run : ScriptRun) (s : Stage) (l : Leg) (leg : IsLegOf run s l) where
   -- What is counted through hits behind a command holds those of the lines before, of the way and of the hits.
   pub counted_through : (behind : List Timed) (device : ℕ) → hit_count device (s.past ++ l.changes ++ behind) ≤ hits_through l behind device
   counted_through behind device = omega (arith, count_three device s.past l.changes behind, leg.counted device, le-max_right (hit_count device l.marked) (hit_count device behind))

@@ -7,7 +7,7 @@ use Rattle.std.proofs.lemmas.List.Elements.{All-cons, All-head, All-nil, All-tai
 use Rattle.pair_table.specs.Tables.{Table}
 use Rattle.row_changes.specs.Changes.{Timed}
 use Rattle.xrc_command.specs.declared.line.Line.{Line}
-use Rattle.consistency.specs.Stages.{IsFlag, Run, Stage, accepts_end}
+use Rattle.consistency.specs.Stages.{IsFlag, ScriptRun, Stage, accepts_end}
 use Rattle.consistency.specs.Bearing.{IsFlagInTime, MayBeMeant, MayBeMeantInTime}
 use Rattle.consistency.specs.Leads.{Point}
 use Rattle.passages.specs.Points.{AreLinked}
@@ -15,14 +15,14 @@ use Rattle.consistency.specs.Ways.{ComesNext, IsCommanding, IsEnding, IsLegOf, I
 use Rattle.consistency.proofs.Legs.{ends_alike, leg_goes}
 use Rattle.consistency.proofs.OnTheWay.{leg_after_way, point_after}
 
-pub flags_may_be : (run : Run) (s : Stage) (time : ℕ) (flag : Bool) → IsFlagInTime run s time flag → IsFlag run s flag
+pub flags_may_be : (run : ScriptRun) (s : Stage) (time : ℕ) (flag : Bool) → IsFlagInTime run s time flag → IsFlag run s flag
 flags_may_be run s time flag (inl same) = inr same
 flags_may_be run s time flag (inr ended) = inl ended.0
 
-pub stage_in_time : (run : Run) (s : Stage) → MayBeMeant run s (stage_point s) → MayBeMeantInTime run s (stage_point s)
+pub stage_in_time : (run : ScriptRun) (s : Stage) → MayBeMeant run s (stage_point s) → MayBeMeantInTime run s (stage_point s)
 stage_in_time run s may = record { may = may; flag = inl refl }
 
-module _ (run : Run) (s : Stage) (goes : s.table.is_ended ≡ false) where
+module _ (run : ScriptRun) (s : Stage) (goes : s.table.is_ended ≡ false) where
   going_flag : (p : Point) → p.is_ended ≡ false → MayBeMeant run s p → MayBeMeantInTime run s p
   going_flag p on may = record { may = may; flag = inl (on ∙ sym goes) }
 

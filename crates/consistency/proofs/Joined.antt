@@ -3,14 +3,14 @@ use Rattle.std.proofs.Common.{◌≡◌, ◌⊎◌, inl, inr, ℕ, ◌<◌, ◌�
 use Rattle.std.specs.Coded.{le_prop}
 use Rattle.std.proofs.lemmas.Bool.{cases_lt}
 use Rattle.crash_plant.specs.Moments.{PlantState}
-use Rattle.consistency.specs.Stages.{Run}
+use Rattle.consistency.specs.Stages.{ScriptRun}
 use Rattle.consistency.specs.Courses.{Answered}
 use Rattle.consistency.specs.Moments.{AllMeanTable, FirstMeans, MomentBears}
 
 pub itself : (n : ℕ) → n ≤ n
 itself n = omega arith
 
-module _ (run : Run) (lines : List Answered) (old new : PlantState) (middle : ℕ) (begins : old.clock ≤ middle) (ends : middle ≤ new.clock)
+module _ (run : ScriptRun) (lines : List Answered) (old new : PlantState) (middle : ℕ) (begins : old.clock ≤ middle) (ends : middle ≤ new.clock)
     (early : (t : ℕ) → old.clock ≤ t → t ≤ middle → MomentBears run lines old new t) (late : (t : ℕ) → old.clock ≤ t → middle < t → t ≤ new.clock → MomentBears run lines old new t) where
   abbrev pub moment_in : (t : ℕ) → old.clock ≤ t → t ≤ new.clock → (middle < t) ⊎ (t ≤ middle) → MomentBears run lines old new t
   moment_in t from to (inl after) = late t from after to

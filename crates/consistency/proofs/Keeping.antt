@@ -14,7 +14,7 @@ use Rattle.crash_plant.proofs.Steps.{site_trans}
 use Rattle.site_means.specs.declared.means.Means.{Means}
 use Rattle.site_means.specs.Sight.{means_of}
 use Rattle.xrc_command.specs.declared.line.Line.{Line}
-use Rattle.consistency.specs.Stages.{Run, Stage}
+use Rattle.consistency.specs.Stages.{ScriptRun, Stage}
 use Rattle.consistency.specs.Courses.{Answered, AreAsked, IsAnswered, IsAsked, last_line_time, lines_begun, next_line, replies_of, stage_after, stage_at, stage_there, texts_of}
 use Rattle.consistency.specs.Keeping.{Keeps, stage_now}
 use Rattle.consistency.specs.Moments.{AllMeanTable, AreUpTo, BearsThroughout, BearsTime, FirstMeans, MeansTable, MomentBears}
@@ -30,7 +30,7 @@ use Rattle.consistency.proofs.Standing.{MayBePart, bears_on, console_choice, fro
 -- ---- the beginning and the end
 
 -- A run that has made no call yet has answered no line.
-pub keeps_begins : (run : Run) (plant : PlantState) → Keeps run [] [] plant plant
+pub keeps_begins : (run : ScriptRun) (plant : PlantState) → Keeps run [] [] plant plant
 keeps_begins run plant = record {
   course = λ n a at. absurd cc;
   asked = λ n a at. absurd cc;
@@ -56,12 +56,12 @@ keeps_begins run plant = record {
 }
 
 -- A run whose moments have borne so far bears throughout.
-pub keeps_throughout : (run : Run) (lines : List Answered) (text : List ℕ) (old new : PlantState) → Keeps run lines text old new → BearsThroughout run lines old new
+pub keeps_throughout : (run : ScriptRun) (lines : List Answered) (text : List ℕ) (old new : PlantState) → Keeps run lines text old new → BearsThroughout run lines old new
 keeps_throughout run lines text old new kept = record { course = kept.course; asked = kept.asked; each = kept.each; replies = kept.replies }
 
 -- ---- now
 
-module _ (run : Run) (lines : List Answered) (text : List ℕ) (old new : PlantState) (kept : Keeps run lines text old new) where
+module _ (run : ScriptRun) (lines : List Answered) (text : List ℕ) (old new : PlantState) (kept : Keeps run lines text old new) where
   abbrev moment_now : MomentBears run lines old new new.clock
   moment_now = kept.each new.clock kept.later (itself new.clock)
 
@@ -104,7 +104,7 @@ lt_le m n below = omega (arith, below)
 
 -- ---- calls behind which the same lines are answered
 
-module _ (run : Run) (lines : List Answered) (text : List ℕ) (old mid new : PlantState) (up : 0 < old.clock) (kept : Keeps run lines text old mid) (site : SameSite mid new) (elapses : Elapses mid new) where
+module _ (run : ScriptRun) (lines : List Answered) (text : List ℕ) (old mid new : PlantState) (up : 0 < old.clock) (kept : Keeps run lines text old mid) (site : SameSite mid new) (elapses : Elapses mid new) where
   later : mid.clock ≤ new.clock
   later = (elapses.kept Control).later
 
@@ -169,7 +169,7 @@ module _ (run : Run) (lines : List Answered) (text : List ℕ) (old mid new : Pl
 
 -- ---- hearing
 
-module _ (run : Run) (lines : List Answered) (text : List ℕ) (old mid new : PlantState) (up : 0 < old.clock) (kept : Keeps run lines text old mid) (tells : Type 0) (told : tells) (works : WorksOnConsole tells mid new) (listens : Listens mid new) where
+module _ (run : ScriptRun) (lines : List Answered) (text : List ℕ) (old mid new : PlantState) (up : 0 < old.clock) (kept : Keeps run lines text old mid) (tells : Type 0) (told : tells) (works : WorksOnConsole tells mid new) (listens : Listens mid new) where
   past : Elapses mid new
   past = works.elapses told
 
@@ -243,14 +243,14 @@ module _ (run : Run) (lines : List Answered) (text : List ℕ) (old mid new : Pl
 -- ---- saying
 
 -- A stage that has answered a line has no next line heard.
-pub stage_answered : (run : Run) (script : List ℕ) (lines : List Answered) (a : Answered) → stage_now run script (lines ++ a ∷ []) [] ≡ stage_after (stage_at run lines (length lines)) a
+pub stage_answered : (run : ScriptRun) (script : List ℕ) (lines : List Answered) (a : Answered) → stage_now run script (lines ++ a ∷ []) [] ≡ stage_after (stage_at run lines (length lines)) a
 stage_answered run script lines a =
     let all = lines ++ a ∷ [] in
     let s = stage_at run all (length all) in
     let at_end = length (texts_of all ++ []) == length script in
     ap (λ (n : Option Line). record s { next = n }) (none_heard (length all) (last_line_time all (length all)) at_end [] (and_right at_end false refl)) ∙ ap (λ (r : Stage). record r { next = None }) (stage_more run lines a)
 
-module _ (run : Run) (lines : List Answered) (text : List ℕ) (old mid new : PlantState) (up : 0 < old.clock) (kept : Keeps run lines text old mid) (tells : Type 0) (told : tells) (works : WorksOnConsole tells mid new) where
+module _ (run : ScriptRun) (lines : List Answered) (text : List ℕ) (old mid new : PlantState) (up : 0 < old.clock) (kept : Keeps run lines text old mid) (tells : Type 0) (told : tells) (works : WorksOnConsole tells mid new) where
   -- A front of a text is said behind the replies.
   said_behind : (t k : ℕ) (bytes : List ℕ) → new.said t ≡ mid.said mid.clock ++ take k bytes → new.said t ≡ old.said old.clock ++ (replies_of lines ++ take k bytes)
   said_behind t k bytes is = is ∙ ap (λ (l : List ℕ). l ++ take k bytes) kept.said ∙ append_assoc (old.said old.clock) (replies_of lines) (take k bytes)

@@ -11,7 +11,7 @@ use Rattle.row_changes.specs.Changes.{Due, Timed, after_changes, may_all_come, m
 use Rattle.row_changes.specs.Changes.Due.{NoneDue}
 use Rattle.row_changes.specs.Spans.{AreCounted, Toward, all_broke, is_hit_at, is_settled}
 use Rattle.xrc_command.specs.declared.line.Line.{Line}
-use Rattle.consistency.specs.Stages.{AreAfterLine, AreOnTheWay, IsTime, Run, Stage, accepts_end, breaks_of, names_of}
+use Rattle.consistency.specs.Stages.{AreAfterLine, AreOnTheWay, IsTime, ScriptRun, Stage, accepts_end, breaks_of, names_of}
 use Rattle.consistency.specs.Steps.{IsCommanded, IsLineStep, commanded, is_active, table_after_line, table_on_the_way}
 use Rattle.consistency.specs.Bearing.{MayBeMeant}
 use Rattle.consistency.specs.Leads.{HitsLead, Point, may_rest}
@@ -23,11 +23,11 @@ use Rattle.consistency.proofs.Leading.{comes_all, hits_whole, leads_on, leads_ri
 -- ---- legs
 
 -- A leg begins at the point of a stage of a started session.
-pub leg_begins : (run : Run) (s : Stage) (answered : ℕ) → s.table ≡ table_at run (stage_point s) → IsLegOf run s (leg_at s answered)
+pub leg_begins : (run : ScriptRun) (s : Stage) (answered : ℕ) → s.table ≡ table_at run (stage_point s) → IsLegOf run s (leg_at s answered)
 leg_begins run s answered table = record { table = table; replied = refl; whole = whole_itself run.level (breaks_of run) (stage_point s); counted = λ device. omega arith }
 
 -- It comes to each point on the way.
-pub leg_goes_on : (run : Run) (s : Stage) (l : Leg) (q : Point) (changes : List Timed) → IsLegOf run s l → IsOnTheWay run l q changes → IsLegOf run s (leg_to l q changes)
+pub leg_goes_on : (run : ScriptRun) (s : Stage) (l : Leg) (q : Point) (changes : List Timed) → IsLegOf run s l → IsOnTheWay run l q changes → IsLegOf run s (leg_to l q changes)
 leg_goes_on run s l q changes leg way = record {
   table = leg.table;
   replied = leg.replied;
@@ -39,17 +39,17 @@ leg_goes_on run s l q changes leg way = record {
 }
 
 -- Hits at its point's time leave it a leg.
-pub leg_is_hit : (run : Run) (s : Stage) (l : Leg) (q : Point) (hits : List Timed) → IsLegOf run s l → HitsLead run.level (breaks_of run) l.point q hits → IsLegOf run s (leg_to l q hits)
+pub leg_is_hit : (run : ScriptRun) (s : Stage) (l : Leg) (q : Point) (hits : List Timed) → IsLegOf run s l → HitsLead run.level (breaks_of run) l.point q hits → IsLegOf run s (leg_to l q hits)
 leg_is_hit run s l q hits leg hit = record { table = leg.table; replied = leg.replied; whole = hits_whole run.level (breaks_of run) (stage_point s) l.point q l.changes hits leg.whole hit.at hit.leads; counted = leg.counted }
 
 -- So it does behind a mark that a command's record needs first.
-pub leg_is_marked : (run : Run) (s : Stage) (l : Leg) (q : Point) (number : ℕ) (hits : List Timed) → IsLegOf run s l → IsLegOf run s (leg_by l q (MarkedFor number hits))
+pub leg_is_marked : (run : ScriptRun) (s : Stage) (l : Leg) (q : Point) (number : ℕ) (hits : List Timed) → IsLegOf run s l → IsLegOf run s (leg_by l q (MarkedFor number hits))
 leg_is_marked run s l q number hits leg = record { table = leg.table; replied = leg.replied; whole = leg.whole; counted = leg.counted }
 
 -- ---- the end
 
 -- An end is accepted alike with any rows.
-end_alike : (run : Run) (p q : Point) (c : Command) (time : Stamp) (session : List ℕ) → p.is_ended ≡ q.is_ended → accepts_end run (table_at run p) (Some (record { time = time; session = session; command = c })) ≡ true
+end_alike : (run : ScriptRun) (p q : Point) (c : Command) (time : Stamp) (session : List ℕ) → p.is_ended ≡ q.is_ended → accepts_end run (table_at run p) (Some (record { time = time; session = session; command = c })) ≡ true
     → accepts_end run (table_at run q) (Some (record { time = time; session = session; command = c })) ≡ true
 end_alike run p q End time session same accepted = subst (λ (e : Bool). accepts_end run (table_at run (record q { is_ended = e })) (Some (record { time = time; session = session; command = End })) ≡ true) same accepted
 end_alike run p q (Start level) time session same accepted = absurd cc
@@ -58,13 +58,13 @@ end_alike run p q (DelPair choice) time session same accepted = absurd cc
 end_alike run p q (Suspend choice) time session same accepted = absurd cc
 end_alike run p q Query time session same accepted = absurd cc
 
-pub ends_alike : (run : Run) (p q : Point) (next : Option Line) → p.is_ended ≡ q.is_ended → accepts_end run (table_at run p) next ≡ true → accepts_end run (table_at run q) next ≡ true
+pub ends_alike : (run : ScriptRun) (p q : Point) (next : Option Line) → p.is_ended ≡ q.is_ended → accepts_end run (table_at run p) next ≡ true → accepts_end run (table_at run q) next ≡ true
 ends_alike run p q None same accepted = absurd cc
 ends_alike run p q (Some line) same accepted = end_alike run p q line.command line.time line.session same accepted
 
 -- ---- what may be meant
 
-module _ (run : Run) (s : Stage) (goes : s.table.is_ended ≡ false) where
+module _ (run : ScriptRun) (s : Stage) (goes : s.table.is_ended ≡ false) where
   abbrev Rows : (time : ℕ) → List PairRow → Bool → Type 0
   Rows time rows e = elim e [ true ↦ rows ≡ s.table.rows | false ↦ AreOnTheWay run s time rows ⊎ AreAfterLine run s time rows ]
 
@@ -212,7 +212,7 @@ module _ (run : Run) (s : Stage) (goes : s.table.is_ended ≡ false) where
       }
 
 -- Once the session has ended its one point may be meant, whatever is heard.
-pub ended_may_be_meant : (run : Run) (s : Stage) → s.table.is_ended ≡ true → MayBeMeant run s (stage_point s)
+pub ended_may_be_meant : (run : ScriptRun) (s : Stage) → s.table.is_ended ≡ true → MayBeMeant run s (stage_point s)
 ended_may_be_meant run s ended = record {
   ended = inr refl;
   in_time = (omega arith, timed s.next);

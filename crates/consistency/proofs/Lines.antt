@@ -8,7 +8,7 @@ use Rattle.std.proofs.lemmas.List.Concat.{flat_map-append}
 use Rattle.std.proofs.lemmas.Option.{slice_get_cases, slice_get_within}
 use Rattle.xrc_command.specs.declared.line.Line.{Line}
 use Rattle.xrc_command.specs.Reading.{line_spelled}
-use Rattle.consistency.specs.Stages.{Run, Stage}
+use Rattle.consistency.specs.Stages.{ScriptRun, Stage}
 use Rattle.consistency.specs.Courses.{Answered, AreAsked, IsAnswered, IsAsked, IsCourse, last_line_time, lines_begun_from, first_line, first_stage, is_whole_line, later_line, lines_begun, most_lines, next_line, replied_after, replies_of, stage_after, stage_at, texts_of}
 use Rattle.consistency.specs.Times.{AreWhole}
 use Rattle.consistency.proofs.Pieces.{whole_append}
@@ -39,11 +39,11 @@ fold_more f s (x ∷ lines) (suc n) a at = fold_more f (f s x) lines n a at
 -- ---- stages
 
 -- The stage behind one line more.
-pub stage_then : (run : Run) (lines : List Answered) (n : ℕ) (a : Answered) → slice_get lines n ≡ Some a → stage_at run lines (suc n) ≡ stage_after (stage_at run lines n) a
+pub stage_then : (run : ScriptRun) (lines : List Answered) (n : ℕ) (a : Answered) → slice_get lines n ≡ Some a → stage_at run lines (suc n) ≡ stage_after (stage_at run lines n) a
 stage_then run lines n a at = fold_more stage_after (first_stage run) lines n a at
 
 -- Lines behind don't change the stages of those before.
-pub stage_front : (run : Run) (lines more : List Answered) (n : ℕ) → n ≤ length lines → stage_at run (lines ++ more) n ≡ stage_at run lines n
+pub stage_front : (run : ScriptRun) (lines more : List Answered) (n : ℕ) → n ≤ length lines → stage_at run (lines ++ more) n ≡ stage_at run lines n
 stage_front run lines more n within = ap (λ (l : List Answered). fold stage_after (first_stage run) l) (take-append-le n lines more within)
 
 -- Nor do they change the time of the last of them.
@@ -51,7 +51,7 @@ pub last_front : (lines more : List Answered) (n : ℕ) → n ≤ length lines �
 last_front lines more n within = ap (λ (l : List Answered). fold (λ (before : ℕ) (a : Answered). a.line.time.0) 0 l) (take-append-le n lines more within)
 
 -- The stage behind all lines and one more.
-pub stage_more : (run : Run) (lines : List Answered) (a : Answered) → stage_at run (lines ++ a ∷ []) (length (lines ++ a ∷ [])) ≡ stage_after (stage_at run lines (length lines)) a
+pub stage_more : (run : ScriptRun) (lines : List Answered) (a : Answered) → stage_at run (lines ++ a ∷ []) (length (lines ++ a ∷ [])) ≡ stage_after (stage_at run lines (length lines)) a
 stage_more run lines a =
     let one : length (lines ++ a ∷ []) ≡ suc (length lines) = omega (arith, length_push lines a) in
     ap (stage_at run (lines ++ a ∷ [])) one ∙ stage_then run (lines ++ a ∷ []) (length lines) a (last_at lines a) ∙ ap (λ (s : Stage). stage_after s a) (stage_front run lines (a ∷ []) (length lines) (omega arith))
@@ -67,7 +67,7 @@ replies_more lines a = flat_map-append (λ x. x.reply) lines (a ∷ []) ∙ ap (
 -- ---- courses
 
 -- One line more goes on with a course.
-pub course_more : (run : Run) (lines : List Answered) (a : Answered) → IsCourse run lines → IsAnswered run (stage_at run lines (length lines)) a → IsCourse run (lines ++ a ∷ [])
+pub course_more : (run : ScriptRun) (lines : List Answered) (a : Answered) → IsCourse run lines → IsAnswered run (stage_at run lines (length lines)) a → IsCourse run (lines ++ a ∷ [])
 course_more run lines a course answered n b at = elim (at_or_last lines a n b at) [
   | inl here ↦ let within : n ≤ length lines = omega (arith, slice_get_within lines n b here) in subst (λ (s : Stage). IsAnswered run s b) (sym (stage_front run lines (a ∷ []) n within)) (course n b here)
   | inr last ↦
@@ -102,7 +102,7 @@ replies_are_whole : (lines : List Answered) → ((n : ℕ) (a : Answered) → sl
 replies_are_whole [] whole = refl
 replies_are_whole (x ∷ lines) whole = whole_append x.reply (replies_of lines) (whole zero x refl) (replies_are_whole lines (λ n a at. whole (suc n) a at))
 
-pub replies_whole : (run : Run) (lines : List Answered) → IsCourse run lines → AreWhole (replies_of lines)
+pub replies_whole : (run : ScriptRun) (lines : List Answered) → IsCourse run lines → AreWhole (replies_of lines)
 replies_whole run lines course = replies_are_whole lines (λ n a at. reply_whole _ a.line a.reply (course n a at).is_reply)
 
 -- ---- the line that was heard
@@ -124,7 +124,7 @@ next_not_before answered before at_end text line is = whole (is_whole_line at_en
     whole false o is = absurd cc
 
 -- The stamp of a reply isn't behind the line that it answers, also where it is that of the session's end.
-pub replied_by_last : (run : Run) (script : List ℕ) (lines : List Answered) (n : ℕ) → AreAsked script lines → n ≤ length lines → (stage_at run lines n).replied ≤ last_line_time lines n
+pub replied_by_last : (run : ScriptRun) (script : List ℕ) (lines : List Answered) (n : ℕ) → AreAsked script lines → n ≤ length lines → (stage_at run lines n).replied ≤ last_line_time lines n
 replied_by_last run script lines zero are within = omega arith
 replied_by_last run script lines (suc n) are within = elim (slice_get_cases lines n).1 [
   | inl there ↦

@@ -18,7 +18,7 @@ use Rattle.row_changes.specs.Changes.RowChange.{Break, Hit, MarkedHit, Mature, R
 use Rattle.row_changes.specs.Spans.{hit_count, hits, is_hit_at}
 use Rattle.row_changes.proofs.Functions.{after_rows, row_after}
 use Rattle.xrc_command.specs.declared.line.Line.{Line}
-use Rattle.consistency.specs.Stages.{Run}
+use Rattle.consistency.specs.Stages.{ScriptRun}
 use Rattle.consistency.specs.Leads.{Point}
 use Rattle.consistency.specs.Ways.{IsCommanding, Leg, commanded_point, hits_stand}
 use Rattle.consistency.proofs.Hits.{no_other}
@@ -113,7 +113,7 @@ module _ (level : Level) (time : ℕ) where
           one.1 (inr (subst (λ (n : ℕ). 0 < hit_count n behind) one.0 (omega (arith, some, as_often))))
 
 -- Behind the command each row whose device the mark hit is suspended by its device.
-pub marked_rows_stand : (run : Run) (asked : Option Line) (l : Leg) (q : Point) (behind : List Timed) → l.point.is_ended ≡ false → IsCommanding run asked l q behind
+pub marked_rows_stand : (run : ScriptRun) (asked : Option Line) (l : Leg) (q : Point) (behind : List Timed) → l.point.is_ended ≡ false → IsCommanding run asked l q behind
     → All (λ r. 0 < hit_count r.device l.marked → r.state ≡ since ByDevice l.point.time) q.rows
 marked_rows_stand run asked l q behind goes commanding =
     let effect = commanding.active goes in

@@ -26,7 +26,7 @@ use Rattle.pair_table.proofs.FindLaws.{found_all}
 use Rattle.row_changes.specs.Changes.{RowChange, Timed, after_change, after_changes, hit_row, reached_row, row_after_change, since, suspended_by}
 use Rattle.row_changes.specs.Changes.RowChange.{Break, Hit, MarkedHit, Mature, Reached}
 use Rattle.xrc_command.specs.declared.line.Line.{Line}
-use Rattle.consistency.specs.Stages.{Run, Stage, breaks_of, names_of}
+use Rattle.consistency.specs.Stages.{ScriptRun, Stage, breaks_of, names_of}
 use Rattle.consistency.specs.Courses.{Answered, IsAnswered, IsCourse, stage_at}
 use Rattle.consistency.specs.Steps.{commanded, names_at, table_on_the_way}
 use Rattle.consistency.proofs.Lines.{stage_then}
@@ -97,7 +97,7 @@ filtered_serials keep (r ∷ rows) all =
     choose true here rest = and_from (has_row_serials r) (list_all has_row_serials (filter keep rows)) here rest
     choose false here rest = rest
 
-module _ (run : Run) (spoken : HasRunNames run) (rows : List PairRow) (all : list_all has_row_serials rows ≡ true) where
+module _ (run : ScriptRun) (spoken : HasRunNames run) (rows : List PairRow) (all : list_all has_row_serials rows ≡ true) where
   -- A pair that is added has names that the run speaks of.
   added_serials : (primary secondary : List ℕ) (o : Option PairRow) (v : Option NamedVolume) (l : Option NamedDevice) → primary_of primary (names_of run) ≡ v → label_in secondary run.labels ≡ l
       → list_all has_row_serials (add_to rows o (new_row_for secondary v l)) ≡ true
@@ -119,7 +119,7 @@ module _ (run : Run) (spoken : HasRunNames run) (rows : List PairRow) (all : lis
   command_serials time Query = all
   command_serials time End = all
 
-commanded_names : (run : Run) → HasRunNames run → (table : Table) (line : Line) → HasNames table → HasNames (commanded (breaks_of run) (names_of run) table line)
+commanded_names : (run : ScriptRun) → HasRunNames run → (table : Table) (line : Line) → HasNames table → HasNames (commanded (breaks_of run) (names_of run) table line)
 commanded_names run spoken table line names =
     let naming = names_at line.time.0 (breaks_of run) (names_of run) in
     choose (is_none (refusal naming table line.session line.command))
@@ -130,13 +130,13 @@ commanded_names run spoken table line names =
 
 -- ---- a course
 
-answered_names : (run : Run) → HasRunNames run → (s : Stage) (a : Answered) → HasNames s.table → IsAnswered run s a → HasNames a.table
+answered_names : (run : ScriptRun) → HasRunNames run → (s : Stage) (a : Answered) → HasNames s.table → IsAnswered run s a → HasNames a.table
 answered_names run spoken s a names answered =
     subst HasNames (sym answered.step.made)
     (names_on_the_way run.level a.hits (commanded (breaks_of run) (names_of run) (table_on_the_way run.level a.changes s.table) a.line)
     (commanded_names run spoken (table_on_the_way run.level a.changes s.table) a.line (names_on_the_way run.level a.changes s.table names)))
 
-pub course_has_names : (run : Run) (lines : List Answered) → HasRunNames run → IsCourse run lines → (n : ℕ) → n ≤ length lines → HasNames (stage_at run lines n).table
+pub course_has_names : (run : ScriptRun) (lines : List Answered) → HasRunNames run → IsCourse run lines → (n : ℕ) → n ≤ length lines → HasNames (stage_at run lines n).table
 course_has_names run lines spoken course zero within = record { named = spoken.named; serials = refl }
 course_has_names run lines spoken course (suc n) within =
     let one = found lines n (omega (arith, within)) in

@@ -7,7 +7,7 @@ use Rattle.std.proofs.lemmas.List.Elements.{All-cons, All-head, All-nil, All-tai
 use Rattle.pair_table.specs.Commands.{is_end}
 use Rattle.row_changes.specs.Changes.{Timed}
 use Rattle.xrc_command.specs.declared.line.Line.{Line}
-use Rattle.consistency.specs.Stages.{IsTime, Run, Stage, accepts, accepts_end, breaks_of}
+use Rattle.consistency.specs.Stages.{IsTime, ScriptRun, Stage, accepts, accepts_end, breaks_of}
 use Rattle.consistency.specs.Bearing.{MayBeMeant}
 use Rattle.consistency.specs.Leads.{Point, may_rest}
 use Rattle.passages.specs.Points.{AreLinked}
@@ -18,7 +18,7 @@ use Rattle.consistency.proofs.Leading.{leads_rise}
 use Rattle.consistency.proofs.Legs.{ends_alike, leg_goes_on, leg_may_be_meant}
 
 -- A leg comes to the next point on the way.
-pub leg_after_way : (run : Run) (s : Stage) (asked : ℕ → Option Line) (l : Leg) (n : PassedPoint) → IsLegOf run s l → is_on_the_way n ≡ true → ComesNext run asked l n → IsLegOf run s (leg_after l n)
+pub leg_after_way : (run : ScriptRun) (s : Stage) (asked : ℕ → Option Line) (l : Leg) (n : PassedPoint) → IsLegOf run s l → is_on_the_way n ≡ true → ComesNext run asked l n → IsLegOf run s (leg_after l n)
 leg_after_way run s asked l n leg on next = by_way n.way on next.0
   where
     by_way : (w : Way) → is_on_the_way (record n { way = w }) ≡ true → ComesBy run asked l n.point w → IsLegOf run s (leg_after l (record n { way = w }))
@@ -27,7 +27,7 @@ leg_after_way run s asked l n leg on next = by_way n.way on next.0
     by_way (Ending line behind) on way = absurd cc
     by_way (MarkedFor line behind) on way = absurd cc
 
-pub legs_go_on : (run : Run) (s : Stage) (asked : ℕ → Option Line) (l : Leg) (points : List PassedPoint) → IsLegOf run s l → list_all is_on_the_way points ≡ true → AreLinked (ComesNext run asked) leg_after l points → IsLegOf run s (fold leg_after l points)
+pub legs_go_on : (run : ScriptRun) (s : Stage) (asked : ℕ → Option Line) (l : Leg) (points : List PassedPoint) → IsLegOf run s l → list_all is_on_the_way points ≡ true → AreLinked (ComesNext run asked) leg_after l points → IsLegOf run s (fold leg_after l points)
 legs_go_on run s asked l [] leg on linked = leg
 legs_go_on run s asked l (n ∷ points) leg on linked =
     let parts = and_parts (is_on_the_way n) (list_all is_on_the_way points) on in
@@ -36,7 +36,7 @@ legs_go_on run s asked l (n ∷ points) leg on linked =
 -- ---- times
 
 -- Times don't fall from a leg to the next point, nor to the leg behind it.
-next_rises : (run : Run) (asked : ℕ → Option Line) (l : Leg) (q : Point) (w : Way) → ComesBy run asked l q w → (l.point.time ≤ q.time) × (l.point.time ≤ (leg_by l q w).point.time)
+next_rises : (run : ScriptRun) (asked : ℕ → Option Line) (l : Leg) (q : Point) (w : Way) → ComesBy run asked l q w → (l.point.time ≤ q.time) × (l.point.time ≤ (leg_by l q w).point.time)
 next_rises run asked l q (OnTheWay changes) way = (leads_rise run.level (breaks_of run) l.point q changes way.1.leads, leads_rise run.level (breaks_of run) l.point q changes way.1.leads)
 next_rises run asked l q (Commanded line behind) way = by_end l.point.is_ended refl
   where
@@ -46,7 +46,7 @@ next_rises run asked l q (Commanded line behind) way = by_end l.point.is_ended r
 next_rises run asked l q (Ending line behind) way = (omega (arith, way.1.leads.at), omega (arith, way.1.leads.at))
 next_rises run asked l q (MarkedFor line behind) way = (omega (arith, way.2.leads.at), omega arith)
 
-pub points_rise : (run : Run) (asked : ℕ → Option Line) (l : Leg) (points : List PassedPoint) → AreLinked (ComesNext run asked) leg_after l points → All (λ n. l.point.time ≤ n.point.time) points
+pub points_rise : (run : ScriptRun) (asked : ℕ → Option Line) (l : Leg) (points : List PassedPoint) → AreLinked (ComesNext run asked) leg_after l points → All (λ n. l.point.time ≤ n.point.time) points
 points_rise run asked l [] linked = All-nil (λ (n : PassedPoint). l.point.time ≤ n.point.time)
 points_rise run asked l (n ∷ points) linked =
     let here = next_rises run asked l n.point n.way linked.0.0 in
@@ -68,7 +68,7 @@ point_after l n on = by_way n.way on
     by_way (MarkedFor line behind) on = absurd cc
 
 -- Each point on the way to the time of the next line may be meant.
-pub ways_may_be_meant : (run : Run) (s : Stage) (asked : ℕ → Option Line) (line : Line) (l : Leg) (points : List PassedPoint) → s.table.is_ended ≡ false → s.next ≡ Some line → IsLegOf run s l
+pub ways_may_be_meant : (run : ScriptRun) (s : Stage) (asked : ℕ → Option Line) (line : Line) (l : Leg) (points : List PassedPoint) → s.table.is_ended ≡ false → s.next ≡ Some line → IsLegOf run s l
     → list_all is_on_the_way points ≡ true → AreLinked (ComesNext run asked) leg_after l points → All (λ n. (n.point.time ≤ line.time.0) × (may_rest true n.point ≡ true)) points
     → All (λ n. MayBeMeant run s n.point) points
 ways_may_be_meant run s asked line l [] goes heard leg on linked each = All-nil (λ (n : PassedPoint). MayBeMeant run s n.point)
@@ -106,7 +106,7 @@ ways_may_be_meant run s asked line l (n ∷ points) goes heard leg on linked eac
 
 -- ---- a mark that a command's record needs
 
-marks_next : (run : Run) (asked : ℕ → Option Line) (l : Leg) (q r : Point) (line : ℕ) (marked : List Timed) (w : Way) → line ≡ l.answered → ¬ (marked ≡ []) → ComesBy run asked (leg_by l q (MarkedFor line marked)) r w
+marks_next : (run : ScriptRun) (asked : ℕ → Option Line) (l : Leg) (q r : Point) (line : ℕ) (marked : List Timed) (w : Way) → line ≡ l.answered → ¬ (marked ≡ []) → ComesBy run asked (leg_by l q (MarkedFor line marked)) r w
     → (more : List Timed) × (w ≡ Commanded line more)
 marks_next run asked l q r line marked (OnTheWay changes) number some way = absurd (some way.0.none_marked)
 marks_next run asked l q r line marked (MarkedFor other hits) number some way = absurd (some way.1.none_marked)
@@ -114,7 +114,7 @@ marks_next run asked l q r line marked (Commanded other more) number some way = 
 marks_next run asked l q r line marked (Ending other hits) number some way = absurd (some way.0.none_marked)
 
 -- Behind such a mark comes its command.
-pub marks_are_commanded : (run : Run) (asked : ℕ → Option Line) (l : Leg) (n m : PassedPoint) (line : ℕ) (marked : List Timed) → n.way ≡ MarkedFor line marked → ComesNext run asked l n → ComesNext run asked (leg_after l n) m
+pub marks_are_commanded : (run : ScriptRun) (asked : ℕ → Option Line) (l : Leg) (n m : PassedPoint) (line : ℕ) (marked : List Timed) → n.way ≡ MarkedFor line marked → ComesNext run asked l n → ComesNext run asked (leg_after l n) m
     → (more : List Timed) × (m.way ≡ Commanded line more)
 marks_are_commanded run asked l n m line marked is next then =
     let come = subst (λ (w : Way). ComesBy run asked l n.point w) is next.0 in
@@ -124,7 +124,7 @@ marks_are_commanded run asked l n m line marked is next then =
 -- ---- the end
 
 -- An ended session accepts no end.
-never_twice_ended : (run : Run) (p : Point) (o : Option Line) → p.is_ended ≡ true → accepts_end run (table_at run p) o ≡ true → ⊥
+never_twice_ended : (run : ScriptRun) (p : Point) (o : Option Line) → p.is_ended ≡ true → accepts_end run (table_at run p) o ≡ true → ⊥
 never_twice_ended run p o ended accepted = never o (subst (λ (e : Bool). accepts_end run (table_at run (record p { is_ended = e })) o ≡ true) ended accepted)
   where
     never : (o : Option Line) → accepts_end run (table_at run (record p { is_ended = true })) o ≡ true → ⊥
@@ -140,13 +140,13 @@ differ true on off = cc
 differ false on off = cc
 
 -- Behind a point at which the session has ended comes the same point.
-ended_next : (run : Run) (asked : ℕ → Option Line) (l : Leg) (q : Point) (w : Way) → l.point.is_ended ≡ true → ComesBy run asked l q w → (q ≡ l.point) × ((leg_by l q w).point ≡ l.point)
+ended_next : (run : ScriptRun) (asked : ℕ → Option Line) (l : Leg) (q : Point) (w : Way) → l.point.is_ended ≡ true → ComesBy run asked l q w → (q ≡ l.point) × ((leg_by l q w).point ≡ l.point)
 ended_next run asked l q (OnTheWay changes) ended way = absurd (true≢false (sym ended ∙ way.0.goes_on))
 ended_next run asked l q (MarkedFor line behind) ended way = absurd (true≢false (sym ended ∙ way.1.goes_on))
 ended_next run asked l q (Commanded line behind) ended way = ((way.2.ended ended).0, (way.2.ended ended).0)
 ended_next run asked l q (Ending line behind) ended way = absurd (never_twice_ended run l.point (asked line) ended way.1.accepted)
 
-pub ended_points_stay : (run : Run) (asked : ℕ → Option Line) (l : Leg) (points : List PassedPoint) → l.point.is_ended ≡ true → AreLinked (ComesNext run asked) leg_after l points → All (λ n. n.point ≡ l.point) points
+pub ended_points_stay : (run : ScriptRun) (asked : ℕ → Option Line) (l : Leg) (points : List PassedPoint) → l.point.is_ended ≡ true → AreLinked (ComesNext run asked) leg_after l points → All (λ n. n.point ≡ l.point) points
 ended_points_stay run asked l [] ended linked = All-nil (λ (n : PassedPoint). n.point ≡ l.point)
 ended_points_stay run asked l (n ∷ points) ended linked =
     let here = ended_next run asked l n.point n.way ended linked.0.0 in
@@ -154,14 +154,14 @@ ended_points_stay run asked l (n ∷ points) ended linked =
     (All-weaker (λ m. m.point ≡ (leg_after l n).point) (λ m. m.point ≡ l.point) (λ m same. same ∙ here.1) points (ended_points_stay run asked (leg_after l n) points (ap (λ (p : Point). p.is_ended) here.1 ∙ ended) linked.1))
 
 -- Behind the command of an accepted end only its ending point comes.
-ends_next : (run : Run) (asked : ℕ → Option Line) (l : Leg) (q r : Point) (line : ℕ) (behind : List Timed) (w : Way) → line ≡ l.answered → accepts_end run (table_at run q) (asked line) ≡ true → ComesBy run asked (leg_by l q (Commanded line behind)) r w
+ends_next : (run : ScriptRun) (asked : ℕ → Option Line) (l : Leg) (q r : Point) (line : ℕ) (behind : List Timed) (w : Way) → line ≡ l.answered → accepts_end run (table_at run q) (asked line) ≡ true → ComesBy run asked (leg_by l q (Commanded line behind)) r w
     → (more : List Timed) × (w ≡ Ending line more)
 ends_next run asked l q r line behind (OnTheWay changes) number accepted way = absurd (differ (accepts_end run (table_at run q) (asked line)) accepted (subst (λ (n : ℕ). accepts_end run (table_at run q) (asked n) ≡ false) (sym number) way.0.not_ending))
 ends_next run asked l q r line behind (MarkedFor other hits) number accepted way = absurd (differ (accepts_end run (table_at run q) (asked line)) accepted (subst (λ (n : ℕ). accepts_end run (table_at run q) (asked n) ≡ false) (sym number) way.1.not_ending))
 ends_next run asked l q r line behind (Commanded other hits) number accepted way = absurd (differ (accepts_end run (table_at run q) (asked line)) accepted (subst (λ (n : ℕ). accepts_end run (table_at run q) (asked n) ≡ false) (sym number) way.1))
 ends_next run asked l q r line behind (Ending other more) number accepted way = (more, ap (λ (n : ℕ). Ending n more) (omega (arith, number, way.0.last)))
 
-pub ends_are_ended : (run : Run) (asked : ℕ → Option Line) (l : Leg) (n m : PassedPoint) (line : ℕ) (behind : List Timed) → n.way ≡ Commanded line behind → ComesNext run asked l n → accepts_end run (table_at run n.point) (asked line) ≡ true
+pub ends_are_ended : (run : ScriptRun) (asked : ℕ → Option Line) (l : Leg) (n m : PassedPoint) (line : ℕ) (behind : List Timed) → n.way ≡ Commanded line behind → ComesNext run asked l n → accepts_end run (table_at run n.point) (asked line) ≡ true
     → ComesNext run asked (leg_after l n) m → (more : List Timed) × (m.way ≡ Ending line more)
 ends_are_ended run asked l n m line behind is next accepted then =
     let come = subst (λ (w : Way). ComesBy run asked l n.point w) is next.0 in
@@ -169,7 +169,7 @@ ends_are_ended run asked l n m line behind is next accepted then =
     ends_next run asked l n.point m.point line behind m.way come.0 accepted after
 
 -- Before an ending point comes the command of its line.
-ends_before : (run : Run) (asked : ℕ → Option Line) (l : Leg) (q r : Point) (w : Way) (line : ℕ) (more : List Timed) → ComesBy run asked l q w → ComesBy run asked (leg_by l q w) r (Ending line more) → (behind : List Timed) × (w ≡ Commanded line behind)
+ends_before : (run : ScriptRun) (asked : ℕ → Option Line) (l : Leg) (q r : Point) (w : Way) (line : ℕ) (more : List Timed) → ComesBy run asked l q w → ComesBy run asked (leg_by l q w) r (Ending line more) → (behind : List Timed) × (w ≡ Commanded line behind)
 ends_before run asked l q r (OnTheWay changes) line more way ending =
     absurd (differ (accepts_end run (table_at run l.point) (asked line)) (ends_alike run q l.point (asked line) way.1.leads.goes_on ending.1.accepted)
     (subst (λ (n : ℕ). accepts_end run (table_at run l.point) (last_answered asked n) ≡ false) ending.0.last way.0.not_ending))
@@ -178,6 +178,6 @@ ends_before run asked l q r (MarkedFor other hits) line more way ending =
 ends_before run asked l q r (Commanded other behind) line more way ending = (behind, ap (λ (n : ℕ). Commanded n behind) (omega (arith, way.0, ending.0.last)))
 ends_before run asked l q r (Ending other hits) line more way ending = absurd (never_twice_ended run q (asked line) way.1.ended ending.1.accepted)
 
-pub ends_are_commanded : (run : Run) (asked : ℕ → Option Line) (l : Leg) (n m : PassedPoint) (line : ℕ) (more : List Timed) → ComesNext run asked l n → m.way ≡ Ending line more → ComesNext run asked (leg_after l n) m
+pub ends_are_commanded : (run : ScriptRun) (asked : ℕ → Option Line) (l : Leg) (n m : PassedPoint) (line : ℕ) (more : List Timed) → ComesNext run asked l n → m.way ≡ Ending line more → ComesNext run asked (leg_after l n) m
     → (behind : List Timed) × (n.way ≡ Commanded line behind)
 ends_are_commanded run asked l n m line more next is then = ends_before run asked l n.point m.point n.way line more next.0 (subst (λ (w : Way). ComesBy run asked (leg_after l n) m.point w) is then.0)

@@ -17,7 +17,7 @@ use Rattle.site_means.specs.declared.means.Means.{Means}
 use Rattle.site_means.specs.Images.{shape_of}
 use Rattle.tod_stamp.specs.declared.stamp.Stamp.{Stamp}
 use Rattle.tod_stamp.specs.declared.limits.TheConstants.{TRACKS_OF_CYLINDER}
-use Rattle.consistency.specs.Stages.{Run, names_of, tracks_of_row}
+use Rattle.consistency.specs.Stages.{ScriptRun, names_of, tracks_of_row}
 use Rattle.consistency.specs.Bearing.{ShowsPoint}
 use Rattle.consistency.specs.PointLaws.{IsWalked}
 use Rattle.consistency.specs.Leads.{Point}
@@ -27,10 +27,10 @@ use Rattle.consistency.specs.Ways.{PassedPoint, Way}
 use Rattle.passages.proofs.Since.{WasSince, moments_tell, points_tell}
 
 -- What a choice that shows a point means of a pair is what the point has.
-meant_is : (run : Run) (plant : PlantState) (row : PairRow) (state : PairState) (p : Point) (c : Choice) → ShowsPoint run (shape_of plant) p c → is_meant_in row state plant c ≡ has_pair_in row state p.rows
+meant_is : (run : ScriptRun) (plant : PlantState) (row : PairRow) (state : PairState) (p : Point) (c : Choice) → ShowsPoint run (shape_of plant) p c → is_meant_in row state plant c ≡ has_pair_in row state p.rows
 meant_is run plant row state p c shows = ap (λ (o : Option Means). elim o [ None ↦ false | Some means ↦ has_pair_in row state means.table.rows ]) shows.defined ∙ ap (has_pair_in row state) shows.rows
 
-module _ (run : Run) (plant : PlantState) (row : PairRow) (from to : ℕ) (first : Point) (points : List PassedPoint) (walked : IsWalked run plant from to first points) where
+module _ (run : ScriptRun) (plant : PlantState) (row : PairRow) (from to : ℕ) (first : Point) (points : List PassedPoint) (walked : IsWalked run plant from to first points) where
   abbrev was : Point → Bool
   was p = has_pair_in row Duplex p.rows
 
@@ -98,10 +98,10 @@ count_all : (test : ℕ → Bool) (xs : List ℕ) → ((x : ℕ) → test x ≡ 
 count_all test [] each = refl
 count_all test (x ∷ xs) each = omega (arith, sum_by-cons (λ y. cond (test y) 1 0) x xs, ap {B = ℕ} (λ (b : Bool). cond b 1 0) (each x), count_all test xs each)
 
-owed_all : (run : Run) (row : PairRow) (first : Point) (points : List PassedPoint) (time : ℕ) → ((x : ℕ) → owes_track run first points row time x ≡ true) → tracks_owed run first points row time ≡ tracks_of_row row
+owed_all : (run : ScriptRun) (row : PairRow) (first : Point) (points : List PassedPoint) (time : ℕ) → ((x : ℕ) → owes_track run first points row time x ≡ true) → tracks_owed run first points row time ≡ tracks_of_row row
 owed_all run row first points time each = count_all (owes_track run first points row time) (range_with_len 0 (tracks_of_row row)) each ∙ length-range_with_len 0 (tracks_of_row row)
 
-pub others_owe_all : (run : Run) (row : PairRow) (first : Point) (points : List PassedPoint) (time : ℕ) → is_suspended row.state ≡ false → tracks_owed run first points row time ≡ tracks_of_row row
+pub others_owe_all : (run : ScriptRun) (row : PairRow) (first : Point) (points : List PassedPoint) (time : ℕ) → is_suspended row.state ≡ false → tracks_owed run first points row time ≡ tracks_of_row row
 others_owe_all run row first points time not_suspended = owed_all run row first points time (λ x. by_state row.state x not_suspended)
   where
     by_state : (state : PairState) (x : ℕ) → is_suspended state ≡ false → owes_in run (was_duplex row first points) row state time x ≡ true
@@ -110,7 +110,7 @@ others_owe_all run row first points time not_suspended = owed_all run row first 
     by_state Duplex x is = refl
     by_state (Suspended cause since) x is = absurd cc
 
-pub never_duplex_owes_all : (run : Run) (row : PairRow) (first : Point) (points : List PassedPoint) (time : ℕ) → was_duplex row first points ≡ false → tracks_owed run first points row time ≡ tracks_of_row row
+pub never_duplex_owes_all : (run : ScriptRun) (row : PairRow) (first : Point) (points : List PassedPoint) (time : ℕ) → was_duplex row first points ≡ false → tracks_owed run first points row time ≡ tracks_of_row row
 never_duplex_owes_all run row first points time never = owed_all run row first points time (λ x. ap (λ (b : Bool). owes_in run b row row.state time x) never ∙ by_state row.state x)
   where
     by_cause : (a c : Bool) → (a || true || c) ≡ true
@@ -124,7 +124,7 @@ never_duplex_owes_all run row first points time never = owed_all run row first p
     by_state (Suspended cause since) x = by_cause (is_by_device cause) (is_changed run row.control row.volume since.0 time x)
 
 -- A pair that is added again asks for the tracks written since its suspension.
-pub asks_for_changes : (run : Run) (row : PairRow) (cause : SuspendCause) (since : Stamp) (first : Point) (points : List PassedPoint) (rows : List PairRow) (primary : List ℕ) (time : ℕ)
+pub asks_for_changes : (run : ScriptRun) (row : PairRow) (cause : SuspendCause) (since : Stamp) (first : Point) (points : List PassedPoint) (rows : List PairRow) (primary : List ℕ) (time : ℕ)
     → row_of_primary primary rows ≡ Some row → row.state ≡ Suspended cause since → is_by_device cause ≡ false → was_duplex row first points ≡ true
     → tracks_asked run first points rows primary time ≡ count_by (is_changed run row.control row.volume since.0 time) (range_with_len 0 (tracks_of_row row))
 asks_for_changes run row cause since first points rows primary time there is other been =

@@ -14,7 +14,7 @@ use Rattle.pair_table.specs.declared.command.Refusal.{Refusal}
 use Rattle.pair_table.specs.declared.command.Refusal.TheVariants.{NoSession, SessionExists, NoPrimary, NoSecondary, SecondaryInUse, AlreadyPaired, TooSmall, OtherSecondary, NotPaired, Ended, ControlBroken}
 use Rattle.xquery_report.specs.Replies.{refusal_name, refusal_number}
 use Rattle.xrc_command.specs.declared.line.Line.{Line}
-use Rattle.consistency.specs.Stages.{Run, Stage}
+use Rattle.consistency.specs.Stages.{ScriptRun, Stage}
 use Rattle.consistency.specs.Courses.{Answered}
 use Rattle.consistency.specs.Replies.{answer_word, command_word}
 use Rattle.consistency.specs.Steps.{table_on_the_way}
@@ -295,7 +295,7 @@ last_same (v ∷ []) [] x y same = absurd cc
 last_same (v ∷ w ∷ xs) [] x y same = absurd cc
 last_same (v ∷ xs) (w ∷ ys) x y same = last_same xs ys x y (tail_same v w (xs ++ x ∷ []) (ys ++ y ∷ []) same)
 
-module _ (run other : Run) (s t : Stage) (first start : Point) (points passed : List PassedPoint) (number place : ℕ) (a b : Answered) (names : HasNames s.table) (named : HasNames t.table) where
+module _ (run other : ScriptRun) (s t : Stage) (first start : Point) (points passed : List PassedPoint) (number place : ℕ) (a b : Answered) (names : HasNames s.table) (named : HasNames t.table) where
   abbrev x : ReplyContent
   x = reply_content run s first points number a
 

@@ -20,7 +20,7 @@ use Rattle.row_changes.specs.Spans.{AreCounted}
 use Rattle.xquery_report.specs.Replies.{answer_part, command_part, refusal_name, refusal_number, refusal_part, reply_line, told_part, tracks_part, value_part}
 use Rattle.xquery_report.specs.Reports.{report_text}
 use Rattle.xrc_command.specs.declared.line.Line.{Line}
-use Rattle.consistency.specs.Stages.{Run, Stage, accepts}
+use Rattle.consistency.specs.Stages.{ScriptRun, Stage, accepts}
 use Rattle.consistency.specs.Courses.{Answered, IsAnswered, replied_after}
 use Rattle.consistency.specs.Moments.{AreUpTo}
 use Rattle.consistency.specs.Replies.{IsReply, answer_word, command_word}
@@ -208,7 +208,7 @@ module _ (time : ℕ) (command : Command) (answer : Result Change Refusal) (trac
 
 -- ---- exact replies
 
-module _ (run : Run) (s : Stage) (first : Point) (points : List PassedPoint) (number : ℕ) (a : Answered) (names : HasNames s.table) where
+module _ (run : ScriptRun) (s : Stage) (first : Point) (points : List PassedPoint) (number : ℕ) (a : Answered) (names : HasNames s.table) where
   abbrev table : Table
   table = table_on_the_way run.level a.changes s.table
 
@@ -287,7 +287,7 @@ module _ (run : Run) (s : Stage) (first : Point) (points : List PassedPoint) (nu
       (All-append (λ z. z ≤ latest) (if is_reported run table a.line then a.line.time.0 ∷ [] else []) (if a.table.is_started then latest ∷ [] else []) (report_time (is_reported run table a.line) refl) (told_time a.table.is_started))
 
 -- The reply to an accepted query begins with its report.
-pub report_first : (run : Run) (s : Stage) (first : Point) (points : List PassedPoint) (number : ℕ) (a : Answered) → (let table = table_on_the_way run.level a.changes s.table in
+pub report_first : (run : ScriptRun) (s : Stage) (first : Point) (points : List PassedPoint) (number : ℕ) (a : Answered) → (let table = table_on_the_way run.level a.changes s.table in
     a.line.command ≡ Query → accepts run table a.line ≡ true → IsExact run s first points number a → (own : List ℕ) × (a.reply ≡ report_text table run.level a.line.time.0 (map (cause_at a.line.time.0) run.traces) ++ own))
 report_first run s first points number a query accepted exact =
     let content = reply_content run s first points number a in
@@ -297,14 +297,14 @@ report_first run s first points number a query accepted exact =
 
 -- ---- lines that are answered
 
-module _ (run : Run) (s : Stage) (goes : s.table.is_ended ≡ false) (l : Leg) (leg : IsLegOf run s l) (q : Point) (hits : List Timed) (c : IsCommanding run s.next l q hits) (text reply : List ℕ) (first : Point) (points : List PassedPoint) (number : ℕ) (names : HasNames s.table) where
+module _ (run : ScriptRun) (s : Stage) (goes : s.table.is_ended ≡ false) (l : Leg) (leg : IsLegOf run s l) (q : Point) (hits : List Timed) (c : IsCommanding run s.next l q hits) (text reply : List ℕ) (first : Point) (points : List PassedPoint) (number : ℕ) (names : HasNames s.table) where
   pub command_exactly : AreCounted run.rises (s.past ++ l.changes ++ hits) → IsExact run s first points number (answered_by run s text reply c.line l.changes hits) → IsAnswered run s (answered_by run s text reply c.line l.changes hits)
   command_exactly counted exact =
       command_is_answered run s goes l leg q hits c text reply counted
       (subst (λ (x : Table). IsReply (accepts run x c.line) c.line reply) (sym (table_there run s goes l leg c.line q hits (c.active (leg_goes run s goes l leg))))
       (exact_is_reply run s first points number (answered_by run s text reply c.line l.changes hits) names exact))
 
-pub inactive_exactly : (run : Run) (s : Stage) (text reply : List ℕ) (line : Line) (first : Point) (points : List PassedPoint) (number : ℕ) → is_active s.table ≡ false → AreCounted run.rises s.past
+pub inactive_exactly : (run : ScriptRun) (s : Stage) (text reply : List ℕ) (line : Line) (first : Point) (points : List PassedPoint) (number : ℕ) → is_active s.table ≡ false → AreCounted run.rises s.past
     → ((level : Level) → line.command ≡ Start level → accepts run s.table line ≡ true → level ≡ run.level) → HasNames s.table → IsExact run s first points number (answered_by run s text reply line [] [])
     → IsAnswered run s (answered_by run s text reply line [] [])
 inactive_exactly run s text reply line first points number off counted level names exact =

@@ -9,13 +9,13 @@ use Rattle.crash_plant.specs.Moments.{PlantState}
 use Rattle.site_means.specs.Images.{Images, Shape, shape_of}
 use Rattle.xrc_command.specs.declared.line.Line.{Line}
 use Rattle.consistency.specs.Bearing.{Bears}
-use Rattle.consistency.specs.Stages.{AreAfterLine, AreOnTheWay, IsFlag, IsTime, Run, Stage, breaks_of}
+use Rattle.consistency.specs.Stages.{AreAfterLine, AreOnTheWay, IsFlag, IsTime, ScriptRun, Stage, breaks_of}
 use Rattle.consistency.specs.Moments.{BearsTime}
 
 -- ---- a line is heard
 
 -- Where no line was heard the time is the one that was replied.
-pub exact_time : (run : Run) (s : Stage) (shape : Shape) (images : Images) (time : ℕ) → s.next ≡ None → Bears run s shape images time → time ≡ s.replied
+pub exact_time : (run : ScriptRun) (s : Stage) (shape : Shape) (images : Images) (time : ℕ) → s.next ≡ None → Bears run s shape images time → time ≡ s.replied
 exact_time run s shape images time none b = sym b.at ∙ exact s.next none b.may.in_time
   where
     exact : (n : Option Line) → n ≡ None → IsTime (record s { next = n }) b.point.time → b.point.time ≡ s.replied
@@ -23,7 +23,7 @@ exact_time run s shape images time none b = sym b.at ∙ exact s.next none b.may
     exact (Some line) is t = absurd cc
 
 -- What is borne where no line was heard is borne with any line that isn't before the last reply.
-pub bears_heard : (run : Run) (s : Stage) (heard : Option Line) (shape : Shape) (images : Images) (time : ℕ) → s.next ≡ None → ((line : Line) → heard ≡ Some line → s.replied ≤ line.time.0) → Bears run s shape images time
+pub bears_heard : (run : ScriptRun) (s : Stage) (heard : Option Line) (shape : Shape) (images : Images) (time : ℕ) → s.next ≡ None → ((line : Line) → heard ≡ Some line → s.replied ≤ line.time.0) → Bears run s shape images time
     → Bears run (record s { next = heard }) shape images time
 bears_heard run s heard shape images time none later b = record {
   point = b.point;
@@ -74,6 +74,6 @@ bears_heard run s heard shape images time none later b = record {
         differ None line is heard = cc
         differ (Some l) line is heard = cc
 
-pub bears_time_heard : (run : Run) (s : Stage) (heard : Option Line) (said : List ℕ) (plant : PlantState) (c : Choice) → s.next ≡ None → ((line : Line) → heard ≡ Some line → s.replied ≤ line.time.0) → BearsTime run s said plant c
+pub bears_time_heard : (run : ScriptRun) (s : Stage) (heard : Option Line) (said : List ℕ) (plant : PlantState) (c : Choice) → s.next ≡ None → ((line : Line) → heard ≡ Some line → s.replied ≤ line.time.0) → BearsTime run s said plant c
     → BearsTime run (record s { next = heard }) said plant c
 bears_time_heard run s heard said plant c none later b = record { time = b.time; bears = bears_heard run s heard (shape_of plant) c b.time none later b.bears; not_earlier = b.not_earlier }

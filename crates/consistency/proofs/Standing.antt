@@ -11,7 +11,7 @@ use Rattle.site_means.specs.Images.{Shape}
 use Rattle.site_means.specs.Sight.{means_in, means_of}
 use Rattle.site_means.proofs.Goes.{shape_same}
 use Rattle.consistency.specs.Bearing.{Bears}
-use Rattle.consistency.specs.Stages.{Run, Stage}
+use Rattle.consistency.specs.Stages.{ScriptRun, Stage}
 use Rattle.consistency.specs.Courses.{Answered, StandsAt, first_stage, lines_begun, next_line, replies_of, stage_after, stage_there, texts_of}
 use Rattle.consistency.specs.Keeping.{stage_now}
 use Rattle.consistency.specs.Moments.{AllMeanTable, BearsTime, MeansTable, MomentBears}
@@ -21,7 +21,7 @@ use Rattle.consistency.proofs.Lines.{at_or_last, last_front, stage_front}
 -- ---- plants of one shape
 
 -- What a choice of one plant bears, or means, it bears and means in another with the same numbers and lengths.
-abbrev pub bears_on : (run : Run) (s : Stage) (said : List ℕ) (old new : PlantState) (c : Choice) → SameSite old new → BearsTime run s said old c → BearsTime run s said new c
+abbrev pub bears_on : (run : ScriptRun) (s : Stage) (said : List ℕ) (old new : PlantState) (c : Choice) → SameSite old new → BearsTime run s said old c → BearsTime run s said new c
 bears_on run s said old new c site b = record { time = b.time; bears = subst (λ (shape : Shape). Bears run s shape c b.time) (sym (shape_same old new site)) b.bears; not_earlier = b.not_earlier }
 
 pub means_on : (old new : PlantState) (c : Choice) (m : Means) → SameSite old new → means_of old c ≡ Some m → means_of new c ≡ Some m
@@ -35,7 +35,7 @@ console_choice tells told old new t c works from to is d part =
 
 -- ---- a moment stays
 
-module _ (run : Run) (lines : List Answered) (old mid new : PlantState) (up : 0 < mid.clock) (site : SameSite mid new) (elapses : Elapses mid new) where
+module _ (run : ScriptRun) (lines : List Answered) (old mid new : PlantState) (up : 0 < mid.clock) (site : SameSite mid new) (elapses : Elapses mid new) where
   -- A moment of the past bears still, since the past doesn't change.
   abbrev pub moment_still : (t : ℕ) → t ≤ mid.clock → MomentBears run lines old mid t → MomentBears run lines old new t
   moment_still t le m = record {
@@ -74,7 +74,7 @@ stands_longer lines heard said a some at unsaid =
       one_line = at.one_line;
     }
 
-module _ (run : Run) (lines : List Answered) (a : Answered) (some : 0 < length a.reply) (old new : PlantState) where
+module _ (run : ScriptRun) (lines : List Answered) (a : Answered) (some : 0 < length a.reply) (old new : PlantState) where
   -- It is the same stage.
   pub stage_longer : (heard said : List ℕ) (at : StandsAt lines heard said) (unsaid : at.answered ≡ length lines → at.part ≡ []) → stage_there run old.script (stands_longer lines heard said a some at unsaid) ≡ stage_there run old.script at
   stage_longer heard said at unsaid =
@@ -129,7 +129,7 @@ stands_behind all lines text part front may one = record {
   one_line = one;
 }
 
-module _ (run : Run) (all lines : List Answered) (text part : List ℕ) (front : IsFront lines all) (may : MayBePart lines all part) (one : lines_begun text ≤ 1) (old new : PlantState) where
+module _ (run : ScriptRun) (all lines : List Answered) (text part : List ℕ) (front : IsFront lines all) (may : MayBePart lines all part) (one : lines_begun text ≤ 1) (old new : PlantState) where
   -- The stage there is that of the lines and the text.
   pub stage_behind : stage_there run old.script (stands_behind all lines text part front may one) ≡ stage_now run old.script lines text
   stage_behind =

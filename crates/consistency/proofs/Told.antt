@@ -5,7 +5,7 @@ use Rattle.crash_plant.specs.Choices.{Choice, IsChoice}
 use Rattle.crash_plant.specs.Moments.{PlantState}
 use Rattle.site_means.specs.Images.{shape_of}
 use Rattle.xrc_command.specs.declared.line.Line.{Line}
-use Rattle.consistency.specs.Stages.{Run}
+use Rattle.consistency.specs.Stages.{ScriptRun}
 use Rattle.consistency.specs.Answering.{is_command_of, points_before}
 use Rattle.consistency.specs.Bearing.{GoesThroughPoints, ShowsPoint}
 use Rattle.consistency.specs.Pauses.{HasPassed}
@@ -14,7 +14,7 @@ use Rattle.consistency.specs.Leads.{Point}
 use Rattle.passages.specs.Points.{Throughout}
 use Rattle.consistency.specs.Ways.{Leg, PassedPoint}
 
-module _ (run : Run) (plant : PlantState) where
+module _ (run : ScriptRun) (plant : PlantState) where
   -- The first points up to the command of a line are passed, up to a moment at which the last of them is shown.
   abbrev PassedUpTo : (from : ℕ) → Point → List PassedPoint → (to : ℕ) → Type 0
   PassedUpTo from p points to = (mid : ℕ) × (from ≤ mid) × (mid ≤ to) × GoesThroughPoints run plant from p points mid None
@@ -28,7 +28,7 @@ module _ (run : Run) (plant : PlantState) where
       by_way false rest = (rest.0, omega (arith, goes.0, rest.1), rest.2, (goes.0, goes.1, goes.2, rest.3))
 
 -- The points that a reply tells of are a way of the devices.
-pub told_points_are_walked : (plant : PlantState) (run : Run) (asked : ℕ → Option Line) (first : Leg) (points : List PassedPoint) (number by : ℕ) (passed : HasPassed run asked first points plant by)
+pub told_points_are_walked : (plant : PlantState) (run : ScriptRun) (asked : ℕ → Option Line) (first : Leg) (points : List PassedPoint) (number by : ℕ) (passed : HasPassed run asked first points plant by)
     → ((t : ℕ) → passed.from ≤ t → t ≤ by → (c : Choice) × IsChoice plant t c) → (to : ℕ) × (to ≤ by) × IsWalked run plant passed.from to first.point (points_before number points)
 told_points_are_walked plant run asked first points number by passed some =
     let front = front_passed run plant number passed.from by first.point points here passed.goes in

@@ -13,7 +13,7 @@ use Rattle.row_changes.specs.Changes.Due.{NoneDue}
 use Rattle.row_changes.specs.Changes.RowChange.{Break, Hit, MarkedHit, Mature, Reached}
 use Rattle.row_changes.specs.Spans.{has_no_hit, hit_count, hits, is_break, is_hit_at, is_maturing, next_row}
 use Rattle.row_changes.proofs.Functions.{rows_determined}
-use Rattle.consistency.specs.Stages.{Run, Stage, breaks_of, names_of}
+use Rattle.consistency.specs.Stages.{ScriptRun, Stage, breaks_of, names_of}
 use Rattle.consistency.specs.Courses.{Answered, IsAnswered, IsCourse, first_stage, stage_after, stage_at}
 use Rattle.consistency.specs.Steps.{IsCommanded, commanded, is_active, table_on_the_way}
 use Rattle.consistency.proofs.Lines.{same_some, stage_then}
@@ -82,7 +82,7 @@ no_hits time (t ∷ changes) are plain = absurd (by_change t.change (and_parts (
 
 -- ---- one line
 
-module _ (run : Run) (s : Stage) (a : Answered) (answered : IsAnswered run s a) (never : (device : ℕ) → run.rises device ≡ 0) (apart : none_clash s.table.rows ≡ true) where
+module _ (run : ScriptRun) (s : Stage) (a : Answered) (answered : IsAnswered run s a) (never : (device : ℕ) → run.rises device ≡ 0) (apart : none_clash s.table.rows ≡ true) where
   none_at_all : NoneHit (s.past ++ a.changes ++ a.hits)
   none_at_all device = omega (arith, answered.counted device, never device)
 
@@ -128,7 +128,7 @@ found (x ∷ lines) zero within = (x, refl)
 found (x ∷ lines) (suc n) within = found lines n (omega (arith, within))
 
 -- The stages of a course of which no volume fails are those that its lines ask for.
-pub course_by_lines : (run : Run) (lines : List Answered) → IsCourse run lines → ((device : ℕ) → run.rises device ≡ 0) → ((n : ℕ) → none_clash (stage_at run lines n).table.rows ≡ true) → (n : ℕ) → n ≤ length lines
+pub course_by_lines : (run : ScriptRun) (lines : List Answered) → IsCourse run lines → ((device : ℕ) → run.rises device ≡ 0) → ((n : ℕ) → none_clash (stage_at run lines n).table.rows ≡ true) → (n : ℕ) → n ≤ length lines
     → ((stage_at run lines n).table ≡ (unhit_stage_at run lines n).table) × ((stage_at run lines n).replied ≡ (unhit_stage_at run lines n).replied)
 course_by_lines run lines course never apart zero within = (refl, refl)
 course_by_lines run lines course never apart (suc n) within =

@@ -8,7 +8,7 @@ use Rattle.pair_table.specs.declared.row.PairRow.{PairRow}
 use Rattle.pair_table.specs.Commands.{answer}
 use Rattle.row_changes.specs.Changes.{Timed}
 use Rattle.xrc_command.specs.declared.line.Line.{Line}
-use Rattle.consistency.specs.Stages.{Run, Stage, breaks_of, names_of}
+use Rattle.consistency.specs.Stages.{ScriptRun, Stage, breaks_of, names_of}
 use Rattle.consistency.specs.Courses.{Answered, replied_after}
 use Rattle.consistency.specs.Steps.{names_at, table_after_line, table_on_the_way}
 use Rattle.consistency.specs.Leads.{Point}
@@ -17,7 +17,7 @@ use Rattle.consistency.specs.Ways.{PassedPoint, Way}
 use Rattle.consistency.specs.Ways.Way.{Commanded, Ending, MarkedFor, OnTheWay}
 
 -- a line that is answered at a stage, behind changes and before hits
-abbrev pub answered_by : Run → Stage → (text reply : List ℕ) → Line → (changes hits : List Timed) → Answered
+abbrev pub answered_by : ScriptRun → Stage → (text reply : List ℕ) → Line → (changes hits : List Timed) → Answered
 answered_by run s text reply line changes hits = record {
   text = text;
   line = line;
@@ -49,7 +49,7 @@ pub record ReplyContent : Type 0 where
   pub time : Option ℕ
 
 -- the tracks that a command asks for, of these rows; 0 where it adds no pair
-abbrev pub tracks_of_command : Run → (first : Point) → List PassedPoint → List PairRow → (time : ℕ) → Command → ℕ
+abbrev pub tracks_of_command : ScriptRun → (first : Point) → List PassedPoint → List PairRow → (time : ℕ) → Command → ℕ
 tracks_of_command run first points rows time (AddPair primary secondary) = tracks_asked run first points rows primary time
 tracks_of_command run first points rows time (Start level) = 0
 tracks_of_command run first points rows time (DelPair choice) = 0
@@ -58,7 +58,7 @@ tracks_of_command run first points rows time Query = 0
 tracks_of_command run first points rows time End = 0
 
 -- What the reply to the line with a number tells, if the session has passed these points. Its tracks are told by those before its command.
-abbrev pub reply_content : Run → Stage → (first : Point) → List PassedPoint → (number : ℕ) → Answered → ReplyContent
+abbrev pub reply_content : ScriptRun → Stage → (first : Point) → List PassedPoint → (number : ℕ) → Answered → ReplyContent
 reply_content run s first points number a =
     let table = table_on_the_way run.level a.changes s.table in
     record {

@@ -8,7 +8,7 @@ use Rattle.row_changes.specs.Changes.{Timed}
 use Rattle.row_changes.specs.Spans.{AreCounted}
 use Rattle.xrc_command.specs.declared.line.Line.{Line}
 use Rattle.xrc_command.specs.Reading.{line_spelled}
-use Rattle.consistency.specs.Stages.{Run, Stage, accepts, breaks_of, names_of}
+use Rattle.consistency.specs.Stages.{ScriptRun, Stage, accepts, breaks_of, names_of}
 use Rattle.consistency.specs.Replies.{IsReply, has_reply}
 use Rattle.consistency.specs.Steps.{IsLineStep, table_on_the_way}
 
@@ -24,7 +24,7 @@ pub record Answered : Type 0 where
 
 -- ---- stages
 
-abbrev pub first_stage : Run → Stage
+abbrev pub first_stage : ScriptRun → Stage
 first_stage run = record { table = new_table run.session; replied = 0; past = []; next = None }
 
 -- The stamp of a reply is its line's time, or that of the end of the session in later ones.
@@ -35,21 +35,21 @@ abbrev pub stage_after : Stage → Answered → Stage
 stage_after s a = record { table = a.table; replied = replied_after s a.line; past = s.past ++ a.changes ++ a.hits; next = None }
 
 -- the stage after so many lines
-abbrev pub stage_at : Run → List Answered → (answered : ℕ) → Stage
+abbrev pub stage_at : ScriptRun → List Answered → (answered : ℕ) → Stage
 stage_at run lines n = fold stage_after (first_stage run) (take n lines)
 
 -- ---- courses
 
 -- A line is answered at a stage: its table comes by a step, a device is hit at most as often as it failed, the start that the command
 -- table accepts gives the session its level, and what was said is one reply, by which the command is accepted where the table accepts it.
-pub record IsAnswered (run : Run) (s : Stage) (a : Answered) : Type 0 where
+pub record IsAnswered (run : ScriptRun) (s : Stage) (a : Answered) : Type 0 where
   pub step : IsLineStep run.level (breaks_of run) (names_of run) s.replied s.table a.line a.changes a.hits a.table
   pub counted : AreCounted run.rises (s.past ++ a.changes ++ a.hits)
   pub level : (level : Level) → a.line.command ≡ Start level → IsTrue (accepts run s.table a.line) → level ≡ run.level
   pub is_reply : IsReply (accepts run (table_on_the_way run.level a.changes s.table) a.line) a.line a.reply
 
 -- Each line is answered at the stage after those before it.
-abbrev pub IsCourse : Run → List Answered → Type 0
+abbrev pub IsCourse : ScriptRun → List Answered → Type 0
 IsCourse run lines = (n : ℕ) (a : Answered) → slice_get lines n ≡ Some a → IsAnswered run (stage_at run lines n) a
 
 -- ---- what is heard and said
@@ -118,7 +118,7 @@ pub record StandsAt (lines : List Answered) (heard said : List ℕ) : Type 0 whe
   pub one_line : lines_begun text ≤ 1
 
 -- the stage there; the script's end is heard with its last byte
-abbrev pub stage_there : {lines : List Answered} {heard said : List ℕ} → Run → (script : List ℕ) → StandsAt lines heard said → Stage
+abbrev pub stage_there : {lines : List Answered} {heard said : List ℕ} → ScriptRun → (script : List ℕ) → StandsAt lines heard said → Stage
 stage_there {lines} {heard} {said} run script at = record (stage_at run lines at.answered) {
   next = next_line at.answered (last_line_time lines at.answered) (length heard == length script) at.text;
 }

@@ -2,19 +2,19 @@
 use Rattle.std.specs.Prelude.{◌≡◌, ℕ, ◌≤◌, ◌==◌, List, [], ◌++◌, length}
 use Rattle.crash_plant.specs.Calls.{SameSite}
 use Rattle.crash_plant.specs.Moments.{PlantState}
-use Rattle.consistency.specs.Stages.{Run, Stage}
+use Rattle.consistency.specs.Stages.{ScriptRun, Stage}
 use Rattle.consistency.specs.Courses.{Answered, AreAsked, IsCourse, last_line_time, lines_begun, next_line, replies_of, stage_at, texts_of}
 use Rattle.consistency.specs.Moments.{FirstMeans, MomentBears}
 
 -- the stage where these lines are answered and this was heard behind them
-abbrev pub stage_now : Run → (script : List ℕ) → List Answered → (text : List ℕ) → Stage
+abbrev pub stage_now : ScriptRun → (script : List ℕ) → List Answered → (text : List ℕ) → Stage
 stage_now run script lines text = record (stage_at run lines (length lines)) {
   next = next_line (length lines) (last_line_time lines (length lines)) (length (texts_of lines ++ text) == length script) text;
 }
 
 -- Between two calls of a run that keeps its past these lines were answered, this was heard of the next one, and each moment so far
 -- bears.
-pub record Keeps (run : Run) (lines : List Answered) (text : List ℕ) (old new : PlantState) : Type 0 where
+pub record Keeps (run : ScriptRun) (lines : List Answered) (text : List ℕ) (old new : PlantState) : Type 0 where
   pub course : IsCourse run lines
   pub asked : AreAsked old.script lines
   pub later : old.clock ≤ new.clock

@@ -13,7 +13,7 @@ use Rattle.pair_table.specs.Tables.{is_of}
 use Rattle.primary_ctl.specs.Primaries.{is_on_track, writes_up_to}
 use Rattle.record_rows.specs.Hits.{is_by_device}
 use Rattle.site_means.specs.Sight.{means_of}
-use Rattle.consistency.specs.Stages.{Run, names_of, tracks_of_row}
+use Rattle.consistency.specs.Stages.{ScriptRun, names_of, tracks_of_row}
 use Rattle.tod_stamp.specs.declared.limits.TheConstants.{TRACKS_OF_CYLINDER}
 use Rattle.consistency.specs.Leads.{Point}
 use Rattle.passages.specs.Points.{was_so}
@@ -52,27 +52,27 @@ pub record HasBeenDuplex (row : PairRow) (plant : PlantState) (from to : ℕ) : 
 -- ---- the tracks
 
 -- whether a track of a control's volume has a write behind one time and up to another
-abbrev pub is_changed : Run → (control volume : ℕ) → (since to track : ℕ) → Bool
+abbrev pub is_changed : ScriptRun → (control volume : ℕ) → (since to track : ℕ) → Bool
 is_changed run control volume since to x = list_any (λ w. is_on_track control volume x w && nat_lt since w.write.stamp.0) (writes_up_to run.traces to)
 
 -- Whether a row in a state owes a track at a time. A suspended one owes those written since, where it was duplex and its own device hasn't
 -- failed. Any other owes all.
-abbrev pub owes_in : Run → (was_duplex : Bool) → PairRow → PairState → (to track : ℕ) → Bool
+abbrev pub owes_in : ScriptRun → (was_duplex : Bool) → PairRow → PairState → (to track : ℕ) → Bool
 owes_in run was row Pending to x = true
 owes_in run was row Copy to x = true
 owes_in run was row Duplex to x = true
 owes_in run was row (Suspended cause since) to x = is_by_device cause || not was || is_changed run row.control row.volume since.0 to x
 
 -- whether a row owes a track at a time, behind these points of a run
-abbrev pub owes_track : Run → (first : Point) → List PassedPoint → PairRow → (to track : ℕ) → Bool
+abbrev pub owes_track : ScriptRun → (first : Point) → List PassedPoint → PairRow → (to track : ℕ) → Bool
 owes_track run first points row to x = owes_in run (was_duplex row first points) row row.state to x
 
 -- how many tracks it owes
-abbrev pub tracks_owed : Run → (first : Point) → List PassedPoint → PairRow → (to : ℕ) → ℕ
+abbrev pub tracks_owed : ScriptRun → (first : Point) → List PassedPoint → PairRow → (to : ℕ) → ℕ
 tracks_owed run first points row to = count_by (owes_track run first points row to) (range_with_len 0 (tracks_of_row row))
 
 -- The tracks to be copied for a pair of this primary that is added at a time: those that its row owes, or for a new row all of the volume.
-abbrev pub tracks_asked : Run → (first : Point) → List PassedPoint → List PairRow → (primary : List ℕ) → (time : ℕ) → ℕ
+abbrev pub tracks_asked : ScriptRun → (first : Point) → List PassedPoint → List PairRow → (primary : List ℕ) → (time : ℕ) → ℕ
 tracks_asked run first points rows primary time = elim (row_of_primary primary rows) [
   | Some row ↦ tracks_owed run first points row time
   | None ↦ elim (primary_of primary (names_of run)) [ Some volume ↦ TRACKS_OF_CYLINDER * volume.cylinders | None ↦ 0 ]

@@ -7,7 +7,7 @@ use Rattle.crash_plant.specs.Moments.{PlantState}
 use Rattle.site_means.specs.Images.{shape_of}
 use Rattle.row_changes.specs.Changes.{after_changes}
 use Rattle.xrc_command.specs.declared.line.Line.{Line}
-use Rattle.consistency.specs.Stages.{Run, Stage}
+use Rattle.consistency.specs.Stages.{ScriptRun, Stage}
 use Rattle.consistency.specs.Courses.{Answered, AreAsked, IsAnswered, IsCourse, lines_begun, replies_of, stage_after, stage_at, texts_of}
 use Rattle.consistency.specs.Keeping.{Keeps, stage_now}
 use Rattle.consistency.specs.Moments.{AreUpTo, BearsTime}
@@ -20,12 +20,12 @@ use Rattle.passages.specs.Points.{AreLinked, last_point}
 use Rattle.consistency.specs.Ways.{ComesNext, Leg, PassedPoint, leg_after, stage_point}
 
 -- A choice shows a point of a run that may be meant at a stage.
-abbrev pub ShowsMeant : Run → Stage → PlantState → Choice → Type 0
+abbrev pub ShowsMeant : ScriptRun → Stage → PlantState → Choice → Type 0
 ShowsMeant run s plant c = (p : Point) × MayBeMeant run s p × ShowsPoint run (shape_of plant) p c
 
 -- Points were passed from a first leg up to a moment, each next by its way. The session began at the leg, at a moment at which whatever a
 -- crash may leave shows its point, which has no rows.
-pub record HasPassed (run : Run) (asked : ℕ → Option Line) (first : Leg) (points : List PassedPoint) (plant : PlantState) (to : ℕ) : Type 0 where
+pub record HasPassed (run : ScriptRun) (asked : ℕ → Option Line) (first : Leg) (points : List PassedPoint) (plant : PlantState) (to : ℕ) : Type 0 where
   pub rowless : first.point.rows ≡ []
   pub from : ℕ
   pub begins : AtMoment (ShowsPoint run (shape_of plant) first.point) plant from
@@ -38,7 +38,7 @@ asked_in lines number = option_map (λ a. a.line) (slice_get lines number)
 
 -- The reply to a line behind others tells of these points. They were passed up to a moment, the line's command among them. Those before it
 -- bring the changes behind which the line is answered, and the last of them has the rows that the command finds.
-pub record AreToldOf (run : Run) (s : Stage) (lines : List Answered) (first : Leg) (points : List PassedPoint) (a : Answered) (plant : PlantState) (to : ℕ) : Type 0 where
+pub record AreToldOf (run : ScriptRun) (s : Stage) (lines : List Answered) (first : Leg) (points : List PassedPoint) (a : Answered) (plant : PlantState) (to : ℕ) : Type 0 where
   pub passed : HasPassed run (asked_in (lines ++ a ∷ [])) first points plant to
   pub answered : (fold leg_after first points).answered ≡ suc (length lines)
   pub changes : (fold leg_after first (points_before (length lines) points)).changes ≡ a.changes
@@ -46,7 +46,7 @@ pub record AreToldOf (run : Run) (s : Stage) (lines : List Answered) (first : Le
 
 -- The reply to a line behind others was exact. Where the plant keeps its past, as its clock when the run began tells, and the session had
 -- started before the line, the reply told of points that were passed by then.
-pub record HadExactReply (run : Run) (s : Stage) (before : List Answered) (a : Answered) (began : ℕ) (plant : PlantState) : Type 0 where
+pub record HadExactReply (run : ScriptRun) (s : Stage) (before : List Answered) (a : Answered) (began : ℕ) (plant : PlantState) : Type 0 where
   pub first : Leg
   pub points : List PassedPoint
   pub by : ℕ
@@ -55,13 +55,13 @@ pub record HadExactReply (run : Run) (s : Stage) (before : List Answered) (a : A
   pub told : 0 < began → IsTrue s.table.is_started → AreToldOf run s before first points a plant by
 
 -- So was each of these lines, behind those before it.
-abbrev pub HadExactReplies : Run → List Answered → (began : ℕ) → PlantState → Type 0
+abbrev pub HadExactReplies : ScriptRun → List Answered → (began : ℕ) → PlantState → Type 0
 HadExactReplies run lines began plant = (n : ℕ) (a : Answered) → slice_get lines n ≡ Some a → HadExactReply run (stage_at run lines n) (take n lines) a began plant
 
 -- What holds now of a run that began at a plant's old state, also where the plant keeps no past: these lines were answered, this was heard of
 -- the next one, and where the session has started each choice that a crash may leave bears a time. No time that was said is behind that of the
 -- last reply.
-pub record StandsNow (run : Run) (lines : List Answered) (text : List ℕ) (old new : PlantState) : Type 0 where
+pub record StandsNow (run : ScriptRun) (lines : List Answered) (text : List ℕ) (old new : PlantState) : Type 0 where
   pub course : IsCourse run lines
   pub asked : AreAsked old.script lines
   pub later : old.clock ≤ new.clock
@@ -76,7 +76,7 @@ pub record StandsNow (run : Run) (lines : List Answered) (text : List ℕ) (old 
 
 -- A run goes on from a plant's state to another: it stands so now, and each reply was exact. Where the plant keeps its past, each moment so far
 -- bears.
-pub record RunGoesOn (run : Run) (lines : List Answered) (text : List ℕ) (old new : PlantState) : Type 0 where
+pub record RunGoesOn (run : ScriptRun) (lines : List Answered) (text : List ℕ) (old new : PlantState) : Type 0 where
   pub now : StandsNow run lines text old new
   pub exact : HadExactReplies run lines old.clock new
   pub keeps : 0 < old.clock → Keeps run lines text old new
@@ -84,7 +84,7 @@ pub record RunGoesOn (run : Run) (lines : List Answered) (text : List ℕ) (old 
 -- A line that was heard whole behind other lines may be replied to. It is answered at its stage, and its reply is exact. Once the session has
 -- started the reply tells of points that were passed up to now, where the plant keeps its past. Whatever a crash may leave now shows the point
 -- behind the line, which may be meant before the reply.
-pub record MayReply (run : Run) (s : Stage) (lines : List Answered) (first : Leg) (points : List PassedPoint) (a : Answered) (now : PlantState) : Type 0 where
+pub record MayReply (run : ScriptRun) (s : Stage) (lines : List Answered) (first : Leg) (points : List PassedPoint) (a : Answered) (now : PlantState) : Type 0 where
   pub asks : s.next ≡ Some a.line
   pub answered : IsAnswered run s a
   pub exact : IsExact run s first.point points (length lines) a

@@ -19,7 +19,7 @@ use Rattle.row_changes.specs.Spans.{AreCounted, Toward, hit_count}
 use Rattle.site_means.specs.Images.{Images, Shape, shape_of}
 use Rattle.tod_stamp.specs.declared.stamp.Stamp.{Stamp}
 use Rattle.xrc_command.specs.declared.line.Line.{Line}
-use Rattle.consistency.specs.Stages.{IsTime, Run, Stage, accepts, accepts_end, breaks_of, names_of, tracks_of_row}
+use Rattle.consistency.specs.Stages.{IsTime, ScriptRun, Stage, accepts, accepts_end, breaks_of, names_of, tracks_of_row}
 use Rattle.consistency.specs.Courses.{Answered, IsAnswered, IsCourse, stage_after, stage_at}
 use Rattle.consistency.specs.Replies.{IsReply}
 use Rattle.consistency.specs.Steps.{IsLineStep, is_active, table_after_line, table_on_the_way}
@@ -57,175 +57,175 @@ HitsStayWhole = (level : Level) (breaks : List (Option ℕ)) (p q r : Point) (xs
 
 -- What is passed up to a moment, with nothing on its way, and what is passed from it on, is passed in a row.
 abbrev pub PointsGoInARow : PlantState → Type 0
-PointsGoInARow plant = (run : Run) (from mid to : ℕ) (p : Point) (xs ys : List PassedPoint) (next : Option Point) → GoesThroughPoints run plant from p xs mid None → GoesThroughPoints run plant mid (last_point p xs) ys to next
+PointsGoInARow plant = (run : ScriptRun) (from mid to : ℕ) (p : Point) (xs ys : List PassedPoint) (next : Option Point) → GoesThroughPoints run plant from p xs mid None → GoesThroughPoints run plant mid (last_point p xs) ys to next
     → GoesThroughPoints run plant from p (xs ++ ys) to next
 
 -- What was passed stays passed while a plant keeps its past.
 abbrev pub PointsStayPassed : PlantState → PlantState → Type 0
-PointsStayPassed old new = SameSite old new → Elapses old new → 0 < old.clock → (run : Run) (from to : ℕ) (p : Point) (points : List PassedPoint) (next : Option Point) → to ≤ old.clock
+PointsStayPassed old new = SameSite old new → Elapses old new → 0 < old.clock → (run : ScriptRun) (from to : ℕ) (p : Point) (points : List PassedPoint) (next : Option Point) → to ≤ old.clock
     → GoesThroughPoints run old from p points to next → GoesThroughPoints run new from p points to next
 
 -- Each choice of each moment shows the last of the points up to some place: of the deeds that they are, some first ones are done.
 abbrev pub PointsAreSeen : PlantState → Type 0
-PointsAreSeen plant = (run : Run) (from to : ℕ) (p : Point) (points : List PassedPoint) → GoesThroughPoints run plant from p points to None
+PointsAreSeen plant = (run : ScriptRun) (from to : ℕ) (p : Point) (points : List PassedPoint) → GoesThroughPoints run plant from p points to None
     → Throughout (IsChoice plant) from to (λ c. (n : ℕ) × (n ≤ length points) × ShowsPoint run (shape_of plant) (last_point p (take n points)) c)
 
 -- Where each point may be meant, each choice of each moment bears a time.
 abbrev pub PointsBearThroughout : PlantState → Type 0
-PointsBearThroughout plant = (run : Run) (s : Stage) (from to : ℕ) (p : Point) (points : List PassedPoint) (next : Option Point) → MayBeMeant run s p → All (λ n. MayBeMeant run s n.point) points → IfSome next (MayBeMeant run s)
+PointsBearThroughout plant = (run : ScriptRun) (s : Stage) (from to : ℕ) (p : Point) (points : List PassedPoint) (next : Option Point) → MayBeMeant run s p → All (λ n. MayBeMeant run s n.point) points → IfSome next (MayBeMeant run s)
     → GoesThroughPoints run plant from p points to next → Throughout (IsChoice plant) from to (λ c. (time : ℕ) × Bears run s (shape_of plant) c time)
 
 -- ---- legs
 
 -- A leg begins at the point of a stage of a started session.
 abbrev pub LegsBegin : Type 0
-LegsBegin = (run : Run) (s : Stage) (answered : ℕ) → s.table ≡ table_at run (stage_point s) → IsLegOf run s (leg_at s answered)
+LegsBegin = (run : ScriptRun) (s : Stage) (answered : ℕ) → s.table ≡ table_at run (stage_point s) → IsLegOf run s (leg_at s answered)
 
 -- It goes on over points on the way, each led to from the one before.
 abbrev pub LegsGoOn : Type 0
-LegsGoOn = (run : Run) (s : Stage) (asked : ℕ → Option Line) (l : Leg) (points : List PassedPoint) → IsLegOf run s l → IsTrue (list_all is_on_the_way points) → AreLinked (ComesNext run asked) leg_after l points
+LegsGoOn = (run : ScriptRun) (s : Stage) (asked : ℕ → Option Line) (l : Leg) (points : List PassedPoint) → IsLegOf run s l → IsTrue (list_all is_on_the_way points) → AreLinked (ComesNext run asked) leg_after l points
     → IsLegOf run s (fold leg_after l points)
 
 -- A leg stays one behind hits at its point's time, and behind a mark that a command's record needs first.
 abbrev pub LegsAreHit : Type 0
-LegsAreHit = (run : Run) (s : Stage) (l : Leg) (q : Point) (hits : List Timed) → IsLegOf run s l → HitsLead run.level (breaks_of run) l.point q hits → IsLegOf run s (leg_to l q hits)
+LegsAreHit = (run : ScriptRun) (s : Stage) (l : Leg) (q : Point) (hits : List Timed) → IsLegOf run s l → HitsLead run.level (breaks_of run) l.point q hits → IsLegOf run s (leg_to l q hits)
 
 abbrev pub LegsAreMarked : Type 0
-LegsAreMarked = (run : Run) (s : Stage) (l : Leg) (q : Point) (number : ℕ) (hits : List Timed) → IsLegOf run s l → IsLegOf run s (leg_by l q (MarkedFor number hits))
+LegsAreMarked = (run : ScriptRun) (s : Stage) (l : Leg) (q : Point) (number : ℕ) (hits : List Timed) → IsLegOf run s l → IsLegOf run s (leg_by l q (MarkedFor number hits))
 
 -- Times don't fall from point to point, whatever leads to them.
 abbrev pub PointsRise : Type 0
-PointsRise = (run : Run) (asked : ℕ → Option Line) (l : Leg) (points : List PassedPoint) → AreLinked (ComesNext run asked) leg_after l points → All (λ n. l.point.time ≤ n.point.time) points
+PointsRise = (run : ScriptRun) (asked : ℕ → Option Line) (l : Leg) (points : List PassedPoint) → AreLinked (ComesNext run asked) leg_after l points → All (λ n. l.point.time ≤ n.point.time) points
 
 -- The point of a leg may be meant, where its time may be, what is due may be, and each device is hit at most as often as it failed.
 abbrev pub LegsMayBeMeant : Type 0
-LegsMayBeMeant = (run : Run) (s : Stage) (l : Leg) → s.table.is_ended ≡ false → IsLegOf run s l → IsTime s l.point.time → AreCounted run.rises (s.past ++ l.changes) → IsTrue (may_rest (not (is_none s.next)) l.point)
+LegsMayBeMeant = (run : ScriptRun) (s : Stage) (l : Leg) → s.table.is_ended ≡ false → IsLegOf run s l → IsTime s l.point.time → AreCounted run.rises (s.past ++ l.changes) → IsTrue (may_rest (not (is_none s.next)) l.point)
     → MayBeMeant run s l.point
 
 -- So may each point on the way to the time of the next line.
 abbrev pub WaysMayBeMeant : Type 0
-WaysMayBeMeant = (run : Run) (s : Stage) (asked : ℕ → Option Line) (line : Line) (l : Leg) (points : List PassedPoint) → s.table.is_ended ≡ false → s.next ≡ Some line → IsLegOf run s l
+WaysMayBeMeant = (run : ScriptRun) (s : Stage) (asked : ℕ → Option Line) (line : Line) (l : Leg) (points : List PassedPoint) → s.table.is_ended ≡ false → s.next ≡ Some line → IsLegOf run s l
     → IsTrue (list_all is_on_the_way points) → AreLinked (ComesNext run asked) leg_after l points → All (λ n. (n.point.time ≤ line.time.0) × IsTrue (may_rest true n.point)) points
     → All (λ n. MayBeMeant run s n.point) points
 
 -- So may the point of a mark that the record of the next line's command needs first.
 abbrev pub MarksMayBeMeant : Type 0
-MarksMayBeMeant = (run : Run) (s : Stage) (l : Leg) (q : Point) (hits : List Timed) → s.table.is_ended ≡ false → IsLegOf run s l → IsMarking run s.next l q hits → AreCounted run.rises (s.past ++ l.changes ++ hits) → MayBeMeant run s q
+MarksMayBeMeant = (run : ScriptRun) (s : Stage) (l : Leg) (q : Point) (hits : List Timed) → s.table.is_ended ≡ false → IsLegOf run s l → IsMarking run s.next l q hits → AreCounted run.rises (s.past ++ l.changes ++ hits) → MayBeMeant run s q
 
 -- Behind such a mark comes the command for which it was made, and nothing else.
 abbrev pub MarksAreCommanded : Type 0
-MarksAreCommanded = (run : Run) (asked : ℕ → Option Line) (l : Leg) (n m : PassedPoint) (line : ℕ) (hits : List Timed) → n.way ≡ MarkedFor line hits → ComesNext run asked l n → ComesNext run asked (leg_after l n) m
+MarksAreCommanded = (run : ScriptRun) (asked : ℕ → Option Line) (l : Leg) (n m : PassedPoint) (line : ℕ) (hits : List Timed) → n.way ≡ MarkedFor line hits → ComesNext run asked l n → ComesNext run asked (leg_after l n) m
     → (more : List Timed) × (m.way ≡ Commanded line more)
 
 -- Behind such a mark and the command each row whose device the mark hit stands as the hit left it, suspended by its device.
 abbrev pub MarkedRowsStand : Type 0
-MarkedRowsStand = (run : Run) (asked : Option Line) (l : Leg) (q : Point) (hits : List Timed) → l.point.is_ended ≡ false → IsCommanding run asked l q hits
+MarkedRowsStand = (run : ScriptRun) (asked : Option Line) (l : Leg) (q : Point) (hits : List Timed) → l.point.is_ended ≡ false → IsCommanding run asked l q hits
     → All (λ r. 0 < hit_count r.device l.marked → r.state ≡ since ByDevice l.point.time) q.rows
 
 -- Behind the command of an end that is accepted comes its ending point, and nothing else.
 abbrev pub EndsAreEnded : Type 0
-EndsAreEnded = (run : Run) (asked : ℕ → Option Line) (l : Leg) (n m : PassedPoint) (line : ℕ) (hits : List Timed) → n.way ≡ Commanded line hits → ComesNext run asked l n → IsTrue (accepts_end run (table_at run n.point) (asked line))
+EndsAreEnded = (run : ScriptRun) (asked : ℕ → Option Line) (l : Leg) (n m : PassedPoint) (line : ℕ) (hits : List Timed) → n.way ≡ Commanded line hits → ComesNext run asked l n → IsTrue (accepts_end run (table_at run n.point) (asked line))
     → ComesNext run asked (leg_after l n) m → (more : List Timed) × (m.way ≡ Ending line more)
 
 -- No ending point comes but behind its line's command.
 abbrev pub EndsAreCommanded : Type 0
-EndsAreCommanded = (run : Run) (asked : ℕ → Option Line) (l : Leg) (n m : PassedPoint) (line : ℕ) (more : List Timed) → ComesNext run asked l n → m.way ≡ Ending line more → ComesNext run asked (leg_after l n) m
+EndsAreCommanded = (run : ScriptRun) (asked : ℕ → Option Line) (l : Leg) (n m : PassedPoint) (line : ℕ) (more : List Timed) → ComesNext run asked l n → m.way ≡ Ending line more → ComesNext run asked (leg_after l n) m
     → (hits : List Timed) × (n.way ≡ Commanded line hits)
 
 -- Nothing changes once the session has ended: each point behind is the one at which it ended.
 abbrev pub EndedPointsStay : Type 0
-EndedPointsStay = (run : Run) (asked : ℕ → Option Line) (l : Leg) (points : List PassedPoint) → l.point.is_ended ≡ true → AreLinked (ComesNext run asked) leg_after l points → All (λ n. n.point ≡ l.point) points
+EndedPointsStay = (run : ScriptRun) (asked : ℕ → Option Line) (l : Leg) (points : List PassedPoint) → l.point.is_ended ≡ true → AreLinked (ComesNext run asked) leg_after l points → All (λ n. n.point ≡ l.point) points
 
 -- ---- hits are counted
 
 -- A device's hits up to a leg don't become fewer by the next point.
 abbrev pub HitsStayCounted : Type 0
-HitsStayCounted = (run : Run) (asked : ℕ → Option Line) (l : Leg) (q : Point) (way : Way) (device : ℕ) → ComesBy run asked l q way → hits_of_leg l device ≤ hits_of_leg (leg_by l q way) device
+HitsStayCounted = (run : ScriptRun) (asked : ℕ → Option Line) (l : Leg) (q : Point) (way : Way) (device : ℕ) → ComesBy run asked l q way → hits_of_leg l device ≤ hits_of_leg (leg_by l q way) device
 
 -- The hits of a mark that a command's record needs first are counted, also if the command takes away the row. Those that stand behind the
 -- command again are counted once.
 abbrev pub MarkedHitsAreCounted : Type 0
-MarkedHitsAreCounted = (run : Run) (asked : ℕ → Option Line) (l : Leg) (p q : Point) (number : ℕ) (hits more : List Timed) (device : ℕ) → ComesBy run asked l p (MarkedFor number hits)
+MarkedHitsAreCounted = (run : ScriptRun) (asked : ℕ → Option Line) (l : Leg) (p q : Point) (number : ℕ) (hits more : List Timed) (device : ℕ) → ComesBy run asked l p (MarkedFor number hits)
     → hits_of_leg (leg_by (leg_by l p (MarkedFor number hits)) q (Commanded number more)) device ≡ hits_of_leg l device + max (hit_count device hits) (hit_count device more)
 
 -- So a leg of which each hit is counted has no more hits of a device than it failed, and neither has a command or an end behind it.
 abbrev pub LegsAreCounted : Type 0
-LegsAreCounted = (run : Run) (s : Stage) (l : Leg) → IsLegOf run s l → HasCountedHits run l → AreCounted run.rises (s.past ++ l.changes)
+LegsAreCounted = (run : ScriptRun) (s : Stage) (l : Leg) → IsLegOf run s l → HasCountedHits run l → AreCounted run.rises (s.past ++ l.changes)
 
 abbrev pub CommandsAreCounted : Type 0
-CommandsAreCounted = (run : Run) (s : Stage) (l : Leg) (q : Point) (number : ℕ) (hits : List Timed) → IsLegOf run s l → HasCountedHits run (leg_by l q (Commanded number hits)) → AreCounted run.rises (s.past ++ l.changes ++ hits)
+CommandsAreCounted = (run : ScriptRun) (s : Stage) (l : Leg) (q : Point) (number : ℕ) (hits : List Timed) → IsLegOf run s l → HasCountedHits run (leg_by l q (Commanded number hits)) → AreCounted run.rises (s.past ++ l.changes ++ hits)
 
 abbrev pub EndingsAreCounted : Type 0
-EndingsAreCounted = (run : Run) (s : Stage) (l : Leg) (q r : Point) (number : ℕ) (hits more : List Timed) → IsLegOf run s l → HasCountedHits run (leg_by (leg_by l q (Commanded number hits)) r (Ending number more))
+EndingsAreCounted = (run : ScriptRun) (s : Stage) (l : Leg) (q r : Point) (number : ℕ) (hits more : List Timed) → IsLegOf run s l → HasCountedHits run (leg_by (leg_by l q (Commanded number hits)) r (Ending number more))
     → AreCounted run.rises (s.past ++ l.changes ++ (hits ++ more))
 
 abbrev pub MarksAreCounted : Type 0
-MarksAreCounted = (run : Run) (s : Stage) (l : Leg) (q : Point) (number : ℕ) (hits : List Timed) → IsLegOf run s l → HasCountedHits run (leg_by l q (MarkedFor number hits)) → AreCounted run.rises (s.past ++ l.changes ++ hits)
+MarksAreCounted = (run : ScriptRun) (s : Stage) (l : Leg) (q : Point) (number : ℕ) (hits : List Timed) → IsLegOf run s l → HasCountedHits run (leg_by l q (MarkedFor number hits)) → AreCounted run.rises (s.past ++ l.changes ++ hits)
 
 -- ---- lines
 
 -- The point of the next line's command may be meant.
 abbrev pub CommandsMayBeMeant : Type 0
-CommandsMayBeMeant = (run : Run) (s : Stage) (l : Leg) (q : Point) (hits : List Timed) → s.table.is_ended ≡ false → IsLegOf run s l → IsCommanding run s.next l q hits → AreCounted run.rises (s.past ++ l.changes ++ hits) → MayBeMeant run s q
+CommandsMayBeMeant = (run : ScriptRun) (s : Stage) (l : Leg) (q : Point) (hits : List Timed) → s.table.is_ended ≡ false → IsLegOf run s l → IsCommanding run s.next l q hits → AreCounted run.rises (s.past ++ l.changes ++ hits) → MayBeMeant run s q
 
 -- The line is a step from its stage, to the rows of that point.
 abbrev pub CommandsAreSteps : Type 0
-CommandsAreSteps = (run : Run) (s : Stage) (l : Leg) (q : Point) (hits : List Timed) → s.table.is_ended ≡ false → IsLegOf run s l → (c : IsCommanding run s.next l q hits)
+CommandsAreSteps = (run : ScriptRun) (s : Stage) (l : Leg) (q : Point) (hits : List Timed) → s.table.is_ended ≡ false → IsLegOf run s l → (c : IsCommanding run s.next l q hits)
     → let new = table_after_line run.level (breaks_of run) (names_of run) s.table c.line l.changes hits in
     IsLineStep run.level (breaks_of run) (names_of run) s.replied s.table c.line l.changes hits new × (q.rows ≡ new.rows)
 
 -- The end behind that point may be meant.
 abbrev pub EndingsMayBeMeant : Type 0
-EndingsMayBeMeant = (run : Run) (s : Stage) (l : Leg) (q r : Point) (hits more : List Timed) → s.table.is_ended ≡ false → IsLegOf run s l → IsCommanding run s.next l q hits → IsEnding run s.next q r more
+EndingsMayBeMeant = (run : ScriptRun) (s : Stage) (l : Leg) (q r : Point) (hits more : List Timed) → s.table.is_ended ≡ false → IsLegOf run s l → IsCommanding run s.next l q hits → IsEnding run s.next q r more
     → AreCounted run.rises (s.past ++ l.changes ++ (hits ++ more)) → MayBeMeant run s r
 
 -- Once the session has ended its one point may be meant, whatever is heard.
 abbrev pub EndedMayBeMeant : Type 0
-EndedMayBeMeant = (run : Run) (s : Stage) → s.table.is_ended ≡ true → MayBeMeant run s (stage_point s)
+EndedMayBeMeant = (run : ScriptRun) (s : Stage) → s.table.is_ended ≡ true → MayBeMeant run s (stage_point s)
 
 -- The point of a stage may be meant at it, until a line is heard.
 abbrev pub StagesMayBeMeant : Type 0
-StagesMayBeMeant = (run : Run) (s : Stage) → s.next ≡ None → AreCounted run.rises s.past → MayBeMeant run s (stage_point s)
+StagesMayBeMeant = (run : ScriptRun) (s : Stage) → s.next ≡ None → AreCounted run.rises s.past → MayBeMeant run s (stage_point s)
 
 -- A line's command is answered so: its step, with what its reply says.
 abbrev pub CommandsAreAnswered : Type 0
-CommandsAreAnswered = (run : Run) (s : Stage) (l : Leg) (q : Point) (hits : List Timed) (text reply : List ℕ) → s.table.is_ended ≡ false → IsLegOf run s l → (c : IsCommanding run s.next l q hits)
+CommandsAreAnswered = (run : ScriptRun) (s : Stage) (l : Leg) (q : Point) (hits : List Timed) (text reply : List ℕ) → s.table.is_ended ≡ false → IsLegOf run s l → (c : IsCommanding run s.next l q hits)
     → AreCounted run.rises (s.past ++ l.changes ++ hits) → IsReply (accepts run (table_at run l.point) c.line) c.line reply → IsAnswered run s (answered_by run s text reply c.line l.changes hits)
 
 -- So is any line before the session's start and behind its end, by its command alone.
 abbrev pub InactiveAreAnswered : Type 0
-InactiveAreAnswered = (run : Run) (s : Stage) (text reply : List ℕ) (line : Line) → is_active s.table ≡ false → AreCounted run.rises s.past
+InactiveAreAnswered = (run : ScriptRun) (s : Stage) (text reply : List ℕ) (line : Line) → is_active s.table ≡ false → AreCounted run.rises s.past
     → ((level : Level) → line.command ≡ Start level → IsTrue (accepts run s.table line) → level ≡ run.level) → IsReply (accepts run s.table line) line reply → IsAnswered run s (answered_by run s text reply line [] [])
 
 -- The next leg begins at the point of the command, at the stage behind the line, where the line isn't an end that is accepted.
 abbrev pub LegsBeginBehindCommands : Type 0
-LegsBeginBehindCommands = (run : Run) (s : Stage) (l : Leg) (q : Point) (hits : List Timed) (text reply : List ℕ) (number : ℕ) → s.table.is_ended ≡ false → IsLegOf run s l → (c : IsCommanding run s.next l q hits) → accepts_end run (table_at run l.point) s.next ≡ false
+LegsBeginBehindCommands = (run : ScriptRun) (s : Stage) (l : Leg) (q : Point) (hits : List Timed) (text reply : List ℕ) (number : ℕ) → s.table.is_ended ≡ false → IsLegOf run s l → (c : IsCommanding run s.next l q hits) → accepts_end run (table_at run l.point) s.next ≡ false
     → IsLegOf run (stage_after s (answered_by run s text reply c.line l.changes hits)) (leg_by l q (Commanded number hits))
 
 -- Behind an accepted end it begins at the ending point.
 abbrev pub LegsBeginBehindEnds : Type 0
-LegsBeginBehindEnds = (run : Run) (s : Stage) (l : Leg) (q r : Point) (hits more : List Timed) (text reply : List ℕ) (number : ℕ) → s.table.is_ended ≡ false → IsLegOf run s l → (c : IsCommanding run s.next l q hits) → IsEnding run s.next q r more
+LegsBeginBehindEnds = (run : ScriptRun) (s : Stage) (l : Leg) (q r : Point) (hits more : List Timed) (text reply : List ℕ) (number : ℕ) → s.table.is_ended ≡ false → IsLegOf run s l → (c : IsCommanding run s.next l q hits) → IsEnding run s.next q r more
     → IsLegOf run (stage_after s (answered_by run s text reply c.line l.changes (hits ++ more))) (leg_by (leg_by l q (Commanded number hits)) r (Ending number more))
 
 -- Where no volume fails, the table behind each line of a course, and the time of its reply, are what its lines ask for.
 abbrev pub UnhitCoursesAreFunctions : Type 0
-UnhitCoursesAreFunctions = (run : Run) (lines : List Answered) → IsCourse run lines → ((device : ℕ) → run.rises device ≡ 0) → ((n : ℕ) → IsTrue (none_clash (stage_at run lines n).table.rows)) → (n : ℕ) → n ≤ length lines
+UnhitCoursesAreFunctions = (run : ScriptRun) (lines : List Answered) → IsCourse run lines → ((device : ℕ) → run.rises device ≡ 0) → ((n : ℕ) → IsTrue (none_clash (stage_at run lines n).table.rows)) → (n : ℕ) → n ≤ length lines
     → ((stage_at run lines n).table ≡ (unhit_stage_at run lines n).table) × ((stage_at run lines n).replied ≡ (unhit_stage_at run lines n).replied)
 
 -- A reply tells OK exactly where the command table accepts the command.
 abbrev pub RepliesTellAccepted : Type 0
-RepliesTellAccepted = (run : Run) (s : Stage) (first : Point) (points : List PassedPoint) (number : ℕ) (text reply : List ℕ) (line : Line) (changes hits : List Timed)
+RepliesTellAccepted = (run : ScriptRun) (s : Stage) (first : Point) (points : List PassedPoint) (number : ℕ) (text reply : List ℕ) (line : Line) (changes hits : List Timed)
     → is_ok (reply_content run s first points number (answered_by run s text reply line changes hits)).answer ≡ accepts run (table_on_the_way run.level changes s.table) line
 
 -- A reply tells of the points before the command of its line, or before the mark that the command's record needed first.
 abbrev pub RepliesTellBefore : Type 0
-RepliesTellBefore = (run : Run) (s : Stage) (first : Point) (xs ys : List PassedPoint) (n : PassedPoint) (number : ℕ) (hits : List Timed) (a : Answered) → (n.way ≡ Commanded number hits) ⊎ (n.way ≡ MarkedFor number hits)
+RepliesTellBefore = (run : ScriptRun) (s : Stage) (first : Point) (xs ys : List PassedPoint) (n : PassedPoint) (number : ℕ) (hits : List Timed) (a : Answered) → (n.way ≡ Commanded number hits) ⊎ (n.way ≡ MarkedFor number hits)
     → reply_content run s first (xs ++ n ∷ ys) number a ≡ reply_content run s first xs number a
 
 -- ---- owed tracks
 
 -- A way of a run's devices over points from a first one, which each choice shows at its beginning. At each moment there is a choice.
-pub record IsWalked (run : Run) (plant : PlantState) (from to : ℕ) (first : Point) (points : List PassedPoint) : Type 0 where
+pub record IsWalked (run : ScriptRun) (plant : PlantState) (from to : ℕ) (first : Point) (points : List PassedPoint) : Type 0 where
   pub begins : AtMoment (ShowsPoint run (shape_of plant) first) plant from
   pub goes : GoesThroughPoints run plant from first points to None
   pub some : (t : ℕ) → from ≤ t → t ≤ to → (c : Choice) × IsChoice plant t c
@@ -233,31 +233,31 @@ pub record IsWalked (run : Run) (plant : PlantState) (from to : ℕ) (first : Po
 -- The test over points tells what moments say: at one of them every choice had the pair duplex, and since then every choice had it duplex
 -- or as it is now.
 abbrev pub DuplexIsByMoments : PlantState → Type 0
-DuplexIsByMoments plant = (run : Run) (row : PairRow) (from to : ℕ) (first : Point) (points : List PassedPoint) → IsWalked run plant from to first points
+DuplexIsByMoments plant = (run : ScriptRun) (row : PairRow) (from to : ℕ) (first : Point) (points : List PassedPoint) → IsWalked run plant from to first points
     → (IsTrue (was_duplex row first points) → HasBeenDuplex row plant from to) × (HasBeenDuplex row plant from to → IsTrue (was_duplex row first points))
 
 -- The points that a reply tells of are such a way, up to some moment. So its tracks are those that the moments say.
 abbrev pub ToldPointsAreWalked : PlantState → Type 0
-ToldPointsAreWalked plant = (run : Run) (asked : ℕ → Option Line) (first : Leg) (points : List PassedPoint) (number by : ℕ) (passed : HasPassed run asked first points plant by)
+ToldPointsAreWalked plant = (run : ScriptRun) (asked : ℕ → Option Line) (first : Leg) (points : List PassedPoint) (number by : ℕ) (passed : HasPassed run asked first points plant by)
     → ((t : ℕ) → passed.from ≤ t → t ≤ by → (c : Choice) × IsChoice plant t c) → (to : ℕ) × (to ≤ by) × IsWalked run plant passed.from to first.point (points_before number points)
 
 -- A suspended row whose own device hasn't failed owes exactly the tracks written since, where it has been duplex so. Else it owes all.
 abbrev pub SuspendedOweChanges : PlantState → Type 0
-SuspendedOweChanges plant = (run : Run) (row : PairRow) (cause : SuspendCause) (since : Stamp) (from to : ℕ) (first : Point) (points : List PassedPoint) (time track : ℕ) → IsWalked run plant from to first points → row.state ≡ Suspended cause since
+SuspendedOweChanges plant = (run : ScriptRun) (row : PairRow) (cause : SuspendCause) (since : Stamp) (from to : ℕ) (first : Point) (points : List PassedPoint) (time track : ℕ) → IsWalked run plant from to first points → row.state ≡ Suspended cause since
     → (is_by_device cause ≡ false → HasBeenDuplex row plant from to → owes_track run first points row time track ≡ is_changed run row.control row.volume since.0 time track)
     × ((is_by_device cause ≡ true) ⊎ ¬ HasBeenDuplex row plant from to → IsTrue (owes_track run first points row time track))
 
 -- A row that isn't suspended owes all its tracks.
 abbrev pub OthersOweAll : Type 0
-OthersOweAll = (run : Run) (row : PairRow) (first : Point) (points : List PassedPoint) (time : ℕ) → is_suspended row.state ≡ false → tracks_owed run first points row time ≡ tracks_of_row row
+OthersOweAll = (run : ScriptRun) (row : PairRow) (first : Point) (points : List PassedPoint) (time : ℕ) → is_suspended row.state ≡ false → tracks_owed run first points row time ≡ tracks_of_row row
 
 -- A row that wasn't duplex before it was suspended owes all its tracks, also where the session suspended it.
 abbrev pub NeverDuplexOweAll : Type 0
-NeverDuplexOweAll = (run : Run) (row : PairRow) (first : Point) (points : List PassedPoint) (time : ℕ) → was_duplex row first points ≡ false → tracks_owed run first points row time ≡ tracks_of_row row
+NeverDuplexOweAll = (run : ScriptRun) (row : PairRow) (first : Point) (points : List PassedPoint) (time : ℕ) → was_duplex row first points ≡ false → tracks_owed run first points row time ≡ tracks_of_row row
 
 -- A suspended pair that was duplex, and that its own device didn't suspend, asks for exactly the tracks written since when it is added
 -- again.
 abbrev pub ResumedPairsAskForChanges : Type 0
-ResumedPairsAskForChanges = (run : Run) (row : PairRow) (cause : SuspendCause) (since : Stamp) (first : Point) (points : List PassedPoint) (rows : List PairRow) (primary : List ℕ) (time : ℕ)
+ResumedPairsAskForChanges = (run : ScriptRun) (row : PairRow) (cause : SuspendCause) (since : Stamp) (first : Point) (points : List PassedPoint) (rows : List PairRow) (primary : List ℕ) (time : ℕ)
     → row_of_primary primary rows ≡ Some row → row.state ≡ Suspended cause since → is_by_device cause ≡ false → was_duplex row first points ≡ true
     → tracks_asked run first points rows primary time ≡ count_by (is_changed run row.control row.volume since.0 time) (range_with_len 0 (tracks_of_row row))

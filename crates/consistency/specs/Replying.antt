@@ -14,7 +14,7 @@ use Rattle.pair_table.specs.Tables.{Table}
 use Rattle.xquery_report.specs.Replies.{reply_line}
 use Rattle.xquery_report.specs.Reports.{report_text}
 use Rattle.xrc_command.specs.declared.line.Line.{Line}
-use Rattle.consistency.specs.Stages.{Run, Stage, accepts, names_of}
+use Rattle.consistency.specs.Stages.{ScriptRun, Stage, accepts, names_of}
 use Rattle.consistency.specs.Courses.{Answered, replied_after}
 use Rattle.consistency.specs.Replies.{command_word}
 use Rattle.consistency.specs.Steps.{table_on_the_way}
@@ -33,11 +33,11 @@ is_query (Suspend choice) = false
 is_query End = false
 
 -- A query that is accepted is answered with a report.
-abbrev pub is_reported : Run → Table → Line → Bool
+abbrev pub is_reported : ScriptRun → Table → Line → Bool
 is_reported run table line = is_query line.command && accepts run table line
 
 -- the report of a table at a line's time, with the causes of the controls that have broken by then; nothing before another line's reply
-abbrev pub report_before : Run → Table → Line → List ℕ
+abbrev pub report_before : ScriptRun → Table → Line → List ℕ
 report_before run table line = if is_reported run table line then report_text table run.level line.time.0 (map (cause_at line.time.0) run.traces) else []
 
 -- the reply's own line
@@ -45,18 +45,18 @@ abbrev pub own_line : Line → ReplyContent → List ℕ
 own_line line content = reply_line line.time.0 line.command content.answer content.tracks (option_map stamp content.time)
 
 -- the reply to the line with a number at a stage, if the session has passed these points
-abbrev pub reply_text : Run → Stage → (first : Point) → List PassedPoint → (number : ℕ) → Answered → List ℕ
+abbrev pub reply_text : ScriptRun → Stage → (first : Point) → List PassedPoint → (number : ℕ) → Answered → List ℕ
 reply_text run s first points number a =
     let content = reply_content run s first points number a in
     report_before run (table_on_the_way run.level a.changes s.table) a.line ++ own_line a.line content
 
 -- What was said of a line is the reply, byte for byte.
-abbrev pub IsExact : Run → Stage → (first : Point) → List PassedPoint → (number : ℕ) → Answered → Type 0
+abbrev pub IsExact : ScriptRun → Stage → (first : Point) → List PassedPoint → (number : ℕ) → Answered → Type 0
 IsExact run s first points number a = a.reply ≡ reply_text run s first points number a
 
 -- The times that a reply says, in order: that of the journal in its report, which is the line's, and the one behind `T=`, once the session
 -- has started.
-abbrev pub times_replied : Run → Stage → Answered → List ℕ
+abbrev pub times_replied : ScriptRun → Stage → Answered → List ℕ
 times_replied run s a = (if is_reported run (table_on_the_way run.level a.changes s.table) a.line then a.line.time.0 ∷ [] else []) ++ (if a.table.is_started then replied_after s a.line ∷ [] else [])
 
 -- ---- the names that a reply may show
@@ -71,7 +71,7 @@ pub record HasNames (table : Table) : Type 0 where
   pub serials : IsTrue (list_all has_row_serials table.rows)
 
 -- What a run may speak of has names: its session, and the volumes and the labels that its commands may name.
-pub record HasRunNames (run : Run) : Type 0 where
+pub record HasRunNames (run : ScriptRun) : Type 0 where
   pub named : IsTrue (is_session run.session)
   pub volumes : IsTrue (list_all (λ v. is_serial v.serial) (names_of run).primaries)
   pub labels : IsTrue (list_all (λ l. is_serial l.serial) run.labels)

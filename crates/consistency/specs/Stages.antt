@@ -23,14 +23,14 @@ use Rattle.consistency.specs.Steps.{IsCommanded, names_at, table_after_line}
 
 -- What stays over a run: the session's name, the traces, the labels as the session's start read them, the level of that start, and by
 -- how much the count of faults of each volume rises over the run.
-pub record Run : Type 0 where
+pub record ScriptRun : Type 0 where
   pub session : List ℕ
   pub traces : List Trace
   pub labels : List NamedDevice
   pub level : Level
   pub rises : (device : ℕ) → ℕ
 
-abbrev pub breaks_of : Run → List (Option ℕ)
+abbrev pub breaks_of : ScriptRun → List (Option ℕ)
 breaks_of run = map break_time run.traces
 
 -- ---- the names
@@ -45,7 +45,7 @@ abbrev pub primaries_named : (control : ℕ) → List Trace → List NamedVolume
 primaries_named control [] = []
 primaries_named control (t ∷ traces) = volumes_named control 0 t.header.volumes ++ primaries_named (control + 1) traces
 
-abbrev pub names_of : Run → Naming
+abbrev pub names_of : ScriptRun → Naming
 names_of run = record { primaries = primaries_named 0 run.traces; labels = run.labels; broken = [] }
 
 -- ---- where a run stands
@@ -60,16 +60,16 @@ pub record Stage : Type 0 where
 
 -- ---- the ended flag
 
-abbrev pub accepts : Run → Table → Line → Bool
+abbrev pub accepts : ScriptRun → Table → Line → Bool
 accepts run table line = is_none (refusal (names_at line.time.0 (breaks_of run) (names_of run)) table line.session line.command)
 
 -- whether the next line is an end that the command table accepts
-abbrev pub accepts_end : Run → Table → Option Line → Bool
+abbrev pub accepts_end : ScriptRun → Table → Option Line → Bool
 accepts_end run table None = false
 accepts_end run table (Some line) = elim (is_end line.command) [ true ↦ accepts run table line | false ↦ false ]
 
 -- The ended flag is 1 after an accepted end was answered, free from when one was heard whole to its reply, and else 0.
-abbrev pub IsFlag : Run → Stage → Bool → Type 0
+abbrev pub IsFlag : ScriptRun → Stage → Bool → Type 0
 IsFlag run s flag = IsTrue (accepts_end run s.table s.next) ⊎ (flag ≡ s.table.is_ended)
 
 -- ---- the time
@@ -85,14 +85,14 @@ IsTime s time = (s.replied ≤ time) × elim s.next [
 -- ---- the rows
 
 -- The rows are on their way: they come from those at the last reply by changes up to the time.
-pub record AreOnTheWay (run : Run) (s : Stage) (time : ℕ) (rows : List PairRow) : Type 0 where
+pub record AreOnTheWay (run : ScriptRun) (s : Stage) (time : ℕ) (rows : List PairRow) : Type 0 where
   pub changes : List Timed
   pub toward : Toward run.level (breaks_of run) (not (is_none s.next)) s.replied time s.table.rows changes
   pub counted : AreCounted run.rises (s.past ++ changes)
   pub made : rows ≡ after_changes run.level changes s.table.rows
 
 -- At the time of the next line they are those after its command, or after hits that follow it.
-pub record AreAfterLine (run : Run) (s : Stage) (time : ℕ) (rows : List PairRow) : Type 0 where
+pub record AreAfterLine (run : ScriptRun) (s : Stage) (time : ℕ) (rows : List PairRow) : Type 0 where
   pub line : Line
   pub heard : s.next ≡ Some line
   pub at : time ≡ line.time.0
@@ -103,7 +103,7 @@ pub record AreAfterLine (run : Run) (s : Stage) (time : ℕ) (rows : List PairRo
   pub made : rows ≡ (table_after_line run.level (breaks_of run) (names_of run) s.table line changes hits).rows
 
 -- After the session has ended there are no changes.
-abbrev pub AreRows : Run → Stage → ℕ → List PairRow → Type 0
+abbrev pub AreRows : ScriptRun → Stage → ℕ → List PairRow → Type 0
 AreRows run s time rows = elim s.table.is_ended [
   | true ↦ rows ≡ s.table.rows
   | false ↦ AreOnTheWay run s time rows ⊎ AreAfterLine run s time rows
@@ -116,6 +116,6 @@ abbrev pub tracks_of_row : PairRow → ℕ
 tracks_of_row r = TRACKS_OF_CYLINDER * r.cylinders
 
 -- Each duplex row's device has on each track the primary's track at the time: after exactly the writes stamped up to it.
-abbrev pub HoldsPrimaries : Run → Shape → Images → List PairRow → ℕ → Type 0
+abbrev pub HoldsPrimaries : ScriptRun → Shape → Images → List PairRow → ℕ → Type 0
 HoldsPrimaries run shape images rows time = (place : ℕ) (r : PairRow) → slice_get rows place ≡ Some r → r.state ≡ Duplex
     → (track : ℕ) → track < tracks_of_row r → content_in shape images r.device track ≡ Some (primary run.traces time r.control r.volume track)

@@ -7,7 +7,7 @@ use Rattle.row_changes.specs.Changes.{Timed}
 use Rattle.row_changes.specs.Changes.Due.{NoneDue}
 use Rattle.row_changes.specs.Spans.{all_broke, hit_count, is_break, is_settled}
 use Rattle.xrc_command.specs.declared.line.Line.{Line}
-use Rattle.consistency.specs.Stages.{Run, Stage, accepts_end, breaks_of, names_of}
+use Rattle.consistency.specs.Stages.{ScriptRun, Stage, accepts_end, breaks_of, names_of}
 use Rattle.consistency.specs.Steps.{commanded}
 use Rattle.consistency.specs.Leads.{HitsLead, Leads, LeadsWhole, MarkedHitsLead, Point}
 use Rattle.passages.specs.Points.{Passed}
@@ -59,7 +59,7 @@ abbrev pub hits_of_leg : Leg → (device : ℕ) → ℕ
 hits_of_leg l device = l.hit_before device + hit_count device l.changes + hit_count device l.marked
 
 -- Each hit of a device needs a fault of its own, also where its row has gone since.
-abbrev pub HasCountedHits : Run → Leg → Type 0
+abbrev pub HasCountedHits : ScriptRun → Leg → Type 0
 HasCountedHits run l = (device : ℕ) → hits_of_leg l device ≤ run.rises device
 
 -- a leg that has come to another point, by these changes
@@ -79,23 +79,23 @@ leg_after l n = leg_by l n.point n.way
 -- ---- a command
 
 -- the table of a started session at a point
-abbrev pub table_at : Run → Point → Table
+abbrev pub table_at : ScriptRun → Point → Table
 table_at run p = record { session = run.session; is_started = true; is_ended = p.is_ended; rows = p.rows }
 
 -- the point with the rows after a line's command
-abbrev pub commanded_point : Run → Line → Point → Point
+abbrev pub commanded_point : ScriptRun → Line → Point → Point
 commanded_point run line p = record p { rows = (commanded (breaks_of run) (names_of run) (table_at run p) line).rows }
 
 -- A line's command may take effect at its time, where nothing is due, no control with that break time has broken, and no row is pending or
 -- copying.
-pub record MayTakeEffect (run : Run) (line : Line) (l : Leg) : Type 0 where
+pub record MayTakeEffect (run : ScriptRun) (line : Line) (l : Leg) : Type 0 where
   pub at : l.point.time ≡ line.time.0
   pub none_due : l.point.due ≡ NoneDue
   pub not_broken_yet : IsTrue (list_all (λ t. not (is_break t && t.time == line.time.0)) l.changes)
   pub settled : IsTrue (list_all (λ r. is_settled r.state) l.point.rows)
 
 -- It takes effect. Hits may follow it.
-pub record TakesEffect (run : Run) (line : Line) (l : Leg) (q : Point) (hits : List Timed) : Type 0 where
+pub record TakesEffect (run : ScriptRun) (line : Line) (l : Leg) (q : Point) (hits : List Timed) : Type 0 where
   pub may : MayTakeEffect run line l
   pub leads : HitsLead run.level (breaks_of run) (commanded_point run line l.point) q hits
 
@@ -106,7 +106,7 @@ hits_stand marked hits rows = list_all (λ r. nat_le (hit_count r.device marked)
 -- The next point is that of a line's command. The hits of a mark that was made for it stand behind the command, but for those whose rows the
 -- command took away. A command that leaves the rows as they are writes no record, so no hit stands behind it. Once the session has ended a line
 -- changes nothing, and the time stands still.
-pub record IsCommanding (run : Run) (asked : Option Line) (l : Leg) (q : Point) (hits : List Timed) : Type 0 where
+pub record IsCommanding (run : ScriptRun) (asked : Option Line) (l : Leg) (q : Point) (hits : List Timed) : Type 0 where
   pub line : Line
   pub heard : asked ≡ Some line
   pub stand : IsTrue (hits_stand l.marked hits q.rows)
@@ -121,7 +121,7 @@ abbrev pub going_on : Point → Point
 going_on q = record q { is_ended = false }
 
 -- The next point is the end of the session, by a line at its time that ends it and is accepted.
-pub record IsEnding (run : Run) (asked : Option Line) (p q : Point) (hits : List Timed) : Type 0 where
+pub record IsEnding (run : ScriptRun) (asked : Option Line) (p q : Point) (hits : List Timed) : Type 0 where
   pub accepted : IsTrue (accepts_end run (table_at run p) asked)
   pub at : IfSome asked (λ line. p.time ≡ line.time.0)
   pub ended : q.is_ended ≡ true
@@ -130,7 +130,7 @@ pub record IsEnding (run : Run) (asked : Option Line) (p q : Point) (hits : List
 -- ---- a mark that a command's record needs
 
 -- The next point is that of a mark which the record of a line's command needs first. The command alters rows, and may take effect there.
-pub record IsMarking (run : Run) (asked : Option Line) (l : Leg) (q : Point) (hits : List Timed) : Type 0 where
+pub record IsMarking (run : ScriptRun) (asked : Option Line) (l : Leg) (q : Point) (hits : List Timed) : Type 0 where
   pub line : Line
   pub heard : asked ≡ Some line
   pub may : MayTakeEffect run line l
@@ -146,7 +146,7 @@ are_at_time time changes = list_all (λ t. t.time == time) changes
 
 -- The next point is on the way: changes lead to it at its own time, and each break that came due since the last reply has come. So a hit has
 -- the time that is meant with it, and so has a break.
-pub record IsOnTheWay (run : Run) (l : Leg) (q : Point) (changes : List Timed) : Type 0 where
+pub record IsOnTheWay (run : ScriptRun) (l : Leg) (q : Point) (changes : List Timed) : Type 0 where
   pub leads : Leads run.level (breaks_of run) l.point q changes
   pub together : IsTrue (are_at_time q.time changes)
   pub broken : IsTrue (all_broke l.replied q.time 0 (breaks_of run) (l.changes ++ changes))
@@ -157,11 +157,11 @@ last_answered asked zero = None
 last_answered asked (suc n) = asked n
 
 -- whether an accepted end was the last line, and the mark that ends the session hasn't come
-abbrev pub is_ending : Run → (asked : ℕ → Option Line) → Leg → Bool
+abbrev pub is_ending : ScriptRun → (asked : ℕ → Option Line) → Leg → Bool
 is_ending run asked l = accepts_end run (table_at run l.point) (last_answered asked l.answered)
 
 -- The session works for its next line: it neither has ended nor is to end next, and no mark was made for the line's command.
-pub record IsAtWork (run : Run) (asked : ℕ → Option Line) (l : Leg) : Type 0 where
+pub record IsAtWork (run : ScriptRun) (asked : ℕ → Option Line) (l : Leg) : Type 0 where
   pub goes_on : l.point.is_ended ≡ false
   pub not_ending : is_ending run asked l ≡ false
   pub none_marked : l.marked ≡ []
@@ -173,14 +173,14 @@ pub record IsToEnd (line : ℕ) (l : Leg) : Type 0 where
   pub none_marked : l.marked ≡ []
 
 -- The next point comes by a way. `asked` is the line with a number, where it was heard whole.
-abbrev pub ComesBy : Run → (asked : ℕ → Option Line) → Leg → Point → Way → Type 0
+abbrev pub ComesBy : ScriptRun → (asked : ℕ → Option Line) → Leg → Point → Way → Type 0
 ComesBy run asked l q (OnTheWay changes) = IsAtWork run asked l × IsOnTheWay run l q changes
 ComesBy run asked l q (MarkedFor line hits) = (line ≡ l.answered) × IsAtWork run asked l × IsMarking run (asked line) l q hits
 ComesBy run asked l q (Commanded line hits) = (line ≡ l.answered) × (is_ending run asked l ≡ false) × IsCommanding run (asked line) l q hits
 ComesBy run asked l q (Ending line hits) = IsToEnd line l × IsEnding run (asked line) l.point q hits
 
 -- A point comes next by its way, and each device was hit at most as often as it failed.
-abbrev pub ComesNext : Run → (asked : ℕ → Option Line) → Leg → PassedPoint → Type 0
+abbrev pub ComesNext : ScriptRun → (asked : ℕ → Option Line) → Leg → PassedPoint → Type 0
 ComesNext run asked l n = ComesBy run asked l n.point n.way × HasCountedHits run (leg_after l n)
 
 -- ---- legs and stages
@@ -190,7 +190,7 @@ abbrev pub stage_point : Stage → Point
 stage_point s = record { time = s.replied; rows = s.table.rows; due = NoneDue; is_ended = s.table.is_ended }
 
 -- A leg that has begun at a stage of a started session. Each hit of the lines before is counted.
-pub record IsLegOf (run : Run) (s : Stage) (l : Leg) : Type 0 where
+pub record IsLegOf (run : ScriptRun) (s : Stage) (l : Leg) : Type 0 where
   pub table : s.table ≡ table_at run (stage_point s)
   pub replied : l.replied ≡ s.replied
   pub whole : LeadsWhole run.level (breaks_of run) (stage_point s) l.point l.changes

@@ -10,7 +10,6 @@ mod points;
 pub use laws::{one_time, replies_are_answers, steps_are_functions};
 pub use points::{
     changes_lead_on, commands_lead_on, flags_are_in_time, hits_are_counted, lines_are_answered,
-    lines_are_answered_exactly, owed_tracks_are_told, points_are_passed,
-    points_stay_passed, replies_are_exact, rows_owe_all, runs_go_on, unhit_courses_are_functions,
-    ways_lead_on,
+    lines_are_answered_exactly, owed_tracks_are_told, points_are_passed, points_stay_passed,
+    replies_are_exact, rows_owe_all, runs_go_on, unhit_courses_are_functions, ways_lead_on,
 };

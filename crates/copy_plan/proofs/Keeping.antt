@@ -1,13 +1,13 @@
--- What a plan keeps when a track was joined.
+-- A plan is left sound when a track was joined.
 use Rattle.std.proofs.Common.{◌≡◌, ℕ, ◌+◌, ◌-◌, ◌<◌, ◌≤◌, List, Bool, true, false, length, ap, ◌∙◌, arith}
 use Rattle.std.proofs.lemmas.List.{length-set}
 use Rattle.change_map.specs.Sets.{has_track, without_track, size}
 use Rattle.change_map.proofs.InSets.{size_without}
-use Rattle.copy_plan.specs.Plans.{KeepsPlan}
+use Rattle.copy_plan.specs.Plans.{IsPlanSound}
 
-pub joined_keeps : (old new : List Bool) (left from start joined x : ℕ) → KeepsPlan old left from joined → has_track old x ≡ true
+pub joined_keeps : (old new : List Bool) (left from start joined x : ℕ) → IsPlanSound old left from joined → has_track old x ≡ true
     → new ≡ without_track old x → start ≤ length old → ((y : ℕ) → y < start → has_track (without_track old x) y ≡ false)
-    → KeepsPlan new (left - 1) start (joined + 1)
+    → IsPlanSound new (left - 1) start (joined + 1)
 joined_keeps old new left from start joined x keeps wanted are within none =
     let long : length new ≡ length old = ap length are ∙ length-set old x false in
     let fewer = size_without old x wanted in

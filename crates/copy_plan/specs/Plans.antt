@@ -24,9 +24,9 @@ with_formed plan = record plan { joined = plan.joined - 1 }
 abbrev pub is_complete : PlanState → Bool
 is_complete plan = size plan.wanted == 0 && plan.joined == 0
 
--- What every plan keeps beside its map: no more is joined than is wanted no longer; how many tracks are wanted; and a track
+-- A plan is sound beside its map: no more is joined than is wanted no longer; how many tracks are wanted; and a track
 -- below which none is.
-pub record KeepsPlan (tracks : List Bool) (left from joined : ℕ) : Type 0 where
+pub record IsPlanSound (tracks : List Bool) (left from joined : ℕ) : Type 0 where
   pub few : length tracks < 2 ^ 32
   pub counted : left ≡ size tracks
   pub within : joined + left ≤ length tracks

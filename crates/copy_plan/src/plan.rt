@@ -22,13 +22,13 @@ pub struct CopyPlan {
 }
 
 impl Model for CopyPlan {
-    ghost use Rattle.copy_plan.specs.Plans.{PlanState, KeepsPlan};
+    ghost use Rattle.copy_plan.specs.Plans.{PlanState, IsPlanSound};
 
     ghost Value = { PlanState };
 
     ghost view = { λ plan. record { wanted = plan.wanted; joined = plan.joined } };
 
-    ghost invariant = { λ plan. KeepsPlan plan.wanted plan.left plan.from plan.joined };
+    ghost invariant = { λ plan. IsPlanSound plan.wanted plan.left plan.from plan.joined };
 }
 
 impl CopyPlan {

@@ -4,7 +4,7 @@ use Rattle.crash_plant.specs.declared.device.Device.{Device}
 use Rattle.crash_plant.specs.declared.device.Device.TheVariants.{Control, State, Journal, Volume}
 use Rattle.crash_plant.specs.declared.memory_console.MemoryConsole.{MemoryConsole}
 use Rattle.crash_plant.specs.declared.memory_disks.MemoryDisks.{MemoryDisks}
-use Rattle.crash_plant.specs.declared.plain_plant.Place.{Place}
+use Rattle.crash_plant.specs.declared.plain_plant.VolumePlace.{VolumePlace}
 use Rattle.crash_plant.specs.declared.plain_plant.PlainPlant.{PlainPlant}
 use Rattle.crash_plant.specs.declared.shelf.Shelf.{Shelf}
 use Rattle.crash_plant.specs.declared.shelf.Shelf.TheVariants.{Here, Lent, Away}
@@ -34,7 +34,7 @@ unknown_at (Here disk) none = (refl, refl, kept_here unknown, refl)
 unknown_at (Lent n at was) none = absurd (cc none)
 unknown_at (Away n) none = (refl, refl, kept_here unknown, refl)
 
-lent_alike_at : (xs : List Shelf) (ys : List Place) (v : ℕ) → length xs ≡ length ys → fresh_of (seen_at (λ shelf. shelf) (Away 0) xs v) ≡ seen_at fresh_place absent ys v → seen_at shelf_is_lent false xs v ≡ seen_at place_is_lent false ys v
+lent_alike_at : (xs : List Shelf) (ys : List VolumePlace) (v : ℕ) → length xs ≡ length ys → fresh_of (seen_at (λ shelf. shelf) (Away 0) xs v) ≡ seen_at fresh_place absent ys v → seen_at shelf_is_lent false xs v ≡ seen_at place_is_lent false ys v
 lent_alike_at [] [] v size same = refl
 lent_alike_at [] (y ∷ ys) v size same = absurd (omega (arith, size))
 lent_alike_at (x ∷ xs) [] v size same = absurd (omega (arith, size))

@@ -5,7 +5,7 @@ use Rattle.crash_plant.specs.declared.device.Device.TheVariants.{Control, State,
 use Rattle.crash_plant.specs.declared.memory_disk.MemoryDisk.{MemoryDisk}
 use Rattle.crash_plant.specs.declared.memory_disks.MemoryDisks.{MemoryDisks}
 use Rattle.crash_plant.specs.declared.plain_disk.PlainDisk.{PlainDisk}
-use Rattle.crash_plant.specs.declared.plain_plant.Place.{Place}
+use Rattle.crash_plant.specs.declared.plain_plant.VolumePlace.{VolumePlace}
 use Rattle.crash_plant.specs.declared.shelf.Shelf.{Shelf}
 use Rattle.crash_plant.specs.declared.shelf.Shelf.TheVariants.{Here, Lent, Away}
 use Rattle.crash_plant.specs.declared.memory_plant.MemoryPlant.{MemoryPlant}
@@ -41,7 +41,7 @@ pub remains_left : (choice : List ℕ) (disk : MemoryDisk) (left : PlainDisk) �
 remains_left choice disk left is = ap (λ (l : List ℕ). with_bytes l (length l)) is ∙ ap (λ (n : ℕ). with_bytes (left_of choice (past_of disk) (held disk)) n) (length-left choice disk)
 
 -- wherever a disk is
-pub all_remains : (choice : List ℕ) (disks : MemoryDisks) (control state : PlainDisk) (journals : List PlainDisk) (volumes : List Place) → disk_remains control ≡ remains_here choice disks.control → disk_remains state ≡ remains_here choice disks.state
+pub all_remains : (choice : List ℕ) (disks : MemoryDisks) (control state : PlainDisk) (journals : List PlainDisk) (volumes : List VolumePlace) → disk_remains control ≡ remains_here choice disks.control → disk_remains state ≡ remains_here choice disks.state
     → length journals ≡ length disks.journals.items → ((j : ℕ) → j < length disks.journals.items → seen_at disk_remains nothing journals j ≡ seen_at (remains_here choice) nothing disks.journals.items j)
     → length volumes ≡ length disks.volumes.items → ((v : ℕ) → v < length disks.volumes.items → seen_at place_remains nothing volumes v ≡ seen_at (remains_of choice) nothing disks.volumes.items v)
     → (d : Device) → seen_of disk_remains place_remains nothing control state journals volumes d ≡ remains_of choice (view disks d)
@@ -95,7 +95,7 @@ module _ (m : MemoryPlant) (plant : PlainPlant) (choice : List ℕ) (remains : (
   pub crash_none_lent : length plant.volumes.items ≡ volumes_of m.disks → NoneLent (plain_state plant)
   crash_none_lent volumes v there = place_alike plant.volumes.items v there (seen (λ (r : Remains). r.is_lent) (Volume v) ∙ volume_here v (omega (arith, there, volumes)))
     where
-      place_alike : (places : List Place) (i : ℕ) → i < length places → seen_at (λ y. (place_remains y).is_lent) true places i ≡ false → seen_at place_is_lent false places i ≡ false
+      place_alike : (places : List VolumePlace) (i : ℕ) → i < length places → seen_at (λ y. (place_remains y).is_lent) true places i ≡ false → seen_at place_is_lent false places i ≡ false
       place_alike [] i less same = absurd (omega (arith, less))
       place_alike (x ∷ places) zero less same = same
       place_alike (x ∷ places) (suc i) less same = place_alike places i (omega (arith, less)) same

@@ -5,7 +5,7 @@ use Rattle.crash_plant.specs.declared.plain_disk.PlainDisk.{PlainDisk}
 use Rattle.crash_plant.specs.declared.device.Device.{Device}
 use Rattle.crash_plant.specs.declared.device.Device.TheVariants.{Control, State, Journal, Volume}
 use Rattle.crash_plant.specs.declared.memory_disks.MemoryDisks.{MemoryDisks}
-use Rattle.crash_plant.specs.declared.plain_plant.Place.{Place}
+use Rattle.crash_plant.specs.declared.plain_plant.VolumePlace.{VolumePlace}
 use Rattle.crash_plant.specs.declared.shelf.Shelf.{Shelf}
 use Rattle.crash_plant.specs.declared.shelf.Shelf.TheVariants.{Here, Away}
 use Rattle.crash_plant.specs.Devices.{seen_at, seen_of}
@@ -23,7 +23,7 @@ fresh_is disk plain is base past =
     ap (λ (l : List ℕ). with_parts l (first_held disk) (past_of disk)) is ∙ ap (λ (l : List ℕ). with_parts plain.bytes.items l (past_of disk)) base ∙ ap (λ (l : List Note). with_parts plain.bytes.items plain.bytes.items l) past
 
 -- Disks of a plain plant with no past, wherever they are.
-pub fresh_view : (disks : MemoryDisks) (control state : PlainDisk) (journals : List PlainDisk) (volumes : List Place) → fresh_of (Here disks.control) ≡ fresh_disk control → fresh_of (Here disks.state) ≡ fresh_disk state
+pub fresh_view : (disks : MemoryDisks) (control state : PlainDisk) (journals : List PlainDisk) (volumes : List VolumePlace) → fresh_of (Here disks.control) ≡ fresh_disk control → fresh_of (Here disks.state) ≡ fresh_disk state
     → length disks.journals.items ≡ length journals → ((j : ℕ) → j < length journals → seen_at (λ (disk : MemoryDisk). fresh_of (Here disk)) absent disks.journals.items j ≡ seen_at fresh_disk absent journals j)
     → length disks.volumes.items ≡ length volumes → ((v : ℕ) → v < length volumes → seen_at fresh_of absent disks.volumes.items v ≡ seen_at fresh_place absent volumes v)
     → (d : Device) → fresh_of (view disks d) ≡ seen_of fresh_disk fresh_place absent control state journals volumes d

@@ -6,7 +6,7 @@ use Rattle.std.proofs.Math.Seq.{take-append-add, drop-append-add}
 use Rattle.std.proofs.lemmas.Bool.{cases_lt}
 use Rattle.crash_plant.specs.declared.entry.Done.{Done}
 use Rattle.crash_plant.specs.declared.entry.Done.TheVariants.{Write, Sync}
-use Rattle.crash_plant.specs.declared.entry.Entry.{Entry}
+use Rattle.crash_plant.specs.declared.entry.PastCall.{PastCall}
 use Rattle.crash_plant.specs.Bytes.{patched, Torn}
 use Rattle.crash_plant.specs.DiskRemains.{repeated, open_then, open_begin, open_after, open_writes, filled, all_filled, left_of}
 use Rattle.crash_plant.specs.Pasts.{Note, note_of, Step, Through, Does, Chains, Fits, AllFit}
@@ -47,10 +47,10 @@ open_next_by past next i from n Sync is size grows within so_far = rw is (
     drop_past (x ∷ xs) zero le = absurd (omega (arith, le))
     drop_past (x ∷ xs) (suc k) le = drop_past xs k (omega (arith, le))
 
-pub open_next : (log : List Entry) (i from : ℕ) (e : Entry) → take (i + 1) log ≡ take i log ++ e ∷ [] → i < length log → from ≤ i → drop from (map note_of (take i log)) ≡ open_writes (map note_of (take i log))
+pub open_next : (log : List PastCall) (i from : ℕ) (e : PastCall) → take (i + 1) log ≡ take i log ++ e ∷ [] → i < length log → from ≤ i → drop from (map note_of (take i log)) ≡ open_writes (map note_of (take i log))
     → (open_begin e.done from (i + 1) ≤ i + 1) × (drop (open_begin e.done from (i + 1)) (map note_of (take (i + 1) log)) ≡ open_writes (map note_of (take (i + 1) log)))
 open_next log i from e grows less within so_far =
-    open_next_by (map note_of (take i log)) (map note_of (take (i + 1) log)) i from (note_of e) e.done refl (omega (arith, length-map (take i log) note_of, length-take i log, less)) (ap (λ (l : List Entry). map note_of l) grows ∙ map_push note_of (take i log) e) within so_far
+    open_next_by (map note_of (take i log)) (map note_of (take (i + 1) log)) i from (note_of e) e.done refl (omega (arith, length-map (take i log) note_of, length-take i log, less)) (ap (λ (l : List PastCall). map note_of l) grows ∙ map_push note_of (take i log) e) within so_far
 
 -- A call that keeps within the length keeps the length.
 pub length-filled : (choice : List ℕ) (done : Done) (bytes : List ℕ) → Fits (length bytes) done → length (filled choice done bytes) ≡ length bytes
@@ -217,22 +217,22 @@ pub open_writes_fit : (past : List Note) (b now : List ℕ) → Chains b past no
 open_writes_fit past b now chains = open_fit past b now [] tt chains
 
 -- each of the writes
-pub fit_at : (size : ℕ) (log : List Entry) (i : ℕ) (d : Entry) → i < length log → AllFit size (map note_of log) → Fits size (get_or log i d).done
+pub fit_at : (size : ℕ) (log : List PastCall) (i : ℕ) (d : PastCall) → i < length log → AllFit size (map note_of log) → Fits size (get_or log i d).done
 fit_at size [] i d less fits = absurd (omega (arith, less))
 fit_at size (e ∷ log) zero d less fits = fits.0
 fit_at size (e ∷ log) (suc i) d less fits = fit_at size log i d (omega (arith, less)) fits.1
 
-pub fit_take : (size : ℕ) (log : List Entry) (i : ℕ) → AllFit size (map note_of log) → AllFit size (map note_of (take i log))
+pub fit_take : (size : ℕ) (log : List PastCall) (i : ℕ) → AllFit size (map note_of log) → AllFit size (map note_of (take i log))
 fit_take size log zero fits = tt
 fit_take size [] (suc i) fits = tt
 fit_take size (e ∷ log) (suc i) fits = (fits.0, fit_take size log i fits.1)
 
 -- the calls of the record from a place on
-pub notes_behind : (log seen again : List Entry) (from : ℕ) → seen ≡ log → again ≡ log → drop from (map note_of again) ≡ open_writes (map note_of again) → map note_of (take (length seen - from) (drop from seen)) ≡ open_writes (map note_of log)
+pub notes_behind : (log seen again : List PastCall) (from : ℕ) → seen ≡ log → again ≡ log → drop from (map note_of again) ≡ open_writes (map note_of again) → map note_of (take (length seen - from) (drop from seen)) ≡ open_writes (map note_of log)
 notes_behind log seen again from is same open_ones =
-    ap (λ (l : List Entry). map note_of l) (take_rest seen from) ∙ notes_drop seen from ∙ ap (λ (l : List Entry). drop from (map note_of l)) (is ∙ sym same) ∙ open_ones ∙ ap (λ (l : List Entry). open_writes (map note_of l)) same
+    ap (λ (l : List PastCall). map note_of l) (take_rest seen from) ∙ notes_drop seen from ∙ ap (λ (l : List PastCall). drop from (map note_of l)) (is ∙ sym same) ∙ open_ones ∙ ap (λ (l : List PastCall). open_writes (map note_of l)) same
   where
-    notes_drop : (l : List Entry) (k : ℕ) → map note_of (drop k l) ≡ drop k (map note_of l)
+    notes_drop : (l : List PastCall) (k : ℕ) → map note_of (drop k l) ≡ drop k (map note_of l)
     notes_drop l zero = refl
     notes_drop [] (suc k) = refl
     notes_drop (e ∷ l) (suc k) = notes_drop l k

@@ -4,7 +4,7 @@ use Rattle.std.proofs.lemmas.Bool.{cases_lt}
 use Rattle.std.proofs.lemmas.Bool.Decides.{nat_tests}
 use Rattle.crash_plant.specs.declared.entry.Done.{Done}
 use Rattle.crash_plant.specs.declared.entry.Done.TheVariants.{Write, Sync}
-use Rattle.crash_plant.specs.declared.entry.Entry.{Entry}
+use Rattle.crash_plant.specs.declared.entry.PastCall.{PastCall}
 use Rattle.crash_plant.specs.Bytes.{Torn}
 use Rattle.crash_plant.specs.Pasts.{Note, note_of, Step, Reach, Through, Does, Chains, InTime, last_till, moved_one, moved_entry, moved}
 
@@ -241,7 +241,7 @@ module _ (lent till : ℕ) (after_lent : lent + 1 < till) where
   ]
 
 -- What is moved of the record is what is moved of its notes.
-pub notes_moved : (lent till : ℕ) (log : List Entry) → map note_of (map (moved_entry lent till) log) ≡ moved lent till (map note_of log)
+pub notes_moved : (lent till : ℕ) (log : List PastCall) → map note_of (map (moved_entry lent till) log) ≡ moved lent till (map note_of log)
 notes_moved lent till [] = refl
 notes_moved lent till (e ∷ log) = elim (cases_lt lent e.till) [
   | inl late ↦

@@ -4,7 +4,7 @@ use Rattle.std.proofs.lemmas.List.{length-set}
 use Rattle.crash_plant.specs.declared.device.Device.{Device}
 use Rattle.crash_plant.specs.declared.device.Device.TheVariants.{Journal, Volume}
 use Rattle.crash_plant.specs.declared.plain_disk.PlainDisk.{PlainDisk}
-use Rattle.crash_plant.specs.declared.plain_plant.Place.{Place}
+use Rattle.crash_plant.specs.declared.plain_plant.VolumePlace.{VolumePlace}
 use Rattle.crash_plant.specs.Bytes.{resized}
 use Rattle.crash_plant.specs.Moments.{PlantState}
 use Rattle.crash_plant.specs.Calls.{NoneLent, SameLoan}
@@ -24,8 +24,8 @@ pub on_err : {T E P Q : Type 0} (result : Result T E) → (P → Q) → OnErr re
 on_err (Ok x) leads holds = tt
 on_err (Err e) leads holds = leads holds
 
-module _ (control state : PlainDisk) (journals : List PlainDisk) (volumes : List Place) (heard said script : List ℕ) (console_faults : ℕ) (device : Device) (number j : ℕ) (index_is : j ≡ number) where
-  abbrev plant : List PlainDisk → List Place → Contents
+module _ (control state : PlainDisk) (journals : List PlainDisk) (volumes : List VolumePlace) (heard said script : List ℕ) (console_faults : ℕ) (device : Device) (number j : ℕ) (index_is : j ≡ number) where
+  abbrev plant : List PlainDisk → List VolumePlace → Contents
   plant disks places = contents_of plain_sight control state disks places heard said script console_faults
 
   module _ (old new : PlainDisk) (is : device ≡ Journal number) (within : j < length journals) (was : old ≡ slice_index_or journals j old) where
@@ -56,7 +56,7 @@ module _ (control state : PlainDisk) (journals : List PlainDisk) (volumes : List
       faults = λ d. seen_of_journal_same (λ disk. 0) (λ place. 0) 0 control state journals volumes j new d (λ less. sym (seen_is (λ (disk : PlainDisk). 0) 0 journals j old was less));
     }
 
-  module _ (old new : Place) (is : device ≡ Volume number) (within : j < length volumes) (was : old ≡ slice_index_or volumes j old) (here : place_is_lent new ≡ place_is_lent old) where
+  module _ (old new : VolumePlace) (is : device ≡ Volume number) (within : j < length volumes) (was : old ≡ slice_index_or volumes j old) (here : place_is_lent new ≡ place_is_lent old) where
     loans : (v : ℕ) → SameLoan v (still (plant journals volumes)) (still (plant journals (slice_set volumes j new)))
     loans v = loan_still v (plant journals volumes) (plant journals (slice_set volumes j new)) (seen_set_same place_is_lent false volumes j v new (λ less. here ∙ sym (seen_is place_is_lent false volumes j old was less)))
 
@@ -71,7 +71,7 @@ module _ (control state : PlainDisk) (journals : List PlainDisk) (volumes : List
       journals = refl;
       volumes = length-set volumes j new;
       loans = loans;
-      faults = λ d. seen_of_volume_same (λ disk. 0) (λ place. 0) 0 control state journals volumes j new d (λ less. sym (seen_is (λ (place : Place). 0) 0 volumes j old was less));
+      faults = λ d. seen_of_volume_same (λ disk. 0) (λ place. 0) 0 control state journals volumes j new d (λ less. sym (seen_is (λ (place : VolumePlace). 0) 0 volumes j old was less));
       console = record { heard = refl; said = refl; script = refl; console_faults = refl };
     }
       where
@@ -84,7 +84,7 @@ module _ (control state : PlainDisk) (journals : List PlainDisk) (volumes : List
       site = record { journals = refl; volumes = length-set volumes j new; lengths = λ d. seen_of_volume_same disk_length place_length 0 control state journals volumes j new d (λ less. size ∙ sym (seen_is place_length 0 volumes j old was less)) };
       loans = loans;
       bytes = λ d. seen_of_volume_same disk_bytes place_bytes [] control state journals volumes j new d (λ less. bytes ∙ sym (seen_is place_bytes [] volumes j old was less));
-      faults = λ d. seen_of_volume_same (λ disk. 0) (λ place. 0) 0 control state journals volumes j new d (λ less. sym (seen_is (λ (place : Place). 0) 0 volumes j old was less));
+      faults = λ d. seen_of_volume_same (λ disk. 0) (λ place. 0) 0 control state journals volumes j new d (λ less. sym (seen_is (λ (place : VolumePlace). 0) 0 volumes j old was less));
     }
 
 -- A change of a device lends no volume.

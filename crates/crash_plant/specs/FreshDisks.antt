@@ -1,7 +1,7 @@
 -- Disks whose past begins.
 use Rattle.std.specs.Prelude.{ℕ, Bool, true, false, List, []}
 use Rattle.crash_plant.specs.declared.plain_disk.PlainDisk.{PlainDisk}
-use Rattle.crash_plant.specs.declared.plain_plant.Place.{Place}
+use Rattle.crash_plant.specs.declared.plain_plant.VolumePlace.{VolumePlace}
 use Rattle.crash_plant.specs.declared.shelf.Shelf.{Shelf}
 use Rattle.crash_plant.specs.declared.shelf.Shelf.TheVariants.{Here, Lent, Away}
 use Rattle.crash_plant.specs.Pasts.{Note}
@@ -33,7 +33,7 @@ fresh_with bytes length_is is_lent = record { bytes = bytes; base = bytes; past 
 abbrev pub fresh_disk : PlainDisk → Fresh
 fresh_disk disk = fresh_with (disk_bytes disk) (disk_length disk) false
 
-abbrev pub fresh_place : Place → Fresh
+abbrev pub fresh_place : VolumePlace → Fresh
 fresh_place place = fresh_with (place_bytes place) (place_length place) (place_is_lent place)
 
 abbrev pub absent : Fresh

@@ -3,7 +3,7 @@ use Rattle.std.specs.Prelude.{◌≡◌, ◌⊎◌, ◌+◌, ◌≤◌, ◌<◌,
 use Rattle.std.specs.Coded.{Unit-prop, le_prop, Coded-set, coded_list, coded_ℕ}
 use Rattle.crash_plant.specs.declared.entry.Done.{Done}
 use Rattle.crash_plant.specs.declared.entry.Done.TheVariants.{Write, Sync}
-use Rattle.crash_plant.specs.declared.entry.Entry.{Entry}
+use Rattle.crash_plant.specs.declared.entry.PastCall.{PastCall}
 use Rattle.crash_plant.specs.Bytes.{Torn}
 
 -- a call, and what the disk held then
@@ -13,7 +13,7 @@ pub record Note : Type 0 where
   pub done : Done
   pub after : List ℕ
 
-abbrev pub note_of : Entry → Note
+abbrev pub note_of : PastCall → Note
 note_of entry = record { since = entry.since; till = entry.till; done = entry.done; after = entry.after.value.bytes.items }
 
 -- A call takes an image to an image: a write leaves any bytes in its range, and a sync what the disk held.
@@ -65,7 +65,7 @@ last_till till (n ∷ past) = last_till n.till past
 abbrev pub moved_one : ℕ → ℕ → Note → Note
 moved_one lent till n = cond (nat_le n.till lent) n (record { since = min n.since (lent + 1); till = till; done = n.done; after = n.after })
 
-abbrev pub moved_entry : ℕ → ℕ → Entry → Entry
+abbrev pub moved_entry : ℕ → ℕ → PastCall → PastCall
 moved_entry lent till entry = cond (nat_le entry.till lent) entry (record { since = min entry.since (lent + 1); till = till; done = entry.done; after = entry.after })
 
 abbrev pub moved : ℕ → ℕ → List Note → List Note

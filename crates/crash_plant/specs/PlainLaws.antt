@@ -3,14 +3,14 @@ use Rattle.std.specs.Prelude.{◌≡◌, ℕ, zero, suc, List, [], ◌∷◌, le
 use Rattle.crash_plant.specs.declared.device.Device.{Device}
 use Rattle.crash_plant.specs.declared.device.Device.TheVariants.{Control, State, Journal, Volume}
 use Rattle.crash_plant.specs.declared.plain_disk.PlainDisk.{PlainDisk}
-use Rattle.crash_plant.specs.declared.plain_plant.Place.{Place}
-use Rattle.crash_plant.specs.declared.plain_plant.Place.TheVariants.{Here, Lent}
+use Rattle.crash_plant.specs.declared.plain_plant.VolumePlace.{VolumePlace}
+use Rattle.crash_plant.specs.declared.plain_plant.VolumePlace.TheVariants.{Here, Lent}
 use Rattle.crash_plant.specs.declared.plain_plant.PlainPlant.{PlainPlant}
 use Rattle.crash_plant.specs.Calls.{IsThere}
 use Rattle.crash_plant.specs.PlainPlant.{plain_state, disk_bytes, disk_length, place_bytes, place_length, place_is_lent}
 use Rattle.crash_plant.specs.Devices.{seen_at}
 
-length_here : (places : List Place) (v : ℕ) → seen_at place_is_lent false places v ≡ false → length (seen_at place_bytes [] places v) ≡ seen_at place_length 0 places v
+length_here : (places : List VolumePlace) (v : ℕ) → seen_at place_is_lent false places v ≡ false → length (seen_at place_bytes [] places v) ≡ seen_at place_length 0 places v
 length_here [] v here = refl
 length_here ((Here disk) ∷ places) zero here = refl
 length_here ((Lent n) ∷ places) zero here = absurd (cc here)

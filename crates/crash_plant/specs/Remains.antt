@@ -2,7 +2,7 @@
 use Rattle.std.specs.Prelude.{ℕ, Bool, true, false, List, []}
 use Rattle.crash_plant.specs.declared.memory_disk.MemoryDisk.{MemoryDisk}
 use Rattle.crash_plant.specs.declared.plain_disk.PlainDisk.{PlainDisk}
-use Rattle.crash_plant.specs.declared.plain_plant.Place.{Place}
+use Rattle.crash_plant.specs.declared.plain_plant.VolumePlace.{VolumePlace}
 use Rattle.crash_plant.specs.declared.shelf.Shelf.{Shelf}
 use Rattle.crash_plant.specs.declared.shelf.Shelf.TheVariants.{Here, Lent, Away}
 use Rattle.crash_plant.specs.DiskRemains.{left_of}
@@ -31,7 +31,7 @@ remains_here choice disk = remains_of choice (Here disk)
 abbrev pub disk_remains : PlainDisk → Remains
 disk_remains disk = record { bytes = disk_bytes disk; length_is = disk_length disk; is_lent = false }
 
-abbrev pub place_remains : Place → Remains
+abbrev pub place_remains : VolumePlace → Remains
 place_remains place = record { bytes = place_bytes place; length_is = place_length place; is_lent = place_is_lent place }
 
 abbrev pub nothing : Remains

@@ -3,7 +3,7 @@ ghost use Rattle.std.specs.Prelude.{◌≡◌, ◌≤◌, ◌+◌, ◌%◌, [], 
 ghost use Rattle.crash_plant.specs.DiskRemains.{all_filled, filled, open_begin, open_writes, repeated};
 ghost use Rattle.crash_plant.specs.Pasts.{AllFit, Fits, note_of};
 
-use crate::entry::{Done, Entry};
+use crate::entry::{Done, PastCall};
 use crate::plain_disk::patch;
 use std::alloc::Global;
 use xrc_edge::NoMemory;
@@ -54,7 +54,7 @@ fn begin_then(done: Done, from: usize, next: usize) -> usize
 }
 
 /// Where in the record the writes behind the last sync begin.
-pub(crate) fn open_from(log: &[Entry]) -> usize
+pub(crate) fn open_from(log: &[PastCall]) -> usize
     ensures within { result ≤ length log.now }
     ensures open_ones { drop result (map note_of log.now) ≡ open_writes (map note_of log.now) }
 {
@@ -69,7 +69,7 @@ pub(crate) fn open_from(log: &[Entry]) -> usize
 pub(crate) fn fill_all(
     alloc: Global,
     bytes: &mut Vec<u8>,
-    writes: &[Entry],
+    writes: &[PastCall],
     choice: &[u8],
 ) -> Result<(), NoMemory>
     requires { AllFit (length bytes.old.items) (map note_of writes.now) }

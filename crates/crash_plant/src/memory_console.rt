@@ -2,7 +2,7 @@ ghost use Rattle.std.specs.Prelude.{◌≡◌, ◌≤◌, ◌++◌, [], ◌∷�
 ghost use Rattle.crash_plant.specs.Turns.{InTurn, InTurn-prop, last_turn};
 
 use crate::Heard;
-use crate::turn::Turn;
+use crate::turn::ConsoleTurn;
 use std::alloc::Global;
 use xrc_edge::{Bytes, NoMemory};
 
@@ -12,8 +12,8 @@ pub(crate) struct MemoryConsole {
     script: Bytes,
     next: usize,
     said: Vec<u8>,
-    first: Turn,
-    turns: Vec<Turn>,
+    first: ConsoleTurn,
+    turns: Vec<ConsoleTurn>,
     ghost next_within: { next ≤ length script },
     ghost in_turn: { InTurn first turns.items } by { InTurn-prop first turns.items },
     ghost heard_is: { (last_turn first turns.items).heard ≡ next },
@@ -23,7 +23,7 @@ pub(crate) struct MemoryConsole {
 // Says the bytes, and puts the call into the record.
 fn utter(
     said: &mut Vec<u8>,
-    turns: &mut Vec<Turn>,
+    turns: &mut Vec<ConsoleTurn>,
     at: u64,
     heard: u64,
     bytes: &[u8],
@@ -35,7 +35,7 @@ fn utter(
 {
     turns.reserve(1)?;
     said.extend_from_slice(bytes)?;
-    turns.push_reserved(Turn {
+    turns.push_reserved(ConsoleTurn {
         at,
         heard,
         said: said.len() as u64,
@@ -62,7 +62,7 @@ impl MemoryConsole {
         ensures turns { result.turns.items ≡ [] }
     {
         MemoryConsole {
-            first: Turn {
+            first: ConsoleTurn {
                 at,
                 heard: next as u64,
                 said: said.len() as u64,
@@ -94,7 +94,7 @@ impl MemoryConsole {
         let byte = script[self.next];
         self.turns.reserve(1)?;
         self.next += 1;
-        self.turns.push_reserved(Turn {
+        self.turns.push_reserved(ConsoleTurn {
             at: now,
             heard: self.next as u64,
             said: self.said.len() as u64,

@@ -4,7 +4,7 @@ ghost use Rattle.crash_plant.specs.DiskRemains.{left_of};
 ghost use Rattle.crash_plant.specs.Pasts.{Chains, Chains-prop, Does, InTime, InTime-prop, last_till, moved, moved_entry, note_of};
 
 use crate::PlainDisk;
-use crate::entry::{Done, Entry};
+use crate::entry::{Done, PastCall};
 use crate::left::{fill_all, open_from};
 use crate::plain_disk::{copy_out, patch};
 use std::alloc::Global;
@@ -16,7 +16,7 @@ use xrc_edge::NoMemory;
 pub(crate) struct MemoryDisk {
     disk: PlainDisk,
     base: Snapshot<PlainDisk>,
-    log: Vec<Entry>,
+    log: Vec<PastCall>,
     ghost chained: { Chains base.value.bytes.items (map note_of log.items) disk.bytes.items } by { Chains-prop base.value.bytes.items (map note_of log.items) disk.bytes.items },
     ghost in_time: { InTime 0 0 (map note_of log.items) } by { InTime-prop 0 0 (map note_of log.items) },
 }
@@ -24,7 +24,7 @@ pub(crate) struct MemoryDisk {
 // Writes the bytes, and puts the call into the record.
 fn note(
     disk: &mut PlainDisk,
-    log: &mut Vec<Entry>,
+    log: &mut Vec<PastCall>,
     now: u64,
     done: Done,
     place: u64,
@@ -39,7 +39,7 @@ fn note(
 {
     log.reserve(1)?;
     patch(&mut disk.bytes, place as usize, bytes);
-    log.push_reserved(Entry {
+    log.push_reserved(PastCall {
         since: now,
         till: now,
         done,
@@ -48,7 +48,7 @@ fn note(
     Ok(())
 }
 
-fn move_entry(entry: &mut Entry, lent: u64, till: u64)
+fn move_entry(entry: &mut PastCall, lent: u64, till: u64)
     requires { lent + 1 < till }
     ensures { entry.new ≡ moved_entry lent till entry.old }
 {
@@ -59,7 +59,7 @@ fn move_entry(entry: &mut Entry, lent: u64, till: u64)
 }
 
 // The calls behind a moment were done between that and another.
-fn move_entries(log: &mut Vec<Entry>, lent: u64, till: u64)
+fn move_entries(log: &mut Vec<PastCall>, lent: u64, till: u64)
     requires { lent + 1 < till }
     ensures { log.new.items ≡ map (moved_entry lent till) log.old.items }
 {

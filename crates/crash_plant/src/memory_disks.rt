@@ -11,7 +11,7 @@ ghost use Rattle.crash_plant.specs.declared.shelf.Shelf.TheVariants.{Here};
 
 use crate::entry::Done;
 use crate::memory_disk::MemoryDisk;
-use crate::plain_plant::Place;
+use crate::plain_plant::VolumePlace;
 use crate::shelf::Shelf;
 use crate::{Device, PlainDisk, PlainPlant};
 use std::alloc::Global;
@@ -39,16 +39,16 @@ fn with_pasts(alloc: Global, plain: Vec<PlainDisk>) -> Result<Vec<MemoryDisk>, N
     Ok(disks)
 }
 
-fn shelf_of(alloc: Global, place: Place) -> Shelf
+fn shelf_of(alloc: Global, place: VolumePlace) -> Shelf
     ensures { fresh_of result ≡ fresh_place place }
 {
     match place {
-        Place::Here(disk) => Shelf::Here(MemoryDisk::new(alloc, disk)),
-        Place::Lent(length) => Shelf::Away(length),
+        VolumePlace::Here(disk) => Shelf::Here(MemoryDisk::new(alloc, disk)),
+        VolumePlace::Lent(length) => Shelf::Away(length),
     }
 }
 
-fn shelves(alloc: Global, places: Vec<Place>) -> Result<Vec<Shelf>, NoMemory>
+fn shelves(alloc: Global, places: Vec<VolumePlace>) -> Result<Vec<Shelf>, NoMemory>
     ensures number { IfOk result (λ shelves. length shelves.items ≡ length places.items) }
     ensures fresh { IfOk result (λ shelves. (v : ℕ) → v < length places.items → seen_at fresh_of absent shelves.items v ≡ seen_at fresh_place absent places.items v) }
 {
@@ -65,13 +65,13 @@ fn disk_left(alloc: Global, disk: &MemoryDisk, choice: &[u8]) -> Result<PlainDis
     disk.left(alloc, choice)
 }
 
-fn place_left(alloc: Global, shelf: &Shelf, choice: &[u8]) -> Result<Place, NoMemory>
+fn place_left(alloc: Global, shelf: &Shelf, choice: &[u8]) -> Result<VolumePlace, NoMemory>
     ensures { IfOk result (λ place. place_remains place ≡ remains_of choice.now shelf.now) }
 {
     match shelf {
-        Shelf::Here(disk) => Ok(Place::Here(disk_left(alloc, disk, choice)?)),
-        Shelf::Lent { length, .. } => Ok(Place::Lent(*length)),
-        Shelf::Away(length) => Ok(Place::Lent(*length)),
+        Shelf::Here(disk) => Ok(VolumePlace::Here(disk_left(alloc, disk, choice)?)),
+        Shelf::Lent { length, .. } => Ok(VolumePlace::Lent(*length)),
+        Shelf::Away(length) => Ok(VolumePlace::Lent(*length)),
     }
 }
 
@@ -90,7 +90,11 @@ fn disks_left(
     Ok(left)
 }
 
-fn places_left(alloc: Global, shelves: &[Shelf], choice: &[u8]) -> Result<Vec<Place>, NoMemory>
+fn places_left(
+    alloc: Global,
+    shelves: &[Shelf],
+    choice: &[u8],
+) -> Result<Vec<VolumePlace>, NoMemory>
     ensures number { IfOk result (λ left. length left.items ≡ length shelves.now) }
     ensures remains { IfOk result (λ left. (v : ℕ) → v < length shelves.now → seen_at place_remains nothing left.items v ≡ seen_at (remains_of choice.now) nothing shelves.now v) }
 {
@@ -121,7 +125,7 @@ impl MemoryDisks {
         control: PlainDisk,
         state: PlainDisk,
         journals: Vec<PlainDisk>,
-        volumes: Vec<Place>,
+        volumes: Vec<VolumePlace>,
     ) -> Result<MemoryDisks, NoMemory>
         ensures fresh { IfOk result (λ disks. (d : Device) → fresh_of (view disks d) ≡ seen_of fresh_disk fresh_place absent control state journals.items volumes.items d) }
         ensures journals { IfOk result (λ disks. journals_of disks ≡ length journals.items) }

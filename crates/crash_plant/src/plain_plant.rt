@@ -13,7 +13,7 @@ use xrc_edge::{Bytes, Failed, NoMemory};
 
 /// A volume's place: it is here, or lent, with its length.
 #[derive(Drop)]
-pub(crate) enum Place {
+pub(crate) enum VolumePlace {
     Here(PlainDisk),
     Lent(u64),
 }
@@ -25,7 +25,7 @@ pub struct PlainPlant {
     pub(crate) control: PlainDisk,
     pub(crate) state: PlainDisk,
     pub(crate) journals: Vec<PlainDisk>,
-    pub(crate) volumes: Vec<Place>,
+    pub(crate) volumes: Vec<VolumePlace>,
     pub(crate) script: Bytes,
     pub(crate) next: usize,
     pub(crate) said: Vec<u8>,
@@ -74,14 +74,14 @@ impl PlainPlant {
         Ok(disks)
     }
 
-    fn zero_places(alloc: Global, number: u16, size: u64) -> Result<Vec<Place>, NoMemory>
+    fn zero_places(alloc: Global, number: u16, size: u64) -> Result<Vec<VolumePlace>, NoMemory>
         ensures number { IfOk result (λ places. length places.items ≡ number) }
         ensures zeros { IfOk result (λ places. (v : ℕ) → v < number → seen_at place_bytes [] places.items v ≡ replicate size 0) }
         ensures here { IfOk result (λ places. (v : ℕ) → v < number → seen_at place_is_lent false places.items v ≡ false) }
     {
         let mut places = Vec::with_capacity(alloc, usize::from(number))?;
         for _ in 0..number {
-            places.push(Place::Here(PlainDisk::zeros(alloc, size)?))?;
+            places.push(VolumePlace::Here(PlainDisk::zeros(alloc, size)?))?;
         }
         Ok(places)
     }
@@ -99,8 +99,8 @@ impl PlainPlant {
             Device::State => self.state.resize(length),
             Device::Journal(number) => self.journals[usize::from(number)].resize(length),
             Device::Volume(number) => match &mut self.volumes[usize::from(number)] {
-                Place::Here(disk) => disk.resize(length),
-                Place::Lent(_) => unreachable!(),
+                VolumePlace::Here(disk) => disk.resize(length),
+                VolumePlace::Lent(_) => unreachable!(),
             },
         }
     }
@@ -159,8 +159,8 @@ impl Plant for PlainPlant {
             Device::State => self.state.length(),
             Device::Journal(number) => self.journals[usize::from(number)].length(),
             Device::Volume(number) => match &self.volumes[usize::from(number)] {
-                Place::Here(disk) => disk.length(),
-                Place::Lent(length) => *length,
+                VolumePlace::Here(disk) => disk.length(),
+                VolumePlace::Lent(length) => *length,
             },
         }
     }
@@ -171,8 +171,8 @@ impl Plant for PlainPlant {
             Device::State => self.state.read(place, into),
             Device::Journal(number) => self.journals[usize::from(number)].read(place, into),
             Device::Volume(number) => match &mut self.volumes[usize::from(number)] {
-                Place::Here(disk) => disk.read(place, into),
-                Place::Lent(_) => unreachable!(),
+                VolumePlace::Here(disk) => disk.read(place, into),
+                VolumePlace::Lent(_) => unreachable!(),
             },
         }
     }
@@ -183,8 +183,8 @@ impl Plant for PlainPlant {
             Device::State => self.state.write(place, bytes),
             Device::Journal(number) => self.journals[usize::from(number)].write(place, bytes),
             Device::Volume(number) => match &mut self.volumes[usize::from(number)] {
-                Place::Here(disk) => disk.write(place, bytes),
-                Place::Lent(_) => unreachable!(),
+                VolumePlace::Here(disk) => disk.write(place, bytes),
+                VolumePlace::Lent(_) => unreachable!(),
             },
         }
     }
@@ -224,13 +224,16 @@ impl Plant for PlainPlant {
 
     fn lend(&mut self, device: u16) -> PlainDisk {
         let length = self.length(Device::Volume(device));
-        match mem::replace(&mut self.volumes[usize::from(device)], Place::Lent(length)) {
-            Place::Here(disk) => disk,
-            Place::Lent(_) => unreachable!(),
+        match mem::replace(
+            &mut self.volumes[usize::from(device)],
+            VolumePlace::Lent(length),
+        ) {
+            VolumePlace::Here(disk) => disk,
+            VolumePlace::Lent(_) => unreachable!(),
         }
     }
 
     fn give_back(&mut self, device: u16, volume: PlainDisk) {
-        self.volumes[usize::from(device)] = Place::Here(volume);
+        self.volumes[usize::from(device)] = VolumePlace::Here(volume);
     }
 }

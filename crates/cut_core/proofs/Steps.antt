@@ -5,7 +5,7 @@ use Rattle.std.proofs.Math.Bool.{or-false}
 use Rattle.cut_core.specs.Events.{Event, told_upto, floor, is_break_of, is_broken_after, is_form_at, is_done}
 use Rattle.cut_core.specs.Events.Event.{Form}
 use Rattle.cut_core.proofs.Ends.{floor_snoc, broken_snoc, done_stays, done_form, not_done, breaks_at}
-use Rattle.cut_core.specs.declared.told.Phase.TheVariants.{Telling, Broken, Done}
+use Rattle.cut_core.specs.declared.told.ToldPhase.TheVariants.{Telling, Broken, Done}
 use Rattle.cut_core.specs.declared.told.Told.{Told}
 use Rattle.cut_core.specs.Floors.{told_after, told_after_form}
 

@@ -3,8 +3,8 @@ use Rattle.std.specs.Prelude.{◌≡◌, ℕ, ◌<◌, ◌==◌, min, List, [], 
 use Rattle.cut_core.specs.Events.{Event, floor, is_broken_after, is_done, last_cut}
 use Rattle.cut_core.specs.LegalHistories.{are_legal}
 use Rattle.tod_stamp.specs.declared.stamp.Stamp.{Stamp}
-use Rattle.cut_core.specs.declared.told.Phase.{Phase}
-use Rattle.cut_core.specs.declared.told.Phase.TheVariants.{Telling, Broken, Done}
+use Rattle.cut_core.specs.declared.told.ToldPhase.{ToldPhase}
+use Rattle.cut_core.specs.declared.told.ToldPhase.TheVariants.{Telling, Broken, Done}
 use Rattle.cut_core.specs.declared.told.Told.{Told}
 
 -- What floors are to their callers: what is kept of each control, and the last cut.
@@ -14,7 +14,7 @@ pub record FloorsState : Type 0 where
   pub last : Stamp
 
 -- what a control does after these events
-abbrev pub phase_of : (control : ℕ) → List Event → Phase
+abbrev pub phase_of : (control : ℕ) → List Event → ToldPhase
 phase_of k past = if is_done k past then Done else if is_broken_after k past then Broken else Telling
 
 abbrev pub told_after : (control : ℕ) → List Event → Told
@@ -26,7 +26,7 @@ pub record StandsAfter (f : FloorsState) (past : List Event) : Type 0 where
   pub told : (k : ℕ) → k < f.controls → slice_get f.told k ≡ Some (told_after k past)
   pub last : f.last.0 ≡ last_cut past
 
-abbrev pub told_to : Stamp → Phase → Told
+abbrev pub told_to : Stamp → ToldPhase → Told
 told_to upto phase = record { floor = upto; phase = phase }
 
 -- what a form with this cut makes of a control

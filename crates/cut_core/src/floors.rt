@@ -8,7 +8,7 @@ ghost use Rattle.cut_core.specs.HistoryEvents.{history_event};
 ghost use Rattle.cut_core.specs.Floors.{StandsAfter, told_to, told_after_form};
 
 use crate::event::Event;
-use crate::told::{Phase, Told};
+use crate::told::{Told, ToldPhase};
 use std::marker::Model;
 use tod_stamp::{MOST_CONTROLS, Stamp};
 
@@ -44,7 +44,7 @@ impl Floors {
             controls,
             told: [Told {
                 floor: Stamp(0),
-                phase: Phase::Telling,
+                phase: ToldPhase::Telling,
             }; MOST_CONTROLS],
             last: Stamp(0),
         }
@@ -59,9 +59,9 @@ impl Floors {
         ensures dropped { (control volume : ℕ) → history_event event.now ≡ Drop control volume false → self.new ≡ self.old }
     {
         match event {
-            Event::Join { batch } => self.tell(batch.control, batch.upto, Phase::Telling),
-            Event::Raise { control, upto } => self.tell(*control, *upto, Phase::Telling),
-            Event::Break { control, upto } => self.tell(*control, *upto, Phase::Broken),
+            Event::Join { batch } => self.tell(batch.control, batch.upto, ToldPhase::Telling),
+            Event::Raise { control, upto } => self.tell(*control, *upto, ToldPhase::Telling),
+            Event::Break { control, upto } => self.tell(*control, *upto, ToldPhase::Broken),
             Event::Form { cut } => self.form(*cut),
             Event::Copied { .. } => {}
             Event::Drop { .. } => {}
@@ -69,7 +69,7 @@ impl Floors {
     }
 
     /// A control tells up to a time.
-    fn tell(&mut self, control: u16, upto: Stamp, phase: Phase)
+    fn tell(&mut self, control: u16, upto: Stamp, phase: ToldPhase)
         requires { control < self.old.controls }
         ensures controls { self.new.controls ≡ self.old.controls }
         ensures last { self.new.last ≡ self.old.last }

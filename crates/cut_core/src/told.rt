@@ -7,7 +7,7 @@ use tod_stamp::Stamp;
 
 /// Whether a control still tells, has broken, or has broken and counts no longer.
 #[derive(Clone, Copy, Debug, PartialEq, Eq)]
-pub enum Phase {
+pub enum ToldPhase {
     Telling,
     Broken,
     Done,
@@ -17,7 +17,7 @@ pub enum Phase {
 #[derive(Clone, Copy, Debug, PartialEq, Eq)]
 pub struct Told {
     pub floor: Stamp,
-    pub phase: Phase,
+    pub phase: ToldPhase,
 }
 
 impl Told {
@@ -26,9 +26,9 @@ impl Told {
         ensures { result ≡ told_after_form cut.0 self }
     {
         match self.phase {
-            Phase::Broken if cut.0 == self.floor.0 => Told {
+            ToldPhase::Broken if cut.0 == self.floor.0 => Told {
                 floor: self.floor,
-                phase: Phase::Done,
+                phase: ToldPhase::Done,
             },
             _ => self,
         }
@@ -39,8 +39,8 @@ impl Told {
         ensures { result ≡ lesser_floor self cut }
     {
         match self.phase {
-            Phase::Telling | Phase::Broken => cut.min(self.floor.0),
-            Phase::Done => cut,
+            ToldPhase::Telling | ToldPhase::Broken => cut.min(self.floor.0),
+            ToldPhase::Done => cut,
         }
     }
 }

@@ -7,7 +7,7 @@ use Rattle.pair_table.specs.declared.row.PairRow.{PairRow}
 use Rattle.write_trace.specs.declared.trace.Trace.{Trace}
 use Rattle.group_state.specs.Controls.{dropped}
 use Rattle.group_state.specs.Groups.{Group, Shown, with_control, cut_of, formed_at, shown_at}
-use Rattle.group_state.specs.SoundStates.{KeepsGroup}
+use Rattle.group_state.specs.SoundStates.{IsGroupSound}
 use Rattle.group_state.specs.Machine.{Call, Reply}
 use Rattle.group_state.specs.Machine.Call.{Join, NextWanted, Copied, Raise, Break, Form, Carry, Drop, Resume, Forget}
 use Rattle.group_state.specs.Runs.{Answer, shown_by}
@@ -126,7 +126,7 @@ module _ (size : Sizes) (traces : List Trace) where
   -- ---- all was kept
 
   abbrev Reached : HeldTracks → (time : ℕ) → List PairRow → List Deed → (end : Group) → (ended : ℕ) → (last : List PairRow) → (known : Plans) → Type 0
-  Reached held time rows deeds end ended last known = (last ≡ rows_behind deeds rows) × (ended ≡ time_meant_behind deeds time) × KeepsGroup end × BeginsLog size traces (held_behind deeds held) end ended last known
+  Reached held time rows deeds end ended last known = (last ≡ rows_behind deeds rows) × (ended ≡ time_meant_behind deeds time) × IsGroupSound end × BeginsLog size traces (held_behind deeds held) end ended last known
 
   quiet_reached : (held : HeldTracks) (time : ℕ) (quiet : List Deed) (rows next : List PairRow) (more : List Deed) (end : Group) (ended : ℕ) (last : List PairRow) (known : Plans) → AreQuiet time rows quiet next → Reached held time next more end ended last known
       → Reached held time rows (quiet ++ more) end ended last known
@@ -192,7 +192,7 @@ module _ (size : Sizes) (traces : List Trace) where
         let then = quiet_begins size traces held s time done deeds rows last moves.0 b in
         let at_end : BeginsLog size traces held s ended last known = subst (λ t. BeginsLog size traces held s t last known) (sym moves.1) (subst (λ (p : Plans). BeginsLog size traces held s time last p) (sym moves.2) then) in
         let same : end ≡ s = log.runs in
-        let here : Reached held time last [] end ended last known = (refl, moves.1, subst KeepsGroup (sym same) log.kept, subst (λ (g : Group). BeginsLog size traces held g ended last known) (sym same) at_end) in
+        let here : Reached held time last [] end ended last known = (refl, moves.1, subst IsGroupSound (sym same) log.kept, subst (λ (g : Group). BeginsLog size traces held g ended last known) (sym same) at_end) in
         subst (λ (ds : List Deed). Reached held time rows ds end ended last known) (append-nil deeds) (quiet_reached held time deeds rows last [] end ended last known moves.0 here)
     reaches (a ∷ run) end = one_all a.call a.reply run end (reaches run end)
 

@@ -14,7 +14,7 @@ use Rattle.group_state.specs.declared.phase.Phase.{Phase}
 use Rattle.group_state.specs.declared.phase.Phase.TheVariants.{Telling, Broken, Reported}
 use Rattle.group_state.specs.Controls.{ControlState, counts, is_telling, phase_after, joined, copied, raised, broke, dropped}
 use Rattle.group_state.specs.Groups.{Group, control_at, with_control, cut_of, formed_at, shown_at}
-use Rattle.group_state.specs.SoundStates.{KeepsGroup, has_told}
+use Rattle.group_state.specs.SoundStates.{IsGroupSound, has_told}
 use Rattle.group_state.specs.Machine.{Call, Reply}
 use Rattle.group_state.specs.Machine.Call.{Join, NextWanted, Copied, Raise, Break, Form, Carry, Drop, Resume, Forget}
 use Rattle.group_state.specs.Runs.{Answer, May}
@@ -79,7 +79,7 @@ telling_same cut floor (Broken cause) e = choose (nat_eq floor.0 cut.0) e
     choose false e = refl
 
 -- a form that doesn't report it
-awaits_form : (s : Group) (limit : Stamp) (k b : ℕ) → KeepsGroup s → is_break_of_control k (shown_at (cut_of s limit) s) ≡ false → AwaitsBreak s k b → AwaitsBreak (formed_at (cut_of s limit) s) k b
+awaits_form : (s : Group) (limit : Stamp) (k b : ℕ) → IsGroupSound s → is_break_of_control k (shown_at (cut_of s limit) s) ≡ false → AwaitsBreak s k b → AwaitsBreak (formed_at (cut_of s limit) s) k b
 awaits_form s limit k b keeps none h =
     let cut = cut_of s limit in
     let c = control_at s k in
@@ -94,7 +94,7 @@ awaits_form s limit k b keeps none h =
     }
 
 -- The cut is up to the break time of a control that counts.
-cut_up_to : (s : Group) (limit : Stamp) (k b : ℕ) → KeepsGroup s → AwaitsBreak s k b → is_break_of_control k (shown_at (cut_of s limit) s) ≡ false → (cut_of s limit).0 ≤ b
+cut_up_to : (s : Group) (limit : Stamp) (k b : ℕ) → IsGroupSound s → AwaitsBreak s k b → is_break_of_control k (shown_at (cut_of s limit) s) ≡ false → (cut_of s limit).0 ≤ b
 cut_up_to s limit k b keeps h none =
     let cut = cut_of s limit in
     let next = formed_at cut s in

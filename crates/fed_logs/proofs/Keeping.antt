@@ -14,7 +14,7 @@ use Rattle.group_state.specs.declared.phase.Phase.TheVariants.{Telling, Broken, 
 use Rattle.group_state.specs.Volumes.{is_wanted}
 use Rattle.group_state.specs.Controls.{ControlState, new_control, is_telling, counts, lesser, fits, fits_track, room_of, joined, copied, raised, broke, begun_volume, dropped, resumed, forgotten, formed}
 use Rattle.group_state.specs.Groups.{Group, control_at, with_control, cut_of, formed_at, shown_at, gives_nothing}
-use Rattle.group_state.specs.SoundStates.{Sound, has_told, KeepsGroup}
+use Rattle.group_state.specs.SoundStates.{Sound, has_told, IsGroupSound}
 use Rattle.group_state.specs.Machine.{Call, reply_to_copied, reply_to, group_after}
 use Rattle.group_state.specs.Machine.Call.{Join, NextWanted, Copied, Raise, Break, Form, Carry, Drop, Resume, Forget}
 use Rattle.group_state.specs.Machine.Reply.{Joined, Held, Formed, Nothing}
@@ -43,7 +43,7 @@ one truth held s j change here all k low = elim (cases_Bool (nat_eq j k)) [
       (all k (omega (arith, low, length-set s.controls j (change (control_at s j)))))
 ]
 
-sound_at : (s : Group) (k : ℕ) → KeepsGroup s → k < length s.controls → Sound (control_at s k)
+sound_at : (s : Group) (k : ℕ) → IsGroupSound s → k < length s.controls → Sound (control_at s k)
 sound_at s k keeps low = All-get_or Sound s.controls k (new_control 0 0 0) low keeps.sound
 
 -- a control that counts has told up to the last cut
@@ -59,7 +59,7 @@ telling_counts Telling e = refl
 telling_counts (Broken cause) e = absurd cc
 telling_counts Reported e = absurd cc
 
-telling_low : (s : Group) (k : ℕ) → KeepsGroup s → k < length s.controls → is_telling (control_at s k).phase ≡ true → s.last.0 ≤ (control_at s k).floor.0
+telling_low : (s : Group) (k : ℕ) → IsGroupSound s → k < length s.controls → is_telling (control_at s k).phase ≡ true → s.last.0 ≤ (control_at s k).floor.0
 telling_low s k keeps low telling = told_to_last s.last (control_at s k) (all_at (has_told s.last) s.controls k (new_control 0 0 0) keeps.told low) (telling_counts (control_at s k).phase telling)
 
 -- ---- the cut
@@ -88,7 +88,7 @@ held_same truth last new old c same h = record {
 }
 
 -- a form, whatever it has
-pub form_keeps : (truth : Truth) (held : HeldTracks) (s : Group) (limit : Stamp) → KeepsGroup s → s.last.0 ≤ limit.0 → AllHold truth held s → AllHold truth (held_behind_group (shown_at (cut_of s limit) s).entries held) (formed_at (cut_of s limit) s)
+pub form_keeps : (truth : Truth) (held : HeldTracks) (s : Group) (limit : Stamp) → IsGroupSound s → s.last.0 ≤ limit.0 → AllHold truth held s → AllHold truth (held_behind_group (shown_at (cut_of s limit) s).entries held) (formed_at (cut_of s limit) s)
 form_keeps truth held s limit keeps may all = λ k low.
     let cut = cut_of s limit in
     let within : k < length s.controls = omega (arith, low, length-map s.controls (formed cut)) in
@@ -98,7 +98,7 @@ form_keeps truth held s limit keeps may all = λ k low.
     (λ v x. names_own k v x (shown_at cut s).entries (held k v x) ∙ ap (λ (es : List WaitingEntry). after_entries (is_queued_on v x) es (held k v x)) (own_part s cut k keeps within))
     (forms (truth k) s.last.0 cut (held k) c (sound_at s k keeps within) (cut_above s.last limit.0 s.controls may keeps.told) (all k within)))
 
-call_keeps : (truth : Truth) (held : HeldTracks) (s : Group) (call : Call) → KeepsGroup s → May s call → (IsTrue (has_changed (reply_to s call)) → TellsTruth truth s call) → AllHold truth held s
+call_keeps : (truth : Truth) (held : HeldTracks) (s : Group) (call : Call) → IsGroupSound s → May s call → (IsTrue (has_changed (reply_to s call)) → TellsTruth truth s call) → AllHold truth held s
     → AllHold truth (held_after (reply_to s call) held) (group_after s call)
 call_keeps truth held s (Join b) keeps may tells all = choose (fits (control_at s b.control) b) tells
   where

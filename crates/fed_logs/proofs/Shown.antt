@@ -16,7 +16,7 @@ use Rattle.group_state.specs.declared.volume.Volume.{Volume}
 use Rattle.group_state.specs.Volumes.{is_numbered, volume_of, has_volume, passes, wants, is_volume_done}
 use Rattle.group_state.specs.Controls.{ControlState, new_control, counts, is_telling, reported, reported_cause, reported_break, phase_after, formed, done_of}
 use Rattle.group_state.specs.Groups.{Group, control_at, formed_at, shown_at}
-use Rattle.group_state.specs.SoundStates.{Sound, KeepsGroup, are_distinct, passes_or_none, has_joined}
+use Rattle.group_state.specs.SoundStates.{Sound, IsGroupSound, are_distinct, passes_or_none, has_joined}
 use Rattle.group_state.specs.HistoryLaws.{is_named}
 use Rattle.group_state.proofs.SoundLaws.{count_cons}
 use Rattle.group_state.proofs.FormLaws.{sound_formed}
@@ -69,7 +69,7 @@ still_counts k cut floor (Broken cause) none e = choose (nat_eq floor.0 cut.0) n
     choose true none = absurd (true≢false (sym (either_left (nat_eq k k) false (eq-eqb k k refl)) ∙ none))
     choose false none = refl
 
-pub counts_behind : (s : Group) (cut : Stamp) (k : ℕ) → KeepsGroup s → k < length s.controls → is_break_of_control k (shown_at cut s) ≡ false → counts (control_at s k).phase ≡ true → counts (control_at (formed_at cut s) k).phase ≡ true
+pub counts_behind : (s : Group) (cut : Stamp) (k : ℕ) → IsGroupSound s → k < length s.controls → is_break_of_control k (shown_at cut s) ≡ false → counts (control_at s k).phase ≡ true → counts (control_at (formed_at cut s) k).phase ≡ true
 counts_behind s cut k keeps low none counted =
     let c = control_at s k in
     let own = control_number s k keeps low in
@@ -94,7 +94,7 @@ told_break j k cut floor (Broken cause) any = choose (nat_eq floor.0 cut.0) refl
     choose true is any = (eqb-true j k (first (nat_eq j k) any), sym (eqb-true floor.0 cut.0 is), refl)
     choose false is any = absurd cc
 
-pub break_was_told : (s : Group) (cut : Stamp) (k : ℕ) → KeepsGroup s → is_break_of_control k (shown_at cut s) ≡ true → (k < length s.controls) × (cut.0 ≡ (control_at s k).floor.0) × (is_telling (control_at s k).phase ≡ false)
+pub break_was_told : (s : Group) (cut : Stamp) (k : ℕ) → IsGroupSound s → is_break_of_control k (shown_at cut s) ≡ true → (k < length s.controls) × (cut.0 ≡ (control_at s k).floor.0) × (is_telling (control_at s k).phase ≡ false)
 break_was_told s cut k keeps any =
     let at = any_flat (is_of k) (reported_break cut) s.controls (new_control 0 0 0) any in
     let c = control_at s at.at in
@@ -176,7 +176,7 @@ plan_done v c sound done = record { carried = carried (volume_of v c.volumes) do
           | inr same ↦ omega (arith, p.2, eqb-true u.plan.joined (count_by (is_copy_of v) c.queue.waiting) same)
         ]
 
-pub shown_done : (s : Group) (cut : Stamp) (k v : ℕ) → KeepsGroup s → is_plan_shown_done k v (shown_at cut s) ≡ true → (k < length s.controls) × IsPlanDone v (formed cut (control_at s k))
+pub shown_done : (s : Group) (cut : Stamp) (k v : ℕ) → IsGroupSound s → is_plan_shown_done k v (shown_at cut s) ≡ true → (k < length s.controls) × IsPlanDone v (formed cut (control_at s k))
 shown_done s cut k v keeps any =
     let at = any_flat (is_named k v) done_of (map (formed cut) s.controls) (new_control 0 0 0) any in
     let low : at.at < length s.controls = omega (arith, at.low, length-map s.controls (formed cut)) in

@@ -15,7 +15,7 @@ use Rattle.group_state.specs.declared.phase.Phase.TheVariants.{Telling, Broken, 
 use Rattle.group_state.specs.Calls.{is_by_reader}
 use Rattle.group_state.specs.Controls.{ControlState, new_control, is_telling, reported, reported_break, reported_cause, phase_after, formed, joined, copied, raised, broke, begun_volume, dropped, resumed, forgotten}
 use Rattle.group_state.specs.Groups.{Group, Shown, control_at, cut_of, formed_at, new_controls, shown_at, with_control}
-use Rattle.group_state.specs.SoundStates.{KeepsGroup}
+use Rattle.group_state.specs.SoundStates.{IsGroupSound}
 use Rattle.group_state.specs.Machine.{Call, Reply}
 use Rattle.group_state.specs.Machine.Call.{Join, NextWanted, Copied, Raise, Break, Form, Carry, Drop, Resume, Forget}
 use Rattle.group_state.specs.Machine.Reply.{Made, Joined, Held, Stale, Wanted, Formed, Nothing, Owed}
@@ -109,7 +109,7 @@ reported_own traces cut k t c number at broke = by_phase c.phase refl
         choose true same = All-cons (IsTracesBreak traces cut) (c.queue.control, c.floor, cause) [] (here (eqb-true c.floor.0 cut.0 same)) (All-nil (IsTracesBreak traces cut))
         choose false same = All-nil (IsTracesBreak traces cut)
 
-all_shown : (traces : List Trace) (s : Group) (cut : Stamp) → KeepsGroup s → length traces ≡ length s.controls → BrokeAsTraces traces s → All (IsTracesBreak traces cut) (shown_at cut s).breaks
+all_shown : (traces : List Trace) (s : Group) (cut : Stamp) → IsGroupSound s → length traces ≡ length s.controls → BrokeAsTraces traces s → All (IsTracesBreak traces cut) (shown_at cut s).breaks
 all_shown traces s cut keeps each h =
     all_flat (IsTracesBreak traces cut) (reported_break cut) s.controls (new_control 0 0 0)
     (λ k low. let t = some_trace traces k (omega (arith, low, each)) in reported_own traces cut k t.0 (control_at s k) (control_number s k keeps low) t.1 (h k t.0 t.1))

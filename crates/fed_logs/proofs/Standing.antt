@@ -18,7 +18,7 @@ use Rattle.group_state.specs.declared.volume.Volume.{Volume}
 use Rattle.group_state.specs.Volumes.{volume_of, with_volume, passes, wants, is_wanted, noted_write, with_write, with_writes, copied_track, formed_track, with_formed_copy, with_formed_copies, dropped_volume}
 use Rattle.group_state.specs.Controls.{ControlState, new_control, counts, carried_writes, joined, copied, raised, broke, dropped, formed}
 use Rattle.group_state.specs.Groups.{Group, control_at, with_control, cut_of, formed_at, shown_at}
-use Rattle.group_state.specs.SoundStates.{KeepsGroup, passes_or_none}
+use Rattle.group_state.specs.SoundStates.{IsGroupSound, passes_or_none}
 use Rattle.group_state.specs.Machine.{Call, Reply}
 use Rattle.group_state.specs.Runs.{May}
 use Rattle.group_state.proofs.VolumeLaws.{Keeps, same_or_none}
@@ -135,16 +135,16 @@ sized_form size s cut h = λ k v low.
     let c = control_at s k in
     subst (λ (c : ControlState). IsSized (size k v) v c.volumes) (sym (at_map cut s.controls k was)) (sized_formed (size k v) v c.volumes (copies (due cut c.queue.waiting)) (h k v was))
 
--- ---- what every state keeps
+-- ---- the state is left sound
 
-pub kept_read : (s next : Group) (call : Call) (reply : Reply) → May s call → WentRead s call reply next → KeepsGroup s → KeepsGroup next
+pub kept_read : (s next : Group) (call : Call) (reply : Reply) → May s call → WentRead s call reply next → IsGroupSound s → IsGroupSound next
 kept_read s _ _ _ may (Same call reply none) keeps = keeps
 kept_read s _ _ _ may (Joins b) keeps = kept_with s b.control (joined b) keeps may.control (keeps_joined s.last b (control_at s b.control) may.legal)
 kept_read s _ _ _ may (Copies k v x at slot wanted) keeps = kept_with s k (copied v x at slot) keeps may.0 (keeps_copied s.last v x at slot (control_at s k) may.1.floor wanted may.1.track)
 kept_read s _ _ _ may (Raises k upto) keeps = kept_with s k (raised upto) keeps may.0 (keeps_raised s.last upto (control_at s k) may.1)
 kept_read s _ _ _ may (Breaks k upto cause) keeps = kept_with s k (broke upto cause) keeps may.0 (keeps_broke s.last upto cause (control_at s k) may.1)
 
-pub kept_drop : (s : Group) (k v : ℕ) (all : Bool) → k < length s.controls → KeepsGroup s → KeepsGroup (with_control k (dropped v all) s)
+pub kept_drop : (s : Group) (k v : ℕ) (all : Bool) → k < length s.controls → IsGroupSound s → IsGroupSound (with_control k (dropped v all) s)
 kept_drop s k v all low keeps = kept_with s k (dropped v all) keeps low (keeps_dropped s.last v all (control_at s k))
 
 -- ---- plans and rows
@@ -237,7 +237,7 @@ stands_drop s k w all rows done gone h =
 pub duplex_lives : (k v : ℕ) (rows : List PairRow) → HasRowIn IsDuplex k v rows → HasRowIn IsLive k v rows
 duplex_lives k v rows h = record { row = h.row; among = h.among; control = h.control; volume = h.volume; state = ap is_suspended h.state }
 
-pub stands_form : (s : Group) (limit : Stamp) (rows next : List PairRow) (done : Plans) → KeepsGroup s → MayFollow (shown_at (cut_of s limit) s) rows next → Stand s rows done
+pub stands_form : (s : Group) (limit : Stamp) (rows next : List PairRow) (done : Plans) → IsGroupSound s → MayFollow (shown_at (cut_of s limit) s) rows next → Stand s rows done
     → Stand (formed_at (cut_of s limit) s) next (plans_with_shown (shown_at (cut_of s limit) s) done)
 stands_form s limit rows next done keeps follow h =
     let cut = cut_of s limit in

@@ -20,7 +20,7 @@ use Rattle.group_state.specs.Machine.{Call, Reply}
 use Rattle.group_state.specs.Machine.Call.{Join, NextWanted, Copied, Raise, Break}
 use Rattle.group_state.specs.Machine.Reply.{Made, Joined, Held, Wanted}
 use Rattle.group_state.specs.Runs.{Answer}
-use Rattle.fed_logs.specs.LaneFeeds.{FeedState, ReadsFurther, KeepsFeed}
+use Rattle.fed_logs.specs.LaneFeeds.{FeedState, ReadsFurther, IsFeedSound}
 use Rattle.fed_logs.specs.Steps.{IsIdle, primary_at, joined_answer, held_answer, raised_answer, broken_answer, wanted_answer, copied_answer}
 use Rattle.fed_logs.specs.Steps.FeedStep.{Hands, Joins, Lacks, Holds, Passes, Breaks, Wants, Asks, Copies}
 use Rattle.fed_logs.specs.declared.reading.Reading.{Reading}
@@ -49,15 +49,15 @@ module _ (old : FeedState) (side : SidefileState) (primary : PrimaryState) (held
   idle_inside idle = record { goes_on = goes_inside idle.goes_on; none = ap (λ (f : FeedState). f.held) is ∙ idle.none }
 
   -- A feed that reads on has a sidefile that hands over.
-  pub side_goes_on : old.halted ≡ None → KeepsFeed halted side primary held → side.halted ≡ None
+  pub side_goes_on : old.halted ≡ None → IsFeedSound halted side primary held → side.halted ≡ None
   side_goes_on goes keeps =
-      let g : ReadsFurther side primary held = subst (λ (h : Option Halt). KeepsFeed h side primary held) (goes_inside goes) keeps in
+      let g : ReadsFurther side primary held = subst (λ (h : Option Halt). IsFeedSound h side primary held) (goes_inside goes) keeps in
       g.hands
 
   -- A track of the teller's volumes is one of the primary's.
-  pub track_within : (told : TellerState) → old.halted ≡ None → KeepsFeed halted side primary held → told.volumes ≡ old.side.reader.volumes → (v x : ℕ) → is_track_of told.volumes v x ≡ true → is_track_of primary.volumes v x ≡ true
+  pub track_within : (told : TellerState) → old.halted ≡ None → IsFeedSound halted side primary held → told.volumes ≡ old.side.reader.volumes → (v x : ℕ) → is_track_of told.volumes v x ≡ true → is_track_of primary.volumes v x ≡ true
   track_within told goes keeps volumes v x within =
-      let g : ReadsFurther side primary held = subst (λ (h : Option Halt). KeepsFeed h side primary held) (goes_inside goes) keeps in
+      let g : ReadsFurther side primary held = subst (λ (h : Option Halt). IsFeedSound h side primary held) (goes_inside goes) keeps in
       let same : told.volumes ≡ primary.volumes = volumes ∙ sym (ap (λ (f : FeedState). f.side.reader.volumes) is) ∙ sym g.volumes in
       subst (λ (heads : List VolumeHead). is_track_of heads v x ≡ true) same within
 

@@ -1,4 +1,4 @@
--- A lane's feed, and what it keeps.
+-- A lane's feed, and when it is sound.
 use Rattle.std.specs.Prelude.{◌≡◌, ℕ, List, [], ◌∷◌, Bool, Option, Some, None, if◌then◌else◌}
 use Rattle.ckd_track.specs.declared.write.Batch.{Batch}
 use Rattle.primary_ctl.specs.States.{PrimaryState}
@@ -29,10 +29,10 @@ pub record ReadsFurther (side : SidefileState) (primary : PrimaryState) (held : 
   pub volumes : primary.volumes ≡ side.reader.volumes
   pub is_held : IsHeldAt held side primary.time
 
--- What every feed keeps.
-abbrev pub KeepsFeed : Option Halt → SidefileState → PrimaryState → Option Batch → Type 0
-KeepsFeed None side primary held = ReadsFurther side primary held
-KeepsFeed (Some halt) side primary held = Unit {0}
+-- A feed is sound: it reads further unless it has halted.
+abbrev pub IsFeedSound : Option Halt → SidefileState → PrimaryState → Option Batch → Type 0
+IsFeedSound None side primary held = ReadsFurther side primary held
+IsFeedSound (Some halt) side primary held = Unit {0}
 
 -- the floor behind answered calls of a reader
 abbrev pub floor_behind_calls : (floor : ℕ) → List Answer → ℕ

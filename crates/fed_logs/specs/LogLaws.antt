@@ -6,7 +6,7 @@ use Rattle.write_trace.specs.declared.trace.Trace.{Trace}
 use Rattle.sidefile.specs.Breaks.{break_time}
 use Rattle.primary_ctl.specs.Primaries.{none_falls}
 use Rattle.group_state.specs.Groups.{Group, Shown}
-use Rattle.group_state.specs.SoundStates.{KeepsGroup}
+use Rattle.group_state.specs.SoundStates.{IsGroupSound}
 use Rattle.group_state.specs.Machine.{Call}
 use Rattle.group_state.specs.Machine.Call.{Join, NextWanted, Copied, Raise, Break, Form, Carry, Drop, Resume, Forget}
 use Rattle.group_state.specs.Runs.{Answer, Runs, May, shown_by}
@@ -36,7 +36,7 @@ LogsBear = (size : Sizes) (traces : List Trace) (held : HeldTracks) (s end : Gro
 abbrev pub ReachedHolds : Type 0
 ReachedHolds = (size : Sizes) (traces : List Trace) (held : HeldTracks) (s end : Group) (run : List Answer) (time ended : ℕ) (rows last : List PairRow) (done known : Plans) (deeds : List Deed)
     → IsFedLog traces s end run → BeginsLog size traces held s time rows done → MakesAllDeeds time rows done (part_of_mover run) deeds ended last known
-    → (last ≡ rows_behind deeds rows) × (ended ≡ time_meant_behind deeds time) × KeepsGroup end × BeginsLog size traces (held_behind deeds held) end ended last known
+    → (last ≡ rows_behind deeds rows) × (ended ≡ time_meant_behind deeds time) × IsGroupSound end × BeginsLog size traces (held_behind deeds held) end ended last known
 
 -- Deeds one behind the other have entries of live rows if each part has, by the rows and the mark that the first one leaves.
 abbrev pub LiveEntriesInTurn : Type 0

@@ -9,7 +9,7 @@ use Rattle.group_state.specs.declared.volume.Volume.{Volume}
 use Rattle.group_state.specs.Volumes.{volume_of, passes, is_wanted}
 use Rattle.group_state.specs.Controls.{ControlState, counts, is_telling}
 use Rattle.group_state.specs.Groups.{Group, control_at}
-use Rattle.group_state.specs.SoundStates.{KeepsGroup, passes_or_none}
+use Rattle.group_state.specs.SoundStates.{IsGroupSound, passes_or_none}
 use Rattle.group_state.specs.Runs.{Answer, Runs}
 use Rattle.fed_logs.specs.ToldTracks.{Truth, HeldTracks, AllHold, floor_of}
 use Rattle.fed_logs.specs.Feeds.{truth_of, is_call_of_reader, AllAreFed}
@@ -52,7 +52,7 @@ HoldTruth size truth held rows time = (k v : ℕ) → HasRowIn IsDuplex k v rows
 pub record IsFedLog (traces : List Trace) (s end : Group) (run : List Answer) : Type 0 where
   pub falls : IsTrue (none_falls traces)
   pub each : length traces ≡ length s.controls
-  pub kept : KeepsGroup s
+  pub kept : IsGroupSound s
   pub runs : Runs s run end
   pub seats : IsTrue (list_all is_call_of_seat run)
   pub fed : AllAreFed traces s run

@@ -33,13 +33,13 @@ pub struct Feed {
 }
 
 impl Model for Feed {
-    ghost use Rattle.fed_logs.specs.LaneFeeds.{FeedState, KeepsFeed};
+    ghost use Rattle.fed_logs.specs.LaneFeeds.{FeedState, IsFeedSound};
 
     ghost Value = { FeedState };
 
     ghost view = { λ f. record { side = f.side; primary = f.primary; held = f.held; halted = f.halted } };
 
-    ghost invariant = { λ f. KeepsFeed f.halted f.side f.primary f.held };
+    ghost invariant = { λ f. IsFeedSound f.halted f.side f.primary f.held };
 }
 
 impl Feed {

@@ -1,4 +1,4 @@
--- A form keeps what every control keeps; which plans are done after it.
+-- A form leaves a control sound; which plans are done after it.
 use Rattle.std.proofs.Common.{inl, inr, ◌≡◌, ℕ, suc, zero, ◌<◌, ◌+◌, ◌-◌, Bool, true, false, not, cond, nat_eq, ◌&&◌, ◌||◌, List, [], ◌∷◌, ◌++◌, length, get_or, take, Option, Some, None, refl, sym, ap, ◌∙◌, arith}
 use Rattle.std.specs.Prelude.{◌==◌, nat_lt, nat_le, map, filter}
 use Rattle.std.specs.List.{list_all, list_any, count_by}

@@ -13,7 +13,7 @@ use Rattle.pending_queue.specs.Entries.{WaitingEntry, stands_before}
 use Rattle.pending_queue.specs.Groups.{FormedGroup, with_entries}
 use Rattle.pending_queue.proofs.EntryLaws.{before_order}
 use Rattle.group_state.specs.Controls.{ControlState, new_control, formed, due_of}
-use Rattle.group_state.specs.Groups.{new_controls, has_few, are_numbered, most_records, KeepsControls}
+use Rattle.group_state.specs.Groups.{new_controls, has_few, are_numbered, most_records, AreControlsSound}
 use Rattle.group_state.proofs.FormLaws.{all_at}
 
 -- what no change alters
@@ -35,7 +35,7 @@ numbered_set first (suc k) (c ∷ controls) new d e lt s =
     let parts = and_parts (nat_eq c.queue.control first && has_few c) (are_numbered (first + 1) controls) e in
     and_from (nat_eq c.queue.control first && has_few c) (are_numbered (first + 1) (set controls k new)) parts.0 (numbered_set (first + 1) k controls new d parts.1 (omega arith) s)
 
-pub kept_set : (controls : List ControlState) (k : ℕ) (new d : ControlState) → KeepsControls controls → k < length controls → SameQueue new (get_or controls k d) → KeepsControls (set controls k new)
+pub kept_set : (controls : List ControlState) (k : ℕ) (new d : ControlState) → AreControlsSound controls → k < length controls → SameQueue new (get_or controls k d) → AreControlsSound (set controls k new)
 kept_set controls k new d keeps lt s = record {
   some = omega (arith, keeps.some, length-set controls k new);
   few = omega (arith, keeps.few, length-set controls k new);
@@ -43,7 +43,7 @@ kept_set controls k new d keeps lt s = record {
 }
 
 -- the same of a control that was read there and changed
-pub kept_change : (controls : List ControlState) (k : ℕ) (new old : ControlState) → KeepsControls controls → k < length controls → old ≡ get_or controls k old → SameQueue new old → KeepsControls (set controls k new)
+pub kept_change : (controls : List ControlState) (k : ℕ) (new old : ControlState) → AreControlsSound controls → k < length controls → old ≡ get_or controls k old → SameQueue new old → AreControlsSound (set controls k new)
 kept_change controls k new old keeps lt is s = kept_set controls k new old keeps lt (subst (SameQueue new) is s)
 
 -- ---- all controls
@@ -56,7 +56,7 @@ length_formed : (cut : Stamp) (controls : List ControlState) → length (map (fo
 length_formed cut [] = refl
 length_formed cut (c ∷ controls) = omega (arith, length_formed cut controls)
 
-pub kept_formed : (cut : Stamp) (controls : List ControlState) → KeepsControls controls → KeepsControls (map (formed cut) controls)
+pub kept_formed : (cut : Stamp) (controls : List ControlState) → AreControlsSound controls → AreControlsSound (map (formed cut) controls)
 kept_formed cut controls keeps = record {
   some = omega (arith, keeps.some, length_formed cut controls);
   few = omega (arith, keeps.few, length_formed cut controls);
@@ -87,7 +87,7 @@ numbered_new zero first records blocks le = refl
 numbered_new (suc n) first records blocks le =
     and_from (nat_eq first first && nat_le records most_records) (are_numbered (first + 1) (new_controls n (first + 1) records blocks)) (and_from (nat_eq first first) (nat_le records most_records) (eq-eqb first first refl) (le-leb records most_records le)) (numbered_new n (first + 1) records blocks le)
 
-pub kept_new : (n records blocks : ℕ) → 1 ≤ n → n ≤ MOST_CONTROLS → records ≤ most_records → KeepsControls (new_controls n 0 records blocks)
+pub kept_new : (n records blocks : ℕ) → 1 ≤ n → n ≤ MOST_CONTROLS → records ≤ most_records → AreControlsSound (new_controls n 0 records blocks)
 kept_new n records blocks some few le = record { some = omega (arith, some, length_new n 0 records blocks); few = omega (arith, few, length_new n 0 records blocks); numbered = numbered_new n 0 records blocks le }
 
 -- ---- a form over the controls, one after another

@@ -1,4 +1,4 @@
--- What every group state keeps, each call keeps.
+-- Each call leaves a group state sound.
 use Rattle.std.proofs.Common.{◌≡◌, ℕ, zero, suc, ◌+◌, ◌≤◌, ◌<◌, Bool, true, false, not, ◌||◌, ◌&&◌, cond, min, nat_eq, nat_le, List, [], ◌∷◌, length, get_or, set, map, Ok, Err, refl, sym, ap, subst, ◌∙◌, arith}
 use Rattle.std.specs.Prelude.{Result, OnOk, OnErr, fold}
 use Rattle.std.specs.List.{list_all}
@@ -19,7 +19,7 @@ use Rattle.group_state.specs.Groups.{Group, new_controls, control_at, with_contr
 use Rattle.group_state.specs.Machine.{Call, group_after}
 use Rattle.group_state.specs.Machine.Call.{Join, NextWanted, Copied, Raise, Break, Form, Carry, Drop, Resume, Forget}
 use Rattle.group_state.specs.Runs.{May}
-use Rattle.group_state.specs.SoundStates.{Sound, has_told, KeepsGroup, is_track_within, MayTell, MayJoin, MayCarry, is_dropped}
+use Rattle.group_state.specs.SoundStates.{Sound, has_told, IsGroupSound, is_track_within, MayTell, MayJoin, MayCarry, is_dropped}
 use Rattle.group_state.proofs.SoundLaws.{sound_joined, sound_copied, sound_raised, sound_broke, sound_begun, sound_dropped, sound_resumed, sound_forgotten}
 use Rattle.group_state.proofs.FormLaws.{all_at, sound_formed}
 use Rattle.group_state.proofs.GroupLaws.{SameQueue, same_queue, kept_change, kept_formed, kept_new, length_new}
@@ -27,7 +27,7 @@ use Rattle.group_state.proofs.Stands.{new_at, new_sound}
 
 -- ---- one control
 
--- What a change of a control keeps, of what a group state keeps of it.
+-- What a change of a control keeps, of what makes a group state sound.
 pub record KeepsOne (cut : Stamp) (new old : ControlState) : Type 0 where
   pub same : SameQueue new old
   pub sound : Sound old → Sound new
@@ -103,9 +103,9 @@ pub control_here : (s now : Group) (k : ℕ) (old : ControlState) → s ≡ now 
 control_here s now k old is below here =
     here ∙ get_or_default s.controls k old (new_control 0 0 0) (omega (arith, below, ap (λ (g : Group). length g.controls) is)) ∙ ap (λ (g : Group). control_at g k) is
 
--- What is read at a number of a state and changed there keeps what the state keeps.
-pub kept_call : (s now : Group) (k : ℕ) (new old : ControlState) → KeepsGroup s → s ≡ now → k < length now.controls → old ≡ get_or s.controls k old → (old ≡ control_at now k → KeepsOne s.last new old)
-    → KeepsGroup (record { controls = set s.controls k new; last = s.last })
+-- A state is left sound where what is read at a number of it is changed there.
+pub kept_call : (s now : Group) (k : ℕ) (new old : ControlState) → IsGroupSound s → s ≡ now → k < length now.controls → old ≡ get_or s.controls k old → (old ≡ control_at now k → KeepsOne s.last new old)
+    → IsGroupSound (record { controls = set s.controls k new; last = s.last })
 kept_call s now k new old keeps is below here change =
     let lt : k < length s.controls = omega (arith, below, ap (λ (g : Group). length g.controls) is) in
     let one = change (control_here s now k old is below here) in
@@ -144,7 +144,7 @@ told_formed cut limit (c ∷ controls) le =
         choose true = refl
         choose false = up le
 
-pub kept_form : (s : Group) (limit : ℕ) (cut : Stamp) → cut.0 ≡ fold lesser limit s.controls → KeepsGroup s → KeepsGroup (formed_at cut s)
+pub kept_form : (s : Group) (limit : ℕ) (cut : Stamp) → cut.0 ≡ fold lesser limit s.controls → IsGroupSound s → IsGroupSound (formed_at cut s)
 kept_form s limit cut is keeps = record {
   controls_kept = kept_formed cut s.controls keeps.controls_kept;
   sound = All-map Sound (formed cut) s.controls (All-from_get_or (λ (c : ControlState). Sound (formed cut c)) s.controls (new_control 0 0 0)
@@ -152,21 +152,21 @@ kept_form s limit cut is keeps = record {
   told = told_formed cut limit s.controls (omega (arith, is));
 }
 
-pub kept_with : (s : Group) (k : ℕ) (change : ControlState → ControlState) → KeepsGroup s → k < length s.controls → KeepsOne s.last (change (control_at s k)) (control_at s k) → KeepsGroup (with_control k change s)
+pub kept_with : (s : Group) (k : ℕ) (change : ControlState → ControlState) → IsGroupSound s → k < length s.controls → KeepsOne s.last (change (control_at s k)) (control_at s k) → IsGroupSound (with_control k change s)
 kept_with s k change keeps low one = kept_call s s k (change (control_at s k)) (control_at s k) keeps refl low (get_or_default s.controls k (new_control 0 0 0) (control_at s k) low) (λ e. one)
 
 -- ---- each call
 
-pub kept_next : (s : Group) (call : Call) → KeepsGroup s → May s call → KeepsGroup (group_after s call)
+pub kept_next : (s : Group) (call : Call) → IsGroupSound s → May s call → IsGroupSound (group_after s call)
 kept_next s (Join b) keeps may = choose (fits (control_at s b.control) b)
   where
-    choose : (t : Bool) → KeepsGroup (cond t (with_control b.control (joined b) s) s)
+    choose : (t : Bool) → IsGroupSound (cond t (with_control b.control (joined b) s) s)
     choose true = kept_with s b.control (joined b) keeps may.control (keeps_joined s.last b (control_at s b.control) may.legal)
     choose false = keeps
 kept_next s (NextWanted k) keeps may = keeps
 kept_next s (Copied k v x at slot) keeps may = choose (is_wanted v x (control_at s k).volumes) (fits_track (control_at s k) slot) refl
   where
-    choose : (t u : Bool) → is_wanted v x (control_at s k).volumes ≡ t → KeepsGroup (cond (t && u) (with_control k (copied v x at slot) s) s)
+    choose : (t u : Bool) → is_wanted v x (control_at s k).volumes ≡ t → IsGroupSound (cond (t && u) (with_control k (copied v x at slot) s) s)
     choose true true wanted = kept_with s k (copied v x at slot) keeps may.0 (keeps_copied s.last v x at slot (control_at s k) may.1.floor wanted may.1.track)
     choose true false wanted = keeps
     choose false u wanted = keeps
@@ -184,7 +184,7 @@ told_new : (n first records blocks : ℕ) → list_all (has_told (record { 0 = 0
 told_new zero first records blocks = refl
 told_new (suc n) first records blocks = told_new n (first + 1) records blocks
 
-pub kept_first : (n records blocks : ℕ) → 1 ≤ n → n ≤ MOST_CONTROLS → records ≤ most_records → KeepsGroup (record { controls = new_controls n 0 records blocks; last = record { 0 = 0 } })
+pub kept_first : (n records blocks : ℕ) → 1 ≤ n → n ≤ MOST_CONTROLS → records ≤ most_records → IsGroupSound (record { controls = new_controls n 0 records blocks; last = record { 0 = 0 } })
 kept_first n records blocks some few le = record {
   controls_kept = kept_new n records blocks some few le;
   sound = All-from_get_or Sound (new_controls n 0 records blocks) (new_control 0 0 0)

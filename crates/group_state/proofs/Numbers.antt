@@ -16,7 +16,7 @@ use Rattle.pending_queue.specs.Groups.{most_done_of_control}
 use Rattle.group_state.specs.declared.volume.Volume.{Volume}
 use Rattle.group_state.specs.Volumes.{has_volume, begun, noted_write, with_write, with_writes, copied_track, dropped_volume, resumed_volume, formed_track, with_formed_copy, with_formed_copies, is_wanted}
 use Rattle.group_state.specs.Controls.{ControlState, due_of, joined, copied, raised, broke, begun_volume, dropped, resumed, forgotten, formed}
-use Rattle.group_state.specs.SoundStates.{are_distinct, has_number, KeepsVolumes, is_track_within, MayTell, MayJoin, MayCarry, is_dropped}
+use Rattle.group_state.specs.SoundStates.{are_distinct, has_number, AreVolumesSound, is_track_within, MayTell, MayJoin, MayCarry, is_dropped}
 use Rattle.group_state.proofs.VolumeLaws.{all_with, all_without}
 use Rattle.group_state.proofs.SoundLaws.{swapped, all_joined, written_keeps, sound_joined, sound_copied, sound_raised, sound_broke, sound_begun, sound_dropped, sound_resumed, sound_forgotten}
 use Rattle.group_state.proofs.FormLaws.{sound_formed}
@@ -34,34 +34,34 @@ numbers_formed : (volumes : List Volume) (formed : List WaitingEntry) → list_a
 numbers_formed volumes [] e = e
 numbers_formed volumes (x ∷ formed) e = numbers_formed (with_formed_copy volumes x) formed (all_with has_number x.head.volume formed_track (λ u ok. ok) volumes e)
 
-pub volumes_joined : (b : Batch) (c : ControlState) → KeepsVolumes c → MayJoin c b → KeepsVolumes (joined b c)
+pub volumes_joined : (b : Batch) (c : ControlState) → AreVolumesSound c → MayJoin c b → AreVolumesSound (joined b c)
 volumes_joined b c k may = record { sound = sound_joined b c k.sound may; numbers = numbers_written c.volumes b.writes k.numbers }
 
-pub volumes_copied : (v x : ℕ) (at : Stamp) (recs : List Rec) (c : ControlState) → KeepsVolumes c → at ≡ c.floor → is_wanted v x c.volumes ≡ true → is_track_within c.volumes v x ≡ true → KeepsVolumes (copied v x at recs c)
+pub volumes_copied : (v x : ℕ) (at : Stamp) (recs : List Rec) (c : ControlState) → AreVolumesSound c → at ≡ c.floor → is_wanted v x c.volumes ≡ true → is_track_within c.volumes v x ≡ true → AreVolumesSound (copied v x at recs c)
 volumes_copied v x at recs c k floor wanted within =
     record { sound = sound_copied v x at recs c k.sound floor wanted within; numbers = all_with has_number v (copied_track x) (λ u ok. ok) c.volumes k.numbers }
 
-pub volumes_raised : (upto : Stamp) (c : ControlState) → KeepsVolumes c → MayTell c upto → KeepsVolumes (raised upto c)
+pub volumes_raised : (upto : Stamp) (c : ControlState) → AreVolumesSound c → MayTell c upto → AreVolumesSound (raised upto c)
 volumes_raised upto c k may = record { sound = sound_raised upto c k.sound may; numbers = k.numbers }
 
-pub volumes_broke : (upto : Stamp) (cause : Cause) (c : ControlState) → KeepsVolumes c → MayTell c upto → KeepsVolumes (broke upto cause c)
+pub volumes_broke : (upto : Stamp) (cause : Cause) (c : ControlState) → AreVolumesSound c → MayTell c upto → AreVolumesSound (broke upto cause c)
 volumes_broke upto cause c k may = record { sound = sound_broke upto cause c k.sound may; numbers = k.numbers }
 
-pub volumes_begun : (v : ℕ) (plan : PlanState) (c : ControlState) → KeepsVolumes c → MayCarry c v plan → v < most_done_of_control → KeepsVolumes (begun_volume v plan c)
+pub volumes_begun : (v : ℕ) (plan : PlanState) (c : ControlState) → AreVolumesSound c → MayCarry c v plan → v < most_done_of_control → AreVolumesSound (begun_volume v plan c)
 volumes_begun v plan c k may short =
     record { sound = sound_begun v plan c k.sound may; numbers = all_joined has_number c.volumes (begun v plan ∷ []) k.numbers (and_from (has_number (begun v plan)) true (lt-ltb v most_done_of_control short) refl) }
 
-pub volumes_dropped : (v : ℕ) (all : Bool) (c : ControlState) → KeepsVolumes c → KeepsVolumes (dropped v all c)
+pub volumes_dropped : (v : ℕ) (all : Bool) (c : ControlState) → AreVolumesSound c → AreVolumesSound (dropped v all c)
 volumes_dropped v all c k =
     record { sound = sound_dropped v all c k.sound; numbers = all_with has_number v (dropped_volume all (entry_tracks v c.queue.waiting)) (λ u ok. ok) c.volumes k.numbers }
 
-pub volumes_resumed : (v : ℕ) (c : ControlState) → KeepsVolumes c → is_dropped v c.volumes ≡ true → KeepsVolumes (resumed v c)
+pub volumes_resumed : (v : ℕ) (c : ControlState) → AreVolumesSound c → is_dropped v c.volumes ≡ true → AreVolumesSound (resumed v c)
 volumes_resumed v c k gone = record { sound = sound_resumed v c k.sound gone; numbers = all_with has_number v resumed_volume (λ u ok. ok) c.volumes k.numbers }
 
-pub volumes_forgotten : (v : ℕ) (c : ControlState) → KeepsVolumes c → is_dropped v c.volumes ≡ true → KeepsVolumes (forgotten v c)
+pub volumes_forgotten : (v : ℕ) (c : ControlState) → AreVolumesSound c → is_dropped v c.volumes ≡ true → AreVolumesSound (forgotten v c)
 volumes_forgotten v c k gone = record { sound = sound_forgotten v c k.sound gone; numbers = all_without has_number v c.volumes k.numbers }
 
-pub volumes_formed : (cut : Stamp) (c : ControlState) → KeepsVolumes c → KeepsVolumes (formed cut c)
+pub volumes_formed : (cut : Stamp) (c : ControlState) → AreVolumesSound c → AreVolumesSound (formed cut c)
 volumes_formed cut c k = record { sound = sound_formed cut c k.sound; numbers = numbers_formed c.volumes (copies (due_of cut c)) k.numbers }
 
 -- ---- few volumes
@@ -95,5 +95,5 @@ below_most most (u ∷ volumes) e q found =
 few_of : (most : ℕ) (volumes : List Volume) → are_distinct volumes ≡ true → list_all (λ (u : Volume). nat_lt u.number most) volumes ≡ true → length volumes ≤ most
 few_of most volumes distinct short = omega (arith, length-map volumes (λ (u : Volume). u.number), length-le_from_distinct_below (numbers volumes) most (distinct_numbers volumes distinct) (below_most most volumes short))
 
-pub few_volumes : (c : ControlState) → KeepsVolumes c → length c.volumes ≤ most_done_of_control
+pub few_volumes : (c : ControlState) → AreVolumesSound c → length c.volumes ≤ most_done_of_control
 few_volumes c k = few_of most_done_of_control c.volumes k.sound.distinct k.numbers

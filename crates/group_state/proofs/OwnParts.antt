@@ -13,7 +13,7 @@ use Rattle.pending_queue.specs.Entries.{WaitingEntry, entry_stamp, entries_never
 use Rattle.pending_queue.proofs.EntryLaws.{before_order, never_fall_filter}
 use Rattle.group_state.specs.Controls.{ControlState, new_control, due_of}
 use Rattle.group_state.specs.Groups.{Group, control_at, are_numbered, has_few}
-use Rattle.group_state.specs.SoundStates.{KeepsGroup, Sound, is_entry_of_control}
+use Rattle.group_state.specs.SoundStates.{IsGroupSound, Sound, is_entry_of_control}
 use Rattle.group_state.specs.HistoryLaws.{FormsShowOwnParts}
 use Rattle.group_state.proofs.SoundLaws.{all_filter}
 
@@ -29,7 +29,7 @@ number_at first (suc i) (c ∷ controls) d numbered low =
     let parts = and_parts (nat_eq c.queue.control first && has_few c) (are_numbered (first + 1) controls) numbered in
     number_at (first + 1) i controls d parts.1 (omega (arith, low)) ∙ omega arith
 
-pub control_number : (s : Group) (k : ℕ) → KeepsGroup s → k < length s.controls → (control_at s k).queue.control ≡ k
+pub control_number : (s : Group) (k : ℕ) → IsGroupSound s → k < length s.controls → (control_at s k).queue.control ≡ k
 control_number s k keeps low = number_at 0 k s.controls (new_control 0 0 0) keeps.controls_kept.numbered low ∙ omega arith
 
 -- ---- entries of one control

@@ -1,4 +1,4 @@
--- What every control keeps is kept by each change.
+-- Each change leaves a control sound.
 use Rattle.std.proofs.Common.{◌≡◌, ℕ, ◌≤◌, ◌+◌, Bool, true, false, not, cond, nat_eq, ◌&&◌, ◌||◌, List, [], ◌∷◌, ◌++◌, length, take, Option, Some, None, refl, sym, ap, subst, ◌∙◌, arith, true≢false, length-set}
 use Rattle.std.specs.Prelude.{◌==◌, nat_lt, nat_le, map, filter}
 use Rattle.std.specs.Option.{option_map}

@@ -88,8 +88,8 @@ abbrev pub are_numbered : (first : ℕ) → List ControlState → Bool
 are_numbered k [] = true
 are_numbered k (c ∷ controls) = c.queue.control == k && has_few c && are_numbered (k + 1) controls
 
--- What the controls of every group state keep.
-pub record KeepsControls (controls : List ControlState) : Type 0 where
+-- The controls of a group state are sound: there are some, no more than the most, and each has the number of its place.
+pub record AreControlsSound (controls : List ControlState) : Type 0 where
   pub some : 1 ≤ length controls
   pub few : length controls ≤ MOST_CONTROLS
   pub numbered : IsTrue (are_numbered 0 controls)

@@ -17,7 +17,7 @@ use Rattle.group_state.specs.declared.volume.Volume.{Volume}
 use Rattle.group_state.specs.Volumes.{volume_of}
 use Rattle.group_state.specs.Controls.{ControlState}
 use Rattle.group_state.specs.Groups.{Group, Shown, new_group, control_at, shown_at}
-use Rattle.group_state.specs.SoundStates.{KeepsGroup, are_distinct, is_entry_of_control}
+use Rattle.group_state.specs.SoundStates.{IsGroupSound, are_distinct, is_entry_of_control}
 use Rattle.group_state.specs.Machine.{Call, Reply}
 use Rattle.group_state.specs.Machine.Call.{Join, Copied, Break, Form, Carry, Resume}
 use Rattle.group_state.specs.Machine.Reply.{Made, Joined, Owed}
@@ -181,5 +181,5 @@ FormsAreComplete = (controls : ℕ) (before later : List Answer) (limit : Stamp)
 
 -- Of the entries that a form shows those of one control are what its queue had up to the cut, in order.
 abbrev pub FormsShowOwnParts : Type 0
-FormsShowOwnParts = (s : Group) (cut : Stamp) (k : ℕ) → KeepsGroup s → k < length s.controls
+FormsShowOwnParts = (s : Group) (cut : Stamp) (k : ℕ) → IsGroupSound s → k < length s.controls
     → filter (is_entry_of_control k) (shown_at cut s).entries ≡ due cut (control_at s k).queue.waiting

@@ -1,4 +1,4 @@
--- What every control keeps, and when a call may be made.
+-- Controls and group states that are sound, and when a call may be made.
 use Rattle.std.specs.Prelude.{◌≡◌, ℕ, ◌≤◌, ◌==◌, ◌&&◌, ◌||◌, not, List, [], ◌∷◌, length, Bool, true, false, Option, Some, None, nat_lt, nat_le, IsTrue, count_by}
 use Rattle.std.specs.List.{list_all, All}
 use Rattle.tod_stamp.specs.declared.stamp.Stamp.{Stamp}
@@ -13,7 +13,7 @@ use Rattle.pending_queue.specs.Groups.{most_done_of_control}
 use Rattle.group_state.specs.declared.volume.Volume.{Volume}
 use Rattle.group_state.specs.Volumes.{volume_of, has_volume, passes}
 use Rattle.group_state.specs.Controls.{ControlState, is_telling, counts}
-use Rattle.group_state.specs.Groups.{Group, KeepsControls}
+use Rattle.group_state.specs.Groups.{Group, AreControlsSound}
 use Rattle.ckd_track.specs.Writes.{is_earlier}
 
 abbrev pub passes_or_none : (Volume → Bool) → Option Volume → Bool
@@ -73,8 +73,8 @@ pub record Sound (c : ControlState) : Type 0 where
 abbrev pub has_number : Volume → Bool
 has_number u = nat_lt u.number most_done_of_control
 
--- What every control of a group state keeps.
-pub record KeepsVolumes (c : ControlState) : Type 0 where
+-- A control of a group state is sound, with the numbers of its volumes.
+pub record AreVolumesSound (c : ControlState) : Type 0 where
   pub sound : Sound c
   pub numbers : IsTrue (list_all has_number c.volumes)
 
@@ -86,9 +86,9 @@ has_told cut c = not (counts c.phase) || nat_le cut.0 c.floor.0
 abbrev pub HaveTold : (cut : Stamp) → List ControlState → Type 0
 HaveTold cut controls = IsTrue (list_all (has_told cut) controls)
 
--- What every group state keeps.
-pub record KeepsGroup (s : Group) : Type 0 where
-  pub controls_kept : KeepsControls s.controls
+-- A group state is sound.
+pub record IsGroupSound (s : Group) : Type 0 where
+  pub controls_kept : AreControlsSound s.controls
   pub sound : All Sound s.controls
   pub told : HaveTold s.last s.controls
 

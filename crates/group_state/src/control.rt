@@ -36,13 +36,13 @@ pub struct Control {
 
 impl Model for Control {
     ghost use Rattle.group_state.specs.Controls.{ControlState};
-    ghost use Rattle.group_state.specs.SoundStates.{KeepsVolumes};
+    ghost use Rattle.group_state.specs.SoundStates.{AreVolumesSound};
 
     ghost Value = { ControlState };
 
     ghost view = { λ c. record { queue = c.queue.state; floor = c.floor; phase = c.phase; volumes = c.volumes.items } };
 
-    ghost invariant = { λ c. KeepsVolumes (record { queue = c.queue.state; floor = c.floor; phase = c.phase; volumes = c.volumes.items }) };
+    ghost invariant = { λ c. AreVolumesSound (record { queue = c.queue.state; floor = c.floor; phase = c.phase; volumes = c.volumes.items }) };
 }
 
 impl Control {

@@ -14,7 +14,7 @@ ghost use Rattle.group_state.specs.declared.joining.Forming.TheVariants as formi
 ghost use Rattle.group_state.specs.Volumes.{volume_of, is_wanted, next_wanted, owed};
 ghost use Rattle.group_state.specs.Controls.{is_telling, fits, fits_track, room_of};
 ghost use Rattle.group_state.specs.Groups.{new_group, control_at, cut_of, gives_nothing, shown_at, shown_in};
-ghost use Rattle.group_state.specs.SoundStates.{KeepsGroup, MayTell, MayJoin, MayCarry, is_track_within, is_dropped};
+ghost use Rattle.group_state.specs.SoundStates.{IsGroupSound, MayTell, MayJoin, MayCarry, is_track_within, is_dropped};
 ghost use Rattle.group_state.specs.Machine.{steps, Reply};
 ghost use Rattle.group_state.specs.Machine.Call.{Join, NextWanted, Copied, Raise, Break, Form, Carry, Drop, Resume, Forget};
 ghost use Rattle.group_state.specs.Machine.Reply.{Made, Wanted, Owed};
@@ -45,13 +45,13 @@ pub struct GroupState {
 
 impl Model for GroupState {
     ghost use Rattle.group_state.specs.Groups.{Group};
-    ghost use Rattle.group_state.specs.SoundStates.{KeepsGroup};
+    ghost use Rattle.group_state.specs.SoundStates.{IsGroupSound};
 
     ghost Value = { Group };
 
     ghost view = { λ s. record { controls = s.controls.items; last = s.last } };
 
-    ghost invariant = { λ s. KeepsGroup (record { controls = s.controls.items; last = s.last }) };
+    ghost invariant = { λ s. IsGroupSound (record { controls = s.controls.items; last = s.last }) };
 }
 
 impl GroupState {
@@ -83,8 +83,8 @@ impl GroupState {
         ensures count { result ≡ length self.now.controls }
         ensures some { 1 ≤ result }
         ensures few { result ≤ MOST_CONTROLS }
-        // What every group state keeps.
-        ensures kept { KeepsGroup self.now }
+        // A group state is sound.
+        ensures kept { IsGroupSound self.now }
     {
         self.controls.len() as u16
     }

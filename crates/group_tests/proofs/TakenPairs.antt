@@ -17,7 +17,7 @@ use Rattle.pair_table.specs.Commands.{MayCommand, accepted, answer, table_after}
 use Rattle.pair_table.specs.Naming.{Naming}
 use Rattle.pair_table.specs.Refusals.{refusal}
 use Rattle.pair_table.specs.Rows.{is_row, is_suspended}
-use Rattle.pair_table.specs.Tables.{KeepsRows, Table, changed_row, in_state, is_of, row_of, with_rows, with_state}
+use Rattle.pair_table.specs.Tables.{AreRowsSound, Table, changed_row, in_state, is_of, row_of, with_rows, with_state}
 use Rattle.pair_table.proofs.MayLaws.{may_with_state}
 use Rattle.pair_table.proofs.RowRules.{row_keeps}
 use Rattle.group_state.specs.Controls.{ControlState, begun_volume, counts, dropped, forgotten, resumed}
@@ -29,7 +29,7 @@ use Rattle.fed_logs.specs.Moves.{Plans}
 use Rattle.fed_logs.proofs.Standing.{at_with, same_count}
 use Rattle.mover.proofs.Pairs.{Among, among_of}
 use Rattle.mover.proofs.Pairs.Among.{Here, Later}
-use Rattle.xrc_session.specs.Taking.{IfAdds, IsSuspendedSince, KeepsForRows, MayTake, after_calls, calls_of_change, drop_by}
+use Rattle.xrc_session.specs.Taking.{IfAdds, IsSuspendedSince, IsSoundForRows, MayTake, after_calls, calls_of_change, drop_by}
 use Rattle.xrc_session.proofs.Changed.{no_plans}
 use Rattle.xrc_session.proofs.KeptRows.{kept_added_row, kept_dropped_row, kept_forgotten_row, kept_resumed_row}
 use Rattle.xrc_session.proofs.Commanded.{commands_may_be_taken}
@@ -51,9 +51,9 @@ count_with s k change phase counted j low =
     let was : j < length s.controls = omega (arith, low, same_count s k change) in
     at_with s k j change (λ (c : ControlState). counts c.phase ≡ true) was (λ same. ap counts (phase (control_at s j)) ∙ counted j was) (λ apart. counted j was)
 
--- A state keeps what it does for rows, and has so many controls, each of which counts.
+-- A state is sound for rows, and has so many controls, each of which counts.
 record Counted (s : Group) (rows : List PairRow) : Type 0 where
-  kept : KeepsForRows s rows
+  kept : IsSoundForRows s rows
   many : length s.controls ≡ MOST_CONTROLS
   counted : AllCount s
 
@@ -63,7 +63,7 @@ Counts s rows done = Counted s rows
 abbrev FitsAny : PairRow → Type 0
 FitsAny r = Unit {0}
 
-counted_with : (s : Group) (rows next : List PairRow) (k : ℕ) (change : ControlState → ControlState) → ((c : ControlState) → (let d : ControlState = change c in d.phase) ≡ c.phase) → Counted s rows → KeepsForRows (with_control k change s) next → Counted (with_control k change s) next
+counted_with : (s : Group) (rows next : List PairRow) (k : ℕ) (change : ControlState → ControlState) → ((c : ControlState) → (let d : ControlState = change c in d.phase) ≡ c.phase) → Counted s rows → IsSoundForRows (with_control k change s) next → Counted (with_control k change s) next
 counted_with s rows next k change phase h kept = record { kept = kept; many = same_count s k change ∙ h.many; counted = count_with s k change phase h.counted }
 
 counted_steps : Steps Counts FitsAny
@@ -127,7 +127,7 @@ without_hits : (at : ℕ) (rows : List PairRow) → rows_with_hits VolumeLevel a
 without_hits at rows = ap (λ (hit : List ℕ). rows_hit VolumeLevel at hit rows) (none_hit rows)
 
 pub command_taken : (names : Naming) (table : Table) (session : List ℕ) (command : Command) (change : Change) (at : ℕ) (s : Group) → TakesChanges names table s → answer names table session command ≡ Ok change
-    → KeepsRows (table_after names table session command at).rows → MayTake s change table.rows (table_after names table session command at).rows
+    → AreRowsSound (table_after names table session command at).rows → MayTake s change table.rows (table_after names table session command at).rows
 command_taken names table session command change at s h is keeps =
     subst (λ (next : List PairRow). MayTake s change table.rows next) (without_hits at (table_after names table session command at).rows)
     (commands_may_be_taken names table session command change at VolumeLevel at [] s h.started h.kept.apart is keeps.apart
@@ -137,7 +137,7 @@ command_taken names table session command change at s h is keeps =
     (there, h.counted r.control there)))
 
 pub commanded_again : (names : Naming) (table : Table) (session : List ℕ) (command : Command) (change : Change) (at : ℕ) (s : Group) → TakesChanges names table s → answer names table session command ≡ Ok change
-    → KeepsRows (table_after names table session command at).rows → MayCommand names (table_after names table session command at).rows
+    → AreRowsSound (table_after names table session command at).rows → MayCommand names (table_after names table session command at).rows
     → TakesChanges names (table_after names table session command at) (after_calls (calls_of_change change s table.rows (table_after names table session command at).rows) s)
 commanded_again names table session command change at s h is keeps may =
     taken_again names table (table_after names table session command at) s change h (command_taken names table session command change at s h is keeps) may (started_behind names table session command at h.started)

@@ -17,7 +17,7 @@ use Rattle.xrc_journal.specs.Items.{Item, none_earlier, item_spelling}
 use Rattle.xrc_journal.specs.Items.Item.{Image}
 use Rattle.xrc_journal.specs.Bodies.{are_late, have_image}
 use Rattle.pair_table.specs.declared.row.PairRow.{PairRow}
-use Rattle.pair_table.specs.Tables.{KeepsRows, none_clash}
+use Rattle.pair_table.specs.Tables.{AreRowsSound, none_clash}
 use Rattle.pending_queue.specs.declared.head.EntryHead.{EntryHead}
 use Rattle.pending_queue.specs.Entries.{WaitingEntry}
 use Rattle.image_former.specs.Entries.{is_row_of, entry_row, row_device, is_device, is_entry_on, HasEntry}
@@ -81,7 +81,7 @@ module _ {D : Type 0} (state : D → Standing) (tells : Type 0) (rows : List Pai
     pub job_there : list_any (is_job_of d) jobs ≡ true
     job_there = count_any (is_job_of d) jobs (subst (λ (o : Option ℕ). IsSomeAnd o (λ n. count_by (is_job_of n) jobs ≡ 1)) known (one_of jobs ready))
 
-    module _ (keeps : KeepsRows rows) (i : ℕ) (lt : i < length jobs) (own : (j : VolumeJob D) → (get_or jobs i j).device ≡ d) where
+    module _ (keeps : AreRowsSound rows) (i : ℕ) (lt : i < length jobs) (own : (j : VolumeJob D) → (get_or jobs i j).device ≡ d) where
       found : (row : PairRow) × (find (is_row_of head) rows ≡ Some row) × (count_by (is_job_of row.device) jobs ≡ 1)
       found = row_and (find (is_row_of head) rows) (λ n. count_by (is_job_of n) jobs ≡ 1) (one_of jobs ready)
 

@@ -2,7 +2,7 @@
 
 ghost use Rattle.std.specs.Prelude.{◌≡◌, ◌<◌, ◌+◌, ℕ, IsSome, Some, find, length, take, slice_get, slice_index_or, IsTrue};
 ghost use Rattle.std.specs.List.{list_any};
-ghost use Rattle.pair_table.specs.Tables.{KeepsRows};
+ghost use Rattle.pair_table.specs.Tables.{AreRowsSound};
 ghost use Rattle.image_former.specs.Entries.{is_row_of, row_device};
 ghost use Rattle.image_former.specs.Jobs.{is_job_of};
 ghost use Rattle.image_former.specs.Steps.{is_beside, same_track};
@@ -22,7 +22,7 @@ pub(crate) fn is_row_of(head: EntryHead, row: &PairRow) -> bool
 pub(crate) fn device_of(table: &PairTable, head: EntryHead) -> u16
     requires { IsSome (find (is_row_of head) table.now.rows) }
     ensures device { row_device (find (is_row_of head) table.now.rows) ≡ Some result }
-    ensures rules { KeepsRows table.now.rows }
+    ensures rules { AreRowsSound table.now.rows }
 {
     for place in 0..table.len() {
         let Some(row) = table.row(place) else {

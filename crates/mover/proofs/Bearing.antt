@@ -26,7 +26,7 @@ use Rattle.site_store.specs.Deeds.{content_behind, means_behind, means_by_deed}
 use Rattle.site_store.specs.Exceptions.{Exceptions, excepted_behind}
 use Rattle.site_store.specs.Seeing.{SeesBehind}
 use Rattle.site_store.proofs.Turning.{means_are}
-use Rattle.consistency.specs.Stages.{HoldsPrimaries, IsTime, Run, Stage, breaks_of, tracks_of_row}
+use Rattle.consistency.specs.Stages.{HoldsPrimaries, IsTime, ScriptRun, Stage, breaks_of, tracks_of_row}
 use Rattle.fed_logs.specs.Deeds.{held_behind}
 use Rattle.fed_logs.specs.LogLaws.{ReportsBreak}
 use Rattle.fed_logs.specs.Logs.{Sizes}
@@ -62,7 +62,7 @@ below_among devices r _ below (Later s rows there) = below_among devices r rows 
 -- ---- the flag
 
 -- Deeds of steps leave the flag that is meant.
-flag_stays : (run : Run) (p : Point) (steps : List DeedOfChanges) → AreSteps run.level (breaks_of run) p steps → (means : Means) → means.ended ≡ p.is_ended → (means_behind (deeds_of steps) means).ended ≡ p.is_ended
+flag_stays : (run : ScriptRun) (p : Point) (steps : List DeedOfChanges) → AreSteps run.level (breaks_of run) p steps → (means : Means) → means.ended ≡ p.is_ended → (means_behind (deeds_of steps) means).ended ≡ p.is_ended
 flag_stays run p [] each means is = is
 flag_stays run p (step ∷ steps) each means is = flag_stays run (point_by run.level p step) steps each.1 (means_by_deed means step.deed) (by step.deed each.0.leaves)
   where
@@ -74,7 +74,7 @@ flag_stays run p (step ∷ steps) each means is = flag_stays run (point_by run.l
 -- ---- the work
 
 module _ (start : PlantState) (k : Work) (w : WorkBegins start k) (n : ℕ) (le : n ≤ length k.steps) where
-  abbrev run : Run
+  abbrev run : ScriptRun
   run = k.run
 
   abbrev stage : Stage

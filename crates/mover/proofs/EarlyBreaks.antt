@@ -21,7 +21,7 @@ use Rattle.group_state.specs.Machine.{Call, reply_to_copied, reply_to, steps}
 use Rattle.group_state.specs.Machine.Call.{Join, NextWanted, Copied, Raise, Break, Form, Carry, Drop, Resume, Forget}
 use Rattle.group_state.specs.Machine.Reply.{Formed, Held, Joined, Nothing}
 use Rattle.group_state.specs.Runs.{Answer, Runs, shown_by}
-use Rattle.group_state.specs.SoundStates.{KeepsGroup}
+use Rattle.group_state.specs.SoundStates.{IsGroupSound}
 use Rattle.group_state.proofs.Kept.{kept_next}
 use Rattle.row_changes.specs.Changes.{Due, Timed, is_at}
 use Rattle.record_rows.specs.Deeds.{Deed, rows_by_deed, time_by_deed}
@@ -77,17 +77,17 @@ shown_of s (Forget k v) shown e = absurd cc
 abbrev AreSilent : Group → Answer → Type 0
 AreSilent end a = (shown : Shown) → shown_by a.reply ≡ Some shown → (k : ℕ) → is_break_of_control k shown ≡ true → is_telling (control_at end k).phase ≡ false
 
-silent_then : (s next : Group) (a : Answer) (run : List Answer) (end : Group) → KeepsGroup s → steps s a.call a.reply next → Runs s (a ∷ run) end → AreSilent end a
+silent_then : (s next : Group) (a : Answer) (run : List Answer) (end : Group) → IsGroupSound s → steps s a.call a.reply next → Runs s (a ∷ run) end → AreSilent end a
 silent_then s next a run end keeps is runs shown shows k found =
     let form = shown_of s a.call shown (sym (ap shown_by is.0) ∙ shows) in
     let told = break_was_told s form.0 k keeps (ap (is_break_of_control k) form.1 ∙ found) in
     let part = part_of_reader k (a ∷ run) in
     telling_is_told s (a ∷ run) end runs k told.0 ∙ ap (λ (t : Bool). telling_behind_calls t part) told.2 ∙ tells_no_more part
 
-shown_are_silent : (s : Group) (run : List Answer) (end : Group) → KeepsGroup s → Runs s run end → All (AreSilent end) run
+shown_are_silent : (s : Group) (run : List Answer) (end : Group) → IsGroupSound s → Runs s run end → All (AreSilent end) run
 shown_are_silent s [] end keeps runs = All-nil (AreSilent end)
 shown_are_silent s (a ∷ run) end keeps (next, may, is, rest) =
-    All-cons (AreSilent end) a run (silent_then s next a run end keeps is (next, may, is, rest)) (shown_are_silent next run end (subst KeepsGroup (sym is.1) (kept_next s a.call keeps may)) rest)
+    All-cons (AreSilent end) a run (silent_then s next a run end keeps is (next, may, is, rest)) (shown_are_silent next run end (subst IsGroupSound (sym is.1) (kept_next s a.call keeps may)) rest)
 
 -- ---- changes without a break
 

@@ -7,7 +7,7 @@ use Rattle.tod_stamp.specs.declared.stamp.Stamp.{Stamp}
 use Rattle.atomic_table.specs.Seated.{TableId}
 use Rattle.crash_plant.specs.Moments.{PlantState}
 use Rattle.group_state.specs.Groups.{Group}
-use Rattle.group_state.specs.SoundStates.{KeepsGroup}
+use Rattle.group_state.specs.SoundStates.{IsGroupSound}
 use Rattle.mover.specs.Groups.{is_at_limit}
 use Rattle.fed_logs.specs.Logs.{AreSized}
 use Rattle.fed_logs.specs.ShownBreaks.{BreaksAreToCome}
@@ -96,11 +96,11 @@ module _ {S : Type 0} (tells : Type 0) (left : S → Option (List ℕ)) (faults 
           begins = may_begin tells limit next end after is noted may_then;
           broken = λ traces before up low turns broke. lanes_broke left faults limit at.first end log seats old new history.runs alone lanes_there long read parts reached.done traces up turns before low broke;
           awaits = λ traces up keeps turns come.
-              let keeps_there = subst KeepsGroup (sym first_is) keeps in
+              let keeps_there = subst IsGroupSound (sym first_is) keeps in
               let bears = epoch_bears tells left faults limit at old new seat next seats end site after was is result no_calls lanes_there may.rests.idle may.marked may.knows.below read m back limited history refl in
               breaks_are_to_come left faults limit at.first end log seats old new history.runs alone lanes_there long read parts reached.done traces up turns site.time may.knows.below (bears.fed traces keeps_there turns) (subst (BreaksAreToCome traces site.time) (sym first_is) come);
           stands = λ size keeps apart sized failed carried.
-              let keeps_there = subst KeepsGroup (sym first_is) keeps in
+              let keeps_there = subst IsGroupSound (sym first_is) keeps in
               let sized_there = subst (AreSized size) (sym first_is) sized in
               let failed_there = subst (λ (s : Group). FailedAreOwed size s site.told) (sym first_is) failed in
               let carried_there = subst (λ (s : Group). CarriedAsLive s site.told) (sym first_is) carried in

@@ -7,7 +7,7 @@ use Rattle.crash_plant.specs.Moments.{PlantState}
 use Rattle.write_trace.specs.declared.trace.Trace.{Trace}
 use Rattle.group_state.specs.Groups.{Group}
 use Rattle.group_state.specs.Runs.{Answer}
-use Rattle.group_state.specs.SoundStates.{KeepsGroup}
+use Rattle.group_state.specs.SoundStates.{IsGroupSound}
 use Rattle.xrc_journal.specs.Bodies.{have_image}
 use Rattle.xrc_journal.specs.Items.{Item}
 use Rattle.record_rows.specs.Deeds.{Deed}
@@ -16,7 +16,7 @@ use Rattle.site_store.specs.DoneDeeds.{BeginsDeeds}
 use Rattle.site_store.specs.Exceptions.{Exceptions}
 use Rattle.fed_logs.specs.Feeds.{AllGoUpTo, is_answer_of_mover, is_up_to_limit, part_of_mover, part_of_reader}
 use Rattle.fed_logs.specs.ShownBreaks.{BrokeAsTraces}
-use Rattle.consistency.specs.Stages.{Run}
+use Rattle.consistency.specs.Stages.{ScriptRun}
 use Rattle.pair_table.specs.declared.level.Level.{Level}
 use Rattle.pair_table.specs.Tables.{none_clash}
 use Rattle.row_changes.specs.Changes.Due.{NoneDue}
@@ -137,7 +137,7 @@ module _ {S : Type 0} (tells : Type 0) (left : S → Option (List ℕ)) (faults 
     did = did_so site after (deeds_of moved.steps) was is result (moved.did told);
   }
 
-  fed_so : (traces : List Trace) → KeepsGroup at.first → AllTurnOut left traces old new → IsFedLog traces at.first end log
+  fed_so : (traces : List Trace) → IsGroupSound at.first → AllTurnOut left traces old new → IsFedLog traces at.first end log
   fed_so traces keeps turns = log_is_fed left faults at.first end limit log old new keeps history.runs seats_are lanes lane_went traces turns
 
   up_to_so : (traces : List Trace) → HoldNone old → AllTurnOut left traces old new → AllGoUpTo limit traces log
@@ -152,7 +152,7 @@ module _ {S : Type 0} (tells : Type 0) (left : S → Option (List ℕ)) (faults 
   any_done = λ k v. true
 
   -- They are steps.
-  steps_so : (run : Run) → run.level ≡ site.level → site.mark.ended ≡ false → none_clash site.told ≡ true → KeepsGroup at.first → AllTurnOut left run.traces old new → BrokeAsTraces run.traces at.first → AreStepsOf run site moved.steps
+  steps_so : (run : ScriptRun) → run.level ≡ site.level → site.mark.ended ≡ false → none_clash site.told ≡ true → IsGroupSound at.first → AllTurnOut left run.traces old new → BrokeAsTraces run.traces at.first → AreStepsOf run site moved.steps
   steps_so run level goes_on apart keeps turns broke =
       let made = subst (λ (l : Level). AreMade l false (part_of_mover log) site.time site.told NoneDue moved.steps NoneDue) (sym level) (made_so goes_on) in
       let steps = made_are_steps run at.first end log (part_of_mover log) (fed_so run.traces keeps turns) broke (contains_filtered is_answer_of_mover log) false site.time site.told NoneDue moved.steps NoneDue apart made in

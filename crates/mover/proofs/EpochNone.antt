@@ -4,7 +4,7 @@ use Rattle.std.specs.Prelude.{IsSomeAnd, slice_index_or, take}
 use Rattle.crash_plant.specs.Moments.{PlantState}
 use Rattle.write_trace.specs.declared.trace.Trace.{Trace}
 use Rattle.group_state.specs.Groups.{Group}
-use Rattle.group_state.specs.SoundStates.{KeepsGroup}
+use Rattle.group_state.specs.SoundStates.{IsGroupSound}
 use Rattle.record_rows.specs.Deeds.{time_meant_behind}
 use Rattle.site_store.proofs.Moments.{have_begun}
 use Rattle.site_store.proofs.Single.{no_call}
@@ -60,7 +60,7 @@ module _ {S : Type 0} (tells : Type 0) (left : S → Option (List ℕ)) (faults 
   none_shows : Shows site site [] plant plant ends.NoMemory
   none_shows = record { begins = λ excepted stands. have_begun plant plant excepted site.told [] (no_call plant excepted site.told); did = tt }
 
-  fed_none : (traces : List Trace) → KeepsGroup first → AllTurnOut left traces lanes lanes → IsFedLog traces first first []
+  fed_none : (traces : List Trace) → IsGroupSound first → AllTurnOut left traces lanes lanes → IsFedLog traces first first []
   fed_none traces keeps turns = log_is_fed left faults first first limit [] lanes lanes keeps refl refl are lane_none traces turns
 
   none_bears : BearsBehind left limit first first lanes lanes site [] []

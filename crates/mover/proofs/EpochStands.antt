@@ -14,7 +14,7 @@ use Rattle.pair_table.specs.declared.level.Level.{Level}
 use Rattle.pair_table.specs.declared.row.PairRow.{PairRow}
 use Rattle.group_state.specs.Groups.{Group}
 use Rattle.group_state.specs.Runs.{Answer}
-use Rattle.group_state.specs.SoundStates.{KeepsGroup}
+use Rattle.group_state.specs.SoundStates.{IsGroupSound}
 use Rattle.row_changes.specs.Changes.{Timed}
 use Rattle.row_changes.specs.Changes.Due.{NoneDue}
 use Rattle.row_changes.specs.Spans.{hit_count, is_break}
@@ -25,7 +25,7 @@ use Rattle.xrc_command.specs.declared.line.Line.{Line}
 use Rattle.site_store.specs.DeedChanges.{DeedOfChanges, changes_of, deeds_of}
 use Rattle.site_store.specs.DoneDeeds.{DoesDeeds}
 use Rattle.site_store.specs.Exceptions.{Exceptions, excepted_behind}
-use Rattle.consistency.specs.Stages.{Run, breaks_of}
+use Rattle.consistency.specs.Stages.{ScriptRun, breaks_of}
 use Rattle.fed_logs.specs.Feeds.{is_answer_of_mover, part_of_mover}
 use Rattle.fed_logs.specs.Logs.{BeginsLog, IsFedLog}
 use Rattle.fed_logs.specs.Moves.{MakesAllDeeds, Plans}
@@ -113,7 +113,7 @@ module _ {S : Type 0} (tells : Type 0) (left : S → Option (List ℕ)) (faults 
   abbrev q : Point
   q = so.leg.point
 
-  abbrev run : Run
+  abbrev run : ScriptRun
   run = so.run
 
   abbrev steps : List DeedOfChanges
@@ -211,9 +211,9 @@ module _ {S : Type 0} (tells : Type 0) (left : S → Option (List ℕ)) (faults 
 
   -- ---- the shared state
 
-  keeps_then : KeepsGroup next
+  keeps_then : IsGroupSound next
   keeps_then =
-      subst KeepsGroup same_end
+      subst IsGroupSound same_end
       (reached_holds so.size run.traces (held_by_choice was e.stands.some.0 q.rows) group e.goes.ran.end log q.time after.time q.rows after.told so.done all.known (deeds_of steps) fed first_log whole).2
 
   broke_then : BrokeAsTraces run.traces next

@@ -17,7 +17,7 @@ use Rattle.group_state.specs.Groups.{Group, control_at, cut_of, formed_at, with_
 use Rattle.group_state.specs.Machine.{Call, Reply, steps}
 use Rattle.group_state.specs.Machine.Call.{Join, NextWanted, Copied, Raise, Break, Form, Carry, Drop, Resume, Forget}
 use Rattle.group_state.specs.Runs.{Answer, Runs}
-use Rattle.group_state.specs.SoundStates.{KeepsGroup, Sound, is_dropped, is_entry_of, may_wait, passes_or_none}
+use Rattle.group_state.specs.SoundStates.{IsGroupSound, Sound, is_dropped, is_entry_of, may_wait, passes_or_none}
 use Rattle.group_state.specs.Volumes.{copied_track, dropped_map, dropped_volume, formed_track, is_wanted, noted_write, passes, volume_of, wants, with_formed_copies, with_formed_copy, with_write, with_writes}
 use Rattle.group_state.proofs.VolumeLaws.{Keeps, passes_with}
 use Rattle.record_rows.specs.Deeds.{Deed}
@@ -301,7 +301,7 @@ owed_is_mapped v x c sound dropped owed = elim (or_cases (is_to_be_copied v x c)
   ]
 ]
 
-module _ (size : Sizes) (first end : Group) (log : List Answer) (rows next : List PairRow) (deeds : List Deed) (keeps : KeepsGroup first) (are_sized : AreSized size first) (runs : Runs first log end) (seats : list_all is_call_of_seat log ≡ true) (failed : FailedAreOwed size first rows) (carried : CarriedAsLive first rows)
+module _ (size : Sizes) (first end : Group) (log : List Answer) (rows next : List PairRow) (deeds : List Deed) (keeps : IsGroupSound first) (are_sized : AreSized size first) (runs : Runs first log end) (seats : list_all is_call_of_seat log ≡ true) (failed : FailedAreOwed size first rows) (carried : CarriedAsLive first rows)
     (pairs : InPlaces IsSamePair rows next) (owed : OwesExactly rows next (part_of_mover log) deeds) where
   sizes : HasSizesOf first end
   sizes = sizes_stay first first log end runs seats refl

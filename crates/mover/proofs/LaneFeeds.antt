@@ -7,7 +7,7 @@ use Rattle.write_trace.specs.declared.trace.Trace.{Trace}
 use Rattle.sidefile.specs.declared.hand.Halt.{Halt}
 use Rattle.group_state.specs.Groups.{Group}
 use Rattle.group_state.specs.Runs.{Answer, Runs}
-use Rattle.group_state.specs.SoundStates.{KeepsGroup}
+use Rattle.group_state.specs.SoundStates.{IsGroupSound}
 use Rattle.fed_logs.specs.ToldTracks.{floor_of}
 use Rattle.fed_logs.specs.Feeds.{AreFedBy, is_up_to_limit, part_of_reader}
 use Rattle.fed_logs.specs.Logs.{IsFedLog, is_call_of_seat}
@@ -76,7 +76,7 @@ module _ {S : Type 0} (left : S → Option (List ℕ)) (faults : S → ℕ) (t :
               (u.went out.outlook t g.0 g.1 g.2 g.3 (subst (IsHeldUpTo limit t) (sym (none goes)) tt)).calls
           halted (Some halt) stopped = ap (list_all (is_up_to_limit limit t)) (read.reads_on.stays halt stopped).1
 
-module _ {S : Type 0} (left : S → Option (List ℕ)) (faults : S → ℕ) (first end : Group) (limit : ℕ) (log : List Answer) (old new : List (Lane S)) (keeps : KeepsGroup first) (runs : Runs first log end) (seats : list_all is_call_of_seat log ≡ true) (lanes : AreLanesOf first limit old)
+module _ {S : Type 0} (left : S → Option (List ℕ)) (faults : S → ℕ) (first end : Group) (limit : ℕ) (log : List Answer) (old new : List (Lane S)) (keeps : IsGroupSound first) (runs : Runs first log end) (seats : list_all is_call_of_seat log ≡ true) (lanes : AreLanesOf first limit old)
     (went : (k : ℕ) (d : Lane S) → k < length old → LaneWent left faults (part_of_reader k log) (slice_index_or old k d) (slice_index_or new k d)) where
   pub log_is_fed : (traces : List Trace) → AllTurnOut left traces old new → IsFedLog traces first end log
   log_is_fed traces turns = record {

@@ -31,9 +31,9 @@ use Rattle.site_store.specs.Applying.{excepted_by_apply}
 use Rattle.site_store.specs.Causes.{FailByCounts, HasStoreCause}
 use Rattle.site_store.specs.Jobs.{has_device, is_of_device}
 use Rattle.site_store.specs.Logging.{AreItemsOf, HasEntryOn, IsOfLog, IsOfSomeRow, behind_group, is_entry_of_device, is_pair_item, log_deeds, rows_before, rows_logged}
-use Rattle.site_store.specs.Records.{IsOfRecord, VolumesStay, behind_way}
+use Rattle.site_store.specs.Records.{IsOfRecord, VolumesStay, behind_placement}
 use Rattle.site_store.specs.Sites.{SiteState, is_written}
-use Rattle.site_store.proofs.ByWays.{RecordWay, by_ways, way_here, way_marked, way_switched}
+use Rattle.site_store.proofs.ByPlacements.{RecordPlacement, by_placements, placement_here, placement_marked, placement_switched}
 use Rattle.mover.specs.Moves.{IsOfLive, IsOfMover, KeepPairs, KnowsRows, MoverWorks, is_device_of_row, is_row_of_number, is_worked_on, known_at_control, row_of_volume}
 use Rattle.mover.specs.Numbers.{IsSiteSpent}
 use Rattle.mover.specs.Slots.{is_track_of_mover}
@@ -216,19 +216,19 @@ kept_is_up failed d rows none kept = by (is_down failed d) refl
 
 -- ---- exceptions behind a group's record
 
-module _ (tells : Type 0) (group : FormedGroup) (site next : SiteState) (way : RecordWay) (early : List Bool) (old : PlantState) (idle : site.waiting ≡ []) (s : LogSteps group site way early next.failed)
-    (items : AreItemsOf tells group next.failed (rows_before way site early) next.told old next.waiting) (is_next : next ≡ behind_group old.journals way group next.waiting early next.failed site) where
-  pub rows_are : next.told ≡ rows_logged way site group early next.failed
+module _ (tells : Type 0) (group : FormedGroup) (site next : SiteState) (placement : RecordPlacement) (early : List Bool) (old : PlantState) (idle : site.waiting ≡ []) (s : LogSteps group site placement early next.failed)
+    (items : AreItemsOf tells group next.failed (rows_before placement site early) next.told old next.waiting) (is_next : next ≡ behind_group old.journals placement group next.waiting early next.failed site) where
+  pub rows_are : next.told ≡ rows_logged placement site group early next.failed
   rows_are = ap (λ (s : SiteState). s.told) is_next
 
   pub logged_told : hit_now next.failed next.told ≡ []
-  logged_told = ap (hit_now next.failed) rows_are ∙ none_hit_again next.failed group.cut.0 (rows_before way site early) (rows_logged way site group early next.failed) s.told
+  logged_told = ap (hit_now next.failed) rows_are ∙ none_hit_again next.failed group.cut.0 (rows_before placement site early) (rows_logged placement site group early next.failed) s.told
 
   -- A track that has a whole image in the group has an image that waits, unless its device has failed.
-  image_waits : (d x : ℕ) → is_kept d (rows_logged way site group early next.failed) ≡ true → list_any (is_whole_on (rows_before way site early) d x) group.entries ≡ true → have_image next.waiting d x ≡ true
+  image_waits : (d x : ℕ) → is_kept d (rows_logged placement site group early next.failed) ≡ true → list_any (is_whole_on (rows_before placement site early) d x) group.entries ≡ true → have_image next.waiting d x ≡ true
   image_waits d x kept whole =
       let up = kept_is_up next.failed d next.told logged_told (ap (is_kept d) rows_are ∙ kept) in
-      let has = (items.tracks d x).1 (whole_has (rows_before way site early) d x group.entries whole, up) in
+      let has = (items.tracks d x).1 (whole_has (rows_before placement site early) d x group.entries whole, up) in
       ap (λ (l : List Item). have_image l d x) items.parts ∙ drawn_there d x items.images items.pairs none_earlier items.are_images has
 
   waits_no_more : (e kept whole image : Bool) → (not kept || (e && not whole)) ≡ false → (kept ≡ true → whole ≡ true → image ≡ true) → (e && not image) ≡ false
@@ -238,8 +238,8 @@ module _ (tells : Type 0) (group : FormedGroup) (site next : SiteState) (way : R
   waits_no_more true true true image is so = rw (so refl refl) refl
 
   -- Behind the deeds no track is excepted that isn't excepted behind them, once what waits is applied.
-  pub logged_fewer : (e : Exceptions) (d x : ℕ) → excepted_behind site.told (log_deeds way site group early next.failed) (excepted_by_apply site e) d x ≡ false → excepted_by_apply next e d x ≡ false
-  logged_fewer e d x is = by_ways Fewer here_fewer here_fewer_switched marked_fewer way (λ kept whole. image_waits d x kept whole) is
+  pub logged_fewer : (e : Exceptions) (d x : ℕ) → excepted_behind site.told (log_deeds placement site group early next.failed) (excepted_by_apply site e) d x ≡ false → excepted_by_apply next e d x ≡ false
+  logged_fewer e d x is = by_placements Fewer here_fewer here_fewer_switched marked_fewer placement (λ kept whole. image_waits d x kept whole) is
     where
       now : excepted_by_apply site e d x ≡ e d x
       now = none_waits site e d x idle
@@ -258,42 +258,42 @@ module _ (tells : Type 0) (group : FormedGroup) (site next : SiteState) (way : R
       behind true true whole true is = is
       behind true true whole false is = refl
 
-      Fewer : RecordWay → Type 0
+      Fewer : RecordPlacement → Type 0
       Fewer w = (is_kept d (rows_logged w site group early next.failed) ≡ true → list_any (is_whole_on (rows_before w site early) d x) group.entries ≡ true → have_image next.waiting d x ≡ true)
           → excepted_behind site.told (log_deeds w site group early next.failed) (excepted_by_apply site e) d x ≡ false → excepted_by_apply next e d x ≡ false
 
-      here_fewer : Fewer way_here
-      here_fewer so is = plain (is_kept d (rows_logged way_here site group early next.failed)) (list_any (is_whole_on site.told d x) group.entries) is so
+      here_fewer : Fewer placement_here
+      here_fewer so is = plain (is_kept d (rows_logged placement_here site group early next.failed)) (list_any (is_whole_on site.told d x) group.entries) is so
 
-      here_fewer_switched : Fewer way_switched
-      here_fewer_switched so is = plain (is_kept d (rows_logged way_switched site group early next.failed)) (list_any (is_whole_on site.told d x) group.entries) is so
+      here_fewer_switched : Fewer placement_switched
+      here_fewer_switched so is = plain (is_kept d (rows_logged placement_switched site group early next.failed)) (list_any (is_whole_on site.told d x) group.entries) is so
 
-      marked_fewer : Fewer way_marked
+      marked_fewer : Fewer placement_marked
       marked_fewer so is =
-          let kept = is_kept d (rows_logged way_marked site group early next.failed) in
-          let whole = list_any (is_whole_on (rows_before way_marked site early) d x) group.entries in
-          plain kept whole (behind (is_kept d (rows_before way_marked site early)) kept whole (excepted_by_apply site e d x) is) so
+          let kept = is_kept d (rows_logged placement_marked site group early next.failed) in
+          let whole = list_any (is_whole_on (rows_before placement_marked site early) d x) group.entries in
+          plain kept whole (behind (is_kept d (rows_before placement_marked site early)) kept whole (excepted_by_apply site e d x) is) so
 
   -- ---- what it leaves
 
   pub logged_still : KeepPairs site.told next.told
   logged_still = subst (λ (l : List PairRow). KeepPairs site.told l) (sym rows_are)
-      (still_then site.told (rows_before way site early) (rows_logged way site group early next.failed) s.still s.kept)
+      (still_then site.told (rows_before placement site early) (rows_logged placement site group early next.failed) s.still s.kept)
 
   pub logged_rest : (v : ℕ) → is_worked_on next v ≡ true → is_worked_on site v ≡ true
-  logged_rest = works_less site next logged_still (λ v is. worked_written site v (written way v (ap (λ (s : SiteState). is_written s v) (sym is_next) ∙ is))) waits
+  logged_rest = works_less site next logged_still (λ v is. worked_written site v (written placement v (ap (λ (s : SiteState). is_written s v) (sym is_next) ∙ is))) waits
     where
-      Written : RecordWay → Type 0
-      Written w = (v : ℕ) → is_written (behind_way w site) v ≡ true → is_written site v ≡ true
+      Written : RecordPlacement → Type 0
+      Written w = (v : ℕ) → is_written (behind_placement w site) v ≡ true → is_written site v ≡ true
 
-      written : (w : RecordWay) → Written w
-      written = by_ways Written (λ v is. is) (λ v is. is) (λ v is. absurd (none_written (length site.written) v is))
+      written : (w : RecordPlacement) → Written w
+      written = by_placements Written (λ v is. is) (λ v is. is) (λ v is. absurd (none_written (length site.written) v is))
 
       waits : (v : ℕ) → has_device v next.waiting ≡ true → is_worked_on site v ≡ true
       waits v is =
           let t = some_track v items.images items.are_images (device_parts v items.images items.pairs items.are_pairs (ap (has_device v) (sym items.parts) ∙ is)) in
           let has = (items.tracks v t.0).0 t.1 in
-          worked_rows site v (sym (devices_still v site.told (rows_before way site early) s.still) ∙ entry_on_row (rows_before way site early) v t.0 group.entries has.0)
+          worked_rows site v (sym (devices_still v site.told (rows_before placement site early) s.still) ∙ entry_on_row (rows_before placement site early) v t.0 group.entries has.0)
 
 -- ---- the devices of a log
 

@@ -36,7 +36,7 @@ use Rattle.fed_logs.specs.LogLaws.{WasShown}
 use Rattle.fed_logs.specs.Moves.{AreQuiet, MayFollow, is_mark_at_most, is_plan_shown_done}
 use Rattle.site_store.specs.Logging.{FailedBetween, log_deeds, rows_before, rows_logged}
 use Rattle.site_store.specs.Sites.{SiteState}
-use Rattle.site_store.proofs.ByWays.{RecordWay, by_ways, way_here, way_marked, way_switched}
+use Rattle.site_store.proofs.ByPlacements.{RecordPlacement, by_placements, placement_here, placement_marked, placement_switched}
 use Rattle.mover.specs.Groups.{is_to_log}
 use Rattle.mover.specs.Moves.{Fades, InPlacesByDeeds, KeepPairs, KeepsPair, is_broken_at}
 use Rattle.mover.specs.Steps.{AreMade}
@@ -160,22 +160,22 @@ fades_keep group rows next fade = still_then rows (rows_with_group group rows) n
 -- ---- the steps
 
 -- The deeds of a log with their changes: quiet ones first, then the record.
-pub record LogSteps (group : FormedGroup) (site : SiteState) (way : RecordWay) (early failed : List Bool) : Type 0 where
+pub record LogSteps (group : FormedGroup) (site : SiteState) (placement : RecordPlacement) (early failed : List Bool) : Type 0 where
   pub quiet : List Deed
   pub steps : List DeedOfChanges
-  pub deeds_are : deeds_of steps ≡ log_deeds way site group early failed
-  pub are : log_deeds way site group early failed ≡ quiet ++ Logged group.cut.0 group.entries (rows_logged way site group early failed) ∷ []
-  pub suspends : AreQuiet site.time site.told quiet (rows_before way site early)
+  pub deeds_are : deeds_of steps ≡ log_deeds placement site group early failed
+  pub are : log_deeds placement site group early failed ≡ quiet ++ Logged group.cut.0 group.entries (rows_logged placement site group early failed) ∷ []
+  pub suspends : AreQuiet site.time site.told quiet (rows_before placement site early)
   pub marks : is_mark_at_most quiet ≡ true
   pub changes : list_all (is_broken_at group.cut.0) group.breaks ≡ true → site.time ≤ group.cut.0 → AreByChanges site.level site.time site.told steps
   pub made : (answers : List Answer) → WasShown answers (shown_in group) → site.time ≤ group.cut.0 → is_to_log group site.time site.told ≡ true → site.mark.ended ≡ false → AreMade site.level false answers site.time site.told NoneDue steps NoneDue
   pub hit : (d : ℕ) → hit_count d (changes_of steps) ≤ once (is_among d (hit_now failed site.told))
-  pub still : KeepPairs site.told (rows_before way site early)
+  pub still : KeepPairs site.told (rows_before placement site early)
   pub fades : InPlacesByDeeds Fades site.told quiet
   pub pairs : InPlacesByDeeds KeepsPair site.told (deeds_of steps)
-  pub kept : KeepPairs (rows_before way site early) (rows_logged way site group early failed)
-  pub told : AreTold failed group.cut.0 (rows_before way site early) (rows_logged way site group early failed)
-  pub grouped : AreGrouped group (rows_before way site early) (rows_logged way site group early failed)
+  pub kept : KeepPairs (rows_before placement site early) (rows_logged placement site group early failed)
+  pub told : AreTold failed group.cut.0 (rows_before placement site early) (rows_logged placement site group early failed)
+  pub grouped : AreGrouped group (rows_before placement site early) (rows_logged placement site group early failed)
 
 module _ (group : FormedGroup) (site : SiteState) (early failed : List Bool) (apart : none_clash site.told ≡ true) where
   abbrev n : ℕ
@@ -209,7 +209,7 @@ module _ (group : FormedGroup) (site : SiteState) (early failed : List Bool) (ap
   plain_hit : (d : ℕ) → hit_count d (record_changes group failed site.told ++ []) ≤ once (is_among d (hit_now failed site.told))
   plain_hit d = let e = ap (hit_count d) (append-nil (record_changes group failed site.told)) ∙ records_count d group failed site.told in omega (arith, e)
 
-  pub here_steps : LogSteps group site way_here early failed
+  pub here_steps : LogSteps group site placement_here early failed
   here_steps = record {
     quiet = [];
     steps = plain ∷ [];
@@ -228,7 +228,7 @@ module _ (group : FormedGroup) (site : SiteState) (early failed : List Bool) (ap
     grouped = records_group site.level group failed site.told;
   }
 
-  pub switched_steps : LogSteps group site way_switched early failed
+  pub switched_steps : LogSteps group site placement_switched early failed
   switched_steps = record {
     quiet = [];
     steps = plain ∷ [];
@@ -284,7 +284,7 @@ module _ (group : FormedGroup) (site : SiteState) (early failed : List Bool) (ap
       by true e b f false g = absurd (true≢false (sym (hit_by_others early failed d site.told e (between.behind d (only_failed d early site.told e))) ∙ g))
       by false e true f false g = absurd (true≢false (sym (hit_before early failed site.time d site.told mid (marks_tell site.time early site.told (apart_of site.told apart)) f) ∙ g))
 
-  pub marked_steps : FailedBetween site.failed early failed → LogSteps group site way_marked early failed
+  pub marked_steps : FailedBetween site.failed early failed → LogSteps group site placement_marked early failed
   marked_steps between = record {
     quiet = Marked site.at site.mark.ended mid ∷ [];
     steps = record { deed = Marked site.at site.mark.ended mid; changes = marked_changes site.time early_hits } ∷ record { deed = Logged group.cut.0 group.entries (rows_behind_mark site.level early_hits group failed mid); changes = behind } ∷ [];
@@ -315,5 +315,5 @@ module _ (group : FormedGroup) (site : SiteState) (early failed : List Bool) (ap
       mid_apart : devices_apart mid ≡ true
       mid_apart = apart_of mid (apart_still site.told mid mid_still apart)
 
-  pub log_steps : (way : RecordWay) → FailedBetween site.failed early failed → LogSteps group site way early failed
-  log_steps way between = by_ways (λ (w : RecordWay). LogSteps group site w early failed) here_steps switched_steps (marked_steps between) way
+  pub log_steps : (placement : RecordPlacement) → FailedBetween site.failed early failed → LogSteps group site placement early failed
+  log_steps placement between = by_placements (λ (w : RecordPlacement). LogSteps group site w early failed) here_steps switched_steps (marked_steps between) placement

@@ -42,10 +42,10 @@ use Rattle.site_store.specs.declared.store_error.StoreError.{StoreError}
 use Rattle.site_store.specs.Applying.{excepted_by_apply}
 use Rattle.site_store.specs.Causes.{FailByCounts}
 use Rattle.site_store.specs.Logging.{AreItemsOf, LogsGroup, behind_group, log_deeds, rows_before, rows_logged}
-use Rattle.site_store.specs.Records.{behind_way}
+use Rattle.site_store.specs.Records.{behind_placement}
 use Rattle.site_store.specs.Sites.{SiteState}
 use Rattle.site_store.specs.Standing.{Leaves, StandsFast}
-use Rattle.site_store.proofs.ByWays.{RecordWay, by_ways, way_marked}
+use Rattle.site_store.proofs.ByPlacements.{RecordPlacement, by_placements, placement_marked}
 use Rattle.mover.specs.Dropping.{AreOfControls, Drops, OwesExactly, VolumeDrop, are_states_of, answer_of_drop, drops_from, known_behind, stood_duplex}
 use Rattle.mover.specs.Groups.{are_none, is_to_log, matures}
 use Rattle.mover.specs.Moves.{Fades, AreHitsCounted, BeginsAll, DidAll, IsLeftBehind, IsInStep, IsStillAt, KeepPairs, KeepsAll, KeepsPair, KnowsDuplex, KnowsRows, KnowsSite, LogsEntriesOf, MaySettle, Moved, SiteMoved, are_shown_at_cuts, is_broken_at, is_mark_due, is_shown_at_cut, is_worked_on, untold_hits}
@@ -326,8 +326,8 @@ logged_up group site is = by (nat_eq group.cut.0 site.time) refl is
 
 module _ (tells : Type 0) (limit : Stamp) (r : forming.Forming) (group : FormedGroup) (seat turn : MoverSeatState) (site next : SiteState) (old new : PlantState) (result : Result (Unit {0}) StoreError) (f : FormsGroup limit r group seat turn) (knows : KnowsSite limit.0 seat site) (apart : none_clash site.told ≡ true) (idle : site.waiting ≡ []) (marked : site.since ≡ 0)
     (is_logged : is_to_log group site.time site.told ≡ true) (carried : list_all (is_of_carried seat.known) group.entries ≡ true) (logs : LogsGroup tells group site next old new result) (leaves : OnOk result (Leaves tells (λ e. e) site next old new)) (fails : FailByCounts site.failed next.failed old.faults new.faults) (later : (d : ℕ) → old.faults (Volume d) ≤ new.faults (Volume d)) where
-  abbrev way : RecordWay
-  way = logs.way
+  abbrev placement : RecordPlacement
+  placement = logs.placement
 
   abbrev early : List Bool
   early = logs.logs.early
@@ -336,13 +336,13 @@ module _ (tells : Type 0) (limit : Stamp) (r : forming.Forming) (group : FormedG
   shown = shown_in group
 
   abbrev rows : List PairRow
-  rows = rows_logged way site group early next.failed
+  rows = rows_logged placement site group early next.failed
 
   abbrev deeds : List Deed
-  deeds = log_deeds way site group early next.failed
+  deeds = log_deeds placement site group early next.failed
 
-  pub steps : LogSteps group site way early next.failed
-  steps = log_steps group site early next.failed apart way logs.logs.early_failed
+  pub steps : LogSteps group site placement early next.failed
+  steps = log_steps group site early next.failed apart placement logs.logs.early_failed
 
   up : site.time ≤ group.cut.0
   up = logged_up group site is_logged
@@ -366,15 +366,15 @@ module _ (tells : Type 0) (limit : Stamp) (r : forming.Forming) (group : FormedG
   live =
       let entries = entries_of_live seat.known site.told group.entries knows.rows carried in
       subst (λ (due : Bool). AreEntriesLive due site.told (deeds_of steps.steps)) (sym (ap (nat_le 1) marked)) (subst (AreEntriesLive false site.told) (sym steps.deeds_are)
-      (by_ways (λ (w : RecordWay). AreEntriesLive false site.told (log_deeds w site group early next.failed)) (entries, tt) (entries, tt) (entries, tt) way))
+      (by_placements (λ (w : RecordPlacement). AreEntriesLive false site.told (log_deeds w site group early next.failed)) (entries, tt) (entries, tt) (entries, tt) placement))
 
   -- A mark that is made first suspends none of these but by its own device.
   left_entries : LogsEntriesOf site.told (deeds_of steps.steps)
   left_entries =
       let entries = entries_of_live seat.known site.told group.entries knows.rows carried in
       let plain : LogsEntriesOf site.told (Logged group.cut.0 group.entries rows ∷ []) = (λ k d low. live_may site.told (entries k d low), tt) in
-      let marked : LogsEntriesOf site.told (log_deeds way_marked site group early next.failed) = (λ k d low. marked_may site.time (hit_now early site.told) site.told (entries k d low), tt) in
-      subst (LogsEntriesOf site.told) (sym steps.deeds_are) (by_ways (λ (w : RecordWay). LogsEntriesOf site.told (log_deeds w site group early next.failed)) plain plain marked way)
+      let marked : LogsEntriesOf site.told (log_deeds placement_marked site group early next.failed) = (λ k d low. marked_may site.time (hit_now early site.told) site.told (entries k d low), tt) in
+      subst (LogsEntriesOf site.told) (sym steps.deeds_are) (by_placements (λ (w : RecordPlacement). LogsEntriesOf site.told (log_deeds w site group early next.failed)) plain plain marked placement)
 
   begins : tells → BeginsAll site (deeds_of steps.steps) old new
   begins told e stands = subst (λ (l : List Deed). BeginsDeeds (excepted_by_apply site e) site.told l old new) (sym steps.deeds_are)
@@ -384,7 +384,7 @@ module _ (tells : Type 0) (limit : Stamp) (r : forming.Forming) (group : FormedG
   kept : (done : Plans) (rest : Following) → rest group.cut.0 rows (plans_with_shown shown done) [] → KeepsCall site.time site.told done (Form limit) (form_reply r shown) (deeds_of steps.steps) rest
   kept done rest goes_on = kept_form limit r shown site.time site.told done (deeds_of steps.steps) rest (inr (record {
     quiet = steps.quiet;
-    mid = rows_before way site early;
+    mid = rows_before placement site early;
     next = rows;
     later = [];
     are = steps.deeds_are ∙ steps.are;
@@ -392,7 +392,7 @@ module _ (tells : Type 0) (limit : Stamp) (r : forming.Forming) (group : FormedG
     up = up;
     live = entries_of_live seat.known site.told group.entries knows.rows carried;
     marks = steps.marks;
-    follow = follow_of group next.failed (rows_before way site early) rows steps.told steps.grouped;
+    follow = follow_of group next.failed (rows_before placement site early) rows steps.told steps.grouped;
     goes_on = goes_on;
   }))
 
@@ -441,10 +441,10 @@ module _ (tells : Type 0) (limit : Stamp) (r : forming.Forming) (group : FormedG
     at_ok : {A : Type 0} → OnOk result A → A
     at_ok {A} a = subst (λ (r : Result (Unit {0}) StoreError). OnOk r A) is a
 
-    items : AreItemsOf tells group next.failed (rows_before way site early) next.told old next.waiting
+    items : AreItemsOf tells group next.failed (rows_before placement site early) next.told old next.waiting
     items = at_ok logs.logs.items
 
-    is_next : next ≡ behind_group old.journals way group next.waiting early next.failed site
+    is_next : next ≡ behind_group old.journals placement group next.waiting early next.failed site
     is_next = at_ok logs.logs.next_is
 
     told_is : next.told ≡ rows
@@ -454,7 +454,7 @@ module _ (tells : Type 0) (limit : Stamp) (r : forming.Forming) (group : FormedG
     time_is = ap (λ (s : SiteState). s.time) is_next
 
     pub log_still : KeepPairs site.told next.told
-    log_still = logged_still tells group site next way early old idle steps items is_next
+    log_still = logged_still tells group site next placement early old idle steps items is_next
 
     apart_next : none_clash next.told ≡ true
     apart_next = apart_still site.told next.told log_still apart
@@ -463,10 +463,10 @@ module _ (tells : Type 0) (limit : Stamp) (r : forming.Forming) (group : FormedG
     log_level = ap (λ (s : SiteState). s.is_ahead) is_next
 
     pub log_rest : (v : ℕ) → is_worked_on next v ≡ true → is_worked_on site v ≡ true
-    log_rest = logged_rest tells group site next way early old idle steps items is_next
+    log_rest = logged_rest tells group site next placement early old idle steps items is_next
 
     pub log_slots : (v x : ℕ) → is_track_of_mover next v x ≡ true → is_track_of_mover site v x ≡ true
-    log_slots = slots_logged tells group next.failed seat.known site next (rows_before way site early) old knows.rows carried steps.still log_still items
+    log_slots = slots_logged tells group next.failed seat.known site next (rows_before placement site early) old knows.rows carried steps.still log_still items
 
     module _ (end : MoverSeatState) (was : List (Option PairState)) (states : are_states_of site.told was) (drops : Drops was next.told turn end) where
       abbrev dropped_next : List VolumeDrop
@@ -482,8 +482,8 @@ module _ (tells : Type 0) (limit : Stamp) (r : forming.Forming) (group : FormedG
       run_is = made_is drops.gained ∙ (λ i. form_answer limit r group ∷ drops.are i)
 
       duplex_then : (done : Plans) → KnowsDuplex site.told done → KnowsDuplex next.told (plans_with_shown shown done)
-      duplex_then done known k v has = elim ((follow_of group next.failed (rows_before way site early) rows steps.told steps.grouped).duplex k v (subst (HasRowIn IsDuplex k v) told_is has)) [
-        | inl was ↦ or_left (done k v) (is_plan_shown_done k v shown) (known k v (duplex_before site.time site.told steps.quiet (rows_before way site early) steps.suspends k v was))
+      duplex_then done known k v has = elim ((follow_of group next.failed (rows_before placement site early) rows steps.told steps.grouped).duplex k v (subst (HasRowIn IsDuplex k v) told_is has)) [
+        | inl was ↦ or_left (done k v) (is_plan_shown_done k v shown) (known k v (duplex_before site.time site.told steps.quiet (rows_before placement site early) steps.suspends k v was))
         | inr now ↦ or_right (done k v) (is_plan_shown_done k v shown) now
       ]
 
@@ -510,25 +510,25 @@ module _ (tells : Type 0) (limit : Stamp) (r : forming.Forming) (group : FormedG
       -- Behind it a mark is due.
       due : is_mark_due next ≡ is_mark_due_behind (is_mark_due site) (deeds_of steps.steps)
       due =
-          ap is_mark_due is_next ∙ one_is_due (behind_way way site).since ∙ sym (ap (is_mark_due_behind (is_mark_due site)) steps.deeds_are ∙ due_by way)
+          ap is_mark_due is_next ∙ one_is_due (behind_placement placement site).since ∙ sym (ap (is_mark_due_behind (is_mark_due site)) steps.deeds_are ∙ due_by placement)
         where
-          due_by : (w : RecordWay) → is_mark_due_behind (is_mark_due site) (log_deeds w site group early next.failed) ≡ true
-          due_by = by_ways (λ (w : RecordWay). is_mark_due_behind (is_mark_due site) (log_deeds w site group early next.failed) ≡ true) refl refl refl
+          due_by : (w : RecordPlacement) → is_mark_due_behind (is_mark_due site) (log_deeds w site group early next.failed) ≡ true
+          due_by = by_placements (λ (w : RecordPlacement). is_mark_due_behind (is_mark_due site) (log_deeds w site group early next.failed) ≡ true) refl refl refl
 
       behind : IsLeftBehind site next (deeds_of steps.steps)
       behind = record {
-        level = ap (λ (s : SiteState). s.level) is_next ∙ level_of way;
-        controls = ap (λ (s : SiteState). s.controls) is_next ∙ controls_of way;
+        level = ap (λ (s : SiteState). s.level) is_next ∙ level_of placement;
+        controls = ap (λ (s : SiteState). s.controls) is_next ∙ controls_of placement;
         table = in_rows_alone site.table next.table rows (ap (λ (s : SiteState). s.table) is_next);
         rows = told_is ∙ sym turn_by.rows_are ∙ ap (λ (l : List Deed). rows_behind l site.told) (sym all_deeds);
         time = time_is ∙ sym (turn_by.time site.time) ∙ ap (λ (l : List Deed). time_meant_behind l site.time) (sym all_deeds);
       }
         where
-          level_of : (w : RecordWay) → (behind_way w site).level ≡ site.level
-          level_of = by_ways (λ (w : RecordWay). (behind_way w site).level ≡ site.level) refl refl refl
+          level_of : (w : RecordPlacement) → (behind_placement w site).level ≡ site.level
+          level_of = by_placements (λ (w : RecordPlacement). (behind_placement w site).level ≡ site.level) refl refl refl
 
-          controls_of : (w : RecordWay) → (behind_way w site).controls ≡ site.controls
-          controls_of = by_ways (λ (w : RecordWay). (behind_way w site).controls ≡ site.controls) refl refl refl
+          controls_of : (w : RecordPlacement) → (behind_placement w site).controls ≡ site.controls
+          controls_of = by_placements (λ (w : RecordPlacement). (behind_placement w site).controls ≡ site.controls) refl refl refl
 
           record_deed : List Deed
           record_deed = Logged group.cut.0 group.entries rows ∷ []
@@ -545,7 +545,7 @@ module _ (tells : Type 0) (limit : Stamp) (r : forming.Forming) (group : FormedG
             (does_still old new e (excepted_by_apply site e) site.told (λ d x is. sym (none_waits site e d x idle) ∙ is) deeds (at_ok (logs.logs.does.does told) e stands));
         still = e;
         stands = (at_ok leaves).stands told e stands;
-        fewer = λ d x is. logged_fewer tells group site next way early old idle steps items is_next e d x (ap (λ (l : List Deed). excepted_behind site.told l (excepted_by_apply site e) d x) (sym steps.deeds_are) ∙ is);
+        fewer = λ d x is. logged_fewer tells group site next placement early old idle steps items is_next e d x (ap (λ (l : List Deed). excepted_behind site.told l (excepted_by_apply site e) d x) (sym steps.deeds_are) ∙ is);
       }
 
       owed_run : OwesExactly site.told next.told run (deeds_of steps.steps)
@@ -560,7 +560,7 @@ module _ (tells : Type 0) (limit : Stamp) (r : forming.Forming) (group : FormedG
         steps = steps.steps;
         changes = λ shown_at. changes (map answer_of_drop dropped_next) (ap are_shown_at_cuts (sym run_is) ∙ shown_at);
         made = λ going. steps.made (map as_answer gained) (was_shown drops.gained) up is_logged going;
-        going = λ going. ap (λ (s : SiteState). s.mark.ended) is_next ∙ by_ways (λ (w : RecordWay). (behind_way w site).mark.ended ≡ site.mark.ended) refl refl refl way ∙ going;
+        going = λ going. ap (λ (s : SiteState). s.mark.ended) is_next ∙ by_placements (λ (w : RecordPlacement). (behind_placement w site).mark.ended ≡ site.mark.ended) refl refl refl placement ∙ going;
         pairs = steps.pairs;
         counted = counted;
         live = live;
@@ -583,7 +583,7 @@ module _ (tells : Type 0) (limit : Stamp) (r : forming.Forming) (group : FormedG
           controls = omega (arith, knows.controls, ap length known_is, same_controls dropped_next turn.known, ap length f.known, behind.controls);
           in_step = record { up = omega (arith, last_is, time_is); same = inr (last_is ∙ sym time_is) };
           below = omega (arith, low, time_is);
-          told = logged_told tells group site next way early old idle steps items is_next;
+          told = logged_told tells group site next placement early old idle steps items is_next;
         };
       }
         where

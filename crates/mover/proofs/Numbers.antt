@@ -19,8 +19,8 @@ use Rattle.site_store.specs.Logging.{LogsGroup, behind_group}
 use Rattle.site_store.specs.Marking.{Marks, rows_at_mark}
 use Rattle.site_store.specs.Records.{behind_mark}
 use Rattle.site_store.specs.Sites.{SiteState}
-use Rattle.site_store.specs.Ways.{is_spent, is_suspension_spent, most}
-use Rattle.site_store.proofs.ByWays.{RecordWay, by_ways, way_here, way_marked, way_switched}
+use Rattle.site_store.specs.Placements.{is_spent, is_suspension_spent, most}
+use Rattle.site_store.proofs.ByPlacements.{RecordPlacement, by_placements, placement_here, placement_marked, placement_switched}
 use Rattle.mover.specs.Dropping.{MakesDrops, VolumeDrop, answer_of_drop}
 use Rattle.mover.specs.Numbers.{FormsUse, UsesNumbers, UsesNumbersOf, UsesUpTo, forms_among, is_form}
 use Rattle.mover.proofs.MoverCalls.{FormsGroup, form_answer}
@@ -79,17 +79,17 @@ at_most m n k e = omega (arith, e)
 
 -- The numbers of a record and of a switch before it, and that of a mark which comes first.
 module _ (tells : Type 0) (group : FormedGroup) (site next : SiteState) (old new : PlantState) (result : Result (Unit {0}) StoreError) (logs : LogsGroup tells group site next old new result) where
-  abbrev Goes : RecordWay → Type 0
-  Goes way = next ≡ behind_group old.journals way group next.waiting logs.logs.early next.failed site → Behind 2 1 site next
+  abbrev Goes : RecordPlacement → Type 0
+  Goes placement = next ≡ behind_group old.journals placement group next.waiting logs.logs.early next.failed site → Behind 2 1 site next
 
-  goes : (way : RecordWay) → Goes way
-  goes = by_ways Goes
+  goes : (placement : RecordPlacement) → Goes placement
+  goes = by_placements Goes
       (λ e. let at : next.at.number ≡ site.at.number + 1 = ap (λ (s : SiteState). s.at.number) e in let mark : next.mark.number ≡ site.mark.number = ap (λ (s : SiteState). s.mark.number) e in (omega (arith, at), omega (arith, mark)))
       (λ e. let at : next.at.number ≡ site.at.number + 1 + 1 = ap (λ (s : SiteState). s.at.number) e in let mark : next.mark.number ≡ site.mark.number = ap (λ (s : SiteState). s.mark.number) e in (omega (arith, at), omega (arith, mark)))
       (λ e. let at : next.at.number ≡ site.at.number + 1 + 1 = ap (λ (s : SiteState). s.at.number) e in let mark : next.mark.number ≡ site.mark.number + 1 = ap (λ (s : SiteState). s.mark.number) e in (omega (arith, at), omega (arith, mark)))
 
-  near : (way : RecordWay) → is_spent way site ≡ true → IsNear 2 1 site
-  near = by_ways (λ (way : RecordWay). is_spent way site ≡ true → IsNear 2 1 site)
+  near : (placement : RecordPlacement) → is_spent placement site ≡ true → IsNear 2 1 site
+  near = by_placements (λ (placement : RecordPlacement). is_spent placement site ≡ true → IsNear 2 1 site)
       (λ is. inl (below most site.at.number (ltb-true most site.at.number is)))
       (λ is. inl (up_to most site.at.number (leb-true most site.at.number is)))
       (λ is. elim (or_cases (nat_le most site.at.number) (nat_eq site.mark.number most) is) [
@@ -104,22 +104,22 @@ module _ (tells : Type 0) (group : FormedGroup) (site next : SiteState) (old new
       up_to m n low = omega (arith, low)
 
   pub log_uses : UsesUpTo 2 1 site next result
-  log_uses = record { behind = on_ok result (goes logs.way) logs.logs.next_is; spent = λ is. near logs.way (logs.first.spent.0 is) }
+  log_uses = record { behind = on_ok result (goes logs.placement) logs.logs.next_is; spent = λ is. near logs.placement (logs.first.spent.0 is) }
 
 -- ---- suspensions
 
 module _ {P : Type 0} (cut : ℕ) (site next : SiteState) (old : PlantState) (was is : P) (result : Result (Unit {0}) StoreError) (ok : Suspends cut site next old was is result) where
-  abbrev Tells : RecordWay → Type 0
-  Tells way = next ≡ with_suspensions old.journals way cut ok.items next.failed site → Behind 2 1 site next
+  abbrev Tells : RecordPlacement → Type 0
+  Tells placement = next ≡ with_suspensions old.journals placement cut ok.items next.failed site → Behind 2 1 site next
 
-  tells_by : (way : RecordWay) → Tells way
-  tells_by = by_ways Tells
+  tells_by : (placement : RecordPlacement) → Tells placement
+  tells_by = by_placements Tells
       (λ e. let at : next.at.number ≡ site.at.number + 1 = ap (λ (s : SiteState). s.at.number) e in let mark : next.mark.number ≡ site.mark.number = ap (λ (s : SiteState). s.mark.number) e in (omega (arith, at), omega (arith, mark)))
       (λ e. let at : next.at.number ≡ site.at.number + 1 + 1 = ap (λ (s : SiteState). s.at.number) e in let mark : next.mark.number ≡ site.mark.number = ap (λ (s : SiteState). s.mark.number) e in (omega (arith, at), omega (arith, mark)))
       (λ e. let at : next.at.number ≡ site.at.number = ap (λ (s : SiteState). s.at.number) e in let mark : next.mark.number ≡ site.mark.number + 1 = ap (λ (s : SiteState). s.mark.number) e in (omega (arith, at), omega (arith, mark)))
 
-  near_then : (way : RecordWay) → is_suspension_spent way site ≡ true → IsNear 2 1 site
-  near_then = by_ways (λ (way : RecordWay). is_suspension_spent way site ≡ true → IsNear 2 1 site)
+  near_then : (placement : RecordPlacement) → is_suspension_spent placement site ≡ true → IsNear 2 1 site
+  near_then = by_placements (λ (placement : RecordPlacement). is_suspension_spent placement site ≡ true → IsNear 2 1 site)
       (λ is. inl (below most site.at.number (ltb-true most site.at.number is)))
       (λ is. inl (up_to most site.at.number (leb-true most site.at.number is)))
       (λ is. inr (at_most most site.mark.number 1 (sym (eqb-true site.mark.number most is))))
@@ -141,7 +141,7 @@ module _ {P : Type 0} (cut : ℕ) (site next : SiteState) (old : PlantState) (wa
       by [] e = let n = ok.nothing e in none result n.0 n.1
       by (d ∷ hits) e =
           let some : hit_now site.failed site.told ≢ [] = λ none. let clash : d ∷ hits ≡ [] = sym e ∙ none in cc clash in
-          record { behind = on_ok result (tells_by ok.way) (ok.logged some); spent = λ is. near_then ok.way ((ok.spent some).0 is) }
+          record { behind = on_ok result (tells_by ok.placement) (ok.logged some); spent = λ is. near_then ok.placement ((ok.spent some).0 is) }
 
 -- ---- a mark
 

@@ -22,7 +22,7 @@ use Rattle.site_store.specs.Exceptions.{Exceptions}
 use Rattle.site_store.specs.Seeing.{SeesBehind}
 use Rattle.site_store.proofs.Moments.{first_seen}
 use Rattle.passages.specs.Points.{AreLinked, GoesThrough, last_point}
-use Rattle.consistency.specs.Stages.{Run, Stage, breaks_of}
+use Rattle.consistency.specs.Stages.{ScriptRun, Stage, breaks_of}
 use Rattle.consistency.specs.Bearing.{Bears, MayBeMeant, ShowsPoint}
 use Rattle.consistency.specs.Leads.{Point}
 use Rattle.consistency.specs.Ways.{ComesNext, HasCountedHits, IsAtWork, Leg, PassedPoint, Way, is_ending, is_on_the_way, last_answered, leg_after, leg_to}
@@ -49,7 +49,7 @@ points_are_on_the_way level p (t ∷ moments) [] = refl
 points_are_on_the_way level p (t ∷ moments) (step ∷ steps) = points_are_on_the_way level (point_by level p step) moments steps
 
 module _ (old : PlantState) (k : Work) (w : WorkBegins old k) where
-  abbrev run : Run
+  abbrev run : ScriptRun
   run = k.run
 
   abbrev stage : Stage

@@ -21,7 +21,7 @@ use Rattle.record_rows.specs.Records.{changes_behind_mark, record_changes, rows_
 use Rattle.record_rows.specs.ToldRows.{due_after_changes}
 use Rattle.record_rows.proofs.Coming.{behind_marks_are_changes, behind_marks_may_come, records_are_changes, records_may_come}
 use Rattle.record_rows.proofs.Devices.{apart_of}
-use Rattle.consistency.specs.Stages.{Run, breaks_of}
+use Rattle.consistency.specs.Stages.{ScriptRun, breaks_of}
 use Rattle.fed_logs.proofs.ShownBreaks.{groups_break_at_cuts}
 use Rattle.consistency.specs.Leads.{Comes, Point}
 use Rattle.consistency.specs.Ways.{are_at_time}
@@ -94,7 +94,7 @@ group_now group rows = all_both group.cut.0 (map (breaking group.cut.0) group.br
 
 -- ---- records
 
-at_cut : (run : Run) (p : Point) (group : FormedGroup) → IsGroupOfLog run p group → are_breaks_at_cut (breaks_of run) group ≡ true
+at_cut : (run : ScriptRun) (p : Point) (group : FormedGroup) → IsGroupOfLog run p group → are_breaks_at_cut (breaks_of run) group ≡ true
 at_cut run p group is = groups_break_at_cuts run.traces is.begun is.ended is.log group is.fed is.broke is.shown
 
 pub records_are_steps : RecordsAreSteps

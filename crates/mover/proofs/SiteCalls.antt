@@ -50,7 +50,7 @@ use Rattle.site_store.specs.Records.{IsOfMark, IsOfRecord, IsStore, VolumesStay,
 use Rattle.site_store.specs.Sites.{SiteState, has_failed, is_written}
 use Rattle.site_store.specs.Standing.{FitsPlant, Leaves, SiteStands, StandsFast, none_excepted}
 use Rattle.site_store.specs.Waiting.{IsOfWaiting}
-use Rattle.site_store.proofs.ByWays.{RecordWay, by_ways, way_here, way_marked, way_switched}
+use Rattle.site_store.proofs.ByPlacements.{RecordPlacement, by_placements, placement_here, placement_marked, placement_switched}
 use Rattle.mover.specs.Steps.{AreMade}
 use Rattle.mover.specs.Moves.{Fades, SessionGoesOn, IsOfMover, KeepPairs, KeepsPair, MoverWorks, SiteMoved, is_device_of_row, is_mark_due, is_worked_on, most_faults, untold_hits}
 use Rattle.mover.proofs.InSlots.{slots_applied, slots_at_rest, slots_stay}
@@ -416,10 +416,10 @@ module _ (tells : Type 0) {P : Type 0} (state : P → PlantState) (site next : S
         written = λ v is. ap (λ (s : SiteState). is_written s v) (sym same) ∙ is;
       }
 
-      Left : RecordWay → Type 0
-      Left way = next ≡ with_suspensions (state was).journals way site.time ok.items next.failed site → Tells site next
+      Left : RecordPlacement → Type 0
+      Left placement = next ≡ with_suspensions (state was).journals placement site.time ok.items next.failed site → Tells site next
 
-      here_left : Left way_here
+      here_left : Left placement_here
       here_left e = record {
         level = ap (λ (s : SiteState). s.level) e;
         controls = ap (λ (s : SiteState). s.controls) e;
@@ -432,7 +432,7 @@ module _ (tells : Type 0) {P : Type 0} (state : P → PlantState) (site next : S
         written = λ v is. ap (λ (s : SiteState). is_written s v) (sym e) ∙ is;
       }
 
-      switched_left : Left way_switched
+      switched_left : Left placement_switched
       switched_left e = record {
         level = ap (λ (s : SiteState). s.level) e;
         controls = ap (λ (s : SiteState). s.controls) e;
@@ -445,7 +445,7 @@ module _ (tells : Type 0) {P : Type 0} (state : P → PlantState) (site next : S
         written = λ v is. ap (λ (s : SiteState). is_written s v) (sym e) ∙ is;
       }
 
-      marked_left : Left way_marked
+      marked_left : Left placement_marked
       marked_left e = record {
         level = ap (λ (s : SiteState). s.level) e;
         controls = ap (λ (s : SiteState). s.controls) e;
@@ -464,7 +464,7 @@ module _ (tells : Type 0) {P : Type 0} (state : P → PlantState) (site next : S
           any : (r : Result (Unit {0}) StoreError) → OnOk r (Unit {0})
           any (Ok value) = tt
           any (Err e) = tt
-      by (d ∷ hits) some = on_ok result (λ (e : next ≡ with_suspensions (state was).journals ok.way site.time ok.items next.failed site). by_ways Left here_left switched_left marked_left ok.way e) (ok.logged (λ none. let clash : d ∷ hits ≡ [] = sym some ∙ none in cc clash))
+      by (d ∷ hits) some = on_ok result (λ (e : next ≡ with_suspensions (state was).journals ok.placement site.time ok.items next.failed site). by_placements Left here_left switched_left marked_left ok.placement e) (ok.logged (λ none. let clash : d ∷ hits ≡ [] = sym some ∙ none in cc clash))
 
   pub suspend_moved : SiteMoved tells site next (state was) (state is) result
   suspend_moved = by (hit_now site.failed site.told) refl
@@ -485,25 +485,25 @@ module _ (tells : Type 0) {P : Type 0} (state : P → PlantState) (site next : S
       Do : List Deed → Type 0
       Do deeds = tells → OnOk result ((e : Exceptions) → SiteStands e site (state was) → DoesDeeds e site.told deeds (state was) (state is))
 
-      Behind : RecordWay → SiteState
-      Behind way = with_suspensions (state was).journals way site.time moments.items next.failed site
+      Behind : RecordPlacement → SiteState
+      Behind placement = with_suspensions (state was).journals placement site.time moments.items next.failed site
 
-      Goes : RecordWay → Type 0
-      Goes way = OnOk result (next ≡ Behind way) → Begin (suspension_deeds way site site.time next.failed) → Do (suspension_deeds way site site.time next.failed) → SiteMoved tells site next (state was) (state is) result
+      Goes : RecordPlacement → Type 0
+      Goes placement = OnOk result (next ≡ Behind placement) → Begin (suspension_deeds placement site site.time next.failed) → Do (suspension_deeds placement site site.time next.failed) → SiteMoved tells site next (state was) (state is) result
 
       by_record : hit_now site.failed site.told ≢ [] → OnOk result (is_mark_due next ≡ is_mark_due site) → Begin (Changed site.time (told_rows site next.failed) ∷ []) → Do (Changed site.time (told_rows site next.failed) ∷ []) → SiteMoved tells site next (state was) (state is) result
       by_record there due begins does = tell_moved tells site next (state was) (state is) result apart idle fails later fewer_stand (Changed site.time (told_rows site next.failed)) refl refl refl (refl, told_fewer site next.failed, refl) (λ going answers. hits_made site.level answers site.time site.told next.failed (still_hit site.failed next.failed (state was).faults (state is).faults site.told fails there)) suspend_tells due begins does
 
-      same_due : (way : RecordWay) → is_mark_due (Behind way) ≡ is_mark_due site → OnOk result (next ≡ Behind way) → OnOk result (is_mark_due next ≡ is_mark_due site)
-      same_due way same left = on_ok result (λ (e : next ≡ Behind way). ap is_mark_due e ∙ same) left
+      same_due : (placement : RecordPlacement) → is_mark_due (Behind placement) ≡ is_mark_due site → OnOk result (next ≡ Behind placement) → OnOk result (is_mark_due next ≡ is_mark_due site)
+      same_due placement same left = on_ok result (λ (e : next ≡ Behind placement). ap is_mark_due e ∙ same) left
 
-      by_mark : OnOk result (next ≡ Behind way_marked) → Begin (Marked site.at site.mark.ended (told_rows site next.failed) ∷ []) → Do (Marked site.at site.mark.ended (told_rows site next.failed) ∷ []) → SiteMoved tells site next (state was) (state is) result
-      by_mark left begins does = tell_moved tells site next (state was) (state is) result apart idle fails later fewer_stand (Marked site.at site.mark.ended (told_rows site next.failed)) refl refl refl (told_fewer site next.failed, refl) (λ going answers. mark_made site.level answers site.at site.mark.ended going site.time site.told next.failed) suspend_tells (on_ok result (λ (e : next ≡ Behind way_marked). ap is_mark_due e) left) begins does
+      by_mark : OnOk result (next ≡ Behind placement_marked) → Begin (Marked site.at site.mark.ended (told_rows site next.failed) ∷ []) → Do (Marked site.at site.mark.ended (told_rows site next.failed) ∷ []) → SiteMoved tells site next (state was) (state is) result
+      by_mark left begins does = tell_moved tells site next (state was) (state is) result apart idle fails later fewer_stand (Marked site.at site.mark.ended (told_rows site next.failed)) refl refl refl (told_fewer site next.failed, refl) (λ going answers. mark_made site.level answers site.at site.mark.ended going site.time site.told next.failed) suspend_tells (on_ok result (λ (e : next ≡ Behind placement_marked). ap is_mark_due e) left) begins does
 
-      some_deeds : hit_now site.failed site.told ≢ [] → suspension_deeds_of moments.way site site.time next.failed ≡ suspension_deeds moments.way site site.time next.failed
+      some_deeds : hit_now site.failed site.told ≢ [] → suspension_deeds_of moments.placement site site.time next.failed ≡ suspension_deeds moments.placement site site.time next.failed
       some_deeds some = by_hit (hit_now site.failed site.told) some
         where
-          by_hit : (hit : List ℕ) → hit ≢ [] → elim hit [ [] ↦ [] | d ∷ more ↦ suspension_deeds moments.way site site.time next.failed ] ≡ suspension_deeds moments.way site site.time next.failed
+          by_hit : (hit : List ℕ) → hit ≢ [] → elim hit [ [] ↦ [] | d ∷ more ↦ suspension_deeds moments.placement site site.time next.failed ] ≡ suspension_deeds moments.placement site site.time next.failed
           by_hit [] some = absurd (some refl)
           by_hit (d ∷ more) some = refl
 
@@ -511,7 +511,7 @@ module _ (tells : Type 0) {P : Type 0} (state : P → PlantState) (site next : S
       by [] none = let n = ok.nothing none in stays result n.0 n.1 n.2
       by (d ∷ hits) some =
           let there : hit_now site.failed site.told ≢ [] = λ none. let clash : d ∷ hits ≡ [] = sym some ∙ none in cc clash in
-          by_ways Goes (λ left. by_record there (same_due way_here refl left)) (λ left. by_record there (same_due way_switched refl left)) by_mark moments.way (moments.left there) (subst Begin (some_deeds there) moments.begins) (subst Do (some_deeds there) moments.does)
+          by_placements Goes (λ left. by_record there (same_due placement_here refl left)) (λ left. by_record there (same_due placement_switched refl left)) by_mark moments.placement (moments.left there) (subst Begin (some_deeds there) moments.begins) (subst Do (some_deeds there) moments.does)
 
   pub suspend_works : HasStoreCause (state was).faults (state is).faults result → VolumesStay tells (state was) (state is) → StandsFast tells site (state was) → (IsErrOf result Spent → (next ≡ site) × (is ≡ was)) → MoverWorks tells site next (state was) (state is) result
   suspend_works cause stay fast uncalled = record {

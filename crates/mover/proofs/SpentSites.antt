@@ -12,8 +12,8 @@ use Rattle.site_store.specs.Logging.{LogsGroup, StaysUnwritten}
 use Rattle.site_store.specs.Marking.{Marks}
 use Rattle.site_store.specs.Sites.{SiteState}
 use Rattle.site_store.specs.Standing.{StandsFast}
-use Rattle.site_store.specs.Ways.{is_spent, is_suspension_spent, most}
-use Rattle.site_store.proofs.ByWays.{RecordWay, by_ways}
+use Rattle.site_store.specs.Placements.{is_spent, is_suspension_spent, most}
+use Rattle.site_store.proofs.ByPlacements.{RecordPlacement, by_placements}
 use Rattle.mover.specs.Numbers.{IsSiteSpent}
 
 -- One of the numbers is at its end.
@@ -23,8 +23,8 @@ AtEnd site = (most ≤ site.at.number) ⊎ (site.mark.number ≡ most)
 below : (m n : ℕ) → m < n → m ≤ n
 below m n low = omega (arith, low)
 
-at_end_by : (site : SiteState) (way : RecordWay) → is_spent way site ≡ true → AtEnd site
-at_end_by site = by_ways (λ (way : RecordWay). is_spent way site ≡ true → AtEnd site)
+at_end_by : (site : SiteState) (placement : RecordPlacement) → is_spent placement site ≡ true → AtEnd site
+at_end_by site = by_placements (λ (placement : RecordPlacement). is_spent placement site ≡ true → AtEnd site)
     (λ is. inl (below most site.at.number (ltb-true most site.at.number is)))
     (λ is. inl (leb-true most site.at.number is))
     (λ is. elim (or_cases (nat_le most site.at.number) (nat_eq site.mark.number most) is) [
@@ -32,8 +32,8 @@ at_end_by site = by_ways (λ (way : RecordWay). is_spent way site ≡ true → A
       | inr mark ↦ inr (eqb-true site.mark.number most mark)
     ])
 
-told_at_end : (site : SiteState) (way : RecordWay) → is_suspension_spent way site ≡ true → AtEnd site
-told_at_end site = by_ways (λ (way : RecordWay). is_suspension_spent way site ≡ true → AtEnd site)
+told_at_end : (site : SiteState) (placement : RecordPlacement) → is_suspension_spent placement site ≡ true → AtEnd site
+told_at_end site = by_placements (λ (placement : RecordPlacement). is_suspension_spent placement site ≡ true → AtEnd site)
     (λ is. inl (below most site.at.number (ltb-true most site.at.number is)))
     (λ is. inl (leb-true most site.at.number is))
     (λ is. inr (eqb-true site.mark.number most is))
@@ -44,7 +44,7 @@ pub log_spent : (tells : Type 0) (group : FormedGroup) (site next : SiteState) (
 log_spent tells group site next old new result fast logs unwritten is =
     let stays = unwritten is in
     record {
-      at_end = subst (λ (s : SiteState). AtEnd s) (sym stays.same) (at_end_by site logs.way (logs.first.spent.0 is));
+      at_end = subst (λ (s : SiteState). AtEnd s) (sym stays.same) (at_end_by site logs.placement (logs.first.spent.0 is));
       stands = λ told. let at = fast.stands told in (at.0, stays.leaves.stands told at.0 at.1);
     }
 
@@ -63,7 +63,7 @@ module _ (tells : Type 0) {P : Type 0} (state : P → PlantState) (site next : S
 
       by : (hits : List ℕ) → hit_now site.failed site.told ≡ hits → AtEnd site
       by [] none = never result (ok.nothing none).0 spent
-      by (d ∷ hits) some = told_at_end site ok.way ((ok.spent (λ none. let clash : d ∷ hits ≡ [] = sym some ∙ none in cc clash)).0 spent)
+      by (d ∷ hits) some = told_at_end site ok.placement ((ok.spent (λ none. let clash : d ∷ hits ≡ [] = sym some ∙ none in cc clash)).0 spent)
 
   -- No mark is made.
   pub mark_spent : (ended : Bool) → Marks site next ended was is result → IsErrOf result Spent → IsSiteSpent tells next (state is)

@@ -19,7 +19,7 @@ use Rattle.record_rows.specs.ToldRows.{due_after_changes}
 use Rattle.record_rows.proofs.Coming.{hits_may_come, marks_may_come}
 use Rattle.record_rows.proofs.HitRows.{hits_are_changes, marks_are_changes}
 use Rattle.site_store.specs.DeedChanges.{DeedOfChanges}
-use Rattle.consistency.specs.Stages.{Run, breaks_of}
+use Rattle.consistency.specs.Stages.{ScriptRun, breaks_of}
 use Rattle.fed_logs.specs.LogLaws.{WasShown}
 use Rattle.fed_logs.specs.Logs.{IsFedLog}
 use Rattle.fed_logs.specs.ShownBreaks.{BrokeAsTraces}
@@ -85,7 +85,7 @@ hits_leave level time (d ∷ hit) = refl
 abbrev pub point_at : (flag : Bool) → (time : ℕ) → List PairRow → Due → Point
 point_at flag time rows due = record { time = time; rows = rows; due = due; is_ended = flag }
 
-module _ (run : Run) (begun ended : Group) (log answers : List Answer) (fed : IsFedLog run.traces begun ended log) (broke : BrokeAsTraces run.traces begun) (among : (a : Answer) → Contains answers a → Contains log a) (flag : Bool) where
+module _ (run : ScriptRun) (begun ended : Group) (log answers : List Answer) (fed : IsFedLog run.traces begun ended log) (broke : BrokeAsTraces run.traces begun) (among : (a : Answer) → Contains answers a → Contains log a) (flag : Bool) where
   group_of : (time : ℕ) (rows : List PairRow) (due : Due) (group : FormedGroup) → WasShown answers (shown_in group) → time ≤ group.cut.0 → IsGroupOfLog run (point_at flag time rows due) group
   group_of time rows due group shown up = record {
     begun = begun;

@@ -6,14 +6,14 @@ use Rattle.crash_plant.specs.Choices.{AtEveryMoment, AtNow, Choice, IsChoice}
 use Rattle.crash_plant.specs.Moments.{PlantState}
 use Rattle.write_trace.specs.declared.trace.Trace.{Trace}
 use Rattle.group_state.specs.Groups.{Group}
-use Rattle.group_state.specs.SoundStates.{KeepsGroup}
+use Rattle.group_state.specs.SoundStates.{IsGroupSound}
 use Rattle.row_changes.specs.Changes.{Timed}
 use Rattle.row_changes.specs.Spans.{is_break}
 use Rattle.site_means.specs.Images.{shape_of}
 use Rattle.xrc_command.specs.declared.line.Line.{Line}
 use Rattle.site_store.specs.Exceptions.{Exceptions}
 use Rattle.passages.specs.Points.{AreLinked, last_point}
-use Rattle.consistency.specs.Stages.{Run, Stage}
+use Rattle.consistency.specs.Stages.{ScriptRun, Stage}
 use Rattle.fed_logs.specs.Logs.{Sizes}
 use Rattle.fed_logs.specs.Moves.{Plans}
 use Rattle.fed_logs.specs.ShownBreaks.{BreaksAreToCome, BrokeAsTraces}
@@ -37,7 +37,7 @@ use Rattle.mover.specs.Epochs.{AllTurnOut, EpochGoes, ReachedBy, point_of}
 --   excepted: the tracks of which no content is told
 --   done: the plans that are known to be done
 pub record RunSoFar : Type 0 where
-  pub run : Run
+  pub run : ScriptRun
   pub stage : Stage
   pub leg : Leg
   pub size : Sizes
@@ -58,7 +58,7 @@ pub record HasSite (so : RunSoFar) (site : SiteState) (plant : PlantState) : Typ
 
 -- The shared state is one that every call keeps. Its controls broke as the traces do, and breaks from a time on are still to come.
 pub record HasSharedState (traces : List Trace) (time : ℕ) (group : Group) : Type 0 where
-  pub keeps : KeepsGroup group
+  pub keeps : IsGroupSound group
   pub broke : BrokeAsTraces traces group
   pub awaits : BreaksAreToCome traces time group
 

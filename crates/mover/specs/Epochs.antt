@@ -8,7 +8,7 @@ use Rattle.ckd_track.specs.declared.write.Cause.{Cause}
 use Rattle.sidefile.specs.Breaks.{Break, break_of, break_time}
 use Rattle.group_state.specs.Groups.{Group}
 use Rattle.group_state.specs.Runs.{Answer, Runs}
-use Rattle.group_state.specs.SoundStates.{KeepsGroup}
+use Rattle.group_state.specs.SoundStates.{IsGroupSound}
 use Rattle.fed_logs.specs.ToldTracks.{HeldTracks}
 use Rattle.pair_table.specs.declared.row.PairRow.{PairRow}
 use Rattle.pair_table.specs.Tables.{in_state, none_clash}
@@ -40,7 +40,7 @@ use Rattle.mover.specs.Moves.{AreHitsCounted, Did, InPlacesByDeeds, IsLeftBehind
 use Rattle.mover.specs.Groups.{is_at_limit}
 use Rattle.mover.specs.Numbers.{UsesNumbersOf}
 use Rattle.mover.specs.Steps.{AreMade}
-use Rattle.consistency.specs.Stages.{Run, breaks_of}
+use Rattle.consistency.specs.Stages.{ScriptRun, breaks_of}
 use Rattle.consistency.specs.Leads.{Point}
 use Rattle.row_changes.specs.Changes.Due.{NoneDue}
 use Rattle.mover.specs.Points.{AreSteps, point_behind}
@@ -160,7 +160,7 @@ abbrev pub point_of : SiteState → Point
 point_of site = record { time = site.time; rows = site.told; due = NoneDue; is_ended = false }
 
 -- The deeds are steps of a run, and at their end nothing is due.
-pub record AreStepsOf (run : Run) (site : SiteState) (steps : List DeedOfChanges) : Type 0 where
+pub record AreStepsOf (run : ScriptRun) (site : SiteState) (steps : List DeedOfChanges) : Type 0 where
   pub each : AreSteps run.level (breaks_of run) (point_of site) steps
   pub due : (point_behind run.level (point_of site) steps).due ≡ NoneDue
 
@@ -170,14 +170,14 @@ pub record AreStepsOf (run : Run) (site : SiteState) (steps : List DeedOfChanges
 --   times: the time that is meant rises to the limit at most
 --   each: the deeds are steps of each run with these traces, if the shared state at first broke as they do
 pub record BearsBehind {S : Type 0} (left : S → Option (List ℕ)) (limit : ℕ) (group end : Group) (old new : List (Lane S)) (site : SiteState) (log : List Answer) (steps : List DeedOfChanges) : Type 0 where
-  pub fed : (traces : List Trace) → KeepsGroup group → AllTurnOut left traces old new → IsFedLog traces group end log
+  pub fed : (traces : List Trace) → IsGroupSound group → AllTurnOut left traces old new → IsFedLog traces group end log
   pub up_to : (traces : List Trace) → HoldNone old → AllTurnOut left traces old new → AllGoUpTo limit traces log
-  pub tracks : (size : Sizes) (traces : List Trace) (held : HeldTracks) (done : Plans) → KeepsGroup group → AllTurnOut left traces old new → KnowsDuplex site.told done
+  pub tracks : (size : Sizes) (traces : List Trace) (held : HeldTracks) (done : Plans) → IsGroupSound group → AllTurnOut left traces old new → KnowsDuplex site.told done
       → BeginsLog size traces held group site.time site.told done
       → (n : ℕ) → n ≤ length (deeds_of steps) → HoldsBehind size traces held site (deeds_of steps) n
-  pub breaks : (traces : List Trace) → KeepsGroup group → AllTurnOut left traces old new → (n : ℕ) → n ≤ length (deeds_of steps) → TellsBreaks traces group site log (deeds_of steps) n
+  pub breaks : (traces : List Trace) → IsGroupSound group → AllTurnOut left traces old new → (n : ℕ) → n ≤ length (deeds_of steps) → TellsBreaks traces group site log (deeds_of steps) n
   pub times : TimesRiseTo limit site.time (deeds_of steps)
-  pub each : (run : Run) → run.level ≡ site.level → site.mark.ended ≡ false → IsTrue (none_clash site.told) → KeepsGroup group → AllTurnOut left run.traces old new → BrokeAsTraces run.traces group
+  pub each : (run : ScriptRun) → run.level ≡ site.level → site.mark.ended ≡ false → IsTrue (none_clash site.told) → IsGroupSound group → AllTurnOut left run.traces old new → BrokeAsTraces run.traces group
       → AreStepsOf run site steps
 
 -- What an epoch does, whatever it answers.
@@ -227,6 +227,6 @@ pub record ReachedBy {S : Type 0} (tells : Type 0) (left : S → Option (List �
   pub at_limit : (k : ℕ) (d : Lane S) → k < length new → IsSomeAnd (slice_index_or new k d).reader (IsAtLimit limit)
   pub begins : MayBeginEpoch tells limit next after is
   pub broken : (traces : List Trace) (before : ℕ) → 0 < limit → before ≤ limit → AllTurnOut left traces old new → LanesBrokeAs before traces old → LanesBrokeAs limit traces new
-  pub awaits : (traces : List Trace) → 0 < limit → KeepsGroup group → AllTurnOut left traces old new → BreaksAreToCome traces site.time group → BreaksAreToCome traces limit next
-  pub stands : (size : Sizes) → KeepsGroup group → IsTrue (none_clash site.told) → AreSized size group → FailedAreOwed size group site.told → CarriedAsLive group site.told
+  pub awaits : (traces : List Trace) → 0 < limit → IsGroupSound group → AllTurnOut left traces old new → BreaksAreToCome traces site.time group → BreaksAreToCome traces limit next
+  pub stands : (size : Sizes) → IsGroupSound group → IsTrue (none_clash site.told) → AreSized size group → FailedAreOwed size group site.told → CarriedAsLive group site.told
       → FailedAreOwed size next after.told × CarriedAsLive next after.told

@@ -11,7 +11,7 @@ use Rattle.site_store.specs.declared.store_error.StoreError.TheVariants.{Spent}
 use Rattle.site_store.specs.Exceptions.{Exceptions}
 use Rattle.site_store.specs.Sites.{SiteState}
 use Rattle.site_store.specs.Standing.{SiteStands}
-use Rattle.site_store.specs.Ways.{most}
+use Rattle.site_store.specs.Placements.{most}
 
 -- ---- forms
 

@@ -11,7 +11,7 @@ use Rattle.record_rows.specs.Deeds.Deed.{Logged}
 use Rattle.record_rows.specs.Hits.{due_behind_mark}
 use Rattle.record_rows.specs.Records.{changes_behind_mark, record_changes, rows_behind_mark, rows_with_record}
 use Rattle.site_store.specs.DeedChanges.{DeedOfChanges}
-use Rattle.consistency.specs.Stages.{Run, breaks_of}
+use Rattle.consistency.specs.Stages.{ScriptRun, breaks_of}
 use Rattle.fed_logs.specs.LogLaws.{WasShown}
 use Rattle.fed_logs.specs.Logs.{IsFedLog}
 use Rattle.fed_logs.specs.ShownBreaks.{BrokeAsTraces}
@@ -29,7 +29,7 @@ step_behind_mark level marked group failed rows = record {
 }
 
 -- A group that a form of a run's fed log gave, whose cut isn't below a point's time. The log begins with controls that broke as their traces do.
-pub record IsGroupOfLog (run : Run) (p : Point) (group : FormedGroup) : Type 0 where
+pub record IsGroupOfLog (run : ScriptRun) (p : Point) (group : FormedGroup) : Type 0 where
   pub begun : Group
   pub ended : Group
   pub log : List Answer
@@ -40,10 +40,10 @@ pub record IsGroupOfLog (run : Run) (p : Point) (group : FormedGroup) : Type 0 w
 
 -- Its record is a step from a point where nothing is due.
 abbrev pub RecordsAreSteps : Type 0
-RecordsAreSteps = (run : Run) (p : Point) (group : FormedGroup) (failed : List Bool) → IsGroupOfLog run p group → IsTrue (none_clash p.rows) → p.due ≡ NoneDue
+RecordsAreSteps = (run : ScriptRun) (p : Point) (group : FormedGroup) (failed : List Bool) → IsGroupOfLog run p group → IsTrue (none_clash p.rows) → p.due ≡ NoneDue
     → IsStep run.level (breaks_of run) p (record_step run.level group failed p.rows)
 
 -- So is its record behind a mark.
 abbrev pub BehindMarksAreSteps : Type 0
-BehindMarksAreSteps = (run : Run) (p : Point) (marked : List ℕ) (time : ℕ) (group : FormedGroup) (failed : List Bool) → IsGroupOfLog run p group → IsTrue (none_clash p.rows)
+BehindMarksAreSteps = (run : ScriptRun) (p : Point) (marked : List ℕ) (time : ℕ) (group : FormedGroup) (failed : List Bool) → IsGroupOfLog run p group → IsTrue (none_clash p.rows)
     → p.due ≡ due_behind_mark run.level time marked → IsStep run.level (breaks_of run) p (step_behind_mark run.level marked group failed p.rows)

@@ -15,7 +15,7 @@ use Rattle.site_store.specs.DeedChanges.{DeedOfChanges, changes_of, deeds_of}
 use Rattle.site_store.specs.Exceptions.{Exceptions, excepted_behind}
 use Rattle.site_store.specs.Seeing.{SeesBehind}
 use Rattle.passages.specs.Points.{AreLinked, last_point}
-use Rattle.consistency.specs.Stages.{Run, Stage, breaks_of, tracks_of_row}
+use Rattle.consistency.specs.Stages.{ScriptRun, Stage, breaks_of, tracks_of_row}
 use Rattle.fed_logs.specs.Feeds.{part_of_mover}
 use Rattle.fed_logs.specs.LogLaws.{is_limited}
 use Rattle.fed_logs.specs.Logs.{AwaitsBreak, BeginsLog, IsFedLog, Sizes}
@@ -34,7 +34,7 @@ use Rattle.mover.specs.OwedTracks.{CarriedAsLive, ExceptedAreOwed, FailedAreOwed
 --   done: the plans that are known to be done at first
 --   steps: the deeds that are kept of the mover's calls, each with its changes of rows
 pub record Work : Type 0 where
-  pub run : Run
+  pub run : ScriptRun
   pub stage : Stage
   pub line : Line
   pub leg : Leg
@@ -77,7 +77,7 @@ SeesFirst start work n c = SeesBehind start work.excepted work.leg.point.rows (f
 --   rowed: each volume that is kept has a row
 --   owed, failed: tracks of which no content is told are owed, and so are all of a row that its device suspends
 --   carried: the volumes of rows are carried as the rows are live
-pub record StandsForRows (run : Run) (size : Sizes) (start : PlantState) (excepted : Exceptions) (s : Group) (p : Point) (done : Plans) : Type 0 where
+pub record StandsForRows (run : ScriptRun) (size : Sizes) (start : PlantState) (excepted : Exceptions) (s : Group) (p : Point) (done : Plans) : Type 0 where
   pub apart : IsTrue (none_clash p.rows)
   pub below : IsTrue (are_below start.volumes p.rows)
   pub sized : (r : PairRow) → Contains p.rows r → tracks_of_row r ≤ size r.control r.volume
@@ -135,11 +135,11 @@ abbrev pub points_in : Work → (moments : List ℕ) → (named : List DeedOfCha
 points_in work moments named = points_by work.run.level work.leg.point moments named
 
 -- Nothing new is on its way from a leg, or a point that comes next by some way.
-abbrev pub IsOnItsWay : Run → LinesAsked → Leg → Point → Type 0
+abbrev pub IsOnItsWay : ScriptRun → LinesAsked → Leg → Point → Type 0
 IsOnItsWay run asked l q = (q ≡ l.point) ⊎ ((way : Way) × ComesBy run asked l q way)
 
 -- A choice shows the last of some points, or the one that is on its way.
-abbrev pub ShowsLast : Run → PlantState → (last : Point) → (on_its_way : Option Point) → Choice → Type 0
+abbrev pub ShowsLast : ScriptRun → PlantState → (last : Point) → (on_its_way : Option Point) → Choice → Type 0
 ShowsLast run plant last None c = ShowsPoint run (shape_of plant) last c
 ShowsLast run plant last (Some q) c = ShowsPoint run (shape_of plant) last c ⊎ ShowsPoint run (shape_of plant) q c
 

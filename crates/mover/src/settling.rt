@@ -3,7 +3,7 @@
 
 ghost use Rattle.std.specs.Prelude.{◌≡◌, ◌<◌, ℕ, [], false, length, OnOk, IsTrue};
 ghost use Rattle.pair_table.specs.Rows.{is_suspended};
-ghost use Rattle.pair_table.specs.Tables.{KeepsRows, none_clash};
+ghost use Rattle.pair_table.specs.Tables.{AreRowsSound, none_clash};
 ghost use Rattle.record_rows.specs.Hits.{hit_now, is_device_suspended};
 ghost use Rattle.site_store.specs.Standing.{MayRecord, StandsFast};
 ghost use Rattle.mover.specs.Dropping.{AreOfControls, Drops, MakesDrops, are_states_of, drop_of, owes_by, owes_since};
@@ -23,7 +23,7 @@ const GROUPS_OF_MARK: u32 = 1;
 /// The states of a table's rows, by their places.
 pub(crate) fn states_of(table: &PairTable) -> [Option<PairState>; MOST_ROWS]
     ensures states { are_states_of table.now.rows result }
-    ensures rules { KeepsRows table.now.rows }
+    ensures rules { AreRowsSound table.now.rows }
 {
     let mut states = [None; MOST_ROWS];
     for place in 0..table.len() {

@@ -17,7 +17,7 @@ use Rattle.pair_table.specs.declared.level.Level.{Level}
 use Rattle.pair_table.specs.declared.row.PairRow.{PairRow}
 use Rattle.pair_table.specs.Commands.{has_named_primary, is_volume_of}
 use Rattle.pair_table.specs.Naming.{Naming}
-use Rattle.pair_table.specs.Tables.{KeepsRows, Table}
+use Rattle.pair_table.specs.Tables.{AreRowsSound, Table}
 use Rattle.group_state.specs.declared.phase.Phase.{Phase}
 use Rattle.group_state.specs.declared.phase.Phase.TheVariants.{Telling, Broken, Reported}
 use Rattle.group_state.specs.Controls.{counts, is_telling}
@@ -36,7 +36,7 @@ use Rattle.mover.specs.Readers.{LaneReaderState}
 use Rattle.mover.specs.Rounds.{AreLanesOf}
 use Rattle.xrc_session.specs.CarriedLaws.{BegunControlsCount}
 use Rattle.xrc_session.specs.Joins.{AreNamedOfLanes, IsTakenOver, RestsAt}
-use Rattle.xrc_session.specs.Taking.{KeepsForRows, MayTake, after_calls, calls_of_change}
+use Rattle.xrc_session.specs.Taking.{IsSoundForRows, MayTake, after_calls, calls_of_change}
 use Rattle.xrc_session.proofs.Commanded.{commands_may_be_taken}
 use Rattle.xrc_session.proofs.JoinsCommands.{rests_behind}
 use Rattle.xrc_session.proofs.JoinsRows.{some_of}
@@ -129,8 +129,8 @@ module _ {S : Type 0} (tells : Type 0) (names : Naming) (command : Command) (cha
   some : 0 < length lanes
   some = omega (arith, go.are.many, go.kept.keeps.controls_kept.some)
 
-  pub kept_rows : KeepsForRows group site.table.rows
-  kept_rows = subst (KeepsForRows group) go.commands.same go.kept
+  pub kept_rows : IsSoundForRows group site.table.rows
+  kept_rows = subst (IsSoundForRows group) go.commands.same go.kept
 
   module _ {P : Type 0} (new : PlantState) (changed next : SiteState) (was is : P) (answered : IsCommandAnswered names command at change site changed) (logs : LogsChange at change changed next old was is (Ok tt)) where
     -- The change may be taken over.
@@ -142,16 +142,16 @@ module _ {S : Type 0} (tells : Type 0) (names : Naming) (command : Command) (cha
         subst (λ (rows : List PairRow). MayTake group change site.table.rows rows) (sym behind.1)
         (subst (λ (t : Table). MayTake group change site.table.rows (rows_with_hits changed.level at behind.0 t.rows)) (sym table)
         (commands_may_be_taken names site.table answered.session command change at changed.level at behind.0 group go.commands.may.started kept_rows.apart answered.is
-        (subst (λ (t : Table). KeepsRows t.rows) table answered.keeps).apart
+        (subst (λ (t : Table). AreRowsSound t.rows) table answered.keeps).apart
         (subst (λ (t : Table). BegunControlsCount group change t.rows) table (all_count lanes names group at go.are go.commands.are_named whole some (some_lane lanes some) change changed.table.rows all))))
 
     module _ (end : Group) (before after : List PairRow) (before_is : before ≡ site.table.rows) (after_is : after ≡ next.table.rows) (leaves : Leaves tells (λ e. e) changed next old new) (count : length next.failed ≡ length changed.failed)
-        (same : SameSite old new) (taken_by : end ≡ after_calls (calls_of_change change group before after) group) (kept_by : KeepsForRows end after) where
+        (same : SameSite old new) (taken_by : end ≡ after_calls (calls_of_change change group before after) group) (kept_by : IsSoundForRows end after) where
       calls : end ≡ after_calls (calls_of_change change group site.table.rows next.table.rows) group
       calls = taken_by ∙ (λ i. after_calls (calls_of_change change group (before_is i) (after_is i)) group)
 
-      kept : KeepsForRows end next.table.rows
-      kept = subst (KeepsForRows end) after_is kept_by
+      kept : IsSoundForRows end next.table.rows
+      kept = subst (IsSoundForRows end) after_is kept_by
 
       may : MayChange tells at change changed old
       may = may_log changed answered

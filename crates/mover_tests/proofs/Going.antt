@@ -36,7 +36,7 @@ use Rattle.mover.specs.Rounds.{AreLanesOf}
 use Rattle.mover.specs.Epochs.{MayBeginEpoch}
 use Rattle.mover.specs.OwedTracks.{is_volume_kept}
 use Rattle.mover.proofs.Copying.{kept_within}
-use Rattle.xrc_session.specs.Taking.{KeepsForRows}
+use Rattle.xrc_session.specs.Taking.{IsSoundForRows}
 use Rattle.mover_tests.specs.Courses.{AreNewLanes, AreOpened, IsNewReader, MayCommandCourse, MayGoTo}
 use Rattle.mover_tests.proofs.Homes.{labels_still}
 
@@ -114,7 +114,7 @@ none_kept n records blocks k v kept =
     let low : k < n = omega (arith, kept_within (new_group n records blocks) k v kept, length_new n 0 records blocks) in
     true≢false (sym kept ∙ ap (λ (c : ControlState). passes (λ u. true) (volume_of v c.volumes)) (new_at n 0 records blocks k (new_control 0 0 0) low))
 
-kept_new : (n records blocks : ℕ) → 1 ≤ n → n ≤ MOST_CONTROLS → records ≤ most_records → KeepsForRows (new_group n records blocks) []
+kept_new : (n records blocks : ℕ) → 1 ≤ n → n ≤ MOST_CONTROLS → records ≤ most_records → IsSoundForRows (new_group n records blocks) []
 kept_new n records blocks some few most = record {
   keeps = kept_first n records blocks some few most;
   apart = refl;
@@ -144,7 +144,7 @@ module _ {S : Type 0} (tells : Type 0) (n records blocks : ℕ) (session : List 
   goes_new site is fits stands = record {
     are = new_lanes n records blocks at.0 lanes many opened.are_new;
     may = begins_new tells n records blocks old.volumes session level at site plant is fits stands;
-    kept = subst (λ (s : SiteState). KeepsForRows (new_group n records blocks) s.told) (sym is) (kept_new n records blocks some few most);
+    kept = subst (λ (s : SiteState). IsSoundForRows (new_group n records blocks) s.told) (sym is) (kept_new n records blocks some few most);
     commands = record {
       are_named = opened.are_named;
       may = may_new n old.volumes session level at names site plant is (sym same.volumes) fit;

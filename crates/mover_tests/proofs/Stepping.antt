@@ -38,7 +38,7 @@ use Rattle.pending_queue.specs.Groups.{FormedGroup}
 use Rattle.xrc_journal.specs.Items.{Item}
 use Rattle.site_store.specs.Logging.{behind_group}
 use Rattle.site_store.specs.Sites.{SiteState}
-use Rattle.site_store.proofs.ByWays.{RecordWay, by_ways}
+use Rattle.site_store.proofs.ByPlacements.{RecordPlacement, by_placements}
 use Rattle.consistency.specs.Stages.{tracks_of_row}
 use Rattle.fed_logs.specs.Logs.{is_of_size}
 use Rattle.fed_logs.specs.Moves.{HasRowIn}
@@ -49,7 +49,7 @@ use Rattle.mover.specs.Lanes.{IsReaderOf, broken_by}
 use Rattle.mover.specs.Readers.{LaneReaderState}
 use Rattle.mover.specs.OwedTracks.{IsAny}
 use Rattle.turn_group.proofs.Known.{sizes_last, track_within}
-use Rattle.xrc_session.specs.Taking.{KeepsForRows}
+use Rattle.xrc_session.specs.Taking.{IsSoundForRows}
 use Rattle.mover_tests.specs.Courses.{AreAtLimit, AreUnbroken, MayGoTo}
 use Rattle.mover_tests.specs.Steps.{AreToJoin, HaveControlsTold, HasToldUpTo}
 use Rattle.mover_tests.proofs.Commanding.{reads_on}
@@ -70,7 +70,7 @@ long_row r u x is sized low =
     let some = leb-true 1 r.cylinders (and_parts (nat_le 1 r.cylinders) (nat_le r.cylinders MOST_CYLINDERS) ranges.1).0 in
     lt-ltb x (length u.map) (omega (arith, low, eqb-true (length u.map) (tracks_of_row r) sized, some))
 
-row_tracks : (s : Group) (rows : List PairRow) → KeepsForRows s rows → list_all is_row rows ≡ true → HaveTracks s
+row_tracks : (s : Group) (rows : List PairRow) → IsSoundForRows s rows → list_all is_row rows ≡ true → HaveTracks s
 row_tracks s rows kept are k v x low = by_volume (volume_of v (control_at s k).volumes) refl
   where
     by_volume : (o : Option Volume) → volume_of v (control_at s k).volumes ≡ o → passes_or_none (λ u. nat_lt x (length u.map)) o ≡ true
@@ -99,7 +99,7 @@ told_at tells at names lanes group site plant there go whole are = record {
       let is : k < length lanes = omega (arith, low, go.are.many) in
       let d = some_lane lanes (omega (arith, is)) in
       subst (HasToldUpTo (control_at group k)) (sym (get_or-replicate (length group.controls) k at 0 low)) (reader_told group k at (slice_index_or lanes k d).reader (go.are.each k d is) (there.each k d is) (whole k d is));
-  tracks = row_tracks group site.table.rows (subst (KeepsForRows group) go.commands.same go.kept) are;
+  tracks = row_tracks group site.table.rows (subst (IsSoundForRows group) go.commands.same go.kept) are;
   last_is = there.cut;
 }
 
@@ -227,5 +227,5 @@ told_formed told last s next limit result out are up step = record {
 
 -- ---- the site behind a group's record
 
-pub group_controls : (journals : ℕ) (way : RecordWay) (group : FormedGroup) (items : List Item) (early failed : List Bool) (site : SiteState) → (behind_group journals way group items early failed site).controls ≡ site.controls
-group_controls journals way group items early failed site = by_ways (λ (w : RecordWay). (behind_group journals w group items early failed site).controls ≡ site.controls) refl refl refl way
+pub group_controls : (journals : ℕ) (placement : RecordPlacement) (group : FormedGroup) (items : List Item) (early failed : List Bool) (site : SiteState) → (behind_group journals placement group items early failed site).controls ≡ site.controls
+group_controls journals placement group items early failed site = by_placements (λ (w : RecordPlacement). (behind_group journals w group items early failed site).controls ≡ site.controls) refl refl refl placement

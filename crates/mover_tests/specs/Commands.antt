@@ -4,7 +4,7 @@ use Rattle.pair_table.specs.declared.command.Change.{Change}
 use Rattle.pair_table.specs.declared.command.Command.{Command}
 use Rattle.pair_table.specs.Commands.{answer}
 use Rattle.pair_table.specs.Naming.{Naming}
-use Rattle.pair_table.specs.Tables.{KeepsRows}
+use Rattle.pair_table.specs.Tables.{AreRowsSound}
 use Rattle.site_store.specs.Commands.{IsToLog, MayDo, behind_command}
 use Rattle.site_store.specs.Sites.{SiteState}
 
@@ -13,6 +13,6 @@ pub record IsCommandAnswered (names : Naming) (command : Command) (at : ℕ) (ch
   pub session : List ℕ
   pub is : answer names site.table session command ≡ Ok change
   pub next_is : next ≡ behind_command names session command at change site
-  pub keeps : KeepsRows next.table.rows
+  pub keeps : AreRowsSound next.table.rows
   pub again : MayDo names next
   pub to_log : IsToLog change next

@@ -14,7 +14,7 @@ use Rattle.mover.specs.Readers.{LaneReaderState}
 use Rattle.mover.specs.Lanes.{broken_by}
 use Rattle.mover.specs.Epochs.{IsAtLimit, MayBeginEpoch}
 use Rattle.mover.specs.Rounds.{AreLanesOf}
-use Rattle.xrc_session.specs.Taking.{KeepsForRows}
+use Rattle.xrc_session.specs.Taking.{IsSoundForRows}
 use Rattle.xrc_session.specs.Joins.{AreNamedOfLanes, IsNamedOfLane}
 
 -- ---- new lanes
@@ -57,7 +57,7 @@ pub record MayCommandCourse {S : Type 0} (names : Naming) (lanes : List (Lane S)
 pub record MayGoTo {S : Type 0} (tells : Type 0) (limit : ℕ) (names : Naming) (lanes : List (Lane S)) (group : Group) (site : SiteState) (plant : PlantState) : Type 0 where
   pub are : AreLanesOf group limit lanes
   pub may : MayBeginEpoch tells limit group site plant
-  pub kept : KeepsForRows group site.told
+  pub kept : IsSoundForRows group site.told
   pub commands : MayCommandCourse names lanes site plant
 
 -- The last cut and the site's time are the limit, and so is the time of each primary whose reader reads on.

@@ -10,10 +10,10 @@ use Rattle.pair_table.specs.declared.names.NamedDevice.{NamedDevice}
 use Rattle.pair_table.specs.declared.names.NamedVolume.{NamedVolume}
 use Rattle.pair_table.specs.declared.row.PairRow.{PairRow}
 use Rattle.pair_table.specs.Commands.{MayCommand, add_to, has_named_primary, is_volume_of, new_row, new_row_for}
-use Rattle.pair_table.specs.Naming.{KeepsNames, Naming, are_alike, is_broken, label_in, labelled_device, lower, none_alike, primary_of}
+use Rattle.pair_table.specs.Naming.{AreNamesSound, Naming, are_alike, is_broken, label_in, labelled_device, lower, none_alike, primary_of}
 use Rattle.pair_table.specs.Refusals.{is_of_primary, refuses_found, refuses_label, refuses_primary, row_of_primary}
 use Rattle.pair_table.specs.Rows.{are_in_ranges}
-use Rattle.pair_table.specs.Tables.{KeepsRows, MayPut, are_below, clashes, clashes_apart, is_of, most_rows, none_clash, with_row, without_row}
+use Rattle.pair_table.specs.Tables.{AreRowsSound, MayPut, are_below, clashes, clashes_apart, is_of, most_rows, none_clash, with_row, without_row}
 use Rattle.pair_table.proofs.FindLaws.{all-snoc, any_more, found_all, found_any, found_passes, none_found, or_right}
 use Rattle.pair_table.proofs.PutLaws.{all_apart, name_sym, none-with_row}
 use Rattle.pair_table.proofs.RowRules.{both_true, and_true}
@@ -114,7 +114,7 @@ one_place primary (w ∷ volumes) v r apart found named control volume =
     choose false found false is named none next = next found named
 
 -- no row of the primary, or of the device
-none_new : (names : Naming) (primary secondary : List ℕ) (v : NamedVolume) (l : NamedDevice) (rows : List PairRow) → KeepsNames names → primary_of primary names ≡ Some v → list_all (has_named_primary names) rows ≡ true
+none_new : (names : Naming) (primary secondary : List ℕ) (v : NamedVolume) (l : NamedDevice) (rows : List PairRow) → AreNamesSound names → primary_of primary names ≡ Some v → list_all (has_named_primary names) rows ≡ true
     → list_any (is_of_primary primary) rows ≡ false → list_any (is_of l.device) rows ≡ false → list_any (clashes (new_row secondary v l)) rows ≡ false
 none_new names primary secondary v l [] keeps found named other unused = refl
 none_new names primary secondary v l (r ∷ rows) keeps found named other unused =
@@ -176,14 +176,14 @@ new_row_named names primary secondary v l found =
     found_any (λ w. bytes_eq w.serial primary) (is_volume_of (new_row secondary v l)) names.primaries v found
     (rw (same_name v.serial, eq-eqb v.control v.control refl, eq-eqb v.volume v.volume refl, eq-eqb v.cylinders v.cylinders refl) refl)
 
-pub may_command_new : (names : Naming) (primary secondary : List ℕ) (v : NamedVolume) (l : NamedDevice) (rows : List PairRow) → KeepsNames names → MayCommand names rows → primary_of primary names ≡ Some v → labelled_device secondary names ≡ Some l
+pub may_command_new : (names : Naming) (primary secondary : List ℕ) (v : NamedVolume) (l : NamedDevice) (rows : List PairRow) → AreNamesSound names → MayCommand names rows → primary_of primary names ≡ Some v → labelled_device secondary names ≡ Some l
     → MayCommand names (rows ++ new_row secondary v l ∷ [])
 may_command_new names primary secondary v l rows keeps may found labelled = record {
   named = all-snoc (has_named_primary names) rows (new_row secondary v l) may.named (new_row_named names primary secondary v l found);
   below = all-snoc (λ r. nat_lt r.device most_rows) rows (new_row secondary v l) may.below (label_all (λ k. nat_lt k.device most_rows) secondary names.labels l keeps.devices labelled);
 }
 
-pub may_put_new : (names : Naming) (primary secondary : List ℕ) (rows : List PairRow) → KeepsNames names → KeepsRows rows → MayCommand names rows → row_of_primary primary rows ≡ None → (p : NewPair names rows primary secondary)
+pub may_put_new : (names : Naming) (primary secondary : List ℕ) (rows : List PairRow) → AreNamesSound names → AreRowsSound rows → MayCommand names rows → row_of_primary primary rows ≡ None → (p : NewPair names rows primary secondary)
     → MayPut (new_row secondary p.volume p.label) rows
 may_put_new names primary secondary rows keeps kept may none p =
     let row = new_row secondary p.volume p.label in
@@ -205,7 +205,7 @@ pub record NewRow (names : Naming) (rows : List PairRow) (primary secondary : Li
   pub last : with_row row rows ≡ add_to rows (row_of_primary primary rows) (new_row_for secondary (primary_of primary names) (labelled_device secondary names))
   pub may : MayCommand names (with_row row rows)
 
-pub new_row_is : (names : Naming) (rows : List PairRow) (primary secondary : List ℕ) (row : PairRow) → KeepsNames names → KeepsRows rows → MayCommand names rows → refuses_primary primary secondary names rows (primary_of primary names) ≡ None
+pub new_row_is : (names : Naming) (rows : List PairRow) (primary secondary : List ℕ) (row : PairRow) → AreNamesSound names → AreRowsSound rows → MayCommand names rows → refuses_primary primary secondary names rows (primary_of primary names) ≡ None
     → row_of_primary primary rows ≡ None → Some row ≡ new_row_for secondary (primary_of primary names) (labelled_device secondary names) → NewRow names rows primary secondary row
 new_row_is names rows primary secondary row keeps kept may own none is =
     let p = new_pair names rows primary secondary own none in

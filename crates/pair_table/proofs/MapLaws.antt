@@ -9,8 +9,8 @@ use Rattle.indexmap.specs.IndexMap.{insert_entry}
 use Rattle.pair_table.specs.declared.row.PairState.{PairState}
 use Rattle.pair_table.specs.declared.row.PairRow.{PairRow}
 use Rattle.pair_table.specs.Rows.{is_row, keeps_row_rules}
-use Rattle.pair_table.specs.Tables.{is_of, row_of, with_row, without_row, in_state, with_state, none_clash, KeepsRows}
-use Rattle.pair_table.specs.Maps.{by_device, KeepsMap}
+use Rattle.pair_table.specs.Tables.{is_of, row_of, with_row, without_row, in_state, with_state, none_clash, AreRowsSound}
+use Rattle.pair_table.specs.Maps.{by_device, IsMapSound}
 use Rattle.pair_table.proofs.RowRules.{both_true, row_keeps}
 use Rattle.pair_table.proofs.TableLaws.{row_found, first_apart, without-absent, with_state-absent}
 
@@ -23,10 +23,10 @@ pub values_are : (entries : List (ℕ × PairRow)) (rows : List PairRow) → ent
 values_are entries rows is = ap values_of is ∙ values-by_device rows
 
 -- entries that are the map of some rows that keep the rules
-pub keeps_map : (entries : List (ℕ × PairRow)) (rows : List PairRow) → entries ≡ by_device rows → KeepsRows rows → KeepsMap entries
+pub keeps_map : (entries : List (ℕ × PairRow)) (rows : List PairRow) → entries ≡ by_device rows → AreRowsSound rows → IsMapSound entries
 keeps_map entries rows is keeps =
     let values = values_are entries rows is in
-    record { keyed = is ∙ ap by_device (sym values); rows = subst KeepsRows (sym values) keeps }
+    record { keyed = is ∙ ap by_device (sym values); rows = subst AreRowsSound (sym values) keeps }
 
 pub lookup-by_device : (device : ℕ) (rows : List PairRow) → lookup (nat_eq device) (by_device rows) ≡ row_of device rows
 lookup-by_device device [] = refl
@@ -95,19 +95,19 @@ shown_keeps (Some row) device rows all is = row_keeps row.now (row_found device 
 
 -- ---- from the entries before a call to those after it
 
-pub put_is : (old new : List (ℕ × PairRow)) (row : PairRow) → KeepsMap old → new ≡ insert_entry nat_eq old row.device row → new ≡ by_device (with_row row (values_of old))
+pub put_is : (old new : List (ℕ × PairRow)) (row : PairRow) → IsMapSound old → new ≡ insert_entry nat_eq old row.device row → new ≡ by_device (with_row row (values_of old))
 put_is old new row keeps is = is ∙ ap (λ (t : List (ℕ × PairRow)). insert_entry nat_eq t row.device row) keeps.keyed ∙ insert-by_device row (values_of old)
 
-pub removed_is : (old new : List (ℕ × PairRow)) (device : ℕ) → KeepsMap old → new ≡ remove_entry (nat_eq device) old → new ≡ by_device (without_row device (values_of old))
+pub removed_is : (old new : List (ℕ × PairRow)) (device : ℕ) → IsMapSound old → new ≡ remove_entry (nat_eq device) old → new ≡ by_device (without_row device (values_of old))
 removed_is old new device keeps is = is ∙ ap (remove_entry (nat_eq device)) keeps.keyed ∙ remove-by_device device (values_of old) keeps.rows.apart
 
-pub kept_is : (old new : List (ℕ × PairRow)) (keep : PairRow → Bool) → KeepsMap old → new ≡ filter (λ e. keep e.1) old → new ≡ by_device (filter keep (values_of old))
+pub kept_is : (old new : List (ℕ × PairRow)) (keep : PairRow → Bool) → IsMapSound old → new ≡ filter (λ e. keep e.1) old → new ≡ by_device (filter keep (values_of old))
 kept_is old new keep keeps is = is ∙ ap (filter (λ e. keep e.1)) keeps.keyed ∙ filter-by_device keep (values_of old)
 
-pub found_is : (entries : List (ℕ × PairRow)) (device : ℕ) → KeepsMap entries → lookup (nat_eq device) entries ≡ row_of device (values_of entries)
+pub found_is : (entries : List (ℕ × PairRow)) (device : ℕ) → IsMapSound entries → lookup (nat_eq device) entries ≡ row_of device (values_of entries)
 found_is entries device keeps = ap (lookup (nat_eq device)) keeps.keyed ∙ lookup-by_device device (values_of entries)
 
-pub changed_is : (old new : List (ℕ × PairRow)) (device : ℕ) (state : PairState) (found : PairRow) → KeepsMap old → lookup (nat_eq device) old ≡ Some found
+pub changed_is : (old new : List (ℕ × PairRow)) (device : ℕ) (state : PairState) (found : PairRow) → IsMapSound old → lookup (nat_eq device) old ≡ Some found
     → new ≡ set_value (nat_eq device) old (in_state state found) → new ≡ by_device (with_state device state (values_of old))
 changed_is old new device state found keeps at is =
     is ∙ ap (λ (t : List (ℕ × PairRow)). set_value (nat_eq device) t (in_state state found)) keeps.keyed

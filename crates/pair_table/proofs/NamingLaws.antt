@@ -1,4 +1,4 @@
--- What names keep as they are given, and how a name is found.
+-- Names are left sound as they are given, and how a name is found.
 use Rattle.std.proofs.Common.{◌≡◌, ℕ, ◌<◌, ◌≤◌, Bool, true, false, not, cond, nat_eq, nat_le, nat_lt, ◌&&◌, ◌||◌, List, [], ◌∷◌, ◌++◌, length, Option, Some, None, Result, Ok, Err, slice_index_or, slice_set, refl, sym, ap, subst, ◌∙◌, arith, OnOk, OnErr}
 use Rattle.std.specs.Prelude.{bytes_eq}
 use Rattle.std.specs.List.{list_any, list_all}
@@ -7,7 +7,7 @@ use Rattle.std.proofs.lemmas.List.{set-get_or}
 use Rattle.tod_stamp.specs.Fields.{within}
 use Rattle.pair_table.specs.declared.names.NamedDevice.{NamedDevice}
 use Rattle.pair_table.specs.declared.names.NamedVolume.{NamedVolume}
-use Rattle.pair_table.specs.Naming.{KeepsNames, MayName, are_alike, is_before, is_broken, label_in, lower, naming_of, none_alike, with_broken}
+use Rattle.pair_table.specs.Naming.{AreNamesSound, MayName, are_alike, is_before, is_broken, label_in, lower, naming_of, none_alike, with_broken}
 use Rattle.pair_table.specs.Rows.{are_in_ranges}
 use Rattle.pair_table.proofs.RowRules.{both_true, and_true}
 use Rattle.pair_table.proofs.TableLaws.{either_false, not_true, not_false}
@@ -40,17 +40,17 @@ ranges_more v (w ∷ volumes) is all =
     let parts = both_true (are_in_ranges w.control w.volume w.cylinders) (list_all (λ u. are_in_ranges u.control u.volume u.cylinders) volumes) all in
     and_true (are_in_ranges w.control w.volume w.cylinders) (list_all (λ u. are_in_ranges u.control u.volume u.cylinders) (volumes ++ v ∷ [])) parts.0 (ranges_more v volumes is parts.1)
 
--- whether the volume was put behind the others or not, the names keep what all names keep
+-- whether the volume was put behind the others or not, the names are left sound
 pub keeps_primary : {E : Type 0} → (r : Result (Unit {0}) E) (v : NamedVolume) (old new : List NamedVolume) (labels : List NamedDevice) (broken : List ℕ) → OnOk r (new ≡ old ++ v ∷ []) → OnErr r (new ≡ old)
-    → KeepsNames (record { primaries = old; labels = labels; broken = broken }) → MayName v (record { primaries = old; labels = labels; broken = broken }) → KeepsNames (record { primaries = new; labels = labels; broken = broken })
+    → AreNamesSound (record { primaries = old; labels = labels; broken = broken }) → MayName v (record { primaries = old; labels = labels; broken = broken }) → AreNamesSound (record { primaries = new; labels = labels; broken = broken })
 keeps_primary (Ok done) v old new labels broken ok err keeps may =
-    subst (λ (t : List NamedVolume). KeepsNames (record { primaries = t; labels = labels; broken = broken })) (sym ok) (record {
+    subst (λ (t : List NamedVolume). AreNamesSound (record { primaries = t; labels = labels; broken = broken })) (sym ok) (record {
       ranges = ranges_more v old may.ranges keeps.ranges;
       apart = apart_more v old keeps.apart (not_true (list_any (are_alike v) old) may.new);
       devices = keeps.devices;
     })
 keeps_primary (Err why) v old new labels broken ok err keeps may =
-    subst (λ (t : List NamedVolume). KeepsNames (record { primaries = t; labels = labels; broken = broken })) (sym err) keeps
+    subst (λ (t : List NamedVolume). AreNamesSound (record { primaries = t; labels = labels; broken = broken })) (sym err) keeps
 
 -- ---- a broken control
 

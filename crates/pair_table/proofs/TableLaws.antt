@@ -5,7 +5,7 @@ use Rattle.std.specs.List.{list_any, list_all}
 use Rattle.pair_table.specs.declared.row.PairState.{PairState}
 use Rattle.pair_table.specs.declared.row.PairRow.{PairRow}
 use Rattle.pair_table.specs.Rows.{is_row, is_state}
-use Rattle.pair_table.specs.Tables.{is_of, row_of, with_row, without_row, in_state, changed_row, with_state, clashes, none_clash, most_rows, KeepsRows}
+use Rattle.pair_table.specs.Tables.{is_of, row_of, with_row, without_row, in_state, changed_row, with_state, clashes, none_clash, most_rows, AreRowsSound}
 use Rattle.pair_table.proofs.RowRules.{both_true, and_true, row_keeps, row_rules, is_row_by}
 
 pub either_false : (a b : Bool) → (a || b) ≡ false → (a ≡ false) × (b ≡ false)
@@ -127,11 +127,11 @@ few-filter keep (r ∷ rows) = choose (keep r) (few-filter keep rows)
     choose true e = omega (arith, e)
     choose false e = omega (arith, e)
 
-pub keeps_filter : (keep : PairRow → Bool) (rows : List PairRow) → KeepsRows rows → KeepsRows (filter keep rows)
+pub keeps_filter : (keep : PairRow → Bool) (rows : List PairRow) → AreRowsSound rows → AreRowsSound (filter keep rows)
 keeps_filter keep rows keeps =
     record { each = each-filter keep rows keeps.each; apart = apart-filter keep rows keeps.apart; few = omega (arith, few-filter keep rows, keeps.few) }
 
-pub keeps_without : (device : ℕ) (rows : List PairRow) → KeepsRows rows → KeepsRows (without_row device rows)
+pub keeps_without : (device : ℕ) (rows : List PairRow) → AreRowsSound rows → AreRowsSound (without_row device rows)
 keeps_without device rows keeps = keeps_filter (λ r. not (is_of device r)) rows keeps
 
 -- in another state
@@ -181,7 +181,7 @@ few-with_state : (device : ℕ) (state : PairState) (rows : List PairRow) → le
 few-with_state device state [] = refl
 few-with_state device state (r ∷ rows) = omega (arith, few-with_state device state rows)
 
-pub keeps_with_state : (device : ℕ) (state : PairState) (rows : List PairRow) → is_state state ≡ true → KeepsRows rows → KeepsRows (with_state device state rows)
+pub keeps_with_state : (device : ℕ) (state : PairState) (rows : List PairRow) → is_state state ≡ true → AreRowsSound rows → AreRowsSound (with_state device state rows)
 keeps_with_state device state rows ok keeps = record {
   each = each-with_state device state rows ok keeps.each;
   apart = apart-with_state device state rows ∙ keeps.apart;
@@ -189,5 +189,5 @@ keeps_with_state device state rows ok keeps = record {
 }
 
 -- with a row whose own rules and the rules over the rows were tested
-pub keeps_with_row : (row : PairRow) (rows : List PairRow) → is_row row ≡ true → KeepsRows rows → none_clash (with_row row rows) ≡ true → length (with_row row rows) ≤ most_rows → KeepsRows (with_row row rows)
+pub keeps_with_row : (row : PairRow) (rows : List PairRow) → is_row row ≡ true → AreRowsSound rows → none_clash (with_row row rows) ≡ true → length (with_row row rows) ≤ most_rows → AreRowsSound (with_row row rows)
 keeps_with_row row rows is keeps apart few = record { each = each_with_row row rows is keeps.each; apart = apart; few = few }

@@ -83,8 +83,8 @@ clashes_apart row r = not (is_of row.device r) && clashes row r
 abbrev pub most_rows : ℕ
 most_rows = MOST_ROWS
 
--- What the rows of every table keep: each is a row, no two clash, and there are no more than a table has.
-pub record KeepsRows (rows : List PairRow) : Type 0 where
+-- The rows of a table are sound: each is a row, no two clash, and there are no more than a table has.
+pub record AreRowsSound (rows : List PairRow) : Type 0 where
   pub each : IsTrue (list_all is_row rows)
   pub apart : IsTrue (none_clash rows)
   pub few : length rows ≤ most_rows

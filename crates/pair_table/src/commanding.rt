@@ -3,7 +3,7 @@
 ghost use Rattle.std.specs.Prelude.{◌≡◌, ◌↔◌, not, ◌||◌, Some, None, IfOk, OnOk, OnErr, IsTrue};
 ghost use Rattle.std.specs.List.{list_all, list_any};
 ghost use Rattle.pair_table.specs.declared.command.Refusal.{Refusal};
-ghost use Rattle.pair_table.specs.Naming.{KeepsNames, Naming, labelled_device, no_names, primary_of};
+ghost use Rattle.pair_table.specs.Naming.{AreNamesSound, Naming, labelled_device, no_names, primary_of};
 ghost use Rattle.pair_table.specs.Rows.{are_in_ranges};
 ghost use Rattle.pair_table.specs.Tables.{is_of, with_rows, with_states};
 ghost use Rattle.pair_table.specs.Refusals.{is_start as starts, refusal, refuses_choice, refuses_command, refuses_new, refuses_primary, refuses_row};
@@ -247,7 +247,7 @@ fn row_refusal(row: &PairRow, secondary: Serial) -> Option<Refusal>
 /// The row of a new pair, if both names are known.
 fn new_row(names: &Names, primary: Serial, secondary: Serial) -> Option<PairRow>
     ensures row { result ≡ new_row_for secondary (primary_of primary names.now) (labelled_device secondary names.now) }
-    ensures rules { KeepsNames names.now }
+    ensures rules { AreNamesSound names.now }
 {
     let volume = names.volume_of(primary)?;
     let label = names.device_of(secondary)?;

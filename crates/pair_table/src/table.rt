@@ -6,7 +6,7 @@ ghost use Rattle.std.specs.Option.{option_copied};
 ghost use Rattle.pair_table.specs.Commands.{devices_of, is_chosen, is_to_suspend};
 ghost use Rattle.pair_table.specs.Refusals.{is_pair, row_of_primary};
 ghost use Rattle.pair_table.specs.Rows.{keeps_row_rules};
-ghost use Rattle.pair_table.specs.Tables.{most_rows, new_table, with_rows, row_of, HasRow, with_row, without_row, with_state, clashes_apart, KeepsRows, MayPut, are_below};
+ghost use Rattle.pair_table.specs.Tables.{most_rows, new_table, with_rows, row_of, HasRow, with_row, without_row, with_state, clashes_apart, AreRowsSound, MayPut, are_below};
 
 use crate::command::{Choice, DeviceList};
 use crate::limits::MOST_ROWS;
@@ -29,13 +29,13 @@ pub struct PairTable {
 impl Model for PairTable {
     ghost use Rattle.std.specs.HashMap.{values};
     ghost use Rattle.pair_table.specs.Tables.{Table};
-    ghost use Rattle.pair_table.specs.Maps.{KeepsMap};
+    ghost use Rattle.pair_table.specs.Maps.{IsMapSound};
 
     ghost Value = { Table };
 
     ghost view = { λ table. record { session = table.session; is_started = table.started; is_ended = table.ended; rows = values table.rows } };
 
-    ghost invariant = { λ table. KeepsMap table.rows.entries };
+    ghost invariant = { λ table. IsMapSound table.rows.entries };
 }
 
 impl PairTable {
@@ -61,7 +61,7 @@ impl PairTable {
     /// The number of rows.
     pub fn len(&self) -> u16
         ensures count { result ≡ length self.now.rows }
-        ensures rules { KeepsRows self.now.rows }
+        ensures rules { AreRowsSound self.now.rows }
     {
         self.rows.len() as u16
     }
@@ -87,7 +87,7 @@ impl PairTable {
     /// The primary's row. None exactly where it has none.
     pub(crate) fn row_of_primary(&self, primary: Serial) -> Option<&PairRow>
         ensures row { option_copied result ≡ row_of_primary primary self.now.rows }
-        ensures rules { KeepsRows self.now.rows }
+        ensures rules { AreRowsSound self.now.rows }
     {
         self.rows.values().find(|row| row.primary == primary)
     }
@@ -125,7 +125,7 @@ impl PairTable {
         choice: &Choice,
     ) -> Result<DeviceList, NoMemory>
         ensures devices { IfOk result (λ devices. devices ≡ devices_of (filter (is_to_suspend choice.now) self.now.rows)) }
-        ensures rules { KeepsRows self.now.rows }
+        ensures rules { AreRowsSound self.now.rows }
     {
         let devices: Vec<u16> = self
             .rows
@@ -207,7 +207,7 @@ impl PairTable {
     /// Whether a row of another device clashes with this one.
     fn clashes(&self, row: &PairRow) -> bool
         ensures found { result ≡ list_any (clashes_apart row.now) self.now.rows }
-        ensures rules { KeepsRows self.now.rows }
+        ensures rules { AreRowsSound self.now.rows }
     {
         self.rows
             .values()

@@ -15,7 +15,7 @@ pub trait Passage<Point, Left> {
 }
 
 /// When something may come behind what came before it, and what it leaves to those behind it.
-pub trait Chain<Base, Next> {
+pub trait Links<Base, Next> {
     ghost link: { Base → Next → Type 0 };
 
     ghost after: { Base → Next → Base };
@@ -54,6 +54,6 @@ pub fn points_stay_passed<Point, Way, Left, T: Passage<Point, Left>>()
 {}
 
 /// What comes behind others goes on in a row.
-pub fn links_go_on<Base, Next, T: Chain<Base, Next>>()
+pub fn links_go_on<Base, Next, T: Links<Base, Next>>()
     ensures { LinksGoOn Base Next T.link T.after }
 {}

@@ -4,6 +4,6 @@
 mod laws;
 
 pub use laws::{
-    Chain, Passage, links_go_on, points_are_passed, points_are_told_otherwise, points_stay_passed,
+    Links, Passage, links_go_on, points_are_passed, points_are_told_otherwise, points_stay_passed,
     points_tell_since,
 };

@@ -15,7 +15,7 @@ use Rattle.ckd_track.specs.Slots.{with_bytes}
 use Rattle.pending_queue.specs.declared.placed.Placed.{Placed}
 use Rattle.pending_queue.specs.Entries.{WaitingEntry, IsOfWrite, entry_by, stands_before}
 use Rattle.pending_queue.specs.Groups.{most_of_control}
-use Rattle.pending_queue.specs.PlacedEntries.{placed_entry, placed_entries, placed_before, KeepsForms}
+use Rattle.pending_queue.specs.PlacedEntries.{placed_entry, placed_entries, placed_before, AreFormsSound}
 use Rattle.xrc_edge.specs.Order.{put_in_order, in_order, is_in_order}
 use Rattle.xrc_edge.proofs.OrderLaws.{IsOrder, parted}
 use Rattle.xrc_edge.proofs.Merges.{length_order}
@@ -115,10 +115,10 @@ pub record IsNew (controls used : ℕ) (items : List Placed) (p : Placed) (form 
   pub written : IsOfWrite (entry_by p.head p.effect form)
 
 pub record IsPut (controls capacity used : ℕ) (before after : List ℕ) (items now : List Placed) (entry : WaitingEntry) : Type 0 where
-  pub keeps : KeepsForms controls capacity after used now
+  pub keeps : AreFormsSound controls capacity after used now
   pub entries : placed_entries after now ≡ in_order stands_before (placed_entries before items ++ entry ∷ [])
 
-pub put : (controls old capacity used : ℕ) (before after : List ℕ) (items now : List Placed) (p : Placed) (form : List ℕ) → KeepsForms controls old before used items → IsNew controls used items p form → after ≡ with_bytes used form before
+pub put : (controls old capacity used : ℕ) (before after : List ℕ) (items now : List Placed) (p : Placed) (form : List ℕ) → AreFormsSound controls old before used items → IsNew controls used items p form → after ≡ with_bytes used form before
     → now ≡ in_order placed_before (items ++ p ∷ []) → old ≤ capacity → IsPut controls capacity (used + p.len) before after items now (entry_by p.head p.effect form)
 put controls old capacity used before after items now p form keeps new bytes is room =
     let entry = entry_by p.head p.effect form in

@@ -14,7 +14,7 @@ use Rattle.block_region.proofs.ChainLaws.{taken_out, given_rest}
 use Rattle.pending_queue.specs.declared.waiting.Waiting.{Waiting}
 use Rattle.pending_queue.specs.Entries.{WaitingEntry, IsOfWrite, entry_by}
 use Rattle.pending_queue.specs.Rooms.{blocks_taken}
-use Rattle.pending_queue.specs.Waitings.{WaitingState, SameMemory, IsWithinLongest, entry_in, entries_in, chains_of, KeepsChains}
+use Rattle.pending_queue.specs.Waitings.{WaitingState, SameMemory, IsWithinLongest, entry_in, entries_in, chains_of, AreChainsSound}
 
 -- ---- lengths
 
@@ -62,10 +62,10 @@ pub record IsTaken (before after : RegionState) (chain : ChainState) (bytes : Li
   pub bytes_are : chain_bytes after chain ≡ bytes
 
 pub record IsPushed (most capacity : ℕ) (before after : RegionState) (waiting now : List Waiting) (entry : WaitingEntry) : Type 0 where
-  pub keeps : KeepsChains most capacity after now
+  pub keeps : AreChainsSound most capacity after now
   pub entries : entries_in after now ≡ entries_in before waiting ++ entry ∷ []
 
-pub pushed : (most old capacity : ℕ) (before after : RegionState) (waiting now : List Waiting) (w : Waiting) (bytes : List ℕ) → KeepsChains most old before waiting → length waiting < most → IsTaken before after w.chain bytes
+pub pushed : (most old capacity : ℕ) (before after : RegionState) (waiting now : List Waiting) (w : Waiting) (bytes : List ℕ) → AreChainsSound most old before waiting → length waiting < most → IsTaken before after w.chain bytes
     → IsOfWrite (entry_by w.head w.effect bytes) → length bytes ≤ longest_entry → now ≡ waiting ++ w ∷ [] → capacity ≡ old → IsPushed most capacity before after waiting now (entry_by w.head w.effect bytes)
 pushed most old capacity before after waiting now w bytes keeps fits taken written short is same_capacity =
     let entry = entry_by w.head w.effect bytes in
@@ -90,13 +90,13 @@ pushed most old capacity before after waiting now w bytes keeps fits taken writt
 -- ---- one less at the front
 
 pub record IsGiven (most capacity : ℕ) (before after : RegionState) (waiting rest : List Waiting) : Type 0 where
-  pub keeps : KeepsChains most capacity after rest
+  pub keeps : AreChainsSound most capacity after rest
   pub entries : entries_in after rest ≡ drop 1 (entries_in before waiting)
 
-pub given : (most old capacity : ℕ) (before after : RegionState) (waiting rest : List Waiting) (w : Waiting) → KeepsChains most old before waiting → waiting ≡ w ∷ rest → after ≡ without_chain before w.chain → capacity ≡ old
+pub given : (most old capacity : ℕ) (before after : RegionState) (waiting rest : List Waiting) (w : Waiting) → AreChainsSound most old before waiting → waiting ≡ w ∷ rest → after ≡ without_chain before w.chain → capacity ≡ old
     → IsGiven most capacity before after waiting rest
 given most old capacity before after waiting rest w kept is given_back same_capacity =
-    let keeps = subst (KeepsChains most old before) is kept in
+    let keeps = subst (AreChainsSound most old before) is kept in
     let out = given_rest before (chains_of (w ∷ rest)) w.chain 0 keeps.out (omega arith) refl in
     let same = same_entries before after rest (subst (λ (r : RegionState). All (IsKept before r) (chains_of rest)) (sym given_back) out.1) in
     record {
@@ -113,7 +113,7 @@ given most old capacity before after waiting rest w kept is given_back same_capa
 
 -- ---- the first behind the others
 
-behind : (most capacity : ℕ) (region : RegionState) (w : Waiting) (rest : List Waiting) → KeepsChains most capacity region (w ∷ rest) → KeepsChains most capacity region (rest ++ w ∷ [])
+behind : (most capacity : ℕ) (region : RegionState) (w : Waiting) (rest : List Waiting) → AreChainsSound most capacity region (w ∷ rest) → AreChainsSound most capacity region (rest ++ w ∷ [])
 behind most capacity region w rest keeps =
     let chains = chains_of rest in
     let there = sym (map-append (λ (x : Waiting). x.chain) rest (w ∷ [])) in
@@ -135,14 +135,14 @@ behind most capacity region w rest keeps =
     }
 
 pub record IsTurned (most capacity : ℕ) (region : RegionState) (waiting now : List Waiting) : Type 0 where
-  pub keeps : KeepsChains most capacity region now
+  pub keeps : AreChainsSound most capacity region now
   pub entries : entries_in region now ≡ drop 1 (entries_in region waiting) ++ take 1 (entries_in region waiting)
 
-turned_front : (most capacity : ℕ) (region : RegionState) (waiting : List Waiting) → KeepsChains most capacity region waiting → 0 < length waiting → IsTurned most capacity region waiting (drop 1 waiting ++ take 1 waiting)
+turned_front : (most capacity : ℕ) (region : RegionState) (waiting : List Waiting) → AreChainsSound most capacity region waiting → 0 < length waiting → IsTurned most capacity region waiting (drop 1 waiting ++ take 1 waiting)
 turned_front most capacity region [] keeps some = absurd (omega arith)
 turned_front most capacity region (w ∷ rest) keeps some = record { keeps = behind most capacity region w rest keeps; entries = map-append (entry_in region) rest (w ∷ []) }
 
-pub turned : (most old capacity : ℕ) (region : RegionState) (waiting now : List Waiting) → KeepsChains most old region waiting → 0 < length waiting → now ≡ drop 1 waiting ++ take 1 waiting → capacity ≡ old
+pub turned : (most old capacity : ℕ) (region : RegionState) (waiting now : List Waiting) → AreChainsSound most old region waiting → 0 < length waiting → now ≡ drop 1 waiting ++ take 1 waiting → capacity ≡ old
     → IsTurned most capacity region waiting now
 turned most old capacity region waiting now keeps some is same_capacity = subst (IsTurned most capacity region waiting) (sym is)
     (turned_front most capacity region waiting (record { size = keeps.size; room = omega (arith, keeps.room, same_capacity); few = keeps.few; out = keeps.out; written = keeps.written; short = keeps.short }) some)

@@ -64,8 +64,8 @@ heads group = heads_in group.entries
 abbrev pub forms_of : FormedGroup → List (List ℕ)
 forms_of group = forms_in group.entries
 
--- What every group keeps: it stands in order, and has its memory for all breaks and done plans.
-pub record KeepsOrder (controls breaks done : ℕ) (entries : List WaitingEntry) : Type 0 where
+-- The order of a group is sound: it stands in order, and has its memory for all breaks and done plans.
+pub record IsOrderSound (controls breaks done : ℕ) (entries : List WaitingEntry) : Type 0 where
   pub ordered : IsTrue (is_in_order stands_before entries)
   pub break_room : controls ≤ breaks
   pub done_room : most_done_of_control * controls ≤ done

@@ -22,9 +22,9 @@ placed_entries bytes placed = map (placed_entry bytes) placed
 abbrev pub placed_before : Placed → Placed → Bool
 placed_before a b = head_before a.head b.head
 
--- What placed entries keep: there is room for the most entries of each control and for their forms, and each has the form of its
+-- The forms of placed entries are sound: there is room for the most entries of each control and for their forms, and each has the form of its
 -- write in the part of the buffer that is used.
-pub record KeepsForms (controls capacity : ℕ) (bytes : List ℕ) (used : ℕ) (placed : List Placed) : Type 0 where
+pub record AreFormsSound (controls capacity : ℕ) (bytes : List ℕ) (used : ℕ) (placed : List Placed) : Type 0 where
   pub few : controls < 2 ^ 16
   pub room : most_of_control * controls ≤ capacity
   pub sized : length bytes ≡ longest_entry * (most_of_control * controls)

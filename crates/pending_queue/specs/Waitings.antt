@@ -50,9 +50,9 @@ pub record SameMemory (old new : WaitingState) : Type 0 where
 abbrev pub IsWithinLongest : WaitingEntry → Type 0
 IsWithinLongest entry = length entry.form ≤ longest_entry
 
--- What entries that wait keep: there is room for the most of them, their chains are all that are out, and each has the form of
+-- The chains of entries that wait are sound: there is room for the most of them, their chains are all that are out, and each has the form of
 -- its write.
-pub record KeepsChains (most capacity : ℕ) (region : RegionState) (waiting : List Waiting) : Type 0 where
+pub record AreChainsSound (most capacity : ℕ) (region : RegionState) (waiting : List Waiting) : Type 0 where
   pub size : most < 2 ^ 32
   pub room : most ≤ capacity
   pub few : length waiting ≤ most

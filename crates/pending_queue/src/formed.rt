@@ -30,13 +30,13 @@ pub struct Formed {
 
 impl Model for Formed {
     ghost use Rattle.std.specs.Prelude.{vec_capacity};
-    ghost use Rattle.pending_queue.specs.Groups.{FormedGroup, KeepsOrder};
+    ghost use Rattle.pending_queue.specs.Groups.{FormedGroup, IsOrderSound};
 
     ghost Value = { FormedGroup };
 
     ghost view = { λ group. record { controls = group.entries.controls; cut = group.cut; entries = group.entries.entries; breaks = group.breaks.items; done = group.done.items } };
 
-    ghost invariant = { λ group. KeepsOrder group.entries.controls (vec_capacity group.breaks) (vec_capacity group.done) group.entries.entries };
+    ghost invariant = { λ group. IsOrderSound group.entries.controls (vec_capacity group.breaks) (vec_capacity group.done) group.entries.entries };
 }
 
 impl Formed {

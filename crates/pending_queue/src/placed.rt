@@ -48,13 +48,13 @@ pub struct PlacedList {
 
 impl Model for PlacedList {
     ghost use Rattle.std.specs.Prelude.{vec_capacity};
-    ghost use Rattle.pending_queue.specs.PlacedEntries.{PlacedState, KeepsForms, placed_entries};
+    ghost use Rattle.pending_queue.specs.PlacedEntries.{PlacedState, AreFormsSound, placed_entries};
 
     ghost Value = { PlacedState };
 
     ghost view = { λ list. record { controls = list.controls; entries = placed_entries list.bytes.items list.entries.items } };
 
-    ghost invariant = { λ list. KeepsForms list.controls (vec_capacity list.entries) list.bytes.items list.used list.entries.items };
+    ghost invariant = { λ list. AreFormsSound list.controls (vec_capacity list.entries) list.bytes.items list.used list.entries.items };
 }
 
 impl PlacedList {

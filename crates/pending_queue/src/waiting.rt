@@ -46,13 +46,13 @@ pub struct WaitingList {
 
 impl Model for WaitingList {
     ghost use Rattle.std.specs.VecDeque.{deque_capacity};
-    ghost use Rattle.pending_queue.specs.Waitings.{WaitingState, KeepsChains, chains_of, entries_in};
+    ghost use Rattle.pending_queue.specs.Waitings.{WaitingState, AreChainsSound, chains_of, entries_in};
 
     ghost Value = { WaitingState };
 
     ghost view = { λ list. record { most = list.most; region = list.region; chains = chains_of list.entries.items; entries = entries_in list.region list.entries.items } };
 
-    ghost invariant = { λ list. KeepsChains list.most (deque_capacity list.entries) list.region list.entries.items };
+    ghost invariant = { λ list. AreChainsSound list.most (deque_capacity list.entries) list.region list.entries.items };
 }
 
 impl WaitingList {

@@ -12,12 +12,12 @@ use std::marker::Model;
 use xrc_edge::NoMemory;
 
 /// The number of a volume, and that of a track there.
-type Place = (u16, u32);
+type TrackPlace = (u16, u32);
 
 /// Tracks by their places. One that is not listed is empty.
 #[derive(Drop)]
 pub struct Held {
-    tracks: HashMap<Place, Track>,
+    tracks: HashMap<TrackPlace, Track>,
 }
 
 impl Model for Held {

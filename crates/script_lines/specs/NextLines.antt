@@ -3,7 +3,7 @@ use Rattle.std.specs.Prelude.{◌≡◌, ◌⊎◌, ℕ, ◌+◌, ◌-◌, List,
 use Rattle.crash_plant.specs.Moments.{PlantState}
 use Rattle.xrc_command.specs.declared.line.Line.{Line}
 use Rattle.xrc_command.specs.Reading.{line_spelled}
-use Rattle.consistency.specs.Stages.{Run}
+use Rattle.consistency.specs.Stages.{ScriptRun}
 use Rattle.consistency.specs.Courses.{Answered, first_line, last_line_time, later_line}
 use Rattle.consistency.specs.Keeping.{Keeps, stage_now}
 use Rattle.script_lines.specs.declared.next.Next.{Next}
@@ -25,5 +25,5 @@ asked_next Nothing = None
 
 -- This is the next line of each run that has answered the lines before, the last of them at this time, and has heard the text.
 abbrev pub IsNextInRuns : (number before : ℕ) → (text : List ℕ) → Option Line → (first old : PlantState) → Type 0
-IsNextInRuns number before text asked first old = (run : Run) (lines : List Answered) → Keeps run lines [] first old → number ≡ length lines + 1 → last_line_time lines (length lines) ≡ before
+IsNextInRuns number before text asked first old = (run : ScriptRun) (lines : List Answered) → Keeps run lines [] first old → number ≡ length lines + 1 → last_line_time lines (length lines) ≡ before
     → (stage_now run first.script lines text).next ≡ asked

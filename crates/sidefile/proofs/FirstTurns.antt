@@ -12,7 +12,7 @@ use Rattle.write_trace.specs.Answers.{ReaderState, ReadsEntry, EndsThere}
 use Rattle.sidefile.specs.declared.hand.Hand.{Hand}
 use Rattle.sidefile.specs.declared.hand.Hand.TheVariants as hands
 use Rattle.sidefile.specs.declared.look.Look.TheVariants as looks
-use Rattle.sidefile.specs.declared.turn.Turn.{Turn}
+use Rattle.sidefile.specs.declared.turn.Handover.{Handover}
 use Rattle.sidefile.specs.Runs.{runs}
 use Rattle.sidefile.specs.Breaks.{stamp}
 use Rattle.sidefile.specs.Hands.{hand, left_after}
@@ -20,13 +20,13 @@ use Rattle.sidefile.specs.AheadEntries.{IsAhead, IsFault, read_of, entries_ahead
 use Rattle.sidefile.specs.ExactHands.{SidefileFront, HandsSame, IsHand, LeavesRuns, IsDue, runs_ahead}
 use Rattle.sidefile.specs.Looks.{EntriesAreRead, FindsNext}
 use Rattle.sidefile.specs.States.{HoldsRun, HasFault}
-use Rattle.sidefile.specs.Turns.{front, IsTurn}
+use Rattle.sidefile.specs.Turns.{front, IsHandover}
 use Rattle.sidefile.proofs.Steps.{reads_all, ends_there, bad_there, fails_there, fault_before}
 use Rattle.sidefile.proofs.TurnLaws.{ahead_open, ahead_ended}
 
-pub waiting_is : {control limit upto : ℕ} {before now : Option (List ℕ)} {faults risen : ℕ} {old new : ReaderState} {turn : Turn} (w v : Option Entry) → w ≡ v
-    → IsTurn control limit upto before now faults risen v old new turn → IsTurn control limit upto before now faults risen w old new turn
-waiting_is {control} {limit} {upto} {before} {now} {faults} {risen} {old} {new} {turn} w v e h = subst (λ (x : Option Entry). IsTurn control limit upto before now faults risen x old new turn) (sym e) h
+pub waiting_is : {control limit upto : ℕ} {before now : Option (List ℕ)} {faults risen : ℕ} {old new : ReaderState} {turn : Handover} (w v : Option Entry) → w ≡ v
+    → IsHandover control limit upto before now faults risen v old new turn → IsHandover control limit upto before now faults risen w old new turn
+waiting_is {control} {limit} {upto} {before} {now} {faults} {risen} {old} {new} {turn} w v e h = subst (λ (x : Option Entry). IsHandover control limit upto before now faults risen x old new turn) (sym e) h
 
 -- where no entry waits
 pub ahead_none : (r : ReaderState) (bytes : List ℕ) → r.stopped ≡ None → ahead None r bytes ≡ (read_of r bytes).0
@@ -100,8 +100,8 @@ module _ {before mid : Option (List ℕ)} {r s : ReaderState} (e : Entry) (goes 
   due_first control limit now after (hands.Broken (Crowded stamp) upto) due = hand_first control limit (hands.Broken (Crowded stamp) upto) due
   due_first control limit now after hands.NoMemory due = tt
 
-  pub turn_first : (control limit upto : ℕ) (now : Option (List ℕ)) (f1 f2 f3 : ℕ) (t : ReaderState) (turn : Turn) → f2 ≡ f1
-      → IsTurn control limit upto mid now f2 f3 (Some e) s t turn → IsTurn control limit upto before now f1 f3 None r t turn
+  pub turn_first : (control limit upto : ℕ) (now : Option (List ℕ)) (f1 f2 f3 : ℕ) (t : ReaderState) (turn : Handover) → f2 ≡ f1
+      → IsHandover control limit upto mid now f2 f3 (Some e) s t turn → IsHandover control limit upto before now f1 f3 None r t turn
   turn_first control limit upto now f1 f2 f3 t turn count h = record {
     due = due_first control limit now (front turn.waiting t) turn.hand h.due;
     holds = subst (λ (v : List VolumeHead). HoldsRun v control upto limit turn.hand) reads.volumes h.holds;
@@ -116,7 +116,7 @@ module _ {before mid : Option (List ℕ)} {r s : ReaderState} (e : Entry) (goes 
 
 pub turn_ended : (control limit upto : ℕ) (before now : Option (List ℕ)) (f1 f2 : ℕ) (r t : ReaderState) → upto ≤ limit
     → ((bytes : List ℕ) → IsAhead r before bytes → (ahead None r bytes ≡ []) × (cause_ahead r bytes ≡ None)) → t.volumes ≡ r.volumes → t.stopped ≡ Some (AtEnd ends.Ended) → f2 ≡ f1
-    → IsTurn control limit upto before now f1 f2 None r t (record { hand = hands.AtLimit; waiting = None })
+    → IsHandover control limit upto before now f1 f2 None r t (record { hand = hands.AtLimit; waiting = None })
 turn_ended control limit upto before now f1 f2 r t le none volumes stopped count = record {
   due = λ bytes is_ahead.
       let (empty, clean) = none bytes is_ahead in
@@ -142,7 +142,7 @@ turn_ended control limit upto before now f1 f2 r t le none volumes stopped count
 }
 
 pub turn_bad : (control limit upto : ℕ) (before now : Option (List ℕ)) (f1 f2 : ℕ) (r t : ReaderState) (cause : Cause) → upto ≡ 0 → r.stopped ≡ None → FindsNext before now f1 f2 r t (looks.Bad cause)
-    → IsTurn control limit upto before now f1 f2 None r t (record { hand = hands.Broken cause (stamp 0); waiting = None })
+    → IsHandover control limit upto before now f1 f2 None r t (record { hand = hands.Broken cause (stamp 0); waiting = None })
 turn_bad control limit upto before now f1 f2 r t (BadTrace place) zero goes (at, bad, stops, count) = record {
   due = λ bytes is_ahead.
       let (read, end) = bad_there before r place goes at bad bytes (is_ahead goes) in

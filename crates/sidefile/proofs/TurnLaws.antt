@@ -22,7 +22,7 @@ use Rattle.sidefile.specs.declared.hand.Hand.{Hand}
 use Rattle.sidefile.specs.declared.hand.Hand.TheVariants as hands
 use Rattle.sidefile.specs.declared.look.Look.{Look}
 use Rattle.sidefile.specs.declared.look.Look.TheVariants as looks
-use Rattle.sidefile.specs.declared.turn.Turn.{Turn}
+use Rattle.sidefile.specs.declared.turn.Handover.{Handover}
 use Rattle.sidefile.specs.Runs.{runs, quota}
 use Rattle.sidefile.specs.Breaks.{stamp, break_after}
 use Rattle.sidefile.specs.Hands.{batch_of, broken_or, hand, left_after}
@@ -30,7 +30,7 @@ use Rattle.sidefile.specs.AheadEntries.{IsAhead, read_of, entries_ahead, ahead, 
 use Rattle.sidefile.specs.ExactHands.{SidefileFront, HandsSame, IsHand, LeavesRuns, runs_ahead}
 use Rattle.sidefile.specs.Looks.{IsEntryTo, EntriesAreRead, have_stamp, FoundBehind, TakesRun}
 use Rattle.sidefile.specs.States.{IsRunOf}
-use Rattle.sidefile.specs.Turns.{IsTurn, front}
+use Rattle.sidefile.specs.Turns.{IsHandover, front}
 use Rattle.sidefile.proofs.RunLaws.{hand_above, hand_before, hand_at_end, hand_crowded, left_before, left_at_end}
 use Rattle.sidefile.proofs.Steps.{fault_before}
 
@@ -70,9 +70,9 @@ pub at_stamp : {before now : Option (List ℕ)} {faults risen : ℕ} {old new : 
     → TakesRun before now faults risen old new n one all look
 at_stamp {before} {now} {faults} {risen} {old} {new} {one} {all} {look} s n e h = subst (λ k. TakesRun before now faults risen old new k one all look) e h
 
-pub turn_is : {control limit upto : ℕ} {before now : Option (List ℕ)} {faults risen : ℕ} {waiting : Option Entry} {old new : ReaderState} (t u : Turn) → t ≡ u
-    → IsTurn control limit upto before now faults risen waiting old new u → IsTurn control limit upto before now faults risen waiting old new t
-turn_is {control} {limit} {upto} {before} {now} {faults} {risen} {waiting} {old} {new} t u e h = subst (λ (x : Turn). IsTurn control limit upto before now faults risen waiting old new x) (sym e) h
+pub turn_is : {control limit upto : ℕ} {before now : Option (List ℕ)} {faults risen : ℕ} {waiting : Option Entry} {old new : ReaderState} (t u : Handover) → t ≡ u
+    → IsHandover control limit upto before now faults risen waiting old new u → IsHandover control limit upto before now faults risen waiting old new t
+turn_is {control} {limit} {upto} {before} {now} {faults} {risen} {waiting} {old} {new} t u e h = subst (λ (x : Handover). IsHandover control limit upto before now faults risen waiting old new x) (sym e) h
 
 -- ---- what is left
 
@@ -99,7 +99,7 @@ leaves_same control limit told old new used rest bytes given split there end goe
 
 pub turn_above : (control limit upto : ℕ) (told : Option (List ℕ)) (faults : ℕ) (first : Entry) (r : ReaderState)
     → limit < stamp_of first → upto ≤ limit → IsEntryTo r.volumes first → r.last ≡ stamp_of first → r.stopped ≡ None
-    → IsTurn control limit upto told told faults faults (Some first) r r (record { hand = hands.AtLimit; waiting = Some first })
+    → IsHandover control limit upto told told faults faults (Some first) r r (record { hand = hands.AtLimit; waiting = Some first })
 turn_above control limit upto told faults first r above le kept last goes = record {
   due = λ bytes there. leaves_same control limit told (front (Some first) r) (front (Some first) r) [] bytes bytes hands.AtLimit refl there refl goes (λ behind. record {
     hand = λ cause. sym (ap (λ (es : List Entry). hand control cause limit (runs es)) (ahead_open first r behind goes) ∙ hand_above control cause limit first (read_of r behind).0 above);
@@ -162,7 +162,7 @@ module _ {before now : Option (List ℕ)} {faults risen : ℕ} {old new : Reader
 
   -- the same with the parts of what was found behind the run
   pub next_turn : (e : Entry) (time : Stamp) → FoundBehind before now faults risen old new (stamp_of first) h.taken all (looks.Next e) → time.0 ≡ min limit (stamp_of e - 1)
-      → IsTurn control limit upto before now faults risen (Some first) old new (record { hand = hands.Batch (record { control = control; writes = all; upto = time }); waiting = Some e })
+      → IsHandover control limit upto before now faults risen (Some first) old new (record { hand = hands.Batch (record { control = control; writes = all; upto = time }); waiting = Some e })
   next_turn e time (reads, e_kept, later, last, goes_on, count) is =
       let other : stamp_of first ≢ stamp_of e = λ same. omega (arith, same, later) in
       let from : stamp_of first ≤ time.0 = omega (arith, is, later, there) in
@@ -182,7 +182,7 @@ module _ {before now : Option (List ℕ)} {faults risen : ℕ} {old new : Reader
       }
 
   pub last_turn : FoundBehind before now faults risen old new (stamp_of first) h.taken all looks.Ended → (time : Stamp) → time.0 ≡ limit
-      → IsTurn control limit upto before now faults risen (Some first) old new (record { hand = hands.Batch (record { control = control; writes = all; upto = time }); waiting = None })
+      → IsHandover control limit upto before now faults risen (Some first) old new (record { hand = hands.Batch (record { control = control; writes = all; upto = time }); waiting = None })
   last_turn (ended, stopped, count) time is = record {
     due = λ bytes is_ahead.
         let (read, end) = ended bytes (is_ahead goes) in
@@ -209,7 +209,7 @@ module _ {before now : Option (List ℕ)} {faults risen : ℕ} {old new : Reader
   }
 
   pub broken_turn : (cause : Cause) → FoundBehind before now faults risen old new (stamp_of first) h.taken all (looks.Bad cause)
-      → IsTurn control limit upto before now faults risen (Some first) old new (record { hand = hands.Broken cause (stamp (stamp_of first - 1)); waiting = None })
+      → IsHandover control limit upto before now faults risen (Some first) old new (record { hand = hands.Broken cause (stamp (stamp_of first - 1)); waiting = None })
   broken_turn (BadTrace place) (ended, count) = record {
     due = λ bytes is_ahead.
         let (read, end) = ended bytes (is_ahead goes) in

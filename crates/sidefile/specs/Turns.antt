@@ -2,7 +2,7 @@
 use Rattle.std.specs.Prelude.{◌≡◌, ◌≤◌, ℕ, List, Option}
 use Rattle.write_trace.specs.declared.entry.Entry.{Entry}
 use Rattle.write_trace.specs.Answers.{ReaderState}
-use Rattle.sidefile.specs.declared.turn.Turn.{Turn}
+use Rattle.sidefile.specs.declared.turn.Handover.{Handover}
 use Rattle.sidefile.specs.ExactHands.{IsDue, SidefileFront}
 use Rattle.sidefile.specs.Halts.{halt_of, reached}
 use Rattle.sidefile.specs.States.{IsWaiting, IsSidefile, HoldsRun, HasFault}
@@ -11,7 +11,7 @@ abbrev pub front : Option Entry → ReaderState → SidefileFront
 front waiting reader = record { waiting = waiting; reader = reader }
 
 -- What is due was handed over, and what waits afterwards is as a sidefile keeps it.
-pub record IsTurn (control limit before_upto : ℕ) (before now : Option (List ℕ)) (faults risen : ℕ) (waiting : Option Entry) (old new : ReaderState) (turn : Turn) : Type 0 where
+pub record IsHandover (control limit before_upto : ℕ) (before now : Option (List ℕ)) (faults risen : ℕ) (waiting : Option Entry) (old new : ReaderState) (turn : Handover) : Type 0 where
   pub due : IsDue control limit before now (front waiting old) (front turn.waiting new) turn.hand
   pub holds : HoldsRun old.volumes control before_upto limit turn.hand
   pub fault : HasFault faults risen turn.hand

@@ -4,7 +4,7 @@ ghost use Rattle.std.specs.Prelude.{◌≡◌, ◌<◌, ◌≤◌, ◌-◌, ℕ,
 ghost use Rattle.write_trace.specs.Entries.{stamp_of as stamp_of_entry};
 ghost use Rattle.sidefile.specs.Looks.{IsEntryTo};
 ghost use Rattle.sidefile.specs.States.{IsWaiting};
-ghost use Rattle.sidefile.specs.Turns.{IsTurn, IsSomeWaiting};
+ghost use Rattle.sidefile.specs.Turns.{IsHandover, IsSomeWaiting};
 
 use crate::hand::Hand;
 use crate::look::{Look, look_ahead};
@@ -17,28 +17,28 @@ use xrc_edge::Source;
 
 /// What was handed over, and the entry that waits afterwards.
 #[derive(Drop)]
-pub struct Turn {
+pub struct Handover {
     pub hand: Hand,
     pub waiting: Option<Entry>,
 }
 
-impl Turn {
+impl Handover {
     /// No entry waits afterwards.
-    pub fn last(hand: Hand) -> Turn
+    pub fn last(hand: Hand) -> Handover
         ensures { result ≡ record { hand = hand; waiting = None } }
     {
-        Turn {
+        Handover {
             hand,
             waiting: None,
         }
     }
 
     /// What is handed over where no run was read, or the break of the run with this stamp.
-    pub fn broken(cause: Cause, stamp: u64) -> Turn
+    pub fn broken(cause: Cause, stamp: u64) -> Handover
         requires { 1 ≤ stamp }
         ensures { result ≡ record { hand = Hand.Broken cause (record { 0 = stamp - 1 }); waiting = None } }
     {
-        Turn::last(Hand::Broken {
+        Handover::last(Hand::Broken {
             cause,
             upto: Stamp(stamp - 1),
         })
@@ -61,27 +61,27 @@ pub fn take_turn<S: Source>(
     source: &mut S,
     first: Entry,
     limit: Stamp,
-) -> Turn
+) -> Handover
     requires goes_on { reader.old.stopped ≡ None }
     requires last { reader.old.last ≡ stamp_of_entry first }
     requires kept { IsEntryTo reader.old.volumes first }
-    ensures { (upto : ℕ) → upto < stamp_of_entry first → upto ≤ limit.0 → IsTurn control limit.0 upto (S.left source.old) (S.left source.new) (S.faults source.old) (S.faults source.new) (Some first) reader.old reader.new result }
+    ensures { (upto : ℕ) → upto < stamp_of_entry first → upto ≤ limit.0 → IsHandover control limit.0 upto (S.left source.old) (S.left source.new) (S.faults source.old) (S.faults source.new) (Some first) reader.old reader.new result }
 {
     let stamp = stamp_of(&first);
     if stamp.0 > limit.0 {
-        return Turn {
+        return Handover {
             hand: Hand::AtLimit,
             waiting: Some(first),
         };
     }
     let mut writes = WriteList::make(alloc);
     let Ok(()) = add(alloc, &mut writes, first) else {
-        return Turn::last(Hand::NoMemory);
+        return Handover::last(Hand::NoMemory);
     };
     match take_run(reader, alloc, source, stamp, &mut writes) {
         Look::Next(next) => {
             let upto = before(&next, limit);
-            Turn {
+            Handover {
                 hand: Hand::Batch(Batch {
                     control,
                     writes,
@@ -90,13 +90,13 @@ pub fn take_turn<S: Source>(
                 waiting: Some(next),
             }
         }
-        Look::Ended => Turn::last(Hand::Batch(Batch {
+        Look::Ended => Handover::last(Hand::Batch(Batch {
             control,
             writes,
             upto: limit,
         })),
-        Look::Bad(cause) => Turn::broken(cause, stamp.0),
-        Look::NoMemory => Turn::last(Hand::NoMemory),
+        Look::Bad(cause) => Handover::broken(cause, stamp.0),
+        Look::NoMemory => Handover::last(Hand::NoMemory),
     }
 }
 
@@ -108,20 +108,20 @@ pub fn hand_over<S: Source>(
     source: &mut S,
     waiting: Option<Entry>,
     limit: Stamp,
-) -> Turn
+) -> Handover
     requires { IsSomeWaiting waiting reader.old }
-    ensures { (upto : ℕ) → IsWaiting waiting reader.old upto → upto ≤ limit.0 → IsTurn control limit.0 upto (S.left source.old) (S.left source.new) (S.faults source.old) (S.faults source.new) waiting reader.old reader.new result }
+    ensures { (upto : ℕ) → IsWaiting waiting reader.old upto → upto ≤ limit.0 → IsHandover control limit.0 upto (S.left source.old) (S.left source.new) (S.faults source.old) (S.faults source.new) waiting reader.old reader.new result }
 {
     if let Some(first) = waiting {
         return take_turn(control, reader, alloc, source, first, limit);
     }
     match look_ahead(reader, alloc, source) {
         Look::Next(first) => take_turn(control, reader, alloc, source, first, limit),
-        Look::Ended => Turn::last(Hand::AtLimit),
-        Look::Bad(cause) => Turn::last(Hand::Broken {
+        Look::Ended => Handover::last(Hand::AtLimit),
+        Look::Bad(cause) => Handover::last(Hand::Broken {
             cause,
             upto: Stamp(0),
         }),
-        Look::NoMemory => Turn::last(Hand::NoMemory),
+        Look::NoMemory => Handover::last(Hand::NoMemory),
     }
 }

@@ -16,8 +16,8 @@ use Rattle.site_means.specs.Walk.{rows_through}
 use Rattle.xrc_journal.specs.Items.{Item}
 use Rattle.site_store.specs.Exceptions.{Exceptions}
 use Rattle.site_store.specs.declared.store_error.StoreError.{StoreError}
-use Rattle.site_store.specs.declared.way.Way.{Way}
-use Rattle.site_store.specs.declared.way.Way.TheVariants.{Here, Switched, Marked}
+use Rattle.site_store.specs.declared.placement.Placement.{Placement}
+use Rattle.site_store.specs.declared.placement.Placement.TheVariants.{Here, Switched, Marked}
 use Rattle.site_store.specs.Applying.{with_applied}
 use Rattle.site_store.specs.Changing.{LogsChange, MayChange, Suspends, changed_items, with_suspensions}
 use Rattle.site_store.specs.Commands.{AreOnVolumes, IsToLog, behind_put}
@@ -57,15 +57,15 @@ starts_idle tells controls volumes session level at plant (Err e) is fits stands
 -- ---- records and marks
 
 -- a site that is behind a record
-behind_waits : (journals : ℕ) (way : Way) (cut : ℕ) (items : List Item) (rows : List PairRow) (failed : List Bool) (site : SiteState) → site.waiting ≡ [] → (behind_record journals way cut items rows failed site).waiting ≡ []
+behind_waits : (journals : ℕ) (placement : Placement) (cut : ℕ) (items : List Item) (rows : List PairRow) (failed : List Bool) (site : SiteState) → site.waiting ≡ [] → (behind_record journals placement cut items rows failed site).waiting ≡ []
 behind_waits journals Here cut items rows failed site idle = idle
 behind_waits journals Switched cut items rows failed site idle = idle
 behind_waits journals Marked cut items rows failed site idle = refl
 
 module _ (tells : Type 0) (site next : SiteState) (old new : PlantState) (now : Exceptions → Exceptions) where
-  pub logged_stands : (journals : ℕ) (way : Way) (group : FormedGroup) (items : List Item) (early failed : List Bool) → IsSiteIdle tells site old → Leaves tells now site next old new
-      → next ≡ behind_group journals way group items early failed site → IsSiteLogged tells next new
-  logged_stands journals way group items early failed idle leaves is = record {
+  pub logged_stands : (journals : ℕ) (placement : Placement) (group : FormedGroup) (items : List Item) (early failed : List Bool) → IsSiteIdle tells site old → Leaves tells now site next old new
+      → next ≡ behind_group journals placement group items early failed site → IsSiteLogged tells next new
+  logged_stands journals placement group items early failed idle leaves is = record {
     fast = goes_on tells now site next old new idle.may.fast leaves;
     level = ap (λ (s : SiteState). s.is_ahead) is;
     same = ap (λ (s : SiteState). s.told) is ∙ sym (ap (λ (s : SiteState). s.table.rows) is);
@@ -74,9 +74,9 @@ module _ (tells : Type 0) (site next : SiteState) (old new : PlantState) (now : 
   pub applied_idle : IsSiteLogged tells site old → Leaves tells now site next old new → next ≡ with_applied next.failed next.written site → IsSiteIdle tells next new
   applied_idle logged leaves is = idle_is tells (with_applied next.failed next.written site) next new is (goes_on tells now site next old new logged.fast leaves) logged.level refl logged.same
 
-  recorded_idle : (journals : ℕ) (way : Way) (cut : ℕ) (items : List Item) (rows : List PairRow) (failed : List Bool) → StandsFast tells site old → site.waiting ≡ [] → Leaves tells now site next old new → next ≡ behind_record journals way cut items rows failed site → IsSiteIdle tells next new
-  recorded_idle journals way cut items rows failed fast idle leaves is =
-      idle_is tells (behind_record journals way cut items rows failed site) next new is (goes_on tells now site next old new fast leaves) refl (behind_waits journals way cut items rows failed site idle) refl
+  recorded_idle : (journals : ℕ) (placement : Placement) (cut : ℕ) (items : List Item) (rows : List PairRow) (failed : List Bool) → StandsFast tells site old → site.waiting ≡ [] → Leaves tells now site next old new → next ≡ behind_record journals placement cut items rows failed site → IsSiteIdle tells next new
+  recorded_idle journals placement cut items rows failed fast idle leaves is =
+      idle_is tells (behind_record journals placement cut items rows failed site) next new is (goes_on tells now site next old new fast leaves) refl (behind_waits journals placement cut items rows failed site idle) refl
 
   pub marked_idle : (ended : Bool) (rows : List PairRow) (failed : List Bool) → StandsFast tells site old → Leaves tells now site next old new → next ≡ behind_mark ended rows failed site → IsSiteIdle tells next new
   marked_idle ended rows failed fast leaves is = idle_is tells (behind_mark ended rows failed site) next new is (goes_on tells now site next old new fast leaves) refl refl refl
@@ -88,14 +88,14 @@ module _ (tells : Type 0) (site next : SiteState) (old new : PlantState) (now : 
       fast : StandsFast tells next new
       fast = goes_on tells now site next old new idle.may.fast leaves
 
-      by_way : (way : Way) → s.way ≡ way → hit_now site.failed site.told ≢ [] → IsSiteIdle tells next new
-      by_way Here way some = recorded_idle old.journals Here cut s.items _ site.failed idle.may.fast idle.may.idle leaves (s.logged some ∙ ap (λ (w : Way). with_suspensions old.journals w cut s.items next.failed site) way)
-      by_way Switched way some = recorded_idle old.journals Switched cut s.items _ site.failed idle.may.fast idle.may.idle leaves (s.logged some ∙ ap (λ (w : Way). with_suspensions old.journals w cut s.items next.failed site) way)
-      by_way Marked way some = marked_idle site.mark.ended _ next.failed idle.may.fast leaves (s.logged some ∙ ap (λ (w : Way). with_suspensions old.journals w cut s.items next.failed site) way)
+      by_placement : (placement : Placement) → s.placement ≡ placement → hit_now site.failed site.told ≢ [] → IsSiteIdle tells next new
+      by_placement Here placement some = recorded_idle old.journals Here cut s.items _ site.failed idle.may.fast idle.may.idle leaves (s.logged some ∙ ap (λ (w : Placement). with_suspensions old.journals w cut s.items next.failed site) placement)
+      by_placement Switched placement some = recorded_idle old.journals Switched cut s.items _ site.failed idle.may.fast idle.may.idle leaves (s.logged some ∙ ap (λ (w : Placement). with_suspensions old.journals w cut s.items next.failed site) placement)
+      by_placement Marked placement some = marked_idle site.mark.ended _ next.failed idle.may.fast leaves (s.logged some ∙ ap (λ (w : Placement). with_suspensions old.journals w cut s.items next.failed site) placement)
 
       by_hits : (hits : List ℕ) → hit_now site.failed site.told ≡ hits → IsSiteIdle tells next new
       by_hits [] none = idle_is tells site next new (s.nothing none).1 fast idle.may.level idle.may.idle idle.same
-      by_hits (d ∷ hits) some = by_way s.way refl (λ none. let clash : d ∷ hits ≡ [] = sym some ∙ none in cc clash)
+      by_hits (d ∷ hits) some = by_placement s.placement refl (λ none. let clash : d ∷ hits ≡ [] = sym some ∙ none in cc clash)
 
   pub suspended_idle : {P : Type 0} (cut : ℕ) (was is : P) (r : Result (Unit {0}) StoreError) → IsSiteIdle tells site old → OnOk r (Leaves tells now site next old new) → Suspends cut site next old was is r → OnOk r (IsSiteIdle tells next new)
   suspended_idle cut was is (Ok value) idle leaves s = suspended_so cut was is value idle leaves s
@@ -111,7 +111,7 @@ module _ (tells : Type 0) (site next : SiteState) (old new : PlantState) (now : 
           (ap (λ (l : List Item). rows_through l site.told) (sym none) ∙ may.lead.leads)
       by_items (i ∷ items) some =
           let rows = logs.rows (λ none. let clash : i ∷ items ≡ [] = sym some ∙ none in cc clash) in
-          recorded_idle old.journals rows.way cut rows.behind.items _ next.failed may.fast may.idle leaves rows.behind.next_is
+          recorded_idle old.journals rows.placement cut rows.behind.items _ next.failed may.fast may.idle leaves rows.behind.next_is
 
   pub changed_idle : {P : Type 0} (cut : ℕ) (change : Change) (was is : P) (r : Result (Unit {0}) StoreError) → MayChange tells cut change site old → OnOk r (Leaves tells now site next old new) → LogsChange cut change site next old was is r → OnOk r (IsSiteIdle tells next new)
   changed_idle cut change was is (Ok value) may leaves logs = changed_so cut change was is value may leaves logs

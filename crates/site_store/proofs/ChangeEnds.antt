@@ -26,16 +26,16 @@ use Rattle.xrc_journal.specs.Items.{Item, body_spelling, form_of}
 use Rattle.xrc_journal.specs.RingWalks.{AllEndThrough}
 use Rattle.site_store.specs.declared.store_error.StoreError.{StoreError}
 use Rattle.site_store.specs.declared.store_error.StoreError.TheVariants.{Spent}
-use Rattle.site_store.specs.declared.way.Way.{Way}
-use Rattle.site_store.specs.declared.way.Way.TheVariants.{Here, Marked}
-use Rattle.site_store.specs.Changing.{AreChangeItems, DoesChange, DoesRows, FormsChange, Lead, IsBehindChange, IsWayOfChange, LogsChange, MayChange, change_deeds, change_deeds_of, changed_items}
+use Rattle.site_store.specs.declared.placement.Placement.{Placement}
+use Rattle.site_store.specs.declared.placement.Placement.TheVariants.{Here, Marked}
+use Rattle.site_store.specs.Changing.{AreChangeItems, DoesChange, DoesRows, FormsChange, Lead, IsBehindChange, IsPlacementOfChange, LogsChange, MayChange, change_deeds, change_deeds_of, changed_items}
 use Rattle.site_store.specs.Hits.{pairs_with_next, with_hits}
 use Rattle.site_store.specs.Marking.{MakesMark}
 use Rattle.site_store.specs.Recording.{HasRoomBy, MayPutRecord, ShowsRecord, group_with}
 use Rattle.site_store.specs.Records.{IsJournal, IsOfMark, behind_record}
 use Rattle.site_store.specs.Sites.{SiteState, meant_for}
 use Rattle.site_store.specs.Standing.{FitsPlant, Leaves, SiteStands, none_excepted}
-use Rattle.site_store.specs.Ways.{is_spent, way_of}
+use Rattle.site_store.specs.Placements.{is_spent, placement_of}
 use Rattle.site_store.proofs.Below.{below_volumes}
 use Rattle.site_store.proofs.ChangeFirst.{ComesFirst, change_begins, change_done, change_stands, mark_first, nothing_first}
 use Rattle.site_store.proofs.MarkFirst.{mark_begins}
@@ -44,7 +44,7 @@ use Rattle.site_store.proofs.MeantRows.{meant_apart}
 use Rattle.site_store.proofs.Numbers.{record_enough}
 use Rattle.site_store.proofs.RowEnds.{begin_here, change_is, change_none, change_plain, leaves_ok, with_told_mark}
 use Rattle.site_store.proofs.RowItems.{AreRowItems, both_rows, changes_rows, keep_anywhere, next_rows}
-use Rattle.site_store.proofs.RowRoom.{HasWay, NumbersSuffice, has_way, hits_have, may_put_rows, room_by_way, rows_fit}
+use Rattle.site_store.proofs.RowRoom.{HasPlacement, NumbersSuffice, has_placement, hits_have, may_put_rows, room_by_placement, rows_fit}
 use Rattle.site_store.proofs.RowsLogged.{AreRowsLogged, with_logged_rows}
 use Rattle.site_store.proofs.StandsEnd.{from_low}
 
@@ -98,8 +98,8 @@ none_leaves tells site old fits = record {
 
 pub none_done : (tells : Type 0) (cut : ℕ) (change : Change) (site next : SiteState) (old : PlantState) → changed_items change site.table.rows ≡ [] → DoesChange tells cut change site next old old (Ok tt)
 none_done tells cut change site next old none = record {
-  way = Here;
-  is_way = λ some. absurd (some none);
+  placement = Here;
+  is_placement = λ some. absurd (some none);
   begins = λ told e stands. begin_here old e site.told (change_deeds_of change Here site cut next.failed);
   does = λ told e stands. subst (λ (deeds : List Deed). DoesDeeds e site.told deeds old old) (sym (change_none site cut next.failed change Here none)) (no_call old e site.told);
 }
@@ -150,69 +150,69 @@ module _ (tells : Type 0) (cut : Stamp) (change : Change) (site : SiteState) (ol
     first : AreChangeItems cut.0 change site.failed site old now.items
     first = subst (λ (f : List Bool). AreChangeItems cut.0 change f site old now.items) same formed
 
-    module _ (way : Way) (way_is : way ≡ way_of old site now.items) where
-      pub change_way : IsWayOfChange cut.0 change site old way
-      change_way = record { first = now.items; formed = first; way_is = way_is }
+    module _ (placement : Placement) (placement_is : placement ≡ placement_of old site now.items) where
+      pub change_placement : IsPlacementOfChange cut.0 change site old placement
+      change_placement = record { first = now.items; formed = first; placement_is = placement_is }
 
-      pub spent_logs : {P : Type 0} (was : P) (next : SiteState) → is_spent way site ≡ true → LogsChange cut.0 change site next old was was (Err Spent)
-      spent_logs was next spent = record { nothing = λ none. absurd (some none); rows = λ more. record { way = way; is_way = change_way; spent = (λ e. spent, λ e. refl); behind = tt } }
+      pub spent_logs : {P : Type 0} (was : P) (next : SiteState) → is_spent placement site ≡ true → LogsChange cut.0 change site next old was was (Err Spent)
+      spent_logs was next spent = record { nothing = λ none. absurd (some none); rows = λ more. record { placement = placement; is_placement = change_placement; spent = (λ e. spent, λ e. refl); behind = tt } }
 
       pub spent_done : (next : SiteState) → DoesChange tells cut.0 change site next old old (Err Spent)
       spent_done next = record {
-        way = way;
-        is_way = λ more. change_way;
-        begins = λ told e stands. begin_here old e site.told (change_deeds_of change way site cut.0 next.failed);
+        placement = placement;
+        is_placement = λ more. change_placement;
+        begins = λ told e stands. begin_here old e site.told (change_deeds_of change placement site cut.0 next.failed);
         does = λ told. tt;
       }
 
-    module _ (way : Way) (way_is : way ≡ way_of old site now.items) (enough : is_spent way site ≡ false) where
-      logs : {P : Type 0} (was is : P) (next : SiteState) (result : Result (Unit {0}) StoreError) → ¬ IsErrOf result Spent → OnOk result (IsBehindChange cut.0 change way site next old) → LogsChange cut.0 change site next old was is result
+    module _ (placement : Placement) (placement_is : placement ≡ placement_of old site now.items) (enough : is_spent placement site ≡ false) where
+      logs : {P : Type 0} (was is : P) (next : SiteState) (result : Result (Unit {0}) StoreError) → ¬ IsErrOf result Spent → OnOk result (IsBehindChange cut.0 change placement site next old) → LogsChange cut.0 change site next old was is result
       logs was is next result unspent behind = record {
         nothing = λ none. absurd (some none);
-        rows = λ more. record { way = way; is_way = change_way way way_is; spent = (λ e. absurd (unspent e), λ spent. absurd (cc (spent, enough))); behind = behind };
+        rows = λ more. record { placement = placement; is_placement = change_placement placement placement_is; spent = (λ e. absurd (unspent e), λ spent. absurd (cc (spent, enough))); behind = behind };
       }
 
-      pub mark_logs : {P : Type 0} (was is : P) (next : SiteState) (result : Result (Unit {0}) StoreError) → way ≡ Marked → ¬ IsErrOf result Spent → OnOk result (IsBehindChange cut.0 change Marked site next old) → LogsChange cut.0 change site next old was is result
-      mark_logs was is next result marked unspent behind = logs was is next result unspent (subst (λ (w : Way). OnOk result (IsBehindChange cut.0 change w site next old)) (sym marked) behind)
+      pub mark_logs : {P : Type 0} (was is : P) (next : SiteState) (result : Result (Unit {0}) StoreError) → placement ≡ Marked → ¬ IsErrOf result Spent → OnOk result (IsBehindChange cut.0 change Marked site next old) → LogsChange cut.0 change site next old was is result
+      mark_logs was is next result marked unspent behind = logs was is next result unspent (subst (λ (w : Placement). OnOk result (IsBehindChange cut.0 change w site next old)) (sym marked) behind)
 
-      module _ (plain : way ≢ Marked) where
-        suffice : NumbersSuffice way site.at.number
-        suffice = record_enough way site.at.number site.mark.number enough
+      module _ (plain : placement ≢ Marked) where
+        suffice : NumbersSuffice placement site.at.number
+        suffice = record_enough placement site.at.number site.mark.number enough
 
-        room : HasRoomBy old way site.mark.at site.at now.items
-        room = room_by_way site old fits now.items short way (subst (HasWay old site.at site.mark.at now.items) (sym way_is) (has_way old site.at site.mark.at now.items)) (λ marked. absurd (plain marked)) suffice
+        room : HasRoomBy old placement site.mark.at site.at now.items
+        room = room_by_placement site old fits now.items short placement (subst (HasPlacement old site.at site.mark.at now.items) (sym placement_is) (has_placement old site.at site.mark.at now.items)) (λ marked. absurd (plain marked)) suffice
 
-        pub may_put : (tells → AllEndThrough old site.mark.at site.at cut.0) → MayPutRecord tells way site.mark.at site.at cut.0 now.items old
-        may_put ends = may_put_rows site old fits now.items short tells way cut.0 room suffice (keep_anywhere (form_of old) now.items are_rows_alone forms.keep) ends
+        pub may_put : (tells → AllEndThrough old site.mark.at site.at cut.0) → MayPutRecord tells placement site.mark.at site.at cut.0 now.items old
+        may_put ends = may_put_rows site old fits now.items short tells placement cut.0 room suffice (keep_anywhere (form_of old) now.items are_rows_alone forms.keep) ends
 
         pub record_logs : {P : Type 0} (was is : P) (next : SiteState) (result : Result (Unit {0}) StoreError) → ¬ IsErrOf result Spent → next.failed ≡ site.failed
-            → OnOk result (next ≡ behind_record old.journals way cut.0 now.items (rows_with_hits site.level cut.0 next.failed site.table.rows) next.failed site) → LogsChange cut.0 change site next old was is result
+            → OnOk result (next ≡ behind_record old.journals placement cut.0 now.items (rows_with_hits site.level cut.0 next.failed site.table.rows) next.failed site) → LogsChange cut.0 change site next old was is result
         record_logs was is next result unspent still next_is = logs was is next result unspent (behind result next_is)
           where
-            behind : (r : Result (Unit {0}) StoreError) → OnOk r (next ≡ behind_record old.journals way cut.0 now.items (rows_with_hits site.level cut.0 next.failed site.table.rows) next.failed site) → OnOk r (IsBehindChange cut.0 change way site next old)
+            behind : (r : Result (Unit {0}) StoreError) → OnOk r (next ≡ behind_record old.journals placement cut.0 now.items (rows_with_hits site.level cut.0 next.failed site.table.rows) next.failed site) → OnOk r (IsBehindChange cut.0 change placement site next old)
             behind (Ok value) same = record { items = now.items; are = subst (λ (f : List Bool). AreChangeItems cut.0 change f site old now.items) (sym still) first; next_is = same }
             behind (Err error) same = tt
 
-        module _ (low : site.mark.at.number < 2 ^ 64) (new : PlantState) (works : WorksOn tells IsJournal old new) (result : Result (Unit {0}) StoreError) (shows : ShowsRecord tells way site.mark.at site.at (group_with cut.0 now.items) old new result) where
+        module _ (low : site.mark.at.number < 2 ^ 64) (new : PlantState) (works : WorksOn tells IsJournal old new) (result : Result (Unit {0}) StoreError) (shows : ShowsRecord tells placement site.mark.at site.at (group_with cut.0 now.items) old new result) where
           abbrev pub next : SiteState
-          next = with_logged_rows old.journals way cut.0 now.items rows site
+          next = with_logged_rows old.journals placement cut.0 now.items rows site
 
           pub record_leaves : OnOk result (Leaves tells (λ e. e) site next old new)
           record_leaves =
-              leaves_ok tells site next old new result (rows_fit tells site old new way cut.0 now.items rows fits works room may.cut_is may.idle (hits_have old site.level cut.0 failed site.table.rows fits.rows))
-              (change_stands tells [] site site old old new (nothing_first tells site old) way cut.0 now.items rows (λ told e stands. logged) low works result shows)
+              leaves_ok tells site next old new result (rows_fit tells site old new placement cut.0 now.items rows fits works room may.cut_is may.idle (hits_have old site.level cut.0 failed site.table.rows fits.rows))
+              (change_stands tells [] site site old old new (nothing_first tells site old) placement cut.0 now.items rows (λ told e stands. logged) low works result shows)
 
           pub record_done : (then : SiteState) → then.failed ≡ failed → DoesChange tells cut.0 change site then old new result
           record_done then still =
-              let deeds_are : Changed cut.0 rows ∷ [] ≡ change_deeds_of change way site cut.0 then.failed =
-              sym (change_is site cut.0 then.failed change way some ∙ change_plain site cut.0 then.failed way plain ∙ ap (λ (f : List Bool). Changed cut.0 (rows_with_hits site.level cut.0 f site.table.rows) ∷ []) still) in
+              let deeds_are : Changed cut.0 rows ∷ [] ≡ change_deeds_of change placement site cut.0 then.failed =
+              sym (change_is site cut.0 then.failed change placement some ∙ change_plain site cut.0 then.failed placement plain ∙ ap (λ (f : List Bool). Changed cut.0 (rows_with_hits site.level cut.0 f site.table.rows) ∷ []) still) in
               record {
-                way = way;
-                is_way = λ more. change_way way way_is;
+                placement = placement;
+                is_placement = λ more. change_placement placement placement_is;
                 begins = λ told e stands. subst (λ (deeds : List Deed). BeginsDeeds e site.told deeds old new) deeds_are
-                    (change_begins tells [] site site old old new (nothing_first tells site old) way cut.0 now.items rows (λ told e stands. logged) low works result shows told e stands);
+                    (change_begins tells [] site site old old new (nothing_first tells site old) placement cut.0 now.items rows (λ told e stands. logged) low works result shows told e stands);
                 does = λ told. subst (λ (deeds : List Deed). OnOk result ((e : Exceptions) → SiteStands e site old → DoesDeeds e site.told deeds old new)) deeds_are
-                    (change_done tells [] site site old old new (nothing_first tells site old) way cut.0 now.items rows (λ told e stands. logged) low works result shows told);
+                    (change_done tells [] site site old old new (nothing_first tells site old) placement cut.0 now.items rows (λ told e stands. logged) low works result shows told);
               }
 
   -- ---- the record comes behind a mark
@@ -229,7 +229,7 @@ module _ (tells : Type 0) (cut : Stamp) (change : Change) (site : SiteState) (ol
 
     module _ (touches : WorksOn tells (IsOfMark site) old mid) (makes : MakesMark tells site.mark.ended marked site here old mid (Ok tt)) (leaves : Leaves tells (λ e. none_excepted) site here old mid) where
       has_room : HasRoomBy mid Marked here.mark.at here.at now.items
-      has_room = room_by_way here mid leaves.fits now.items short Marked tt (λ e. refl) suffices
+      has_room = room_by_placement here mid leaves.fits now.items short Marked tt (λ e. refl) suffices
 
       pub may_put_behind : (tells → AllEndThrough mid here.mark.at here.at cut.0) → MayPutRecord tells Marked here.mark.at here.at cut.0 now.items mid
       may_put_behind ends = may_put_rows here mid leaves.fits now.items short tells Marked cut.0 has_room suffices (keep_anywhere (form_of mid) now.items are_rows_alone forms.keep) ends
@@ -294,14 +294,14 @@ mark_fails tells cut site next old new error idle makes =
       does = λ told. tt;
     }
 
--- What is done behind a mark is what the change's record does that comes this way.
-pub marked_done : (tells : Type 0) (cut : ℕ) (change : Change) (site next : SiteState) (old new : PlantState) (result : Result (Unit {0}) StoreError) → changed_items change site.table.rows ≢ [] → IsWayOfChange cut change site old Marked → DoesRows tells Marked cut site next old new result
+-- What is done behind a mark is what the change's record does that is placed so.
+pub marked_done : (tells : Type 0) (cut : ℕ) (change : Change) (site next : SiteState) (old new : PlantState) (result : Result (Unit {0}) StoreError) → changed_items change site.table.rows ≢ [] → IsPlacementOfChange cut change site old Marked → DoesRows tells Marked cut site next old new result
     → DoesChange tells cut change site next old new result
-marked_done tells cut change site next old new result some is_way does =
+marked_done tells cut change site next old new result some is_placement does =
     let deeds_are : change_deeds Marked site cut next.failed ≡ change_deeds_of change Marked site cut next.failed = sym (change_is site cut next.failed change Marked some) in
     record {
-      way = Marked;
-      is_way = λ more. is_way;
+      placement = Marked;
+      is_placement = λ more. is_placement;
       begins = λ told e stands. subst (λ (deeds : List Deed). BeginsDeeds e site.told deeds old new) deeds_are (does.begins told e stands);
       does = λ told. subst (λ (deeds : List Deed). OnOk result ((e : Exceptions) → SiteStands e site old → DoesDeeds e site.told deeds old new)) deeds_are (does.does told);
     }

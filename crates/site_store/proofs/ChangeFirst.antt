@@ -16,7 +16,7 @@ use Rattle.site_store.proofs.Single.{no_call}
 use Rattle.xrc_journal.specs.Items.{Item}
 use Rattle.xrc_journal.specs.Jobs.{FailsByCount}
 use Rattle.site_store.specs.declared.store_error.StoreError.{StoreError}
-use Rattle.site_store.specs.declared.way.Way.{Way}
+use Rattle.site_store.specs.declared.placement.Placement.{Placement}
 use Rattle.site_store.specs.Causes.{FailByCounts}
 use Rattle.site_store.specs.Marking.{MakesMark}
 use Rattle.site_store.specs.Recording.{ShowsRecord, group_with}
@@ -66,9 +66,9 @@ module _ (tells : Type 0) (site here : SiteState) (old mid : PlantState) (ended 
 
 -- ---- the change behind it
 
-module _ (tells : Type 0) (first : List Deed) (site here : SiteState) (old mid new : PlantState) (before : ComesFirst tells first site here old mid) (way : Way) (cut : ℕ) (items : List Item) (rows : List PairRow)
+module _ (tells : Type 0) (first : List Deed) (site here : SiteState) (old mid new : PlantState) (before : ComesFirst tells first site here old mid) (placement : Placement) (cut : ℕ) (items : List Item) (rows : List PairRow)
     (logged : tells → (e : Exceptions) → SiteStands e site old → AreRowsLogged here mid cut items rows) (low : here.mark.at.number < 2 ^ 64) (works : WorksOn tells IsJournal mid new) (result : Result (Unit {0}) StoreError)
-    (shows : ShowsRecord tells way here.mark.at here.at (group_with cut items) mid new result) where
+    (shows : ShowsRecord tells placement here.mark.at here.at (group_with cut items) mid new result) where
   abbrev Deeds : List Deed
   Deeds = first ++ Changed cut rows ∷ []
 
@@ -76,18 +76,18 @@ module _ (tells : Type 0) (first : List Deed) (site here : SiteState) (old mid n
   change_begins told e stands =
       let f = excepted_behind site.told first e in
       begin_behind old mid new e site.told first (Changed cut rows ∷ []) (before.does told e stands)
-      (subst (λ (l : List PairRow). BeginsDeeds f l (Changed cut rows ∷ []) mid new) (sym before.rows) (rows_begin tells told f here mid new way cut items rows (before.behind told e stands) (logged told e stands) low works result shows))
+      (subst (λ (l : List PairRow). BeginsDeeds f l (Changed cut rows ∷ []) mid new) (sym before.rows) (rows_begin tells told f here mid new placement cut items rows (before.behind told e stands) (logged told e stands) low works result shows))
 
   pub change_done : tells → OnOk result ((e : Exceptions) → SiteStands e site old → DoesDeeds e site.told Deeds old new)
   change_done told = all_ok result site old (λ e. DoesDeeds e site.told Deeds old new) (λ e stands.
       let f = excepted_behind site.told first e in
       on_ok result (λ (done : DoesDeeds f here.told (Changed cut rows ∷ []) mid new). go_on old mid new e site.told first (Changed cut rows ∷ []) (before.does told e stands)
       (subst (λ (l : List PairRow). DoesDeeds f l (Changed cut rows ∷ []) mid new) (sym before.rows) done))
-      (rows_done tells told f here mid new way cut items rows (before.behind told e stands) (logged told e stands) low works result shows))
+      (rows_done tells told f here mid new placement cut items rows (before.behind told e stands) (logged told e stands) low works result shows))
 
-  pub change_stands : tells → OnOk result ((e : Exceptions) → SiteStands e site old → SiteStands e (with_logged_rows mid.journals way cut items rows here) new)
-  change_stands told = all_ok result site old (λ e. SiteStands e (with_logged_rows mid.journals way cut items rows here) new) (λ e stands.
-      rows_stand tells told e here mid new way cut items rows (before.stands told e stands) (logged told e stands) low works result shows)
+  pub change_stands : tells → OnOk result ((e : Exceptions) → SiteStands e site old → SiteStands e (with_logged_rows mid.journals placement cut items rows here) new)
+  change_stands told = all_ok result site old (λ e. SiteStands e (with_logged_rows mid.journals placement cut items rows here) new) (λ e stands.
+      rows_stand tells told e here mid new placement cut items rows (before.stands told e stands) (logged told e stands) low works result shows)
 
 -- ---- devices, counts and jobs
 

@@ -15,7 +15,7 @@ use Rattle.pair_table.specs.declared.row.SuspendCause.TheVariants.{Command as By
 use Rattle.pair_table.specs.Commands.{add_to, added, change_of, devices_of, is_chosen, is_to_suspend, new_row, new_row_for, rows_after, wants_memory}
 use Rattle.pair_table.specs.Naming.{Naming, labelled_device, primary_of}
 use Rattle.pair_table.specs.Refusals.{is_of_primary, is_start, refuses_command, refuses_primary, row_of_primary}
-use Rattle.pair_table.specs.Tables.{KeepsRows, are_below, in_state, is_of, most_rows, none_clash, row_of, with_row, with_state, without_row}
+use Rattle.pair_table.specs.Tables.{AreRowsSound, are_below, in_state, is_of, most_rows, none_clash, row_of, with_row, with_state, without_row}
 use Rattle.pair_table.proofs.AddLaws.{new_pair, with_row-last}
 use Rattle.pair_table.proofs.PutLaws.{number_sym}
 use Rattle.pair_table.proofs.StateLaws.{state_of_primary}
@@ -259,17 +259,17 @@ put_leads volumes row rows few apart below =
 -- ---- a command
 
 module _ (volumes : ℕ) (names : Naming) (time : ℕ) (rows : List PairRow) (below : are_below volumes rows ≡ true) where
-  add_leads : (p s : List ℕ) → KeepsRows rows → refuses_primary p s names rows (primary_of p names) ≡ None → KeepsRows (rows_after names time (AddPair p s) rows) → are_below volumes (rows_after names time (AddPair p s) rows) ≡ true
+  add_leads : (p s : List ℕ) → AreRowsSound rows → refuses_primary p s names rows (primary_of p names) ≡ None → AreRowsSound (rows_after names time (AddPair p s) rows) → are_below volumes (rows_after names time (AddPair p s) rows) ≡ true
       → Lead volumes (changed_items (change_of names (AddPair p s) rows) (rows_after names time (AddPair p s) rows)) rows (rows_after names time (AddPair p s) rows)
   add_leads p s keeps own keeps_then below_then = by_row (row_of_primary p rows) refl keeps_then below_then
     where
-      new : row_of_primary p rows ≡ None → KeepsRows (add_to rows None (new_row_for s (primary_of p names) (labelled_device s names))) → are_below volumes (add_to rows None (new_row_for s (primary_of p names) (labelled_device s names))) ≡ true
+      new : row_of_primary p rows ≡ None → AreRowsSound (add_to rows None (new_row_for s (primary_of p names) (labelled_device s names))) → are_below volumes (add_to rows None (new_row_for s (primary_of p names) (labelled_device s names))) ≡ true
           → Lead volumes (changed_items (added None (labelled_device s names)) (add_to rows None (new_row_for s (primary_of p names) (labelled_device s names)))) rows (add_to rows None (new_row_for s (primary_of p names) (labelled_device s names)))
       new found keeps_then below_then =
           let n = new_pair names rows p s own found in
           let row = new_row s n.volume n.label in
           let last : rows ++ row ∷ [] ≡ with_row row rows = sym (with_row-last row rows n.unused) in
-          let then : KeepsRows (with_row row rows) = subst KeepsRows last (subst (λ (x : Type 0). x) (λ i. KeepsRows (add_to rows None (new_row_for s (n.named i) (n.labelled i)))) keeps_then) in
+          let then : AreRowsSound (with_row row rows) = subst AreRowsSound last (subst (λ (x : Type 0). x) (λ i. AreRowsSound (add_to rows None (new_row_for s (n.named i) (n.labelled i)))) keeps_then) in
           subst (λ (x : Type 0). x)
           (λ i. Lead volumes (changed_items (added None (sym n.labelled i)) (add_to rows None (new_row_for s (sym n.named i) (sym n.labelled i)))) rows (add_to rows None (new_row_for s (sym n.named i) (sym n.labelled i))))
           (subst (λ (l : List PairRow). Lead volumes (changed_items (Added n.label.device) l) rows l) (sym last)
@@ -277,7 +277,7 @@ module _ (volumes : ℕ) (names : Naming) (time : ℕ) (rows : List PairRow) (be
           (subst (λ (l : List PairRow). are_below volumes l ≡ true) last (subst (λ (x : Type 0). x) (λ i. are_below volumes (add_to rows None (new_row_for s (n.named i) (n.labelled i))) ≡ true) below_then))))
 
       old : (r : PairRow) → row_of_primary p rows ≡ Some r → (let then = map (λ o. cond (is_of_primary r.primary o) (in_state Pending o) o) rows in
-          KeepsRows then → are_below volumes then ≡ true → Lead volumes (changed_items (Resumed r.device) then) rows then)
+          AreRowsSound then → are_below volumes then ≡ true → Lead volumes (changed_items (Resumed r.device) then) rows then)
       old r found keeps_then below_then =
           let there = row_there (is_of_primary p) rows r keeps.apart found in
           let is : with_state r.device Pending rows ≡ map (λ o. cond (is_of_primary r.primary o) (in_state Pending o) o) rows = state_of_primary p Pending rows r keeps.apart found in
@@ -285,12 +285,12 @@ module _ (volumes : ℕ) (names : Naming) (time : ℕ) (rows : List PairRow) (be
           subst (λ (o : Option PairRow). Lead volumes (pair_item o ++ []) rows (map (λ k. cond (is_of_primary r.primary k) (in_state Pending k) k) rows)) (sym shown)
           (one_leads volumes (in_state Pending r) rows _ (put_state Pending rows r keeps.apart there ∙ is) (are_by volumes _ keeps_then.few keeps_then.apart below_then))
 
-      by_row : (o : Option PairRow) → row_of_primary p rows ≡ o → KeepsRows (add_to rows o (new_row_for s (primary_of p names) (labelled_device s names))) → are_below volumes (add_to rows o (new_row_for s (primary_of p names) (labelled_device s names))) ≡ true
+      by_row : (o : Option PairRow) → row_of_primary p rows ≡ o → AreRowsSound (add_to rows o (new_row_for s (primary_of p names) (labelled_device s names))) → are_below volumes (add_to rows o (new_row_for s (primary_of p names) (labelled_device s names))) ≡ true
           → Lead volumes (changed_items (added o (labelled_device s names)) (add_to rows o (new_row_for s (primary_of p names) (labelled_device s names)))) rows (add_to rows o (new_row_for s (primary_of p names) (labelled_device s names)))
       by_row (Some r) found keeps_then below_then = old r found keeps_then below_then
       by_row None found keeps_then below_then = new found keeps_then below_then
 
-  suspend_leads : (test : PairRow → Bool) (state : PairState) → KeepsRows rows → (let then = map (λ r. cond (test r) (in_state state r) r) rows in Lead volumes (pairs_of (devices_of (filter test rows)) then) rows then)
+  suspend_leads : (test : PairRow → Bool) (state : PairState) → AreRowsSound rows → (let then = map (λ r. cond (test r) (in_state state r) r) rows in Lead volumes (pairs_of (devices_of (filter test rows)) then) rows then)
   suspend_leads test state keeps =
       subst (λ (l : List Item). Lead volumes l rows (map (λ r. cond (test r) (in_state state r) r) rows)) (sym (pairs_where test state rows keeps.apart)) (record {
         leads = pairs_lead (next_where test state) rows keeps.apart ∙ rows_where test state rows;
@@ -298,7 +298,7 @@ module _ (volumes : ℕ) (names : Naming) (time : ℕ) (rows : List PairRow) (be
       })
 
   -- The items of the change lead to the rows behind the command.
-  pub command_leads : (command : Command) → (wants_memory command ≡ true → KeepsRows rows) → is_start command ≡ false → refuses_command names rows command ≡ None → KeepsRows (rows_after names time command rows) → are_below volumes (rows_after names time command rows) ≡ true
+  pub command_leads : (command : Command) → (wants_memory command ≡ true → AreRowsSound rows) → is_start command ≡ false → refuses_command names rows command ≡ None → AreRowsSound (rows_after names time command rows) → are_below volumes (rows_after names time command rows) ≡ true
       → Lead volumes (changed_items (change_of names command rows) (rows_after names time command rows)) rows (rows_after names time command rows)
   command_leads (Start level) keeps starts own keeps_then below_then = absurd (cc starts)
   command_leads (AddPair p s) keeps starts own keeps_then below_then = add_leads p s (keeps refl) own keeps_then below_then

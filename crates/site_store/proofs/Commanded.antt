@@ -14,7 +14,7 @@ use Rattle.pair_table.specs.declared.row.PairRow.{PairRow}
 use Rattle.pair_table.specs.Commands.{MayCommand, accepted, answer, new_row, rows_after, table_after, wants_memory}
 use Rattle.pair_table.specs.Naming.{Naming, labelled_device, primary_of}
 use Rattle.pair_table.specs.Refusals.{refusal, refuses_command, row_of_primary}
-use Rattle.pair_table.specs.Tables.{KeepsRows, Table, are_below, is_of, with_row}
+use Rattle.pair_table.specs.Tables.{AreRowsSound, Table, are_below, is_of, with_row}
 use Rattle.pair_table.proofs.AddLaws.{label_all}
 use Rattle.state_set.specs.Slots.{started_table}
 use Rattle.site_store.specs.Exceptions.{Exceptions}
@@ -149,13 +149,13 @@ module _ (names : Naming) (site : SiteState) (session : List ℕ) (command : Com
 
   -- ---- the change is to be logged
 
-  pub change_to_log : site.is_ahead ≡ false → site.told ≡ site.table.rows → (wants_memory command ≡ true → KeepsRows site.table.rows) → KeepsRows (table_after names site.table session command at).rows → list_all (λ l. nat_lt l.device (length site.failed)) names.labels ≡ true → are_below (length site.failed) site.table.rows ≡ true
+  pub change_to_log : site.is_ahead ≡ false → site.told ≡ site.table.rows → (wants_memory command ≡ true → AreRowsSound site.table.rows) → AreRowsSound (table_after names site.table session command at).rows → list_all (λ l. nat_lt l.device (length site.failed)) names.labels ≡ true → are_below (length site.failed) site.table.rows ≡ true
       → IsToLog change (with_change (table_after names site.table session command at) change site)
   change_to_log level told keeps keeps_then labels below = record {
     few = subst (λ (c : Change). named_devices c ≤ 64) was_answered.is (few_named names command site.table.rows (λ wants. omega (arith, (keeps wants).few)));
     ahead = λ some. or_right site.is_ahead (alters change) (alters_some change (table_after names site.table session command at).rows some);
     lead =
-        let first = command_leads (length site.failed) names at site.table.rows below command keeps by_itself.starts by_itself.own (subst KeepsRows rows_are keeps_then) (after_below (length site.failed) names at command site.table.rows labels below) in
+        let first = command_leads (length site.failed) names at site.table.rows below command keeps by_itself.starts by_itself.own (subst AreRowsSound rows_are keeps_then) (after_below (length site.failed) names at command site.table.rows labels below) in
         subst (λ (x : Type 0). x) (λ i. Lead (sym (flags_count 0 change site.failed) i) (changed_items (was_answered.is i) (sym rows_are i)) (sym told i) (sym rows_are i)) first;
   }
 

@@ -8,7 +8,7 @@ use Rattle.std.proofs.lemmas.List.{take_more}
 use Rattle.std.proofs.lemmas.Option.{slice_get_within, get_or_from_slice_get}
 use Rattle.pair_table.specs.declared.row.PairRow.{PairRow}
 use Rattle.pair_table.specs.Rows.{keeps_row_rules}
-use Rattle.pair_table.specs.Tables.{KeepsRows, MayPut, clashes, is_of, none_clash, with_row, without_row}
+use Rattle.pair_table.specs.Tables.{AreRowsSound, MayPut, clashes, is_of, none_clash, with_row, without_row}
 use Rattle.pair_table.proofs.AddLaws.{with_row-last}
 use Rattle.pair_table.proofs.TableLaws.{either_false, first_apart, not_false}
 use Rattle.site_store.proofs.Breaks.{eqb_sym_false}
@@ -69,7 +69,7 @@ new_device (r ∷ rows) (suc i) row apart is =
     let differ : (row.device == r.device) ≡ false = eqb_sym_false r.device row.device (none_there (is_of r.device) rows i row first.devices is) in
     (λ j. differ j || new_device rows i row first.others is j)
 
-module _ (rows : List PairRow) (i : ℕ) (row : PairRow) (keeps : KeepsRows rows) (is : slice_get rows i ≡ Some row) where
+module _ (rows : List PairRow) (i : ℕ) (row : PairRow) (keeps : AreRowsSound rows) (is : slice_get rows i ≡ Some row) where
   -- The next row goes behind those before it.
   pub next_row : with_row row (take i rows) ≡ take (i + 1) rows
   next_row =

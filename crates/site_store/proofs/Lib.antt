@@ -76,4 +76,4 @@ pub mod Shutting
 pub mod VolumesStaying
 pub mod Between
 mod WaitingVolumes
-pub mod ByWays
+pub mod ByPlacements

@@ -22,8 +22,8 @@ use Rattle.site_store.specs.Exceptions.{Exceptions}
 use Rattle.site_store.specs.declared.hits.Hits.{Hits}
 use Rattle.site_store.specs.declared.store_error.StoreError.{StoreError}
 use Rattle.site_store.specs.declared.store_error.StoreError.TheVariants.{Spent}
-use Rattle.site_store.specs.declared.way.Way.{Way}
-use Rattle.site_store.specs.declared.way.Way.TheVariants.{Marked as MarkedFirst}
+use Rattle.site_store.specs.declared.placement.Placement.{Placement}
+use Rattle.site_store.specs.declared.placement.Placement.TheVariants.{Marked as MarkedFirst}
 use Rattle.site_store.specs.Causes.{FailByCounts, HasStoreCause}
 use Rattle.site_store.specs.Hits.{AreHits, are_some, with_group_and_hits}
 use Rattle.site_store.specs.Jobs.{body_room}
@@ -33,58 +33,58 @@ use Rattle.site_store.specs.Recording.{HasRoomBehindSwitch, MayPutRecord, ShowsR
 use Rattle.site_store.specs.Records.{IsJournal, IsOfMark, behind_mark, one_more}
 use Rattle.site_store.specs.Sites.{SiteState}
 use Rattle.site_store.specs.Standing.{FitsPlant, Leaves, MayRecord, SiteStands, none_excepted}
-use Rattle.site_store.specs.Ways.{is_spent, record_needs_more, way_from}
+use Rattle.site_store.specs.Placements.{is_spent, record_needs_more, placement_from}
 use Rattle.site_store.proofs.LogFails.{StoresQuiet, cause_then, fails_trans, quiet_reads, spent_cause}
 use Rattle.site_store.proofs.LogForms.{FirstForm, HasPlace, fits_formed, formed_ready, formed_stands, forms_first, group_behind_mark, logs_spent, marked_entries, marked_stage, plain_place, plain_stage}
 use Rattle.site_store.proofs.LogPut.{IsReady, logged_site, may_put}
 use Rattle.site_store.proofs.LogReads.{with_failed}
 use Rattle.site_store.proofs.LogStage.{PutStage, put_cause, put_failed, put_fails, put_leaves, put_logs, put_others}
-use Rattle.site_store.proofs.LogStart.{FormedBy, first_formed, first_rows, formed_short, marked_formed, marked_rows, way_still}
+use Rattle.site_store.proofs.LogStart.{FormedBy, first_formed, first_rows, formed_short, marked_formed, marked_rows, placement_still}
 use Rattle.site_store.proofs.MarkFirst.{room_behind_mark, suffice}
 use Rattle.site_store.proofs.RecordPuts.{on_ok}
 
 -- ---- a record put, from any stage
 
-module _ (tells : Type 0) (group : FormedGroup) (way : Way) (site last : SiteState) (after : List PairRow) (old plant new : PlantState) (items : List Item) (stage : PutStage tells group way site last after old plant new items)
+module _ (tells : Type 0) (group : FormedGroup) (placement : Placement) (site last : SiteState) (after : List PairRow) (old plant new : PlantState) (items : List Item) (stage : PutStage tells group placement site last after old plant new items)
     (read : tells → IsChoice plant plant.clock plant.bytes) (works : WorksOn tells IsJournal plant new) (start : SiteState) (is : site ≡ start) where
   -- The journal was marked at this spot, and the group has this time.
   module _ (from : Spot) (cut : ℕ) (from_is : from ≡ last.mark.at) (cut_is : cut ≡ group.cut.0) where
-    shows_there : (result : Result (Unit {0}) StoreError) → ShowsRecord tells way from last.at (group_with cut items) plant new result → ShowsRecord tells way last.mark.at last.at (group_with group.cut.0 items) plant new result
-    shows_there result shows = subst (λ (n : ℕ). ShowsRecord tells way last.mark.at last.at (group_with n items) plant new result) cut_is (subst (λ (s : Spot). ShowsRecord tells way s last.at (group_with cut items) plant new result) from_is shows)
+    shows_there : (result : Result (Unit {0}) StoreError) → ShowsRecord tells placement from last.at (group_with cut items) plant new result → ShowsRecord tells placement last.mark.at last.at (group_with group.cut.0 items) plant new result
+    shows_there result shows = subst (λ (n : ℕ). ShowsRecord tells placement last.mark.at last.at (group_with n items) plant new result) cut_is (subst (λ (s : Spot). ShowsRecord tells placement s last.at (group_with cut items) plant new result) from_is shows)
 
-    pub end_fails : (next : SiteState) (error : StoreError) → next.failed ≡ last.failed → ShowsRecord tells way from last.at (group_with cut items) plant new (Err error) → LogsBy tells group way start next old new (Err error)
-    end_fails next error failed_is shows = subst (λ (s : SiteState). LogsBy tells group way s next old new (Err error)) is (put_fails tells group way site last after old plant new items stage read works next error failed_is (shows_there (Err error) shows))
+    pub end_fails : (next : SiteState) (error : StoreError) → next.failed ≡ last.failed → ShowsRecord tells placement from last.at (group_with cut items) plant new (Err error) → LogsBy tells group placement start next old new (Err error)
+    end_fails next error failed_is shows = subst (λ (s : SiteState). LogsBy tells group placement s next old new (Err error)) is (put_fails tells group placement site last after old plant new items stage read works next error failed_is (shows_there (Err error) shows))
 
-    pub end_logs : (next : SiteState) → next ≡ logged_site plant.journals way group.cut.0 items after (one_more last.since) last → ShowsRecord tells way from last.at (group_with cut items) plant new (Ok tt) → LogsBy tells group way start next old new (Ok tt)
+    pub end_logs : (next : SiteState) → next ≡ logged_site plant.journals placement group.cut.0 items after (one_more last.since) last → ShowsRecord tells placement from last.at (group_with cut items) plant new (Ok tt) → LogsBy tells group placement start next old new (Ok tt)
     end_logs next next_is shows =
-        subst (λ (s : SiteState). LogsBy tells group way s next old new (Ok tt)) is
-        (subst (λ (n : SiteState). LogsBy tells group way site n old new (Ok tt)) (sym next_is) (put_logs tells group way site last after old plant new items stage read works (shows_there (Ok tt) shows)))
+        subst (λ (s : SiteState). LogsBy tells group placement s next old new (Ok tt)) is
+        (subst (λ (n : SiteState). LogsBy tells group placement site n old new (Ok tt)) (sym next_is) (put_logs tells group placement site last after old plant new items stage read works (shows_there (Ok tt) shows)))
 
-    pub end_leaves : (next : SiteState) → next ≡ logged_site plant.journals way group.cut.0 items after (one_more last.since) last → ShowsRecord tells way from last.at (group_with cut items) plant new (Ok tt) → Leaves tells (λ e. e) start next old new
+    pub end_leaves : (next : SiteState) → next ≡ logged_site plant.journals placement group.cut.0 items after (one_more last.since) last → ShowsRecord tells placement from last.at (group_with cut items) plant new (Ok tt) → Leaves tells (λ e. e) start next old new
     end_leaves next next_is shows =
         subst (λ (s : SiteState). Leaves tells (λ e. e) s next old new) is
-        (subst (λ (n : SiteState). Leaves tells (λ e. e) site n old new) (sym next_is) (put_leaves tells group way site last after old plant new items stage read works (shows_there (Ok tt) shows)))
+        (subst (λ (n : SiteState). Leaves tells (λ e. e) site n old new) (sym next_is) (put_leaves tells group placement site last after old plant new items stage read works (shows_there (Ok tt) shows)))
 
   pub end_others : WorksOnLent tells (IsOfLog start group) old new
-  end_others = subst (λ (s : SiteState). WorksOnLent tells (IsOfLog s group) old new) is (put_others tells group way site last after old plant new items stage read works)
+  end_others = subst (λ (s : SiteState). WorksOnLent tells (IsOfLog s group) old new) is (put_others tells group placement site last after old plant new items stage read works)
 
   pub end_failed : (next : SiteState) → next.failed ≡ last.failed → FailByCounts start.failed next.failed old.faults new.faults
   end_failed next failed_is =
       subst (λ (s : SiteState). FailByCounts s.failed next.failed old.faults new.faults) is
-      (subst (λ (f : List Bool). FailByCounts site.failed f old.faults new.faults) (sym failed_is) (put_failed tells group way site last after old plant new items stage read works))
+      (subst (λ (f : List Bool). FailByCounts site.failed f old.faults new.faults) (sym failed_is) (put_failed tells group placement site last after old plant new items stage read works))
 
   pub end_cause : (result : Result (Unit {0}) StoreError) → HasStoreCause plant.faults new.faults result → HasStoreCause old.faults new.faults result
-  end_cause result cause = put_cause tells group way site last after old plant new items stage read works result cause
+  end_cause result cause = put_cause tells group placement site last after old plant new items stage read works result cause
 
 -- It may be put.
-pub end_may : (tells : Type 0) (group : FormedGroup) (way : Way) (last : SiteState) (after : List PairRow) (plant : PlantState) (items : List Item) (ready : IsReady tells group way last after plant items) (stands : tells → (e : Exceptions) × SiteStands e last plant)
-    (read : tells → IsChoice plant plant.clock plant.bytes) (size : tells → length (plant.bytes (Journal last.at.set)) ≡ plant.lengths (Journal last.at.set)) (from : Spot) (cut : ℕ) → from ≡ last.mark.at → cut ≡ group.cut.0 → MayPutRecord tells way from last.at cut items plant
-end_may tells group way last after plant items ready stands read size from cut from_is cut_is =
-    subst (λ (n : ℕ). MayPutRecord tells way from last.at n items plant) (sym cut_is) (subst (λ (s : Spot). MayPutRecord tells way s last.at group.cut.0 items plant) (sym from_is) (may_put tells group way last after plant items ready stands read size))
+pub end_may : (tells : Type 0) (group : FormedGroup) (placement : Placement) (last : SiteState) (after : List PairRow) (plant : PlantState) (items : List Item) (ready : IsReady tells group placement last after plant items) (stands : tells → (e : Exceptions) × SiteStands e last plant)
+    (read : tells → IsChoice plant plant.clock plant.bytes) (size : tells → length (plant.bytes (Journal last.at.set)) ≡ plant.lengths (Journal last.at.set)) (from : Spot) (cut : ℕ) → from ≡ last.mark.at → cut ≡ group.cut.0 → MayPutRecord tells placement from last.at cut items plant
+end_may tells group placement last after plant items ready stands read size from cut from_is cut_is =
+    subst (λ (n : ℕ). MayPutRecord tells placement from last.at n items plant) (sym cut_is) (subst (λ (s : Spot). MayPutRecord tells placement s last.at group.cut.0 items plant) (sym from_is) (may_put tells group placement last after plant items ready stands read size))
 
 -- ---- the record that was formed first
 
-pub record IsFirst (tells : Type 0) (group : FormedGroup) (site : SiteState) (old mid : PlantState) (failed : List Bool) (items : List Item) (way : Way) : Type 0 where
+pub record IsFirst (tells : Type 0) (group : FormedGroup) (site : SiteState) (old mid : PlantState) (failed : List Bool) (items : List Item) (placement : Placement) : Type 0 where
   pub ready : MayRecord tells site old
   pub may : MayLog site group
   pub told_is : site.told ≡ site.table.rows
@@ -95,7 +95,7 @@ pub record IsFirst (tells : Type 0) (group : FormedGroup) (site : SiteState) (ol
   pub fails : FailByCounts site.failed failed old.faults mid.faults
   pub by_entries : FailByEntries site.table.rows group.entries site.failed failed
   pub short : length (body_spelling items) ≤ body_room site.controls
-  pub way_is : way ≡ way_from mid site.at site.mark.at items
+  pub placement_is : placement ≡ placement_from mid site.at site.mark.at items
 
 module _ (tells : Type 0) (group : FormedGroup) (site : SiteState) (old mid : PlantState) (held now : BodyState) (due was failed : List Bool) (hits : Hits) (ready : MayRecord tells site old) (told_is : site.told ≡ site.table.rows)
     (forms : FormsRecord tells group site.table.rows old held now due failed hits) (are : AreHits site.level group.cut failed false site.table.rows hits) where
@@ -109,9 +109,9 @@ module _ (tells : Type 0) (group : FormedGroup) (site : SiteState) (old mid : Pl
   pub first_after : rows_in_states (with_group_and_hits group hits) site.table.rows ≡ rows_with_record site.level group failed site.told
   first_after = ap (λ (rows : List PairRow). rows_in_states (with_group_and_hits group hits) rows) (sym told_is) ∙ first_rows tells group site old held now due failed hits forms_told ready.fast.fits hits_told
 
-  pub is_first : (way : Way) → MayLog site group → was ≡ site.failed → FailByCounts was failed old.faults mid.faults → FailByEntries site.table.rows group.entries was failed → OnlyReads tells old mid → NoneLent mid → WorksOnLent tells (λ device. (d : ℕ) × (device ≡ Volume d) × HasEntryOn site.table.rows group.entries d) old mid
-      → length group.entries ≤ most_of_control * group.controls → way ≡ way_from mid site.at site.mark.at now.items → IsFirst tells group site old mid failed now.items way
-  is_first way may was_is fails enters reads home works few way_is = record {
+  pub is_first : (placement : Placement) → MayLog site group → was ≡ site.failed → FailByCounts was failed old.faults mid.faults → FailByEntries site.table.rows group.entries was failed → OnlyReads tells old mid → NoneLent mid → WorksOnLent tells (λ device. (d : ℕ) × (device ≡ Volume d) × HasEntryOn site.table.rows group.entries d) old mid
+      → length group.entries ≤ most_of_control * group.controls → placement ≡ placement_from mid site.at site.mark.at now.items → IsFirst tells group site old mid failed now.items placement
+  is_first placement may was_is fails enters reads home works few placement_is = record {
     ready = ready;
     may = may;
     told_is = told_is;
@@ -122,12 +122,12 @@ module _ (tells : Type 0) (group : FormedGroup) (site : SiteState) (old mid : Pl
     fails = subst (λ (f : List Bool). FailByCounts f failed old.faults mid.faults) was_is fails;
     by_entries = subst (λ (f : List Bool). FailByEntries site.table.rows group.entries f failed) was_is enters;
     short = formed_short site.controls group.controls group.entries now.items may.controls few forms.short;
-    way_is = way_is;
+    placement_is = placement_is;
   }
 
-module _ (tells : Type 0) (group : FormedGroup) (site : SiteState) (old mid : PlantState) (failed : List Bool) (items : List Item) (way : Way) (first : IsFirst tells group site old mid failed items way) where
-  first_form : FirstForm tells group site old way failed items
-  first_form = record { are = first.by.are; by_entries = first.by_entries; way_is = first.way_is ∙ way_still old mid site.at site.mark.at items first.works.site }
+module _ (tells : Type 0) (group : FormedGroup) (site : SiteState) (old mid : PlantState) (failed : List Bool) (items : List Item) (placement : Placement) (first : IsFirst tells group site old mid failed items placement) where
+  first_form : FirstForm tells group site old placement failed items
+  first_form = record { are = first.by.are; by_entries = first.by_entries; placement_is = first.placement_is ∙ placement_still old mid site.at site.mark.at items first.works.site }
 
   fits_then : FitsPlant (with_failed failed site) mid
   fits_then =
@@ -148,8 +148,8 @@ module _ (tells : Type 0) (group : FormedGroup) (site : SiteState) (old mid : Pl
 
   -- ---- the numbers don't suffice
 
-  pub spent_logged : (start next : SiteState) → site ≡ start → next.failed ≡ failed → is_spent way site ≡ true → LogsGroup tells group start next old mid (Err Spent)
-  spent_logged start next is failed_is spent = subst (λ (s : SiteState). LogsGroup tells group s next old mid (Err Spent)) is (logs_spent tells group site next old mid failed first.works first.reads first.fails way items spent first_form failed_is)
+  pub spent_logged : (start next : SiteState) → site ≡ start → next.failed ≡ failed → is_spent placement site ≡ true → LogsGroup tells group start next old mid (Err Spent)
+  spent_logged start next is failed_is spent = subst (λ (s : SiteState). LogsGroup tells group s next old mid (Err Spent)) is (logs_spent tells group site next old mid failed first.works first.reads first.fails placement items spent first_form failed_is)
 
   first_others : WorksOnLent tells (IsOfLog site group) old mid
   first_others = works_lent_more tells _ (IsOfLog site group) old mid (λ d is. inr is) first.works
@@ -181,11 +181,11 @@ module _ (tells : Type 0) (group : FormedGroup) (site : SiteState) (old mid : Pl
   mark_may now is = subst (λ (s : SiteState). MayLog s group) (sym is) (record { controls = first.may.controls; entries = first.may.entries; cut = first.may.cut })
 
   module _ (start next now : SiteState) (new : PlantState) (result : Result (Unit {0}) StoreError) (is : site ≡ start) (now_is : now ≡ with_failed failed site) where
-    pub behind_logged : way ≡ MarkedFirst → is_spent way site ≡ false → LogsBy tells group MarkedFirst now next mid new result → FailByCounts now.failed next.failed mid.faults new.faults → ¬ IsErrOf result Spent → LogsGroup tells group start next old new result
-    behind_logged way_is enough logs fails unspent =
+    pub behind_logged : placement ≡ MarkedFirst → is_spent placement site ≡ false → LogsBy tells group MarkedFirst now next mid new result → FailByCounts now.failed next.failed mid.faults new.faults → ¬ IsErrOf result Spent → LogsGroup tells group start next old new result
+    behind_logged placement_is enough logs fails unspent =
         subst (λ (s : SiteState). LogsGroup tells group s next old new result) is
         (group_behind_mark tells group site next old mid failed first.works first.reads first.fails new result stands_then (subst (λ (s : SiteState). LogsBy tells group MarkedFirst s next mid new result) now_is logs)
-        (subst (λ (s : SiteState). FailByCounts s.failed next.failed mid.faults new.faults) now_is fails) items (subst (λ (w : Way). FirstForm tells group site old w failed items) way_is first_form) (subst (λ (w : Way). is_spent w site ≡ false) way_is enough) unspent)
+        (subst (λ (s : SiteState). FailByCounts s.failed next.failed mid.faults new.faults) now_is fails) items (subst (λ (w : Placement). FirstForm tells group site old w failed items) placement_is first_form) (subst (λ (w : Placement). is_spent w site ≡ false) placement_is enough) unspent)
 
     leaves_then : Leaves tells (λ e. e) now next mid new → Leaves tells (λ e. e) start next old new
     leaves_then leaves =
@@ -212,28 +212,28 @@ module _ (tells : Type 0) (group : FormedGroup) (site : SiteState) (old mid : Pl
         (fails_trans site.failed failed next.failed old.faults mid.faults new.faults first.fails (subst (λ (s : SiteState). FailByCounts s.failed next.failed mid.faults new.faults) now_is fails))
 
   -- The numbers of a mark and of a record behind a switch suffice.
-  pub mark_number : way ≡ MarkedFirst → is_spent way site ≡ false → site.mark.number < 2 ^ 64 - 2
-  mark_number way_is enough = (suffice site.at.number site.mark.number fits_then.mark.most (subst (λ (w : Way). record_needs_more w site.at.number site.mark.number ≡ false) way_is enough)).mark_is
+  pub mark_number : placement ≡ MarkedFirst → is_spent placement site ≡ false → site.mark.number < 2 ^ 64 - 2
+  mark_number placement_is enough = (suffice site.at.number site.mark.number fits_then.mark.most (subst (λ (w : Placement). record_needs_more w site.at.number site.mark.number ≡ false) placement_is enough)).mark_is
 
-  pub next_number : way ≡ MarkedFirst → is_spent way site ≡ false → site.at.number < 2 ^ 64 - 2
-  next_number way_is enough = let low = (suffice site.at.number site.mark.number fits_then.mark.most (subst (λ (w : Way). record_needs_more w site.at.number site.mark.number ≡ false) way_is enough)).next_is in omega (arith, low)
+  pub next_number : placement ≡ MarkedFirst → is_spent placement site ≡ false → site.at.number < 2 ^ 64 - 2
+  next_number placement_is enough = let low = (suffice site.at.number site.mark.number fits_then.mark.most (subst (λ (w : Placement). record_needs_more w site.at.number site.mark.number ≡ false) placement_is enough)).next_is in omega (arith, low)
 
   -- ---- without a mark
 
-  module _ (plain : way ≢ MarkedFirst) (enough : is_spent way site ≡ false) where
-    pub plain_ready : IsReady tells group way (with_failed failed site) (rows_with_record site.level group failed site.told) mid items
+  module _ (plain : placement ≢ MarkedFirst) (enough : is_spent placement site ≡ false) where
+    pub plain_ready : IsReady tells group placement (with_failed failed site) (rows_with_record site.level group failed site.told) mid items
     plain_ready =
         formed_ready tells group site old mid failed items (rows_with_record site.level group failed site.told) first.ready.fast.fits first.ready.idle first.may.cut first.by.are first.by.fit first.by.have first.by.told_by first.works first.reads first.home first.fails first.short
-        way (plain_place site.controls site.mark.number mid site.at site.mark.at items way fits_then.lengths fits_then.set first.short first.way_is plain enough)
+        placement (plain_place site.controls site.mark.number mid site.at site.mark.at items placement fits_then.lengths fits_then.set first.short first.placement_is plain enough)
 
-    pub plain_put : (new : PlantState) → PutStage tells group way site (with_failed failed site) (rows_with_record site.level group failed site.told) old mid new items
-    plain_put new = plain_stage tells group way site old mid new failed items plain first.works first.reads first.fails first.by_entries plain_ready stands_then
+    pub plain_put : (new : PlantState) → PutStage tells group placement site (with_failed failed site) (rows_with_record site.level group failed site.told) old mid new items
+    plain_put new = plain_stage tells group placement site old mid new failed items plain first.works first.reads first.fails first.by_entries plain_ready stands_then
 
     -- The group is logged as the parts say.
-    pub plain_group : (start next : SiteState) (new : PlantState) (result : Result (Unit {0}) StoreError) → site ≡ start → ¬ IsErrOf result Spent → FailByCounts failed next.failed mid.faults new.faults → (way ≢ MarkedFirst → OnOk result (next.waiting ≡ items))
-        → LogsBy tells group way start next old new result → LogsGroup tells group start next old new result
-    plain_group start next new result is unspent fails here logs = subst (λ (s : SiteState). LogsBy tells group way s next old new result → LogsGroup tells group s next old new result) is
-        (λ by. record { way = way; first = forms_first tells group way site next old mid new failed items result first_form enough unspent first.fails fails here; logs = by; early_has = λ marked. absurd (plain marked) }) logs
+    pub plain_group : (start next : SiteState) (new : PlantState) (result : Result (Unit {0}) StoreError) → site ≡ start → ¬ IsErrOf result Spent → FailByCounts failed next.failed mid.faults new.faults → (placement ≢ MarkedFirst → OnOk result (next.waiting ≡ items))
+        → LogsBy tells group placement start next old new result → LogsGroup tells group start next old new result
+    plain_group start next new result is unspent fails here logs = subst (λ (s : SiteState). LogsBy tells group placement s next old new result → LogsGroup tells group s next old new result) is
+        (λ by. record { placement = placement; first = forms_first tells group placement site next old mid new failed items result first_form enough unspent first.fails fails here; logs = by; early_has = λ marked. absurd (plain marked) }) logs
 
 -- ---- behind a mark that was made first
 

@@ -32,17 +32,17 @@ use Rattle.site_store.proofs.Moments.{have_begun, more_follow}
 use Rattle.site_means.specs.Walk.{first_unfit}
 use Rattle.site_store.specs.declared.store_error.StoreError.{StoreError}
 use Rattle.site_store.specs.declared.store_error.StoreError.TheVariants.{Spent}
-use Rattle.site_store.specs.declared.way.Way.{Way}
-use Rattle.site_store.specs.declared.way.Way.TheVariants.{Here, Switched, Marked as MarkedFirst}
+use Rattle.site_store.specs.declared.placement.Placement.{Placement}
+use Rattle.site_store.specs.declared.placement.Placement.TheVariants.{Here, Switched, Marked as MarkedFirst}
 use Rattle.site_store.specs.Causes.{FailByCounts}
 use Rattle.site_store.specs.Jobs.{body_room}
 use Rattle.site_store.specs.Logging.{AreItemsOf, FailByEntries, FailedBetween, HasEntryOn, FormsFirst, IsOfLog, IsOfSomeRow, LogsBy, LogsGroup, is_entry_of_device, failed_before, log_deeds, rows_before, rows_logged}
 use Rattle.site_store.specs.Marking.{MakesMark}
 use Rattle.site_store.specs.Recording.{HasRoomBy}
-use Rattle.site_store.specs.Records.{IsOfMark, behind_mark, behind_record, behind_way, one_more}
+use Rattle.site_store.specs.Records.{IsOfMark, behind_mark, behind_record, behind_placement, one_more}
 use Rattle.site_store.specs.Sites.{SiteState}
 use Rattle.site_store.specs.Standing.{FitsPlant, HasLengths, Leaves, SiteStands, none_excepted, row_has_volume}
-use Rattle.site_store.specs.Ways.{is_spent, most, record_has_room, record_needs_more, way_from, way_of}
+use Rattle.site_store.specs.Placements.{is_spent, most, record_has_room, record_needs_more, placement_from, placement_of}
 use Rattle.site_store.proofs.LogFails.{StoresQuiet, fails_between, fails_trans, quiet_reads, quiet_trans, stays_failed, was_good}
 use Rattle.site_store.proofs.LogPut.{IsReady, logged_site}
 use Rattle.site_store.proofs.LogReads.{fits_failed, fits_still, items_still, rows_still, stands_read, with_failed}
@@ -53,22 +53,22 @@ use Rattle.site_store.proofs.MarkFirst.{begins_behind_mark, begins_behind_none, 
 
 -- ---- the record's room
 
-pub record HasPlace (plant : PlantState) (way : Way) (from at : Spot) (items : List Item) : Type 0 where
-  pub room : HasRoomBy plant way from at items
+pub record HasPlace (plant : PlantState) (placement : Placement) (from at : Spot) (items : List Item) : Type 0 where
+  pub room : HasRoomBy plant placement from at items
   pub number : at.number ≤ 2 ^ 64 - 2
 
--- By a way without a mark the record has room, and a number.
-pub plain_place : (controls mark : ℕ) (plant : PlantState) (at from : Spot) (items : List Item) (way : Way) → HasLengths controls plant → at.set < plant.journals → length (body_spelling items) ≤ body_room controls → way ≡ way_from plant at from items → way ≢ MarkedFirst
-    → record_needs_more way at.number mark ≡ false → HasPlace plant way from at items
-plain_place controls mark plant at from items way lengths there short way_is plain enough = by_room (record_has_room plant at items) refl way_is
+-- By a placement without a mark the record has room, and a number.
+pub plain_place : (controls mark : ℕ) (plant : PlantState) (at from : Spot) (items : List Item) (placement : Placement) → HasLengths controls plant → at.set < plant.journals → length (body_spelling items) ≤ body_room controls → placement ≡ placement_from plant at from items → placement ≢ MarkedFirst
+    → record_needs_more placement at.number mark ≡ false → HasPlace plant placement from at items
+plain_place controls mark plant at from items placement lengths there short placement_is plain enough = by_room (record_has_room plant at items) refl placement_is
   where
-    place_at : (w : Way) → way ≡ w → HasPlace plant w from at items → HasPlace plant way from at items
-    place_at w is place = subst (λ (v : Way). HasPlace plant v from at items) (sym is) place
+    place_at : (w : Placement) → placement ≡ w → HasPlace plant w from at items → HasPlace plant placement from at items
+    place_at w is place = subst (λ (v : Placement). HasPlace plant v from at items) (sym is) place
 
-    number_at : (w : Way) → way ≡ w → record_needs_more w at.number mark ≡ false
-    number_at w is = subst (λ (v : Way). record_needs_more v at.number mark ≡ false) is enough
+    number_at : (w : Placement) → placement ≡ w → record_needs_more w at.number mark ≡ false
+    number_at w is = subst (λ (v : Placement). record_needs_more v at.number mark ≡ false) is enough
 
-    by_next : record_has_room plant at items ≡ false → (b : Bool) → (next_set plant.journals at.set == from.set) ≡ b → way ≡ (if b then MarkedFirst else Switched) → HasPlace plant way from at items
+    by_next : record_has_room plant at items ≡ false → (b : Bool) → (next_set plant.journals at.set == from.set) ≡ b → placement ≡ (if b then MarkedFirst else Switched) → HasPlace plant placement from at items
     by_next full true same is = absurd (plain is)
     by_next full false apart is =
         let less = leb-false most at.number (number_at Switched is) in
@@ -81,7 +81,7 @@ plain_place controls mark plant at from items way lengths there short way_is pla
           number = omega (arith, less);
         })
 
-    by_room : (b : Bool) → record_has_room plant at items ≡ b → way ≡ (if b then Here else (if next_set plant.journals at.set == from.set then MarkedFirst else Switched)) → HasPlace plant way from at items
+    by_room : (b : Bool) → record_has_room plant at items ≡ b → placement ≡ (if b then Here else (if next_set plant.journals at.set == from.set then MarkedFirst else Switched)) → HasPlace plant placement from at items
     by_room true has is =
         let long = leb-true (at.place + 22 + length (body_spelling items) + 24) (plant.lengths (Journal at.set)) has in
         let low = ltb_low at.number (number_at Here is) in
@@ -102,8 +102,8 @@ module _ (tells : Type 0) (group : FormedGroup) (site : SiteState) (old mid : Pl
   fits_formed = fits_failed site mid failed fails.size (fits_still old mid works.site site home fits)
 
   -- It is ready, where it has room.
-  pub formed_ready : (way : Way) → HasPlace mid way site.mark.at site.at items → IsReady tells group way (with_failed failed site) after mid items
-  formed_ready way place = record {
+  pub formed_ready : (placement : Placement) → HasPlace mid placement site.mark.at site.at items → IsReady tells group placement (with_failed failed site) after mid items
+  formed_ready placement place = record {
     fits = fits_formed;
     idle = idle;
     late = late;
@@ -123,59 +123,59 @@ module _ (tells : Type 0) (group : FormedGroup) (site : SiteState) (old mid : Pl
 
 -- ---- without a mark
 
-plain_before : (way : Way) (site : SiteState) (early : List Bool) → way ≢ MarkedFirst → site.told ≡ rows_before way site early
+plain_before : (placement : Placement) (site : SiteState) (early : List Bool) → placement ≢ MarkedFirst → site.told ≡ rows_before placement site early
 plain_before Here site early plain = refl
 plain_before Switched site early plain = refl
 plain_before MarkedFirst site early plain = absurd (plain refl)
 
-plain_after : (way : Way) (site : SiteState) (group : FormedGroup) (early failed : List Bool) → way ≢ MarkedFirst → rows_with_record site.level group failed site.told ≡ rows_logged way site group early failed
+plain_after : (placement : Placement) (site : SiteState) (group : FormedGroup) (early failed : List Bool) → placement ≢ MarkedFirst → rows_with_record site.level group failed site.told ≡ rows_logged placement site group early failed
 plain_after Here site group early failed plain = refl
 plain_after Switched site group early failed plain = refl
 plain_after MarkedFirst site group early failed plain = absurd (plain refl)
 
-plain_deeds : (way : Way) (site : SiteState) (group : FormedGroup) (early failed : List Bool) → way ≢ MarkedFirst → (let deed : Deed = Logged group.cut.0 group.entries (rows_with_record site.level group failed site.told) in deed ∷ [] ≡ log_deeds way site group early failed)
+plain_deeds : (placement : Placement) (site : SiteState) (group : FormedGroup) (early failed : List Bool) → placement ≢ MarkedFirst → (let deed : Deed = Logged group.cut.0 group.entries (rows_with_record site.level group failed site.told) in deed ∷ [] ≡ log_deeds placement site group early failed)
 plain_deeds Here site group early failed plain = refl
 plain_deeds Switched site group early failed plain = refl
 plain_deeds MarkedFirst site group early failed plain = absurd (plain refl)
 
-plain_failed : (way : Way) (site : SiteState) (early : List Bool) → way ≢ MarkedFirst → site.failed ≡ failed_before way site early
+plain_failed : (placement : Placement) (site : SiteState) (early : List Bool) → placement ≢ MarkedFirst → site.failed ≡ failed_before placement site early
 plain_failed Here site early plain = refl
 plain_failed Switched site early plain = refl
 plain_failed MarkedFirst site early plain = absurd (plain refl)
 
-plain_next : (way : Way) (sets cut : ℕ) (site : SiteState) (items : List Item) (after : List PairRow) (failed : List Bool) → way ≢ MarkedFirst
-    → logged_site sets way cut items after (one_more site.since) (with_failed failed site) ≡ record (behind_record sets way cut items after failed site) { since = one_more (behind_way way site).since; waiting = items }
+plain_next : (placement : Placement) (sets cut : ℕ) (site : SiteState) (items : List Item) (after : List PairRow) (failed : List Bool) → placement ≢ MarkedFirst
+    → logged_site sets placement cut items after (one_more site.since) (with_failed failed site) ≡ record (behind_record sets placement cut items after failed site) { since = one_more (behind_placement placement site).since; waiting = items }
 plain_next Here sets cut site items after failed plain = refl
 plain_next Switched sets cut site items after failed plain = refl
 plain_next MarkedFirst sets cut site items after failed plain = absurd (plain refl)
 
-module _ (tells : Type 0) (group : FormedGroup) (way : Way) (site : SiteState) (old mid new : PlantState) (failed : List Bool) (items : List Item) (plain : way ≢ MarkedFirst)
+module _ (tells : Type 0) (group : FormedGroup) (placement : Placement) (site : SiteState) (old mid new : PlantState) (failed : List Bool) (items : List Item) (plain : placement ≢ MarkedFirst)
     (works : WorksOnLent tells (λ device. (d : ℕ) × (device ≡ Volume d) × HasEntryOn site.table.rows group.entries d) old mid) (reads : OnlyReads tells old mid) (fails : FailByCounts site.failed failed old.faults mid.faults)
-    (enters : FailByEntries site.table.rows group.entries site.failed failed) (ready : IsReady tells group way (with_failed failed site) (rows_with_record site.level group failed site.told) mid items)
+    (enters : FailByEntries site.table.rows group.entries site.failed failed) (ready : IsReady tells group placement (with_failed failed site) (rows_with_record site.level group failed site.told) mid items)
     (stands : tells → (e : Exceptions) → SiteStands e site old → SiteStands e (with_failed failed site) mid) where
-  plain_seen : tells → (e : Exceptions) → SiteStands e site old → SeenFrom group way failed site (with_failed failed site) (rows_with_record site.level group failed site.told) old mid new e
+  plain_seen : tells → (e : Exceptions) → SiteStands e site old → SeenFrom group placement failed site (with_failed failed site) (rows_with_record site.level group failed site.told) old mid new e
   plain_seen told e stood = record {
     excepted = e;
     stands = stands told e stood;
     fewer = λ d x is. is;
     begins = λ begins.
-        subst (λ (deeds : List Deed). BeginsDeeds e site.told deeds old new) (plain_deeds way site group failed failed plain)
+        subst (λ (deeds : List Deed). BeginsDeeds e site.told deeds old new) (plain_deeds placement site group failed failed plain)
         (begins_behind_none old mid new e site.told (Logged group.cut.0 group.entries (rows_with_record site.level group failed site.told) ∷ []) (reads_do tells _ old mid works reads told e site.told) begins);
     does = λ does.
-        subst (λ (deeds : List Deed). DoesDeeds e site.told deeds old new) (plain_deeds way site group failed failed plain)
+        subst (λ (deeds : List Deed). DoesDeeds e site.told deeds old new) (plain_deeds placement site group failed failed plain)
         (does_behind_none old mid new e site.told (Logged group.cut.0 group.entries (rows_with_record site.level group failed site.told) ∷ []) (reads_do tells _ old mid works reads told e site.told) does);
   }
 
-  pub plain_stage : PutStage tells group way site (with_failed failed site) (rows_with_record site.level group failed site.told) old mid new items
+  pub plain_stage : PutStage tells group placement site (with_failed failed site) (rows_with_record site.level group failed site.told) old mid new items
   plain_stage = record {
     ready = ready;
     early = failed;
     early_failed = record { before = stays_failed site.failed failed old.faults mid.faults fails; behind = λ d is. is };
-    by_entries = subst (λ (f : List Bool). FailByEntries site.table.rows group.entries f failed) (plain_failed way site failed plain) enters;
-    before_is = plain_before way site failed plain;
-    after_is = plain_after way site group failed failed plain;
+    by_entries = subst (λ (f : List Bool). FailByEntries site.table.rows group.entries f failed) (plain_failed placement site failed plain) enters;
+    before_is = plain_before placement site failed plain;
+    after_is = plain_after placement site group failed failed plain;
     bytes = λ told d. reads.bytes told (Volume d);
-    next_is = λ sets. plain_next way sets group.cut.0 site items (rows_with_record site.level group failed site.told) failed plain;
+    next_is = λ sets. plain_next placement sets group.cut.0 site items (rows_with_record site.level group failed site.told) failed plain;
     seen = plain_seen;
     fails = fails;
     quiet = quiet_reads tells (λ d. HasEntryOn site.table.rows group.entries d) old mid works;
@@ -313,21 +313,21 @@ module _ (tells : Type 0) (group : FormedGroup) (site : SiteState) (early : List
 
 -- ---- the record as it was formed first
 
-pub record FirstForm (tells : Type 0) (group : FormedGroup) (site : SiteState) (old : PlantState) (way : Way) (failed : List Bool) (items : List Item) : Type 0 where
+pub record FirstForm (tells : Type 0) (group : FormedGroup) (site : SiteState) (old : PlantState) (placement : Placement) (failed : List Bool) (items : List Item) : Type 0 where
   pub are : AreItemsOf tells group failed site.told (rows_with_record site.level group failed site.told) old items
   pub by_entries : FailByEntries site.table.rows group.entries site.failed failed
-  pub way_is : way ≡ way_of old site items
+  pub placement_is : placement ≡ placement_of old site items
 
--- It decides the way, and whether the group is logged at all.
-pub forms_first : (tells : Type 0) (group : FormedGroup) (way : Way) (site next : SiteState) (old mid new : PlantState) (failed : List Bool) (items : List Item) (result : Result (Unit {0}) StoreError) → FirstForm tells group site old way failed items → is_spent way site ≡ false → ¬ IsErrOf result Spent
-    → FailByCounts site.failed failed old.faults mid.faults → FailByCounts failed next.failed mid.faults new.faults → (way ≢ MarkedFirst → OnOk result (next.waiting ≡ items)) → FormsFirst tells group site next old way result
-forms_first tells group way site next old mid new failed items result first enough unspent one two here = record {
+-- It decides the placement, and whether the group is logged at all.
+pub forms_first : (tells : Type 0) (group : FormedGroup) (placement : Placement) (site next : SiteState) (old mid new : PlantState) (failed : List Bool) (items : List Item) (result : Result (Unit {0}) StoreError) → FirstForm tells group site old placement failed items → is_spent placement site ≡ false → ¬ IsErrOf result Spent
+    → FailByCounts site.failed failed old.faults mid.faults → FailByCounts failed next.failed mid.faults new.faults → (placement ≢ MarkedFirst → OnOk result (next.waiting ≡ items)) → FormsFirst tells group site next old placement result
+forms_first tells group placement site next old mid new failed items result first enough unspent one two here = record {
   failed = failed;
   failed_by_then = fails_between site.failed failed next.failed old.faults mid.faults new.faults one two;
   by_entries = first.by_entries;
   items = items;
   are = first.are;
-  way_is = first.way_is;
+  placement_is = first.placement_is;
   spent = (λ is. absurd (unspent is), λ is. absurd (cc (is, enough)));
   here = here;
 }
@@ -335,18 +335,18 @@ forms_first tells group way site next old mid new failed items result first enou
 module _ (tells : Type 0) (group : FormedGroup) (site next : SiteState) (old mid : PlantState) (failed : List Bool) (works : WorksOnLent tells (λ device. (d : ℕ) × (device ≡ Volume d) × HasEntryOn site.table.rows group.entries d) old mid)
     (reads : OnlyReads tells old mid) (fails : FailByCounts site.failed failed old.faults mid.faults) where
   -- Where the numbers don't suffice, nothing is logged.
-  pub logs_spent : (way : Way) (items : List Item) → is_spent way site ≡ true → FirstForm tells group site old way failed items → next.failed ≡ failed → LogsGroup tells group site next old mid (Err Spent)
-  logs_spent way items spent first is = record {
-    way = way;
-    first = record { failed = failed; failed_by_then = between; by_entries = first.by_entries; items = items; are = first.are; way_is = first.way_is; spent = (λ e. spent, λ e. refl); here = λ other. tt };
+  pub logs_spent : (placement : Placement) (items : List Item) → is_spent placement site ≡ true → FirstForm tells group site old placement failed items → next.failed ≡ failed → LogsGroup tells group site next old mid (Err Spent)
+  logs_spent placement items spent first is = record {
+    placement = placement;
+    first = record { failed = failed; failed_by_then = between; by_entries = first.by_entries; items = items; are = first.are; placement_is = first.placement_is; spent = (λ e. spent, λ e. refl); here = λ other. tt };
     logs = record {
       early = failed;
       early_failed = between;
-      by_entries = subst (λ (f : List Bool). FailByEntries site.table.rows group.entries (failed_before way site failed) f) (sym is) (by_way way first.by_entries);
+      by_entries = subst (λ (f : List Bool). FailByEntries site.table.rows group.entries (failed_before placement site failed) f) (sym is) (by_placement placement first.by_entries);
       items = tt;
       next_is = tt;
       does = record {
-        begins = λ told e stood. more_follow old mid e site.told [] (log_deeds way site group failed next.failed) (have_begun old mid e site.told [] (reads_do tells _ old mid works reads told e site.told));
+        begins = λ told e stood. more_follow old mid e site.told [] (log_deeds placement site group failed next.failed) (have_begun old mid e site.told [] (reads_do tells _ old mid works reads told e site.told));
         does = λ told. tt;
       };
     };
@@ -356,10 +356,10 @@ module _ (tells : Type 0) (group : FormedGroup) (site next : SiteState) (old mid
       between : FailedBetween site.failed failed next.failed
       between = record { before = stays_failed site.failed failed old.faults mid.faults fails; behind = λ d down. subst (λ (f : List Bool). is_down f d ≡ true) (sym is) down }
 
-      by_way : (w : Way) → FailByEntries site.table.rows group.entries site.failed failed → FailByEntries site.table.rows group.entries (failed_before w site failed) failed
-      by_way Here enters = enters
-      by_way Switched enters = enters
-      by_way MarkedFirst enters = λ d down. inl down
+      by_placement : (w : Placement) → FailByEntries site.table.rows group.entries site.failed failed → FailByEntries site.table.rows group.entries (failed_before w site failed) failed
+      by_placement Here enters = enters
+      by_placement Switched enters = enters
+      by_placement MarkedFirst enters = λ d down. inl down
 
   -- What is logged behind a mark from there on is logged from the start.
   module _ (new : PlantState) (result : Result (Unit {0}) StoreError) (stands : tells → (e : Exceptions) → SiteStands e site old → SiteStands e (with_failed failed site) mid) (logs : LogsBy tells group MarkedFirst (with_failed failed site) next mid new result)
@@ -393,7 +393,7 @@ module _ (tells : Type 0) (group : FormedGroup) (site next : SiteState) (old mid
     pub group_behind_mark : (items : List Item) → FirstForm tells group site old MarkedFirst failed items → is_spent MarkedFirst site ≡ false → ¬ IsErrOf result Spent → LogsGroup tells group site next old new result
     unfolding forms_first logs_before
     group_behind_mark items first enough unspent = record {
-      way = MarkedFirst;
+      placement = MarkedFirst;
       first = forms_first tells group MarkedFirst site next old mid new failed items result first enough unspent fails later (λ other. absurd (other refl));
       logs = logs_before;
       early_has = λ marked d down. logs.early_failed.before d down;

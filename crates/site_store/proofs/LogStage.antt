@@ -13,11 +13,11 @@ use Rattle.record_rows.specs.Deeds.Deed.{Logged}
 use Rattle.site_store.specs.DoneDeeds.{BeginsDeeds, DoesDeeds}
 use Rattle.site_store.specs.Exceptions.{Exceptions}
 use Rattle.site_store.specs.declared.store_error.StoreError.{StoreError}
-use Rattle.site_store.specs.declared.way.Way.{Way}
+use Rattle.site_store.specs.declared.placement.Placement.{Placement}
 use Rattle.site_store.specs.Causes.{FailByCounts, HasStoreCause}
 use Rattle.site_store.specs.Logging.{AreItemsOf, FailByEntries, FailedBetween, IsOfLog, LogsBy, failed_before, log_deeds, rows_before, rows_logged}
 use Rattle.site_store.specs.Recording.{ShowsRecord, group_with}
-use Rattle.site_store.specs.Records.{IsJournal, behind_record, behind_way, one_more}
+use Rattle.site_store.specs.Records.{IsJournal, behind_record, behind_placement, one_more}
 use Rattle.site_store.specs.Sites.{SiteState, has_failed}
 use Rattle.site_store.specs.Standing.{Leaves, SiteStands}
 use Rattle.site_store.proofs.LogFails.{StoresQuiet, cause_then, fails_still, none_by_journals}
@@ -53,45 +53,45 @@ pub site_back : (old new : PlantState) → SameSite old new → SameSite new old
 site_back old new same = record { journals = sym same.journals; volumes = sym same.volumes; lengths = λ d. sym (same.lengths d) }
 
 -- What stands before the record is put, and how its deed goes on from there.
-pub record SeenFrom (group : FormedGroup) (way : Way) (early : List Bool) (site last : SiteState) (after : List PairRow) (old plant new : PlantState) (e : Exceptions) : Type 0 where
+pub record SeenFrom (group : FormedGroup) (placement : Placement) (early : List Bool) (site last : SiteState) (after : List PairRow) (old plant new : PlantState) (e : Exceptions) : Type 0 where
   pub excepted : Exceptions
   pub stands : SiteStands excepted last plant
   pub fewer : (d x : ℕ) → e d x ≡ false → excepted d x ≡ false
-  pub begins : BeginsDeeds excepted last.told (Logged group.cut.0 group.entries after ∷ []) plant new → BeginsDeeds e site.told (log_deeds way site group early last.failed) old new
-  pub does : DoesDeeds excepted last.told (Logged group.cut.0 group.entries after ∷ []) plant new → DoesDeeds e site.told (log_deeds way site group early last.failed) old new
+  pub begins : BeginsDeeds excepted last.told (Logged group.cut.0 group.entries after ∷ []) plant new → BeginsDeeds e site.told (log_deeds placement site group early last.failed) old new
+  pub does : DoesDeeds excepted last.told (Logged group.cut.0 group.entries after ∷ []) plant new → DoesDeeds e site.told (log_deeds placement site group early last.failed) old new
 
 -- Before the record is put: `site` is the site at the start, and `last` the one then, behind a mark where one was made first.
-pub record PutStage (tells : Type 0) (group : FormedGroup) (way : Way) (site last : SiteState) (after : List PairRow) (old plant new : PlantState) (items : List Item) : Type 0 where
-  pub ready : IsReady tells group way last after plant items
+pub record PutStage (tells : Type 0) (group : FormedGroup) (placement : Placement) (site last : SiteState) (after : List PairRow) (old plant new : PlantState) (items : List Item) : Type 0 where
+  pub ready : IsReady tells group placement last after plant items
   pub early : List Bool
   pub early_failed : FailedBetween site.failed early last.failed
-  pub by_entries : FailByEntries site.table.rows group.entries (failed_before way site early) last.failed
-  pub before_is : last.told ≡ rows_before way site early
-  pub after_is : after ≡ rows_logged way site group early last.failed
+  pub by_entries : FailByEntries site.table.rows group.entries (failed_before placement site early) last.failed
+  pub before_is : last.told ≡ rows_before placement site early
+  pub after_is : after ≡ rows_logged placement site group early last.failed
   pub bytes : tells → (d : ℕ) → plant.bytes (Volume d) ≡ old.bytes (Volume d)
-  pub next_is : (sets : ℕ) → logged_site sets way group.cut.0 items after (one_more last.since) last ≡ record (behind_record sets way group.cut.0 items after last.failed site) { since = one_more (behind_way way site).since; waiting = items }
-  pub seen : tells → (e : Exceptions) → SiteStands e site old → SeenFrom group way early site last after old plant new e
+  pub next_is : (sets : ℕ) → logged_site sets placement group.cut.0 items after (one_more last.since) last ≡ record (behind_record sets placement group.cut.0 items after last.failed site) { since = one_more (behind_placement placement site).since; waiting = items }
+  pub seen : tells → (e : Exceptions) → SiteStands e site old → SeenFrom group placement early site last after old plant new e
   pub fails : FailByCounts site.failed last.failed old.faults plant.faults
   pub quiet : StoresQuiet old.faults plant.faults
   pub works : WorksOnLent tells (IsOfLog site group) old plant
 
-module _ (tells : Type 0) (group : FormedGroup) (way : Way) (site last : SiteState) (after : List PairRow) (old plant new : PlantState) (items : List Item) (stage : PutStage tells group way site last after old plant new items)
+module _ (tells : Type 0) (group : FormedGroup) (placement : Placement) (site last : SiteState) (after : List PairRow) (old plant new : PlantState) (items : List Item) (stage : PutStage tells group placement site last after old plant new items)
     (read : tells → IsChoice plant plant.clock plant.bytes) (works : WorksOn tells IsJournal plant new) where
-  begins_by : (result : Result (Unit {0}) StoreError) → ShowsRecord tells way last.mark.at last.at (group_with group.cut.0 items) plant new result → tells → (e : Exceptions) → SiteStands e site old → BeginsDeeds e site.told (log_deeds way site group stage.early last.failed) old new
+  begins_by : (result : Result (Unit {0}) StoreError) → ShowsRecord tells placement last.mark.at last.at (group_with group.cut.0 items) plant new result → tells → (e : Exceptions) → SiteStands e site old → BeginsDeeds e site.told (log_deeds placement site group stage.early last.failed) old new
   begins_by result shows told e stands =
       let s = stage.seen told e stands in
-      s.begins (put_begins tells group way last after plant items stage.ready told s.excepted s.stands (read told) new works result shows)
+      s.begins (put_begins tells group placement last after plant items stage.ready told s.excepted s.stands (read told) new works result shows)
 
   -- Where it isn't put, the deeds have begun.
-  pub put_fails : (next : SiteState) (error : StoreError) → next.failed ≡ last.failed → ShowsRecord tells way last.mark.at last.at (group_with group.cut.0 items) plant new (Err error) → LogsBy tells group way site next old new (Err error)
+  pub put_fails : (next : SiteState) (error : StoreError) → next.failed ≡ last.failed → ShowsRecord tells placement last.mark.at last.at (group_with group.cut.0 items) plant new (Err error) → LogsBy tells group placement site next old new (Err error)
   put_fails next error is shows = record {
     early = stage.early;
     early_failed = subst (λ (f : List Bool). FailedBetween site.failed stage.early f) (sym is) stage.early_failed;
-    by_entries = subst (λ (f : List Bool). FailByEntries site.table.rows group.entries (failed_before way site stage.early) f) (sym is) stage.by_entries;
+    by_entries = subst (λ (f : List Bool). FailByEntries site.table.rows group.entries (failed_before placement site stage.early) f) (sym is) stage.by_entries;
     items = tt;
     next_is = tt;
     does = record {
-      begins = λ told e stands. subst (λ (f : List Bool). BeginsDeeds e site.told (log_deeds way site group stage.early f) old new) (sym is) (begins_by (Err error) shows told e stands);
+      begins = λ told e stands. subst (λ (f : List Bool). BeginsDeeds e site.told (log_deeds placement site group stage.early f) old new) (sym is) (begins_by (Err error) shows told e stands);
       does = λ told. tt;
     };
   }
@@ -106,35 +106,35 @@ module _ (tells : Type 0) (group : FormedGroup) (way : Way) (site last : SiteSta
   put_failed = fails_still site.failed last.failed old.faults plant.faults new.faults stage.fails (none_by_journals tells plant new works)
 
   -- Once it was put, the group is logged.
-  module _ (shows : ShowsRecord tells way last.mark.at last.at (group_with group.cut.0 items) plant new (Ok tt)) where
+  module _ (shows : ShowsRecord tells placement last.mark.at last.at (group_with group.cut.0 items) plant new (Ok tt)) where
     abbrev next : SiteState
-    next = logged_site plant.journals way group.cut.0 items after (one_more last.since) last
+    next = logged_site plant.journals placement group.cut.0 items after (one_more last.since) last
 
-    items_old : AreItemsOf tells group last.failed (rows_before way site stage.early) after old items
+    items_old : AreItemsOf tells group last.failed (rows_before placement site stage.early) after old items
     items_old =
         subst (λ (rows : List PairRow). AreItemsOf tells group last.failed rows after old items) stage.before_is
         (items_still tells group last.failed last.told after plant old items (site_back old plant stage.works.site) (λ told d. sym (stage.bytes told d)) stage.ready.items_are)
 
-    pub put_logs : LogsBy tells group way site next old new (Ok tt)
+    pub put_logs : LogsBy tells group placement site next old new (Ok tt)
     put_logs = record {
       early = stage.early;
       early_failed = stage.early_failed;
       by_entries = stage.by_entries;
       items = items_old;
       next_is =
-          ap (λ (sets : ℕ). logged_site sets way group.cut.0 items after (one_more last.since) last) stage.works.site.journals ∙ stage.next_is old.journals
-          ∙ ap (λ (rows : List PairRow). record (behind_record old.journals way group.cut.0 items rows last.failed site) { since = one_more (behind_way way site).since; waiting = items }) stage.after_is;
+          ap (λ (sets : ℕ). logged_site sets placement group.cut.0 items after (one_more last.since) last) stage.works.site.journals ∙ stage.next_is old.journals
+          ∙ ap (λ (rows : List PairRow). record (behind_record old.journals placement group.cut.0 items rows last.failed site) { since = one_more (behind_placement placement site).since; waiting = items }) stage.after_is;
       does = record {
         begins = begins_by (Ok tt) shows;
-        does = λ told e stands. let s = stage.seen told e stands in s.does (put_does tells group way last after plant items stage.ready told s.excepted s.stands (read told) new works shows);
+        does = λ told e stands. let s = stage.seen told e stands in s.does (put_does tells group placement last after plant items stage.ready told s.excepted s.stands (read told) new works shows);
       };
     }
 
     -- The site goes on behind it.
     pub put_leaves : Leaves tells (λ e. e) site next old new
     put_leaves = record {
-      fits = fits_logged tells group way last after plant items stage.ready (one_more last.since) new works.site (none_lent_lent tells IsJournal plant new (lent_of_works tells IsJournal plant new works) stage.ready.fits.home);
+      fits = fits_logged tells group placement last after plant items stage.ready (one_more last.since) new works.site (none_lent_lent tells IsJournal plant new (lent_of_works tells IsJournal plant new works) stage.ready.fits.home);
       stands = λ told e stands.
           let s = stage.seen told e stands in
-          stands_more e s.excepted next new s.fewer (put_stands tells group way last after plant items stage.ready told s.excepted s.stands (read told) new works shows (one_more last.since));
+          stands_more e s.excepted next new s.fewer (put_stands tells group placement last after plant items stage.ready told s.excepted s.stands (read told) new works shows (one_more last.since));
     }

@@ -22,14 +22,14 @@ use Rattle.xrc_journal.specs.Bodies.{BodyState}
 use Rattle.xrc_journal.specs.Items.{Item, body_spelling}
 use Rattle.xrc_journal.specs.Records.{next_set}
 use Rattle.site_store.specs.declared.hits.Hits.{Hits}
-use Rattle.site_store.specs.declared.way.Way.TheVariants.{Here, Switched, Marked}
+use Rattle.site_store.specs.declared.placement.Placement.TheVariants.{Here, Switched, Marked}
 use Rattle.site_store.specs.Hits.{AreHits, are_some, with_group_and_hits}
 use Rattle.site_store.specs.Jobs.{body_room}
 use Rattle.site_store.specs.Logging.{AreItemsOf, FormsRecord}
 use Rattle.site_store.specs.Records.{one_more}
 use Rattle.site_store.specs.Sites.{SiteState}
 use Rattle.site_store.specs.Standing.{FitsPlant, row_has_volume}
-use Rattle.site_store.specs.Ways.{way_from}
+use Rattle.site_store.specs.Placements.{placement_from}
 use Rattle.site_store.proofs.Below.{below_volumes}
 use Rattle.site_store.proofs.LogRows.{marked_makes_rows, record_makes_rows}
 use Rattle.site_store.proofs.RecordPairsFit.{next_have_volumes}
@@ -80,9 +80,9 @@ formed_short controls of entries items fit few short = omega (arith, fit, few, s
 pub room_formed : (controls of room : ℕ) (entries : List WaitingEntry) → room ≡ body_room controls → of ≤ controls → length entries ≤ most_of_control * of → 56670 * length entries + 64 * 31 ≤ room
 room_formed controls of room entries is fit few = omega (arith, is, fit, few)
 
--- Reads leave the way.
-pub way_still : (old mid : PlantState) (at marked : Spot) (items : List Item) → SameSite old mid → way_from mid at marked items ≡ way_from old at marked items
-way_still old mid at marked items same = λ i. if nat_le (at.place + 22 + length (body_spelling items) + 24) (same.lengths (Journal at.set) i) then Here else (if next_set (same.journals i) at.set == marked.set then Marked else Switched)
+-- Reads leave the placement.
+pub placement_still : (old mid : PlantState) (at marked : Spot) (items : List Item) → SameSite old mid → placement_from mid at marked items ≡ placement_from old at marked items
+placement_still old mid at marked items same = λ i. if nat_le (at.place + 22 + length (body_spelling items) + 24) (same.lengths (Journal at.set) i) then Here else (if next_set (same.journals i) at.set == marked.set then Marked else Switched)
 
 -- one call more
 pub one_more_is : (since next : ℕ) → (since ≡ 2 ^ 32 - 1 → next ≡ since) → (since ≢ 2 ^ 32 - 1 → next ≡ since + 1) → next ≡ one_more since

@@ -22,13 +22,13 @@ use Rattle.site_store.proofs.Moments.{more_follow}
 use Rattle.site_store.proofs.Single.{reads_and_syncs}
 use Rattle.site_store.proofs.Widening.{begins_still, does_still}
 use Rattle.site_store.specs.declared.store_error.StoreError.{StoreError}
-use Rattle.site_store.specs.declared.way.Way.TheVariants.{Marked as MarkedFirst}
+use Rattle.site_store.specs.declared.placement.Placement.TheVariants.{Marked as MarkedFirst}
 use Rattle.site_store.specs.Jobs.{body_room}
 use Rattle.site_store.specs.Marking.{MakesMark, excepted_with_waiting}
 use Rattle.site_store.specs.Recording.{HasRoomBehindSwitch}
 use Rattle.site_store.specs.Sites.{SiteState}
 use Rattle.site_store.specs.Standing.{HasLengths, SiteStands, none_excepted}
-use Rattle.site_store.specs.Ways.{most, record_needs_more}
+use Rattle.site_store.specs.Placements.{most, record_needs_more}
 use Rattle.site_store.proofs.RecordPuts.{on_ok}
 
 -- ---- the mark

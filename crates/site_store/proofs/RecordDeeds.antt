@@ -1,4 +1,4 @@
--- A record that is put by its way, seen as a deed, over plain states.
+-- A record that is put by its placement, seen as a deed, over plain states.
 use Rattle.std.proofs.Common.{◌≡◌, ◌⊎◌, inl, inr, ℕ, ◌<◌, false, List, [], ◌∷◌, Some, sym, ap, ◌∙◌}
 use Rattle.std.specs.Option.{option_map}
 use Rattle.crash_plant.specs.Calls.{WorksOn}
@@ -22,7 +22,7 @@ use Rattle.site_means.specs.Sight.{content_of, meant_by}
 use Rattle.site_means.specs.Walk.{Walk}
 use Rattle.xrc_journal.specs.Contents.{content_through}
 use Rattle.xrc_journal.specs.Walks.{Logged}
-use Rattle.site_store.specs.declared.way.Way.{Way}
+use Rattle.site_store.specs.declared.placement.Placement.{Placement}
 use Rattle.site_store.specs.Recording.{MeansStill, RecordIsMeant, RecordIsShown, walk_by}
 use Rattle.site_store.specs.Records.{IsJournal}
 use Rattle.site_store.proofs.Calls.{all_weaker}
@@ -51,16 +51,16 @@ module _ (e : Exceptions) (rows : List PairRow) (deed : Deed) (means : Means) (w
     step_by_deed v b c here (inl still) = inl (still_same old e means w b c (all b here) still)
     step_by_deed v b c here (inr more) = inr (group_by_deed v b c here more)
 
-    module _ (tells : Type 0) (told : tells) (way : Way) (new : PlantState) (works : WorksOn tells IsJournal old new) (shown : RecordIsShown way means w g old new) where
+    module _ (tells : Type 0) (told : tells) (placement : Placement) (new : PlantState) (works : WorksOn tells IsJournal old new) (shown : RecordIsShown placement means w g old new) where
       follows : AllFollow (λ b c. MeansTheSame old e b c ⊎ MeansByDeed old e rows deed b c) old new
-      follows = all_weaker old new _ _ shown (λ b c here step. step_by_deed (walk_by old.journals way g w) b c here step)
+      follows = all_weaker old new _ _ shown (λ b c here step. step_by_deed (walk_by old.journals placement g w) b c here step)
 
       -- While it is put the deed begins.
       pub record_begins : BeginsDeeds e rows (deed ∷ []) old new
       record_begins = (one_follows old new e rows deed works.site (works.elapses told) (works.silent told) follows).0
 
       -- Once it was put the deed is done.
-      pub record_does : RecordIsMeant way means w g old new → DoesDeeds e rows (deed ∷ []) old new
+      pub record_does : RecordIsMeant placement means w g old new → DoesDeeds e rows (deed ∷ []) old new
       record_does meant = (one_follows old new e rows deed works.site (works.elapses told) (works.silent told) follows).1 (λ c is.
           let came = meant.follows c is in
-          (came.0, came.1, group_by_deed (walk_by old.journals way g w) came.0 c came.1 came.2))
+          (came.0, came.1, group_by_deed (walk_by old.journals placement g w) came.0 c came.1 came.2))

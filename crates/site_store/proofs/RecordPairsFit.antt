@@ -7,7 +7,7 @@ use Rattle.crash_plant.specs.Moments.{PlantState}
 use Rattle.pair_table.specs.declared.row.PairState.{PairState}
 use Rattle.pair_table.specs.declared.row.PairState.TheVariants.{Pending}
 use Rattle.pair_table.specs.declared.row.PairRow.{PairRow}
-use Rattle.pair_table.specs.Tables.{KeepsRows, clashes, in_state, is_of, none_clash, row_of, with_row, are_below, most_rows}
+use Rattle.pair_table.specs.Tables.{AreRowsSound, clashes, in_state, is_of, none_clash, row_of, with_row, are_below, most_rows}
 use Rattle.pair_table.proofs.TableLaws.{first_apart}
 use Rattle.record_rows.specs.ChangedRows.{rows_in_states}
 use Rattle.record_rows.specs.GroupRows.{row_in}
@@ -123,7 +123,7 @@ pub next_pairs_fit : (next : NextStates) (volumes place : ℕ) (rows : List Pair
 next_pairs_fit next volumes place rows keep apart = pairs_fit volumes place rows rows (pairs_with_next next rows) keep (pairs_among next rows apart) refl
 
 -- The rows of a table are rows of the plant.
-pub table_rows : (plant : PlantState) (rows : List PairRow) → KeepsRows rows → list_all (row_has_volume plant) rows ≡ true → are_rows plant.volumes rows ≡ true
+pub table_rows : (plant : PlantState) (rows : List PairRow) → AreRowsSound rows → list_all (row_has_volume plant) rows ≡ true → are_rows plant.volumes rows ≡ true
 table_rows plant rows keeps have =
     and_from (nat_le (length rows) most_rows && none_clash rows) (are_below plant.volumes rows) (and_from (nat_le (length rows) most_rows) (none_clash rows) (le-leb (length rows) most_rows keeps.few) keeps.apart) (below_volumes plant plant.volumes rows (omega arith) have)
 
@@ -145,7 +145,7 @@ image_fit volumes place (Pair row ∷ images) items rows are fit = absurd cc
 image_fit volumes place (Gone d ∷ images) items rows are fit = absurd cc
 
 -- Behind images the pairs fit still.
-pub formed_fit : (next : NextStates) (plant : PlantState) (images : List Item) (rows : List PairRow) → list_all is_image images ≡ true → KeepsRows rows → list_all (row_has_volume plant) rows ≡ true → first_unfit plant.volumes 0 rows (images ++ pairs_with_next next rows) ≡ None
+pub formed_fit : (next : NextStates) (plant : PlantState) (images : List Item) (rows : List PairRow) → list_all is_image images ≡ true → AreRowsSound rows → list_all (row_has_volume plant) rows ≡ true → first_unfit plant.volumes 0 rows (images ++ pairs_with_next next rows) ≡ None
 formed_fit next plant images rows are keeps have = image_fit plant.volumes 0 images (pairs_with_next next rows) rows are (λ p. next_pairs_fit next plant.volumes p rows (table_rows plant rows keeps have) keeps.apart)
 
 -- ---- the rows behind them

@@ -1,4 +1,4 @@
--- A record put by its way: what is shown while it is put, and what is meant once it was put, over plain states.
+-- A record put by its placement: what is shown while it is put, and what is meant once it was put, over plain states.
 use Rattle.std.proofs.Common.{◌≡◌, ◌⊎◌, inl, inr, ℕ, List, Result, Ok, Err, sym, subst}
 use Rattle.std.specs.Prelude.{OnOk}
 use Rattle.crash_plant.specs.declared.device.Device.{Device}
@@ -19,11 +19,11 @@ use Rattle.site_store.specs.RingPlants.{AllMean, AreDurable, and_switch_for}
 use Rattle.site_store.specs.Ring.{FitsBehind, ShowsGroup, ShowsSame, ShowsSwitch, and_switch, switched_from}
 use Rattle.site_store.proofs.RingPlants.{group_durable, group_meant, group_shown, switch_durable, switch_shown, switched_group_meant, switched_group_shown}
 use Rattle.site_store.specs.declared.store_error.StoreError.{StoreError}
-use Rattle.site_store.specs.declared.way.Way.{Way}
-use Rattle.site_store.specs.declared.way.Way.TheVariants.{Here, Switched, Marked}
+use Rattle.site_store.specs.declared.placement.Placement.{Placement}
+use Rattle.site_store.specs.declared.placement.Placement.TheVariants.{Here, Switched, Marked}
 use Rattle.site_store.specs.Recording.{MeansStill, RecordIsMeant, RecordIsShown, ShowsRecord, walk_behind_record}
 use Rattle.site_store.specs.Records.{IsJournal}
-use Rattle.site_store.specs.Ways.{spot_behind}
+use Rattle.site_store.specs.Placements.{spot_behind}
 use Rattle.site_store.proofs.Calls.{all_weaker}
 
 -- What is so of an answer gives something else.
@@ -41,9 +41,9 @@ still_or_switched : (shape : Shape) (means : Means) (w v : Walk) (g : Logged) (b
 still_or_switched shape means w v g b c (inl still) = inl (record { walk = w; shows = still })
 still_or_switched shape means w v g b c (inr switched) = inl (record { walk = and_switch g.time (switched_from shape.sets w) w; shows = switched })
 
-still_by_way : (shape : Shape) (means : Means) (w v : Walk) (g : Logged) (b c : Choice) → ShowsSame shape means w b c ⊎ (ShowsSwitch shape g.time means w b c ⊎ ShowsGroup shape g means v b c) → MeansStill shape means b c ⊎ ShowsGroup shape g means v b c
-still_by_way shape means w v g b c (inl still) = inl (record { walk = w; shows = still })
-still_by_way shape means w v g b c (inr step) = still_behind step
+still_by_placement : (shape : Shape) (means : Means) (w v : Walk) (g : Logged) (b c : Choice) → ShowsSame shape means w b c ⊎ (ShowsSwitch shape g.time means w b c ⊎ ShowsGroup shape g means v b c) → MeansStill shape means b c ⊎ ShowsGroup shape g means v b c
+still_by_placement shape means w v g b c (inl still) = inl (record { walk = w; shows = still })
+still_by_placement shape means w v g b c (inr step) = still_behind step
   where
     still_behind : ShowsSwitch shape g.time means w b c ⊎ ShowsGroup shape g means v b c → MeansStill shape means b c ⊎ ShowsGroup shape g means v b c
     still_behind (inl switched) = inl (record { walk = and_switch g.time (switched_from shape.sets w) w; shows = switched })
@@ -112,7 +112,7 @@ module _ (tells : Type 0) (from at : Spot) (g : Logged) (old mid new : PlantStat
       let put : SwitchIsPut means.from w.at g.time old mid = subst (λ (f : Spot). SwitchIsPut f w.at g.time old mid) (sym begins) (subst (λ (s : Spot). SwitchIsPut from s g.time old mid) (sym ends) switched) in
       let grouping : AllPutGroup means.from (switched_from old.journals w) g mid new = subst (λ (f : Spot). AllPutGroup f (switched_from old.journals w) g mid new) (sym begins) (subst (λ (s : Spot). AllPutGroup from (behind old.journals s) g mid new) (sym ends) (two.moments told)) in
       all_weaker old new _ _ (switched_group_shown old mid new means w g one.works.site ((one.works.elapses told).kept Control).later two.works.site (two.works.elapses told) all fits switching put grouping)
-      (λ b c here step. still_by_way (shape_of old) means w (and_switch_for old.journals g w) g b c step)
+      (λ b c here step. still_by_placement (shape_of old) means w (and_switch_for old.journals g w) g b c step)
 
   both_meant : SwitchIsPut from at g.time old mid → GroupIsPut from (behind old.journals at) g mid new → (means : Means) (w : Walk) → means.from ≡ from → w.at ≡ at → AllMean old means w → FitsBehind old.volumes means w g → RecordIsMeant Switched means w g old new
   both_meant switched grouped means w begins ends all fits =
@@ -161,20 +161,20 @@ one_journal tells set old new works = works_on_more tells _ _ _ _ (λ d is. subs
 pub both_journals : (tells : Type 0) (at : Spot) (set : ℕ) (old mid new : PlantState) → WorksOn tells (IsOfSwitch old.journals at) old mid → WorksOn tells (λ d. d ≡ Journal set) mid new → WorksOn tells IsJournal old new
 both_journals tells at set old mid new one two = works_on_trans tells _ _ _ _ (works_on_more tells _ _ _ _ (of_journals old.journals at) one) (one_journal tells set mid new two)
 
--- ---- by its way
+-- ---- by its placement
 
-pub here_by_way : (tells : Type 0) (way : Way) (from at : Spot) (g : Logged) (old new : PlantState) (result : Result (Unit {0}) StoreError) → way ≡ Here → ShowsRecord tells Here from at g old new result → ShowsRecord tells way from at g old new result
-here_by_way tells way from at g old new result is shows = subst (λ (w : Way). ShowsRecord tells w from at g old new result) (sym is) shows
+pub here_by_placement : (tells : Type 0) (placement : Placement) (from at : Spot) (g : Logged) (old new : PlantState) (result : Result (Unit {0}) StoreError) → placement ≡ Here → ShowsRecord tells Here from at g old new result → ShowsRecord tells placement from at g old new result
+here_by_placement tells placement from at g old new result is shows = subst (λ (w : Placement). ShowsRecord tells w from at g old new result) (sym is) shows
 
 -- Behind a mark a record comes as behind a switch.
 marked_as_switched : (tells : Type 0) (from at : Spot) (g : Logged) (old new : PlantState) (result : Result (Unit {0}) StoreError) → ShowsRecord tells Switched from at g old new result → ShowsRecord tells Marked from at g old new result
 marked_as_switched tells from at g old new result shows = record { shown = shows.shown; meant = shows.meant; durable = shows.durable }
 
-pub switched_by_way : (tells : Type 0) (way : Way) (from at : Spot) (g : Logged) (old new : PlantState) (result : Result (Unit {0}) StoreError) → (way ≡ Switched) ⊎ (way ≡ Marked) → ShowsRecord tells Switched from at g old new result
-    → ShowsRecord tells way from at g old new result
-switched_by_way tells way from at g old new result (inl is) shows = subst (λ (w : Way). ShowsRecord tells w from at g old new result) (sym is) shows
-switched_by_way tells way from at g old new result (inr is) shows = subst (λ (w : Way). ShowsRecord tells w from at g old new result) (sym is) (marked_as_switched tells from at g old new result shows)
+pub switched_by_placement : (tells : Type 0) (placement : Placement) (from at : Spot) (g : Logged) (old new : PlantState) (result : Result (Unit {0}) StoreError) → (placement ≡ Switched) ⊎ (placement ≡ Marked) → ShowsRecord tells Switched from at g old new result
+    → ShowsRecord tells placement from at g old new result
+switched_by_placement tells placement from at g old new result (inl is) shows = subst (λ (w : Placement). ShowsRecord tells w from at g old new result) (sym is) shows
+switched_by_placement tells placement from at g old new result (inr is) shows = subst (λ (w : Placement). ShowsRecord tells w from at g old new result) (sym is) (marked_as_switched tells from at g old new result shows)
 
-pub spot_by_way : (sets : ℕ) (way : Way) (items : List Item) (at there : Spot) (result : Result (Unit {0}) StoreError) → (way ≡ Switched) ⊎ (way ≡ Marked) → OnOk result (there ≡ spot_behind sets Switched items at) → OnOk result (there ≡ spot_behind sets way items at)
-spot_by_way sets way items at there result (inl is) comes = subst (λ (w : Way). OnOk result (there ≡ spot_behind sets w items at)) (sym is) comes
-spot_by_way sets way items at there result (inr is) comes = subst (λ (w : Way). OnOk result (there ≡ spot_behind sets w items at)) (sym is) comes
+pub spot_by_placement : (sets : ℕ) (placement : Placement) (items : List Item) (at there : Spot) (result : Result (Unit {0}) StoreError) → (placement ≡ Switched) ⊎ (placement ≡ Marked) → OnOk result (there ≡ spot_behind sets Switched items at) → OnOk result (there ≡ spot_behind sets placement items at)
+spot_by_placement sets placement items at there result (inl is) comes = subst (λ (w : Placement). OnOk result (there ≡ spot_behind sets w items at)) (sym is) comes
+spot_by_placement sets placement items at there result (inr is) comes = subst (λ (w : Placement). OnOk result (there ≡ spot_behind sets w items at)) (sym is) comes

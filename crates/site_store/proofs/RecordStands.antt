@@ -14,37 +14,37 @@ use Rattle.site_means.proofs.Contents.{items_last}
 use Rattle.xrc_journal.specs.Contents.{HasItem}
 use Rattle.xrc_journal.specs.Items.{Item}
 use Rattle.xrc_journal.specs.Walks.{Logged}
-use Rattle.site_store.specs.declared.way.Way.{Way}
-use Rattle.site_store.specs.declared.way.Way.TheVariants.{Here, Switched, Marked}
+use Rattle.site_store.specs.declared.placement.Placement.{Placement}
+use Rattle.site_store.specs.declared.placement.Placement.TheVariants.{Here, Switched, Marked}
 use Rattle.site_store.specs.Recording.{RecordIsMeant, walk_behind_record, walk_by}
 use Rattle.site_store.specs.Records.{IsJournal}
 use Rattle.site_store.specs.Sites.{SiteState, has_failed, is_written, meant_for}
 use Rattle.site_store.specs.Standing.{AreApplied, SiteStands}
 use Rattle.site_store.proofs.Calls.{durable_still}
 
--- A record's way leaves the items of the walk.
-same_items : (sets : ℕ) (way : Way) (g : Logged) (w : Walk) → walk_items (walk_by sets way g w) ≡ walk_items w
+-- A record's placement leaves the items of the walk.
+same_items : (sets : ℕ) (placement : Placement) (g : Logged) (w : Walk) → walk_items (walk_by sets placement g w) ≡ walk_items w
 same_items sets Here g w = refl
 same_items sets Switched g w = refl
 same_items sets Marked g w = refl
 
 -- The site behind the record of a group: it means the group more, the group's items wait, and each job that fails meanwhile is told.
-pub record IsBehindGroup (sets : ℕ) (way : Way) (g : Logged) (w : Walk) (site next : SiteState) : Type 0 where
+pub record IsBehindGroup (sets : ℕ) (placement : Placement) (g : Logged) (w : Walk) (site next : SiteState) : Type 0 where
   pub meant_is : with_group g (meant_for site) ≡ meant_for next
   pub mark_is : next.mark ≡ site.mark
-  pub at_is : (walk_behind_record sets way g w).at ≡ next.at
+  pub at_is : (walk_behind_record sets placement g w).at ≡ next.at
   pub time_is : g.time ≡ next.time
   pub waiting_is : next.waiting ≡ g.items
   pub failed : (d : ℕ) → has_failed next d ≡ false → has_failed site d ≡ false
   pub written : (d : ℕ) → is_written next d ≡ is_written site d
 
-module _ (tells : Type 0) (told : tells) (e : Exceptions) (site next : SiteState) (old new : PlantState) (way : Way) (g : Logged) (stands : SiteStands e site old) (idle : site.waiting ≡ []) (works : WorksOn tells IsJournal old new)
-    (is : IsBehindGroup old.journals way g stands.walk site next) where
+module _ (tells : Type 0) (told : tells) (e : Exceptions) (site next : SiteState) (old new : PlantState) (placement : Placement) (g : Logged) (stands : SiteStands e site old) (idle : site.waiting ≡ []) (works : WorksOn tells IsJournal old new)
+    (is : IsBehindGroup old.journals placement g stands.walk site next) where
   abbrev w : Walk
   w = stands.walk
 
   abbrev after : Walk
-  after = walk_behind_record old.journals way g w
+  after = walk_behind_record old.journals placement g w
 
   done_all : stands.done ≡ walk_items w
   done_all = sym (append-nil stands.done) ∙ sym (ap (λ (l : List Item). stands.done ++ l) idle) ∙ sym stands.items
@@ -69,7 +69,7 @@ module _ (tells : Type 0) (told : tells) (e : Exceptions) (site next : SiteState
   ]
 
   -- Once the record was put, the site stands behind it.
-  pub group_stands : RecordIsMeant way (meant_for site) w g old new → AreDurable new after.entered → SiteStands e next new
+  pub group_stands : RecordIsMeant placement (meant_for site) w g old new → AreDurable new after.entered → SiteStands e next new
   group_stands record_is durable = record {
     walk = after;
     meant = λ c left. record_is.meant c left ∙ ap (λ (m : Means). Meant m after) is.meant_is;
@@ -80,7 +80,7 @@ module _ (tells : Type 0) (told : tells) (e : Exceptions) (site next : SiteState
     state = durable_still tells told IsJournal old new State works (λ journal. journal) stands.state;
     journals = durable;
     done = stands.done;
-    items = items_last (walk_by old.journals way g w).groups g ∙ ap (λ (l : List Item). l ++ g.items) (same_items old.journals way g w ∙ sym done_all) ∙ ap (λ (l : List Item). stands.done ++ l) (sym is.waiting_is);
+    items = items_last (walk_by old.journals placement g w).groups g ∙ ap (λ (l : List Item). l ++ g.items) (same_items old.journals placement g w ∙ sym done_all) ∙ ap (λ (l : List Item). stands.done ++ l) (sym is.waiting_is);
     applied = applied_still;
     unwritten = unwritten_still;
   }

@@ -1,4 +1,4 @@
--- The answers of calls that log rows: the deeds that they are, and the site behind them, by the record's way.
+-- The answers of calls that log rows: the deeds that they are, and the site behind them, by the record's placement.
 use Rattle.std.proofs.Common.{◌≡◌, ◌≢◌, ℕ, Bool, true, List, [], ◌∷◌, Result, Ok, Err, refl, ap}
 use Rattle.std.specs.Prelude.{OnOk}
 use Rattle.crash_plant.specs.Moments.{PlantState}
@@ -14,8 +14,8 @@ use Rattle.site_store.proofs.Moments.{have_begun, more_follow}
 use Rattle.site_store.proofs.Single.{no_call}
 use Rattle.xrc_journal.specs.Items.{Item}
 use Rattle.site_store.specs.declared.store_error.StoreError.{StoreError}
-use Rattle.site_store.specs.declared.way.Way.{Way}
-use Rattle.site_store.specs.declared.way.Way.TheVariants.{Here, Switched, Marked}
+use Rattle.site_store.specs.declared.placement.Placement.{Placement}
+use Rattle.site_store.specs.declared.placement.Placement.TheVariants.{Here, Switched, Marked}
 use Rattle.site_store.specs.Changing.{change_deeds, change_deeds_of, changed_items, suspension_deeds, suspension_deeds_of, with_suspensions}
 use Rattle.site_store.specs.Records.{behind_mark, behind_record}
 use Rattle.site_store.specs.Sites.{SiteState}
@@ -36,13 +36,13 @@ begin_here plant e rows deeds = more_follow plant plant e rows [] deeds (have_be
 -- ---- the site behind a record
 
 -- Without a mark before it the site is the one before it, but for the record.
-pub plain_behind : (journals : ℕ) (way : Way) (cut : ℕ) (items : List Item) (rows : List PairRow) (site : SiteState) → way ≢ Marked → with_logged_rows journals way cut items rows site ≡ behind_record journals way cut items rows site.failed site
+pub plain_behind : (journals : ℕ) (placement : Placement) (cut : ℕ) (items : List Item) (rows : List PairRow) (site : SiteState) → placement ≢ Marked → with_logged_rows journals placement cut items rows site ≡ behind_record journals placement cut items rows site.failed site
 plain_behind journals Here cut items rows site plain = refl
 plain_behind journals Switched cut items rows site plain = refl
 plain_behind journals Marked cut items rows site plain = absurd (plain refl)
 
-pub plain_suspensions : (journals : ℕ) (way : Way) (cut : ℕ) (items : List Item) (failed : List Bool) (site : SiteState) → way ≢ Marked
-    → behind_record journals way cut items (rows_with_hits site.level cut site.failed site.told) site.failed site ≡ with_suspensions journals way cut items failed site
+pub plain_suspensions : (journals : ℕ) (placement : Placement) (cut : ℕ) (items : List Item) (failed : List Bool) (site : SiteState) → placement ≢ Marked
+    → behind_record journals placement cut items (rows_with_hits site.level cut site.failed site.told) site.failed site ≡ with_suspensions journals placement cut items failed site
 plain_suspensions journals Here cut items failed site plain = refl
 plain_suspensions journals Switched cut items failed site plain = refl
 plain_suspensions journals Marked cut items failed site plain = absurd (plain refl)
@@ -54,32 +54,32 @@ with_told_mark marked failed site = record (behind_mark site.mark.ended marked f
 -- ---- the deeds
 
 module _ (site : SiteState) (cut : ℕ) (failed : List Bool) where
-  pub suspension_is : (way : Way) → hit_now site.failed site.told ≢ [] → suspension_deeds_of way site cut failed ≡ suspension_deeds way site cut failed
-  suspension_is way some = by_hit (hit_now site.failed site.told) some
+  pub suspension_is : (placement : Placement) → hit_now site.failed site.told ≢ [] → suspension_deeds_of placement site cut failed ≡ suspension_deeds placement site cut failed
+  suspension_is placement some = by_hit (hit_now site.failed site.told) some
     where
-      by_hit : (hit : List ℕ) → hit ≢ [] → elim hit [ [] ↦ [] | d ∷ more ↦ suspension_deeds way site cut failed ] ≡ suspension_deeds way site cut failed
+      by_hit : (hit : List ℕ) → hit ≢ [] → elim hit [ [] ↦ [] | d ∷ more ↦ suspension_deeds placement site cut failed ] ≡ suspension_deeds placement site cut failed
       by_hit [] some = absurd (some refl)
       by_hit (d ∷ more) some = refl
 
-  pub suspension_none : (way : Way) → hit_now site.failed site.told ≡ [] → suspension_deeds_of way site cut failed ≡ []
-  suspension_none way none = ap (λ (hit : List ℕ). elim hit [ [] ↦ [] | d ∷ more ↦ suspension_deeds way site cut failed ]) none
+  pub suspension_none : (placement : Placement) → hit_now site.failed site.told ≡ [] → suspension_deeds_of placement site cut failed ≡ []
+  suspension_none placement none = ap (λ (hit : List ℕ). elim hit [ [] ↦ [] | d ∷ more ↦ suspension_deeds placement site cut failed ]) none
 
-  pub suspension_plain : (way : Way) → way ≢ Marked → suspension_deeds way site cut failed ≡ Changed cut (rows_with_hits site.level cut failed site.told) ∷ []
+  pub suspension_plain : (placement : Placement) → placement ≢ Marked → suspension_deeds placement site cut failed ≡ Changed cut (rows_with_hits site.level cut failed site.told) ∷ []
   suspension_plain Here plain = refl
   suspension_plain Switched plain = refl
   suspension_plain Marked plain = absurd (plain refl)
 
-  pub change_is : (change : Change) (way : Way) → changed_items change site.table.rows ≢ [] → change_deeds_of change way site cut failed ≡ change_deeds way site cut failed
-  change_is change way some = by_items (changed_items change site.table.rows) some
+  pub change_is : (change : Change) (placement : Placement) → changed_items change site.table.rows ≢ [] → change_deeds_of change placement site cut failed ≡ change_deeds placement site cut failed
+  change_is change placement some = by_items (changed_items change site.table.rows) some
     where
-      by_items : (items : List Item) → items ≢ [] → elim items [ [] ↦ [] | i ∷ more ↦ change_deeds way site cut failed ] ≡ change_deeds way site cut failed
+      by_items : (items : List Item) → items ≢ [] → elim items [ [] ↦ [] | i ∷ more ↦ change_deeds placement site cut failed ] ≡ change_deeds placement site cut failed
       by_items [] some = absurd (some refl)
       by_items (i ∷ more) some = refl
 
-  pub change_none : (change : Change) (way : Way) → changed_items change site.table.rows ≡ [] → change_deeds_of change way site cut failed ≡ []
-  change_none change way none = ap (λ (items : List Item). elim items [ [] ↦ [] | i ∷ more ↦ change_deeds way site cut failed ]) none
+  pub change_none : (change : Change) (placement : Placement) → changed_items change site.table.rows ≡ [] → change_deeds_of change placement site cut failed ≡ []
+  change_none change placement none = ap (λ (items : List Item). elim items [ [] ↦ [] | i ∷ more ↦ change_deeds placement site cut failed ]) none
 
-  pub change_plain : (way : Way) → way ≢ Marked → change_deeds way site cut failed ≡ Changed cut (rows_with_hits site.level cut failed site.table.rows) ∷ []
+  pub change_plain : (placement : Placement) → placement ≢ Marked → change_deeds placement site cut failed ≡ Changed cut (rows_with_hits site.level cut failed site.table.rows) ∷ []
   change_plain Here plain = refl
   change_plain Switched plain = refl
   change_plain Marked plain = absurd (plain refl)

@@ -1,4 +1,4 @@
--- A record of rows has room by its way, and the site's numbers fit the plant behind it.
+-- A record of rows has room by its placement, and the site's numbers fit the plant behind it.
 use Rattle.std.proofs.Common.{◌≡◌, ◌≢◌, inl, inr, ℕ, ◌+◌, ◌*◌, ◌-◌, ◌^◌, ◌≤◌, ◌<◌, ◌==◌, ◌&&◌, Bool, false, true, cond, nat_lt, nat_le, List, [], ◌∷◌, length, Option, Some, None, refl, sym, ap, subst, ◌∙◌, arith}
 use Rattle.std.specs.List.{list_all}
 use Rattle.std.proofs.lemmas.Bool.{and_parts, cases_eq, eqb-true, eq-eqb, leb-true}
@@ -24,13 +24,13 @@ use Rattle.xrc_journal.specs.Appending.{room_for}
 use Rattle.xrc_journal.specs.Items.{AreItems, Item, body_spelling, form_of}
 use Rattle.xrc_journal.specs.Records.{next_set}
 use Rattle.xrc_journal.specs.RingWalks.{AllEndThrough}
-use Rattle.site_store.specs.declared.way.Way.{Way}
-use Rattle.site_store.specs.declared.way.Way.TheVariants.{Here, Switched, Marked}
+use Rattle.site_store.specs.declared.placement.Placement.{Placement}
+use Rattle.site_store.specs.declared.placement.Placement.TheVariants.{Here, Switched, Marked}
 use Rattle.site_store.specs.Recording.{HasRoomBehindSwitch, HasRoomBy, MayPutRecord}
 use Rattle.site_store.specs.Records.{IsJournal}
 use Rattle.site_store.specs.Sites.{SiteState}
 use Rattle.site_store.specs.Standing.{FitsPlant, HasLengths, row_has_volume}
-use Rattle.site_store.specs.Ways.{record_has_room, spot_behind, way_from}
+use Rattle.site_store.specs.Placements.{record_has_room, spot_behind, placement_from}
 use Rattle.site_store.proofs.RowsLogged.{with_logged_rows}
 
 -- ---- what reads give
@@ -50,15 +50,15 @@ reads_choice plant home read d part = read d (part_there plant d home part)
 pub some_choice : (tells : Type 0) (plant : PlantState) → NoneLent plant → (tells → (d : Device) → IsThere plant d → plant.images plant.clock d (plant.bytes d)) → tells → (c : Choice) × IsChoice plant plant.clock c
 some_choice tells plant home read told = (plant.bytes, reads_choice plant home (read told))
 
--- ---- the way
+-- ---- the placement
 
 -- The record would need no number behind the greatest.
-abbrev pub NumbersSuffice : Way → (next : ℕ) → Type 0
+abbrev pub NumbersSuffice : Placement → (next : ℕ) → Type 0
 NumbersSuffice Here next = next ≤ 2 ^ 64 - 2
 NumbersSuffice Switched next = next + 1 ≤ 2 ^ 64 - 2
 NumbersSuffice Marked next = next + 1 ≤ 2 ^ 64 - 2
 
-pub grows : (way : Way) (next : ℕ) → NumbersSuffice way next → next ≤ 2 ^ 64 - 2
+pub grows : (placement : Placement) (next : ℕ) → NumbersSuffice placement next → next ≤ 2 ^ 64 - 2
 grows Here next enough = enough
 grows Switched next enough = omega (arith, enough)
 grows Marked next enough = omega (arith, enough)
@@ -78,20 +78,20 @@ next_other sets set two lt = by_last (set + 1 == sets) refl
     by_last true last = λ is. omega (arith, is, two, eqb-true (set + 1) sets last)
     by_last false more = λ is. omega (arith, is)
 
--- What is so of a record's way: it has room there, or the next data set doesn't hold the mark's spot.
-abbrev pub HasWay : PlantState → (at marked : Spot) → List Item → Way → Type 0
-HasWay plant at marked items Here = at.place + room_for items ≤ plant.lengths (Journal at.set)
-HasWay plant at marked items Switched = next_set plant.journals at.set ≢ marked.set
-HasWay plant at marked items Marked = Unit {0}
+-- What is so of a record's placement: it has room there, or the next data set doesn't hold the mark's spot.
+abbrev pub HasPlacement : PlantState → (at marked : Spot) → List Item → Placement → Type 0
+HasPlacement plant at marked items Here = at.place + room_for items ≤ plant.lengths (Journal at.set)
+HasPlacement plant at marked items Switched = next_set plant.journals at.set ≢ marked.set
+HasPlacement plant at marked items Marked = Unit {0}
 
-pub has_way : (plant : PlantState) (at marked : Spot) (items : List Item) → HasWay plant at marked items (way_from plant at marked items)
-has_way plant at marked items = by_room (record_has_room plant at items) refl
+pub has_placement : (plant : PlantState) (at marked : Spot) (items : List Item) → HasPlacement plant at marked items (placement_from plant at marked items)
+has_placement plant at marked items = by_room (record_has_room plant at items) refl
   where
-    by_next : (same : Bool) → (next_set plant.journals at.set == marked.set) ≡ same → HasWay plant at marked items (cond same Marked Switched)
+    by_next : (same : Bool) → (next_set plant.journals at.set == marked.set) ≡ same → HasPlacement plant at marked items (cond same Marked Switched)
     by_next true is = tt
     by_next false is = λ e. let yes = eq-eqb (next_set plant.journals at.set) marked.set e in cc
 
-    by_room : (room : Bool) → record_has_room plant at items ≡ room → HasWay plant at marked items (cond room Here (cond (next_set plant.journals at.set == marked.set) Marked Switched))
+    by_room : (room : Bool) → record_has_room plant at items ≡ room → HasPlacement plant at marked items (cond room Here (cond (next_set plant.journals at.set == marked.set) Marked Switched))
     by_room true has = let fits = leb-true (at.place + FRONT + length (body_spelling items) + SWITCH) (plant.lengths (Journal at.set)) has in omega (arith, fits)
     by_room false has = by_next (next_set plant.journals at.set == marked.set) refl
 
@@ -108,17 +108,17 @@ module _ (site : SiteState) (plant : PlantState) (fits : FitsPlant site plant) (
   behind_switch : next_set plant.journals site.at.set ≢ site.mark.at.set → site.at.number + 1 ≤ 2 ^ 64 - 2 → HasRoomBehindSwitch plant site.mark.at site.at items
   behind_switch free number = record { free = free; room = short_there (next_set plant.journals site.at.set) (next_there plant.journals site.at.set fits.set); number = number }
 
-  pub room_by_way : (way : Way) → HasWay plant site.at site.mark.at items way → (way ≡ Marked → site.mark.at ≡ site.at) → NumbersSuffice way site.at.number → HasRoomBy plant way site.mark.at site.at items
-  room_by_way Here has marked enough = has
-  room_by_way Switched has marked enough = behind_switch has enough
-  room_by_way Marked has marked enough =
+  pub room_by_placement : (placement : Placement) → HasPlacement plant site.at site.mark.at items placement → (placement ≡ Marked → site.mark.at ≡ site.at) → NumbersSuffice placement site.at.number → HasRoomBy plant placement site.mark.at site.at items
+  room_by_placement Here has marked enough = has
+  room_by_placement Switched has marked enough = behind_switch has enough
+  room_by_placement Marked has marked enough =
       let here = marked refl in
       behind_switch (subst (λ (s : Spot). next_set plant.journals site.at.set ≢ s.set) (sym here) (next_other plant.journals site.at.set fits.lengths.journals.0 fits.set)) enough
 
-  pub may_put_rows : (tells : Type 0) (way : Way) (cut : ℕ) → HasRoomBy plant way site.mark.at site.at items → NumbersSuffice way site.at.number → AreItems (form_of plant) items → (tells → AllEndThrough plant site.mark.at site.at cut)
-      → MayPutRecord tells way site.mark.at site.at cut items plant
-  may_put_rows tells way cut room enough keep ends = record {
-    grows = record { there = fits.set; room = fits.room; number = grows way site.at.number enough };
+  pub may_put_rows : (tells : Type 0) (placement : Placement) (cut : ℕ) → HasRoomBy plant placement site.mark.at site.at items → NumbersSuffice placement site.at.number → AreItems (form_of plant) items → (tells → AllEndThrough plant site.mark.at site.at cut)
+      → MayPutRecord tells placement site.mark.at site.at cut items plant
+  may_put_rows tells placement cut room enough keep ends = record {
+    grows = record { there = fits.set; room = fits.room; number = grows placement site.at.number enough };
     body = record { keep = keep; short = omega (arith, short) };
     room = room;
     ends = ends;
@@ -159,27 +159,27 @@ lengths_still controls old new same lengths = record {
   volumes = omega (arith, lengths.volumes, same.volumes);
 }
 
-spot_there : (sets : ℕ) (way : Way) (items : List Item) (at : Spot) → at.set < sets → (spot_behind sets way items at).set < sets
+spot_there : (sets : ℕ) (placement : Placement) (items : List Item) (at : Spot) → at.set < sets → (spot_behind sets placement items at).set < sets
 spot_there sets Here items at lt = lt
 spot_there sets Switched items at lt = next_there sets at.set lt
 spot_there sets Marked items at lt = next_there sets at.set lt
 
-spot_room : (plant : PlantState) (way : Way) (items : List Item) (from at : Spot) → HasRoomBy plant way from at items → (spot_behind plant.journals way items at).place + 24 ≤ plant.lengths (Journal (spot_behind plant.journals way items at).set)
+spot_room : (plant : PlantState) (placement : Placement) (items : List Item) (from at : Spot) → HasRoomBy plant placement from at items → (spot_behind plant.journals placement items at).place + 24 ≤ plant.lengths (Journal (spot_behind plant.journals placement items at).set)
 spot_room plant Here items from at room = omega (arith, room)
 spot_room plant Switched items from at room = omega (arith, room.room)
 spot_room plant Marked items from at room = omega (arith, room.room)
 
-spot_number : (sets : ℕ) (way : Way) (items : List Item) (at : Spot) → 1 ≤ (spot_behind sets way items at).number
+spot_number : (sets : ℕ) (placement : Placement) (items : List Item) (at : Spot) → 1 ≤ (spot_behind sets placement items at).number
 spot_number sets Here items at = omega arith
 spot_number sets Switched items at = omega arith
 spot_number sets Marked items at = omega arith
 
 -- Behind the record the site's numbers fit the plant.
-pub rows_fit : (tells : Type 0) (site : SiteState) (old new : PlantState) (way : Way) (cut : ℕ) (items : List Item) (rows : List PairRow) → FitsPlant site old → WorksOn tells IsJournal old new → HasRoomBy old way site.mark.at site.at items → site.time ≤ cut → site.waiting ≡ []
-    → list_all (row_has_volume old) rows ≡ true → FitsPlant (with_logged_rows old.journals way cut items rows site) new
-rows_fit tells site old new way cut items rows fits works room late idle have =
+pub rows_fit : (tells : Type 0) (site : SiteState) (old new : PlantState) (placement : Placement) (cut : ℕ) (items : List Item) (rows : List PairRow) → FitsPlant site old → WorksOn tells IsJournal old new → HasRoomBy old placement site.mark.at site.at items → site.time ≤ cut → site.waiting ≡ []
+    → list_all (row_has_volume old) rows ≡ true → FitsPlant (with_logged_rows old.journals placement cut items rows site) new
+rows_fit tells site old new placement cut items rows fits works room late idle have =
     let same = works.site in
-    let at = spot_behind old.journals way items site.at in
+    let at = spot_behind old.journals placement items site.at in
     record {
       home = none_lent_then tells IsJournal old new works fits.home;
       controls = fits.controls;
@@ -189,9 +189,9 @@ rows_fit tells site old new way cut items rows fits works room late idle have =
       mark = subst (λ (l : List ℕ). IsMark l site.mark) (sym (same_lengths old new same)) fits.mark;
       session = fits.session;
       started = fits.started;
-      set = let there = spot_there old.journals way items site.at fits.set in omega (arith, there, same.journals);
-      room = let more = spot_room old way items site.mark.at site.at room in omega (arith, more, same.lengths (Journal at.set));
-      next = spot_number old.journals way items site.at;
+      set = let there = spot_there old.journals placement items site.at fits.set in omega (arith, there, same.journals);
+      room = let more = spot_room old placement items site.mark.at site.at room in omega (arith, more, same.lengths (Journal at.set));
+      next = spot_number old.journals placement items site.at;
       time = omega (arith, fits.time, late);
       failed = fits.failed ∙ sym same.volumes;
       written = fits.written ∙ sym same.volumes;

@@ -1,4 +1,4 @@
--- A record of rows alone, put by its way: the deed that it is, and the site behind it, over plain states.
+-- A record of rows alone, put by its placement: the deed that it is, and the site behind it, over plain states.
 use Rattle.std.proofs.Common.{◌≡◌, inl, inr, ℕ, ◌≤◌, ◌<◌, ◌^◌, ◌++◌, false, List, [], ◌∷◌, length, Result, Ok, Err, append-nil, refl, sym, ap, subst, ◌∙◌, arith}
 use Rattle.std.specs.Prelude.{OnOk}
 use Rattle.ckd_track.specs.SlotPlaces.{slot_track}
@@ -25,22 +25,22 @@ use Rattle.xrc_journal.specs.Items.{Item, body_spelling}
 use Rattle.xrc_journal.specs.Records.{next_set, spot_after, spot_in}
 use Rattle.xrc_journal.specs.Walks.{Logged}
 use Rattle.site_store.specs.declared.store_error.StoreError.{StoreError}
-use Rattle.site_store.specs.declared.way.Way.{Way}
-use Rattle.site_store.specs.declared.way.Way.TheVariants.{Here, Switched, Marked}
+use Rattle.site_store.specs.declared.placement.Placement.{Placement}
+use Rattle.site_store.specs.declared.placement.Placement.TheVariants.{Here, Switched, Marked}
 use Rattle.site_store.specs.Changing.{Lead}
 use Rattle.site_store.specs.Recording.{RecordIsMeant, RecordIsShown, ShowsRecord, group_with, walk_behind_record, walk_by}
 use Rattle.site_store.specs.Records.{IsJournal}
 use Rattle.site_store.specs.Sites.{SiteState, has_failed, meant_for}
 use Rattle.site_store.specs.Standing.{AreApplied, SiteStands, none_excepted}
-use Rattle.site_store.specs.Ways.{spot_behind}
+use Rattle.site_store.specs.Placements.{spot_behind}
 use Rattle.site_store.proofs.Calls.{durable_still}
 use Rattle.site_store.proofs.RecordDeeds.{LeavesContent, record_begins, record_does}
 use Rattle.site_store.proofs.RecordPuts.{on_ok}
 use Rattle.site_store.proofs.RowItems.{AreRowItems, content_before, content_still, item_before}
 
 -- the site behind the record of these items, which leaves these rows
-abbrev pub with_logged_rows : (journals : ℕ) → Way → (cut : ℕ) → List Item → List PairRow → SiteState → SiteState
-with_logged_rows journals way cut items rows site = record site { table = with_rows site.table rows; is_ahead = false; told = rows; time = cut; at = spot_behind journals way items site.at }
+abbrev pub with_logged_rows : (journals : ℕ) → Placement → (cut : ℕ) → List Item → List PairRow → SiteState → SiteState
+with_logged_rows journals placement cut items rows site = record site { table = with_rows site.table rows; is_ahead = false; told = rows; time = cut; at = spot_behind journals placement items site.at }
 
 -- Items of rows alone lead from the rows on the devices to these.
 pub record AreRowsLogged (site : SiteState) (plant : PlantState) (cut : ℕ) (items : List Item) (rows : List PairRow) : Type 0 where
@@ -76,18 +76,18 @@ stands_more e site plant stands = record {
 
 -- ---- the record
 
-same_items : (sets : ℕ) (way : Way) (g : Logged) (w : Walk) → walk_items (walk_by sets way g w) ≡ walk_items w
+same_items : (sets : ℕ) (placement : Placement) (g : Logged) (w : Walk) → walk_items (walk_by sets placement g w) ≡ walk_items w
 same_items sets Here g w = refl
 same_items sets Switched g w = refl
 same_items sets Marked g w = refl
 
-behind_at : (sets cut : ℕ) (way : Way) (items : List Item) (w : Walk) (at : Spot) → w.at ≡ at → (walk_behind_record sets way (group_with cut items) w).at ≡ spot_behind sets way items at
+behind_at : (sets cut : ℕ) (placement : Placement) (items : List Item) (w : Walk) (at : Spot) → w.at ≡ at → (walk_behind_record sets placement (group_with cut items) w).at ≡ spot_behind sets placement items at
 behind_at sets cut Here items w at is = ap (λ (s : Spot). spot_after s (length (body_spelling items))) is
 behind_at sets cut Switched items w at is = ap (λ (s : Spot). spot_after (spot_in (next_set sets s.set) s) (length (body_spelling items))) is
 behind_at sets cut Marked items w at is = ap (λ (s : Spot). spot_after (spot_in (next_set sets s.set) s) (length (body_spelling items))) is
 
-module _ (tells : Type 0) (told : tells) (e : Exceptions) (site : SiteState) (old new : PlantState) (way : Way) (cut : ℕ) (items : List Item) (rows : List PairRow) (stands : SiteStands e site old) (is : AreRowsLogged site old cut items rows)
-    (low : site.mark.at.number < 2 ^ 64) (works : WorksOn tells IsJournal old new) (result : Result (Unit {0}) StoreError) (shows : ShowsRecord tells way site.mark.at site.at (group_with cut items) old new result) where
+module _ (tells : Type 0) (told : tells) (e : Exceptions) (site : SiteState) (old new : PlantState) (placement : Placement) (cut : ℕ) (items : List Item) (rows : List PairRow) (stands : SiteStands e site old) (is : AreRowsLogged site old cut items rows)
+    (low : site.mark.at.number < 2 ^ 64) (works : WorksOn tells IsJournal old new) (result : Result (Unit {0}) StoreError) (shows : ShowsRecord tells placement site.mark.at site.at (group_with cut items) old new result) where
   abbrev g : Logged
   g = group_with cut items
 
@@ -98,12 +98,12 @@ module _ (tells : Type 0) (told : tells) (e : Exceptions) (site : SiteState) (ol
   w = stands.walk
 
   abbrev after : Walk
-  after = walk_behind_record old.journals way g w
+  after = walk_behind_record old.journals placement g w
 
   fits : FitsBehind old.volumes means w g
   fits = record { number = low; later = omega (arith, is.late, stands.last); fits = is.lead.fit }
 
-  shown : RecordIsShown way means w g old new
+  shown : RecordIsShown placement means w g old new
   shown = shows.shown told means w refl stands.at stands.meant fits
 
   same : with_time_and_rows cut rows means ≡ with_group g means
@@ -114,24 +114,24 @@ module _ (tells : Type 0) (told : tells) (e : Exceptions) (site : SiteState) (ol
 
   -- While it is put the change begins.
   pub rows_begin : BeginsDeeds e site.told (Changed cut rows ∷ []) old new
-  rows_begin = record_begins e site.told (Changed cut rows) means w g old stands.meant same leaves tells told way new works shown
+  rows_begin = record_begins e site.told (Changed cut rows) means w g old stands.meant same leaves tells told placement new works shown
 
   -- what is told of each meaning whose walk ends there
   abbrev IsMeant : Type 0
-  IsMeant = (m : Means) (v : Walk) → m.from ≡ site.mark.at → v.at ≡ site.at → AllMean old m v → FitsBehind old.volumes m v g → RecordIsMeant way m v g old new
+  IsMeant = (m : Means) (v : Walk) → m.from ≡ site.mark.at → v.at ≡ site.at → AllMean old m v → FitsBehind old.volumes m v g → RecordIsMeant placement m v g old new
 
   abbrev StayDurable : Type 0
-  StayDurable = (v : Walk) → v.at ≡ site.at → AreDurable old v.entered → AreDurable new (walk_behind_record old.journals way g v).entered
+  StayDurable = (v : Walk) → v.at ≡ site.at → AreDurable old v.entered → AreDurable new (walk_behind_record old.journals placement g v).entered
 
   -- Once it was put the change is done.
   pub rows_done : OnOk result (DoesDeeds e site.told (Changed cut rows ∷ []) old new)
   rows_done =
-      on_ok result (λ (meant : IsMeant). record_does e site.told (Changed cut rows) means w g old stands.meant same leaves tells told way new works shown (meant means w refl stands.at stands.meant fits)) (shows.meant told)
+      on_ok result (λ (meant : IsMeant). record_does e site.told (Changed cut rows) means w g old stands.meant same leaves tells told placement new works shown (meant means w refl stands.at stands.meant fits)) (shows.meant told)
 
   -- ---- the site behind it
 
   abbrev next : SiteState
-  next = with_logged_rows old.journals way cut items rows site
+  next = with_logged_rows old.journals placement cut items rows site
 
   same_bytes : (d : ℕ) → new.bytes (Volume d) ≡ old.bytes (Volume d)
   same_bytes d = (works.others told (Volume d) (λ journal. journal)).bytes
@@ -143,15 +143,15 @@ module _ (tells : Type 0) (told : tells) (e : Exceptions) (site : SiteState) (ol
 
   walked : walk_items after ≡ (stands.done ++ items) ++ site.waiting
   walked =
-      items_last (walk_by old.journals way g w).groups g ∙ ap (λ (l : List Item). l ++ items) (same_items old.journals way g w ∙ stands.items ∙ ap (λ (l : List Item). stands.done ++ l) is.idle ∙ append-nil stands.done)
+      items_last (walk_by old.journals placement g w).groups g ∙ ap (λ (l : List Item). l ++ items) (same_items old.journals placement g w ∙ stands.items ∙ ap (λ (l : List Item). stands.done ++ l) is.idle ∙ append-nil stands.done)
       ∙ sym (append-nil (stands.done ++ items)) ∙ ap (λ (l : List Item). (stands.done ++ items) ++ l) (sym is.idle)
 
-  stands_then : RecordIsMeant way means w g old new → AreDurable new after.entered → SiteStands e next new
+  stands_then : RecordIsMeant placement means w g old new → AreDurable new after.entered → SiteStands e next new
   stands_then record_is durable = record {
     walk = after;
     meant = λ c left. record_is.meant c left ∙ ap (λ (m : Means). Meant m after) (sym same);
     chosen = record_is.chosen site.mark stands.chosen;
-    at = behind_at old.journals cut way items w site.at stands.at;
+    at = behind_at old.journals cut placement items w site.at stands.at;
     last = refl;
     control = durable_still tells told IsJournal old new Control works (λ journal. journal) stands.control;
     state = durable_still tells told IsJournal old new State works (λ journal. journal) stands.state;

@@ -16,7 +16,7 @@ use Rattle.control_set.specs.Slots.{NoGateOpen, chosen_mark, chosen_of, is_close
 use Rattle.control_set.proofs.Lengths.{same_lengths}
 use Rattle.control_set.proofs.Reading.{closed_is, first_part, open_is, same_slot}
 use Rattle.control_set.proofs.Stands.{none_of_gates}
-use Rattle.site_store.specs.declared.starting.Front.{Front}
+use Rattle.site_store.specs.declared.starting.SlotFront.{SlotFront}
 use Rattle.site_store.proofs.Calls.{durable_same}
 use Rattle.site_store.specs.Formats.{AreHalves, CountsOrNone, ShutsControl, ShutsSlots, front_at}
 
@@ -203,13 +203,13 @@ control_after lengths old mid new kept same more shuts =
     follows_then old mid new Same (ShutsControl lengths) (ShutsControl lengths) kept.later same more shuts
     (λ x y here step. control_here lengths x y step) (λ x y z here there step last. subst (λ (l : List ℕ). ShutsControl lengths l z) step last)
 
-module _ (lengths : List ℕ) (p q : ℕ) (halves : AreHalves p q) (idle counted : Front) (old mid : Standing) (long : 1024 ≤ length old.bytes) (durable : IsDurable old) (idle_is : idle ≡ front_at p old.bytes) (counted_is : counted ≡ front_at q old.bytes) (order : idle.number ≤ counted.number)
+module _ (lengths : List ℕ) (p q : ℕ) (halves : AreHalves p q) (idle counted : SlotFront) (old mid : Standing) (long : 1024 ≤ length old.bytes) (durable : IsDurable old) (idle_is : idle ≡ front_at p old.bytes) (counted_is : counted ≡ front_at q old.bytes) (order : idle.number ≤ counted.number)
     (kept : SamePast old mid) (one : Follows (Shuts p) old mid) where
   abbrev b : Bool
   b = halves.0
 
   low : IsBelow old.bytes b
-  low = omega (arith, ap (λ (f : Front). f.number) (idle_is ∙ ap (λ (k : ℕ). front_at k old.bytes) halves.1), ap (λ (f : Front). f.number) (counted_is ∙ ap (λ (k : ℕ). front_at k old.bytes) halves.2), order)
+  low = omega (arith, ap (λ (f : SlotFront). f.number) (idle_is ∙ ap (λ (k : ℕ). front_at k old.bytes) halves.1), ap (λ (f : SlotFront). f.number) (counted_is ∙ ap (λ (k : ℕ). front_at k old.bytes) halves.2), order)
 
   from_old : (x y : List ℕ) → old.images old.clock x → Shuts p x y → Shuts (place_of_slot b) old.bytes y
   from_old x y here step = subst (λ (l : List ℕ). Shuts (place_of_slot b) l y) (durable x here) (subst (λ (k : ℕ). Shuts k x y) halves.1 step)

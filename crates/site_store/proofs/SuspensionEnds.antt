@@ -5,7 +5,7 @@ use Rattle.tod_stamp.specs.declared.stamp.Stamp.{Stamp}
 use Rattle.crash_plant.specs.Calls.{WorksOn}
 use Rattle.crash_plant.specs.Moments.{PlantState}
 use Rattle.pair_table.specs.declared.row.PairRow.{PairRow}
-use Rattle.pair_table.specs.Tables.{KeepsRows}
+use Rattle.pair_table.specs.Tables.{AreRowsSound}
 use Rattle.record_rows.specs.Deeds.{Deed}
 use Rattle.record_rows.specs.Deeds.Deed.{Changed, Marked as MarkedDeed}
 use Rattle.record_rows.specs.Hits.{hit_now, rows_hit}
@@ -22,9 +22,9 @@ use Rattle.xrc_journal.specs.RingWalks.{AllEndThrough}
 use Rattle.site_store.specs.declared.hits.Hits.{Hits}
 use Rattle.site_store.specs.declared.store_error.StoreError.{StoreError}
 use Rattle.site_store.specs.declared.store_error.StoreError.TheVariants.{Spent}
-use Rattle.site_store.specs.declared.way.Way.{Way}
-use Rattle.site_store.specs.declared.way.Way.TheVariants.{Marked}
-use Rattle.site_store.specs.Changing.{DoesSuspend, IsWayOfHits, Lead, Suspends, suspension_deeds_of, with_suspensions}
+use Rattle.site_store.specs.declared.placement.Placement.{Placement}
+use Rattle.site_store.specs.declared.placement.Placement.TheVariants.{Marked}
+use Rattle.site_store.specs.Changing.{DoesSuspend, IsPlacementOfHits, Lead, Suspends, suspension_deeds_of, with_suspensions}
 use Rattle.site_store.specs.Hits.{AreHits, are_some, pairs_with_next, with_hits}
 use Rattle.site_store.specs.Jobs.{has_job_failed}
 use Rattle.site_store.specs.Marking.{MakesMark}
@@ -32,7 +32,7 @@ use Rattle.site_store.specs.Recording.{HasRoomBy, MayPutRecord, ShowsRecord, gro
 use Rattle.site_store.specs.Records.{IsJournal, behind_mark, behind_record}
 use Rattle.site_store.specs.Sites.{SiteState}
 use Rattle.site_store.specs.Standing.{FitsPlant, Leaves, MayRecord, SiteStands, none_excepted}
-use Rattle.site_store.specs.Ways.{is_suspension_spent, way_of}
+use Rattle.site_store.specs.Placements.{is_suspension_spent, placement_of}
 use Rattle.site_store.proofs.Below.{below_volumes}
 use Rattle.site_store.proofs.ChangeFirst.{change_begins, change_done, change_stands, mark_done, nothing_first}
 use Rattle.site_store.proofs.HitItems.{hits_keep}
@@ -42,34 +42,34 @@ use Rattle.site_store.proofs.Numbers.{suspension_enough}
 use Rattle.site_store.proofs.RecordPuts.{on_ok}
 use Rattle.site_store.proofs.RowEnds.{begin_here, leaves_ok, plain_suspensions, suspension_is, suspension_none, suspension_plain}
 use Rattle.site_store.proofs.RowItems.{keep_anywhere, next_rows}
-use Rattle.site_store.proofs.RowRoom.{HasWay, NumbersSuffice, has_way, hits_have, may_put_rows, room_by_way, rows_fit}
+use Rattle.site_store.proofs.RowRoom.{HasPlacement, NumbersSuffice, has_placement, hits_have, may_put_rows, room_by_placement, rows_fit}
 use Rattle.site_store.proofs.RowsLogged.{AreRowsLogged, stands_more, with_logged_rows}
 use Rattle.site_store.proofs.Views.{told_there}
 
 -- ---- nothing is called
 
 -- No device is hit.
-none_way : (cut : ℕ) (site : SiteState) (old : PlantState) → hit_now site.failed site.told ≡ [] → IsWayOfHits cut site old (way_of old site []) []
-none_way cut site old none = record { are = record { lead = record { leads = ap (λ (hit : List ℕ). rows_hit site.level cut hit site.told) (sym none); fit = refl } }; way_is = refl }
+none_placement : (cut : ℕ) (site : SiteState) (old : PlantState) → hit_now site.failed site.told ≡ [] → IsPlacementOfHits cut site old (placement_of old site []) []
+none_placement cut site old none = record { are = record { lead = record { leads = ap (λ (hit : List ℕ). rows_hit site.level cut hit site.told) (sym none); fit = refl } }; placement_is = refl }
 
 pub none_suspends : {P : Type 0} (cut : ℕ) (site : SiteState) (old : PlantState) (was : P) → hit_now site.failed site.told ≡ [] → Suspends cut site site old was was (Ok tt)
 none_suspends cut site old was none = record {
   nothing = λ e. (refl, refl, refl);
-  way = way_of old site [];
+  placement = placement_of old site [];
   items = [];
-  is_way = none_way cut site old none;
+  is_placement = none_placement cut site old none;
   spent = λ some. absurd (some none);
   logged = λ some. absurd (some none);
 }
 
 pub none_does : (tells : Type 0) (cut : ℕ) (site : SiteState) (old : PlantState) → hit_now site.failed site.told ≡ [] → DoesSuspend tells cut site site old old (Ok tt)
 none_does tells cut site old none = record {
-  way = way_of old site [];
+  placement = placement_of old site [];
   items = [];
-  is_way = none_way cut site old none;
+  is_placement = none_placement cut site old none;
   left = λ some. absurd (some none);
-  begins = λ told e stands. begin_here old e site.told (suspension_deeds_of (way_of old site []) site cut site.failed);
-  does = λ told e stands. subst (λ (deeds : List Deed). DoesDeeds e site.told deeds old old) (sym (suspension_none site cut site.failed (way_of old site []) none)) (no_call old e site.told);
+  begins = λ told e stands. begin_here old e site.told (suspension_deeds_of (placement_of old site []) site cut site.failed);
+  does = λ told e stands. subst (λ (deeds : List Deed). DoesDeeds e site.told deeds old old) (sym (suspension_none site cut site.failed (placement_of old site []) none)) (no_call old e site.told);
 }
 
 -- ---- some device is hit
@@ -80,7 +80,7 @@ pub record AreFormed (tells : Type 0) (cut : Stamp) (site : SiteState) (old : Pl
   pub late : site.time ≤ cut.0
   pub some : hit_now site.failed site.told ≢ []
   pub are : AreHits site.level cut site.failed false site.told hits
-  pub rules : KeepsRows site.told
+  pub rules : AreRowsSound site.told
   pub short : length (body_spelling (pairs_with_next (with_hits hits) site.told)) ≤ 64 * 31
 
 some_of : (xs : List ℕ) → true ≡ are_some xs → xs ≢ []
@@ -99,7 +99,7 @@ none_hit view site other jobs first is told failed level was none =
     (λ i. hit_now (sym first_is i) (sym rows i)) ∙ none_of (hit_now (map has_job_failed first) view.table.rows) none
 
 pub are_formed : {V : Type 0} (tells : Type 0) (cut : Stamp) (view site : SiteState) (other : List PairRow) (old : PlantState) (jobs first now : List (VolumeJob V)) (hits : Hits) (body : BodyState) (room : ℕ) → view ≡ site → view.told ≡ cond view.is_ahead other view.table.rows → view.failed ≡ map has_job_failed jobs
-    → MayRecord tells site old → site.time ≤ cut.0 → first ≡ jobs → now ≡ jobs → true ≡ are_some (hit_now (map has_job_failed first) view.table.rows) → AreHits view.level cut (map has_job_failed now) false view.table.rows hits → KeepsRows view.table.rows
+    → MayRecord tells site old → site.time ≤ cut.0 → first ≡ jobs → now ≡ jobs → true ≡ are_some (hit_now (map has_job_failed first) view.table.rows) → AreHits view.level cut (map has_job_failed now) false view.table.rows hits → AreRowsSound view.table.rows
     → body ≡ record { items = pairs_with_next (with_hits hits) view.table.rows; room = room } → length (body_spelling body.items) ≤ 64 * 31 → AreFormed tells cut site old hits
 are_formed tells cut view site other old jobs first now hits body room is told failed ready late was same some are rules put short =
     let rows = told_there view site other is told ready.level in
@@ -111,7 +111,7 @@ are_formed tells cut view site other old jobs first now hits body room is told f
       late = late;
       some = subst (λ (x : Type 0). x) (λ i. hit_now (first_is i) (rows i) ≢ []) (some_of (hit_now (map has_job_failed first) view.table.rows) some);
       are = subst (λ (x : Type 0). x) (λ i. AreHits (is i).level cut (now_is i) false (rows i) hits) are;
-      rules = subst KeepsRows rows rules;
+      rules = subst AreRowsSound rows rules;
       short = subst (λ (l : List Item). length (body_spelling l) ≤ 64 * 31) (ap (λ (h : BodyState). h.items) put ∙ ap (pairs_with_next (with_hits hits)) rows) short;
     }
 
@@ -128,7 +128,7 @@ module _ (tells : Type 0) (cut : Stamp) (site : SiteState) (old : PlantState) (h
   abbrev are : AreHits site.level cut site.failed false site.told hits
   are = formed.are
 
-  abbrev rules : KeepsRows site.told
+  abbrev rules : AreRowsSound site.told
   rules = formed.rules
 
   abbrev short : length (body_spelling (pairs_with_next (with_hits hits) site.told)) ≤ 64 * 31
@@ -152,100 +152,100 @@ module _ (tells : Type 0) (cut : Stamp) (site : SiteState) (old : PlantState) (h
   logged : AreRowsLogged site old cut.0 items rows
   logged = record { are = next_rows (with_hits hits) site.told; lead = lead; late = late; idle = ready.idle }
 
-  hit_way : (way : Way) → way ≡ way_of old site items → IsWayOfHits cut.0 site old way items
-  hit_way way way_is = record { are = record { lead = lead }; way_is = way_is }
+  hit_placement : (placement : Placement) → placement ≡ placement_of old site items → IsPlacementOfHits cut.0 site old placement items
+  hit_placement placement placement_is = record { are = record { lead = lead }; placement_is = placement_is }
 
   -- ---- the numbers are spent
 
-  module _ (way : Way) (way_is : way ≡ way_of old site items) where
-    pub spent_suspends : {P : Type 0} (was : P) (next : SiteState) → is_suspension_spent way site ≡ true → Suspends cut.0 site next old was was (Err Spent)
+  module _ (placement : Placement) (placement_is : placement ≡ placement_of old site items) where
+    pub spent_suspends : {P : Type 0} (was : P) (next : SiteState) → is_suspension_spent placement site ≡ true → Suspends cut.0 site next old was was (Err Spent)
     spent_suspends was next spent = record {
       nothing = λ none. absurd (some none);
-      way = way;
+      placement = placement;
       items = items;
-      is_way = hit_way way way_is;
+      is_placement = hit_placement placement placement_is;
       spent = λ more. (λ e. spent, λ e. refl);
       logged = λ more. tt;
     }
 
     pub spent_does : (next : SiteState) → DoesSuspend tells cut.0 site next old old (Err Spent)
     spent_does next = record {
-      way = way;
+      placement = placement;
       items = items;
-      is_way = hit_way way way_is;
+      is_placement = hit_placement placement placement_is;
       left = λ more. tt;
-      begins = λ told e stands. begin_here old e site.told (suspension_deeds_of way site cut.0 next.failed);
+      begins = λ told e stands. begin_here old e site.told (suspension_deeds_of placement site cut.0 next.failed);
       does = λ told. tt;
     }
 
-  -- ---- the answer by the way
+  -- ---- the answer by the placement
 
-  module _ {P : Type 0} (was is : P) (next : SiteState) (way : Way) (way_is : way ≡ way_of old site items) (enough : is_suspension_spent way site ≡ false) (result : Result (Unit {0}) StoreError) (unspent : ¬ IsErrOf result Spent) where
-    suspends : OnOk result (next ≡ with_suspensions old.journals way cut.0 items next.failed site) → Suspends cut.0 site next old was is result
+  module _ {P : Type 0} (was is : P) (next : SiteState) (placement : Placement) (placement_is : placement ≡ placement_of old site items) (enough : is_suspension_spent placement site ≡ false) (result : Result (Unit {0}) StoreError) (unspent : ¬ IsErrOf result Spent) where
+    suspends : OnOk result (next ≡ with_suspensions old.journals placement cut.0 items next.failed site) → Suspends cut.0 site next old was is result
     suspends next_is = record {
       nothing = λ none. absurd (some none);
-      way = way;
+      placement = placement;
       items = items;
-      is_way = hit_way way way_is;
+      is_placement = hit_placement placement placement_is;
       spent = λ more. (λ e. absurd (unspent e), λ spent. absurd (cc (spent, enough)));
       logged = λ more. next_is;
     }
 
-    pub record_suspends : way ≢ Marked → OnOk result (next ≡ behind_record old.journals way cut.0 items rows site.failed site) → Suspends cut.0 site next old was is result
-    record_suspends plain next_is = suspends (on_ok result (λ (same : next ≡ behind_record old.journals way cut.0 items rows site.failed site). same ∙ plain_suspensions old.journals way cut.0 items next.failed site plain) next_is)
+    pub record_suspends : placement ≢ Marked → OnOk result (next ≡ behind_record old.journals placement cut.0 items rows site.failed site) → Suspends cut.0 site next old was is result
+    record_suspends plain next_is = suspends (on_ok result (λ (same : next ≡ behind_record old.journals placement cut.0 items rows site.failed site). same ∙ plain_suspensions old.journals placement cut.0 items next.failed site plain) next_is)
 
-    pub mark_suspends : way ≡ Marked → OnOk result (next ≡ behind_mark site.mark.ended (rows_with_hits site.level site.time next.failed site.told) next.failed site) → Suspends cut.0 site next old was is result
-    mark_suspends marked next_is = suspends (subst (λ (w : Way). OnOk result (next ≡ with_suspensions old.journals w cut.0 items next.failed site)) (sym marked) next_is)
+    pub mark_suspends : placement ≡ Marked → OnOk result (next ≡ behind_mark site.mark.ended (rows_with_hits site.level site.time next.failed site.told) next.failed site) → Suspends cut.0 site next old was is result
+    mark_suspends marked next_is = suspends (subst (λ (w : Placement). OnOk result (next ≡ with_suspensions old.journals w cut.0 items next.failed site)) (sym marked) next_is)
 
   -- ---- the record
 
-  module _ (way : Way) (way_is : way ≡ way_of old site items) (plain : way ≢ Marked) (enough : is_suspension_spent way site ≡ false) where
-    suffice : NumbersSuffice way site.at.number
-    suffice = suspension_enough way site.at.number site.mark.number plain enough
+  module _ (placement : Placement) (placement_is : placement ≡ placement_of old site items) (plain : placement ≢ Marked) (enough : is_suspension_spent placement site ≡ false) where
+    suffice : NumbersSuffice placement site.at.number
+    suffice = suspension_enough placement site.at.number site.mark.number plain enough
 
-    room : HasRoomBy old way site.mark.at site.at items
-    room = room_by_way site old fits items (omega (arith, short)) way (subst (HasWay old site.at site.mark.at items) (sym way_is) (has_way old site.at site.mark.at items)) (λ marked. absurd (plain marked)) suffice
+    room : HasRoomBy old placement site.mark.at site.at items
+    room = room_by_placement site old fits items (omega (arith, short)) placement (subst (HasPlacement old site.at site.mark.at items) (sym placement_is) (has_placement old site.at site.mark.at items)) (λ marked. absurd (plain marked)) suffice
 
-    pub may_put : cut.0 < 2 ^ 64 → (tells → AllEndThrough old site.mark.at site.at cut.0) → MayPutRecord tells way site.mark.at site.at cut.0 items old
+    pub may_put : cut.0 < 2 ^ 64 → (tells → AllEndThrough old site.mark.at site.at cut.0) → MayPutRecord tells placement site.mark.at site.at cut.0 items old
     may_put stamp ends =
         let time : hits.time.0 < 2 ^ 64 = subst (λ (t : Stamp). t.0 < 2 ^ 64) (sym are.time_is) stamp in
-        may_put_rows site old fits items (omega (arith, short)) tells way cut.0 room suffice (keep_anywhere (form_of old) items (next_rows (with_hits hits) site.told) (hits_keep hits time site.told rules.each none_earlier)) ends
+        may_put_rows site old fits items (omega (arith, short)) tells placement cut.0 room suffice (keep_anywhere (form_of old) items (next_rows (with_hits hits) site.told) (hits_keep hits time site.told rules.each none_earlier)) ends
 
-    module _ (low : site.mark.at.number < 2 ^ 64) (new : PlantState) (works : WorksOn tells IsJournal old new) (result : Result (Unit {0}) StoreError) (shows : ShowsRecord tells way site.mark.at site.at (group_with cut.0 items) old new result) where
+    module _ (low : site.mark.at.number < 2 ^ 64) (new : PlantState) (works : WorksOn tells IsJournal old new) (result : Result (Unit {0}) StoreError) (shows : ShowsRecord tells placement site.mark.at site.at (group_with cut.0 items) old new result) where
       abbrev pub next : SiteState
-      next = with_logged_rows old.journals way cut.0 items rows site
+      next = with_logged_rows old.journals placement cut.0 items rows site
 
       pub record_leaves : OnOk result (Leaves tells (λ e. e) site next old new)
       record_leaves =
-          leaves_ok tells site next old new result (rows_fit tells site old new way cut.0 items rows fits works room late ready.idle (hits_have old site.level cut.0 site.failed site.told fits.told))
-          (change_stands tells [] site site old old new (nothing_first tells site old) way cut.0 items rows (λ told e stands. logged) low works result shows)
+          leaves_ok tells site next old new result (rows_fit tells site old new placement cut.0 items rows fits works room late ready.idle (hits_have old site.level cut.0 site.failed site.told fits.told))
+          (change_stands tells [] site site old old new (nothing_first tells site old) placement cut.0 items rows (λ told e stands. logged) low works result shows)
 
       -- The jobs that have failed are those before it.
-      pub record_does : (then : SiteState) → then.failed ≡ site.failed → OnOk result (then ≡ behind_record old.journals way cut.0 items rows site.failed site) → DoesSuspend tells cut.0 site then old new result
+      pub record_does : (then : SiteState) → then.failed ≡ site.failed → OnOk result (then ≡ behind_record old.journals placement cut.0 items rows site.failed site) → DoesSuspend tells cut.0 site then old new result
       record_does then same then_is =
-          let deeds_are : Changed cut.0 rows ∷ [] ≡ suspension_deeds_of way site cut.0 then.failed =
-          sym (suspension_is site cut.0 then.failed way some ∙ suspension_plain site cut.0 then.failed way plain ∙ ap (λ (failed : List Bool). Changed cut.0 (rows_with_hits site.level cut.0 failed site.told) ∷ []) same) in
+          let deeds_are : Changed cut.0 rows ∷ [] ≡ suspension_deeds_of placement site cut.0 then.failed =
+          sym (suspension_is site cut.0 then.failed placement some ∙ suspension_plain site cut.0 then.failed placement plain ∙ ap (λ (failed : List Bool). Changed cut.0 (rows_with_hits site.level cut.0 failed site.told) ∷ []) same) in
           record {
-            way = way;
+            placement = placement;
             items = items;
-            is_way = hit_way way way_is;
-            left = λ more. on_ok result (λ (is : then ≡ behind_record old.journals way cut.0 items rows site.failed site). is ∙ plain_suspensions old.journals way cut.0 items then.failed site plain) then_is;
-            begins = λ told e stands. subst (λ (deeds : List Deed). BeginsDeeds e site.told deeds old new) deeds_are (change_begins tells [] site site old old new (nothing_first tells site old) way cut.0 items rows (λ told e stands. logged) low works result shows told e stands);
+            is_placement = hit_placement placement placement_is;
+            left = λ more. on_ok result (λ (is : then ≡ behind_record old.journals placement cut.0 items rows site.failed site). is ∙ plain_suspensions old.journals placement cut.0 items then.failed site plain) then_is;
+            begins = λ told e stands. subst (λ (deeds : List Deed). BeginsDeeds e site.told deeds old new) deeds_are (change_begins tells [] site site old old new (nothing_first tells site old) placement cut.0 items rows (λ told e stands. logged) low works result shows told e stands);
             does = λ told. subst (λ (deeds : List Deed). OnOk result ((e : Exceptions) → SiteStands e site old → DoesDeeds e site.told deeds old new)) deeds_are
-                (change_done tells [] site site old old new (nothing_first tells site old) way cut.0 items rows (λ told e stands. logged) low works result shows told);
+                (change_done tells [] site site old old new (nothing_first tells site old) placement cut.0 items rows (λ told e stands. logged) low works result shows told);
           }
 
   -- ---- the mark
 
-  pub mark_does : (way : Way) → way ≡ way_of old site items → way ≡ Marked → (then : SiteState) (new : PlantState) (result : Result (Unit {0}) StoreError) → MakesMark tells site.mark.ended (rows_with_hits site.level site.time then.failed site.told) site then old new result
+  pub mark_does : (placement : Placement) → placement ≡ placement_of old site items → placement ≡ Marked → (then : SiteState) (new : PlantState) (result : Result (Unit {0}) StoreError) → MakesMark tells site.mark.ended (rows_with_hits site.level site.time then.failed site.told) site then old new result
       → OnOk result (then ≡ behind_mark site.mark.ended (rows_with_hits site.level site.time then.failed site.told) then.failed site) → DoesSuspend tells cut.0 site then old new result
-  mark_does way way_is marked then new result makes then_is =
+  mark_does placement placement_is marked then new result makes then_is =
       let told_rows = rows_with_hits site.level site.time then.failed site.told in
       let deeds_are : MarkedDeed site.at site.mark.ended told_rows ∷ [] ≡ suspension_deeds_of Marked site cut.0 then.failed = sym (suspension_is site cut.0 then.failed Marked some) in
       record {
-        way = Marked;
+        placement = Marked;
         items = items;
-        is_way = hit_way Marked (sym marked ∙ way_is);
+        is_placement = hit_placement Marked (sym marked ∙ placement_is);
         left = λ more. then_is;
         begins = λ told e stands. subst (λ (deeds : List Deed). BeginsDeeds e site.told deeds old new) deeds_are (mark_begins tells site.mark.ended told_rows site then old new result makes ready.idle told e stands);
         does = λ told. subst (λ (deeds : List Deed). OnOk result ((e : Exceptions) → SiteStands e site old → DoesDeeds e site.told deeds old new)) deeds_are (mark_done tells site then old new site.mark.ended told_rows ready.idle result makes told);

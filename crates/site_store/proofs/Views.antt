@@ -13,13 +13,13 @@ use Rattle.record_rows.specs.Records.{rows_with_hits}
 use Rattle.xrc_journal.specs.Items.{Item}
 use Rattle.xrc_journal.specs.RingWalks.{AllEndThrough}
 use Rattle.site_store.specs.declared.store_error.StoreError.{StoreError}
-use Rattle.site_store.specs.declared.way.Way.{Way}
-use Rattle.site_store.specs.declared.way.Way.TheVariants.{Here, Switched, Marked}
-use Rattle.site_store.specs.Jobs.{KeepsJobs, has_job_failed}
+use Rattle.site_store.specs.declared.placement.Placement.{Placement}
+use Rattle.site_store.specs.declared.placement.Placement.TheVariants.{Here, Switched, Marked}
+use Rattle.site_store.specs.Jobs.{AreJobsSound, has_job_failed}
 use Rattle.site_store.specs.Recording.{MayPutRecord, ShowsRecord, group_with}
 use Rattle.site_store.specs.Sites.{SiteState}
 use Rattle.site_store.specs.Standing.{FitsPlant, StandsFast}
-use Rattle.site_store.specs.Ways.{spot_behind}
+use Rattle.site_store.specs.Placements.{spot_behind}
 use Rattle.site_store.proofs.Below.{below_volumes}
 use Rattle.site_store.proofs.RowsLogged.{with_logged_rows}
 use Rattle.site_store.proofs.StandsEnd.{stands_end}
@@ -38,31 +38,31 @@ idle_site view site is idle =
     (λ i. record view { waiting = sym none i }) ∙ is
 
 -- The site behind a record of rows, which its fields show.
-pub logged_view : (view site : SiteState) (journals : ℕ) (way : Way) (cut : ℕ) (held items : List Item) (rows other : List PairRow) (table : Table) (ahead : Bool) (at : Spot) → view ≡ site → site.waiting ≡ [] → table ≡ with_rows view.table rows → ahead ≡ false
-    → at ≡ spot_behind journals way held view.at → held ≡ items → record view { table = table; is_ahead = ahead; told = cond ahead other table.rows; time = cut; at = at; waiting = [] } ≡ with_logged_rows journals way cut items rows site
-logged_view view site journals way cut held items rows other table ahead at is idle table_is level at_is held_is =
+pub logged_view : (view site : SiteState) (journals : ℕ) (placement : Placement) (cut : ℕ) (held items : List Item) (rows other : List PairRow) (table : Table) (ahead : Bool) (at : Spot) → view ≡ site → site.waiting ≡ [] → table ≡ with_rows view.table rows → ahead ≡ false
+    → at ≡ spot_behind journals placement held view.at → held ≡ items → record view { table = table; is_ahead = ahead; told = cond ahead other table.rows; time = cut; at = at; waiting = [] } ≡ with_logged_rows journals placement cut items rows site
+logged_view view site journals placement cut held items rows other table ahead at is idle table_is level at_is held_is =
     let none : view.waiting ≡ [] = ap (λ (s : SiteState). s.waiting) is ∙ idle in
     let told : cond ahead other table.rows ≡ rows = ap (λ (b : Bool). cond b other table.rows) level ∙ ap (λ (t : Table). t.rows) table_is in
-    let there : at ≡ spot_behind journals way items view.at = at_is ∙ ap (λ (l : List Item). spot_behind journals way l view.at) held_is in
-    (λ i. record view { table = table_is i; is_ahead = level i; told = told i; time = cut; at = there i; waiting = sym none i }) ∙ ap (with_logged_rows journals way cut items rows) is
+    let there : at ≡ spot_behind journals placement items view.at = at_is ∙ ap (λ (l : List Item). spot_behind journals placement l view.at) held_is in
+    (λ i. record view { table = table_is i; is_ahead = level i; told = told i; time = cut; at = there i; waiting = sym none i }) ∙ ap (with_logged_rows journals placement cut items rows) is
 
 -- the rows with the hits of a site's table
 abbrev pub rows_taken : (cut : ℕ) → SiteState → List PairRow
 rows_taken cut site = rows_with_hits site.level cut site.failed site.table.rows
 
 -- The same of a site that took the rows with the hits.
-pub taken_view : (view site : SiteState) (journals : ℕ) (way : Way) (cut : ℕ) (held items : List Item) (at : Spot) → view ≡ site → site.waiting ≡ [] → at ≡ spot_behind journals way held view.at → held ≡ items
-    → record view { table = with_rows view.table (rows_taken cut view); is_ahead = false; told = rows_taken cut view; time = cut; at = at; waiting = [] } ≡ with_logged_rows journals way cut items (rows_taken cut site) site
-taken_view view site journals way cut held items at is idle at_is held_is =
+pub taken_view : (view site : SiteState) (journals : ℕ) (placement : Placement) (cut : ℕ) (held items : List Item) (at : Spot) → view ≡ site → site.waiting ≡ [] → at ≡ spot_behind journals placement held view.at → held ≡ items
+    → record view { table = with_rows view.table (rows_taken cut view); is_ahead = false; told = rows_taken cut view; time = cut; at = at; waiting = [] } ≡ with_logged_rows journals placement cut items (rows_taken cut site) site
+taken_view view site journals placement cut held items at is idle at_is held_is =
     let none : view.waiting ≡ [] = ap (λ (s : SiteState). s.waiting) is ∙ idle in
-    let there : at ≡ spot_behind journals way items view.at = at_is ∙ ap (λ (l : List Item). spot_behind journals way l view.at) held_is in
+    let there : at ≡ spot_behind journals placement items view.at = at_is ∙ ap (λ (l : List Item). spot_behind journals placement l view.at) held_is in
     (λ i. record view { table = with_rows view.table (rows_taken cut view); is_ahead = false; told = rows_taken cut view; time = cut; at = there i; waiting = sym none i })
-    ∙ ap (λ (s : SiteState). with_logged_rows journals way cut items (rows_taken cut s) s) is
+    ∙ ap (λ (s : SiteState). with_logged_rows journals placement cut items (rows_taken cut s) s) is
 
 -- ---- what is kept of jobs
 
-pub keeps_still : {V : Type 0} {session told next : List ℕ} (controls room still : ℕ) (at marked there : Spot) (waits : Bool) (items held : List Item) (due : List Bool) (jobs : List (VolumeJob V)) → KeepsJobs controls room at marked session told waits items due jobs
-    → still ≡ room → there ≡ marked → next ≡ session → KeepsJobs controls still at there next told false held due jobs
+pub keeps_still : {V : Type 0} {session told next : List ℕ} (controls room still : ℕ) (at marked there : Spot) (waits : Bool) (items held : List Item) (due : List Bool) (jobs : List (VolumeJob V)) → AreJobsSound controls room at marked session told waits items due jobs
+    → still ≡ room → there ≡ marked → next ≡ session → AreJobsSound controls still at there next told false held due jobs
 keeps_still controls room still at marked there waits items held due jobs keeps room_is there_is next_is = record {
   room_is = room_is ∙ keeps.room_is;
   marked_is = there_is ∙ keeps.marked_is;
@@ -78,19 +78,19 @@ second_of true First Second first second not = second refl
 second_of false First Second first second not = absurd (not (first refl))
 
 -- What is shown of a record as a site's fields name its place is shown of it there.
-pub shows_there : (tells : Type 0) (way : Way) (from marked at there : Spot) (cut : ℕ) (held items : List Item) (old new : PlantState) (result answer : Result (Unit {0}) StoreError) → from ≡ marked → at ≡ there → held ≡ items → result ≡ answer
-    → ShowsRecord tells way from at (group_with cut held) old new result → ShowsRecord tells way marked there (group_with cut items) old new answer
-shows_there tells way from marked at there cut held items old new result answer from_is at_is held_is answered shows = subst (λ (x : Type 0). x) (λ i. ShowsRecord tells way (from_is i) (at_is i) (group_with cut (held_is i)) old new (answered i)) shows
+pub shows_there : (tells : Type 0) (placement : Placement) (from marked at there : Spot) (cut : ℕ) (held items : List Item) (old new : PlantState) (result answer : Result (Unit {0}) StoreError) → from ≡ marked → at ≡ there → held ≡ items → result ≡ answer
+    → ShowsRecord tells placement from at (group_with cut held) old new result → ShowsRecord tells placement marked there (group_with cut items) old new answer
+shows_there tells placement from marked at there cut held items old new result answer from_is at_is held_is answered shows = subst (λ (x : Type 0). x) (λ i. ShowsRecord tells placement (from_is i) (at_is i) (group_with cut (held_is i)) old new (answered i)) shows
 
 -- A record may be put there, as the fields name the place.
-pub may_put_there : (tells : Type 0) (way : Way) (from marked at there : Spot) (cut : ℕ) (held items : List Item) (plant : PlantState) → from ≡ marked → at ≡ there → held ≡ items → MayPutRecord tells way marked there cut items plant → MayPutRecord tells way from at cut held plant
-may_put_there tells way from marked at there cut held items plant from_is at_is held_is may = subst (λ (x : Type 0). x) (λ i. MayPutRecord tells way (sym from_is i) (sym at_is i) cut (sym held_is i) plant) may
+pub may_put_there : (tells : Type 0) (placement : Placement) (from marked at there : Spot) (cut : ℕ) (held items : List Item) (plant : PlantState) → from ≡ marked → at ≡ there → held ≡ items → MayPutRecord tells placement marked there cut items plant → MayPutRecord tells placement from at cut held plant
+may_put_there tells placement from marked at there cut held items plant from_is at_is held_is may = subst (λ (x : Type 0). x) (λ i. MayPutRecord tells placement (sym from_is i) (sym at_is i) cut (sym held_is i) plant) may
 
--- The way is one of three.
-pub last_way : (way : Way) → (way ≡ Here → ⊥) → (way ≡ Switched → ⊥) → way ≡ Marked
-last_way Here here switched = absurd (here refl)
-last_way Switched here switched = absurd (switched refl)
-last_way Marked here switched = refl
+-- The placement is one of three.
+pub last_placement : (placement : Placement) → (placement ≡ Here → ⊥) → (placement ≡ Switched → ⊥) → placement ≡ Marked
+last_placement Here here switched = absurd (here refl)
+last_placement Switched here switched = absurd (switched refl)
+last_placement Marked here switched = refl
 
 -- An error leaves what only Ok tells.
 pub at_error : (A : Type 0) (result : Result (Unit {0}) StoreError) (error : StoreError) → result ≡ Err error → OnOk result A

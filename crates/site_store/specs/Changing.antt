@@ -6,7 +6,7 @@ use Rattle.pair_table.specs.declared.command.Change.{Change}
 use Rattle.pair_table.specs.declared.command.Change.TheVariants.{Nothing, Started, Added, Resumed, Gone as GoneRows, Suspended, Ended}
 use Rattle.pair_table.specs.declared.level.Level.{Level}
 use Rattle.pair_table.specs.declared.row.PairRow.{PairRow}
-use Rattle.pair_table.specs.Tables.{KeepsRows, row_of}
+use Rattle.pair_table.specs.Tables.{AreRowsSound, row_of}
 use Rattle.tod_stamp.specs.declared.stamp.Stamp.{Stamp}
 use Rattle.xrc_journal.specs.Bodies.{BodyState}
 use Rattle.xrc_journal.specs.Items.{AreItems, Item, anywhere, body_spelling}
@@ -16,8 +16,8 @@ use Rattle.record_rows.specs.Records.{rows_with_hits}
 use Rattle.site_means.specs.Walk.{first_unfit, rows_through}
 use Rattle.site_store.specs.declared.store_error.StoreError.{StoreError}
 use Rattle.site_store.specs.declared.store_error.StoreError.TheVariants.{Spent}
-use Rattle.site_store.specs.declared.way.Way.{Way}
-use Rattle.site_store.specs.declared.way.Way.TheVariants.{Here, Switched, Marked as MarkedFirst}
+use Rattle.site_store.specs.declared.placement.Placement.{Placement}
+use Rattle.site_store.specs.declared.placement.Placement.TheVariants.{Here, Switched, Marked as MarkedFirst}
 use Rattle.site_store.specs.Sites.{SiteState}
 use Rattle.site_store.specs.Standing.{SiteStands, StandsFast}
 use Rattle.record_rows.specs.Deeds.{Deed}
@@ -26,7 +26,7 @@ use Rattle.site_store.specs.Exceptions.{Exceptions}
 use Rattle.record_rows.specs.Deeds.Deed.{Changed, Marked}
 use Rattle.site_store.specs.declared.hits.Hits.{Hits}
 use Rattle.site_store.specs.Hits.{AreHits, pairs_with_next, with_hits}
-use Rattle.site_store.specs.Ways.{is_spent, is_suspension_spent, way_of}
+use Rattle.site_store.specs.Placements.{is_spent, is_suspension_spent, placement_of}
 use Rattle.site_store.specs.Records.{behind_mark, behind_record}
 
 -- ---- the items
@@ -102,28 +102,28 @@ pub record FormsChange (level : Level) (cut : Stamp) (failed : List Bool) (chang
   pub hits : Hits
   pub are : AreHits level cut failed false rows hits
   pub now_is : now ≡ record { items = changed_items change rows ++ pairs_with_next (with_hits hits) rows; room = held.room }
-  pub rules : KeepsRows rows
+  pub rules : AreRowsSound rows
   pub keep : AreItems anywhere now.items
   pub short : length (body_spelling now.items) ≤ named_devices change * 31 + 64 * 31
 
--- The record as it is formed first decides the way.
-pub record IsWayOfChange (cut : ℕ) (change : Change) (site : SiteState) (plant : PlantState) (way : Way) : Type 0 where
+-- The record as it is formed first decides the placement.
+pub record IsPlacementOfChange (cut : ℕ) (change : Change) (site : SiteState) (plant : PlantState) (placement : Placement) : Type 0 where
   pub first : List Item
   pub formed : AreChangeItems cut change site.failed site plant first
-  pub way_is : way ≡ way_of plant site first
+  pub placement_is : placement ≡ placement_of plant site first
 
--- The site behind a change's record that came this way.
-pub record IsBehindChange (cut : ℕ) (change : Change) (way : Way) (site next : SiteState) (old : PlantState) : Type 0 where
+-- The site behind a change's record that was placed so.
+pub record IsBehindChange (cut : ℕ) (change : Change) (placement : Placement) (site next : SiteState) (old : PlantState) : Type 0 where
   pub items : List Item
   pub are : AreChangeItems cut change next.failed site old items
-  pub next_is : next ≡ behind_record old.journals way cut items (table_with_hits cut next.failed site) next.failed site
+  pub next_is : next ≡ behind_record old.journals placement cut items (table_with_hits cut next.failed site) next.failed site
 
--- A change is logged with the hits behind it. The numbers by its way decide whether it is logged at all.
+-- A change is logged with the hits behind it. The numbers by its placement decide whether it is logged at all.
 pub record LogsRows (cut : ℕ) (change : Change) (site next : SiteState) (old : PlantState) (result : Result (Unit {0}) StoreError) : Type 0 where
-  pub way : Way
-  pub is_way : IsWayOfChange cut change site old way
-  pub spent : IsErrOf result Spent ↔ (is_spent way site ≡ true)
-  pub behind : OnOk result (IsBehindChange cut change way site next old)
+  pub placement : Placement
+  pub is_placement : IsPlacementOfChange cut change site old placement
+  pub spent : IsErrOf result Spent ↔ (is_spent placement site ≡ true)
+  pub behind : OnOk result (IsBehindChange cut change placement site next old)
 
 -- Where there is nothing to log, nothing is called.
 pub record LogsChange {P : Type 0} (cut : ℕ) (change : Change) (site next : SiteState) (old : PlantState) (was is : P)
@@ -133,28 +133,28 @@ pub record LogsChange {P : Type 0} (cut : ℕ) (change : Change) (site next : Si
 
 -- A mark that is made first tells the hits of the rows before the command. The record then holds the command's rows with the same hits, and
 -- with the rows that these reach.
-abbrev pub change_deeds : Way → SiteState → (cut : ℕ) → (failed : List Bool) → List Deed
+abbrev pub change_deeds : Placement → SiteState → (cut : ℕ) → (failed : List Bool) → List Deed
 change_deeds Here site cut failed = Changed cut (table_with_hits cut failed site) ∷ []
 change_deeds Switched site cut failed = Changed cut (table_with_hits cut failed site) ∷ []
 change_deeds MarkedFirst site cut failed = Marked site.at site.mark.ended (told_by_mark failed site) ∷ Changed cut (table_with_hits cut failed site) ∷ []
 
-abbrev pub change_deeds_of : Change → Way → SiteState → (cut : ℕ) → (failed : List Bool) → List Deed
-change_deeds_of change way site cut failed = elim (changed_items change site.table.rows) [
+abbrev pub change_deeds_of : Change → Placement → SiteState → (cut : ℕ) → (failed : List Bool) → List Deed
+change_deeds_of change placement site cut failed = elim (changed_items change site.table.rows) [
   | [] ↦ []
-  | i ∷ items ↦ change_deeds way site cut failed
+  | i ∷ items ↦ change_deeds placement site cut failed
 ]
 
--- What a change's record does that comes this way.
-pub record DoesRows (tells : Type 0) (way : Way) (cut : ℕ) (site next : SiteState) (old new : PlantState) (result : Result (Unit {0}) StoreError) : Type 0 where
-  pub begins : tells → (e : Exceptions) → SiteStands e site old → BeginsDeeds e site.told (change_deeds way site cut next.failed) old new
-  pub does : tells → OnOk result ((e : Exceptions) → SiteStands e site old → DoesDeeds e site.told (change_deeds way site cut next.failed) old new)
+-- What a change's record does that is placed so.
+pub record DoesRows (tells : Type 0) (placement : Placement) (cut : ℕ) (site next : SiteState) (old new : PlantState) (result : Result (Unit {0}) StoreError) : Type 0 where
+  pub begins : tells → (e : Exceptions) → SiteStands e site old → BeginsDeeds e site.told (change_deeds placement site cut next.failed) old new
+  pub does : tells → OnOk result ((e : Exceptions) → SiteStands e site old → DoesDeeds e site.told (change_deeds placement site cut next.failed) old new)
 
 pub record DoesChange (tells : Type 0) (cut : ℕ) (change : Change) (site next : SiteState) (old new : PlantState)
     (result : Result (Unit {0}) StoreError) : Type 0 where
-  pub way : Way
-  pub is_way : changed_items change site.table.rows ≢ [] → IsWayOfChange cut change site old way
-  pub begins : tells → (e : Exceptions) → SiteStands e site old → BeginsDeeds e site.told (change_deeds_of change way site cut next.failed) old new
-  pub does : tells → OnOk result ((e : Exceptions) → SiteStands e site old → DoesDeeds e site.told (change_deeds_of change way site cut next.failed) old new)
+  pub placement : Placement
+  pub is_placement : changed_items change site.table.rows ≢ [] → IsPlacementOfChange cut change site old placement
+  pub begins : tells → (e : Exceptions) → SiteStands e site old → BeginsDeeds e site.told (change_deeds_of change placement site cut next.failed) old new
+  pub does : tells → OnOk result ((e : Exceptions) → SiteStands e site old → DoesDeeds e site.told (change_deeds_of change placement site cut next.failed) old new)
 
 -- ---- suspensions alone
 
@@ -162,13 +162,13 @@ pub record DoesChange (tells : Type 0) (cut : ℕ) (change : Change) (site next 
 pub record AreHitItems (cut : ℕ) (site : SiteState) (plant : PlantState) (items : List Item) : Type 0 where
   pub lead : Lead plant.volumes items site.told (told_with_hits cut site.failed site)
 
--- That record decides the way.
-pub record IsWayOfHits (cut : ℕ) (site : SiteState) (plant : PlantState) (way : Way) (items : List Item) : Type 0 where
+-- That record decides the placement.
+pub record IsPlacementOfHits (cut : ℕ) (site : SiteState) (plant : PlantState) (placement : Placement) (items : List Item) : Type 0 where
   pub are : AreHitItems cut site plant items
-  pub way_is : way ≡ way_of plant site items
+  pub placement_is : placement ≡ placement_of plant site items
 
 -- The site behind suspensions: behind their record, or behind a mark that was made in its place.
-abbrev pub with_suspensions : (journals : ℕ) → Way → (cut : ℕ) → List Item → (failed : List Bool) → SiteState → SiteState
+abbrev pub with_suspensions : (journals : ℕ) → Placement → (cut : ℕ) → List Item → (failed : List Bool) → SiteState → SiteState
 with_suspensions journals Here cut items failed site = behind_record journals Here cut items (told_with_hits cut site.failed site) site.failed site
 with_suspensions journals Switched cut items failed site = behind_record journals Switched cut items (told_with_hits cut site.failed site) site.failed site
 with_suspensions journals MarkedFirst cut items failed site = behind_mark site.mark.ended (told_with_hits site.time failed site) failed site
@@ -177,28 +177,28 @@ with_suspensions journals MarkedFirst cut items failed site = behind_mark site.m
 -- job failed anew, nothing is called.
 pub record Suspends {P : Type 0} (cut : ℕ) (site next : SiteState) (old : PlantState) (was is : P) (result : Result (Unit {0}) StoreError) : Type 0 where
   pub nothing : hit_now site.failed site.told ≡ [] → IsOk result × (next ≡ site) × (is ≡ was)
-  pub way : Way
+  pub placement : Placement
   pub items : List Item
-  pub is_way : IsWayOfHits cut site old way items
-  pub spent : hit_now site.failed site.told ≢ [] → IsErrOf result Spent ↔ (is_suspension_spent way site ≡ true)
-  pub logged : hit_now site.failed site.told ≢ [] → OnOk result (next ≡ with_suspensions old.journals way cut items next.failed site)
+  pub is_placement : IsPlacementOfHits cut site old placement items
+  pub spent : hit_now site.failed site.told ≢ [] → IsErrOf result Spent ↔ (is_suspension_spent placement site ≡ true)
+  pub logged : hit_now site.failed site.told ≢ [] → OnOk result (next ≡ with_suspensions old.journals placement cut items next.failed site)
 
-abbrev pub suspension_deeds : Way → SiteState → (cut : ℕ) → (failed : List Bool) → List Deed
+abbrev pub suspension_deeds : Placement → SiteState → (cut : ℕ) → (failed : List Bool) → List Deed
 suspension_deeds Here site cut failed = Changed cut (told_with_hits cut failed site) ∷ []
 suspension_deeds Switched site cut failed = Changed cut (told_with_hits cut failed site) ∷ []
 suspension_deeds MarkedFirst site cut failed = Marked site.at site.mark.ended (told_with_hits site.time failed site) ∷ []
 
-abbrev pub suspension_deeds_of : Way → SiteState → (cut : ℕ) → (failed : List Bool) → List Deed
-suspension_deeds_of way site cut failed = elim (hit_now site.failed site.told) [
+abbrev pub suspension_deeds_of : Placement → SiteState → (cut : ℕ) → (failed : List Bool) → List Deed
+suspension_deeds_of placement site cut failed = elim (hit_now site.failed site.told) [
   | [] ↦ []
-  | d ∷ hit ↦ suspension_deeds way site cut failed
+  | d ∷ hit ↦ suspension_deeds placement site cut failed
 ]
 
 pub record DoesSuspend (tells : Type 0) (cut : ℕ) (site next : SiteState) (old new : PlantState) (result : Result (Unit {0}) StoreError) : Type 0 where
-  pub way : Way
+  pub placement : Placement
   pub items : List Item
-  pub is_way : IsWayOfHits cut site old way items
-  -- The site is left by the same way.
-  pub left : hit_now site.failed site.told ≢ [] → OnOk result (next ≡ with_suspensions old.journals way cut items next.failed site)
-  pub begins : tells → (e : Exceptions) → SiteStands e site old → BeginsDeeds e site.told (suspension_deeds_of way site cut next.failed) old new
-  pub does : tells → OnOk result ((e : Exceptions) → SiteStands e site old → DoesDeeds e site.told (suspension_deeds_of way site cut next.failed) old new)
+  pub is_placement : IsPlacementOfHits cut site old placement items
+  -- The site is left by the same placement.
+  pub left : hit_now site.failed site.told ≢ [] → OnOk result (next ≡ with_suspensions old.journals placement cut items next.failed site)
+  pub begins : tells → (e : Exceptions) → SiteStands e site old → BeginsDeeds e site.told (suspension_deeds_of placement site cut next.failed) old new
+  pub does : tells → OnOk result ((e : Exceptions) → SiteStands e site old → DoesDeeds e site.told (suspension_deeds_of placement site cut next.failed) old new)

@@ -14,7 +14,7 @@ use Rattle.pair_table.specs.declared.level.Level.{Level}
 use Rattle.state_set.specs.Slots.{started_table}
 use Rattle.site_means.specs.declared.means.Means.{Means}
 use Rattle.site_means.specs.Sight.{means_of}
-use Rattle.site_store.specs.declared.starting.Front.{Front}
+use Rattle.site_store.specs.declared.starting.SlotFront.{SlotFront}
 use Rattle.site_store.specs.declared.store_error.StoreError.{StoreError}
 use Rattle.site_store.specs.declared.store_error.StoreError.TheVariants.{Fault, Spent}
 use Rattle.site_store.specs.Sites.{first_spot}
@@ -26,11 +26,11 @@ abbrev pub second_slot : ℕ
 second_slot = CONTROL_LENGTH / 2
 
 -- the front of the slot at a place of the control
-abbrev pub front_at : (place : ℕ) → (control : List ℕ) → Front
+abbrev pub front_at : (place : ℕ) → (control : List ℕ) → SlotFront
 front_at place control = record { place = place; is_open = slice_index control place == 1; number = u64_at (drop place control) 5 }
 
 -- the front of the slot at its place
-abbrev pub IsFrontOfSlot : Front → (control : List ℕ) → Type 0
+abbrev pub IsFrontOfSlot : SlotFront → (control : List ℕ) → Type 0
 IsFrontOfSlot front control = front ≡ front_at front.place control
 
 -- the places of the control's two slots, in either order

@@ -30,9 +30,9 @@ is_of_device device (Gone d) = false
 abbrev pub has_device : (device : ℕ) → List Item → Bool
 has_device device items = list_any (is_of_device device) items
 
--- What every site keeps: its body has room for the largest record, the journal is marked where the mark says, the rows that the devices
+-- The jobs of a site are sound: its body has room for the largest record, the journal is marked where the mark says, the rows that the devices
 -- tell are of the table's session, the jobs are at home, and where the body's items wait it knows for which volumes.
-pub record KeepsJobs {V : Type 0} (controls room : ℕ) (at marked : Spot) (session told : List ℕ) (waits : Bool) (items : List Item) (due : List Bool) (jobs : List (VolumeJob V)) : Type 0 where
+pub record AreJobsSound {V : Type 0} (controls room : ℕ) (at marked : Spot) (session told : List ℕ) (waits : Bool) (items : List Item) (due : List Bool) (jobs : List (VolumeJob V)) : Type 0 where
   pub room_is : room ≡ body_room controls
   pub marked_is : marked ≡ at
   pub told_is : told ≡ session

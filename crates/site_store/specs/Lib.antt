@@ -21,6 +21,6 @@ pub mod Recording
 pub mod Records
 pub mod Sites
 pub mod Standing
-pub mod Ways
+pub mod Placements
 pub mod Syncing
 pub mod Waiting

@@ -8,7 +8,7 @@ use Rattle.crash_plant.specs.Calls.{NoneLent}
 use Rattle.crash_plant.specs.Moments.{PlantState}
 use Rattle.applier.specs.Returns.{OnlyReads}
 use Rattle.pair_table.specs.declared.row.PairRow.{PairRow}
-use Rattle.pair_table.specs.Tables.{KeepsRows}
+use Rattle.pair_table.specs.Tables.{AreRowsSound}
 use Rattle.pending_queue.specs.Entries.{WaitingEntry}
 use Rattle.pending_queue.specs.Groups.{FormedGroup}
 use Rattle.xrc_journal.specs.declared.job.VolumeJob.{VolumeJob}
@@ -25,8 +25,8 @@ use Rattle.record_rows.specs.Records.{rows_behind_mark, rows_with_record}
 use Rattle.site_means.specs.Walk.{first_unfit, rows_through}
 use Rattle.site_store.specs.declared.store_error.StoreError.{StoreError}
 use Rattle.site_store.specs.declared.store_error.StoreError.TheVariants.{Spent}
-use Rattle.site_store.specs.declared.way.Way.{Way}
-use Rattle.site_store.specs.declared.way.Way.TheVariants.{Here, Switched, Marked as MarkedFirst}
+use Rattle.site_store.specs.declared.placement.Placement.{Placement}
+use Rattle.site_store.specs.declared.placement.Placement.TheVariants.{Here, Switched, Marked as MarkedFirst}
 use Rattle.site_store.specs.Sites.{SiteState}
 use Rattle.site_store.specs.Standing.{Leaves, SiteStands, row_has_volume}
 use Rattle.record_rows.specs.Deeds.{Deed}
@@ -37,8 +37,8 @@ use Rattle.record_rows.specs.Deeds.Deed.{Logged, Marked}
 use Rattle.site_store.specs.declared.hits.Hits.{Hits}
 use Rattle.site_store.specs.Hits.{NextStates, pairs_with_next, with_group_and_hits}
 use Rattle.site_store.specs.Jobs.{are_home_from, has_device}
-use Rattle.site_store.specs.Ways.{is_spent, way_of}
-use Rattle.site_store.specs.Records.{IsOfRecord, behind_record, behind_way, one_more}
+use Rattle.site_store.specs.Placements.{is_spent, placement_of}
+use Rattle.site_store.specs.Records.{IsOfRecord, behind_record, behind_placement, one_more}
 
 -- ---- the entries
 
@@ -141,7 +141,7 @@ pub record FormsRecord (tells : Type 0) (group : FormedGroup) (rows : List PairR
     (due failed : List Bool) (hits : Hits) : Type 0 where
   pub items : AreItemsOf tells group failed rows (rows_in_states (with_group_and_hits group hits) rows) plant now.items
   pub fit : first_unfit plant.volumes 0 rows now.items ≡ None
-  pub rules : KeepsRows rows
+  pub rules : AreRowsSound rows
   pub room : now.room ≡ held.room
   pub short : length (body_spelling now.items) ≤ 56669 * length group.entries + 64 * 31
   pub due_is : (d : ℕ) → slice_index_or due d false ≡ has_device d now.items
@@ -154,27 +154,27 @@ pub record FailedBetween (first between last : List Bool) : Type 0 where
   pub behind : (d : ℕ) → IsTrue (is_down between d) → IsTrue (is_down last d)
 
 -- The rows before the record: those of the site, or of the mark that was made first, once these jobs had failed.
-abbrev pub rows_before : Way → SiteState → (early : List Bool) → List PairRow
+abbrev pub rows_before : Placement → SiteState → (early : List Bool) → List PairRow
 rows_before Here site early = site.told
 rows_before Switched site early = site.told
 rows_before MarkedFirst site early = rows_marked site.time (hit_now early site.told) site.told
 
 -- The rows behind it. `early` are the jobs that have failed by the mark, `failed` those by the record.
-abbrev pub rows_logged : Way → SiteState → FormedGroup → (early failed : List Bool) → List PairRow
+abbrev pub rows_logged : Placement → SiteState → FormedGroup → (early failed : List Bool) → List PairRow
 rows_logged Here site group early failed = rows_with_record site.level group failed site.told
 rows_logged Switched site group early failed = rows_with_record site.level group failed site.told
 rows_logged MarkedFirst site group early failed = rows_behind_mark site.level (hit_now early site.told) group failed (rows_before MarkedFirst site early)
 
 -- The jobs that had failed before the record that is logged was formed: those of the site, or those at the mark that was made first.
-abbrev pub failed_before : Way → SiteState → (early : List Bool) → List Bool
+abbrev pub failed_before : Placement → SiteState → (early : List Bool) → List Bool
 failed_before Here site early = site.failed
 failed_before Switched site early = site.failed
 failed_before MarkedFirst site early = early
 
 -- ---- what was done
 
--- The record as it was formed first decides its way. Its numbers decide whether it is logged at all.
-pub record FormsFirst (tells : Type 0) (group : FormedGroup) (site next : SiteState) (plant : PlantState) (way : Way)
+-- The record as it was formed first decides its placement. Its numbers decide whether it is logged at all.
+pub record FormsFirst (tells : Type 0) (group : FormedGroup) (site next : SiteState) (plant : PlantState) (placement : Placement)
     (result : Result (Unit {0}) StoreError) : Type 0 where
   pub failed : List Bool
   pub failed_by_then : FailedBetween site.failed failed next.failed
@@ -182,11 +182,11 @@ pub record FormsFirst (tells : Type 0) (group : FormedGroup) (site next : SiteSt
   pub by_entries : FailByEntries site.table.rows group.entries site.failed failed
   pub items : List Item
   pub are : AreItemsOf tells group failed site.told (rows_with_record site.level group failed site.told) plant items
-  pub way_is : way ≡ way_of plant site items
-  pub spent : IsErrOf result Spent ↔ (is_spent way site ≡ true)
-  pub here : way ≢ MarkedFirst → OnOk result (next.waiting ≡ items)
+  pub placement_is : placement ≡ placement_of plant site items
+  pub spent : IsErrOf result Spent ↔ (is_spent placement site ≡ true)
+  pub here : placement ≢ MarkedFirst → OnOk result (next.waiting ≡ items)
 
-abbrev pub log_deeds : Way → SiteState → FormedGroup → (early failed : List Bool) → List Deed
+abbrev pub log_deeds : Placement → SiteState → FormedGroup → (early failed : List Bool) → List Deed
 log_deeds Here site group early failed = Logged group.cut.0 group.entries (rows_logged Here site group early failed) ∷ []
 log_deeds Switched site group early failed = Logged group.cut.0 group.entries (rows_logged Switched site group early failed) ∷ []
 log_deeds MarkedFirst site group early failed =
@@ -194,38 +194,38 @@ log_deeds MarkedFirst site group early failed =
     ∷ Logged group.cut.0 group.entries (rows_logged MarkedFirst site group early failed) ∷ []
 
 -- At every moment the first of these deeds are seen, and after Ok all of them. `early` are the jobs that had failed by the mark.
-pub record DoesLog (tells : Type 0) (group : FormedGroup) (way : Way) (early : List Bool) (site next : SiteState) (old new : PlantState)
+pub record DoesLog (tells : Type 0) (group : FormedGroup) (placement : Placement) (early : List Bool) (site next : SiteState) (old new : PlantState)
     (result : Result (Unit {0}) StoreError) : Type 0 where
-  pub begins : tells → (e : Exceptions) → SiteStands e site old → BeginsDeeds e site.told (log_deeds way site group early next.failed) old new
-  pub does : tells → OnOk result ((e : Exceptions) → SiteStands e site old → DoesDeeds e site.told (log_deeds way site group early next.failed) old new)
+  pub begins : tells → (e : Exceptions) → SiteStands e site old → BeginsDeeds e site.told (log_deeds placement site group early next.failed) old new
+  pub does : tells → OnOk result ((e : Exceptions) → SiteStands e site old → DoesDeeds e site.told (log_deeds placement site group early next.failed) old new)
 
 -- the site behind the record of a group with these items, once these jobs have failed
-abbrev pub behind_group : (journals : ℕ) → Way → FormedGroup → List Item → (early failed : List Bool) → SiteState → SiteState
-behind_group journals way group items early failed site =
-    let rows = rows_logged way site group early failed in
-    record (behind_record journals way group.cut.0 items rows failed site) { since = one_more (behind_way way site).since; waiting = items }
+abbrev pub behind_group : (journals : ℕ) → Placement → FormedGroup → List Item → (early failed : List Bool) → SiteState → SiteState
+behind_group journals placement group items early failed site =
+    let rows = rows_logged placement site group early failed in
+    record (behind_record journals placement group.cut.0 items rows failed site) { since = one_more (behind_placement placement site).since; waiting = items }
 
--- The group is logged by a way: behind a switch where it doesn't fit, and behind a mark where this would lead into a set that isn't marked
+-- The group is logged by a placement: behind a switch where it doesn't fit, and behind a mark where this would lead into a set that isn't marked
 -- yet.
-pub record LogsBy (tells : Type 0) (group : FormedGroup) (way : Way) (site next : SiteState) (old new : PlantState)
+pub record LogsBy (tells : Type 0) (group : FormedGroup) (placement : Placement) (site next : SiteState) (old new : PlantState)
     (result : Result (Unit {0}) StoreError) : Type 0 where
   -- the jobs that had failed by the mark that was made first
   pub early : List Bool
   pub early_failed : FailedBetween site.failed early next.failed
   -- Behind the mark, too, volumes without an entry aren't read.
-  pub by_entries : FailByEntries site.table.rows group.entries (failed_before way site early) next.failed
-  pub items : OnOk result (AreItemsOf tells group next.failed (rows_before way site early) next.told old next.waiting)
-  pub next_is : OnOk result (next ≡ behind_group old.journals way group next.waiting early next.failed site)
-  pub does : DoesLog tells group way early site next old new result
+  pub by_entries : FailByEntries site.table.rows group.entries (failed_before placement site early) next.failed
+  pub items : OnOk result (AreItemsOf tells group next.failed (rows_before placement site early) next.told old next.waiting)
+  pub next_is : OnOk result (next ≡ behind_group old.journals placement group next.waiting early next.failed site)
+  pub does : DoesLog tells group placement early site next old new result
 
--- Its numbers decide whether it is logged at all, and the record as it was formed first decides the way.
+-- Its numbers decide whether it is logged at all, and the record as it was formed first decides the placement.
 pub record LogsGroup (tells : Type 0) (group : FormedGroup) (site next : SiteState) (old new : PlantState)
     (result : Result (Unit {0}) StoreError) : Type 0 where
-  pub way : Way
-  pub first : FormsFirst tells group site next old way result
-  pub logs : LogsBy tells group way site next old new result
+  pub placement : Placement
+  pub first : FormsFirst tells group site next old placement result
+  pub logs : LogsBy tells group placement site next old new result
   -- A mark that is made first tells the jobs that had failed when the record was formed first.
-  pub early_has : way ≡ MarkedFirst → (d : ℕ) → IsTrue (is_down first.failed d) → IsTrue (is_down logs.early d)
+  pub early_has : placement ≡ MarkedFirst → (d : ℕ) → IsTrue (is_down first.failed d) → IsTrue (is_down logs.early d)
 
 -- Where the numbers are spent volumes were read alone. The site is as it was, but for jobs that failed in it, and what stood stands.
 pub record StaysUnwritten (tells : Type 0) (site next : SiteState) (old new : PlantState) : Type 0 where

@@ -26,7 +26,7 @@ use Rattle.record_rows.specs.Deeds.Deed.{Marked}
 use Rattle.site_store.specs.Records.{VolumesStay, behind_mark}
 use Rattle.record_rows.specs.Hits.{hit_now, rows_marked}
 use Rattle.record_rows.specs.Records.{rows_with_hits}
-use Rattle.site_store.specs.Ways.{is_mark_spent}
+use Rattle.site_store.specs.Placements.{is_mark_spent}
 
 -- A mark may be made: no change waits to be logged, and no item waits for the device of a duplex row.
 pub record MayMark (tells : Type 0) (site : SiteState) (plant : PlantState) : Type 0 where

@@ -1,4 +1,4 @@
--- A record put at the journal's end: where it stands by its way, what is shown while it is put, and what is meant once it was put.
+-- A record put at the journal's end: where it stands by its placement, what is shown while it is put, and what is meant once it was put.
 use Rattle.std.specs.Prelude.{◌≡◌, ◌≢◌, ◌⊎◌, ℕ, ◌+◌, ◌-◌, ◌^◌, ◌≤◌, List, OnOk, Result}
 use Rattle.crash_plant.specs.declared.device.Device.TheVariants.{Journal}
 use Rattle.crash_plant.specs.declared.spot.Spot.{Spot}
@@ -18,8 +18,8 @@ use Rattle.site_means.specs.Walk.{Walk}
 use Rattle.site_store.specs.RingPlants.{AllMean, AreDurable, IsMeantBehind, and_switch_for}
 use Rattle.site_store.specs.Ring.{FitsBehind, ShowsGroup, ShowsSame}
 use Rattle.site_store.specs.declared.store_error.StoreError.{StoreError}
-use Rattle.site_store.specs.declared.way.Way.{Way}
-use Rattle.site_store.specs.declared.way.Way.TheVariants.{Here, Switched, Marked}
+use Rattle.site_store.specs.declared.placement.Placement.{Placement}
+use Rattle.site_store.specs.declared.placement.Placement.TheVariants.{Here, Switched, Marked}
 
 -- the group of a record with this time and these items
 abbrev pub group_with : (cut : ℕ) → List Item → Logged
@@ -37,30 +37,30 @@ pub record HasRoomBehindSwitch (plant : PlantState) (from at : Spot) (items : Li
   pub room : room_for items ≤ plant.lengths (Journal (next_set plant.journals at.set))
   pub number : at.number + 1 ≤ 2 ^ 64 - 2
 
--- The record has room by its way. Once the mark that had to come first was made, a switch comes there too.
-abbrev pub HasRoomBy : PlantState → Way → (from at : Spot) → List Item → Type 0
+-- The record has room by its placement. Once the mark that had to come first was made, a switch comes there too.
+abbrev pub HasRoomBy : PlantState → Placement → (from at : Spot) → List Item → Type 0
 HasRoomBy plant Here from at items = at.place + room_for items ≤ plant.lengths (Journal at.set)
 HasRoomBy plant Switched from at items = HasRoomBehindSwitch plant from at items
 HasRoomBy plant Marked from at items = HasRoomBehindSwitch plant from at items
 
 -- A record may be put at the journal's end, with a cut that isn't below the time of any record there.
-pub record MayPutRecord (tells : Type 0) (way : Way) (from at : Spot) (cut : ℕ) (items : List Item) (plant : PlantState) : Type 0 where
+pub record MayPutRecord (tells : Type 0) (placement : Placement) (from at : Spot) (cut : ℕ) (items : List Item) (plant : PlantState) : Type 0 where
   pub grows : MayGrow plant at
   pub body : IsWholeBody (form_of plant) items
-  pub room : HasRoomBy plant way from at items
+  pub room : HasRoomBy plant placement from at items
   pub ends : tells → AllEndThrough plant from at cut
 
 -- ---- the walk behind it
 
 -- the walk to where the record stands
-abbrev pub walk_by : (sets : ℕ) → Way → Logged → Walk → Walk
+abbrev pub walk_by : (sets : ℕ) → Placement → Logged → Walk → Walk
 walk_by sets Here g w = w
 walk_by sets Switched g w = and_switch_for sets g w
 walk_by sets Marked g w = and_switch_for sets g w
 
 -- the walk with the record at its end
-abbrev pub walk_behind_record : (sets : ℕ) → Way → Logged → Walk → Walk
-walk_behind_record sets way g w = and_group g (behind_logged g (walk_by sets way g w).at) (walk_by sets way g w)
+abbrev pub walk_behind_record : (sets : ℕ) → Placement → Logged → Walk → Walk
+walk_behind_record sets placement g w = and_group g (behind_logged g (walk_by sets placement g w).at) (walk_by sets placement g w)
 
 -- ---- while it is put
 
@@ -69,17 +69,17 @@ pub record MeansStill (shape : Shape) (means : Means) (old new : Images) : Type 
   pub walk : Walk
   pub shows : ShowsSame shape means walk old new
 
--- They mean the group more, by the walk to where it stands by its way.
-abbrev pub ShowsMore : Way → Means → Walk → Logged → PlantState → (old new : Images) → Type 0
-ShowsMore way means w g plant old new = ShowsGroup (shape_of plant) g means (walk_by plant.journals way g w) old new
+-- They mean the group more, by the walk to where it stands by its placement.
+abbrev pub ShowsMore : Placement → Means → Walk → Logged → PlantState → (old new : Images) → Type 0
+ShowsMore placement means w g plant old new = ShowsGroup (shape_of plant) g means (walk_by plant.journals placement g w) old new
 
 -- At every moment what was meant is meant still, or the group more.
-abbrev pub RecordIsShown : Way → Means → Walk → Logged → (old new : PlantState) → Type 0
-RecordIsShown way means w g old new = AllFollow (λ b c. MeansStill (shape_of old) means b c ⊎ ShowsMore way means w g old b c) old new
+abbrev pub RecordIsShown : Placement → Means → Walk → Logged → (old new : PlantState) → Type 0
+RecordIsShown placement means w g old new = AllFollow (λ b c. MeansStill (shape_of old) means b c ⊎ ShowsMore placement means w g old b c) old new
 
 -- Once it was put, all means the group more.
-abbrev pub RecordIsMeant : Way → Means → Walk → Logged → (old new : PlantState) → Type 0
-RecordIsMeant way means w g old new = IsMeantBehind (ShowsMore way means w g old) (with_group g means) (walk_behind_record old.journals way g w) old new
+abbrev pub RecordIsMeant : Placement → Means → Walk → Logged → (old new : PlantState) → Type 0
+RecordIsMeant placement means w g old new = IsMeantBehind (ShowsMore placement means w g old) (with_group g means) (walk_behind_record old.journals placement g w) old new
 
 -- This holds of each meaning from a mark's spot whose walk ends at a spot, and whose rows a group fits.
 abbrev pub OfMeanings : (from at : Spot) → Logged → PlantState → (Means → Walk → Type 0) → Type 0
@@ -87,8 +87,8 @@ OfMeanings from at g plant holds =
     (means : Means) (w : Walk) → means.from ≡ from → w.at ≡ at → AllMean plant means w → FitsBehind plant.volumes means w g → holds means w
 
 -- So it is of each meaning whose walk ends where the record is put.
-pub record ShowsRecord (tells : Type 0) (way : Way) (from at : Spot) (g : Logged) (old new : PlantState) (result : Result (Unit {0}) StoreError) : Type 0 where
-  pub shown : tells → OfMeanings from at g old (λ means w. RecordIsShown way means w g old new)
-  pub meant : tells → OnOk result (OfMeanings from at g old (λ means w. RecordIsMeant way means w g old new))
+pub record ShowsRecord (tells : Type 0) (placement : Placement) (from at : Spot) (g : Logged) (old new : PlantState) (result : Result (Unit {0}) StoreError) : Type 0 where
+  pub shown : tells → OfMeanings from at g old (λ means w. RecordIsShown placement means w g old new)
+  pub meant : tells → OnOk result (OfMeanings from at g old (λ means w. RecordIsMeant placement means w g old new))
   -- The data sets of the walk stay durable.
-  pub durable : tells → OnOk result ((w : Walk) → w.at ≡ at → AreDurable old w.entered → AreDurable new (walk_behind_record old.journals way g w).entered)
+  pub durable : tells → OnOk result ((w : Walk) → w.at ≡ at → AreDurable old w.entered → AreDurable new (walk_behind_record old.journals placement g w).entered)

@@ -6,10 +6,10 @@ use Rattle.crash_plant.specs.Moments.{Follows, PlantState, Same, on}
 use Rattle.pair_table.specs.declared.row.PairRow.{PairRow}
 use Rattle.pair_table.specs.Tables.{with_rows}
 use Rattle.xrc_journal.specs.Items.{Item}
-use Rattle.site_store.specs.declared.way.Way.{Way}
-use Rattle.site_store.specs.declared.way.Way.TheVariants.{Here, Switched, Marked}
+use Rattle.site_store.specs.declared.placement.Placement.{Placement}
+use Rattle.site_store.specs.declared.placement.Placement.TheVariants.{Here, Switched, Marked}
 use Rattle.site_store.specs.Sites.{SiteState, next_mark, is_written}
-use Rattle.site_store.specs.Ways.{spot_behind}
+use Rattle.site_store.specs.Placements.{spot_behind}
 
 -- one call more, as far as 32 bits count
 abbrev pub one_more : (since : ℕ) → ℕ
@@ -29,19 +29,19 @@ behind_mark ended rows failed site = record site {
 }
 
 -- the site behind the mark that is made before a record, where one is
-abbrev pub behind_way : Way → SiteState → SiteState
-behind_way Here site = site
-behind_way Switched site = site
-behind_way Marked site = behind_mark site.mark.ended site.told site.failed site
+abbrev pub behind_placement : Placement → SiteState → SiteState
+behind_placement Here site = site
+behind_placement Switched site = site
+behind_placement Marked site = behind_mark site.mark.ended site.told site.failed site
 
--- the site behind a record of these items, which came this way and leaves these rows
-abbrev pub behind_record : (journals : ℕ) → Way → (cut : ℕ) → List Item → (rows : List PairRow) → (failed : List Bool) → SiteState → SiteState
-behind_record journals way cut items rows failed site = record (behind_way way site) {
+-- the site behind a record of these items, which was placed so and leaves these rows
+abbrev pub behind_record : (journals : ℕ) → Placement → (cut : ℕ) → List Item → (rows : List PairRow) → (failed : List Bool) → SiteState → SiteState
+behind_record journals placement cut items rows failed site = record (behind_placement placement site) {
   table = with_rows site.table rows;
   is_ahead = false;
   told = rows;
   time = cut;
-  at = spot_behind journals way items site.at;
+  at = spot_behind journals placement items site.at;
   failed = failed;
 }
 

@@ -5,19 +5,19 @@ ghost use Rattle.applier.specs.Returns.{WorksOnLent};
 ghost use Rattle.crash_plant.specs.Calls.{Silent, WorksOn};
 ghost use Rattle.xrc_journal.specs.Items.{body_spelling};
 ghost use Rattle.site_store.specs.declared.store_error.StoreError.TheVariants.{Spent};
-ghost use Rattle.site_store.specs.declared.way.Way.TheVariants.{Marked};
+ghost use Rattle.site_store.specs.declared.placement.Placement.TheVariants.{Marked};
 ghost use Rattle.site_store.specs.Causes.{FailByCounts, HasStoreCause};
 ghost use Rattle.site_store.specs.Changing.{DoesChange, DoesRows, FormsChange, IsBehindChange, LogsChange, MayChange, changed_items, gone_of, named_devices, pairs_of};
-ghost use Rattle.pair_table.specs.Tables.{KeepsRows, are_below, with_rows};
+ghost use Rattle.pair_table.specs.Tables.{AreRowsSound, are_below, with_rows};
 ghost use Rattle.record_rows.specs.Records.{rows_with_hits};
 ghost use Rattle.site_store.specs.Jobs.{has_job_failed};
 ghost use Rattle.site_store.specs.Records.{IsOfRecord, VolumesStay};
 ghost use Rattle.site_store.specs.Standing.{Leaves};
-ghost use Rattle.site_store.specs.Ways.{is_spent};
+ghost use Rattle.site_store.specs.Placements.{is_spent};
 
 use crate::hits::{hits_at, put_hits, take_hits};
+use crate::placement::{Placement, placement_from, record_needs_more};
 use crate::recording::put_record;
-use crate::way::{Way, record_needs_more, way_from};
 use crate::{Site, StoreError};
 use crash_plant::Plant;
 use pair_table::{Change, Level, PairTable};
@@ -27,7 +27,7 @@ use xrc_journal::{Body, VolumeJob};
 /// Puts the rows of devices as they stand in the table.
 fn put_rows(body: &mut Body, table: &PairTable, devices: &[u16])
     requires room { length (body_spelling body.old.items) + length devices.now * 31 ≤ body.old.room }
-    requires rules { KeepsRows table.now.rows }
+    requires rules { AreRowsSound table.now.rows }
     ensures put { body.new ≡ record { items = body.old.items ++ pairs_of devices.now table.now.rows; room = body.old.room } }
     ensures short { length (body_spelling body.new.items) ≤ length (body_spelling body.old.items) + length devices.now * 31 }
 {
@@ -52,7 +52,7 @@ fn put_gone(body: &mut Body, devices: &[u16])
 /// Takes the items of a change in place of those that were there.
 fn take_change(body: &mut Body, table: &PairTable, change: &Change)
     requires room { named_devices change.now * 31 ≤ body.old.room }
-    requires rules { KeepsRows table.now.rows }
+    requires rules { AreRowsSound table.now.rows }
     ensures put { body.new ≡ record { items = changed_items change.now table.now.rows; room = body.old.room } }
     ensures short { length (body_spelling body.new.items) ≤ named_devices change.now * 31 }
 {
@@ -131,7 +131,7 @@ impl<V> Site<V> {
         self.waits = false;
         let level = self.level;
         form_change(&mut self.body, &self.table, &self.jobs, level, cut, change);
-        put_record(&mut self.journal, plant, cut, &self.body, Way::Marked)?;
+        put_record(&mut self.journal, plant, cut, &self.body, Placement::Marked)?;
         self.take_logged(cut);
         Ok(())
     }
@@ -171,14 +171,14 @@ impl<V> Site<V> {
             self.ahead = false;
             return Ok(());
         }
-        let way = way_from(plant, self.journal.at, self.mark.at, &self.body);
-        if record_needs_more(way, self.journal.at.number, self.mark.number) {
+        let placement = placement_from(plant, self.journal.at, self.mark.at, &self.body);
+        if record_needs_more(placement, self.journal.at.number, self.mark.number) {
             return Err(StoreError::Spent);
         }
-        if way == Way::Marked {
+        if placement == Placement::Marked {
             return self.log_behind_mark(plant, cut, change);
         }
-        put_record(&mut self.journal, plant, cut, &self.body, way)?;
+        put_record(&mut self.journal, plant, cut, &self.body, placement)?;
         self.take_logged(cut);
         Ok(())
     }

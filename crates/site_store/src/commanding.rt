@@ -6,7 +6,7 @@ ghost use Rattle.pair_table.specs.Refusals.{refusal};
 ghost use Rattle.pair_table.specs.declared.command.Change.TheVariants.{Added as AddedPair};
 ghost use Rattle.pair_table.specs.declared.command.Refusal.{Refusal};
 ghost use Rattle.pair_table.specs.declared.command.CommandError.TheVariants.{Refused, NoMemory as Memory};
-ghost use Rattle.pair_table.specs.Tables.{KeepsRows, MayPut, with_rows};
+ghost use Rattle.pair_table.specs.Tables.{AreRowsSound, MayPut, with_rows};
 ghost use Rattle.site_store.specs.Commands.{AddsBelow, AreOnVolumes, ChangesMayBeLogged, CommandsLeaveSites, IsToLog, MayDo, PutRowsLeaveSites, added_device, alters, behind_command, behind_put, without_flag};
 
 use crate::Site;
@@ -32,7 +32,7 @@ fn copy_rows(alloc: Global, from: &PairTable, to: &mut PairTable) -> Result<(), 
     requires { to.old.rows ≡ [] }
     ensures ok { OnOk result (to.new.rows ≡ from.now.rows) }
     ensures session { to.new.session ≡ to.old.session }
-    ensures rules { KeepsRows from.now.rows }
+    ensures rules { AreRowsSound from.now.rows }
 {
     for place in 0..from.len() {
         let Some(row) = from.row(place) else {
@@ -53,7 +53,7 @@ fn keep_rows(
     ensures ok { OnOk result (told.new.rows ≡ (if is_wanted then table.now.rows else told.old.rows)) }
     ensures err { OnErr result (is_wanted ≡ true) }
     ensures session { told.new.session ≡ told.old.session }
-    ensures rules { is_wanted ≡ true → KeepsRows table.now.rows }
+    ensures rules { is_wanted ≡ true → AreRowsSound table.now.rows }
 {
     if !is_wanted {
         return Ok(());
@@ -132,7 +132,7 @@ impl<V> Site<V> {
         ensures memory { result ≡ Err Memory → IsTrue (wants_memory command.now) }
         ensures again { MayDo names.now self.new }
         // The change may be logged next, if none waited before it.
-        ensures to_log { IfOk result (λ change. self.old.is_ahead ≡ false → KeepsRows self.new.table.rows → IsToLog change self.new) }
+        ensures to_log { IfOk result (λ change. self.old.is_ahead ≡ false → AreRowsSound self.new.table.rows → IsToLog change self.new) }
     {
         let is_kept = is_to_keep(command, self.ahead);
         keep_rows(alloc, is_kept, &self.table, &mut self.told)?;

@@ -2,7 +2,7 @@
 
 ghost use Rattle.std.specs.Prelude.{◌≡◌, ◌<◌, ◌≤◌, ◌+◌, ◌*◌, length, IfSome, IsTrue};
 ghost use Rattle.std.specs.List.{list_all};
-ghost use Rattle.pair_table.specs.Tables.{KeepsRows, are_below, with_rows};
+ghost use Rattle.pair_table.specs.Tables.{AreRowsSound, are_below, with_rows};
 ghost use Rattle.xrc_journal.specs.Items.{body_spelling};
 ghost use Rattle.site_store.specs.Hits.{stays_row, with_group_and_hits};
 ghost use Rattle.site_store.specs.Logging.{with_pairs};
@@ -93,7 +93,7 @@ pub(crate) fn put_changed(body: &mut Body, table: &PairTable, formed: &Formed, h
     requires below { IsTrue (are_below 64 table.now.rows) }
     ensures put { body.new ≡ with_pairs (with_group_and_hits formed.now hits.now) table.now.rows body.old }
     ensures keep { IsTrue (list_all (stays_row (with_group_and_hits formed.now hits.now)) table.now.rows) }
-    ensures rules { KeepsRows table.now.rows }
+    ensures rules { AreRowsSound table.now.rows }
     ensures short { length (body_spelling body.new.items) ≤ length (body_spelling body.old.items) + 64 * 31 }
 {
     for place in 0..table.len() {

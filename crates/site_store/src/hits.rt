@@ -3,7 +3,7 @@
 ghost use Rattle.std.specs.Prelude.{◌≡◌, ◌≤◌, ◌<◌, ◌+◌, ◌*◌, ◌++◌, ◌&&◌, ◌||◌, ℕ, false, length, map, slice_index_or, IfSome, IsTrue};
 ghost use Rattle.pair_table.specs.Devices.{is_among};
 ghost use Rattle.pair_table.specs.Rows.{is_state, is_suspended};
-ghost use Rattle.pair_table.specs.Tables.{KeepsRows, are_below, with_rows};
+ghost use Rattle.pair_table.specs.Tables.{AreRowsSound, are_below, with_rows};
 ghost use Rattle.record_rows.specs.ChangedRows.{rows_in_states};
 ghost use Rattle.record_rows.specs.Hits.{hit_now, is_device_suspended, is_hit_now};
 ghost use Rattle.row_changes.specs.Changes.{is_session_level};
@@ -30,7 +30,7 @@ pub(crate) struct Hits {
 
 /// How far hits reach: the session's level, and whether hits of an earlier mark are due.
 #[derive(Clone, Copy)]
-pub(crate) struct Reach {
+pub(crate) struct HitReach {
     pub(crate) level: Level,
     pub(crate) due: bool,
 }
@@ -89,7 +89,7 @@ fn hit_devices<V>(jobs: &[VolumeJob<V>], table: &PairTable) -> [bool; MOST_VOLUM
     requires below { IsTrue (are_below (length jobs.now) table.now.rows) }
     requires few { length jobs.now ≤ 64 }
     ensures hit { (d : ℕ) → d < 64 → slice_index_or result d false ≡ is_among d (hit_now (map has_job_failed jobs.now) table.now.rows) }
-    ensures rules { KeepsRows table.now.rows }
+    ensures rules { AreRowsSound table.now.rows }
 {
     let mut devices = [false; MOST_VOLUMES];
     for place in 0..table.len() {
@@ -124,7 +124,7 @@ pub(crate) fn hits_at<V>(
     requires below { IsTrue (are_below (length jobs.now) table.now.rows) }
     requires few { length jobs.now ≤ 64 }
     ensures hits { AreHits level time (map has_job_failed jobs.now) due table.now.rows result }
-    ensures rules { KeepsRows table.now.rows }
+    ensures rules { AreRowsSound table.now.rows }
 {
     let any = is_any_hit(jobs, table);
     Hits {
@@ -160,7 +160,7 @@ pub(crate) fn put_hits(body: &mut Body, table: &PairTable, hits: &Hits)
     requires room { length (body_spelling body.old.items) + 64 * 31 ≤ body.old.room }
     requires below { IsTrue (are_below 64 table.now.rows) }
     ensures put { body.new ≡ record { items = body.old.items ++ pairs_with_next (with_hits hits.now) table.now.rows; room = body.old.room } }
-    ensures rules { KeepsRows table.now.rows }
+    ensures rules { AreRowsSound table.now.rows }
     ensures short { length (body_spelling body.new.items) ≤ length (body_spelling body.old.items) + 64 * 31 }
 {
     for place in 0..table.len() {

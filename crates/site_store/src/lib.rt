@@ -15,6 +15,7 @@ mod group_rows;
 mod hits;
 mod logging;
 mod marking;
+mod placement;
 mod recording;
 mod ring;
 mod site;
@@ -22,7 +23,6 @@ mod starting;
 mod store_error;
 mod suspending;
 mod syncing;
-mod way;
 mod writing;
 
 pub use commanding::commands_call_no_device;

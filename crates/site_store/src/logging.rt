@@ -4,7 +4,7 @@ ghost use Rattle.std.specs.Prelude.{◌≡◌, ◌≤◌, ◌<◌, ◌+◌, ◌-
 ghost use Rattle.applier.specs.Returns.{OnlyReads, WorksOnLent};
 ghost use Rattle.crash_plant.specs.Calls.{NoneLent, Silent};
 ghost use Rattle.site_store.specs.declared.store_error.StoreError.TheVariants.{Spent};
-ghost use Rattle.site_store.specs.declared.way.Way.TheVariants.{Marked};
+ghost use Rattle.site_store.specs.declared.placement.Placement.TheVariants.{Marked};
 ghost use Rattle.site_store.specs.Causes.{FailByCounts, HasStoreCause};
 ghost use Rattle.site_store.specs.Hits.{AreHits};
 ghost use Rattle.site_store.specs.Jobs.{are_home_from, has_job_failed};
@@ -14,9 +14,9 @@ ghost use Rattle.site_store.specs.Standing.{MayRecord, Leaves};
 
 use crate::forming::form_group;
 use crate::group_rows::{put_changed, take_changed};
-use crate::hits::{Hits, Reach, hits_at};
+use crate::hits::{HitReach, Hits, hits_at};
+use crate::placement::{Placement, placement_from, record_needs_more};
 use crate::recording::put_record;
-use crate::way::{Way, record_needs_more, way_from};
 use crate::{Site, StoreError};
 use crash_plant::Plant;
 use pair_table::PairTable;
@@ -30,7 +30,7 @@ fn form_record<P: Plant>(
     plant: &mut P,
     jobs: &mut [VolumeJob<P::Volume>],
     table: &PairTable,
-    reach: Reach,
+    reach: HitReach,
     formed: &Formed,
     body: &mut Body,
     due: &mut [bool],
@@ -77,7 +77,7 @@ impl<V> Site<V> {
         // The body has room for groups of so many controls.
         prove!(formed.controls() <= self.controls);
         let reached = self.mark_hits(plant)?;
-        let reach = Reach {
+        let reach = HitReach {
             level: self.level,
             due: reached,
         };
@@ -88,7 +88,7 @@ impl<V> Site<V> {
             plant,
             formed.cut(),
             &self.body,
-            Way::Marked,
+            Placement::Marked,
         )?;
         take_changed(&mut self.table, formed, &hits);
         self.time = formed.cut();
@@ -129,21 +129,27 @@ impl<V> Site<V> {
         prove!(formed.controls() <= self.controls);
         // No item waits by what the call requires.
         self.waits = false;
-        let reach = Reach {
+        let reach = HitReach {
             level: self.level,
             due: false,
         };
         let (body, due) = (&mut self.body, self.due.as_mut_slice());
         let hits = form_record(plant, &mut self.jobs, &self.table, reach, formed, body, due);
-        let way = way_from(plant, self.journal.at, self.mark.at, &self.body);
-        if record_needs_more(way, self.journal.at.number, self.mark.number) {
+        let placement = placement_from(plant, self.journal.at, self.mark.at, &self.body);
+        if record_needs_more(placement, self.journal.at.number, self.mark.number) {
             return Err(StoreError::Spent);
         }
-        match way {
-            Way::Marked => return self.log_group_behind_mark(plant, formed),
-            Way::Here | Way::Switched => {}
+        match placement {
+            Placement::Marked => return self.log_group_behind_mark(plant, formed),
+            Placement::Here | Placement::Switched => {}
         }
-        put_record(&mut self.journal, plant, formed.cut(), &self.body, way)?;
+        put_record(
+            &mut self.journal,
+            plant,
+            formed.cut(),
+            &self.body,
+            placement,
+        )?;
         take_changed(&mut self.table, formed, &hits);
         self.time = formed.cut();
         self.since = self.since.saturating_add(1);

@@ -16,8 +16,8 @@ ghost use Rattle.site_store.specs.Sites.{next_mark};
 ghost use Rattle.site_store.specs.Standing.{Leaves, StandsFast, none_excepted};
 
 use crate::hits::{hits_at, is_any_hit, take_hits};
+use crate::placement::MOST;
 use crate::syncing::{sync_in_turn, sync_side_by_side};
-use crate::way::MOST;
 use crate::writing::put_mark;
 use crate::{Site, StoreError};
 use control_set::Mark;

@@ -8,14 +8,14 @@ ghost use Rattle.xrc_journal.specs.Items.{body_spelling};
 ghost use Rattle.xrc_journal.specs.Records.{next_set, spot_after, spot_in};
 ghost use Rattle.xrc_journal.specs.RingWalks.{AllEndThrough};
 ghost use Rattle.site_store.specs.declared.store_error.StoreError.TheVariants.{Spent};
-ghost use Rattle.site_store.specs.declared.way.Way.TheVariants.{Here, Switched};
+ghost use Rattle.site_store.specs.declared.placement.Placement.TheVariants.{Here, Switched};
 ghost use Rattle.site_store.specs.Causes.{HasStoreCause};
 ghost use Rattle.site_store.specs.Recording.{MayPutRecord, ShowsRecord, group_in};
 ghost use Rattle.site_store.specs.Records.{IsJournal};
-ghost use Rattle.site_store.specs.Ways.{spot_behind};
+ghost use Rattle.site_store.specs.Placements.{spot_behind};
 
 use crate::StoreError;
-use crate::way::Way;
+use crate::placement::Placement;
 use crash_plant::{Device, Plant};
 use tod_stamp::Stamp;
 use xrc_journal::{AppendError, Body, Journal};
@@ -83,25 +83,25 @@ fn put_switched<P: Plant>(
     put_group(journal, plant, cut, body)
 }
 
-/// Puts a group with this time and these items at the journal's end, by the way that was found for it. A mark that had to come
+/// Puts a group with this time and these items at the journal's end, by the placement that was found for it. A mark that had to come
 /// first was made by then. After an error the journal may not be used again.
 pub(crate) fn put_record<P: Plant>(
     journal: &mut Journal,
     plant: &mut P,
     cut: Stamp,
     body: &Body,
-    way: Way,
+    placement: Placement,
 ) -> Result<(), StoreError>
-    requires may { MayPutRecord P.tells way journal.old.marked journal.old.at cut.0 body.now.items (P.state plant.old) }
-    ensures shows { ShowsRecord P.tells way journal.old.marked journal.old.at (group_in cut body.now) (P.state plant.old) (P.state plant.new) result }
-    ensures at { OnOk result (journal.new.at ≡ spot_behind (P.state plant.old).journals way body.now.items journal.old.at) }
+    requires may { MayPutRecord P.tells placement journal.old.marked journal.old.at cut.0 body.now.items (P.state plant.old) }
+    ensures shows { ShowsRecord P.tells placement journal.old.marked journal.old.at (group_in cut body.now) (P.state plant.old) (P.state plant.new) result }
+    ensures at { OnOk result (journal.new.at ≡ spot_behind (P.state plant.old).journals placement body.now.items journal.old.at) }
     ensures marked { journal.new.marked ≡ journal.old.marked }
     ensures only { WorksOn P.tells IsJournal (P.state plant.old) (P.state plant.new) }
     ensures cause { HasStoreCause (P.state plant.old).faults (P.state plant.new).faults result }
     ensures unspent { ¬ IsErrOf result Spent }
 {
-    match way {
-        Way::Here => put_group(journal, plant, cut, body),
-        Way::Switched | Way::Marked => put_switched(journal, plant, cut, body),
+    match placement {
+        Placement::Here => put_group(journal, plant, cut, body),
+        Placement::Switched | Placement::Marked => put_switched(journal, plant, cut, body),
     }
 }

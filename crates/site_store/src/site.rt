@@ -40,7 +40,7 @@ pub struct Site<V> {
 impl<V> Model for Site<V> {
     ghost use Rattle.std.specs.Prelude.{map, cond, []};
     ghost use Rattle.site_store.specs.Sites.{SiteState};
-    ghost use Rattle.site_store.specs.Jobs.{KeepsJobs, has_job_failed};
+    ghost use Rattle.site_store.specs.Jobs.{AreJobsSound, has_job_failed};
 
     ghost Value = { SiteState };
 
@@ -59,7 +59,7 @@ impl<V> Model for Site<V> {
       written = site.written.items;
     } };
 
-    ghost invariant = { λ site. KeepsJobs site.controls site.body.room site.mark.at site.journal.marked site.table.session site.told.session site.waits site.body.items site.due.items site.jobs.items };
+    ghost invariant = { λ site. AreJobsSound site.controls site.body.room site.mark.at site.journal.marked site.table.session site.told.session site.waits site.body.items site.due.items site.jobs.items };
 }
 
 impl<V> Site<V> {

@@ -31,14 +31,14 @@ const FRONT_OF_SLOT: usize = 13;
 
 /// What a start needs of a slot of the control: whether its gate is open, and the number behind it.
 #[derive(Clone, Copy)]
-pub(crate) struct Front {
+pub(crate) struct SlotFront {
     pub(crate) place: u64,
     pub(crate) is_open: bool,
     pub(crate) number: u64,
 }
 
 /// Reads the front of the slot at a place.
-fn read_front<P: Plant>(plant: &mut P, place: u64) -> Result<Front, Failed>
+fn read_front<P: Plant>(plant: &mut P, place: u64) -> Result<SlotFront, Failed>
     requires { place + FRONT_OF_SLOT ≤ (P.state plant.old).lengths Control }
     ensures place { IfOk result (λ front. front.place ≡ place) }
     ensures front { P.tells → IfOk result (λ front. front ≡ front_at place ((P.state plant.old).bytes Control)) }
@@ -49,7 +49,7 @@ fn read_front<P: Plant>(plant: &mut P, place: u64) -> Result<Front, Failed>
 {
     let mut bytes = [0; FRONT_OF_SLOT];
     plant.read(Device::Control, place, &mut bytes)?;
-    Ok(Front {
+    Ok(SlotFront {
         place,
         is_open: bytes[0] == 1,
         number: BigEndian::read_u64(&bytes[5..13]),
@@ -57,7 +57,7 @@ fn read_front<P: Plant>(plant: &mut P, place: u64) -> Result<Front, Failed>
 }
 
 /// Gives a slot's gate the byte 0 where it reads 1, and syncs the control.
-fn shut_gate<P: Plant>(plant: &mut P, slot: Front) -> Result<(), Failed>
+fn shut_gate<P: Plant>(plant: &mut P, slot: SlotFront) -> Result<(), Failed>
     requires place { slot.place + 1 ≤ (P.state plant.old).lengths Control }
     requires gate { P.tells → slot.is_open ≡ (slice_index ((P.state plant.old).bytes Control) slot.place == 1) }
     ensures shut { P.tells → OnOk result (slice_index ((P.state plant.new).bytes Control) slot.place ≢ 1) }
@@ -74,7 +74,7 @@ fn shut_gate<P: Plant>(plant: &mut P, slot: Front) -> Result<(), Failed>
 }
 
 /// Shuts the gates of both slots, first that of the lesser number.
-fn shut_both<P: Plant>(plant: &mut P, idle: Front, counted: Front) -> Result<(), Failed>
+fn shut_both<P: Plant>(plant: &mut P, idle: SlotFront, counted: SlotFront) -> Result<(), Failed>
     requires long { CONTROL_LENGTH ≤ (P.state plant.old).lengths Control }
     requires places { AreHalves idle.place counted.place }
     requires fronts { P.tells → let control = (P.state plant.old).bytes Control in IsFrontOfSlot idle control × IsFrontOfSlot counted control }

@@ -1,7 +1,7 @@
 //! The suspensions that failed jobs call for, logged.
 
 ghost use Rattle.std.specs.Prelude.{◌≡◌, ◌≤◌, ◌*◌, length, OnOk, IsErrOf, IsTrue};
-ghost use Rattle.pair_table.specs.Tables.{KeepsRows, are_below};
+ghost use Rattle.pair_table.specs.Tables.{AreRowsSound, are_below};
 ghost use Rattle.xrc_journal.specs.Items.{body_spelling};
 ghost use Rattle.applier.specs.Returns.{WorksOnLent};
 ghost use Rattle.crash_plant.specs.Calls.{Silent};
@@ -13,8 +13,8 @@ ghost use Rattle.site_store.specs.Records.{IsOfRecord, VolumesStay};
 ghost use Rattle.site_store.specs.Standing.{MayRecord, Leaves};
 
 use crate::hits::{Hits, hits_at, is_any_hit, put_hits, take_hits};
+use crate::placement::{Placement, placement_from, suspension_needs_more};
 use crate::recording::put_record;
-use crate::way::{Way, suspension_needs_more, way_from};
 use crate::{Site, StoreError};
 use crash_plant::Plant;
 use pair_table::PairTable;
@@ -26,7 +26,7 @@ fn form_hits(body: &mut Body, table: &PairTable, hits: &Hits)
     requires room { 64 * 31 ≤ body.old.room }
     requires below { IsTrue (are_below 64 table.now.rows) }
     ensures put { body.new ≡ record { items = pairs_with_next (with_hits hits.now) table.now.rows; room = body.old.room } }
-    ensures rules { KeepsRows table.now.rows }
+    ensures rules { AreRowsSound table.now.rows }
     ensures short { length (body_spelling body.new.items) ≤ 64 * 31 }
 {
     body.clear();
@@ -67,14 +67,14 @@ impl<V> Site<V> {
         self.waits = false;
         let hits = hits_at(&self.jobs, &self.table, self.level, cut, false);
         form_hits(&mut self.body, &self.table, &hits);
-        let way = way_from(plant, self.journal.at, self.mark.at, &self.body);
-        if suspension_needs_more(way, self.journal.at.number, self.mark.number) {
+        let placement = placement_from(plant, self.journal.at, self.mark.at, &self.body);
+        if suspension_needs_more(placement, self.journal.at.number, self.mark.number) {
             return Err(StoreError::Spent);
         }
-        if way == Way::Marked {
+        if placement == Placement::Marked {
             return self.mark_suspensions(plant);
         }
-        put_record(&mut self.journal, plant, cut, &self.body, way)?;
+        put_record(&mut self.journal, plant, cut, &self.body, placement)?;
         take_hits(&mut self.table, &hits);
         self.time = cut;
         Ok(())

@@ -5,7 +5,7 @@ use Rattle.pair_table.specs.declared.level.Level.TheVariants.{Volume as VolumeLe
 use Rattle.pair_table.specs.Tables.{Table}
 use Rattle.xrc_command.specs.declared.line.Line.{Line}
 use Rattle.site_tests.specs.ChangeVectors.{no_rises}
-use Rattle.consistency.specs.Stages.{Run, Stage}
+use Rattle.consistency.specs.Stages.{ScriptRun, Stage}
 use Rattle.consistency.specs.Courses.{Answered}
 
 -- ---- the session ABC, begun at 50 without pairs
@@ -13,7 +13,7 @@ use Rattle.consistency.specs.Courses.{Answered}
 abbrev pub begun_table : Table
 begun_table = record { session = codes "ABC"; is_started = true; is_ended = false; rows = [] }
 
-abbrev pub run_of_none : Run
+abbrev pub run_of_none : ScriptRun
 run_of_none = record { session = codes "ABC"; traces = []; labels = []; level = VolumeLevel; rises = no_rises }
 
 abbrev pub begun_stage : Option Line → Stage

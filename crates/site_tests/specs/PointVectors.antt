@@ -19,7 +19,7 @@ use Rattle.write_trace.specs.declared.trace.Trace.{Trace}
 use Rattle.write_trace.specs.declared.trace.TraceEnd.{TraceEnd}
 use Rattle.write_trace.specs.declared.trace.TraceEnd.TheVariants.{BadTrace, Ended}
 use Rattle.xrc_command.specs.declared.line.Line.{Line}
-use Rattle.consistency.specs.Stages.{Run}
+use Rattle.consistency.specs.Stages.{ScriptRun}
 use Rattle.consistency.specs.Leads.{Point}
 use Rattle.consistency.specs.Owing.{tracks_asked, tracks_owed}
 use Rattle.passages.specs.Points.{AreLinked}
@@ -38,7 +38,7 @@ other_worked_row state = record { primary = codes "PRIM02"; secondary = codes "S
 abbrev pub one_volume_trace : (serial : List ℕ) → List Entry → TraceEnd → Trace
 one_volume_trace serial entries end = record { header = record { version = 1; volumes = record { serial = serial; cylinders = 1 } ∷ []; base = [] }; entries = entries; end = end }
 
-abbrev pub worked_session : Level → List Trace → Run
+abbrev pub worked_session : Level → List Trace → ScriptRun
 worked_session level traces = record {
   session = codes "ABC";
   traces = traces;
@@ -66,7 +66,7 @@ worked_leg answered p = record { point = p; replied = p.time; changes = []; mark
 -- ---- a pair that is suspended and added again
 
 -- writes on track 3 before the pair's suspension and behind it
-abbrev pub resumed_run : Run
+abbrev pub resumed_run : ScriptRun
 resumed_run = worked_session VolumeLevel (one_volume_trace (codes "PRIM01")
     (Written (record { volume = 0; track = 3; stamp = record { 0 = 0x64 }; kind = Whole [] }) ∷ Written (record { volume = 0; track = 3; stamp = record { 0 = 0x110 }; kind = Update 1 [] })
     ∷ Written (record { volume = 0; track = 3; stamp = record { 0 = 0x120 }; kind = Update 1 [] }) ∷ []) Ended ∷ [])
@@ -97,7 +97,7 @@ pub record ResumedRowIsWorked : Type 0 where
 
 -- ---- a volume that fails
 
-abbrev pub failing_run : Run
+abbrev pub failing_run : ScriptRun
 failing_run = worked_session SessionLevel (one_volume_trace (codes "PRIM01") (Written (record { volume = 0; track = 0; stamp = record { 0 = 0x74 }; kind = Whole [] }) ∷ []) Ended ∷ one_volume_trace (codes "PRIM02") [] Ended ∷ [])
 
 abbrev pub failing_points : PairState → List PassedPoint
@@ -192,7 +192,7 @@ pub record EndedRowIsWorked : Type 0 where
 -- ---- a cut trace
 
 -- the second control's trace is cut behind a write at [60], so that it breaks at [5F]
-abbrev pub cut_run : Run
+abbrev pub cut_run : ScriptRun
 cut_run = worked_session VolumeLevel (one_volume_trace (codes "PRIM01") [] Ended ∷ one_volume_trace (codes "PRIM02") (Written (record { volume = 0; track = 0; stamp = record { 0 = 0x60 }; kind = Whole [] }) ∷ []) (BadTrace 41) ∷ [])
 
 abbrev pub cut_rows : List PairRow

@@ -13,7 +13,7 @@ use Rattle.pair_table.specs.declared.level.Level.{Level}
 use Rattle.pair_table.specs.declared.level.Level.TheVariants.{Volume, Session}
 use Rattle.pair_table.specs.declared.row.PairRow.{PairRow}
 use Rattle.pair_table.specs.Rows.{is_row, row_spelling, row_at}
-use Rattle.pair_table.specs.Tables.{KeepsRows, are_below}
+use Rattle.pair_table.specs.Tables.{AreRowsSound, are_below}
 use Rattle.pair_table.proofs.FieldPlaces.{field_and_rest, number_spelled}
 use Rattle.pair_table.proofs.RowReads.{rows_keep, rows_spelled}
 use Rattle.state_set.specs.Slots.{Stored, title, level_number, rows_spelling, slot_spelling, state_length, are_rows, level_of_number, rows_at, kept, rows_in, has_title, slot_fields}
@@ -90,7 +90,7 @@ states_spelled volumes session bytes s fits e =
     let end : drop (30 * count) (drop 15 bytes) ≡ drop (state_length two.0) bytes = drop-drop (30 * count) 15 bytes ∙ ap (λ (k : ℕ). drop k bytes) (omega (arith, many)) in
     let spelled = titled_then session bytes (leb-true 15 (length bytes) front.0) fits ((bytes_eq-Decides (title session) (take 12 bytes)).0 front.1) one.0 (level_read (slice_index bytes 12) one.0 one.1) count refl two.0
     (drop (state_length two.0) bytes) many (read.spelled ∙ ap (λ (t : List ℕ). rows_spelling two.0 ++ t) end) in
-    subst (λ (x : Stored). (bytes ≡ slot_spelling session x.level x.rows ++ drop (state_length x.rows) bytes) × KeepsRows x.rows × (are_below volumes x.rows ≡ true)) (same_Some (record { level = one.0; rows = two.0 }) s two.2)
+    subst (λ (x : Stored). (bytes ≡ slot_spelling session x.level x.rows ++ drop (state_length x.rows) bytes) × AreRowsSound x.rows × (are_below volumes x.rows ≡ true)) (same_Some (record { level = one.0; rows = two.0 }) s two.2)
     (spelled, record { each = read.each; apart = are.apart; few = are.few }, are.below)
   where
     by_title : (b : Bool) → has_title session bytes ≡ b → cond b (slot_fields volumes bytes) None ≡ Some s → (has_title session bytes ≡ true) × (slot_fields volumes bytes ≡ Some s)

@@ -9,7 +9,7 @@ use Rattle.tod_stamp.specs.Names.{is_session}
 use Rattle.crash_plant.specs.Bytes.{patched, Torn}
 use Rattle.pair_table.specs.declared.level.Level.{Level}
 use Rattle.pair_table.specs.declared.row.PairRow.{PairRow}
-use Rattle.pair_table.specs.Tables.{Table, KeepsRows, are_below}
+use Rattle.pair_table.specs.Tables.{Table, AreRowsSound, are_below}
 use Rattle.state_set.specs.Slots.{Stored, state_slot_place, slot_spelling, kept, rows_in, state_at, state_of, OneSlot, with_table}
 use Rattle.state_set.proofs.Behind.{same_bool}
 use Rattle.state_set.proofs.RowsAt.{rows_window}
@@ -65,7 +65,7 @@ one_slot slot n place k old new at le place_is k_is torn =
 
 -- ---- what was written is there
 
-pub stands : (volumes slot : ℕ) (session : List ℕ) (level : Level) (rows : List PairRow) (old new : List ℕ) → is_session session ≡ true → KeepsRows rows → are_below volumes rows ≡ true → state_slot_place slot ≤ length old
+pub stands : (volumes slot : ℕ) (session : List ℕ) (level : Level) (rows : List PairRow) (old new : List ℕ) → is_session session ≡ true → AreRowsSound rows → are_below volumes rows ≡ true → state_slot_place slot ≤ length old
     → new ≡ patched (state_slot_place slot) (slot_spelling session level rows) old → state_of volumes session slot new ≡ ok_or (Some (record { level = level; rows = rows })) (state_slot_place slot)
 stands volumes slot session level rows old new is keeps below long written =
     let spelled = slot_spelling session level rows in

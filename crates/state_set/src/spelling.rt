@@ -3,7 +3,7 @@
 ghost use Rattle.std.specs.Prelude.{◌≡◌, ◌≤◌, ◌<◌, ◌+◌, ◌*◌, length, take, drop, slice_get, Some, IsTrue};
 ghost use Rattle.tod_stamp.specs.Names.{is_session};
 ghost use Rattle.pair_table.specs.Rows.{row_spelling};
-ghost use Rattle.pair_table.specs.Tables.{KeepsRows};
+ghost use Rattle.pair_table.specs.Tables.{AreRowsSound};
 ghost use Rattle.state_set.specs.Slots.{title, level_number, head_spelling, rows_spelling, slot_spelling, state_length};
 
 use crate::lengths::{HEAD, LONGEST};
@@ -65,7 +65,7 @@ fn put_rows(table: &PairTable, out: &mut [u8])
 pub(crate) fn encode(level: Level, table: &PairTable, out: &mut [u8; LONGEST]) -> usize
     ensures spelled { take (state_length table.now.rows) out.new ≡ slot_spelling table.now.session level table.now.rows }
     ensures length { result ≡ state_length table.now.rows }
-    ensures rules { KeepsRows table.now.rows }
+    ensures rules { AreRowsSound table.now.rows }
     ensures valid { IsTrue (is_session table.now.session) }
 {
     let count = table.len();

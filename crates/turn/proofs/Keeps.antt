@@ -12,8 +12,8 @@ use prog.Atomic.{either}
 use Rattle.atomic_table.specs.Table.{State, keeps, takes, gives, rest, put_back, stepped, Allows, Splits, Joins, opening, Seen, Final}
 use Rattle.atomic_table.proofs.Lists.{at_set, set_here, set_else, set_again, at_longer, at_snoc, one_turn}
 use Rattle.turn.specs.declared.view.Ticketed.{Ticketed}
-use Rattle.turn.specs.declared.view.Stage.{Stage}
-use Rattle.turn.specs.declared.view.Stage.TheVariants.{Spent, Idle, Waits, InTurn}
+use Rattle.turn.specs.declared.view.SeatStage.{SeatStage}
+use Rattle.turn.specs.declared.view.SeatStage.TheVariants.{Spent, Idle, Waits, InTurn}
 use Rattle.turn.specs.declared.view.View.{View}
 use Rattle.turn.specs.Turn.{total, same, once_below, ticketed, notes_about, without_second, second_alone, AllTrue, about, times, times_in, OneRun, lives, waits, pending, live, busy, lists, times_held, StageFits, IsViewAt, Placed, Turns, Seated, first_view, new_view, spent_view, with_one_more, joined_view, staged, with_ticketed, at_draw, at_draw_if, at_look, at_pass}
 use Rattle.turn.proofs.Totals.{total_set, parts_append, parts_given, true_kept, true_given, true_append, true_after, total_one, total_two, total_push, total_append, total_le, total_only, same_self, once_more, once_le, all_in_longer, in_pushed, all_appended, runs_on}
@@ -26,19 +26,19 @@ there (x ∷ xs) (suc i) a e = let rest : i < length xs = there xs i a e in omeg
 
 module _ {X : Type 0} where
   -- 1 where the seat is in its turn
-  abbrev turned : Stage X → ℕ
+  abbrev turned : SeatStage X → ℕ
   turned Spent = 0
   turned Idle = 0
   turned (Waits t) = 0
   turned (InTurn t x) = 1
 
-  abbrev ticket_or : Stage X → ℕ
+  abbrev ticket_or : SeatStage X → ℕ
   ticket_or Spent = 0
   ticket_or Idle = 0
   ticket_or (Waits t) = t
   ticket_or (InTurn t x) = t
 
-  waits_le : (st : Stage X) → waits st ≤ lives st
+  waits_le : (st : SeatStage X) → waits st ≤ lives st
   waits_le Spent = omega arith
   waits_le Idle = omega arith
   waits_le (Waits t) = omega arith
@@ -76,19 +76,19 @@ module _ {X E R N : Type 0} where
   put_home k due y homes vs (inl home) = ap (λ hs. set hs 0 (some (Some y))) home
   put_home k due y homes vs (inr h) = ap (λ hs. set hs 0 (some (Some y))) h.0
 
-  fits_later : (k : ℕ) (due : X) (next : ℕ) (v : View X E R N) (st : Stage X) → StageFits k due next v st → StageFits k due (next + 1) v st
+  fits_later : (k : ℕ) (due : X) (next : ℕ) (v : View X E R N) (st : SeatStage X) → StageFits k due next v st → StageFits k due (next + 1) v st
   fits_later k due next v Spent h = h
   fits_later k due next v Idle h = tt
   fits_later k due next v (Waits t) h = (h.0, let below : t < next = h.1 in omega arith)
   fits_later k due next v (InTurn t x) h = h
 
-  fits_passed : (k : ℕ) (due y : X) (next : ℕ) (v : View X E R N) (st : Stage X) → pending k st ≡ 0 → StageFits k due next v st → StageFits (k + 1) y next v st
+  fits_passed : (k : ℕ) (due y : X) (next : ℕ) (v : View X E R N) (st : SeatStage X) → pending k st ≡ 0 → StageFits k due next v st → StageFits (k + 1) y next v st
   fits_passed k due y next v Spent p h = h
   fits_passed k due y next v Idle p h = tt
   fits_passed k due y next v (Waits t) p h = let other : k ≢ t = λ e. absurd (grind (arith, same_self k)) in let low : k ≤ t = h.0 in (omega arith, h.1)
   fits_passed k due y next v (InTurn t x) p h = let one : same k t ≡ 1 = ap (same k) h.0 ∙ same_self k in absurd (omega arith)
 
-  none_spent : (k : ℕ) (due : X) (next : ℕ) (x : ℕ) (v : View X E R N) (st : Stage X) → v.stage ≡ st → lives st ≡ 0 → StageFits k due next v st → times_held x v ≡ 0
+  none_spent : (k : ℕ) (due : X) (next : ℕ) (x : ℕ) (v : View X E R N) (st : SeatStage X) → v.stage ≡ st → lives st ≡ 0 → StageFits k due next v st → times_held x v ≡ 0
   none_spent k due next x v Spent is z h = ap (λ es. times x es + total (times x) v.joined + pending x v.stage) h.0 ∙ (ap (λ ls. 0 + total (times x) ls + pending x v.stage) h.1 ∙ ap (λ st. 0 + 0 + pending x st) is)
   none_spent k due next x v Idle is z h = absurd (omega arith)
   none_spent k due next x v (Waits t) is z h = absurd (omega arith)
@@ -430,7 +430,7 @@ module _ {X E R N : Type 0} (steps : X → E → R → X → Type 0) (part : N �
             let most : total (about part k) vs ≤ 1 = r.apart k in omega arith;
       }
 
-  turned_le : (st : Stage X) → turned st ≤ lives st
+  turned_le : (st : SeatStage X) → turned st ≤ lives st
   turned_le Spent = omega arith
   turned_le Idle = omega arith
   turned_le (Waits t) = omega arith
@@ -469,7 +469,7 @@ module _ {X E R N : Type 0} (steps : X → E → R → X → Type 0) (part : N �
         },
       )
     where
-      idle_spent : (st : Stage X) → lives st ≡ 0 → waits st ≡ 0
+      idle_spent : (st : SeatStage X) → lives st ≡ 0 → waits st ≡ 0
       idle_spent st z = let below : waits st ≤ lives st = waits_le st in omega arith
 
   -- the same, at what a call of the mover's or the maker's has

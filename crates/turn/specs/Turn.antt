@@ -7,8 +7,8 @@ use lib.ListN.{get_elem?}
 use Rattle.atomic_table.specs.Table.{State, Me}
 use Rattle.atomic_table.specs.declared.shared.Seat.{Seat}
 use Rattle.turn.specs.declared.view.Ticketed.{Ticketed}
-use Rattle.turn.specs.declared.view.Stage.{Stage}
-use Rattle.turn.specs.declared.view.Stage.TheVariants.{Spent, Idle, Waits, InTurn}
+use Rattle.turn.specs.declared.view.SeatStage.{SeatStage}
+use Rattle.turn.specs.declared.view.SeatStage.TheVariants.{Spent, Idle, Waits, InTurn}
 use Rattle.turn.specs.declared.view.View.{View}
 
 -- f of each, added up
@@ -63,21 +63,21 @@ module _ {X E R : Type 0} (steps : X → E → R → X → Type 0) where
     pub in_order : AllInOrder log ls
 
 module _ {X : Type 0} where
-  abbrev pub lives : Stage X → ℕ
+  abbrev pub lives : SeatStage X → ℕ
   lives Spent = 0
   lives Idle = 1
   lives (Waits t) = 1
   lives (InTurn t x) = 1
 
   -- 1 where a ticket is drawn and not passed
-  abbrev pub waits : Stage X → ℕ
+  abbrev pub waits : SeatStage X → ℕ
   waits Spent = 0
   waits Idle = 0
   waits (Waits t) = 1
   waits (InTurn t x) = 1
 
   -- 1 where that ticket is x
-  abbrev pub pending : ℕ → Stage X → ℕ
+  abbrev pub pending : ℕ → SeatStage X → ℕ
   pending x Spent = 0
   pending x Idle = 0
   pending x (Waits t) = same x t
@@ -121,7 +121,7 @@ module _ {X E R N : Type 0} where
   abbrev pub times_held : ℕ → View X E R N → ℕ
   times_held x v = times_in x (lists v) + pending x v.stage
 
-  abbrev pub StageFits : ℕ → X → ℕ → View X E R N → Stage X → Type 0
+  abbrev pub StageFits : ℕ → X → ℕ → View X E R N → SeatStage X → Type 0
   StageFits serving due next v Spent = (v.mine ≡ []) × (v.joined ≡ [])
   StageFits serving due next v Idle = Unit {0}
   StageFits serving due next v (Waits t) = (serving ≤ t) × (t < next)
@@ -174,7 +174,7 @@ module _ {X E R N : Type 0} where
   abbrev pub joined_view : View X E R N → View X E R N → View X E R N
   joined_view v w = record { first = v.first; stage = v.stage; mine = v.mine; joined = w.mine ∷ w.joined ++ v.joined; seats = v.seats - 1; notes = v.notes ++ w.notes }
 
-  abbrev pub staged : View X E R N → Stage X → View X E R N
+  abbrev pub staged : View X E R N → SeatStage X → View X E R N
   staged v st = record { first = v.first; stage = st; mine = v.mine; joined = v.joined; seats = v.seats; notes = v.notes }
 
   abbrev pub with_ticketed : View X E R N → Ticketed E R → N → View X E R N

@@ -2,11 +2,11 @@
 
 ghost use Rattle.std.specs.Prelude.{◌≡◌, ℕ, ◌+◌, ◌%◌, ◌^◌, ◌<◌, ◌≤◌, [], ◌∷◌, IfOk, true, false};
 ghost use Rattle.turn.specs.Turn.{staged, AllTrue, notes_about, IsIdle, IsSameSeat, OneRun, IsServed, Took, MayPass, HasPassed, with_one_more, new_view, first_view, joined_view, lists};
-ghost use Rattle.turn.specs.declared.view.Stage.TheVariants.{Idle, Waits};
+ghost use Rattle.turn.specs.declared.view.SeatStage.TheVariants.{Idle, Waits};
 
 use crate::plays::{Call, DrawIfNext, Look, Pass, SplitOff, TakeIn};
 use crate::rule::{Machine, TakingTurns};
-use crate::seats::{MoverSeat, Place, ReaderSeat};
+use crate::seats::{MoverSeat, ReaderSeat, TurnPlace};
 use crate::view::View;
 use atomic_table::Table;
 use std::alloc::{AllocError, Global};
@@ -72,7 +72,7 @@ impl<X: Drop, E, R, N, M: Machine<X, E, R, N>> TurnTable<X, E, R, N, M> {
     }
 
     /// Draws a ticket once nobody has a turn, waits until it is served, and takes the state.
-    pub fn take_turn<W: Wait>(&self, rt: &W, place: &mut Place<X, E, R, N>) -> X
+    pub fn take_turn<W: Wait>(&self, rt: &W, place: &mut TurnPlace<X, E, R, N>) -> X
         requires table { place.old.table_id ≡ self.now.board.shared.table_id }
         requires idle { IsIdle place.old.me }
         ensures same { IsSameSeat place.old place.new }
@@ -86,7 +86,7 @@ impl<X: Drop, E, R, N, M: Machine<X, E, R, N>> TurnTable<X, E, R, N, M> {
     /// Puts the state back, and passes the turn. `C` names the call; its last two arguments are what was asked and what is replied.
     pub fn pass_turn<C: Call<E, R, N>, A, B>(
         &self,
-        place: &mut Place<X, E, R, N>,
+        place: &mut TurnPlace<X, E, R, N>,
         state: X,
         _asked: &A,
         _reply: &B,
@@ -102,7 +102,7 @@ impl<X: Drop, E, R, N, M: Machine<X, E, R, N>> TurnTable<X, E, R, N, M> {
 
     /// Draws the next ticket where it is the one that is served, so that no other seat waits behind it for a thread that does not run.
     /// A seat that has passed its turn may so take the next one, too.
-    fn draw<W: Wait>(&self, rt: &W, place: &mut Place<X, E, R, N>) -> u64
+    fn draw<W: Wait>(&self, rt: &W, place: &mut TurnPlace<X, E, R, N>) -> u64
         requires table { place.old.table_id ≡ self.now.board.shared.table_id }
         requires idle { place.old.me.0.stage ≡ Idle }
         ensures same { IsSameSeat place.old place.new }
@@ -120,7 +120,7 @@ impl<X: Drop, E, R, N, M: Machine<X, E, R, N>> TurnTable<X, E, R, N, M> {
     }
 
     /// Draws this ticket, if it is the next one.
-    fn try_draw(&self, place: &mut Place<X, E, R, N>, ticket: u64) -> bool
+    fn try_draw(&self, place: &mut TurnPlace<X, E, R, N>, ticket: u64) -> bool
         requires table { place.old.table_id ≡ self.now.board.shared.table_id }
         requires idle { place.old.me.0.stage ≡ Idle }
         ensures same { IsSameSeat place.old place.new }
@@ -136,7 +136,7 @@ impl<X: Drop, E, R, N, M: Machine<X, E, R, N>> TurnTable<X, E, R, N, M> {
 
     /// Waits until the ticket is served. Then the slot is out with the seat. A seat yields the processor after some tries, since
     /// seats may outnumber processors.
-    fn wait<W: Wait>(&self, rt: &W, place: &mut Place<X, E, R, N>, ticket: u64)
+    fn wait<W: Wait>(&self, rt: &W, place: &mut TurnPlace<X, E, R, N>, ticket: u64)
         requires table { place.old.table_id ≡ self.now.board.shared.table_id }
         requires drew { (t : ℕ) × (ticket ≡ t % 2 ^ 64) × (place.old.me.0.stage ≡ Waits t) }
         requires bare { place.old.me.1 ≡ [] }

@@ -8,7 +8,7 @@ pub struct Ticketed<E, R> {
     pub reply: R,
 }
 
-pub enum Stage<X> {
+pub enum SeatStage<X> {
     /// Its entries went over to another seat.
     Spent,
     Idle,
@@ -21,7 +21,7 @@ pub enum Stage<X> {
 pub struct View<X, E, R, N> {
     /// The state that the table was made with, or none where the seat is spent.
     pub first: Option<X>,
-    pub stage: Stage<X>,
+    pub stage: SeatStage<X>,
     pub mine: LinkedList<Ticketed<E, R>>,
     /// The lists of the seats that it took in.
     pub joined: LinkedList<LinkedList<Ticketed<E, R>>>,

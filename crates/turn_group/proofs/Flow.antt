@@ -18,7 +18,7 @@ use Rattle.group_state.specs.Machine.{Call, Reply, reply_to, group_after}
 use Rattle.group_state.specs.Machine.Call.{Join, NextWanted, Copied, Raise, Break, Form, Carry, Drop, Resume, Forget}
 use Rattle.group_state.specs.Machine.Reply.{Formed, Nothing}
 use Rattle.group_state.specs.Runs.{Answer, May, Runs, shown_by}
-use Rattle.group_state.specs.SoundStates.{Sound, KeepsGroup}
+use Rattle.group_state.specs.SoundStates.{Sound, IsGroupSound}
 use Rattle.group_state.proofs.SoundLaws.{all_kept}
 use Rattle.group_state.proofs.Stands.{at_each}
 use Rattle.turn_group.specs.Queues.{waiting_at, gained, is_shown_by, falls, stays_in, stays_of, own_part, part_by, part_of_groups, QueuesFlow}
@@ -137,7 +137,7 @@ module _ (k : ℕ) (log : List Answer) (end : Group) where
   abbrev FlowsBy : Group → Call → Reply → Type 0
   FlowsBy s call reply = filter (stays_in k (record { call = call; reply = reply } ∷ log)) (waiting_at k s) ++ (filter (stays_in k log) (gained k s call) ++ stays_of k (group_after s call) log) ≡ (part_by k call reply ++ part_of_groups k log) ++ waiting_at k end
 
-  flow_next : (s : Group) (call : Call) (reply : Reply) → k < length s.controls → KeepsGroup s → May s call → reply ≡ reply_to s call → Flows (group_after s call) → FlowsBy s call reply
+  flow_next : (s : Group) (call : Call) (reply : Reply) → k < length s.controls → IsGroupSound s → May s call → reply ≡ reply_to s call → Flows (group_after s call) → FlowsBy s call reply
   flow_next s (Join b) reply lt h may is rest = grows (stays_in k log) (waiting_at k s) (gained k s (Join b)) (waiting_at k (group_after s (Join b))) (stays_of k (group_after s (Join b)) log) (part_of_groups k log ++ waiting_at k end) (join_waits s b may.control k) rest
   flow_next s (NextWanted j) reply lt h may is rest = rest
   flow_next s (Copied j v x at slot) reply lt h may is rest =

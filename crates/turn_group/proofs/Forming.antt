@@ -15,7 +15,7 @@ use Rattle.group_state.specs.declared.volume.Volume.{Volume}
 use Rattle.group_state.specs.Volumes.{volume_of, passes}
 use Rattle.group_state.specs.Controls.{ControlState, new_control, counts, lesser, due_of}
 use Rattle.group_state.specs.Groups.{Group, Shown, control_at, cut_of, shown_at, shown_in}
-use Rattle.group_state.specs.SoundStates.{Sound, KeepsGroup, may_wait, is_entry_of, is_entry_of_control, has_told, HaveTold}
+use Rattle.group_state.specs.SoundStates.{Sound, IsGroupSound, may_wait, is_entry_of, is_entry_of_control, has_told, HaveTold}
 use Rattle.group_state.specs.Machine.{steps}
 use Rattle.group_state.specs.Machine.Call.{Form}
 use Rattle.group_state.specs.Runs.{shown_by}
@@ -94,7 +94,7 @@ abbrev entries_by : Option Shown → List WaitingEntry
 entries_by None = []
 entries_by (Some shown) = shown.entries
 
-pub form_carried : (x new : Group) (limit : Stamp) (result : Forming) (out : FormedGroup) (known : List (List KnownVolume)) → volumes_known x ≡ known → KeepsGroup x → steps x (Form limit) (form_reply result (shown_in out)) new
+pub form_carried : (x new : Group) (limit : Stamp) (result : Forming) (out : FormedGroup) (known : List (List KnownVolume)) → volumes_known x ≡ known → IsGroupSound x → steps x (Form limit) (form_reply result (shown_in out)) new
     → list_all (is_of_carried known) out.entries ≡ true
 form_carried x new limit result out known is keeps step =
     let cut = cut_of x limit in

@@ -3,7 +3,7 @@ use Rattle.std.proofs.Common.{◌≡◌, ℕ, zero, suc, ◌+◌, ◌<◌, List,
 use Rattle.std.specs.List.{range_with_len}
 use Rattle.std.proofs.lemmas.List.FromFn.{map-range_with_len_more}
 use Rattle.atomic_table.specs.Seated.{TableId}
-use Rattle.turn.specs.declared.view.Stage.TheVariants.{Idle}
+use Rattle.turn.specs.declared.view.SeatStage.TheVariants.{Idle}
 use Rattle.turn.specs.Turn.{without_second, second_alone, with_one_more, new_view}
 use Rattle.group_state.specs.Groups.{Group, control_at}
 use Rattle.group_state.specs.Controls.{is_telling}

@@ -6,7 +6,7 @@ use Rattle.cut_core.specs.LegalHistories.{are_in}
 use Rattle.turn.specs.Turn.{IsSameSeat, Took, MayPass, HasPassed, HasCalled}
 use Rattle.turn.proofs.Calls.{may_pass, has_called, same_notes, noted, still}
 use Rattle.group_state.specs.Groups.{Group, control_at}
-use Rattle.group_state.specs.SoundStates.{KeepsGroup, MayTell, MayJoin}
+use Rattle.group_state.specs.SoundStates.{IsGroupSound, MayTell, MayJoin}
 use Rattle.group_state.specs.Machine.{Call, Reply}
 use Rattle.group_state.specs.Runs.{MayCopy}
 use Rattle.group_state.proofs.Kept.{kept_next}
@@ -14,7 +14,7 @@ use Rattle.std.proofs.lemmas.List.{length-map}
 use Rattle.turn_group.specs.Notes.{KnownVolume, known_of, volumes_known, SeatNote, part_of, says, note_after}
 use Rattle.turn_group.specs.Notes.SeatNote.{MoverNote, ReaderNote}
 use Rattle.turn_group.specs.Calls.{seat_steps}
-use Rattle.turn_group.specs.Seats.{SeatPlace, ReaderSeatState, SeatMayTell, SeatMayJoin, SeatMayCopy, KeepsView, first_or, note_in}
+use Rattle.turn_group.specs.Seats.{SeatPlace, ReaderSeatState, SeatMayTell, SeatMayJoin, SeatMayCopy, IsViewSound, first_or, note_in}
 use Rattle.turn_group.proofs.Known.{HasSizesOf, sizes_last, track_within, writes_within}
 use Rattle.turn_group.proofs.Leaving.{LeavesNotes}
 
@@ -38,21 +38,21 @@ called_by {p = p} {s = s} call reply first took then passed =
 -- ---- the state that a seat has in its turn
 
 -- the seat's note is true of it
-pub noted_of : {p q : SeatPlace} {x : Group} (note : SeatNote) (is_own : Call → Bool) → KeepsView note is_own p.me.0 → Took seat_steps says p x q → says x note
+pub noted_of : {p q : SeatPlace} {x : Group} (note : SeatNote) (is_own : Call → Bool) → IsViewSound note is_own p.me.0 → Took seat_steps says p x q → says x note
 noted_of note is_own view took = noted took note view.noted
 
 -- and its volumes have the tracks that they had when the table was made
-pub sizes_of_turn : {p q : SeatPlace} {x : Group} (note : SeatNote) (is_own : Call → Bool) → KeepsView note is_own p.me.0 → Took seat_steps says p x q → HasSizesOf (first_or p.me.0.first) x
+pub sizes_of_turn : {p q : SeatPlace} {x : Group} (note : SeatNote) (is_own : Call → Bool) → IsViewSound note is_own p.me.0 → Took seat_steps says p x q → HasSizesOf (first_or p.me.0.first) x
 sizes_of_turn {p = p} {x = x} note is_own view took =
     let first = first_or p.me.0.first in
     still seat_steps (HasSizesOf first) (sizes_last first) p.me.0.first first x view.begun took.reached refl
 
-kept_last : (s : Group) (call : Call) (reply : Reply) (new : Group) → KeepsGroup s → seat_steps s call reply new → KeepsGroup new
-kept_last s call reply new h step = subst KeepsGroup (sym step.2.1) (kept_next s call h step.1)
+kept_last : (s : Group) (call : Call) (reply : Reply) (new : Group) → IsGroupSound s → seat_steps s call reply new → IsGroupSound new
+kept_last s call reply new h step = subst IsGroupSound (sym step.2.1) (kept_next s call h step.1)
 
--- and it keeps what every group state keeps
-pub kept_of_turn : {p q : SeatPlace} {x : Group} (note : SeatNote) (is_own : Call → Bool) → KeepsView note is_own p.me.0 → Took seat_steps says p x q → KeepsGroup x
-kept_of_turn {p = p} {x = x} note is_own view took = still seat_steps KeepsGroup kept_last p.me.0.first (first_or p.me.0.first) x view.begun took.reached view.kept
+-- and it is sound
+pub kept_of_turn : {p q : SeatPlace} {x : Group} (note : SeatNote) (is_own : Call → Bool) → IsViewSound note is_own p.me.0 → Took seat_steps says p x q → IsGroupSound x
+kept_of_turn {p = p} {x = x} note is_own view took = still seat_steps IsGroupSound kept_last p.me.0.first (first_or p.me.0.first) x view.begun took.reached view.kept
 
 -- ---- when the calls may be made of it
 

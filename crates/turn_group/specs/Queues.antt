@@ -8,7 +8,7 @@ use Rattle.pending_queue.specs.Entries.{WaitingEntry, entries_of, copy_of, copy_
 use Rattle.group_state.specs.Volumes.{is_wanted}
 use Rattle.group_state.specs.Controls.{ControlState, carried_writes, fits, fits_track}
 use Rattle.group_state.specs.Groups.{Group, Shown, control_at}
-use Rattle.group_state.specs.SoundStates.{KeepsGroup, is_entry_of_control}
+use Rattle.group_state.specs.SoundStates.{IsGroupSound, is_entry_of_control}
 use Rattle.group_state.specs.Machine.{Call, Reply, group_after}
 use Rattle.group_state.specs.Machine.Call.{Join, Copied, Form, Drop}
 use Rattle.group_state.specs.Runs.{Answer, Runs, shown_by}
@@ -75,5 +75,5 @@ part_of_groups k (a ∷ log) = part_by k a.call a.reply ++ part_of_groups k log
 -- For each control, what waited and what it gained, both without what drops take out, are its part of the groups and then what waits
 -- at the end, in order, each once.
 abbrev pub QueuesFlow : Type 0
-QueuesFlow = (k : ℕ) (first : Group) (log : List Answer) (end : Group) → k < length first.controls → KeepsGroup first → Runs first log end
+QueuesFlow = (k : ℕ) (first : Group) (log : List Answer) (end : Group) → k < length first.controls → IsGroupSound first → Runs first log end
     → filter (stays_in k log) (waiting_at k first) ++ stays_of k first log ≡ part_of_groups k log ++ waiting_at k end

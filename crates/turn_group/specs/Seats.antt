@@ -14,7 +14,7 @@ use Rattle.turn.specs.Turn.{ticketed, HasCalled}
 use Rattle.group_state.specs.Volumes.{volume_of, passes}
 use Rattle.group_state.specs.Controls.{is_telling}
 use Rattle.group_state.specs.Groups.{Group, new_group, control_at}
-use Rattle.group_state.specs.SoundStates.{KeepsGroup, are_within, is_track_within}
+use Rattle.group_state.specs.SoundStates.{IsGroupSound, are_within, is_track_within}
 use Rattle.group_state.specs.Machine.{Call, Reply}
 use Rattle.turn_group.specs.Notes.{KnownVolume, SeatNote, volumes_known, last_after, known_after, floor_after, note_after}
 use Rattle.group_state.specs.Calls.{telling_after}
@@ -185,16 +185,16 @@ reader_note k notes = ReaderNote k (floor_in (note_in notes)) (telling_in (note_
 abbrev pub mover_note : List SeatNote → SeatNote
 mover_note notes = MoverNote (floor_in (note_in notes)) (known_in (note_in notes))
 
--- What every seat's view keeps: one note, its own calls alone, and the state that the table was made with, which keeps what every group state keeps.
-pub record KeepsView (note : SeatNote) (is_own : Call → Bool) (v : SeatView) : Type 0 where
+-- A seat's view is sound: it has one note, its own calls alone, and the state that the table was made with, which is sound.
+pub record IsViewSound (note : SeatNote) (is_own : Call → Bool) (v : SeatView) : Type 0 where
   pub noted : v.notes ≡ note ∷ []
   pub begun : v.first ≡ Some (first_or v.first)
-  pub kept : KeepsGroup (first_or v.first)
+  pub kept : IsGroupSound (first_or v.first)
   pub own : IsTrue (list_all (λ (made : MadeCall). is_own made.event) v.mine)
   pub unjoined : v.joined ≡ []
 
 abbrev pub IsReaderView : (control : ℕ) → SeatView → Type 0
-IsReaderView k v = KeepsView (reader_note k v.notes) (is_by_reader k) v
+IsReaderView k v = IsViewSound (reader_note k v.notes) (is_by_reader k) v
 
 abbrev pub IsMoverView : SeatView → Type 0
-IsMoverView v = KeepsView (mover_note v.notes) is_by_mover v
+IsMoverView v = IsViewSound (mover_note v.notes) is_by_mover v

@@ -11,7 +11,7 @@ ghost use Rattle.group_state.specs.Answers.{join_reply, run_reply, copy_reply, f
 ghost use Rattle.turn_group.specs.Seats.{new_mover, new_readers, SeatMayTell, SeatMayJoin, SeatMayCopy, is_track_of_control, ReaderCalled, MoverCalled, IsSeated, calls_at, AllFrom, AreAtTheirPlaces, IsOwn};
 ghost use Rattle.turn.specs.Turn.{IsSameSeat, first_view, lists};
 ghost use Rattle.std.specs.List.{list_all};
-ghost use Rattle.group_state.specs.SoundStates.{KeepsGroup};
+ghost use Rattle.group_state.specs.SoundStates.{IsGroupSound};
 ghost use Rattle.turn_group.specs.Notes.{KeepsNotes, notes_of, is_of_carried, says};
 ghost use Rattle.turn_group.specs.Notes.SeatNote.{MoverNote};
 ghost use Rattle.turn_group.specs.Histories.{OneHistory};
@@ -55,7 +55,7 @@ impl TurnGroup {
         ensures group { IfOk result (λ t. t.0.first ≡ state) }
         ensures mover { IfOk result (λ t. t.1 ≡ new_mover t.0.table state (length state.controls + 1)) }
         ensures seats { IfOk result (λ t. t.2 ≡ new_readers t.0.table state (length state.controls)) }
-        ensures kept { IfOk result (λ t. KeepsGroup t.0.first) }
+        ensures kept { IfOk result (λ t. IsGroupSound t.0.first) }
     {
         let controls = state.controls();
         let mut places = Vec::with_capacity(alloc, controls as usize)?;

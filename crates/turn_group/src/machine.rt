@@ -4,13 +4,13 @@ use group_state::GroupState;
 use std::marker::{Brand, Model};
 use turn::plays::Call;
 use turn::rule::Machine;
-use turn::seats::{MoverSeat, Place, ReaderSeat};
+use turn::seats::{MoverSeat, ReaderSeat, TurnPlace};
 use turn::table::TurnTable;
 
 /// What a call asks.
-pub struct Asked;
+pub struct CallAsked;
 
-impl Model for Asked {
+impl Model for CallAsked {
     ghost use Rattle.group_state.specs.Machine.{Call};
     ghost use Rattle.group_state.specs.Machine.Call.{NextWanted};
 
@@ -47,7 +47,7 @@ impl Model for Noted {
 /// The calls of the seats on the group state.
 pub struct SeatCalls;
 
-impl Machine<GroupState, Asked, Replied, Noted> for SeatCalls {
+impl Machine<GroupState, CallAsked, Replied, Noted> for SeatCalls {
     ghost use Rattle.turn_group.specs.Calls.{seat_steps};
     ghost use Rattle.turn_group.specs.Notes.{part_of, says, notes_of};
 
@@ -61,7 +61,7 @@ impl Machine<GroupState, Asked, Replied, Noted> for SeatCalls {
 }
 
 // A proof picks the call.
-impl Call<Asked, Replied, Noted> for Brand {
+impl Call<CallAsked, Replied, Noted> for Brand {
     ghost use Rattle.std.specs.Prelude.{[]};
     ghost use Rattle.group_state.specs.Machine.Call.{NextWanted};
     ghost use Rattle.group_state.specs.Machine.Reply.{Made};
@@ -74,12 +74,12 @@ impl Call<Asked, Replied, Noted> for Brand {
     ghost note = { MoverNote (record { 0 = 0 }) [] };
 }
 
-pub type GroupTable = TurnTable<GroupState, Asked, Replied, Noted, SeatCalls>;
+pub type GroupTable = TurnTable<GroupState, CallAsked, Replied, Noted, SeatCalls>;
 
-pub type GroupPlace = Place<GroupState, Asked, Replied, Noted>;
+pub type GroupPlace = TurnPlace<GroupState, CallAsked, Replied, Noted>;
 
 /// The mover's seat, as the table has it.
-pub type FirstSeat = MoverSeat<GroupState, Asked, Replied, Noted>;
+pub type FirstSeat = MoverSeat<GroupState, CallAsked, Replied, Noted>;
 
 /// A reader's seat, as the table has it.
-pub type OtherSeat = ReaderSeat<GroupState, Asked, Replied, Noted>;
+pub type OtherSeat = ReaderSeat<GroupState, CallAsked, Replied, Noted>;

@@ -12,8 +12,8 @@ use Rattle.tod_stamp.proofs.FieldLaws.{bind_ok, guard_ok, allow_ok}
 use Rattle.write_trace.specs.declared.header.VolumeHead.{VolumeHead}
 use Rattle.write_trace.specs.Headers.{tracks_of, version_at, is_new_serial, volume_at, volumes_at, are_volumes}
 use Rattle.write_trace.proofs.FieldSteps.{both_true, and_true}
-use Rattle.write_trace.specs.declared.stop.Stop.{Stop}
-use Rattle.write_trace.specs.declared.stop.Stop.TheVariants as stops
+use Rattle.write_trace.specs.declared.stop.NoRead.{NoRead}
+use Rattle.write_trace.specs.declared.stop.NoRead.TheVariants as stops
 use Rattle.write_trace.specs.FieldReads.{GivesField, Fails}
 use Rattle.write_trace.specs.HeaderParts.{seen_after, header_front_at}
 
@@ -109,7 +109,7 @@ volumes_stop bad front count i left total lt read so_far =
     let one : with_volumes front (volumes_at 1 (count - i) (seen_after [] front) left) ≡ Err bad = rw (k, read) refl in
     sym so_far ∙ one
 
-pub volumes_end : (stop : Stop) (front : List VolumeHead) (count i : ℕ) (left : Left) (total : Result (List VolumeHead × Left) Bad) → i < count → Fails stop (volume_at 1 (seen_after [] front) left)
+pub volumes_end : (stop : NoRead) (front : List VolumeHead) (count i : ℕ) (left : Left) (total : Result (List VolumeHead × Left) Bad) → i < count → Fails stop (volume_at 1 (seen_after [] front) left)
     → with_volumes front (volumes_at 1 (count - i) (seen_after [] front) left) ≡ total → Fails stop total
 volumes_end stops.Memory front count i left total lt read so_far = tt
 volumes_end (stops.Cut place) front count i left total lt read so_far = volumes_stop (Cut place) front count i left total lt read so_far
@@ -139,12 +139,12 @@ number_keeps w rule left x e =
     let two = allow_ok (rule n) (Broken left.place) (n, after (byte_len w) left) x one.1 in
     ap (λ (y : ℕ × Left). rule y.0) (sym two.1) ∙ two.0
 
-pub record KeepsVolume (seen : List (List ℕ)) (v : VolumeHead) : Type 0 where
+pub record IsVolumeHeadSound (seen : List (List ℕ)) (v : VolumeHead) : Type 0 where
   pub serial : is_serial v.serial ≡ true
   pub new : not (list_any (bytes_eq v.serial) seen) ≡ true
   pub cylinders : within 1 65520 v.cylinders ≡ true
 
-volume_keeps : (seen : List (List ℕ)) (left : Left) (x : VolumeHead × Left) → volume_at 1 seen left ≡ Ok x → KeepsVolume seen x.0
+volume_keeps : (seen : List (List ℕ)) (left : Left) (x : VolumeHead × Left) → volume_at 1 seen left ≡ Ok x → IsVolumeHeadSound seen x.0
 unfolding volume_at
 volume_keeps seen left x e =
     let a = bind_ok (bytes_at 6 (is_new_serial seen) left) (λ serial. number_at w16 (within 1 65520) serial.1 >>= λ cylinders. Ok (record { serial = before_spaces serial.0; cylinders = cylinders.0 }, cylinders.1)) x e in
@@ -153,8 +153,8 @@ volume_keeps seen left x e =
     let both = both_true (is_field 6 a.0.0) (not (list_any (bytes_eq (before_spaces a.0.0)) seen)) rule in
     let name = both_true (is_name 6 (before_spaces a.0.0)) (list_all (λ c. c == 32) (drop (length (before_spaces a.0.0)) a.0.0)) both.0 in
     let is : record { serial = before_spaces a.0.0; cylinders = b.0.0 } ≡ x.0 = first_is (record { serial = before_spaces a.0.0; cylinders = b.0.0 }, b.0.1) x b.2 in
-    let made : KeepsVolume seen (record { serial = before_spaces a.0.0; cylinders = b.0.0 }) = record { serial = name.0; new = both.1; cylinders = number_keeps w16 (within 1 65520) a.0.1 b.0 b.1 } in
-    subst (λ (v : VolumeHead). KeepsVolume seen v) is made
+    let made : IsVolumeHeadSound seen (record { serial = before_spaces a.0.0; cylinders = b.0.0 }) = record { serial = name.0; new = both.1; cylinders = number_keeps w16 (within 1 65520) a.0.1 b.0 b.1 } in
+    subst (λ (v : VolumeHead). IsVolumeHeadSound seen v) is made
   where
     first_is : (a b : VolumeHead × Left) → (let p : Result (VolumeHead × Left) Bad = Ok a in let q : Result (VolumeHead × Left) Bad = Ok b in p ≡ q) → a.0 ≡ b.0
     first_is a b e = cc
@@ -185,7 +185,7 @@ volumes_keep (suc count) seen left x e =
     first_is a b e = cc
 
 -- a reader whose limit is equal to another
-pub same_most : (r : Result (ℕ × Left) Stop) (left : Left) (a b : ℕ) → a ≡ b → GivesField (λ x. (x.0, x.1)) r (number_at w32 (λ n. nat_le n a) left) → GivesField (λ x. (x.0, x.1)) r (number_at w32 (λ n. nat_le n b) left)
+pub same_most : (r : Result (ℕ × Left) NoRead) (left : Left) (a b : ℕ) → a ≡ b → GivesField (λ x. (x.0, x.1)) r (number_at w32 (λ n. nat_le n a) left) → GivesField (λ x. (x.0, x.1)) r (number_at w32 (λ n. nat_le n b) left)
 same_most r left a b e h = subst (λ k. GivesField (λ x. (x.0, x.1)) r (number_at w32 (λ n. nat_le n k) left)) e h
 
 -- ---- the head as a whole
@@ -202,7 +202,7 @@ pub head_read : (left marked counted behind next : Left) (count many : ℕ) (vol
     → number_at w32 (λ n. nat_le n (sum_by tracks_of volumes)) behind ≡ Ok (many, next) → header_front_at left ≡ Ok ((volumes, many), next)
 head_read left marked counted behind next count many volumes a b c d = head_then left marked counted behind count volumes a b c ∙ ap (λ (r : Result (ℕ × Left) Bad). r >>= λ many. Ok ((volumes, many.0), many.1)) d
 
-pub head_fails : (stop : Stop) (left marked counted behind : Left) (count : ℕ) (volumes : List VolumeHead) → version_at 1 left ≡ Ok (1, marked) → number_at w16 (within 1 32) marked ≡ Ok (count, counted) → volumes_at 1 count [] counted ≡ Ok (volumes, behind)
+pub head_fails : (stop : NoRead) (left marked counted behind : Left) (count : ℕ) (volumes : List VolumeHead) → version_at 1 left ≡ Ok (1, marked) → number_at w16 (within 1 32) marked ≡ Ok (count, counted) → volumes_at 1 count [] counted ≡ Ok (volumes, behind)
     → Fails stop (number_at w32 (λ n. nat_le n (sum_by tracks_of volumes)) behind) → Fails stop (header_front_at left)
 head_fails stops.Memory left marked counted behind count volumes a b c d = tt
 head_fails (stops.Cut place) left marked counted behind count volumes a b c d = head_then left marked counted behind count volumes a b c ∙ ap (λ (r : Result (ℕ × Left) Bad). r >>= λ many. Ok ((volumes, many.0), many.1)) d

@@ -15,8 +15,8 @@ use Rattle.write_trace.specs.Answers.{ReaderState, answer_of, EndsThere, IsBadTh
 use Rattle.write_trace.specs.declared.next.Next.{Next}
 use Rattle.write_trace.specs.declared.next.Next.TheVariants as answers
 use Rattle.write_trace.specs.declared.next.Stopped.{Stopped}
-use Rattle.write_trace.specs.declared.stop.Stop.{Stop}
-use Rattle.write_trace.specs.declared.stop.Stop.TheVariants as stops
+use Rattle.write_trace.specs.declared.stop.NoRead.{NoRead}
+use Rattle.write_trace.specs.declared.stop.NoRead.TheVariants as stops
 
 -- ---- one look at the bytes held
 
@@ -57,7 +57,7 @@ abbrev pub answer_from : Result Entry Stopped → Next
 answer_from (Ok e) = next_of e
 answer_from (Err why) = answer_of why
 
-abbrev pub Tries : (old new : ReaderState) → Result Entry Stop → Type 0
+abbrev pub Tries : (old new : ReaderState) → Result Entry NoRead → Type 0
 Tries old new (Ok e) = TakesEntry old new e
 Tries old new (Err stops.Memory) = new ≡ old
 Tries old new (Err (stops.Cut place)) = (new ≡ old) × IsCut old

@@ -4,7 +4,7 @@ ghost use Rattle.std.specs.Prelude.{◌≡◌, ◌+◌, ◌-◌, ◌^◌, ◌≤
 ghost use Rattle.std.specs.Int.{w8, w16, w32, w64};
 ghost use Rattle.tod_stamp.specs.Fields.{Left, bytes_at, number_at, within, any};
 
-use crate::stop::Stop;
+use crate::stop::NoRead;
 use byteorder::{BigEndian, ByteOrder};
 use std::marker::Model;
 
@@ -62,12 +62,12 @@ impl<'a> Cursor<'a> {
     /// The next bytes, so many.
     #[inline]
     #[tactic(auto, unfolding(tod_stamp::specs::Fields::bytes_at))]
-    pub fn front(self, count: usize) -> Result<(&'a [u8], Cursor<'a>), Stop>
+    pub fn front(self, count: usize) -> Result<(&'a [u8], Cursor<'a>), NoRead>
         ensures reads { GivesField (λ x. (x.0.now, x.1)) result (bytes_at count any self.entry) }
         ensures long { IfOk result (λ x. length x.0.now ≡ count) }
     {
         if self.bytes.len() < count {
-            return Err(Stop::Cut(self.place));
+            return Err(NoRead::Cut(self.place));
         }
         let (front, rest) = self.bytes.split_at(count);
         let place = self.place + count as u64;
@@ -77,7 +77,7 @@ impl<'a> Cursor<'a> {
     /// The next byte.
     #[inline]
     #[tactic(auto, unfolding(tod_stamp::specs::Fields::number_at, tod_stamp::specs::Fields::bytes_at))]
-    pub fn any_byte(self) -> Result<(u8, Cursor<'a>), Stop>
+    pub fn any_byte(self) -> Result<(u8, Cursor<'a>), NoRead>
         ensures { GivesField (λ x. (x.0, x.1)) result (number_at w8 any self.entry) }
     {
         let (field, rest) = self.front(1)?;
@@ -87,14 +87,14 @@ impl<'a> Cursor<'a> {
     /// The next byte, from `low` to `high`.
     #[inline]
     #[tactic(auto, unfolding(tod_stamp::specs::Fields::number_at, tod_stamp::specs::Fields::bytes_at))]
-    pub fn byte(self, low: u8, high: u8) -> Result<(u8, Cursor<'a>), Stop>
+    pub fn byte(self, low: u8, high: u8) -> Result<(u8, Cursor<'a>), NoRead>
         ensures { GivesField (λ x. (x.0, x.1)) result (number_at w8 (within low high) self.entry) }
     {
         let place = self.place;
         let (field, rest) = self.front(1)?;
         let number = field[0];
         if number < low || high < number {
-            return Err(Stop::Broken(place));
+            return Err(NoRead::Broken(place));
         }
         Ok((number, rest))
     }
@@ -102,7 +102,7 @@ impl<'a> Cursor<'a> {
     /// The next number of two bytes, below `limit`.
     #[inline]
     #[tactic(auto, unfolding(tod_stamp::specs::Fields::number_at, tod_stamp::specs::Fields::bytes_at))]
-    pub fn number_below(self, limit: usize) -> Result<(u16, Cursor<'a>), Stop>
+    pub fn number_below(self, limit: usize) -> Result<(u16, Cursor<'a>), NoRead>
         ensures reads { GivesField (λ x. (x.0, x.1)) result (number_at w16 (λ n. nat_lt n limit) self.entry) }
         ensures below { IfOk result (λ x. x.0 < limit) }
     {
@@ -110,7 +110,7 @@ impl<'a> Cursor<'a> {
         let (field, rest) = self.front(2)?;
         let number = BigEndian::read_u16(field);
         if number as usize >= limit {
-            return Err(Stop::Broken(place));
+            return Err(NoRead::Broken(place));
         }
         Ok((number, rest))
     }
@@ -118,14 +118,14 @@ impl<'a> Cursor<'a> {
     /// The next number of two bytes, up to `most`.
     #[inline]
     #[tactic(auto, unfolding(tod_stamp::specs::Fields::number_at, tod_stamp::specs::Fields::bytes_at))]
-    pub fn number_up_to(self, most: u16) -> Result<(u16, Cursor<'a>), Stop>
+    pub fn number_up_to(self, most: u16) -> Result<(u16, Cursor<'a>), NoRead>
         ensures { GivesField (λ x. (x.0, x.1)) result (number_at w16 (λ n. nat_le n most) self.entry) }
     {
         let place = self.place;
         let (field, rest) = self.front(2)?;
         let number = BigEndian::read_u16(field);
         if number > most {
-            return Err(Stop::Broken(place));
+            return Err(NoRead::Broken(place));
         }
         Ok((number, rest))
     }
@@ -133,7 +133,7 @@ impl<'a> Cursor<'a> {
     /// The next number of two bytes, from `low` to `high`.
     #[inline]
     #[tactic(auto, unfolding(tod_stamp::specs::Fields::number_at, tod_stamp::specs::Fields::bytes_at))]
-    pub fn number_within(self, low: u16, high: u16) -> Result<(u16, Cursor<'a>), Stop>
+    pub fn number_within(self, low: u16, high: u16) -> Result<(u16, Cursor<'a>), NoRead>
         ensures reads { GivesField (λ x. (x.0, x.1)) result (number_at w16 (within low high) self.entry) }
         ensures inside { IfOk result (λ x. (low ≤ x.0) × (x.0 ≤ high)) }
     {
@@ -141,7 +141,7 @@ impl<'a> Cursor<'a> {
         let (field, rest) = self.front(2)?;
         let number = BigEndian::read_u16(field);
         if number < low || high < number {
-            return Err(Stop::Broken(place));
+            return Err(NoRead::Broken(place));
         }
         Ok((number, rest))
     }
@@ -149,14 +149,14 @@ impl<'a> Cursor<'a> {
     /// The next number of four bytes, up to `most`.
     #[inline]
     #[tactic(auto, unfolding(tod_stamp::specs::Fields::number_at, tod_stamp::specs::Fields::bytes_at))]
-    pub fn long_up_to(self, most: u32) -> Result<(u32, Cursor<'a>), Stop>
+    pub fn long_up_to(self, most: u32) -> Result<(u32, Cursor<'a>), NoRead>
         ensures { GivesField (λ x. (x.0, x.1)) result (number_at w32 (λ n. nat_le n most) self.entry) }
     {
         let place = self.place;
         let (field, rest) = self.front(4)?;
         let number = BigEndian::read_u32(field);
         if number > most {
-            return Err(Stop::Broken(place));
+            return Err(NoRead::Broken(place));
         }
         Ok((number, rest))
     }
@@ -164,14 +164,14 @@ impl<'a> Cursor<'a> {
     /// The next stamp, of at least 1 and not below the last.
     #[inline]
     #[tactic(auto, unfolding(tod_stamp::specs::Fields::number_at, tod_stamp::specs::Fields::bytes_at))]
-    pub fn stamp(self, last: u64) -> Result<(u64, Cursor<'a>), Stop>
+    pub fn stamp(self, last: u64) -> Result<(u64, Cursor<'a>), NoRead>
         ensures { GivesField (λ x. (x.0, x.1)) result (number_at w64 (λ n. nat_le 1 n && nat_le last n) self.entry) }
     {
         let place = self.place;
         let (field, rest) = self.front(8)?;
         let number = BigEndian::read_u64(field);
         if number < 1 || number < last {
-            return Err(Stop::Broken(place));
+            return Err(NoRead::Broken(place));
         }
         Ok((number, rest))
     }

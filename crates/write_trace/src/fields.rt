@@ -14,7 +14,7 @@ ghost use Rattle.ckd_track.specs.Fields.{update_at};
 use crate::cursor::Cursor;
 use crate::entry::Entry;
 use crate::header::VolumeHead;
-use crate::stop::Stop;
+use crate::stop::NoRead;
 use ckd_track::{ImageError, Kind, LONGEST_UPDATE, RecList, Track, Write, decode_records};
 use std::alloc::Global;
 use tod_stamp::{Stamp, TRACKS_OF_CYLINDER};
@@ -38,7 +38,7 @@ fn copied(alloc: Global, bytes: &[u8]) -> Result<Bytes, NoMemory>
 }
 
 #[tactic(auto, unfolding(ckd_track::specs::Fields::update_at))]
-fn update_of(alloc: Global, cursor: Cursor<'_>) -> Result<(Kind, Cursor<'_>), Stop>
+fn update_of(alloc: Global, cursor: Cursor<'_>) -> Result<(Kind, Cursor<'_>), NoRead>
     ensures { GivesField (λ x. (x.0, x.1)) result (update_at cursor.entry) }
 {
     let (number, cursor) = cursor.byte(1, 255)?;
@@ -60,7 +60,7 @@ fn cylinder_of<'a>(
     volumes: &[VolumeHead],
     volume: u16,
     cursor: Cursor<'a>,
-) -> Result<(u16, Cursor<'a>), Stop>
+) -> Result<(u16, Cursor<'a>), NoRead>
     requires { volume < length volumes.now }
     ensures { GivesField (λ x. (x.0, x.1)) result (number_at w16 (λ n. nat_lt n (cylinders_of volumes.now volume)) cursor.entry) }
 {
@@ -73,7 +73,7 @@ fn cylinder_of<'a>(
 pub fn place_of<'a>(
     volumes: &[VolumeHead],
     cursor: Cursor<'a>,
-) -> Result<(u16, u32, Cursor<'a>), Stop>
+) -> Result<(u16, u32, Cursor<'a>), NoRead>
     ensures { GivesField (λ x. ((x.0, x.1), x.2)) result (place_at 1 volumes.now cursor.entry) }
 {
     let (volume, cursor) = cursor.number_below(volumes.len())?;
@@ -87,18 +87,18 @@ pub fn place_of<'a>(
 }
 
 /// Why records are no field, at the field's place.
-fn stop_of(error: ImageError, place: u64) -> Stop
+fn stop_of(error: ImageError, place: u64) -> NoRead
     ensures { (left : Left) (read : Result (List records.Rec × List ℕ) ImageError) → left.place ≡ place → (error ≢ ImageError.NoMemory → read ≡ Err error) → Fails result (as_field left read) }
 {
     match error {
-        ImageError::NoMemory => Stop::Memory,
-        ImageError::Short => Stop::Cut(place),
-        ImageError::TooBig | ImageError::Order(_) => Stop::Broken(place),
+        ImageError::NoMemory => NoRead::Memory,
+        ImageError::Short => NoRead::Cut(place),
+        ImageError::TooBig | ImageError::Order(_) => NoRead::Broken(place),
     }
 }
 
 /// An image as one field.
-pub fn image_field_of(alloc: Global, cursor: Cursor<'_>) -> Result<(Track, Cursor<'_>), Stop>
+pub fn image_field_of(alloc: Global, cursor: Cursor<'_>) -> Result<(Track, Cursor<'_>), NoRead>
     ensures { GivesField (λ x. (x.0, x.1)) result (image_field cursor.entry) }
 {
     let bytes = cursor.bytes();
@@ -114,7 +114,7 @@ fn records_field_of(
     count: u8,
     low: u8,
     cursor: Cursor<'_>,
-) -> Result<(RecList, Cursor<'_>), Stop>
+) -> Result<(RecList, Cursor<'_>), NoRead>
     ensures { GivesField (λ x. (x.0, x.1)) result (records_field count low cursor.entry) }
 {
     let bytes = cursor.bytes();
@@ -125,7 +125,7 @@ fn records_field_of(
 }
 
 #[tactic(auto, unfolding(crate::specs::Entries::format_at))]
-fn format_of(alloc: Global, cursor: Cursor<'_>) -> Result<(Kind, Cursor<'_>), Stop>
+fn format_of(alloc: Global, cursor: Cursor<'_>) -> Result<(Kind, Cursor<'_>), NoRead>
     ensures { GivesField (λ x. (x.0, x.1)) result (format_at cursor.entry) }
 {
     let (after, cursor) = cursor.any_byte()?;
@@ -135,7 +135,7 @@ fn format_of(alloc: Global, cursor: Cursor<'_>) -> Result<(Kind, Cursor<'_>), St
 }
 
 #[tactic(auto, unfolding(crate::specs::Entries::whole_at))]
-fn whole_of(alloc: Global, cursor: Cursor<'_>) -> Result<(Kind, Cursor<'_>), Stop>
+fn whole_of(alloc: Global, cursor: Cursor<'_>) -> Result<(Kind, Cursor<'_>), NoRead>
     ensures { GivesField (λ x. (x.0, x.1)) result (whole_at cursor.entry) }
 {
     let (track, cursor) = image_field_of(alloc, cursor)?;
@@ -143,7 +143,7 @@ fn whole_of(alloc: Global, cursor: Cursor<'_>) -> Result<(Kind, Cursor<'_>), Sto
 }
 
 #[tactic(auto, unfolding(crate::specs::Entries::kind_at))]
-fn kind_of(alloc: Global, tag: u8, cursor: Cursor<'_>) -> Result<(Kind, Cursor<'_>), Stop>
+fn kind_of(alloc: Global, tag: u8, cursor: Cursor<'_>) -> Result<(Kind, Cursor<'_>), NoRead>
     ensures { GivesField (λ x. (x.0, x.1)) result (kind_at tag cursor.entry) }
 {
     match tag {
@@ -160,7 +160,7 @@ fn write_of<'a>(
     tag: u8,
     stamp: u64,
     cursor: Cursor<'a>,
-) -> Result<(Entry, Cursor<'a>), Stop>
+) -> Result<(Entry, Cursor<'a>), NoRead>
     ensures { GivesField (λ x. (x.0, x.1)) result (write_at 1 volumes.now tag stamp cursor.entry) }
 {
     let (volume, track, cursor) = place_of(volumes, cursor)?;
@@ -181,7 +181,7 @@ fn entry_of<'a>(
     volumes: &[VolumeHead],
     last: u64,
     cursor: Cursor<'a>,
-) -> Result<(Entry, Cursor<'a>), Stop>
+) -> Result<(Entry, Cursor<'a>), NoRead>
     ensures { GivesField (λ x. (x.0, x.1)) result (entry_at 1 volumes.now last cursor.entry) }
 {
     let (tag, cursor) = cursor.byte(IDLE, WHOLE)?;
@@ -199,7 +199,7 @@ pub fn entry_in(
     last: u64,
     place: u64,
     bytes: &[u8],
-) -> Result<(Entry, usize), Stop>
+) -> Result<(Entry, usize), NoRead>
     requires { place + length bytes.now ≤ 2 ^ 40 }
     ensures ok { IfOk result (λ x. ReadOf volumes.now last (record { place = place; bytes = bytes.now }) x.0 x.1) }
     ensures err { IfErr result (λ stop. Fails stop (entry_at 1 volumes.now last (record { place = place; bytes = bytes.now }))) }

@@ -12,19 +12,19 @@ ghost use Rattle.write_trace.specs.HeaderParts.{seen_after, header_front_at};
 use crate::cursor::Cursor;
 use crate::fields::{image_field_of, place_of};
 use crate::header::{BaseTrack, VolumeHead, VolumeList};
-use crate::stop::Stop;
+use crate::stop::NoRead;
 use std::alloc::Global;
 use tod_stamp::{MOST_CYLINDERS, MOST_VOLUMES, Serial, TRACKS_OF_CYLINDER};
 
 /// The mark of version 1.
 #[tactic(auto, unfolding(crate::specs::Headers::version_at, tod_stamp::specs::Fields::bytes_at))]
-fn mark_of(c: Cursor<'_>) -> Result<Cursor<'_>, Stop>
+fn mark_of(c: Cursor<'_>) -> Result<Cursor<'_>, NoRead>
     ensures { GivesField (λ c. (1, c)) result (version_at 1 c.entry) }
 {
     let place = c.place();
     let (mark, c) = c.front(4)?;
     if mark != b"XTR1".as_slice() {
-        return Err(Stop::Broken(place));
+        return Err(NoRead::Broken(place));
     }
     Ok(c)
 }
@@ -44,16 +44,16 @@ fn is_taken(volumes: &[VolumeHead], serial: Serial) -> bool
 
 /// A volume, whose serial is none of those volumes'.
 #[tactic(auto, unfolding(crate::specs::Headers::volume_at, tod_stamp::specs::Fields::bytes_at))]
-fn volume_of<'a>(volumes: &[VolumeHead], c: Cursor<'a>) -> Result<(VolumeHead, Cursor<'a>), Stop>
+fn volume_of<'a>(volumes: &[VolumeHead], c: Cursor<'a>) -> Result<(VolumeHead, Cursor<'a>), NoRead>
     ensures { GivesField (λ x. (x.0, x.1)) result (volume_at 1 (seen_after [] volumes.now) c.entry) }
 {
     let place = c.place();
     let (field, c) = c.front(6)?;
     let Some(serial) = Serial::from_field(field) else {
-        return Err(Stop::Broken(place));
+        return Err(NoRead::Broken(place));
     };
     if is_taken(volumes, serial) {
-        return Err(Stop::Broken(place));
+        return Err(NoRead::Broken(place));
     }
     let (cylinders, c) = c.number_within(1, MOST_CYLINDERS)?;
     let volume = VolumeHead {
@@ -64,7 +64,7 @@ fn volume_of<'a>(volumes: &[VolumeHead], c: Cursor<'a>) -> Result<(VolumeHead, C
 }
 
 /// Volumes, one after another, with different serials.
-fn volumes_of(alloc: Global, count: u16, c: Cursor<'_>) -> Result<(VolumeList, Cursor<'_>), Stop>
+fn volumes_of(alloc: Global, count: u16, c: Cursor<'_>) -> Result<(VolumeList, Cursor<'_>), NoRead>
     ensures reads { GivesField (λ x. (x.0, x.1)) result (volumes_at 1 count [] c.entry) }
     ensures rules { IfOk result (λ x. IsTrue (are_volumes 1 [] x.0)) }
     ensures many { IfOk result (λ x. length x.0 ≡ count) }
@@ -93,7 +93,7 @@ fn tracks_in(volumes: &[VolumeHead]) -> u32
 }
 
 /// The number of base tracks, of which there are no more than tracks.
-fn many_of<'a>(volumes: &[VolumeHead], c: Cursor<'a>) -> Result<(u32, Cursor<'a>), Stop>
+fn many_of<'a>(volumes: &[VolumeHead], c: Cursor<'a>) -> Result<(u32, Cursor<'a>), NoRead>
     requires many { length volumes.now ≤ MOST_VOLUMES }
     requires rules { IsTrue (are_volumes 1 [] volumes.now) }
     ensures { GivesField (λ x. (x.0, x.1)) result (number_at w32 (λ n. nat_le n (sum_by tracks_of volumes.now)) c.entry) }
@@ -103,7 +103,7 @@ fn many_of<'a>(volumes: &[VolumeHead], c: Cursor<'a>) -> Result<(u32, Cursor<'a>
 
 /// The head of a header: the mark, the volumes, and the number of base tracks.
 #[tactic(auto, unfolding(crate::specs::HeaderParts::header_front_at))]
-fn head_of(alloc: Global, c: Cursor<'_>) -> Result<((VolumeList, u32), Cursor<'_>), Stop>
+fn head_of(alloc: Global, c: Cursor<'_>) -> Result<((VolumeList, u32), Cursor<'_>), NoRead>
     ensures reads { GivesField (λ x. ((x.0.0, x.0.1), x.1)) result (header_front_at c.entry) }
     ensures rules { IfOk result (λ x. IsTrue (are_volumes 1 [] x.0.0)) }
     ensures many { IfOk result (λ x. (1 ≤ length x.0.0) × (length x.0.0 ≤ MOST_VOLUMES)) }
@@ -116,7 +116,11 @@ fn head_of(alloc: Global, c: Cursor<'_>) -> Result<((VolumeList, u32), Cursor<'_
 }
 
 /// The head that the bytes begin with, and how many of them it takes.
-pub fn head_in(alloc: Global, place: u64, bytes: &[u8]) -> Result<((VolumeList, u32), usize), Stop>
+pub fn head_in(
+    alloc: Global,
+    place: u64,
+    bytes: &[u8],
+) -> Result<((VolumeList, u32), usize), NoRead>
     requires { place + length bytes.now ≤ 2 ^ 40 }
     ensures reads { GivesField (λ x. ((x.0.0, x.0.1), after x.1 (record { place = place; bytes = bytes.now }))) result (header_front_at (record { place = place; bytes = bytes.now })) }
     ensures used { IfOk result (λ x. x.1 ≤ length bytes.now) }
@@ -135,13 +139,13 @@ fn base_of<'a>(
     volumes: &[VolumeHead],
     low: (u16, u32),
     c: Cursor<'a>,
-) -> Result<(BaseTrack, Cursor<'a>), Stop>
+) -> Result<(BaseTrack, Cursor<'a>), NoRead>
     ensures { GivesField (λ x. (x.0, x.1)) result (base_at 1 volumes.now low c.entry) }
 {
     let volume_place = c.place();
     let (volume, track, c) = place_of(volumes, c)?;
     if volume < low.0 || (volume == low.0 && track < low.1) {
-        return Err(Stop::Broken(volume_place));
+        return Err(NoRead::Broken(volume_place));
     }
     let (recs, c) = image_field_of(alloc, c)?;
     Ok(((volume, track, recs), c))
@@ -154,7 +158,7 @@ pub fn base_in(
     low: (u16, u32),
     place: u64,
     bytes: &[u8],
-) -> Result<(BaseTrack, usize), Stop>
+) -> Result<(BaseTrack, usize), NoRead>
     requires { place + length bytes.now ≤ 2 ^ 40 }
     ensures reads { GivesField (λ x. (x.0, after x.1 (record { place = place; bytes = bytes.now }))) result (base_at 1 volumes.now low (record { place = place; bytes = bytes.now })) }
     ensures used { IfOk result (λ x. x.1 ≤ length bytes.now) }

@@ -9,7 +9,7 @@ use crate::entry::Entry;
 use crate::fields::entry_in;
 use crate::header::VolumeList;
 use crate::next::{Next, Stopped};
-use crate::stop::Stop;
+use crate::stop::NoRead;
 use crate::trace::TraceEnd;
 use crate::window::{Refill, Window};
 use std::alloc::Global;
@@ -120,12 +120,12 @@ impl TraceReader {
         loop {
             match self.attempt(alloc) {
                 Ok(entry) => return Ok(entry),
-                Err(Stop::Memory) => return Err(self.stop(Stopped::NoMemory)),
-                Err(Stop::Broken(_)) => {
+                Err(NoRead::Memory) => return Err(self.stop(Stopped::NoMemory)),
+                Err(NoRead::Broken(_)) => {
                     let place = self.window.place();
                     return Err(self.stop(Stopped::AtEnd(TraceEnd::BadTrace(place))));
                 }
-                Err(Stop::Cut(_)) => {
+                Err(NoRead::Cut(_)) => {
                     if let Some(end) = self.more(source) {
                         return Err(self.stop(Stopped::AtEnd(end)));
                     }
@@ -135,7 +135,7 @@ impl TraceReader {
     }
 
     /// The entry that the bytes held begin with, if they hold one.
-    fn attempt(&mut self, alloc: Global) -> Result<Entry, Stop>
+    fn attempt(&mut self, alloc: Global) -> Result<Entry, NoRead>
         ensures { Tries self.old self.new result }
     {
         let place = self.window.place();

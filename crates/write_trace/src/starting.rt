@@ -11,7 +11,7 @@ ghost use Rattle.write_trace.specs.HeaderParts.{header_front_at};
 use crate::header::{BaseList, BaseTrack, Header, VolumeHead, VolumeList};
 use crate::header_fields::{base_in, head_in};
 use crate::reader::TraceReader;
-use crate::stop::Stop;
+use crate::stop::NoRead;
 use crate::trace::HeaderError;
 use crate::window::{Refill, Window};
 use std::alloc::Global;
@@ -48,9 +48,9 @@ fn head<S: Source>(
                 window.skip(used);
                 return Ok(head);
             }
-            Err(Stop::Memory) => return Err(HeaderError::NoMemory),
-            Err(Stop::Broken(place)) => return Err(HeaderError::BadHeader(place)),
-            Err(Stop::Cut(place)) => gather(window, source, place)?,
+            Err(NoRead::Memory) => return Err(HeaderError::NoMemory),
+            Err(NoRead::Broken(place)) => return Err(HeaderError::BadHeader(place)),
+            Err(NoRead::Cut(place)) => gather(window, source, place)?,
         }
     }
 }
@@ -74,9 +74,9 @@ fn base<S: Source>(
                 window.skip(used);
                 return Ok(base);
             }
-            Err(Stop::Memory) => return Err(HeaderError::NoMemory),
-            Err(Stop::Broken(place)) => return Err(HeaderError::BadHeader(place)),
-            Err(Stop::Cut(place)) => gather(window, source, place)?,
+            Err(NoRead::Memory) => return Err(HeaderError::NoMemory),
+            Err(NoRead::Broken(place)) => return Err(HeaderError::BadHeader(place)),
+            Err(NoRead::Cut(place)) => gather(window, source, place)?,
         }
     }
 }

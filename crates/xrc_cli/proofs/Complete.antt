@@ -63,7 +63,7 @@ module _ {S P : Type 0} (tells : Type 0) (told : tells) (state : P → PlantStat
   not_by_line is =
       let ran = ends.ran told below sources given opens in
       let stopped = ran.stopped (λ zero. omega (arith, is, zero)) in
-      let (n, bad) = bad_line_is stopped.stop (sym stopped.is ∙ is) in
+      let (n, bad) = bad_line_is stopped.stop (sym stopped.status_is ∙ is) in
       no_bad_line tells told (state old).script ran.lines good.lines stopped.text (state new).script ran.asked good.asked good.whole stopped.script (stopped.of_bad n bad).1
 
   -- No count rose.

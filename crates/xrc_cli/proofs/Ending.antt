@@ -7,7 +7,7 @@ use Rattle.crash_plant.specs.declared.device.Device.TheVariants.{Control, Volume
 use Rattle.crash_plant.specs.Calls.{Says, WorksOnConsole}
 use Rattle.crash_plant.specs.Moments.{PlantState}
 use Rattle.xrc_command.specs.declared.line.Line.{Line}
-use Rattle.consistency.specs.Stages.{Run}
+use Rattle.consistency.specs.Stages.{ScriptRun}
 use Rattle.consistency.specs.Pauses.{RunGoesOn}
 use Rattle.consistency.specs.Courses.{Answered, replies_of, texts_of}
 use Rattle.consistency.specs.Leads.{Point}
@@ -77,7 +77,7 @@ none_bad tells number before left (inr long) = omega (arith, long.size)
 
 -- ---- a run that stopped behind its lines
 
-module _ (tells : Type 0) (told : tells) (session : List ℕ) (sources : List SourceBytes) (stop : Stop) (old mid : PlantState) (run : Run) (lines : List Answered) (trail : Trail) (next : Option Point) where
+module _ (tells : Type 0) (told : tells) (session : List ℕ) (sources : List SourceBytes) (stop : Stop) (old mid : PlantState) (run : ScriptRun) (lines : List Answered) (trail : Trail) (next : Option Point) where
   -- The console failed within the reply to a line.
   module _ (a : Answered) (none : trail.started ≡ 0 → trail.points ≡ []) (over : IsRunOfScript session sources old mid run) (is : stop ≡ ConsoleFault) (cause : HasRunCause old mid stop) (part : RepliesInPart run lines a old mid) (exact : AreExact run (lines ++ a ∷ []) trail) (begun : HasBegunTrail run (lines ++ a ∷ []) trail)
       (along : 0 < trail.started → StandsOnTrail run (lines ++ a ∷ []) None trail next mid) (forth : 0 < old.clock → 0 < trail.started → GoesForth run (lines ++ a ∷ []) None trail next old mid) (volumes : ChangesRows (rows_passed trail.points) old mid) (as_were : StoresAsWere old mid stop) (applied : AppliesEnds run lines old mid) where
@@ -95,12 +95,12 @@ module _ (tells : Type 0) (told : tells) (session : List ℕ) (sources : List So
       begun = begun;
       goes_forth = λ up some. (None, tt, (next, forth up some));
       on_trail = λ some. (None, tt, (next, along some));
-      ends = applies_so_far run lines a old mid part.applied applied;
+      applied = applies_so_far run lines a old mid part.applied applied;
       volumes = volumes;
       done = λ zero. absurd (omega (arith, zero, ap status_of is));
       stopped = λ not. record {
         stop = stop;
-        is = refl;
+        status_is = refl;
         cause = cause;
         counts = as_were;
         text = [];
@@ -112,7 +112,7 @@ module _ (tells : Type 0) (told : tells) (session : List ℕ) (sources : List So
         bad = λ bad. absurd (none_bad tells _ _ mid.script bad);
         of_bad = λ n line. absurd (let clash : ConsoleFault ≡ BadLine n = sym is ∙ line in cc clash);
         spent = λ spent. absurd (omega (arith, spent, ap status_of is));
-        bears_now = part.behind;
+        bears_now = part.bears_now;
       };
     }
 
@@ -141,8 +141,8 @@ module _ (tells : Type 0) (told : tells) (session : List ℕ) (sources : List So
         let front = says.front new.clock later (omega arith) in
         record {
           said = (front.0, front.1, front.2 ∙ ap (λ (l : List ℕ). l ++ take front.0 (last_line stop)) goes.now.said ∙ append_assoc (old.said old.clock) (replies_of lines) (take front.0 (last_line stop)));
-          whole = by_sides (last.whole told) last.count;
-          by_one = (let same = unfailed other in let one = last.by_one in omega (arith, same, one));
+          whole = by_sides (last.whole told) last.console_count;
+          by_one = (let same = unfailed other in let one = last.console_once in omega (arith, same, one));
         }
       where
         rose_before : Rose mid.console_faults new.console_faults → Rose old.console_faults new.console_faults
@@ -161,7 +161,7 @@ module _ (tells : Type 0) (told : tells) (session : List ℕ) (sources : List So
     stops_with : StopsWith tells run lines old new (status_of stop)
     stops_with = record {
       stop = stop;
-      is = refl;
+      status_is = refl;
       cause = cause;
       counts = as_were;
       text = text;
@@ -196,7 +196,7 @@ module _ (tells : Type 0) (told : tells) (session : List ℕ) (sources : List So
       on_trail = λ some.
           let heard = (stage_behind run lines text old).next in
           (heard, heard_behind heard refl, (next, along_still tells told mid new works run lines heard trail next (along some)));
-      ends = λ up number below ended. inl (applies_on run lines old mid new goes.now.later works.site (works.elapses told) applied up number below ended);
+      applied = λ up number below ended. inl (applies_on run lines old mid new goes.now.later works.site (works.elapses told) applied up number below ended);
       volumes = rows_still tells told mid new works (rows_passed trail.points) old goes.now.site goes.now.later volumes;
       done = λ zero. absurd (not_done old new stop ends zero);
       stopped = λ not. stops_with;
@@ -244,7 +244,7 @@ module _ {S P : Type 0} (tells : Type 0) (state : P → PlantState) (left : S �
           begun = is.begun;
           goes_forth = λ up some. (None, tt, (None, is.goes_forth up some));
           on_trail = λ some. (None, tt, (None, is.on_trail some));
-          ends = λ up number below ended. inl (runs.ends.2 up number below ended);
+          applied = λ up number below ended. inl (runs.ends.2 up number below ended);
           volumes = is.volumes;
           done = λ zero. is;
           stopped = λ not. absurd (not refl);
@@ -273,7 +273,7 @@ module _ {S P : Type 0} (tells : Type 0) (state : P → PlantState) (left : S �
 
     says_only : (other : Stop) → stop ≡ other → mid ≡ old → SaysLineOnly tells other (state old) (state new) (status_of stop)
     says_only other is same = record {
-      is = ap status_of is;
+      status_is = ap status_of is;
       says = subst (λ (x : Stop). SaysLast tells (last_line x) (state old) (state new)) is (subst (λ (p : P). SaysLast tells (last_line stop) (state p) (state new)) same last);
     }
 

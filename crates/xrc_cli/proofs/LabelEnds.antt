@@ -59,7 +59,7 @@ module _ (tells : Type 0) (device : ℕ) (label : Label) where
   no_volume a c not s = record {
     known = refl;
     no_volume = (λ is. not, λ is. refl);
-    no_room = ((λ is. absurd (omega arith)), λ h. absurd (not h.0));
+    short = ((λ is. absurd (omega arith)), λ h. absurd (not h.0));
     volume = λ is. absurd (omega arith);
     console = λ is. absurd (omega arith);
     complete = λ has room none. absurd (not has);
@@ -80,7 +80,7 @@ module _ (tells : Type 0) (device : ℕ) (label : Label) where
   no_room a c has not s = record {
     known = refl;
     no_volume = ((λ is. absurd (omega arith)), λ other. absurd (other has));
-    no_room = (λ is. (has, not), λ h. refl);
+    short = (λ is. (has, not), λ h. refl);
     volume = λ is. absurd (omega arith);
     console = λ is. absurd (omega arith);
     complete = λ again room none. absurd (not room);
@@ -111,7 +111,7 @@ module _ (tells : Type 0) (device : ℕ) (label : Label) where
     not_written rose s = record {
       known = refl;
       no_volume = ((λ is. absurd (omega arith)), λ other. absurd (other has));
-      no_room = ((λ is. absurd (omega arith)), λ h. absurd (h.1 room));
+      short = ((λ is. absurd (omega arith)), λ h. absurd (h.1 room));
       volume = λ is. rises;
       console = λ is. absurd (omega arith);
       complete = λ again enough none. absurd (none.devices (Volume device) rises);
@@ -149,7 +149,7 @@ module _ (tells : Type 0) (device : ℕ) (label : Label) where
       by_status status (inl is) s = subst (λ (n : ℕ). EndsLabelling tells device label a c n) (sym is) (record {
         known = refl;
         no_volume = ((λ bad. absurd (omega arith)), λ other. absurd (other has));
-        no_room = ((λ bad. absurd (omega arith)), λ h. absurd (h.1 room));
+        short = ((λ bad. absurd (omega arith)), λ h. absurd (h.1 room));
         volume = λ bad. absurd (omega arith);
         console = λ bad. absurd (omega arith);
         complete = λ again enough none. refl;
@@ -168,7 +168,7 @@ module _ (tells : Type 0) (device : ℕ) (label : Label) where
       by_status status (inr is) s = subst (λ (n : ℕ). EndsLabelling tells device label a c n) (sym is) (record {
         known = refl;
         no_volume = ((λ bad. absurd (omega arith)), λ other. absurd (other has));
-        no_room = ((λ bad. absurd (omega arith)), λ h. absurd (h.1 room));
+        short = ((λ bad. absurd (omega arith)), λ h. absurd (h.1 room));
         volume = λ bad. absurd (omega arith);
         console = λ bad. rises;
         complete = λ again enough none. absurd (none.console rises);

@@ -22,7 +22,7 @@ use Rattle.xrc_command.specs.declared.line.Line.{Line}
 use Rattle.passages.specs.Points.{GoesThrough, Throughout, last_point}
 use Rattle.passages.proofs.InARow.{moments_rise}
 use Rattle.consistency.specs.Bearing.{ShowsPoint}
-use Rattle.consistency.specs.Stages.{Run, Stage}
+use Rattle.consistency.specs.Stages.{ScriptRun, Stage}
 use Rattle.consistency.specs.Courses.{Answered, texts_of}
 use Rattle.consistency.specs.Leads.{Point}
 use Rattle.consistency.specs.Ways.{PassedPoint, Way}
@@ -83,7 +83,7 @@ module _ (old mid new : PlantState) (faults : (d : Device) → new.faults d ≡ 
   labels_from _ _ (Given d these more there gives others) = Given d these more there (gives_still d these gives) (labels_from (d + 1) more others)
 
   -- The run is still that of the script.
-  pub script_still : (session : List ℕ) (sources : List SourceBytes) (run : Run) → IsRunOfScript session sources old mid run → IsRunOfScript session sources old new run
+  pub script_still : (session : List ℕ) (sources : List SourceBytes) (run : ScriptRun) → IsRunOfScript session sources old mid run → IsRunOfScript session sources old new run
   script_still session sources run over = record { name = over.name; traces = over.traces; labels = labels_from 0 run.labels over.labels; rises = λ d. over.rises d ∙ sym (faults (Volume d)) }
 
 -- ---- choices
@@ -115,7 +115,7 @@ module _ (tells : Type 0) (told : tells) (old new : PlantState) (works : WorksOn
         spent = was.spent;
       }
 
-  pub own_spent_still : (run : Run) (s : Stage) (began : PlantState) → AreOwnSpent run s began old → AreOwnSpent run s began new
+  pub own_spent_still : (run : ScriptRun) (s : Stage) (began : PlantState) → AreOwnSpent run s began old → AreOwnSpent run s began new
   own_spent_still run s began own = record { spent = spent_still own.spent; own = elim own.own [ inl is ↦ inl is | inr starts ↦ inr (by_next s.next starts) ] }
     where
       by_level : (line : Line) (o : Option Level) → IsSomeAnd o (λ level. AtNow (MeansStart run.session level line.time.0 began) old) → IsSomeAnd o (λ level. AtNow (MeansStart run.session level line.time.0 began) new)
@@ -128,11 +128,11 @@ module _ (tells : Type 0) (told : tells) (old new : PlantState) (works : WorksOn
       by_next (Some line) starts = by_level line (level_started run.session line) starts
 
   -- Where each choice bore a time, it does still.
-  pub bears_still : (run : Run) (s : Stage) (said : List ℕ) → AtNow (BearsTime run s said old) old → AtNow (BearsTime run s said new) new
+  pub bears_still : (run : ScriptRun) (s : Stage) (said : List ℕ) → AtNow (BearsTime run s said old) old → AtNow (BearsTime run s said new) new
   bears_still run s said was c is = bears_on run s said old new c works.site (now_still (BearsTime run s said old) was c is)
 
   -- A session stands on its trail still.
-  pub along_still : (run : Run) (lines : List Answered) (heard : Option Line) (trail : Trail) (next : Option Point) → StandsOnTrail run lines heard trail next old → StandsOnTrail run lines heard trail next new
+  pub along_still : (run : ScriptRun) (lines : List Answered) (heard : Option Line) (trail : Trail) (next : Option Point) → StandsOnTrail run lines heard trail next old → StandsOnTrail run lines heard trail next new
   along_still run lines heard trail next stands = record {
     rowless = stands.rowless;
     linked = stands.linked;
@@ -171,7 +171,7 @@ module _ (tells : Type 0) (told : tells) (old new : PlantState) (works : WorksOn
         (goes.0, throughout_past (λ c. shows p c ⊎ shows n.point c) from n.moment there goes.1, throughout_past (shows n.point) n.moment n.moment there goes.2, through_still shows n.moment n.point more next goes.3)
 
     -- The devices go on as they went.
-    pub forth_still : (run : Run) (lines : List Answered) (heard : Option Line) (trail : Trail) (next : Option Point) (began : PlantState) → GoesForth run lines heard trail next began old → GoesForth run lines heard trail next began new
+    pub forth_still : (run : ScriptRun) (lines : List Answered) (heard : Option Line) (trail : Trail) (next : Option Point) (began : PlantState) → GoesForth run lines heard trail next began old → GoesForth run lines heard trail next began new
     forth_still run lines heard trail next began forth =
         let first = (first_leg run lines trail).point in
         let before = moments_rise Point Way Choice (IsChoice old) (ShowsPoint run (shape_of old)) forth.from old.clock first trail.points next forth.goes in

@@ -71,7 +71,7 @@ pub record EndsLabelling (tells : Type 0) (device : ℕ) (label : Label) (old ne
   pub known : IsTrue (ends_labelling status)
   -- The numbers of journals and volumes come first, with that of the volume. Then comes the length of this volume alone.
   pub no_volume : (status ≡ 16) ↔ ¬ HasVolume old device
-  pub no_room : (status ≡ 14) ↔ (HasVolume old device × ¬ IsLongEnough old device label.cylinders)
+  pub short : (status ≡ 14) ↔ (HasVolume old device × ¬ IsLongEnough old device label.cylinders)
   -- The other statuses need a fault, 13 of the volume and 3 of the console; without one the volume is labelled.
   pub volume : status ≡ 13 → Rose (old.faults (Volume device)) (new.faults (Volume device))
   pub console : status ≡ 3 → Rose old.console_faults new.console_faults

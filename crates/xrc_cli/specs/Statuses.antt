@@ -7,7 +7,7 @@ use Rattle.crash_plant.specs.declared.device.Device.TheVariants.{Control, State,
 use Rattle.crash_plant.specs.Moments.{PlantState}
 use Rattle.xrc_command.specs.declared.line.Line.{Line}
 use Rattle.site_store.specs.Records.{IsStore}
-use Rattle.consistency.specs.Stages.{Run}
+use Rattle.consistency.specs.Stages.{ScriptRun}
 use Rattle.consistency.specs.Courses.{Answered, AreAsked, IsCourse, lines_begun, replies_of, texts_of}
 use Rattle.consistency.specs.Moments.{BearsThroughout, BearsTime}
 use Rattle.script_lines.specs.Texts.{has_feed}
@@ -50,7 +50,7 @@ pub record HasStatusCause (status : ℕ) (old new : PlantState) : Type 0 where
 
 -- A command ended by a stop before it heard anything or called a device: only its line was said.
 pub record SaysLineOnly (tells : Type 0) (stop : Stop) (old new : PlantState) (status : ℕ) : Type 0 where
-  pub is : status ≡ status_of stop
+  pub status_is : status ≡ status_of stop
   pub says : SaysLast tells (last_line stop) old new
 
 -- Numbers, lengths and headers come first, in this order, each exactly, and then nothing was heard and no device was called. Numbers and lengths
@@ -82,9 +82,9 @@ pub data SaidInPart (lines : List Answered) (old new : PlantState) : Type 0 wher
 --   spent: 24 comes only once the session has started, or in the work for its start, where its own numbers are spent
 --   bears_now: whatever a crash leaves bears a time, not before any that the replies tell, also on a plant that keeps no past
 --   in_part: at 3 the console failed in hearing, or in saying the reply to the last of the lines
-pub record StopsWith (tells : Type 0) (run : Run) (lines : List Answered) (old new : PlantState) (status : ℕ) : Type 0 where
+pub record StopsWith (tells : Type 0) (run : ScriptRun) (lines : List Answered) (old new : PlantState) (status : ℕ) : Type 0 where
   pub stop : Stop
-  pub is : status ≡ status_of stop
+  pub status_is : status ≡ status_of stop
   pub cause : HasRunCause old new stop
   pub counts : (d : Device) → IsStore d → stop ≢ stop_of_device d → new.faults d ≡ old.faults d
   pub text : List ℕ
@@ -101,13 +101,13 @@ pub record StopsWith (tells : Type 0) (run : Run) (lines : List Answered) (old n
 -- ---- the whole
 
 -- A line is the one that was heard whole behind the answered ones, if there is one.
-abbrev pub IsHeardBehind : Run → List Answered → (old new : PlantState) → Option Line → Type 0
+abbrev pub IsHeardBehind : ScriptRun → List Answered → (old new : PlantState) → Option Line → Type 0
 IsHeardBehind run lines old new heard = IfSome heard (λ line. (text : List ℕ) × (new.heard new.clock ≡ old.heard old.clock ++ (texts_of lines ++ text)) × ((stage_behind run lines text old).next ≡ Some line))
 
 -- What a session has done when its run ends with a status: over the traces of what the sources gave, the labels that volumes had, and as many
 -- faults of volumes as their counts rose by, it answered these lines, and its devices went this way.
 pub record Ran (tells : Type 0) (session : List ℕ) (sources : List SourceBytes) (old new : PlantState) (status : ℕ) : Type 0 where
-  pub run : Run
+  pub run : ScriptRun
   pub over : IsRunOfScript session sources old new run
   pub lines : List Answered
   pub trail : Trail
@@ -125,7 +125,7 @@ pub record Ran (tells : Type 0) (session : List ℕ) (sources : List SourceBytes
   -- So they stand at its end, also on a plant that keeps no past.
   pub on_trail : 0 < trail.started → (heard : Option Line) × IsHeardBehind run lines old new heard × ((next : Option Point) × StandsOnTrail run lines heard trail next new)
   -- Behind each line behind which the session has ended all is applied and marked.
-  pub ends : AppliesEndsSoFar run lines old new
+  pub applied : AppliesEndsSoFar run lines old new
   -- Of the volumes only the slots of pairs that had a row are written.
   pub volumes : ChangesRows (rows_passed trail.points) old new
   -- Done: the script was heard to its end, so much was said, and all is applied.

@@ -58,7 +58,7 @@ pub fn xrc<R: Threads + Wait + Sync, S: Source + Send, P: Plant>(
     // Other words are refused, and then nothing is heard. Only a run reads traces.
     ensures words { (result ≡ 2) ↔ (asked_by_words (map string_bytes words.now) ≡ None) }
     ensures refused { result ≡ 2 → SaysLineOnly P.tells BadWordsStop (P.state plant.old) (P.state plant.new) result }
-    ensures no_trace { ((session : List ℕ) (storage : ℕ) → asked_by_words (map string_bytes words.now) ≢ Some (RunAsked session storage)) → traces.new ≡ traces.old }
+    ensures traces { ((session : List ℕ) (storage : ℕ) → asked_by_words (map string_bytes words.now) ≢ Some (RunAsked session storage)) → traces.new ≡ traces.old }
 
     // With the words of a run: what opens it, what a start leaves before its answer, that each moment behind it bears one time, what was
     // said, what holds where it is done, and each status with its cause and its line.

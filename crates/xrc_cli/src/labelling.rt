@@ -10,7 +10,7 @@ use tod_stamp::TRACKS_OF_CYLINDER;
 use volume_label::{Label, need, write_label};
 use xrc_edge::Failed;
 use xrc_recovery::is_site;
-use xrc_status::{Line, Stop, say_stop};
+use xrc_status::{Stop, TextLine, say_stop};
 
 /// Whether the site has a volume of this number.
 fn has_volume<P: Plant>(plant: &P, device: u16) -> bool
@@ -20,10 +20,10 @@ fn has_volume<P: Plant>(plant: &P, device: u16) -> bool
 }
 
 /// What is said of a volume that was labelled: its number, its serial and its tracks.
-fn label_line(device: u16, label: &Label) -> Line
+fn label_line(device: u16, label: &Label) -> TextLine
     ensures { result ≡ label_line device label.now }
 {
-    let mut line = Line::make();
+    let mut line = TextLine::make();
     line.add(b"VOLUME");
     line.add_number(u64::from(device));
     line.add(b" ");

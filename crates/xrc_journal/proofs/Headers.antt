@@ -6,8 +6,8 @@ use Rattle.tod_stamp.specs.Fields.{◌>>=◌, Left, Bad, within}
 use Rattle.tod_stamp.proofs.FieldLaws.{at_place}
 use Rattle.tod_stamp.specs.declared.stamp.Stamp.{Stamp}
 use Rattle.crash_plant.specs.declared.spot.Spot.{Spot}
-use Rattle.xrc_journal.specs.declared.header.Header.{Header}
-use Rattle.xrc_journal.specs.declared.header.Header.TheVariants.{Group as GroupHeader, Switch as SwitchHeader}
+use Rattle.xrc_journal.specs.declared.header.RecordHeader.{RecordHeader}
+use Rattle.xrc_journal.specs.declared.header.RecordHeader.TheVariants.{Group as GroupHeader, Switch as SwitchHeader}
 use Rattle.xrc_journal.specs.Records.{RecordHead, is_body_length, record_head_at, most_body}
 use Rattle.xrc_journal.specs.Answers.{header_of, keeps_header, u64_in, u32_in}
 use Rattle.xrc_journal.proofs.Fields.{both_true}
@@ -15,14 +15,14 @@ use Rattle.xrc_journal.proofs.RecordsRead.{group_fits}
 use Rattle.xrc_journal.proofs.Steps.{number_step, byte_step}
 
 -- one field more, and the last
-field : {A : Type 0} (r : Result A Bad) (b s : Bool) (x : A) (e : Bad) (then : A → Result (RecordHead × Left) Bad) (h : Option Header) → r ≡ cond b (Ok x) (Err e) → header_of (then x) ≡ cond s h None → header_of (r >>= then) ≡ cond (b && s) h None
+field : {A : Type 0} (r : Result A Bad) (b s : Bool) (x : A) (e : Bad) (then : A → Result (RecordHead × Left) Bad) (h : Option RecordHeader) → r ≡ cond b (Ok x) (Err e) → header_of (then x) ≡ cond s h None → header_of (r >>= then) ≡ cond (b && s) h None
 field {A = A} r b s x e then h is next = ap (λ (q : Result A Bad). header_of (q >>= then)) is ∙ by_rule b
   where
     by_rule : (b : Bool) → header_of (cond b (Ok x) (Err e) >>= then) ≡ cond (b && s) h None
     by_rule true = next
     by_rule false = refl
 
-last_field : {A : Type 0} (r : Result A Bad) (b : Bool) (x : A) (e : Bad) (then : A → Result (RecordHead × Left) Bad) (h : Option Header) → r ≡ cond b (Ok x) (Err e) → header_of (then x) ≡ h → header_of (r >>= then) ≡ cond b h None
+last_field : {A : Type 0} (r : Result A Bad) (b : Bool) (x : A) (e : Bad) (then : A → Result (RecordHead × Left) Bad) (h : Option RecordHeader) → r ≡ cond b (Ok x) (Err e) → header_of (then x) ≡ h → header_of (r >>= then) ≡ cond b h None
 last_field {A = A} r b x e then h is next = ap (λ (q : Result A Bad). header_of (q >>= then)) is ∙ by_rule b
   where
     by_rule : (b : Bool) → header_of (cond b (Ok x) (Err e) >>= then) ≡ cond b h None
@@ -67,5 +67,5 @@ header_bounds size at last bytes keeps =
       group = λ kind. group_fits size at (record { kind = slice_index bytes 0; time = 0; len = u32_in bytes 17 }) (eq-eqb (slice_index bytes 0) 1 kind) d.1;
     }
 
-pub group_length : (t s : Stamp) (n m : ℕ) → (let x : Option Header = Some (GroupHeader t n) in let y : Option Header = Some (GroupHeader s m) in x ≡ y) → n ≡ m
+pub group_length : (t s : Stamp) (n m : ℕ) → (let x : Option RecordHeader = Some (GroupHeader t n) in let y : Option RecordHeader = Some (GroupHeader s m) in x ≡ y) → n ≡ m
 group_length t s n m e = cc

@@ -8,8 +8,8 @@ use Rattle.tod_stamp.specs.Fields.Bad.{Cut, Broken}
 use Rattle.tod_stamp.specs.declared.stamp.Stamp.{Stamp}
 use Rattle.tod_stamp.proofs.FieldLaws.{at_place, bind_ok, guard_ok, allow_ok}
 use Rattle.crash_plant.specs.declared.spot.Spot.{Spot}
-use Rattle.xrc_journal.specs.declared.header.Header.{Header}
-use Rattle.xrc_journal.specs.declared.header.Header.TheVariants.{Group as GroupHeader, Switch as SwitchHeader}
+use Rattle.xrc_journal.specs.declared.header.RecordHeader.{RecordHeader}
+use Rattle.xrc_journal.specs.declared.header.RecordHeader.TheVariants.{Group as GroupHeader, Switch as SwitchHeader}
 use Rattle.xrc_journal.specs.Items.{Item, Form}
 use Rattle.xrc_journal.specs.Records.{Found, RecordHead, is_body_length, record_head_at, stretch, next_set, spot_in, switch_or, switch_of, group_of, walk_one}
 use Rattle.xrc_journal.specs.Records.Found.{Switch, Damaged}
@@ -31,10 +31,10 @@ use Rattle.xrc_journal.proofs.RecordsAgain.{opened}
 abbrev pub header_at : (journal : List ℕ) → Spot → (last : ℕ) → Result (RecordHead × Left) Bad
 header_at journal at last = record_head_at (length journal) at last (at_place (at.place + 1) (stretch (at.place + 1) 21 journal))
 
-group_time : (t s : Stamp) (n m : ℕ) → (let x : Option Header = Some (GroupHeader t n) in let y : Option Header = Some (GroupHeader s m) in x ≡ y) → t ≡ s
+group_time : (t s : Stamp) (n m : ℕ) → (let x : Option RecordHeader = Some (GroupHeader t n) in let y : Option RecordHeader = Some (GroupHeader s m) in x ≡ y) → t ≡ s
 group_time t s n m e = cc
 
-switch_time : (t s : Stamp) → (let x : Option Header = Some (SwitchHeader t) in let y : Option Header = Some (SwitchHeader s) in x ≡ y) → t ≡ s
+switch_time : (t s : Stamp) → (let x : Option RecordHeader = Some (SwitchHeader t) in let y : Option RecordHeader = Some (SwitchHeader s) in x ≡ y) → t ≡ s
 switch_time t s e = cc
 
 module _ (form : Form) (sets : ℕ) (journal : List ℕ) (at : Spot) (last : ℕ) (gate : slice_index journal at.place ≡ 1) where

@@ -4,8 +4,8 @@ use Rattle.crash_plant.specs.declared.layout.TheConstants.{FRONT, SWITCH}
 use Rattle.std.specs.Int.{w16, w32, w64, from_be_bytes}
 use Rattle.tod_stamp.specs.Fields.{Left, Bad, number_at, within}
 use Rattle.crash_plant.specs.declared.spot.Spot.{Spot}
-use Rattle.xrc_journal.specs.declared.header.Header.{Header}
-use Rattle.xrc_journal.specs.declared.header.Header.TheVariants.{Group as GroupHeader, Switch as SwitchHeader}
+use Rattle.xrc_journal.specs.declared.header.RecordHeader.{RecordHeader}
+use Rattle.xrc_journal.specs.declared.header.RecordHeader.TheVariants.{Group as GroupHeader, Switch as SwitchHeader}
 use Rattle.xrc_edge.specs.Causes.{Rose}
 use Rattle.crash_plant.specs.declared.device.Device.{Device}
 use Rattle.crash_plant.specs.declared.device.Device.TheVariants.{Journal}
@@ -32,7 +32,7 @@ keeps_header size at last bytes =
     within 1 2 (slice_index bytes 0) && ((u64_in bytes 1 == at.number && nat_lt (u64_in bytes 1) (2 ^ 64 - 1)) && (nat_le last (u64_in bytes 9) && is_body_length size at (slice_index bytes 0) (u32_in bytes 17)))
 
 -- the times of a group and of a switch, and the length of a group's body
-abbrev pub header_of : Result (RecordHead × Left) Bad → Option Header
+abbrev pub header_of : Result (RecordHead × Left) Bad → Option RecordHeader
 header_of (Ok head) = if head.0.kind == 1 then Some (GroupHeader (record { 0 = head.0.time }) head.0.len) else Some (SwitchHeader (record { 0 = head.0.time }))
 header_of (Err bad) = None
 

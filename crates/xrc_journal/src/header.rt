@@ -4,7 +4,7 @@ ghost use Rattle.std.specs.Prelude.{◌≡◌, ◌≤◌, ◌<◌, ◌+◌, ◌-
 ghost use Rattle.crash_plant.specs.declared.layout.TheConstants.{FRONT, SWITCH};
 ghost use Rattle.xrc_journal.specs.Records.{record_head_at, is_body_length, most_body};
 ghost use Rattle.tod_stamp.specs.declared.stamp.Stamp.{Stamp as StampValue};
-ghost use Rattle.xrc_journal.specs.declared.header.Header.TheVariants.{Group};
+ghost use Rattle.xrc_journal.specs.declared.header.RecordHeader.TheVariants.{Group};
 ghost use Rattle.xrc_journal.specs.Answers.{header_of, keeps_header};
 
 use crate::layout::{AROUND, MOST_BODY};
@@ -14,7 +14,7 @@ use tod_stamp::Stamp;
 
 /// What a header says.
 #[derive(Clone, Copy, Debug)]
-pub(crate) enum Header {
+pub(crate) enum RecordHeader {
     Group { time: Stamp, length: u32 },
     Switch { time: Stamp },
 }
@@ -53,7 +53,7 @@ pub(crate) fn decode_header(
     at: Spot,
     last: Stamp,
     size: u64,
-) -> Option<Header>
+) -> Option<RecordHeader>
     requires { at.place + FRONT ≤ size }
     ensures header { result ≡ header_of (record_head_at size at last.0 (record { place = at.place + 1; bytes = bytes.now })) }
     ensures number { IsSome result → at.number < 2 ^ 64 - 1 }
@@ -66,8 +66,8 @@ pub(crate) fn decode_header(
     let time = Stamp(BigEndian::read_u64(&bytes[9..17]));
     if bytes[0] == 1 {
         let length = BigEndian::read_u32(&bytes[17..21]);
-        Some(Header::Group { time, length })
+        Some(RecordHeader::Group { time, length })
     } else {
-        Some(Header::Switch { time })
+        Some(RecordHeader::Switch { time })
     }
 }

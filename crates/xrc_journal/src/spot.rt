@@ -11,10 +11,10 @@ ghost use Rattle.xrc_journal.specs.Answers.{Finds, WalkGoesOn, NoFault, ReadsOnl
 ghost use Rattle.xrc_journal.specs.Items.{AreItems, form_of};
 ghost use Rattle.xrc_journal.specs.declared.spot.WalkError.TheVariants.{Fault as FaultError};
 ghost use Rattle.tod_stamp.specs.declared.stamp.Stamp.{Stamp as StampValue};
-ghost use Rattle.xrc_journal.specs.declared.header.Header.TheVariants.{Group as GroupHeader};
+ghost use Rattle.xrc_journal.specs.declared.header.RecordHeader.TheVariants.{Group as GroupHeader};
 
 use crate::Body;
-use crate::header::{Header, decode_header};
+use crate::header::{RecordHeader, decode_header};
 use crash_plant::{Device, FRONT, HEADER, Plant, Spot};
 use tod_stamp::Stamp;
 use xrc_edge::Failed;
@@ -55,7 +55,11 @@ fn read_gate<P: Plant>(plant: &mut P, at: Spot) -> Result<bool, Failed>
 }
 
 /// What the header behind the gate at a spot says. None where it breaks a rule.
-fn read_header<P: Plant>(plant: &mut P, at: Spot, last: Stamp) -> Result<Option<Header>, Failed>
+fn read_header<P: Plant>(
+    plant: &mut P,
+    at: Spot,
+    last: Stamp,
+) -> Result<Option<RecordHeader>, Failed>
     requires there { IsThere (P.state plant.old) (JournalDevice at.set) }
     requires range { at.place + FRONT ≤ (P.state plant.old).lengths (JournalDevice at.set) }
     requires fits { at.place + FRONT < 2 ^ 64 }
@@ -177,8 +181,8 @@ fn walk_open<P: Plant>(
         return Err(WalkError::Damaged(at.set, at.place));
     }
     match read_header(plant, at, last) {
-        Ok(Some(Header::Group { time, length })) => walk_group(plant, at, time, length, into),
-        Ok(Some(Header::Switch { time })) => walk_switch(plant, at, time),
+        Ok(Some(RecordHeader::Group { time, length })) => walk_group(plant, at, time, length, into),
+        Ok(Some(RecordHeader::Switch { time })) => walk_switch(plant, at, time),
         Ok(None) => Err(WalkError::Damaged(at.set, at.place)),
         Err(Failed) => Err(WalkError::Fault(at.set)),
     }

@@ -46,7 +46,7 @@ at_site tells labelling session a other = record {
   complete = λ told site. absurd (other site);
   done = λ told. tt;
   failed = λ told is. absurd cc;
-  stopped = λ told is. absurd cc;
+  in_part = λ told is. absurd cc;
   silent = λ quiet. works_here tells (meant_rows a a.bytes) (walked a a.bytes) a;
   console_count = λ no. refl;
   console_once = omega arith;
@@ -74,7 +74,7 @@ module _ (tells : Type 0) (labelling : Labelling) (session : List ℕ) (a b : Pl
         complete = λ told again ready none. is ∙ only_memory a b session ready none (stop_of e) (not_site e) (calls_for a session good e short (k.says told)) (has_risen a b e fault);
         done = λ told. tt;
         failed = λ told volume. absurd (not_volume a session good e (k.says told) (sym is ∙ let same = volume in cc));
-        stopped = λ told console. absurd (not_console e (sym is ∙ let same = console in cc));
+        in_part = λ told console. absurd (not_console e (sym is ∙ let same = console in cc));
         silent = λ quiet. k.works;
         console_count = λ no. k.works.console_faults;
         console_once = omega (arith, k.works.console_faults);
@@ -163,9 +163,9 @@ module _ (tells : Type 0) (labelling : Labelling) (session : List ℕ) (a b c : 
     complete = λ told again ready none. tt;
     done = λ told. subst (λ (l : List ℕ). ReportsAll labelling session l a c) k.ok (reports_all (Ok v) k told (λ is. cc));
     failed = λ told is. absurd cc;
-    stopped = λ told is. absurd cc;
+    in_part = λ told is. absurd cc;
     silent = tt;
-    console_count = λ no. (k.whole no).count ∙ k.works.console_faults;
+    console_count = λ no. (k.whole no).console_count ∙ k.works.console_faults;
     console_once = omega (arith, k.by_one, k.works.console_faults);
     once = λ v. omega (arith, k.once v, k.front.only.faults (Volume v));
     changes = changes_then tells (RecoversMeant a) a b c k.works k.front.only k.later;
@@ -182,9 +182,9 @@ module _ (tells : Type 0) (labelling : Labelling) (session : List ℕ) (a b c : 
     complete = λ told again ready none. only_memory a c session ready none stop (lines_no_site stop k.lines) (lines_called stop k k.lines told) (has_lines stop k k.lines);
     done = λ told. tt;
     failed = λ told is. (failed, k.volume is, reports_all (Err stop) k told (λ console. cc));
-    stopped = λ told is. (failed, reports (Err stop) k told);
+    in_part = λ told is. (failed, reports (Err stop) k told);
     silent = λ quiet. absurd (quiet k.lines);
-    console_count = λ no. (k.whole no).count ∙ k.works.console_faults;
+    console_count = λ no. (k.whole no).console_count ∙ k.works.console_faults;
     console_once = omega (arith, k.by_one, k.works.console_faults);
     once = λ v. omega (arith, k.once v, k.front.only.faults (Volume v));
     changes = changes_then tells (RecoversMeant a) a b c k.works k.front.only k.later;

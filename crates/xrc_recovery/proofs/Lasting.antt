@@ -301,7 +301,7 @@ ends_done tells labelling session a b v e = record {
 -- Each stop has its status, and its line behind what was said.
 module _ (tells : Type 0) (labelling : Labelling) (session : List ℕ) (a b c : PlantState) (stop : Stop) (e : RecoversSession tells labelling session a b (Err stop)) (last : SaysLast tells (last_line stop) b c) where
   ends_so : EndsSo tells stop a c (status_of stop)
-  ends_so = record { is = refl; says = λ told quiet. says_last_alone tells (last_line stop) a b c last told (RecoversMeant a) (e.silent quiet) }
+  ends_so = record { status_is = refl; says = λ told quiet. says_last_alone tells (last_line stop) a b c last told (RecoversMeant a) (e.silent quiet) }
 
   pub ends_stopped : (stop ≡ BadSite → b ≡ a) → (stop ≡ ConsoleFault → c ≡ b) → EndsRecovery tells labelling session a c (status_of stop)
   ends_stopped here quiet =
@@ -331,10 +331,10 @@ module _ (tells : Type 0) (labelling : Labelling) (session : List ℕ) (a b c : 
             (f.0, f.1, report_then tells (last_line VolumeFault) a b c (subst (λ (s : Stop). SaysLast tells (last_line s) b c) same last) told labelling session f.0 ((e.changes.elapses told).kept Control).later counts f.2);
         in_part = λ told is.
             let same = is_console stop is in
-            let f = e.stopped told (ap (λ (s : Stop). Err s) same) in
+            let f = e.in_part told (ap (λ (s : Stop). Err s) same) in
             (f.0, subst (λ (s : PlantState). Reports labelling session f.0 a s) (sym (quiet same)) f.1);
         console_count = λ is. absurd (not_done stop is);
-        console_once = console_calls a b c stop last.by_one (λ no. e.console_count (λ is. no (let same : stop ≡ ConsoleFault = cc in same))) e.console_once (λ is. ap (λ (s : PlantState). s.console_faults) (quiet is));
+        console_once = console_calls a b c stop last.console_once (λ no. e.console_count (λ is. no (let same : stop ≡ ConsoleFault = cc in same))) e.console_once (λ is. ap (λ (s : PlantState). s.console_faults) (quiet is));
         once = λ v. omega (arith, e.once v, o.faults (Volume v));
         changes = changes_more tells (RecoversMeant a) a b c e.changes o last.later;
         labels = λ told. treats_console labelling tells (meant_rows a a.bytes) (walked a a.bytes) a b c told ((e.changes.elapses told).kept Control).later (e.labels told) o;

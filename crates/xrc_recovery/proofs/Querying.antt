@@ -38,7 +38,7 @@ query_at_site tells session a other = record {
   counts = λ d no. refl;
   complete = λ told site. absurd (other site);
   done = λ told. tt;
-  stopped = λ told is. absurd cc;
+  in_part = λ told is. absurd cc;
   silent = λ quiet. nothing_here tells a;
   console_count = λ no. refl;
   console_once = omega arith;
@@ -120,7 +120,7 @@ module _ (tells : Type 0) (session : List ℕ) (a b : PlantState) (e : RecoverEr
     counts = λ d no. k.fails.others d (λ at. no (ap (λ (s : Stop). Err s) (is ∙ let same : e ≡ Site (Fault d) = cc in ap stop_of same)));
     complete = λ told again ready none. is ∙ query_memory a b session ready none (stop_of e) (not_site e) (own_calls told) (has_risen a b e own_fault);
     done = λ told. tt;
-    stopped = λ told console. absurd (not_console e (sym is ∙ let same = console in cc));
+    in_part = λ told console. absurd (not_console e (sym is ∙ let same = console in cc));
     silent = λ quiet. works_reads tells a b k.reads;
     console_count = λ no. k.reads.only.console_faults;
     console_once = omega (arith, k.reads.only.console_faults);
@@ -168,7 +168,7 @@ module _ (tells : Type 0) (session : List ℕ) (a b : PlantState) (means : Means
     counts = λ d no. k.counts d;
     complete = λ told again ready none. refl;
     done = λ told. tt;
-    stopped = λ told is. absurd cc;
+    in_part = λ told is. absurd cc;
     silent = λ quiet. works_reads tells a b k.reads;
     console_count = λ no. k.reads.only.console_faults;
     console_once = omega (arith, k.reads.only.console_faults);
@@ -198,7 +198,7 @@ module _ (tells : Type 0) (session : List ℕ) (a b : PlantState) (means : Means
         report = says_report {E = Stop} (Ok v) said told;
         whole = said.whole told ∙ ap (λ (l : List ℕ). l ++ meaning_report means) ((k.reads.only.silent told).said b.clock (later told) (omega arith));
       };
-      stopped = λ told is. absurd cc;
+      in_part = λ told is. absurd cc;
       silent = tt;
       console_count = λ no. said.cause.ok ∙ k.reads.only.console_faults;
       console_once = omega (arith, said.cause.by_one, k.reads.only.console_faults);
@@ -218,7 +218,7 @@ module _ (tells : Type 0) (session : List ℕ) (a b : PlantState) (means : Means
           counts = λ d no. said.front.only.faults d ∙ k.counts d;
           complete = λ told again ready none. absurd (none.console rose);
           done = λ told. tt;
-          stopped = λ told is. says_report {E = Stop} (Err ConsoleFault) said told;
+          in_part = λ told is. says_report {E = Stop} (Err ConsoleFault) said told;
           silent = λ quiet. absurd (quiet (inl refl));
           console_count = λ no. absurd (no refl);
           console_once = omega (arith, said.cause.by_one, k.reads.only.console_faults);
@@ -295,7 +295,7 @@ query_done tells session a b v e = record {
 -- Each stop has its status, and its line behind what was said.
 module _ (tells : Type 0) (session : List ℕ) (a b c : PlantState) (stop : Stop) (e : QueriesSession tells session a b (Err stop)) (last : SaysLast tells (last_line stop) b c) where
   ends_so : EndsSo tells stop a c (status_of stop)
-  ends_so = record { is = refl; says = λ told quiet. says_last_alone tells (last_line stop) a b c last told Nothing (e.silent quiet) }
+  ends_so = record { status_is = refl; says = λ told quiet. says_last_alone tells (last_line stop) a b c last told Nothing (e.silent quiet) }
 
   pub query_stopped : (stop ≡ BadSite → b ≡ a) → (stop ≡ ConsoleFault → c ≡ b) → EndsQuery tells session a c (status_of stop)
   query_stopped here quiet =
@@ -321,10 +321,10 @@ module _ (tells : Type 0) (session : List ℕ) (a b c : PlantState) (stop : Stop
         done = λ told is. absurd (not_done stop is);
         in_part = λ told is.
             let same = is_console stop is in
-            subst (λ (s : PlantState). SaysReport session a s) (sym (quiet same)) (e.stopped told (ap (λ (s : Stop). Err s) same));
+            subst (λ (s : PlantState). SaysReport session a s) (sym (quiet same)) (e.in_part told (ap (λ (s : Stop). Err s) same));
         counts = λ is. absurd (not_done stop is);
         console_count = λ is. absurd (not_done stop is);
-        console_once = console_calls a b c stop last.by_one (λ no. e.console_count (λ is. no (let same : stop ≡ ConsoleFault = cc in same))) e.console_once (λ is. ap (λ (s : PlantState). s.console_faults) (quiet is));
+        console_once = console_calls a b c stop last.console_once (λ no. e.console_count (λ is. no (let same : stop ≡ ConsoleFault = cc in same))) e.console_once (λ is. ap (λ (s : PlantState). s.console_faults) (quiet is));
         changes = changes_more tells Nothing a b c e.changes o last.later;
         volumes = λ v. o.faults (Volume v) ∙ e.counts (Volume v) (λ is. e.no_volume (let same : stop ≡ VolumeFault = cc in same));
       }

@@ -60,7 +60,7 @@ pub record QueriesSession (tells : Type 0) (session : List ℕ) (old new : Plant
   pub counts : (d : Device) → result ≢ Err (fault_of d) → new.faults d ≡ old.faults d
   pub complete : tells → IsSite old → HasMeaning old session → NoneRose old new → IfErr result (λ stop. stop ≡ NoMemory)
   pub done : tells → OnOk result (SaysReportWhole session old new)
-  pub stopped : tells → result ≡ Err ConsoleFault → SaysReport session old new
+  pub in_part : tells → result ≡ Err ConsoleFault → SaysReport session old new
   pub silent : IfErr result (λ stop. ¬ HasLines stop → Works tells Nothing old new)
   pub console_count : result ≢ Err ConsoleFault → new.console_faults ≡ old.console_faults
   pub console_once : new.console_faults ≤ old.console_faults + 1

@@ -55,7 +55,7 @@ pub record RecoversSession (tells : Type 0) (labelling : Labelling) (session : L
   -- console failed it was said in part. At each other stop nothing is said.
   pub done : tells → OnOk result (ReportsAll labelling session [] old new)
   pub failed : tells → result ≡ Err VolumeFault → (failed : List ℕ) × (failed ≢ []) × ReportsAll labelling session failed old new
-  pub stopped : tells → result ≡ Err ConsoleFault → (failed : List ℕ) × Reports labelling session failed old new
+  pub in_part : tells → result ≡ Err ConsoleFault → (failed : List ℕ) × Reports labelling session failed old new
   pub silent : IfErr result (λ stop. ¬ HasLines stop → Works tells (RecoversMeant old) old new)
   pub console_count : result ≢ Err ConsoleFault → new.console_faults ≡ old.console_faults
   pub console_once : new.console_faults ≤ old.console_faults + 1

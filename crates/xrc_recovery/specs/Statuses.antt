@@ -40,7 +40,7 @@ pub record ReportsThen (labelling : Labelling) (session failed line : List ℕ) 
 
 -- The status is this stop's, and nothing but its line was said, unless the stop comes behind other lines.
 pub record EndsSo (tells : Type 0) (stop : Stop) (old new : PlantState) (status : ℕ) : Type 0 where
-  pub is : status ≡ status_of stop
+  pub status_is : status ≡ status_of stop
   pub says : tells → ¬ HasLines stop → SaysThen [] (last_line stop) old new
 
 -- It ends by a stop that what reads gave calls for. The count of what failed rose, and no other of the control, the state and the

@@ -6,7 +6,7 @@ ghost use Rattle.pair_table.specs.Devices.{is_among};
 
 use pair_table::{PairRow, PairState, SuspendCause};
 use tod_stamp::{Serial, Session, Stamp};
-use xrc_status::Line;
+use xrc_status::TextLine;
 use xrecover::{Labelling, Outcome};
 
 /// The first word of what is said of a site, and a space.
@@ -21,10 +21,10 @@ fn site_word(labelling: Labelling) -> &'static [u8]
 }
 
 /// The first line.
-pub(crate) fn site_line(labelling: Labelling, session: Session, time: Stamp) -> Line
+pub(crate) fn site_line(labelling: Labelling, session: Session, time: Stamp) -> TextLine
     ensures { result ≡ site_line labelling session time.0 }
 {
-    let mut line = Line::make();
+    let mut line = TextLine::make();
     line.add(site_word(labelling));
     line.add(session.as_bytes());
     line.add(b" T=");
@@ -47,7 +47,7 @@ fn cause_word(cause: SuspendCause) -> &'static [u8]
 }
 
 /// Puts how far a pair is.
-fn add_state(line: &mut Line, has_failed: bool, state: PairState)
+fn add_state(line: &mut TextLine, has_failed: bool, state: PairState)
     requires { length line.old ≤ 40 }
     ensures text { line.new ≡ line.old ++ state_text has_failed state }
     ensures short { length line.new ≤ length line.old + 40 }
@@ -80,7 +80,7 @@ fn is_among(outcome: &Outcome, device: u16) -> bool
 }
 
 /// Puts a name and a space.
-fn add_name(line: &mut Line, name: &Serial)
+fn add_name(line: &mut TextLine, name: &Serial)
     requires { length line.old ≤ 100 }
     ensures text { line.new ≡ line.old ++ name.now ++ 32 ∷ [] }
     ensures short { length line.new ≤ length line.old + 7 }
@@ -90,10 +90,10 @@ fn add_name(line: &mut Line, name: &Serial)
 }
 
 /// The line of a pair.
-pub(crate) fn pair_line(outcome: &Outcome, row: &PairRow) -> Line
+pub(crate) fn pair_line(outcome: &Outcome, row: &PairRow) -> TextLine
     ensures { result ≡ pair_line outcome.now.failed row.now }
 {
-    let mut line = Line::make();
+    let mut line = TextLine::make();
     line.add(b"PAIR ");
     add_name(&mut line, &row.primary);
     add_name(&mut line, &row.secondary);

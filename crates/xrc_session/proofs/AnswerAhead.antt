@@ -7,7 +7,7 @@ use Rattle.passages.specs.Points.{AreLinked, last_point}
 use Rattle.passages.specs.Telling.{told_by}
 use Rattle.record_rows.specs.Deeds.{Deed}
 use Rattle.site_store.specs.DoneDeeds.{PassedDeed, deed_passed, points_of, with_next}
-use Rattle.consistency.specs.Stages.{Run, Stage}
+use Rattle.consistency.specs.Stages.{ScriptRun, Stage}
 use Rattle.consistency.specs.Bearing.{MayBeMeant}
 use Rattle.consistency.specs.Leads.{Point}
 use Rattle.consistency.specs.Ways.{ComesBy, ComesNext, HasCountedHits, Leg, PassedPoint, Way, leg_after, leg_by}
@@ -27,7 +27,7 @@ leg_behind l [] = l
 leg_behind l (n ∷ ahead) = leg_behind (leg_next l n) ahead
 
 -- Each comes next by its way, hits are counted, and each may be meant.
-abbrev pub AreAhead : Run → Stage → LinesAsked → Leg → List NextPoint → Type 0
+abbrev pub AreAhead : ScriptRun → Stage → LinesAsked → Leg → List NextPoint → Type 0
 AreAhead run stage asked l [] = Unit {0}
 AreAhead run stage asked l (n ∷ ahead) = (ComesBy run asked l n.point n.way × HasCountedHits run (leg_next l n)) × MayBeMeant run stage n.point × AreAhead run stage asked (leg_next l n) ahead
 
@@ -40,7 +40,7 @@ passed_by [] ahead = []
 passed_by (t ∷ moments) [] = []
 passed_by (t ∷ moments) (n ∷ ahead) = passed_at t n ∷ passed_by moments ahead
 
-module _ (run : Run) (stage : Stage) (asked : LinesAsked) where
+module _ (run : ScriptRun) (stage : Stage) (asked : LinesAsked) where
   pub ahead_linked : (moments : List ℕ) (ahead : List NextPoint) (l : Leg) → AreAhead run stage asked l ahead → AreLinked (ComesNext run asked) leg_after l (passed_by moments ahead)
   ahead_linked [] ahead l are = tt
   ahead_linked (t ∷ moments) [] l are = tt
@@ -85,7 +85,7 @@ module _ (told : List Deed → Point) (way : PassedDeed → Way) where
       ∙ ap told (append_assoc done (deed ∷ []) (take (length moments) deeds))
 
   -- The next one is on its way behind the first ones.
-  pub next_on_its_way : (run : Run) (stage : Stage) (asked : LinesAsked) (moments : List ℕ) (done deeds : List Deed) (ahead : List NextPoint) (l : Leg) → TellOf told way done deeds ahead → AreAhead run stage asked l ahead
+  pub next_on_its_way : (run : ScriptRun) (stage : Stage) (asked : LinesAsked) (moments : List ℕ) (done deeds : List Deed) (ahead : List NextPoint) (l : Leg) → TellOf told way done deeds ahead → AreAhead run stage asked l ahead
       → MayBeMeant run stage (told done) → (leg_behind l ahead).point ≡ told (done ++ deeds) → length moments ≤ length deeds
       → IsOnItsWay run asked (fold leg_after l (passed_by moments ahead)) (told (done ++ with_next (length moments) deeds)) × MayBeMeant run stage (told (done ++ with_next (length moments) deeds))
   next_on_its_way run stage asked [] done [] [] l tell are may ends few =

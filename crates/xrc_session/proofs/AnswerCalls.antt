@@ -125,7 +125,7 @@ module _ {P : Type 0} (tells : Type 0) (names : Naming) (line : Line) (change : 
           let own = store_spent error (ap (λ (s : Stop). let r : Result (Unit {0}) Stop = Err s in r) stop) in
           let stands = (may_change tells names line change before site next old new was is h).fast.stands told in
           let rows = logs.rows some in
-          subst IsSpentNow (sym (uncalled own)) (numbers_are_spent old stands.0 site stands.1 (record_is_spent rows.way site (rows.spent.0 own)))
+          subst IsSpentNow (sym (uncalled own)) (numbers_are_spent old stands.0 site stands.1 (record_is_spent rows.placement site (rows.spent.0 own)))
 
 -- ---- an answer that is passed on
 

@@ -24,10 +24,10 @@ use Rattle.xrc_command.specs.declared.line.Line.{Line}
 use Rattle.xrc_journal.specs.Items.{Item}
 use Rattle.site_store.specs.Changing.{IsBehindChange, LogsChange, MayChange, changed_items}
 use Rattle.site_store.specs.Commands.{IsToLog, LabelsFit, without_flag}
-use Rattle.site_store.specs.Records.{behind_way}
+use Rattle.site_store.specs.Records.{behind_placement}
 use Rattle.site_store.specs.Sites.{SiteState}
 use Rattle.site_store.specs.Standing.{Leaves}
-use Rattle.site_store.proofs.ByWays.{RecordWay, by_ways}
+use Rattle.site_store.proofs.ByPlacements.{RecordPlacement, by_placements}
 use Rattle.site_store.proofs.ChangeEnds.{told_is}
 use Rattle.site_store.proofs.CommandRows.{Answered, Own, answered, own_of, table_is}
 use Rattle.mover.proofs.Pairs.{Among, contains_of}
@@ -184,14 +184,14 @@ module _ {P : Type 0} (tells : Type 0) (cut : ℕ) (change : Change) (site next 
       told : next.told ≡ site.told
       told = ap (λ (s : SiteState). s.told) is
 
-  recorded : (way : RecordWay) → IsBehindChange cut change way site next old → IsLoggedSite cut site next
-  recorded way behind = record {
-    controls = ap (λ (s : SiteState). s.controls) behind.next_is ∙ by_ways (λ (w : RecordWay). (behind_way w site).controls ≡ site.controls) refl refl refl way;
-    level = ap (λ (s : SiteState). s.level) behind.next_is ∙ by_ways (λ (w : RecordWay). (behind_way w site).level ≡ site.level) refl refl refl way;
+  recorded : (placement : RecordPlacement) → IsBehindChange cut change placement site next old → IsLoggedSite cut site next
+  recorded placement behind = record {
+    controls = ap (λ (s : SiteState). s.controls) behind.next_is ∙ by_placements (λ (w : RecordPlacement). (behind_placement w site).controls ≡ site.controls) refl refl refl placement;
+    level = ap (λ (s : SiteState). s.level) behind.next_is ∙ by_placements (λ (w : RecordPlacement). (behind_placement w site).level ≡ site.level) refl refl refl placement;
     time = ap (λ (s : SiteState). s.time) behind.next_is;
     table = ap (λ (s : SiteState). s.table) behind.next_is ∙ ap (with_rows site.table) (sym (ap (λ (s : SiteState). s.told) behind.next_is));
-    flag = ap (λ (s : SiteState). s.mark.ended) behind.next_is ∙ by_ways (λ (w : RecordWay). (behind_way w site).mark.ended ≡ site.mark.ended) refl refl refl way;
-    marked = λ none_since. ap (λ (s : SiteState). s.since) behind.next_is ∙ by_ways (λ (w : RecordWay). site.since ≡ 0 → (behind_way w site).since ≡ 0) (λ e. e) (λ e. e) (λ e. refl) way none_since;
+    flag = ap (λ (s : SiteState). s.mark.ended) behind.next_is ∙ by_placements (λ (w : RecordPlacement). (behind_placement w site).mark.ended ≡ site.mark.ended) refl refl refl placement;
+    marked = λ none_since. ap (λ (s : SiteState). s.since) behind.next_is ∙ by_placements (λ (w : RecordPlacement). site.since ≡ 0 → (behind_placement w site).since ≡ 0) (λ e. e) (λ e. e) (λ e. refl) placement none_since;
     failed = next.failed;
     rows = ap (λ (s : SiteState). s.told) behind.next_is;
   }
@@ -203,7 +203,7 @@ module _ {P : Type 0} (tells : Type 0) (cut : ℕ) (change : Change) (site next 
       choose [] none = unlogged none (logs.nothing none).1
       choose (i ∷ items) some =
           let rows = logs.rows (λ none. let clash : i ∷ items ≡ [] = sym some ∙ none in cc clash) in
-          recorded rows.way rows.behind
+          recorded rows.placement rows.behind
 
 -- Labels fit a plant of the same numbers and lengths.
 pub labels_fit : (names : Naming) (old new : PlantState) → SameSite old new → LabelsFit old names → LabelsFit new names

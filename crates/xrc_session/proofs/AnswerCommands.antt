@@ -11,7 +11,7 @@ use Rattle.xrc_command.specs.declared.line.Line.{Line}
 use Rattle.record_rows.specs.Hits.{due_behind_mark, hit_changes, hit_now, marked_changes, rows_marked}
 use Rattle.record_rows.specs.Records.{rows_with_hits}
 use Rattle.record_rows.proofs.HitRows.{hit_have_rows}
-use Rattle.consistency.specs.Stages.{IsTime, Run, Stage, accepts_end, breaks_of}
+use Rattle.consistency.specs.Stages.{IsTime, ScriptRun, Stage, accepts_end, breaks_of}
 use Rattle.consistency.specs.Bearing.{MayBeMeant}
 use Rattle.consistency.specs.Leads.{HitsLead, Point}
 use Rattle.consistency.specs.Ways.{HasCountedHits, IsAtWork, IsCommanding, IsLegOf, IsMarking, Leg, MayTakeEffect, Way, commanded_point, hits_stand, leg_to, stage_point, table_at}
@@ -32,23 +32,23 @@ stand_none hits [] = refl
 stand_none hits (r ∷ rows) = ap (λ (b : Bool). b && hits_stand [] hits rows) (le-leb 0 (hit_count r.device hits) (omega arith)) ∙ stand_none hits rows
 
 -- No change leads to the same point.
-no_hits_lead : (run : Run) (p : Point) → HitsLead run.level (breaks_of run) p p []
+no_hits_lead : (run : ScriptRun) (p : Point) → HitsLead run.level (breaks_of run) p p []
 no_hits_lead run p = record { are_hits = refl; at = refl; leads = leads_itself run.level (breaks_of run) p }
 
 -- ---- the points
 
 -- the point with the rows that a line's command leaves, and the one behind the hits of jobs that have failed
-abbrev pub command_left : Run → Leg → Line → Point
+abbrev pub command_left : ScriptRun → Leg → Line → Point
 command_left run l line = commanded_point run line l.point
 
-abbrev pub command_hit : Run → Leg → Line → List Bool → Point
+abbrev pub command_hit : ScriptRun → Leg → Line → List Bool → Point
 command_hit run l line failed = record (command_left run l line) { rows = rows_with_hits run.level l.point.time failed (command_left run l line).rows }
 
-abbrev pub command_hits : Run → Leg → Line → List Bool → List Timed
+abbrev pub command_hits : ScriptRun → Leg → Line → List Bool → List Timed
 command_hits run l line failed = hit_changes l.point.time (hit_now failed (command_left run l line).rows)
 
 -- the point of a mark in which these devices are hit, and the way to it
-abbrev pub mark_there : Run → Leg → (hit : List ℕ) → Point
+abbrev pub mark_there : ScriptRun → Leg → (hit : List ℕ) → Point
 mark_there run l [] = l.point
 mark_there run l (d ∷ hit) = record l.point { rows = rows_marked l.point.time (d ∷ hit) l.point.rows; due = due_behind_mark run.level l.point.time (d ∷ hit) }
 
@@ -56,18 +56,18 @@ abbrev pub mark_by : Leg → (hit : List ℕ) → Way
 mark_by l [] = OnTheWay []
 mark_by l (d ∷ hit) = MarkedFor l.answered (marked_changes l.point.time (d ∷ hit))
 
-abbrev pub next_command : Run → Leg → Line → List Bool → NextPoint
+abbrev pub next_command : ScriptRun → Leg → Line → List Bool → NextPoint
 next_command run l line failed = record { point = command_hit run l line failed; way = Commanded l.answered (command_hits run l line failed) }
 
-abbrev pub next_quiet : Run → Leg → Line → NextPoint
+abbrev pub next_quiet : ScriptRun → Leg → Line → NextPoint
 next_quiet run l line = record { point = command_left run l line; way = Commanded l.answered [] }
 
-abbrev pub next_mark : Run → Leg → (hit : List ℕ) → NextPoint
+abbrev pub next_mark : ScriptRun → Leg → (hit : List ℕ) → NextPoint
 next_mark run l hit = record { point = mark_there run l hit; way = mark_by l hit }
 
 -- ---- each comes next
 
-module _ (run : Run) (stage : Stage) (asked : LinesAsked) (l : Leg) (line : Line) (leg : IsLegOf run stage l) (heard : stage.next ≡ Some line) (asked_is : asked l.answered ≡ Some line)
+module _ (run : ScriptRun) (stage : Stage) (asked : LinesAsked) (l : Leg) (line : Line) (leg : IsLegOf run stage l) (heard : stage.next ≡ Some line) (asked_is : asked l.answered ≡ Some line)
     (at_work : IsAtWork run asked l) (may : MayTakeEffect run line l) where
   goes : stage.table.is_ended ≡ false
   goes = sym leg.whole.leads.goes_on ∙ at_work.goes_on
@@ -219,7 +219,7 @@ module _ (run : Run) (stage : Stage) (asked : LinesAsked) (l : Leg) (line : Line
 
 -- ---- the points are of the line
 
-module _ (run : Run) (l : Leg) (line : Line) where
+module _ (run : ScriptRun) (l : Leg) (line : Line) where
   pub quiet_is_of_line : (t : ℕ) → AreOfCommand l.answered [] (passed_by (t ∷ []) (next_quiet run l line ∷ []))
   quiet_is_of_line t = OfCommand (passed_at t (next_quiet run l line)) refl
 

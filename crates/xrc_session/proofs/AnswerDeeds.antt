@@ -17,7 +17,7 @@ use Rattle.site_means.specs.Images.{shape_of}
 use Rattle.site_store.specs.DoneDeeds.{BeginsDeeds, DoesDeeds, PassedDeed, with_next}
 use Rattle.site_store.specs.Records.{VolumesStay}
 use Rattle.site_store.specs.Seeing.{SeesBehind}
-use Rattle.consistency.specs.Stages.{Run, Stage}
+use Rattle.consistency.specs.Stages.{ScriptRun, Stage}
 use Rattle.consistency.specs.Bearing.{GoesThroughPoints, MayBeMeant, ShowsPoint}
 use Rattle.consistency.specs.Leads.{Point}
 use Rattle.consistency.specs.Ways.{ComesNext, Leg, PassedPoint, Way, leg_after}
@@ -125,7 +125,7 @@ module _ (old new : PlantState) (b : Between) (stage : Stage) (asked : LinesAske
 
 -- ---- no call
 
-module _ (plant : PlantState) (run : Run) (stage : Stage) (asked : LinesAsked) (l : Leg) (shows : AtNow (ShowsPoint run (shape_of plant) l.point) plant) where
+module _ (plant : PlantState) (run : ScriptRun) (stage : Stage) (asked : LinesAsked) (l : Leg) (shows : AtNow (ShowsPoint run (shape_of plant) l.point) plant) where
   still : (p : Point) → p ≡ l.point → Throughout (IsChoice plant) plant.clock plant.clock (ShowsPoint run (shape_of plant) p)
   still p same t from to c is =
       subst (λ (q : Point). ShowsPoint run (shape_of plant) q c) (sym same) (shows c (subst (λ (at : ℕ). IsChoice plant at c) (one_moment plant.clock t plant.clock refl from to) is))
@@ -167,7 +167,7 @@ legs_append l [] more = refl
 legs_append l (n ∷ points) more = legs_append (leg_after l n) points more
 
 -- Points that calls pass, and those that later calls pass from the last of them on, are passed in a row.
-pub passes_then : (run : Run) (stage : Stage) (asked : LinesAsked) (l : Leg) (points more : List PassedPoint) (next : Option Point) (a b c : PlantState) → SameSite a b → Elapses a b → SameSite b c → Elapses b c
+pub passes_then : (run : ScriptRun) (stage : Stage) (asked : LinesAsked) (l : Leg) (points more : List PassedPoint) (next : Option Point) (a b c : PlantState) → SameSite a b → Elapses a b → SameSite b c → Elapses b c
     → (fold leg_after l points).point ≡ last_point l.point points → PassesPointsOn run stage asked l points None a b → PassesPointsOn run stage asked (fold leg_after l points) more next b c
     → PassesPointsOn run stage asked l (points ++ more) next a c
 passes_then run stage asked l points more next a b c site past on_site on_past last first second = record {
@@ -218,6 +218,6 @@ passes_then run stage asked l points more next a b c site past on_site on_past l
         by_side (inr there) = all r (Contains-append_right l.point.rows (rows_passed points ++ rows_passed more) r (Contains-append_right (rows_passed points) (rows_passed more) r there))
 
 -- What began to be passed behind points that were passed began to be passed with them.
-pub begins_then : (run : Run) (stage : Stage) (asked : LinesAsked) (l : Leg) (points : List PassedPoint) (a b c : PlantState) → SameSite a b → Elapses a b → SameSite b c → Elapses b c
+pub begins_then : (run : ScriptRun) (stage : Stage) (asked : LinesAsked) (l : Leg) (points : List PassedPoint) (a b c : PlantState) → SameSite a b → Elapses a b → SameSite b c → Elapses b c
     → (fold leg_after l points).point ≡ last_point l.point points → PassesPointsOn run stage asked l points None a b → BeginsToPass run stage asked (fold leg_after l points) b c → BeginsToPass run stage asked l a c
 begins_then run stage asked l points a b c site past on_site on_past last passed (more, (next, then_passed)) = (points ++ more, (next, passes_then run stage asked l points more next a b c site past on_site on_past last passed then_passed))

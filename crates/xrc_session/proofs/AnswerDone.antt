@@ -16,14 +16,14 @@ use Rattle.pair_table.specs.declared.row.PairRow.{PairRow}
 use Rattle.pair_table.specs.Commands.{answer, answer_by, change_of}
 use Rattle.pair_table.specs.Naming.{Naming}
 use Rattle.pair_table.specs.Refusals.{refusal}
-use Rattle.pair_table.specs.Tables.{KeepsRows, with_rows}
+use Rattle.pair_table.specs.Tables.{AreRowsSound, with_rows}
 use Rattle.group_state.specs.Groups.{Group}
 use Rattle.xrc_command.specs.declared.line.Line.{Line}
 use Rattle.site_store.specs.Changing.{changed_items}
 use Rattle.site_store.specs.Commands.{IsToLog, MayDo, behind_command}
 use Rattle.site_store.specs.Jobs.{has_device}
 use Rattle.site_store.specs.Sites.{SiteState}
-use Rattle.consistency.specs.Stages.{Run, Stage}
+use Rattle.consistency.specs.Stages.{ScriptRun, Stage}
 use Rattle.consistency.specs.Leads.{Point}
 use Rattle.consistency.specs.Ways.{Leg, PassedPoint}
 use Rattle.mover.specs.Moves.{IsOfMover, is_device_of_row, is_worked_on}
@@ -35,7 +35,7 @@ use Rattle.xrc_session.specs.LinePauses.{MayCommandSite, RisesCover}
 use Rattle.xrc_session.specs.Bringing.{IsWorkOfStore}
 use Rattle.xrc_session.specs.Frames.{SuspendsByCounts}
 use Rattle.xrc_session.specs.Stops.{HasStopCause, IsSpentNow}
-use Rattle.xrc_session.specs.Taking.{KeepsForRows}
+use Rattle.xrc_session.specs.Taking.{IsSoundForRows}
 use Rattle.xrc_session.proofs.AnswerChanges.{was_goes}
 use Rattle.xrc_session.proofs.AnswerRefused.{refused_at_end, refused_goes, refused_stays}
 use Rattle.xrc_session.proofs.AnswerTells.{ended_answer}
@@ -126,7 +126,7 @@ module _ (tells : Type 0) (names : Naming) (line : Line) (site : SiteState) (pla
   }
 
   -- In each run the line is answered with the refusal.
-  pub refused_ends : (flag : site.mark.ended ≡ site.table.is_ended) (run : Run) (stage : Stage) (asked : LinesAsked) (l : Leg) (first : Point) (points : List PassedPoint) (group : Option Group) (began : PlantState)
+  pub refused_ends : (flag : site.mark.ended ≡ site.table.is_ended) (run : ScriptRun) (stage : Stage) (asked : LinesAsked) (l : Leg) (first : Point) (points : List PassedPoint) (group : Option Group) (began : PlantState)
       → MayAnswer run stage line asked l first points names site group began plant → RisesCover run began plant
       → EndsCommand run stage line asked l first points site group began plant plant (Ok (record { answer = Err why; tracks = 0 }))
   refused_ends flag run stage asked l first points group began m cover = by_flag site.table.is_ended refl
@@ -155,7 +155,7 @@ module _ (tells : Type 0) (names : Naming) (line : Line) (was site : SiteState) 
   pub done_from : IsDoneFrom names line change was site plant
   done_from = record { fits = may.idle.may.fast.fits; labels = may.labels; started = may.commands.started; told = may.told; same = may.idle.same; done = done; site_is = is }
 
-  pub may_log_change : (before : List PairRow) → before ≡ was.table.rows → (was.table.is_ended ≡ false → was.time ≡ line.time.0) → MayDo names site → KeepsRows site.table.rows → (was.is_ahead ≡ false → KeepsRows site.table.rows → IsToLog change site)
+  pub may_log_change : (before : List PairRow) → before ≡ was.table.rows → (was.table.is_ended ≡ false → was.time ≡ line.time.0) → MayDo names site → AreRowsSound site.table.rows → (was.is_ahead ≡ false → AreRowsSound site.table.rows → IsToLog change site)
       → MayLogChange tells names line change before site plant
   may_log_change before copied at again rules to_log = record {
     was = was;
@@ -168,10 +168,10 @@ module _ (tells : Type 0) (names : Naming) (line : Line) (was site : SiteState) 
     to_log = to_log may.idle.may.level rules;
   }
 
-  pub kept_before : (A : Group → Type 0) (before : List PairRow) (o : Option Group) → before ≡ was.table.rows → (was.table.is_ended ≡ false → IsSomeAnd o (λ g. KeepsForRows g was.told × A g)) → IsSomeAnd o (λ g. KeepsForRows g before)
+  pub kept_before : (A : Group → Type 0) (before : List PairRow) (o : Option Group) → before ≡ was.table.rows → (was.table.is_ended ≡ false → IsSomeAnd o (λ g. IsSoundForRows g was.told × A g)) → IsSomeAnd o (λ g. IsSoundForRows g before)
   kept_before A before o copied kept =
-      subst (λ (rows : List PairRow). IsSomeAnd o (λ g. KeepsForRows g rows)) (may.idle.same ∙ sym copied)
-      (some_first (λ g. KeepsForRows g was.told) A o (kept (was_goes names line change was site plant done_from)))
+      subst (λ (rows : List PairRow). IsSomeAnd o (λ g. IsSoundForRows g rows)) (may.idle.same ∙ sym copied)
+      (some_first (λ g. IsSoundForRows g was.told) A o (kept (was_goes names line change was site plant done_from)))
 
   of_end : (c : Change) (rows : List PairRow) → is_end_accepted (Ok c) ≡ true → changed_items c rows ≡ []
   of_end changes.Nothing rows is = absurd (true≢false (sym is))

@@ -18,7 +18,7 @@ use Rattle.site_means.specs.Images.{shape_of}
 use Rattle.xrc_command.specs.declared.line.Line.{Line}
 use Rattle.site_store.specs.Sites.{SiteState}
 use Rattle.consistency.specs.Answering.{answered_by, points_before, reply_content, tracks_of_command}
-use Rattle.consistency.specs.Stages.{Run, Stage, accepts}
+use Rattle.consistency.specs.Stages.{ScriptRun, Stage, accepts}
 use Rattle.consistency.specs.Bearing.{ShowsPoint}
 use Rattle.consistency.specs.Courses.{stage_after}
 use Rattle.consistency.specs.Leads.{Point}
@@ -33,7 +33,7 @@ use Rattle.xrc_status.specs.declared.stop.Stop.{Stop}
 use Rattle.xrc_session.specs.declared.answering.LineAnswer.{LineAnswer}
 use Rattle.xrc_session.specs.Answering.{AnswersCommands, AreOfCommand, EndsCommand, EndsMark, HasCommanded, HasMarked, IsMarkedSite, IsSiteCommanded, MarksOn, MayAnswer, MayEndBy, is_end_accepted, stage_then}
 use Rattle.xrc_session.specs.LinePauses.{RisesCover}
-use Rattle.xrc_session.specs.declared.kept.Kept.{Kept}
+use Rattle.xrc_session.specs.declared.kept.SessionParts.{SessionParts}
 use Rattle.xrc_session.specs.Steps.{BeginsToPass, PassesPointsOn, TellsAnswer}
 use Rattle.xrc_session.specs.Trails.{AreHitsOfFaults}
 use Rattle.xrc_session.proofs.AnswerDeeds.{begins_then, legs_append, passes_then}
@@ -42,7 +42,7 @@ use Rattle.xrc_session.proofs.AnswerEnds.{end_comes, ends_no_query, next_ended, 
 
 -- ---- in a run
 
-module _ (run : Run) (stage : Stage) (asked : LinesAsked) (l : Leg) (first : Point) (points : List PassedPoint) (names : Naming) (line : Line) (group now : Option Group) (answered : LineAnswer) (tells : Type 0) (was site next : SiteState) (began old mid new : PlantState)
+module _ (run : ScriptRun) (stage : Stage) (asked : LinesAsked) (l : Leg) (first : Point) (points : List PassedPoint) (names : Naming) (line : Line) (group now : Option Group) (answered : LineAnswer) (tells : Type 0) (was site next : SiteState) (began old mid new : PlantState)
     (m : MayAnswer run stage line asked l first points names was group began old) (c : IsSiteCommanded tells names line answered.answer was site mid) (flag : was.mark.ended ≡ was.table.is_ended) (ends : is_end_accepted answered.answer ≡ true)
     (more : List PassedPoint) (passes : PassesPointsOn run stage asked l more None old mid) (h : HasCommanded run stage line asked l first points more answered site began mid now) where
   abbrev behind : Leg
@@ -171,10 +171,10 @@ module _ (run : Run) (stage : Stage) (asked : LinesAsked) (l : Leg) (first : Poi
 -- ---- in each run
 
 -- No count of a volume falls, so that rises cover what was before, too.
-rises_before : (run : Run) (began mid new : PlantState) → ((d : Device) → mid.faults d ≤ new.faults d) → RisesCover run began new → RisesCover run began mid
+rises_before : (run : ScriptRun) (began mid new : PlantState) → ((d : Device) → mid.faults d ≤ new.faults d) → RisesCover run began new → RisesCover run began mid
 rises_before run began mid new up cover d = let rises = cover d in let higher = up (Volume d) in (omega (arith, rises, higher), omega (arith, rises, higher))
 
-module _ (tells : Type 0) (told : tells) (line : Line) (kept now : Kept) (was site next : SiteState) (began old mid new : PlantState) (answered : LineAnswer) (c : IsSiteCommanded tells kept.names line answered.answer was site mid) (flag : was.mark.ended ≡ was.table.is_ended)
+module _ (tells : Type 0) (told : tells) (line : Line) (kept now : SessionParts) (was site next : SiteState) (began old mid new : PlantState) (answered : LineAnswer) (c : IsSiteCommanded tells kept.names line answered.answer was site mid) (flag : was.mark.ended ≡ was.table.is_ended)
     (ends : is_end_accepted answered.answer ≡ true) (first_works : WorksOnLent tells (IsOfMover was) old mid) (works : WorksOnLent tells (IsOfMover site) mid new) (commands : AnswersCommands line kept now was site began old mid (Ok answered)) where
   -- Where the mark of an end fails the line's points begin to be passed.
   pub end_stops : (stop : Stop) → MarksOn true site next began mid new (Err stop) → AnswersCommands line kept now was next began old new (Err stop)

@@ -10,7 +10,7 @@ use Rattle.pair_table.specs.declared.command.Refusal.{Refusal}
 use Rattle.pair_table.specs.Commands.{answer}
 use Rattle.pair_table.specs.Naming.{Naming}
 use Rattle.pair_table.specs.Refusals.{refusal}
-use Rattle.pair_table.specs.Tables.{KeepsRows}
+use Rattle.pair_table.specs.Tables.{AreRowsSound}
 use Rattle.group_state.specs.Groups.{Group}
 use Rattle.xrc_command.specs.declared.line.Line.{Line}
 use Rattle.site_store.specs.Commands.{IsToLog, behind_command}
@@ -18,12 +18,12 @@ use Rattle.site_store.specs.Sites.{SiteState}
 use Rattle.xrc_status.specs.declared.stop.Stop.{Stop}
 use Rattle.xrc_status.specs.declared.stop.Stop.TheVariants.{NoMemory, Spent}
 use Rattle.xrc_session.specs.declared.answering.LineAnswer.{LineAnswer}
-use Rattle.xrc_session.specs.declared.kept.Kept.{Kept}
+use Rattle.xrc_session.specs.declared.kept.SessionParts.{SessionParts}
 use Rattle.xrc_session.specs.Answering.{AnswersCommands, EndsCommand, IsDoneFrom, IsSiteCommanded, LogsCommands, answer_told, change_result, group_taken}
 use Rattle.xrc_session.specs.LinePauses.{MayCommandSite}
 use Rattle.xrc_session.specs.Bringing.{IsWorkOfStore}
 use Rattle.xrc_session.specs.Stops.{IsSpentNow}
-use Rattle.xrc_session.specs.Taking.{KeepsForRows}
+use Rattle.xrc_session.specs.Taking.{IsSoundForRows}
 use Rattle.xrc_session.proofs.AnswerDone.{no_work_done, refused_ends, refused_leaves, refused_site, some_first, told_change, told_refusal}
 use Rattle.xrc_session.proofs.AnswerRefused.{command_stops}
 
@@ -48,17 +48,17 @@ of_answer done told answered given is was same = sym is ∙ was ∙ ap (λ (r : 
 pub record IsDone (names : Naming) (line : Line) (change : Change) (was site : SiteState) : Type 0 where
   pub is : site ≡ behind_command names line.session line.command line.time.0 change was
   pub done : answer names was.table line.session line.command ≡ Ok change
-  pub to_log : was.is_ahead ≡ false → KeepsRows site.table.rows → IsToLog change site
+  pub to_log : was.is_ahead ≡ false → AreRowsSound site.table.rows → IsToLog change site
 
 pub was_done : (names : Naming) (line : Line) (was site : SiteState) (done : Result Change CommandError) (told : Result (Result Change Refusal) Stop) (answered : Result Change Refusal) (change : Change) → told ≡ answer_told done → told ≡ Ok answered → answered ≡ Ok change
     → IfOk done (λ change. site ≡ behind_command names line.session line.command line.time.0 change was) → IfOk done (λ change. answer names was.table line.session line.command ≡ Ok change)
-    → IfOk done (λ change. was.is_ahead ≡ false → KeepsRows site.table.rows → IsToLog change site) → IsDone names line change was site
+    → IfOk done (λ change. was.is_ahead ≡ false → AreRowsSound site.table.rows → IsToLog change site) → IsDone names line change was site
 was_done names line was site done told answered change is told_is same ok answers to_log =
     let done_is = told_change done change (of_answer done told answered (Ok change) is told_is same) in
     record {
       is = of_change (λ change. site ≡ behind_command names line.session line.command line.time.0 change was) done change done_is ok;
       done = of_change (λ change. answer names was.table line.session line.command ≡ Ok change) done change done_is answers;
-      to_log = of_change (λ change. was.is_ahead ≡ false → KeepsRows site.table.rows → IsToLog change site) done change done_is to_log;
+      to_log = of_change (λ change. was.is_ahead ≡ false → AreRowsSound site.table.rows → IsToLog change site) done change done_is to_log;
     }
 
 -- A command was refused, and left the site.
@@ -74,7 +74,7 @@ was_refused names line was site done told answered why is told_is same left refu
 
 -- ---- where nothing is called
 
-module _ (tells : Type 0) (line : Line) (kept kept_now : Kept) (was site : SiteState) (plant : PlantState) (may : MayCommandSite tells kept.names plant was) (flag : was.mark.ended ≡ was.table.is_ended) (same : site ≡ was) (same_group : kept_now.group ≡ kept.group) where
+module _ (tells : Type 0) (line : Line) (kept kept_now : SessionParts) (was site : SiteState) (plant : PlantState) (may : MayCommandSite tells kept.names plant was) (flag : was.mark.ended ≡ was.table.is_ended) (same : site ≡ was) (same_group : kept_now.group ≡ kept.group) where
   no_memory_work : (let r : Result LineAnswer Stop = Err NoMemory in IsWorkOfStore tells was was plant plant r)
   no_memory_work = no_work_done tells was plant (Err NoMemory) tt unspent
     where
@@ -109,11 +109,11 @@ module _ (tells : Type 0) (line : Line) (kept kept_now : Kept) (was site : SiteS
         ∙ ap (λ (a : LineAnswer). option_map (group_taken a.answer was.told site.told) kept.group) (sym is)
 
     -- The rows stay kept.
-    pub refused_keeps : (A : Group → Type 0) → (was.table.is_ended ≡ false → IsSomeAnd kept.group (λ g. KeepsForRows g was.told × A g)) → site.table.is_ended ≡ false → IsSomeAnd kept_now.group (λ g. KeepsForRows g site.told)
+    pub refused_keeps : (A : Group → Type 0) → (was.table.is_ended ≡ false → IsSomeAnd kept.group (λ g. IsSoundForRows g was.told × A g)) → site.table.is_ended ≡ false → IsSomeAnd kept_now.group (λ g. IsSoundForRows g site.told)
     refused_keeps A keeps goes =
-        subst (λ (o : Option Group). IsSomeAnd o (λ g. KeepsForRows g site.told)) (sym same_group)
-        (subst (λ (s : SiteState). IsSomeAnd kept.group (λ g. KeepsForRows g s.told)) (sym same)
-        (some_first (λ g. KeepsForRows g was.told) A kept.group (keeps (ap (λ (s : SiteState). s.table.is_ended) (sym same) ∙ goes))))
+        subst (λ (o : Option Group). IsSomeAnd o (λ g. IsSoundForRows g site.told)) (sym same_group)
+        (subst (λ (s : SiteState). IsSomeAnd kept.group (λ g. IsSoundForRows g s.told)) (sym same)
+        (some_first (λ g. IsSoundForRows g was.told) A kept.group (keeps (ap (λ (s : SiteState). s.table.is_ended) (sym same) ∙ goes))))
 
     pub refused_in_runs : (began : PlantState) → AnswersCommands line kept kept_now was site began plant plant (Ok answered)
     refused_in_runs began run stage asked l first points m cover =
@@ -125,7 +125,7 @@ module _ (tells : Type 0) (line : Line) (kept kept_now : Kept) (was site : SiteS
 -- ---- where a change is logged
 
 -- By what logging leaves in each run the line is answered.
-pub answers_logged : (line : Line) (change : Change) (kept kept_now : Kept) (was site next : SiteState) (began old new : PlantState) → IsDoneFrom kept.names line change was site old → (logged : Result ℕ Stop) (result : Result LineAnswer Stop)
+pub answers_logged : (line : Line) (change : Change) (kept kept_now : SessionParts) (was site next : SiteState) (began old new : PlantState) → IsDoneFrom kept.names line change was site old → (logged : Result ℕ Stop) (result : Result LineAnswer Stop)
     → change_result change logged ≡ result → LogsCommands line change kept kept_now site next began old new (change_result change logged) → AnswersCommands line kept kept_now was next began old new result
 answers_logged line change kept kept_now was site next began old new from logged result is logs =
     subst (λ (r : Result LineAnswer Stop). AnswersCommands line kept kept_now was next began old new r) is (logs was from)

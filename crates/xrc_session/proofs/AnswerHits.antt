@@ -17,7 +17,7 @@ use Rattle.record_rows.specs.Hits.{due_behind_mark, hit_changes, hit_now, marked
 use Rattle.record_rows.specs.Records.{rows_with_hits}
 use Rattle.record_rows.proofs.Counting.{counts_append, hits_count, marks_count, once}
 use Rattle.record_rows.proofs.HitRows.{hit_have_rows}
-use Rattle.consistency.specs.Stages.{Run, Stage, breaks_of}
+use Rattle.consistency.specs.Stages.{ScriptRun, Stage, breaks_of}
 use Rattle.consistency.specs.Leads.{HitsLead, MarkedHitsLead, Point}
 use Rattle.consistency.specs.Ways.{HasCountedHits, IsLegOf, IsOnTheWay, Leg, are_at_time, hits_of_leg, leg_by, leg_to, stage_point}
 use Rattle.consistency.specs.Ways.Way.{Commanded, Ending, MarkedFor}
@@ -73,7 +73,7 @@ at_one_time from to (t ∷ hits) same are =
     and_from (t.time == to) (are_at_time to hits) (ap (λ (n : ℕ). t.time == n) same ∙ (and_parts (t.time == from) _ parts.0).0) (at_one_time from to hits same parts.1)
 
 -- Hits at a leg's point are on the way from it.
-pub hits_on_the_way : (run : Run) (stage : Stage) (l : Leg) (q : Point) (hits : List Timed) → IsLegOf run stage l → HitsLead run.level (breaks_of run) l.point q hits → IsOnTheWay run l q hits
+pub hits_on_the_way : (run : ScriptRun) (stage : Stage) (l : Leg) (q : Point) (hits : List Timed) → IsLegOf run stage l → HitsLead run.level (breaks_of run) l.point q hits → IsOnTheWay run l q hits
 hits_on_the_way run stage l q hits leg hit = record {
   leads = hit.leads;
   together = at_one_time l.point.time q.time hits hit.at hit.are_hits;
@@ -157,7 +157,7 @@ module _ (l : Leg) (began old new : PlantState) (up : NoneFalls old new) (before
       omega (arith, was, now, unmarked)
 
 -- So a run that has as many faults counts each hit.
-pub counted_hits : (run : Run) (l : Leg) (began new : PlantState) → AreHitsOfFaults l began new → RisesCover run began new → HasCountedHits run l
+pub counted_hits : (run : ScriptRun) (l : Leg) (began new : PlantState) → AreHitsOfFaults l began new → RisesCover run began new → HasCountedHits run l
 counted_hits run l began new hits cover d =
     let low = cover d in
     let now = hits d low.0 in

@@ -6,7 +6,7 @@ use Rattle.std.proofs.lemmas.Bool.{eq-eqb, or_left, or_right}
 use Rattle.std.proofs.lemmas.List.Elements.{All-head, All-tail}
 use Rattle.row_changes.specs.Changes.{Timed}
 use Rattle.consistency.specs.Answering.{is_command_of, points_before}
-use Rattle.consistency.specs.Stages.{Run, Stage}
+use Rattle.consistency.specs.Stages.{ScriptRun, Stage}
 use Rattle.consistency.specs.Leads.{Point}
 use Rattle.consistency.specs.Ways.{ComesBy, ComesNext, IsLegOf, Leg, PassedPoint, Way, leg_after, leg_by}
 use Rattle.consistency.specs.Ways.Way.{Commanded, Ending, MarkedFor, OnTheWay}
@@ -18,7 +18,7 @@ use Rattle.xrc_session.specs.Answering.AreOfCommand.{OfCommand, OfEnd, BehindMar
 
 -- ---- by their ways
 
-pub comes_by : (run : Run) (asked : LinesAsked) (l : Leg) (n : PassedPoint) (way : Way) → n.way ≡ way → ComesNext run asked l n → ComesBy run asked l n.point way
+pub comes_by : (run : ScriptRun) (asked : LinesAsked) (l : Leg) (n : PassedPoint) (way : Way) → n.way ≡ way → ComesNext run asked l n → ComesBy run asked l n.point way
 comes_by run asked l n way is comes = subst (ComesBy run asked l n.point) is comes.0
 
 -- ---- behind a line's points
@@ -43,7 +43,7 @@ command_answered number hits _ (BehindMark n points by rest) l = command_answere
 -- ---- the leg that finds the command
 
 -- The command of a line comes from a leg of the stage, with the changes of an earlier one, and leaves a leg.
-pub record IsCommandLeg (run : Run) (stage : Stage) (asked : LinesAsked) (l : Leg) (number : ℕ) (hits : List Timed) (behind : Leg) : Type 0 where
+pub record IsCommandLeg (run : ScriptRun) (stage : Stage) (asked : LinesAsked) (l : Leg) (number : ℕ) (hits : List Timed) (behind : Leg) : Type 0 where
   pub before : Leg
   pub leg : IsLegOf run stage before
   pub changes : before.changes ≡ l.changes
@@ -51,7 +51,7 @@ pub record IsCommandLeg (run : Run) (stage : Stage) (asked : LinesAsked) (l : Le
   pub is : behind ≡ leg_by before behind.point (Commanded number hits)
 
 -- It is the one behind the marks among the line's points, unless the session has ended there.
-pub command_leg : (run : Run) (stage : Stage) (asked : LinesAsked) (number : ℕ) (hits : List Timed) (points : List PassedPoint) → AreOfCommand number hits points → (l : Leg) → IsLegOf run stage l
+pub command_leg : (run : ScriptRun) (stage : Stage) (asked : LinesAsked) (number : ℕ) (hits : List Timed) (points : List PassedPoint) → AreOfCommand number hits points → (l : Leg) → IsLegOf run stage l
     → AreLinked (ComesNext run asked) leg_after l points → (fold leg_after l points).point.is_ended ≡ false → IsCommandLeg run stage asked l number hits (fold leg_after l points)
 command_leg run stage asked number hits _ (OfCommand n is) l leg linked goes =
     let point : (leg_after l n).point ≡ n.point = ap (λ (way : Way). (leg_by l n.point way).point) is in
@@ -87,7 +87,7 @@ command_leg run stage asked number hits _ (BehindMark n points by rest) l leg li
 -- ---- the mark of an end behind the command
 
 -- The points of a line with the mark of its end behind them, unless the session had ended before it.
-pub command_with_end : (run : Run) (asked : LinesAsked) (number : ℕ) (hits more : List Timed) (points : List PassedPoint) (m : PassedPoint) → m.way ≡ Ending number more → AreOfCommand number hits points → (l : Leg)
+pub command_with_end : (run : ScriptRun) (asked : LinesAsked) (number : ℕ) (hits more : List Timed) (points : List PassedPoint) (m : PassedPoint) → m.way ≡ Ending number more → AreOfCommand number hits points → (l : Leg)
     → AreLinked (ComesNext run asked) leg_after l points → (fold leg_after l points).point.is_ended ≡ false → AreOfCommand number (hits ++ more) (points ++ m ∷ [])
 command_with_end run asked number hits more _ m ends (OfCommand n is) l linked goes = OfEnd n m hits more is ends refl
 command_with_end run asked number hits more _ m ends (OfEnd n k own late is ending both) l linked goes =

@@ -31,7 +31,7 @@ use Rattle.site_store.specs.Changing.{DoesChange, LogsChange, MayChange}
 use Rattle.site_store.specs.Sites.{SiteState}
 use Rattle.site_store.specs.Standing.{Leaves}
 use Rattle.consistency.specs.Answering.{answered_by, points_before, reply_content, tracks_of_command}
-use Rattle.consistency.specs.Stages.{Run, Stage, accepts, accepts_end, breaks_of, names_of}
+use Rattle.consistency.specs.Stages.{ScriptRun, Stage, accepts, accepts_end, breaks_of, names_of}
 use Rattle.consistency.specs.Bearing.{ShowsPoint}
 use Rattle.consistency.specs.Leads.{Point}
 use Rattle.consistency.specs.Replying.{is_query, told_tracks}
@@ -45,7 +45,7 @@ use Rattle.xrc_session.specs.MapsOwed.{MapsOwed, MapsRest}
 use Rattle.xrc_session.specs.LinePauses.{GoesOnFrom, StandsAtLeg, site_point}
 use Rattle.xrc_session.specs.Joins.{StaysForReaders}
 use Rattle.xrc_session.specs.Steps.{TellsAnswer}
-use Rattle.xrc_session.specs.Taking.{KeepsForRows, after_calls, calls_of_change, tracks_to_copy, MayTake}
+use Rattle.xrc_session.specs.Taking.{IsSoundForRows, after_calls, calls_of_change, tracks_to_copy, MayTake}
 use Rattle.xrc_session.proofs.AnswerBreaks.{breaks_await, breaks_stay}
 use Rattle.xrc_session.proofs.AnswerChanges.{IsLoggedSite, change_is, ended_is, logged_site, rows_are, was_goes}
 use Rattle.xrc_session.proofs.AnswerLegs.{IsCommandLeg, command_answered, command_leg, command_point, none_of_line}
@@ -61,10 +61,10 @@ use Rattle.site_store.proofs.CommandRows.{Answered, Own, answered, own_of}
 change_of_ok : (a b : Change) → (let r : Result Change Refusal = Ok a in r ≡ Ok b) → a ≡ b
 change_of_ok a b is = cc
 
-module _ (tells : Type 0) (run : Run) (stage : Stage) (asked : LinesAsked) (l : Leg) (first : Point) (points : List PassedPoint) (names : Naming) (line : Line) (change : Change) (was site next : SiteState) (began old new : PlantState) (g : Group)
+module _ (tells : Type 0) (run : ScriptRun) (stage : Stage) (asked : LinesAsked) (l : Leg) (first : Point) (points : List PassedPoint) (names : Naming) (line : Line) (change : Change) (was site next : SiteState) (began old new : PlantState) (g : Group)
     (h : IsLoggedIn tells run stage asked l first points names line change was site next began old new g) {P : Type 0} (was_plant is_plant : P) (logs : LogsChange line.time.0 change site next old was_plant is_plant (Ok tt))
     (does : DoesChange tells line.time.0 change site next old new (Ok tt)) (may_change : MayChange tells line.time.0 change site old) (leaves : Leaves tells (λ e. e) site next old new) (same_plant : is_plant ≡ was_plant → new ≡ old)
-    (p : IsLinePassed run stage line asked l next began old new) (some : (c : Choice) × IsChoice new new.clock c) (kept : KeepsForRows g was.told) where
+    (p : IsLinePassed run stage line asked l next began old new) (some : (c : Choice) × IsChoice new new.clock c) (kept : IsSoundForRows g was.told) where
   abbrev behind : Leg
   behind = fold leg_after l p.more
 

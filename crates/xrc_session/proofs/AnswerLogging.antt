@@ -20,7 +20,7 @@ use Rattle.site_store.specs.Records.{VolumesStay}
 use Rattle.site_store.specs.Sites.{SiteState}
 use Rattle.site_store.specs.Standing.{FitsPlant, Leaves}
 use Rattle.site_store.proofs.Commanded.{commands_leave}
-use Rattle.consistency.specs.Stages.{Run, Stage, primaries_named}
+use Rattle.consistency.specs.Stages.{ScriptRun, Stage, primaries_named}
 use Rattle.consistency.specs.Leads.{Point}
 use Rattle.consistency.specs.Ways.{Leg, PassedPoint}
 use Rattle.mover.specs.Working.{LinesAsked}
@@ -29,7 +29,7 @@ use Rattle.xrc_session.specs.LinePauses.{RisesCover}
 use Rattle.xrc_session.specs.CarriedLaws.{FitsOn}
 use Rattle.xrc_session.specs.Lanes.{sizes_of}
 use Rattle.xrc_session.specs.Steps.{BeginsToPass}
-use Rattle.xrc_session.specs.Taking.{IfAdds, KeepsForRows, after_calls, calls_of_change, tracks_to_copy}
+use Rattle.xrc_session.specs.Taking.{IfAdds, IsSoundForRows, after_calls, calls_of_change, tracks_to_copy}
 use Rattle.xrc_session.proofs.AnswerBegun.{added_fits}
 use Rattle.xrc_session.proofs.AnswerChanges.{may_change, may_take, site_told, was_goes}
 use Rattle.xrc_session.proofs.AnswerHits.{NoneFalls}
@@ -39,13 +39,13 @@ use Rattle.xrc_session.proofs.RestingSites.{hits_pass}
 
 module _ (tells : Type 0) (told : tells) (names : Naming) (line : Line) (change : Change) (before : List PairRow) (site next : SiteState) (began old new : PlantState) (h : MayLogChange tells names line change before site old)
     (fails : FailByCounts site.failed next.failed old.faults new.faults) (up : NoneFalls old new) (volumes : VolumesStay tells old new) where
-  module _ (g : Group) (kept : KeepsForRows g before) (count : ControlsCount names g) (run : Run) (stage : Stage) (asked : LinesAsked) (l : Leg) (first : Point) (points : List PassedPoint) (was : SiteState) (d : IsDoneFrom names line change was site old)
+  module _ (g : Group) (kept : IsSoundForRows g before) (count : ControlsCount names g) (run : ScriptRun) (stage : Stage) (asked : LinesAsked) (l : Leg) (first : Point) (points : List PassedPoint) (was : SiteState) (d : IsDoneFrom names line change was site old)
       (may : MayAnswer run stage line asked l first points names was (Some g) began old) (cover : RisesCover run began new) where
     before_is : before ≡ was.told
     before_is = h.rows ∙ sym (site_told names line change h.was site old h.from) ∙ site_told names line change was site old d
 
-    kept_was : KeepsForRows g was.told
-    kept_was = subst (KeepsForRows g) before_is kept
+    kept_was : IsSoundForRows g was.told
+    kept_was = subst (IsSoundForRows g) before_is kept
 
     goes : was.table.is_ended ≡ false
     goes = was_goes names line change was site old d
@@ -113,21 +113,21 @@ module _ (tells : Type 0) (told : tells) (names : Naming) (line : Line) (change 
 
   -- Where logging fails the points begin to be passed.
   pub logging_stops : {P : Type 0} (was_plant is_plant : P) (error : StoreError) → LogsChange line.time.0 change site next old was_plant is_plant (Err error) → DoesChange tells line.time.0 change site next old new (Err error) → (o : Option Group)
-      → IsSomeAnd o (λ g. KeepsForRows g before) → IsSomeAnd o (ControlsCount names) → (run : Run) (stage : Stage) (asked : LinesAsked) (l : Leg) (first : Point) (points : List PassedPoint) (was : SiteState) → IsDoneFrom names line change was site old
+      → IsSomeAnd o (λ g. IsSoundForRows g before) → IsSomeAnd o (ControlsCount names) → (run : ScriptRun) (stage : Stage) (asked : LinesAsked) (l : Leg) (first : Point) (points : List PassedPoint) (was : SiteState) → IsDoneFrom names line change was site old
       → MayAnswer run stage line asked l first points names was o began old → RisesCover run began new → BeginsToPass run stage asked l old new
   logging_stops was_plant is_plant error logs does None kept count run stage asked l first points was d may cover = absurd kept
   logging_stops was_plant is_plant error logs does (Some g) kept count run stage asked l first points was d may cover =
       logging_begins g kept count run stage asked l first points was d may cover was_plant is_plant error logs does
 
   module _ {P : Type 0} (was_plant is_plant : P) (logs : LogsChange line.time.0 change site next old was_plant is_plant (Ok tt)) (does : DoesChange tells line.time.0 change site next old new (Ok tt)) (leaves : Leaves tells (λ e. e) site next old new)
-      (same_plant : is_plant ≡ was_plant → new ≡ old) (g : Group) (o : Option Group) (is : o ≡ Some g) (kept : IsSomeAnd o (λ g. KeepsForRows g before)) (count : IsSomeAnd o (ControlsCount names)) where
-    kept_there : KeepsForRows g before
-    kept_there = subst (λ (x : Option Group). IsSomeAnd x (λ g. KeepsForRows g before)) is kept
+      (same_plant : is_plant ≡ was_plant → new ≡ old) (g : Group) (o : Option Group) (is : o ≡ Some g) (kept : IsSomeAnd o (λ g. IsSoundForRows g before)) (count : IsSomeAnd o (ControlsCount names)) where
+    kept_there : IsSoundForRows g before
+    kept_there = subst (λ (x : Option Group). IsSomeAnd x (λ g. IsSoundForRows g before)) is kept
 
     count_there : ControlsCount names g
     count_there = subst (λ (x : Option Group). IsSomeAnd x (ControlsCount names)) is count
 
-    module _ (run : Run) (stage : Stage) (asked : LinesAsked) (l : Leg) (first : Point) (points : List PassedPoint) (was : SiteState) (d : IsDoneFrom names line change was site old) (may : MayAnswer run stage line asked l first points names was o began old)
+    module _ (run : ScriptRun) (stage : Stage) (asked : LinesAsked) (l : Leg) (first : Point) (points : List PassedPoint) (was : SiteState) (d : IsDoneFrom names line change was site old) (may : MayAnswer run stage line asked l first points names was o began old)
         (cover : RisesCover run began new) where
       may_there : MayAnswer run stage line asked l first points names was (Some g) began old
       may_there = subst (λ (x : Option Group). MayAnswer run stage line asked l first points names was x began old) is may

@@ -34,7 +34,7 @@ use Rattle.site_store.specs.Sites.{SiteState}
 use Rattle.site_store.specs.Standing.{Leaves, SiteStands}
 use Rattle.site_store.proofs.ChangeEnds.{told_is}
 use Rattle.site_store.proofs.Commanded.{commands_leave}
-use Rattle.consistency.specs.Stages.{Run, Stage, accepts_end, breaks_of, names_of}
+use Rattle.consistency.specs.Stages.{ScriptRun, Stage, accepts_end, breaks_of, names_of}
 use Rattle.consistency.specs.Bearing.{MayBeMeant, ShowsPoint}
 use Rattle.consistency.specs.Leads.{Point}
 use Rattle.consistency.specs.Replying.{is_query}
@@ -77,7 +77,7 @@ two_moments (t ∷ u ∷ v ∷ moments) count = absurd (omega (arith, count))
 -- ---- in a run
 
 -- A command's change is logged in a run: its site is one that did the command, and the run's session is there.
-pub record IsLoggedIn (tells : Type 0) (run : Run) (stage : Stage) (asked : LinesAsked) (l : Leg) (first : Point) (points : List PassedPoint) (names : Naming) (line : Line) (change : Change) (was site next : SiteState) (began old new : PlantState) (g : Group) : Type 0 where
+pub record IsLoggedIn (tells : Type 0) (run : ScriptRun) (stage : Stage) (asked : LinesAsked) (l : Leg) (first : Point) (points : List PassedPoint) (names : Naming) (line : Line) (change : Change) (was site next : SiteState) (began old new : PlantState) (g : Group) : Type 0 where
   pub told : tells
   pub from : IsDoneFrom names line change was site old
   pub apart : none_clash was.told ≡ true
@@ -92,7 +92,7 @@ pub record IsLoggedIn (tells : Type 0) (run : Run) (stage : Stage) (asked : Line
 
 -- A line's points were passed, with hits behind its command, up to the site's point.
 --   leg: the leg of the stage behind the line is there, if the command is no end that is accepted
-pub record IsLinePassed (run : Run) (stage : Stage) (line : Line) (asked : LinesAsked) (l : Leg) (site : SiteState) (began old new : PlantState) : Type 0 where
+pub record IsLinePassed (run : ScriptRun) (stage : Stage) (line : Line) (asked : LinesAsked) (l : Leg) (site : SiteState) (began old new : PlantState) : Type 0 where
   pub more : List PassedPoint
   pub hits : List Timed
   pub passes : PassesPointsOn run stage asked l more None old new
@@ -102,7 +102,7 @@ pub record IsLinePassed (run : Run) (stage : Stage) (line : Line) (asked : Lines
   pub leg : accepts_end run (table_at run l.point) stage.next ≡ false → IsLegOf run (stage_then run stage line l hits) (fold leg_after l more)
   pub unhit : is_query line.command ≡ true → hits ≡ []
 
-module _ (tells : Type 0) (run : Run) (stage : Stage) (asked : LinesAsked) (l : Leg) (first : Point) (points : List PassedPoint) (names : Naming) (line : Line) (change : Change) (was site next : SiteState) (began old new : PlantState) (g : Group)
+module _ (tells : Type 0) (run : ScriptRun) (stage : Stage) (asked : LinesAsked) (l : Leg) (first : Point) (points : List PassedPoint) (names : Naming) (line : Line) (change : Change) (was site next : SiteState) (began old new : PlantState) (g : Group)
     (h : IsLoggedIn tells run stage asked l first points names line change was site next began old new g) where
   abbrev cut : ℕ
   cut = line.time.0
@@ -231,14 +231,14 @@ module _ (tells : Type 0) (run : Run) (stage : Stage) (asked : LinesAsked) (l : 
     is_of = record { stands = stands; told = site_told names line change was site old h.from; at = sym was_time; logged = logged; may = may; adds = adds };
     result = result;
     does = does;
-    deeds = change_deeds_of change does.way site cut failed;
+    deeds = change_deeds_of change does.placement site cut failed;
     deeds_are = refl;
   }
 
   abbrev Keep : List Deed → Type 0
   Keep deeds = KeepTracks was.time site.told deeds
 
-  keep : (result : Result (Unit {0}) StoreError) (does : DoesChange tells cut change site next old new result) → Keep (change_deeds_of change does.way site cut failed)
+  keep : (result : Result (Unit {0}) StoreError) (does : DoesChange tells cut change site next old new result) → Keep (change_deeds_of change does.placement site cut failed)
   keep result does = changes_keep_tracks tells old new b cut change site next told_rows (logs_from told_rows (λ some. refl) (h.takes site.level cut failed) (h.fits site.level cut failed) result does)
 
   before : (deeds : List Deed) → Keep deeds → ShowsBefore old b site.told deeds
@@ -472,7 +472,7 @@ module _ (tells : Type 0) (run : Run) (stage : Stage) (asked : LinesAsked) (l : 
     taken = after_calls (calls_of_change change g was.told next.told) g
 
     abbrev deeds : List Deed
-    deeds = change_deeds_of change does.way site cut failed
+    deeds = change_deeds_of change does.placement site cut failed
 
     next_rows : next.told ≡ rows_with_hits site.level cut logged.failed site.table.rows
     next_rows = logged.rows

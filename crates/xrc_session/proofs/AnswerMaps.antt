@@ -26,7 +26,7 @@ use Rattle.record_rows.specs.Records.{rows_with_hits}
 use Rattle.record_rows.proofs.Counting.{once}
 use Rattle.passages.specs.Points.{AreLinked}
 use Rattle.site_store.specs.Sites.{SiteState}
-use Rattle.consistency.specs.Stages.{Run, breaks_of}
+use Rattle.consistency.specs.Stages.{ScriptRun, breaks_of}
 use Rattle.consistency.specs.Leads.{MarkedHitsLead, Point, is_marked_at}
 use Rattle.consistency.specs.Owing.{has_pair_in, is_same_state}
 use Rattle.consistency.specs.Ways.{ComesNext, IsAtWork, IsCommanding, Leg, PassedPoint, Way, leg_after, leg_by}
@@ -37,7 +37,7 @@ use Rattle.mover.specs.Working.{LinesAsked}
 use Rattle.xrc_session.specs.LinePauses.{GoesOnFrom, HasCut, site_point}
 use Rattle.xrc_session.specs.Answering.{AreOfCommand}
 use Rattle.xrc_session.specs.Answering.AreOfCommand.{OfCommand, OfEnd, BehindMark}
-use Rattle.xrc_session.specs.Taking.{KeepsForRows, MayTake, after_calls, calls_of_change}
+use Rattle.xrc_session.specs.Taking.{IsSoundForRows, MayTake, after_calls, calls_of_change}
 use Rattle.xrc_session.specs.MapsOwed.{MapsOwed, MapsRest}
 use Rattle.xrc_session.specs.MapsTaken.{PassesBy, SuspendsAt}
 use Rattle.xrc_session.proofs.AnswerLegs.{comes_by}
@@ -92,7 +92,7 @@ module _ (z : PairRow) (state : PairState) where
 
 -- ---- the points of a command
 
-module _ (run : Run) (asked : LinesAsked) (number : ℕ) (hits_of : List Timed) (q : Point) (goes : q.is_ended ≡ false) where
+module _ (run : ScriptRun) (asked : LinesAsked) (number : ℕ) (hits_of : List Timed) (q : Point) (goes : q.is_ended ≡ false) where
   -- The session hasn't ended behind the points.
   none_ends : (n m : PassedPoint) (own more : List Timed) (l : Leg) → m.way ≡ Ending number more → AreLinked (ComesNext run asked) leg_after l (n ∷ m ∷ []) → (leg_after (leg_after l n) m).point ≡ q → ⊥
   none_ends n m own more l ends linked at =
@@ -192,8 +192,8 @@ module _ (run : Run) (asked : LinesAsked) (number : ℕ) (hits_of : List Timed) 
 -- ---- the maps
 
 -- Behind a command whose change was taken over the maps have what suspended rows owe, if they did before it.
-pub maps_behind_command : (run : Run) (asked : LinesAsked) (l : Leg) (first : Point) (points more : List PassedPoint) (number : ℕ) (hits : List Timed) (names : Naming) (command : Command) (change : Change) (was next : SiteState) (old : PlantState) (g : Group)
-    (time : ℕ) (level : Level) (failed : List Bool) → GoesOnFrom run first points was old g → HasCut was.time g → l.point ≡ site_point was → KeepsForRows g was.told → MayTake g change was.told next.told
+pub maps_behind_command : (run : ScriptRun) (asked : LinesAsked) (l : Leg) (first : Point) (points more : List PassedPoint) (number : ℕ) (hits : List Timed) (names : Naming) (command : Command) (change : Change) (was next : SiteState) (old : PlantState) (g : Group)
+    (time : ℕ) (level : Level) (failed : List Bool) → GoesOnFrom run first points was old g → HasCut was.time g → l.point ≡ site_point was → IsSoundForRows g was.told → MayTake g change was.told next.told
     → change_of names command was.told ≡ change → was.time ≡ time → next.time ≡ time → next.mark.ended ≡ false → next.told ≡ rows_with_hits level time failed (rows_after names time command was.told)
     → AreOfCommand number hits more → AreLinked (ComesNext run asked) leg_after l more → (fold leg_after l more).point ≡ site_point next
     → let taken = after_calls (calls_of_change change g was.told next.told) g in MapsOwed run first (points ++ more) (site_point next) taken × MapsRest (site_point next) taken

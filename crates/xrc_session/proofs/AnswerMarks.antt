@@ -19,7 +19,7 @@ use Rattle.site_store.specs.Causes.{FailByCounts}
 use Rattle.site_store.specs.DoneDeeds.{DoesDeeds, PassedDeed}
 use Rattle.site_store.specs.Marking.{DoesMark, Marks, rows_at_mark}
 use Rattle.site_store.specs.Sites.{SiteState}
-use Rattle.consistency.specs.Stages.{IsTime, Run, Stage, accepts_end, breaks_of}
+use Rattle.consistency.specs.Stages.{IsTime, ScriptRun, Stage, accepts_end, breaks_of}
 use Rattle.consistency.specs.Bearing.{MayBeMeant, ShowsPoint}
 use Rattle.consistency.specs.Leads.{HitsLead, Point}
 use Rattle.consistency.specs.Ways.{ComesBy, HasCountedHits, IsAtWork, IsCommanding, IsEnding, IsLegOf, IsToEnd, Leg, PassedPoint, Way, leg_after, leg_by, leg_to, table_at}
@@ -74,7 +74,7 @@ told_are ended failed site = record { first = refl; behind = behind }
 -- ---- it comes next
 
 -- A mark's point comes next at a leg, may be meant, and each of its hits has a fault and comes at the leg's time.
-pub record IsMarkNext (run : Run) (stage : Stage) (asked : LinesAsked) (l : Leg) (ended : Bool) (failed : List Bool) (site : SiteState) (began new : PlantState) : Type 0 where
+pub record IsMarkNext (run : ScriptRun) (stage : Stage) (asked : LinesAsked) (l : Leg) (ended : Bool) (failed : List Bool) (site : SiteState) (began new : PlantState) : Type 0 where
   pub line : ℕ
   pub comes : ComesBy run asked l (marked_point ended failed site) (way_of_mark ended line (marked_hits failed site))
   pub meant : MayBeMeant run stage (marked_point ended failed site)
@@ -83,7 +83,7 @@ pub record IsMarkNext (run : Run) (stage : Stage) (asked : LinesAsked) (l : Leg)
   pub point : (leg_next l (marked_next ended line failed site)).point ≡ marked_point ended failed site
   pub are_hits : IsTrue (list_all (is_hit_at l.point.time) (marked_hits failed site))
 
-module _ (run : Run) (stage : Stage) (asked : LinesAsked) (l : Leg) (failed : List Bool) (site : SiteState) (began old new : PlantState) (here : l.point ≡ site_point site) (of_run : IsSiteOfRun run site) (up : NoneFalls old new)
+module _ (run : ScriptRun) (stage : Stage) (asked : LinesAsked) (l : Leg) (failed : List Bool) (site : SiteState) (began old new : PlantState) (here : l.point ≡ site_point site) (of_run : IsSiteOfRun run site) (up : NoneFalls old new)
     (before : AreHitsOfFaults l began old) (cover : RisesCover run began new) (own : AreOfFaults (marked_hits failed site) old new) where
   -- The mark's hits lead to its point, but for the flag.
   lead : (flag : Bool) → l.point.is_ended ≡ flag → HitsLead run.level (breaks_of run) l.point (marked_point flag failed site) (marked_hits failed site)
@@ -183,7 +183,7 @@ module _ (run : Run) (stage : Stage) (asked : LinesAsked) (l : Leg) (failed : Li
 -- ---- it is passed
 
 module _ (tells : Type 0) (told : tells) (site next : SiteState) (ended : Bool) (old new : PlantState) (idle : IsSiteIdle tells site old) (none : hit_now site.failed site.told ≡ []) (fails : FailByCounts site.failed next.failed old.faults new.faults)
-    (up : NoneFalls old new) (run : Run) (stage : Stage) (asked : LinesAsked) (l : Leg) (began : PlantState) (may : MayEndBy run stage asked l ended site began old) (cover : RisesCover run began new) where
+    (up : NoneFalls old new) (run : ScriptRun) (stage : Stage) (asked : LinesAsked) (l : Leg) (began : PlantState) (may : MayEndBy run stage asked l ended site began old) (cover : RisesCover run began new) where
   abbrev b : Between
   b = record { run = run; size = sizes_of run.traces; excepted = may.rows.excepted; group = may.group; point = site_point site; done = may.rows.done }
 

@@ -19,7 +19,7 @@ use Rattle.site_means.specs.Images.{shape_of}
 use Rattle.xrc_command.specs.declared.line.Line.{Line}
 use Rattle.site_store.specs.Sites.{SiteState}
 use Rattle.consistency.specs.Answering.{answered_by, reply_content}
-use Rattle.consistency.specs.Stages.{Run, Stage, accepts_end, breaks_of, names_of}
+use Rattle.consistency.specs.Stages.{ScriptRun, Stage, accepts_end, breaks_of, names_of}
 use Rattle.consistency.specs.Bearing.{MayBeMeant, ShowsPoint}
 use Rattle.consistency.specs.Courses.{replied_after}
 use Rattle.consistency.specs.Leads.{LeadsWhole, Point}
@@ -58,7 +58,7 @@ refused_stays names table line why is = λ i. if is_none (is i) then accepted na
 none_resumed : (why : Refusal) (device : ℕ) → (let r : Result Change Refusal = Err why in r ≡ Ok (Resumed device)) → ⊥
 none_resumed why device is = cc
 
-module _ (run : Run) (stage : Stage) (line : Line) (asked : LinesAsked) (l : Leg) (first : Point) (points : List PassedPoint) (names : Naming) (site : SiteState) (group : Option Group) (began plant : PlantState)
+module _ (run : ScriptRun) (stage : Stage) (line : Line) (asked : LinesAsked) (l : Leg) (first : Point) (points : List PassedPoint) (names : Naming) (site : SiteState) (group : Option Group) (began plant : PlantState)
     (m : MayAnswer run stage line asked l first points names site group began plant) (cover : RisesCover run began plant) (flag : site.mark.ended ≡ site.table.is_ended) where
   here : l.point ≡ site_point site
   here = m.at.here

@@ -27,7 +27,7 @@ use Rattle.site_store.specs.Records.{IsOfMark, IsOfRecord}
 use Rattle.site_store.specs.Sites.{SiteState, meant_for}
 use Rattle.site_store.specs.Standing.{Leaves, SiteStands, none_excepted}
 use Rattle.site_store.proofs.Between.{may_mark}
-use Rattle.consistency.specs.Stages.{Run, accepts_end, breaks_of, names_of}
+use Rattle.consistency.specs.Stages.{ScriptRun, accepts_end, breaks_of, names_of}
 use Rattle.consistency.specs.Bearing.{ShowsPoint}
 use Rattle.consistency.specs.Leads.{Point}
 use Rattle.consistency.specs.Steps.{names_at}
@@ -42,11 +42,11 @@ use Rattle.xrc_session.proofs.RestingSites.{commands_come_behind_marks, idle_beh
 -- ---- what a run shows
 
 -- The name and the level of a site are those of a run that a point is shown of, if a crash may leave something.
-pub record IsSiteOfRun (run : Run) (site : SiteState) : Type 0 where
+pub record IsSiteOfRun (run : ScriptRun) (site : SiteState) : Type 0 where
   pub session : site.table.session ≡ run.session
   pub level : site.level ≡ run.level
 
-pub site_of_run : (run : Run) (plant : PlantState) (excepted : Exceptions) (site : SiteState) (p : Point) → SiteStands excepted site plant → AtNow (ShowsPoint run (shape_of plant) p) plant → (some : (c : Choice) × IsChoice plant plant.clock c) → IsSiteOfRun run site
+pub site_of_run : (run : ScriptRun) (plant : PlantState) (excepted : Exceptions) (site : SiteState) (p : Point) → SiteStands excepted site plant → AtNow (ShowsPoint run (shape_of plant) p) plant → (some : (c : Choice) × IsChoice plant plant.clock c) → IsSiteOfRun run site
 site_of_run run plant excepted site p stands shows some =
     let shown = shows some.0 some.1 in
     let same : shown.means ≡ meant_for site = (let defined = shown.defined in let meant = ap meant_by (stands.meant some.0 some.1) in cc) in
@@ -55,7 +55,7 @@ site_of_run run plant excepted site p stands shows some =
 -- ---- an end
 
 -- Once a session has ended no end is accepted.
-pub ended_accepts_none : (run : Run) (table : Table) (next : Option Line) → table.is_ended ≡ true → accepts_end run table next ≡ false
+pub ended_accepts_none : (run : ScriptRun) (table : Table) (next : Option Line) → table.is_ended ≡ true → accepts_end run table next ≡ false
 ended_accepts_none run table None ended = refl
 ended_accepts_none run table (Some line) ended = by_command line.command
   where

@@ -6,7 +6,7 @@ use Rattle.pair_table.specs.declared.command.Change.{Change}
 use Rattle.pair_table.specs.declared.row.PairRow.{PairRow}
 use Rattle.group_state.specs.Groups.{Group}
 use Rattle.xrc_session.specs.Answering.{group_taken}
-use Rattle.xrc_session.specs.Taking.{KeepsForRows, MayTake, after_calls, calls_of_change, tracks_to_copy}
+use Rattle.xrc_session.specs.Taking.{IsSoundForRows, MayTake, after_calls, calls_of_change, tracks_to_copy}
 
 -- The rows that are given, before and after, are those of the session and of its site.
 module _ (change : Change) (g : Group) (o : Option Group) (is : o ≡ Some g) (before given rows told : List PairRow) (given_is : given ≡ before) (rows_are : rows ≡ told) where
@@ -25,8 +25,8 @@ module _ (change : Change) (g : Group) (o : Option Group) (is : o ≡ Some g) (b
   pub may_given : MayTake g change before told → MayTake g change given rows
   may_given may = subst (λ (l : List PairRow). MayTake g change l rows) (sym given_is) (subst (λ (l : List PairRow). MayTake g change before l) (sym rows_are) may)
 
-  pub keeps_given : IsSomeAnd o (λ g. KeepsForRows g before) → KeepsForRows g given
-  keeps_given kept = subst (λ (l : List PairRow). KeepsForRows g l) (sym given_is) (subst (λ (x : Option Group). IsSomeAnd x (λ g. KeepsForRows g before)) is kept)
+  pub keeps_given : IsSomeAnd o (λ g. IsSoundForRows g before) → IsSoundForRows g given
+  keeps_given kept = subst (λ (l : List PairRow). IsSoundForRows g l) (sym given_is) (subst (λ (x : Option Group). IsSomeAnd x (λ g. IsSoundForRows g before)) is kept)
 
 -- What is so of a group that is there.
 pub that_is_there : (A : Group → Type 0) (o : Option Group) (g : Group) → o ≡ Some g → IsSomeAnd o A → A g

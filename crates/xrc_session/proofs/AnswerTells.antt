@@ -22,7 +22,7 @@ use Rattle.passages.specs.Points.{AreLinked}
 use Rattle.row_changes.specs.Changes.{Timed, after_changes}
 use Rattle.xrc_command.specs.declared.line.Line.{Line}
 use Rattle.consistency.specs.Answering.{is_command_of, points_before, tracks_of_command}
-use Rattle.consistency.specs.Stages.{Run, Stage, accepts, accepts_end, tracks_of_row}
+use Rattle.consistency.specs.Stages.{ScriptRun, Stage, accepts, accepts_end, tracks_of_row}
 use Rattle.consistency.specs.Leads.{Point}
 use Rattle.consistency.specs.Owing.{has_pair_in, is_same_state, owes_in, owes_track, tracks_asked, was_duplex}
 use Rattle.consistency.specs.Replying.{told_tracks}
@@ -40,7 +40,7 @@ use Rattle.xrc_session.proofs.Walking.{found_in}
 -- ---- the table that a command finds
 
 -- It is that of the leg's point.
-pub table_of_leg : (run : Run) (stage : Stage) (l : Leg) → IsLegOf run stage l → table_at run l.point ≡ table_on_the_way run.level l.changes stage.table
+pub table_of_leg : (run : ScriptRun) (stage : Stage) (l : Leg) → IsLegOf run stage l → table_at run l.point ≡ table_on_the_way run.level l.changes stage.table
 table_of_leg run stage l leg =
     ap (λ (r : List PairRow). table_at run (record l.point { rows = r })) leg.whole.leads.rows
     ∙ ap (λ (e : Bool). table_at run (record l.point { rows = after_changes run.level l.changes stage.table.rows; is_ended = e })) leg.whole.leads.goes_on
@@ -52,21 +52,21 @@ ended_answer names table session command ended = rw ended refl
 
 -- ---- an end
 
-pub no_end : (run : Run) (table : Table) (line : Line) → is_end line.command ≡ false → accepts_end run table (Some line) ≡ false
+pub no_end : (run : ScriptRun) (table : Table) (line : Line) → is_end line.command ≡ false → accepts_end run table (Some line) ≡ false
 no_end run table line none = by_flag (is_end line.command) none
   where
     by_flag : (b : Bool) → b ≡ false → (let a : Bool = elim b [ true ↦ accepts run table line | false ↦ false ] in a) ≡ false
     by_flag true none = absurd (true≢false none)
     by_flag false none = refl
 
-pub refused_end : (run : Run) (table : Table) (line : Line) → accepts run table line ≡ false → accepts_end run table (Some line) ≡ false
+pub refused_end : (run : ScriptRun) (table : Table) (line : Line) → accepts run table line ≡ false → accepts_end run table (Some line) ≡ false
 refused_end run table line none = by_flag (is_end line.command)
   where
     by_flag : (b : Bool) → (let a : Bool = elim b [ true ↦ accepts run table line | false ↦ false ] in a) ≡ false
     by_flag true = none
     by_flag false = refl
 
-pub accepted_end : (run : Run) (table : Table) (line : Line) → is_end line.command ≡ true → accepts run table line ≡ true → accepts_end run table (Some line) ≡ true
+pub accepted_end : (run : ScriptRun) (table : Table) (line : Line) → is_end line.command ≡ true → accepts run table line ≡ true → accepts_end run table (Some line) ≡ true
 accepted_end run table line is accepted = by_flag (is_end line.command) is
   where
     by_flag : (b : Bool) → b ≡ true → (let a : Bool = elim b [ true ↦ accepts run table line | false ↦ false ] in a) ≡ true
@@ -148,11 +148,11 @@ module _ (row : PairRow) (rows : List PairRow) (among : Among row rows) (apart :
   duplex_still first points more same =
       folds_on (λ w n. has_pair_in row Duplex n.point.rows || (has_pair_in row row.state n.point.rows && w)) (has_pair_in row Duplex first.rows) points more ∙ still_so more (was_duplex row first points) same
 
-  pub owes_still : (run : Run) (first : Point) (points more : List PassedPoint) (time x : ℕ) → All (λ n. n.point.rows ≡ rows) more → owes_track run first (points ++ more) row time x ≡ owes_track run first points row time x
+  pub owes_still : (run : ScriptRun) (first : Point) (points more : List PassedPoint) (time x : ℕ) → All (λ n. n.point.rows ≡ rows) more → owes_track run first (points ++ more) row time x ≡ owes_track run first points row time x
   owes_still run first points more time x same = ap (λ (was : Bool). owes_in run was row row.state time x) (duplex_still first points more same)
 
 -- So a command asks for as many tracks, if the row of its primary is suspended.
-pub asked_still : (run : Run) (first : Point) (points more : List PassedPoint) (rows : List PairRow) (time : ℕ) (command : Command) → none_clash rows ≡ true → All (λ n. n.point.rows ≡ rows) more
+pub asked_still : (run : ScriptRun) (first : Point) (points more : List PassedPoint) (rows : List PairRow) (time : ℕ) (command : Command) → none_clash rows ≡ true → All (λ n. n.point.rows ≡ rows) more
     → ((primary secondary : List ℕ) (r : PairRow) → command ≡ AddPair primary secondary → row_of_primary primary rows ≡ Some r → is_suspended r.state ≡ true)
     → tracks_of_command run first (points ++ more) rows time command ≡ tracks_of_command run first points rows time command
 asked_still run first points more rows time (Start level) apart same taken = refl
@@ -169,7 +169,7 @@ asked_still run first points more rows time End apart same taken = refl
 
 -- ---- points before a line's command
 
-module _ (run : Run) (asked : LinesAsked) (number : ℕ) (hits : List Timed) where
+module _ (run : ScriptRun) (asked : LinesAsked) (number : ℕ) (hits : List Timed) where
   cut_here : (n : PassedPoint) (rest : List PassedPoint) (P : PassedPoint → Type 0) → is_command_of number n.way ≡ true → All P (points_before number (n ∷ rest))
   cut_here n rest P is = subst (λ (b : Bool). All P (cond b [] (n ∷ points_before number rest))) (sym is) (All-nil P)
 

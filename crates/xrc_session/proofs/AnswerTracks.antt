@@ -32,7 +32,7 @@ use Rattle.record_rows.specs.ToldRows.{InPlaces}
 use Rattle.fed_logs.specs.Logs.{is_of_size}
 use Rattle.site_store.specs.Sites.{SiteState}
 use Rattle.consistency.specs.Answering.{tracks_of_command}
-use Rattle.consistency.specs.Stages.{Run, names_of, tracks_of_row}
+use Rattle.consistency.specs.Stages.{ScriptRun, names_of, tracks_of_row}
 use Rattle.consistency.specs.Leads.{Point}
 use Rattle.consistency.specs.Owing.{owes_track, tracks_asked, tracks_owed}
 use Rattle.consistency.specs.Replying.{told_tracks}
@@ -41,7 +41,7 @@ use Rattle.mover.specs.Epochs.{IsSamePair}
 use Rattle.mover.proofs.Pairs.{Among, among_cases, contains_of, found_of_device}
 use Rattle.mover.proofs.Pairs.Among.{Here, Later}
 use Rattle.xrc_session.specs.LinePauses.{GoesOnFrom}
-use Rattle.xrc_session.specs.Taking.{KeepsForRows, MayTake, tracks_of_added, tracks_owed_to, tracks_to_copy}
+use Rattle.xrc_session.specs.Taking.{IsSoundForRows, MayTake, tracks_of_added, tracks_owed_to, tracks_to_copy}
 use Rattle.xrc_session.proofs.AnswerSites.{hits_in_places}
 use Rattle.xrc_session.proofs.CarriedRows.{among_either}
 use Rattle.xrc_session.proofs.Walking.{found_in}
@@ -102,8 +102,8 @@ added_tracks level cut failed rows after new free is (Some z) found A some =
 
 -- ---- what a command asks for
 
-module _ (run : Run) (names : Naming) (first : Point) (points : List PassedPoint) (was : SiteState) (old : PlantState) (g : Group) (after : List PairRow) (time : ℕ) (on : GoesOnFrom run first points was old g) (named : names.primaries ≡ (names_of run).primaries)
-    (at : was.time ≡ time) (kept : KeepsForRows g was.told) (level : Level) (cut : ℕ) (failed : List Bool) where
+module _ (run : ScriptRun) (names : Naming) (first : Point) (points : List PassedPoint) (was : SiteState) (old : PlantState) (g : Group) (after : List PairRow) (time : ℕ) (on : GoesOnFrom run first points was old g) (named : names.primaries ≡ (names_of run).primaries)
+    (at : was.time ≡ time) (kept : IsSoundForRows g was.told) (level : Level) (cut : ℕ) (failed : List Bool) where
   resumed_tracks : (r : PairRow) → Among r was.told → is_suspended r.state ≡ true → counts (control_at g r.control).phase ≡ true → owed r.volume (control_at g r.control).volumes ≡ tracks_owed run first points r time
   resumed_tracks r among suspended counted =
       let has = contains_of r was.told among in

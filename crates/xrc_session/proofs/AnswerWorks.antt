@@ -26,8 +26,8 @@ use Rattle.site_store.specs.Exceptions.{Exceptions}
 use Rattle.site_store.specs.Records.{IsStore}
 use Rattle.site_store.specs.Sites.{SiteState, meant_for}
 use Rattle.site_store.specs.Standing.{SiteStands}
-use Rattle.site_store.specs.Ways.{is_mark_spent, is_spent, most}
-use Rattle.site_store.proofs.ByWays.{RecordWay, by_ways}
+use Rattle.site_store.specs.Placements.{is_mark_spent, is_spent, most}
+use Rattle.site_store.proofs.ByPlacements.{RecordPlacement, by_placements}
 use Rattle.xrc_status.specs.declared.stop.Stop.{Stop}
 use Rattle.xrc_status.specs.declared.stop.Stop.TheVariants as stops
 use Rattle.mover.proofs.Pairs.{Among, among_of}
@@ -50,8 +50,8 @@ numbers_are_spent plant excepted site stands spent c is =
 pub mark_is_spent : (site : SiteState) → is_mark_spent site ≡ true → (site.mark.number ≡ most) ⊎ (most ≤ site.at.number)
 mark_is_spent site is = inl (eqb-true site.mark.number most is)
 
-pub record_is_spent : (way : RecordWay) (site : SiteState) → is_spent way site ≡ true → (site.mark.number ≡ most) ⊎ (most ≤ site.at.number)
-record_is_spent way site = by_ways (λ (w : RecordWay). is_spent w site ≡ true → (site.mark.number ≡ most) ⊎ (most ≤ site.at.number)) here switched marked way
+pub record_is_spent : (placement : RecordPlacement) (site : SiteState) → is_spent placement site ≡ true → (site.mark.number ≡ most) ⊎ (most ≤ site.at.number)
+record_is_spent placement site = by_placements (λ (w : RecordPlacement). is_spent w site ≡ true → (site.mark.number ≡ most) ⊎ (most ≤ site.at.number)) here switched marked placement
   where
     here : nat_lt most site.at.number ≡ true → (site.mark.number ≡ most) ⊎ (most ≤ site.at.number)
     here is = let less = ltb-true most site.at.number is in inr (omega (arith, less))

@@ -11,7 +11,7 @@ use Rattle.site_means.specs.Images.{Shape}
 use Rattle.site_means.specs.Meaning.{meaning_in}
 use Rattle.site_means.specs.Sight.{walked, walked_by}
 use Rattle.site_means.proofs.Goes.{shape_same}
-use Rattle.consistency.specs.Stages.{Run, Stage}
+use Rattle.consistency.specs.Stages.{ScriptRun, Stage}
 use Rattle.consistency.specs.Courses.{Answered, replies_of, stage_at}
 use Rattle.consistency.proofs.Lines.{stage_front}
 use Rattle.consistency.proofs.Standing.{console_choice}
@@ -32,7 +32,7 @@ behind_on lines number began old new site past up is = record {
   applied = λ c left. walked_same old new site c ∙ is.applied c (past_choice old new is.at c site past up is.within left);
 }
 
-pub applies_on : (run : Run) (lines : List Answered) (began old new : PlantState) → began.clock ≤ old.clock → SameSite old new → Elapses old new → AppliesEnds run lines began old → AppliesEnds run lines began new
+pub applies_on : (run : ScriptRun) (lines : List Answered) (began old new : PlantState) → began.clock ≤ old.clock → SameSite old new → Elapses old new → AppliesEnds run lines began old → AppliesEnds run lines began new
 applies_on run lines began old new later site past ends up number below ended = behind_on lines number began old new site past (omega (arith, up, later)) (ends up number below ended)
 
 -- The console changes no device.
@@ -52,7 +52,7 @@ behind_more lines more number began now below is = record {
   applied = is.applied;
 }
 
-module _ (run : Run) (lines : List Answered) (a : Answered) (began now : PlantState) where
+module _ (run : ScriptRun) (lines : List Answered) (a : Answered) (began now : PlantState) where
   ended_before : (number : ℕ) → number < length lines → (stage_at run (lines ++ a ∷ []) (suc number)).table.is_ended ≡ (stage_at run lines (suc number)).table.is_ended
   ended_before number below = ap (λ (s : Stage). s.table.is_ended) (stage_front run lines (a ∷ []) (suc number) (omega (arith, below)))
 

@@ -10,7 +10,7 @@ use Rattle.std.proofs.lemmas.Option.{slice_get_past}
 use Rattle.row_changes.specs.Changes.{Timed}
 use Rattle.xrc_command.specs.declared.line.Line.{Line}
 use Rattle.consistency.specs.Answering.{is_command_of, points_before}
-use Rattle.consistency.specs.Stages.{Run, accepts_end}
+use Rattle.consistency.specs.Stages.{ScriptRun, accepts_end}
 use Rattle.consistency.specs.Pauses.{asked_in}
 use Rattle.consistency.specs.Courses.{Answered}
 use Rattle.consistency.specs.Leads.{Point}
@@ -111,10 +111,10 @@ last_alike asked other zero m le same = refl
 last_alike asked other (suc n) m le same = same n (omega (arith, le))
 
 -- The end is looked for in the line answered last.
-pub same_ending : (run : Run) (asked other : LinesAsked) (l : Leg) (m : ℕ) → l.answered ≤ m → ((k : ℕ) → k < m → other k ≡ asked k) → is_ending run other l ≡ is_ending run asked l
+pub same_ending : (run : ScriptRun) (asked other : LinesAsked) (l : Leg) (m : ℕ) → l.answered ≤ m → ((k : ℕ) → k < m → other k ≡ asked k) → is_ending run other l ≡ is_ending run asked l
 same_ending run asked other l m le same = ap (accepts_end run (table_at run l.point)) (last_alike asked other l.answered m le same)
 
-module _ (run : Run) (asked other : LinesAsked) (m : ℕ) (same : (k : ℕ) → k < m → other k ≡ asked k) where
+module _ (run : ScriptRun) (asked other : LinesAsked) (m : ℕ) (same : (k : ℕ) → k < m → other k ≡ asked k) where
   at_work_still : (l : Leg) → l.answered ≤ m → IsAtWork run asked l → IsAtWork run other l
   at_work_still l le at = record { goes_on = at.goes_on; not_ending = same_ending run asked other l m le same ∙ at.not_ending; none_marked = at.none_marked }
 
@@ -132,7 +132,7 @@ module _ (run : Run) (asked other : LinesAsked) (m : ℕ) (same : (k : ℕ) → 
       (way.0, subst (λ (o : Option Line). IsEnding run o l.point q hits) (sym here) way.1)
 
 -- The number of the lines behind a mark that a command's record needs, if a point comes behind it.
-pub marked_below : (run : Run) (asked : LinesAsked) (l : Leg) (n : PassedPoint) (points : List PassedPoint) → (fold leg_after l (n ∷ points)).marked ≡ [] → AreLinked (ComesNext run asked) leg_after l (n ∷ points)
+pub marked_below : (run : ScriptRun) (asked : LinesAsked) (l : Leg) (n : PassedPoint) (points : List PassedPoint) → (fold leg_after l (n ∷ points)).marked ≡ [] → AreLinked (ComesNext run asked) leg_after l (n ∷ points)
     → (line : ℕ) (hits : List Timed) → n.way ≡ MarkedFor line hits → (line ≡ l.answered) × (line < (fold leg_after l (n ∷ points)).answered)
 marked_below run asked l n [] none linked line hits is = absurd (come.2.some (sym (ap (λ (w : Way). (leg_by l n.point w).marked) is) ∙ none))
   where
@@ -146,7 +146,7 @@ marked_below run asked l n (p ∷ points) none linked line hits is =
     (come.0, omega (arith, come.0, behind, same, answered_rises (leg_after (leg_after l n) p) points))
 
 -- So links stay as they are while no line is asked otherwise that was answered.
-pub links_look_back : (run : Run) (asked other : LinesAsked) (l : Leg) (points : List PassedPoint) → (fold leg_after l points).marked ≡ [] → ((k : ℕ) → k < (fold leg_after l points).answered → other k ≡ asked k)
+pub links_look_back : (run : ScriptRun) (asked other : LinesAsked) (l : Leg) (points : List PassedPoint) → (fold leg_after l points).marked ≡ [] → ((k : ℕ) → k < (fold leg_after l points).answered → other k ≡ asked k)
     → AreLinked (ComesNext run asked) leg_after l points → AreLinked (ComesNext run other) leg_after l points
 links_look_back run asked other l [] none same linked = tt
 links_look_back run asked other l (n ∷ points) none same linked =
@@ -161,7 +161,7 @@ not_command : (line number : ℕ) → ¬ (line ≡ number) → (line == number) 
 not_command line number differ = ne_eqb line number differ
 
 -- No point is of a line that wasn't answered yet.
-pub none_of_number : (run : Run) (asked : LinesAsked) (l : Leg) (points : List PassedPoint) (number : ℕ) → (fold leg_after l points).marked ≡ [] → (fold leg_after l points).answered ≤ number
+pub none_of_number : (run : ScriptRun) (asked : LinesAsked) (l : Leg) (points : List PassedPoint) (number : ℕ) → (fold leg_after l points).marked ≡ [] → (fold leg_after l points).answered ≤ number
     → AreLinked (ComesNext run asked) leg_after l points → points_before number points ≡ points
 none_of_number run asked l [] number none up linked = refl
 none_of_number run asked l (n ∷ points) number none up linked =
@@ -189,7 +189,7 @@ fresh_points number (n ∷ points) same = by_way (is_command_of number n.way) re
         let tail : points_before number points ≡ points = cc in
         All-cons (λ (m : PassedPoint). is_command_of number m.way ≡ false) n points is (rest tail)
 
-module _ (run : Run) (asked : LinesAsked) (l : Leg) (n : PassedPoint) (number : ℕ) (from : l.answered ≤ number) (front back : List PassedPoint) (rest : (leg_after l n).answered ≤ number → front ≡ back) where
+module _ (run : ScriptRun) (asked : LinesAsked) (l : Leg) (n : PassedPoint) (number : ℕ) (from : l.answered ≤ number) (front back : List PassedPoint) (rest : (leg_after l n).answered ≤ number → front ≡ back) where
   abbrev behind_point : List PassedPoint → List PassedPoint
   behind_point points = if is_command_of number n.way then [] else n ∷ points
 
@@ -223,7 +223,7 @@ module _ (run : Run) (asked : LinesAsked) (l : Leg) (n : PassedPoint) (number : 
   later_point (Commanded line hits) is way = by_number line hits is way.0 (line == number) refl
 
 -- More points behind change nothing before the command of a line that was answered.
-pub later_points : (run : Run) (asked : LinesAsked) (l : Leg) (points more : List PassedPoint) (number : ℕ) → l.answered ≤ number → number < (fold leg_after l points).answered → AreLinked (ComesNext run asked) leg_after l points
+pub later_points : (run : ScriptRun) (asked : LinesAsked) (l : Leg) (points more : List PassedPoint) (number : ℕ) → l.answered ≤ number → number < (fold leg_after l points).answered → AreLinked (ComesNext run asked) leg_after l points
     → points_before number (points ++ more) ≡ points_before number points
 later_points run asked l [] more number from below linked = absurd (omega (arith, from, below))
 later_points run asked l (n ∷ points) more number from below linked =
@@ -232,7 +232,7 @@ later_points run asked l (n ∷ points) more number from below linked =
 -- ---- the point of a leg
 
 -- A leg stands at the last point, if no mark stands alone there.
-pub last_of_leg : (run : Run) (asked : LinesAsked) (l : Leg) (points : List PassedPoint) → (fold leg_after l points).marked ≡ [] → AreLinked (ComesNext run asked) leg_after l points → (fold leg_after l points).point ≡ last_point l.point points
+pub last_of_leg : (run : ScriptRun) (asked : LinesAsked) (l : Leg) (points : List PassedPoint) → (fold leg_after l points).marked ≡ [] → AreLinked (ComesNext run asked) leg_after l points → (fold leg_after l points).point ≡ last_point l.point points
 last_of_leg run asked l [] none linked = refl
 last_of_leg run asked l (n ∷ []) none linked = by_way n.way refl linked.0.0
   where

@@ -18,7 +18,7 @@ use Rattle.mover.specs.Epochs.{EpochGoes, MayBeginEpoch, ReachedBy, end_result}
 use Rattle.mover.specs.Moves.{MoverWorks}
 use Rattle.mover.specs.Rounds.{AreLanesOf}
 use Rattle.xrc_status.specs.declared.stop.Stop.{Stop}
-use Rattle.xrc_session.specs.declared.kept.Kept.{Kept}
+use Rattle.xrc_session.specs.declared.kept.SessionParts.{SessionParts}
 use Rattle.xrc_session.specs.LinePauses.{IsReadyForEpoch}
 use Rattle.xrc_session.specs.Bringing.{IsSiteBrought}
 use Rattle.xrc_session.specs.Frames.{SuspendsByCounts}
@@ -63,7 +63,7 @@ module _ {S : Type 0} (tells : Type 0) (left : S → Option (List ℕ)) (faults 
       stays_started tells told left faults limit group old new site after was is result goes stands.0 stands.1 goes_on
 
   -- In each run points are passed, if the work stops.
-  pub brings_badly : tells → (began : PlantState) (kept kept_now : Kept) (stop : Stop) → kept.group ≡ Some group → MayBeginEpoch tells limit group site was → site.mark.ended ≡ false → MoverWorks tells site after was is (end_result result)
+  pub brings_badly : tells → (began : PlantState) (kept kept_now : SessionParts) (stop : Stop) → kept.group ≡ Some group → MayBeginEpoch tells limit group site was → site.mark.ended ≡ false → MoverWorks tells site after was is (end_result result)
       → BringsOn left limit old new kept kept_now site after began was is (Err stop)
   brings_badly told began kept kept_now stop shared may goes_on works run stage line asked l first points at level bring turns rises =
       begins_to_pass tells left faults group old new site after began was is result (record {
@@ -112,7 +112,7 @@ module _ {S : Type 0} (tells : Type 0) (left : S → Option (List ℕ)) (faults 
   hits_by_counts goes_on = suspends_by_counts site.level false (part_of_mover goes.ran.log) site.time site.told after.told NoneDue goes.ran.steps NoneDue was is (goes.ran.made goes_on) goes.ran.changes goes.ran.behind.rows goes.ran.counted
 
   -- In each run the points of the deeds are passed, and the line's time is reached.
-  pub brings_well : tells → (began : PlantState) (kept kept_now : Kept) → kept.group ≡ Some group → kept_now.group ≡ Some next → MayBeginEpoch tells limit group site was → site.mark.ended ≡ false → MoverWorks tells site after was is (Ok tt)
+  pub brings_well : tells → (began : PlantState) (kept kept_now : SessionParts) → kept.group ≡ Some group → kept_now.group ≡ Some next → MayBeginEpoch tells limit group site was → site.mark.ended ≡ false → MoverWorks tells site after was is (Ok tt)
       → (tells → (d : Device) → IsThere is d → is.images is.clock d (is.bytes d)) → BringsOn left limit old new kept kept_now site after began was is (Ok tt)
   brings_well told began kept kept_now shared shared_now may goes_on works read run stage line asked l first points at level bring turns rises =
       let b : IsInRun tells left faults group old new site after began was is (ends.Reached next) = record {

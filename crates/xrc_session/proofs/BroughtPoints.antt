@@ -25,7 +25,7 @@ use Rattle.site_store.specs.DeedChanges.{DeedOfChanges, changes_of, deeds_of}
 use Rattle.site_store.specs.DoneDeeds.{DoesDeeds}
 use Rattle.site_store.specs.Exceptions.{Exceptions}
 use Rattle.site_store.specs.Sites.{SiteState}
-use Rattle.consistency.specs.Stages.{Run, Stage, breaks_of}
+use Rattle.consistency.specs.Stages.{ScriptRun, Stage, breaks_of}
 use Rattle.consistency.specs.Bearing.{MayBeMeant, ShowsPoint}
 use Rattle.consistency.specs.Leads.{Point}
 use Rattle.consistency.specs.Ways.{IsAtWork, IsLegOf, Leg, MayTakeEffect, PassedPoint, hits_of_leg, is_ending, last_answered, leg_after, leg_to}
@@ -88,7 +88,7 @@ none_at time (t ∷ changes) early =
 -- An epoch in a run: the work for a line's time begins at a leg, and the run's traces turn out so.
 pub record IsInRun {S : Type 0} (tells : Type 0) (left : S → Option (List ℕ)) (faults : S → ℕ) (group : Group) (old new : List (Lane S)) (site after : SiteState) (began was is : PlantState) (result : EpochEnd) : Type 0 where
   pub told : tells
-  pub run : Run
+  pub run : ScriptRun
   pub stage : Stage
   pub line : Line
   pub asked : LinesAsked
@@ -170,7 +170,7 @@ module _ {S : Type 0} (tells : Type 0) (left : S → Option (List ℕ)) (faults 
   abbrev so : RunSoFar
   so = so_far tells left faults group old new site after began was is (ends.Reached next) b
 
-  abbrev run : Run
+  abbrev run : ScriptRun
   run = b.run
 
   abbrev leg : Leg

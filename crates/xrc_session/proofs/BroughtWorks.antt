@@ -10,7 +10,7 @@ use Rattle.site_store.specs.declared.store_error.StoreError.TheVariants as store
 use Rattle.site_store.specs.Causes.{FaultsByCount}
 use Rattle.site_store.specs.Records.{IsStore}
 use Rattle.site_store.specs.Sites.{SiteState, meant_for}
-use Rattle.site_store.specs.Ways.{most}
+use Rattle.site_store.specs.Placements.{most}
 use Rattle.mover.specs.Moves.{MoverWorks}
 use Rattle.mover.specs.Numbers.{IsSiteSpent}
 use Rattle.xrc_status.specs.declared.stop.Stop.TheVariants as stops

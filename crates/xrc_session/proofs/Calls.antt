@@ -10,7 +10,7 @@ use Rattle.group_state.specs.declared.volume.Volume.{Volume}
 use Rattle.group_state.specs.Volumes.{begun, dropped_volume, has_volume, passes, resumed_volume, volume_of, wants, with_volume}
 use Rattle.group_state.specs.Controls.{ControlState, begun_volume, dropped, forgotten, new_control, resumed}
 use Rattle.group_state.specs.Groups.{Group, control_at, with_control}
-use Rattle.group_state.specs.SoundStates.{KeepsGroup, MayCarry, are_distinct, is_dropped}
+use Rattle.group_state.specs.SoundStates.{IsGroupSound, MayCarry, are_distinct, is_dropped}
 use Rattle.group_state.proofs.Kept.{KeepsOne, kept_call, keeps_begun, keeps_dropped, keeps_forgotten, keeps_resumed}
 use Rattle.group_state.proofs.SoundLaws.{all_filter}
 use Rattle.group_state.proofs.VolumeLaws.{Keeps, found_behind, found_with, found_without}
@@ -102,17 +102,17 @@ other_at s k v j w change keeps other low = at_with s k j change (KeepsOther w (
 pub own_is : (s : Group) (k : ℕ) (change : ControlState → ControlState) → k < length s.controls → control_at (with_control k change s) k ≡ change (control_at s k)
 own_is s k change low = at_with s k k change (λ (c : ControlState). c ≡ change (control_at s k)) low (λ is. refl) (λ apart. absurd (true≢false (sym (eq-eqb k k refl) ∙ apart)))
 
-keeps_with : (s : Group) (k : ℕ) (change : ControlState → ControlState) → KeepsGroup s → k < length s.controls → KeepsOne s.last (change (control_at s k)) (control_at s k) → KeepsGroup (with_control k change s)
+keeps_with : (s : Group) (k : ℕ) (change : ControlState → ControlState) → IsGroupSound s → k < length s.controls → KeepsOne s.last (change (control_at s k)) (control_at s k) → IsGroupSound (with_control k change s)
 keeps_with s k change keeps low one = kept_call s s k (change (control_at s k)) (control_at s k) keeps refl low (get_or_default s.controls k (new_control 0 0 0) (control_at s k) low) (λ e. one)
 
-pub keeps_drop : (s : Group) (k v : ℕ) (all : Bool) → k < length s.controls → KeepsGroup s → KeepsGroup (with_control k (dropped v all) s)
+pub keeps_drop : (s : Group) (k v : ℕ) (all : Bool) → k < length s.controls → IsGroupSound s → IsGroupSound (with_control k (dropped v all) s)
 keeps_drop s k v all low keeps = keeps_with s k (dropped v all) keeps low (keeps_dropped s.last v all (control_at s k))
 
-pub keeps_resume : (s : Group) (k v : ℕ) → k < length s.controls → is_dropped v (control_at s k).volumes ≡ true → KeepsGroup s → KeepsGroup (with_control k (resumed v) s)
+pub keeps_resume : (s : Group) (k v : ℕ) → k < length s.controls → is_dropped v (control_at s k).volumes ≡ true → IsGroupSound s → IsGroupSound (with_control k (resumed v) s)
 keeps_resume s k v low gone keeps = keeps_with s k (resumed v) keeps low (keeps_resumed s.last v (control_at s k) gone)
 
-pub keeps_forget : (s : Group) (k v : ℕ) → k < length s.controls → is_dropped v (control_at s k).volumes ≡ true → KeepsGroup s → KeepsGroup (with_control k (forgotten v) s)
+pub keeps_forget : (s : Group) (k v : ℕ) → k < length s.controls → is_dropped v (control_at s k).volumes ≡ true → IsGroupSound s → IsGroupSound (with_control k (forgotten v) s)
 keeps_forget s k v low gone keeps = keeps_with s k (forgotten v) keeps low (keeps_forgotten s.last v (control_at s k) gone)
 
-pub keeps_begin : (s : Group) (k v : ℕ) (plan : PlanState) → k < length s.controls → MayCarry (control_at s k) v plan → KeepsGroup s → KeepsGroup (with_control k (begun_volume v plan) s)
+pub keeps_begin : (s : Group) (k v : ℕ) (plan : PlanState) → k < length s.controls → MayCarry (control_at s k) v plan → IsGroupSound s → IsGroupSound (with_control k (begun_volume v plan) s)
 keeps_begin s k v plan low may keeps = keeps_with s k (begun_volume v plan) keeps low (keeps_begun s.last v plan (control_at s k) may)

@@ -24,7 +24,7 @@ use Rattle.fed_logs.specs.Logs.{IsPlanDone}
 use Rattle.fed_logs.specs.Moves.{Plans, plans_without}
 use Rattle.xrc_session.specs.EpochPauses.{Between, StandsBetween}
 use Rattle.xrc_session.specs.CarriedLaws.{FitsOn, TakenRowsStand}
-use Rattle.xrc_session.specs.Taking.{IfAdds, KeepsForRows, MayTake, calls_of_change}
+use Rattle.xrc_session.specs.Taking.{IfAdds, IsSoundForRows, MayTake, calls_of_change}
 use Rattle.xrc_session.proofs.Adding.{added_rows_stand}
 use Rattle.xrc_session.proofs.Forgetting.{forgotten_rows_stand}
 use Rattle.xrc_session.proofs.KeptRows.{kept_added_row, kept_dropped_row, kept_forgotten_row, kept_resumed_row, may_carry_row}
@@ -35,7 +35,7 @@ use Rattle.xrc_session.proofs.Walking.{Steps, Walked, change_walk}
 -- ---- what is kept
 
 abbrev pub Kept : Group → List PairRow → Plans → Type 0
-Kept s rows done = KeepsForRows s rows
+Kept s rows done = IsSoundForRows s rows
 
 abbrev FitsAny : PairRow → Type 0
 FitsAny r = Unit {0}
@@ -65,8 +65,8 @@ any_fits Ended after = tt
 pub no_plans : Plans
 no_plans = λ k v. false
 
--- The calls of a change may be made, and behind them the state keeps what it does for the rows after it.
-pub taken : (s : Group) (change : Change) (before after : List PairRow) → KeepsForRows s before → MayTake s change before after → Walked Kept (calls_of_change change s before after) s after no_plans
+-- The calls of a change may be made, and behind them the state is sound for the rows after it.
+pub taken : (s : Group) (change : Change) (before after : List PairRow) → IsSoundForRows s before → MayTake s change before after → Walked Kept (calls_of_change change s before after) s after no_plans
 taken s change before after kept may = change_walk Kept FitsAny kept_steps change before after s no_plans may (any_fits change after) kept
 
 -- ---- what stands
@@ -126,7 +126,7 @@ module _ (start : PlantState) (b : Between) where
   at s rows done = record b { group = s; point = record b.point { rows = rows }; done = done }
 
   abbrev Stands : Group → List PairRow → Plans → Type 0
-  Stands s rows done = KeepsForRows s rows × StandsBetween start (at s rows done)
+  Stands s rows done = IsSoundForRows s rows × StandsBetween start (at s rows done)
 
   dropped_stands : (s : Group) (rows : List PairRow) (done : Plans) (r : PairRow) (state : PairState) (all : Bool) → Stands s rows done → Contains rows r → is_suspended state ≡ true → (is_device_suspended state ≡ true → all ≡ true)
       → (all ≡ false → IsPlanDone r.volume (control_at s r.control)) → StandsBetween start (at (group_after s (Drop r.control r.volume all)) (with_state r.device state rows) (plans_without r.control r.volume done))

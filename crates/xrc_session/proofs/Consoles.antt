@@ -27,7 +27,7 @@ use Rattle.site_store.specs.Standing.{AreApplied, FitsPlant, MayRecord, SiteStan
 use Rattle.site_store.proofs.MarkFits.{lengths_still, site_fits}
 use Rattle.site_store.proofs.Seeing.{same_content}
 use Rattle.consistency.specs.Bearing.{ShowsPoint}
-use Rattle.consistency.specs.Stages.{Run, Stage}
+use Rattle.consistency.specs.Stages.{ScriptRun, Stage}
 use Rattle.consistency.specs.Courses.{Answered, replies_of, texts_of}
 use Rattle.consistency.specs.Leads.{Point}
 use Rattle.consistency.specs.Ways.{IsLegOf, Leg, PassedPoint}
@@ -98,7 +98,7 @@ module _ (tells : Type 0) (old new : PlantState) (works : WorksOnConsole tells o
       unwritten = λ d there fine x has. stands.unwritten d (omega (arith, there, works.site.volumes)) fine x has;
     }
 
-    pub shows_on : (run : Run) (p : Point) → AtNow (ShowsPoint run (shape_of old) p) old → AtNow (ShowsPoint run (shape_of new) p) new
+    pub shows_on : (run : ScriptRun) (p : Point) → AtNow (ShowsPoint run (shape_of old) p) old → AtNow (ShowsPoint run (shape_of new) p) new
     shows_on run p shows c is = subst (λ (shape : Shape). ShowsPoint run shape p c) (sym same_shape) (shows c (choice_back c is))
 
     held_same : (c : Choice) (x : ℕ) (o : Option PairRow) → held_of_row new c x o ≡ held_of_row old c x o
@@ -108,7 +108,7 @@ module _ (tells : Type 0) (old new : PlantState) (works : WorksOnConsole tells o
     held_on : (c : Choice) (rows : List PairRow) → held_by_choice new c rows ≡ held_by_choice old c rows
     held_on c rows = λ i k v x. held_same c x (find (is_row_of_volume k v) rows) i
 
-    rows_on : (run : Run) (size : Sizes) (excepted : Exceptions) (s : Group) (p : Point) (done : Plans) → StandsForRows run size old excepted s p done → StandsForRows run size new excepted s p done
+    rows_on : (run : ScriptRun) (size : Sizes) (excepted : Exceptions) (s : Group) (p : Point) (done : Plans) → StandsForRows run size old excepted s p done → StandsForRows run size new excepted s p done
     rows_on run size excepted s p done stands = record {
       apart = stands.apart;
       below = subst (λ (n : ℕ). IsTrue (are_below n p.rows)) (sym works.site.volumes) stands.below;
@@ -127,7 +127,7 @@ module _ (tells : Type 0) (old new : PlantState) (works : WorksOnConsole tells o
       some = (stands.some.0, choice_on stands.some.0 stands.some.1);
     }
 
-    for_site_on : (run : Run) (site : SiteState) (group : Group) → StandsForSite run site group old → StandsForSite run site group new
+    for_site_on : (run : ScriptRun) (site : SiteState) (group : Group) → StandsForSite run site group old → StandsForSite run site group new
     for_site_on run site group stands = record {
       excepted = stands.excepted;
       done = stands.done;
@@ -135,23 +135,23 @@ module _ (tells : Type 0) (old new : PlantState) (works : WorksOnConsole tells o
       rows = state_on (record { run = run; size = sizes_of run.traces; excepted = stands.excepted; group = group; point = site_point site; done = stands.done }) stands.rows;
     }
 
-    pub goes_on_from : (run : Run) (first : Point) (points : List PassedPoint) (site : SiteState) (group : Group) → GoesOnFrom run first points site old group → GoesOnFrom run first points site new group
+    pub goes_on_from : (run : ScriptRun) (first : Point) (points : List PassedPoint) (site : SiteState) (group : Group) → GoesOnFrom run first points site old group → GoesOnFrom run first points site new group
     goes_on_from run first points site group goes = record { rows = for_site_on run site group goes.rows; broke = goes.broke; come = goes.come; last = goes.last; maps = goes.maps; maps_rest = goes.maps_rest }
 
-    some_goes_on : (run : Run) (first : Point) (points : List PassedPoint) (site : SiteState) (group : Option Group) → IsSomeAnd group (GoesOnFrom run first points site old) → IsSomeAnd group (GoesOnFrom run first points site new)
+    some_goes_on : (run : ScriptRun) (first : Point) (points : List PassedPoint) (site : SiteState) (group : Option Group) → IsSomeAnd group (GoesOnFrom run first points site old) → IsSomeAnd group (GoesOnFrom run first points site new)
     some_goes_on run first points site (Some group) goes = goes_on_from run first points site group goes
     some_goes_on run first points site None goes = absurd goes
 
     hits_on : (l : Leg) (began : PlantState) → AreHitsOfFaults l began old → AreHitsOfFaults l began new
     hits_on l began hits d below = let same = works.faults (Volume d) in omega (arith, hits d (omega (arith, below, same)), same)
 
-    pub at_leg_on : (run : Run) (stage : Stage) (l : Leg) (site : SiteState) (began : PlantState) → StandsAtLeg run stage l site began old → StandsAtLeg run stage l site began new
+    pub at_leg_on : (run : ScriptRun) (stage : Stage) (l : Leg) (site : SiteState) (began : PlantState) → StandsAtLeg run stage l site began old → StandsAtLeg run stage l site began new
     at_leg_on run stage l site began at = record { here = at.here; shows = shows_on run (site_point site) at.shows; leg = at.leg; counted = hits_on l began at.counted }
 
     leaves_on : (began : PlantState) → began.clock ≤ old.clock → LeavesAll began old → LeavesAll began new
     leaves_on began later leaves d = stays_then (on began d) (on old d) (on new d) later (leaves d) ((works.elapses told).kept d) (works.devices told d)
 
-    under_way_on : (run : Run) (lines : List Answered) (stage : Stage) (trail : Trail) (s : SessionState) (began : PlantState) (site : SiteState) → IsUnderWay run lines stage trail s began old site → IsUnderWay run lines stage trail s began new site
+    under_way_on : (run : ScriptRun) (lines : List Answered) (stage : Stage) (trail : Trail) (s : SessionState) (began : PlantState) (site : SiteState) → IsUnderWay run lines stage trail s began old site → IsUnderWay run lines stage trail s began new site
     under_way_on run lines stage trail s began site way = record {
       some = way.some;
       started = way.started;
@@ -168,7 +168,7 @@ module _ (tells : Type 0) (old new : PlantState) (works : WorksOnConsole tells o
         by_past (inr none) up = let still = ((works.elapses told).kept Control).still (omega (arith, none)) in absurd (omega (arith, up, still))
 
     -- What a session has come to behind its lines stays as it is.
-    pub behind_on : (run : Run) (lines : List Answered) (stage : Stage) (trail : Trail) (s : SessionState) (began : PlantState) → SameSite began old → began.clock ≤ old.clock → StandsBehindLines run lines stage trail s began old
+    pub behind_on : (run : ScriptRun) (lines : List Answered) (stage : Stage) (trail : Trail) (s : SessionState) (began : PlantState) → SameSite began old → began.clock ≤ old.clock → StandsBehindLines run lines stage trail s began old
         → StandsBehindLines run lines stage trail s began new
     behind_on run lines stage trail s began site later stands = record {
       its = stands.its;
@@ -244,11 +244,11 @@ module _ (tells : Type 0) (old new : PlantState) (works : WorksOnConsole tells o
 -- ---- a line is heard
 
 -- A leg of a stage is one whatever was heard.
-pub leg_heard : (run : Run) (s : Stage) (heard : Option Line) (l : Leg) → IsLegOf run s l → IsLegOf run (record s { next = heard }) l
+pub leg_heard : (run : ScriptRun) (s : Stage) (heard : Option Line) (l : Leg) → IsLegOf run s l → IsLegOf run (record s { next = heard }) l
 leg_heard run s heard l leg = record { table = leg.table; replied = leg.replied; whole = leg.whole; counted = leg.counted }
 
 -- What a session has come to behind its lines stays when a line is heard.
-pub behind_heard : (run : Run) (lines : List Answered) (stage : Stage) (heard : Option Line) (trail : Trail) (s : SessionState) (began now : PlantState) → now.heard now.clock ≡ began.heard began.clock ++ texts_of lines → now.said now.clock ≡ began.said began.clock ++ replies_of lines → StandsBehindLines run lines stage trail s began now
+pub behind_heard : (run : ScriptRun) (lines : List Answered) (stage : Stage) (heard : Option Line) (trail : Trail) (s : SessionState) (began now : PlantState) → now.heard now.clock ≡ began.heard began.clock ++ texts_of lines → now.said now.clock ≡ began.said began.clock ++ replies_of lines → StandsBehindLines run lines stage trail s began now
     → StandsBehindLines run lines (record stage { next = heard }) trail s began now
 behind_heard run lines stage heard trail s began now all said stands = record { its = stands.its; table = stands.table; volumes = stands.volumes; place = by_place s.site stands.place }
   where

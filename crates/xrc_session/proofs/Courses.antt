@@ -8,7 +8,7 @@ use Rattle.pair_table.specs.Refusals.{refusal}
 use Rattle.pair_table.specs.Tables.{Table}
 use Rattle.row_changes.specs.Changes.{Timed}
 use Rattle.row_changes.specs.Spans.{AreCounted}
-use Rattle.consistency.specs.Stages.{Run, Stage, breaks_of, names_of}
+use Rattle.consistency.specs.Stages.{ScriptRun, Stage, breaks_of, names_of}
 use Rattle.consistency.specs.Courses.{Answered, IsAnswered, IsCourse, is_whole_line, last_line_time, next_line, stage_after, stage_at, texts_of}
 use Rattle.consistency.specs.Keeping.{stage_now}
 use Rattle.consistency.specs.Steps.{is_active, names_at, table_on_the_way}
@@ -17,7 +17,7 @@ use Rattle.consistency.proofs.Lines.{none_heard, stage_then}
 -- ---- one line
 
 -- A started session stays started.
-pub stays_started : (run : Run) (s : Stage) (a : Answered) → IsAnswered run s a → s.table.is_started ≡ true → a.table.is_started ≡ true
+pub stays_started : (run : ScriptRun) (s : Stage) (a : Answered) → IsAnswered run s a → s.table.is_started ≡ true → a.table.is_started ≡ true
 stays_started run s a answered started =
     let table = table_on_the_way run.level a.changes s.table in
     let names = names_at a.line.time.0 (breaks_of run) (names_of run) in
@@ -28,7 +28,7 @@ stays_started run s a answered started =
     by_refusal false x y one two = two
 
 -- Before the start no row changes by itself.
-unstarted_still : (run : Run) (s : Stage) (a : Answered) → IsAnswered run s a → s.table.is_started ≡ false → s.past ≡ [] → s.past ++ a.changes ++ a.hits ≡ []
+unstarted_still : (run : ScriptRun) (s : Stage) (a : Answered) → IsAnswered run s a → s.table.is_started ≡ false → s.past ≡ [] → s.past ++ a.changes ++ a.hits ≡ []
 unstarted_still run s a answered unstarted none =
     let off : is_active s.table ≡ false = rw unstarted refl in
     let still = answered.step.still off in
@@ -37,14 +37,14 @@ unstarted_still run s a answered unstarted none =
 -- ---- lines before
 
 -- What stands at a number of lines, if it isn't behind all.
-stage_step : (run : Run) (lines : List Answered) (n : ℕ) → suc n ≤ length lines → (a : Answered) × (slice_get lines n ≡ Some a) × (stage_at run lines (suc n) ≡ stage_after (stage_at run lines n) a)
+stage_step : (run : ScriptRun) (lines : List Answered) (n : ℕ) → suc n ≤ length lines → (a : Answered) × (slice_get lines n ≡ Some a) × (stage_at run lines (suc n) ≡ stage_after (stage_at run lines n) a)
 stage_step run lines n within = by_cases (slice_get_cases lines n).1
   where
     by_cases : ((a : Answered) × (n < length lines) × (slice_get lines n ≡ Some a) × (get_or lines n a ≡ a)) ⊎ ((length lines ≤ n) × (slice_get lines n ≡ None)) → (a : Answered) × (slice_get lines n ≡ Some a) × (stage_at run lines (suc n) ≡ stage_after (stage_at run lines n) a)
     by_cases (inl there) = (there.0, there.2, stage_then run lines n there.0 there.2)
     by_cases (inr none) = absurd (omega (arith, within, none.0))
 
-module _ (run : Run) (lines : List Answered) (course : IsCourse run lines) where
+module _ (run : ScriptRun) (lines : List Answered) (course : IsCourse run lines) where
   started_next : (n : ℕ) → suc n ≤ length lines → (stage_at run lines n).table.is_started ≡ true → (stage_at run lines (suc n)).table.is_started ≡ true
   started_next n within started =
       let step = stage_step run lines n within in
@@ -84,6 +84,6 @@ module _ (run : Run) (lines : List Answered) (course : IsCourse run lines) where
 -- ---- what was heard
 
 -- No line was heard where nothing was.
-pub none_next : (run : Run) (script : List ℕ) (lines : List Answered) → (stage_now run script lines []).next ≡ None
+pub none_next : (run : ScriptRun) (script : List ℕ) (lines : List Answered) → (stage_now run script lines []).next ≡ None
 none_next run script lines =
     none_heard (length lines) (last_line_time lines (length lines)) (length (texts_of lines ++ []) == length script) [] (and_right (length (texts_of lines ++ []) == length script) false refl)

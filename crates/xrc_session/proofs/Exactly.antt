@@ -19,7 +19,7 @@ use Rattle.tod_stamp.specs.Stamps.{stamp_text}
 use Rattle.tod_stamp.specs.declared.stamp.Stamp.{Stamp}
 use Rattle.xrc_command.specs.declared.line.Line.{Line}
 use Rattle.consistency.specs.Answering.{ReplyContent, points_before, reply_content, tracks_of_command}
-use Rattle.consistency.specs.Stages.{Run, Stage, breaks_of, names_of}
+use Rattle.consistency.specs.Stages.{ScriptRun, Stage, breaks_of, names_of}
 use Rattle.consistency.specs.Courses.{Answered, IsCourse, stage_at}
 use Rattle.consistency.specs.Leads.{Point}
 use Rattle.consistency.specs.Replying.{IsExact, own_line, reply_text, report_before, told_tracks}
@@ -74,7 +74,7 @@ unstarted_told names table session (AddPair primary secondary) is a b =
     ∙ sym (ap (λ (o : Option Refusal). told_tracks (AddPair primary secondary) (answer_by o (change_of names (AddPair primary secondary) table.rows)) b) why.1)
 
 -- A reply before the start looks at no points.
-pub exact_any : (run : Run) (s : Stage) (first other : Point) (points more : List PassedPoint) (n m : ℕ) (a : Answered) → s.table.is_started ≡ false → IsExact run s first points n a → IsExact run s other more m a
+pub exact_any : (run : ScriptRun) (s : Stage) (first other : Point) (points more : List PassedPoint) (n m : ℕ) (a : Answered) → s.table.is_started ≡ false → IsExact run s first points n a → IsExact run s other more m a
 exact_any run s first other points more n m a unstarted exact =
     let table = table_on_the_way run.level a.changes s.table in
     let x = reply_content run s first points n a in
@@ -84,25 +84,25 @@ exact_any run s first other points more n m a unstarted exact =
 
 -- ---- the points before its command
 
-pub content_before : (run : Run) (s : Stage) (first : Point) (xs ys : List PassedPoint) (number : ℕ) (a : Answered) → points_before number xs ≡ points_before number ys → reply_content run s first xs number a ≡ reply_content run s first ys number a
+pub content_before : (run : ScriptRun) (s : Stage) (first : Point) (xs ys : List PassedPoint) (number : ℕ) (a : Answered) → points_before number xs ≡ points_before number ys → reply_content run s first xs number a ≡ reply_content run s first ys number a
 content_before run s first xs ys number a same =
     let table = table_on_the_way run.level a.changes s.table in
     ap (λ (points : List PassedPoint). record (reply_content run s first xs number a) { tracks = tracks_of_command run first points table.rows a.line.time.0 a.line.command }) same
 
-exact_before : (run : Run) (s : Stage) (first : Point) (xs ys : List PassedPoint) (number : ℕ) (a : Answered) → points_before number xs ≡ points_before number ys → IsExact run s first xs number a → IsExact run s first ys number a
+exact_before : (run : ScriptRun) (s : Stage) (first : Point) (xs ys : List PassedPoint) (number : ℕ) (a : Answered) → points_before number xs ≡ points_before number ys → IsExact run s first xs number a → IsExact run s first ys number a
 exact_before run s first xs ys number a same exact =
     exact ∙ ap (λ (c : ReplyContent). report_before run (table_on_the_way run.level a.changes s.table) a.line ++ own_line a.line c) (content_before run s first xs ys number a same)
 
 -- ---- with the changes of its line
 
 -- Before the start there are none to bring.
-pub exactly_any : (run : Run) (s : Stage) (first other : Leg) (points more : List PassedPoint) (n m : ℕ) (a : Answered) → s.table.is_started ≡ false → IsExactBy run s first points n a → IsExactBy run s other more m a
+pub exactly_any : (run : ScriptRun) (s : Stage) (first other : Leg) (points more : List PassedPoint) (n m : ℕ) (a : Answered) → s.table.is_started ≡ false → IsExactBy run s first points n a → IsExactBy run s other more m a
 exactly_any run s first other points more n m a unstarted is = record {
   exact = exact_any run s first.point other.point points more n m a unstarted is.exact;
   brings = λ on. absurd (true≢false (sym on ∙ unstarted));
 }
 
-exactly_before : (run : Run) (s : Stage) (first : Leg) (xs ys : List PassedPoint) (number : ℕ) (a : Answered) → points_before number xs ≡ points_before number ys → IsExactBy run s first xs number a → IsExactBy run s first ys number a
+exactly_before : (run : ScriptRun) (s : Stage) (first : Leg) (xs ys : List PassedPoint) (number : ℕ) (a : Answered) → points_before number xs ≡ points_before number ys → IsExactBy run s first xs number a → IsExactBy run s first ys number a
 exactly_before run s first xs ys number a same is = record {
   exact = exact_before run s first.point xs ys number a same is.exact;
   brings = λ on. record {
@@ -113,7 +113,7 @@ exactly_before run s first xs ys number a same is = record {
 
 -- ---- the replies of a trail
 
-module _ (run : Run) (lines : List Answered) (trail : Trail) (begins : BeginsAtStart run lines trail) where
+module _ (run : ScriptRun) (lines : List Answered) (trail : Trail) (begins : BeginsAtStart run lines trail) where
   -- They stay exact while more points are passed, where all lines are answered at the last leg.
   pub exact_stays : (next : Option Line) (more : List PassedPoint) → AreNext run lines next trail → length lines ≤ (last_leg run lines trail).answered → AreExact run lines trail → AreExact run lines (with_points more trail)
   exact_stays next more linked all exact n a at = by_side (cases_lt n trail.started)

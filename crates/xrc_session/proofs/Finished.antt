@@ -36,7 +36,7 @@ use Rattle.fed_logs.specs.Moves.{HasRowIn, IsDuplex}
 use Rattle.mover.specs.OwedTracks.{held_by_choice}
 use Rattle.mover.proofs.Excepting.{none_excepted}
 use Rattle.consistency.specs.Bearing.{ShowsPoint}
-use Rattle.consistency.specs.Stages.{Run, Stage, tracks_of_row}
+use Rattle.consistency.specs.Stages.{ScriptRun, Stage, tracks_of_row}
 use Rattle.consistency.specs.Pauses.{RunGoesOn}
 use Rattle.consistency.specs.Courses.{Answered, stage_at}
 use Rattle.consistency.specs.Leads.{Point}
@@ -96,7 +96,7 @@ below_at n (q ∷ rows) zero r at below =
 below_at n (q ∷ rows) (suc place) r at below = below_at n rows place r at (and_parts (nat_lt q.device n) (list_all (λ p. nat_lt p.device n) rows) below).1
 
 -- What a site's volumes hold where nothing waits: a duplex row's slots hold the primary's tracks.
-module _ (run : Run) (site : SiteState) (group : Group) (now : PlantState) (stands : StandsForSite run site group now) (idle : site.waiting ≡ []) (told : hit_now site.failed site.told ≡ []) (read : IsChoice now now.clock now.bytes)
+module _ (run : ScriptRun) (site : SiteState) (group : Group) (now : PlantState) (stands : StandsForSite run site group now) (idle : site.waiting ≡ []) (told : hit_now site.failed site.told ≡ []) (read : IsChoice now now.clock now.bytes)
     (shows : AtNow (ShowsPoint run (shape_of now) (site_point site)) now) (place : ℕ) (r : PairRow) (at : slice_get site.told place ≡ Some r) (duplex : r.state ≡ Duplex) (x : ℕ) (within : x < tracks_of_row r) where
   among : Contains site.told r
   among = contained site.told place r at
@@ -125,7 +125,7 @@ module _ (run : Run) (site : SiteState) (group : Group) (now : PlantState) (stan
       ∙ ap (λ (l : List Item). content_through r.device x l (slot_track (now.bytes (Volume r.device)) x)) (sym items_are) ∙ held
 
 -- Once no item is walked, slots hold what is meant.
-pub slot_is_meant : (run : Run) (site : SiteState) (now : PlantState) → IsChoice now now.clock now.bytes → AtNow (ShowsPoint run (shape_of now) (site_point site)) now → AtNow (λ c. walked now c ≡ []) now
+pub slot_is_meant : (run : ScriptRun) (site : SiteState) (now : PlantState) → IsChoice now now.clock now.bytes → AtNow (ShowsPoint run (shape_of now) (site_point site)) now → AtNow (λ c. walked now c ≡ []) now
     → (place : ℕ) (r : PairRow) → slice_get site.told place ≡ Some r → r.state ≡ Duplex → (x : ℕ) → x < tracks_of_row r → slot_track (now.bytes (Volume r.device)) x ≡ Some (primary run.traces site.time r.control r.volume x)
 slot_is_meant run site now read shows walk place r at duplex x within =
     ap (λ (items : List Item). content_through r.device x items (slot_track (now.bytes (Volume r.device)) x)) (sym (walk now.bytes read)) ∙ (shows now.bytes read).tracks place r at duplex x within
@@ -133,7 +133,7 @@ slot_is_meant run site now read shows walk place r at duplex x within =
 -- ---- at the end
 
 -- Behind the last line all is applied.
-pub all_applied : (run : Run) (lines : List Answered) (site : SiteState) (old now : PlantState) → stage_point (stage_at run lines (length lines)) ≡ site_point site
+pub all_applied : (run : ScriptRun) (lines : List Answered) (site : SiteState) (old now : PlantState) → stage_point (stage_at run lines (length lines)) ≡ site_point site
     → ((place : ℕ) (r : PairRow) → slice_get site.told place ≡ Some r → r.state ≡ Duplex → (x : ℕ) → x < tracks_of_row r → slot_track (old.bytes (Volume r.device)) x ≡ Some (primary run.traces site.time r.control r.volume x))
     → ((d : ℕ) → now.bytes (Volume d) ≡ old.bytes (Volume d)) → AtNow (λ c. walked now c ≡ []) now → IsApplied run lines now
 all_applied run lines site old now point hold same walk = record {

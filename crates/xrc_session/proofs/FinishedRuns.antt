@@ -13,9 +13,9 @@ use Rattle.site_store.specs.Sites.{SiteState}
 use Rattle.site_store.proofs.MarkFits.{reads_choice}
 use Rattle.mover.specs.Moves.{IsOfMover}
 use Rattle.xrc_status.specs.declared.stop.Stop.{Stop}
-use Rattle.xrc_session.specs.declared.kept.Kept.{Kept}
-use Rattle.xrc_session.specs.declared.place.Place.{Place}
-use Rattle.xrc_session.specs.declared.place.Place.TheVariants.{Unstarted}
+use Rattle.xrc_session.specs.declared.kept.SessionParts.{SessionParts}
+use Rattle.xrc_session.specs.declared.place.SessionPlace.{SessionPlace}
+use Rattle.xrc_session.specs.declared.place.SessionPlace.TheVariants.{Unstarted}
 use Rattle.xrc_session.specs.Answering.{IsMarkedSite, MarksOn}
 use Rattle.xrc_session.specs.Bringing.{IsWorkOfStore}
 use Rattle.xrc_session.specs.Frames.{KeepsPlant}
@@ -29,7 +29,7 @@ use Rattle.xrc_session.proofs.LinesPlaces.{session_in, session_on, unstarted_at}
 
 -- ---- by a mark
 
-module _ (tells : Type 0) (session : List ℕ) (controls : ℕ) (kept : Kept) (site : SiteState) (ended : Bool) (s : SessionState) (same : session_on session controls kept site ended ≡ s) (old : PlantState) (may : MayFinish tells s old) where
+module _ (tells : Type 0) (session : List ℕ) (controls : ℕ) (kept : SessionParts) (site : SiteState) (ended : Bool) (s : SessionState) (same : session_on session controls kept site ended ≡ s) (old : PlantState) (may : MayFinish tells s old) where
   abbrev was : SessionState
   was = session_on session controls kept site ended
 
@@ -58,10 +58,10 @@ module _ (tells : Type 0) (session : List ℕ) (controls : ℕ) (kept : Kept) (s
 abbrev pub IsAtEnd : SessionState → Type 0
 IsAtEnd s = (s.site ≡ None) ⊎ ((site : SiteState) × (s.site ≡ Some site) × (s.is_ended ≡ true))
 
-pub unstarted_at_end : {V : Type 0} (session : List ℕ) (controls : ℕ) (kept : Kept) (place : Place V) (ended : Bool) (s : SessionState) (table : Table) → place ≡ Unstarted table → session_in session controls kept place ended ≡ s → IsAtEnd s
+pub unstarted_at_end : {V : Type 0} (session : List ℕ) (controls : ℕ) (kept : SessionParts) (place : SessionPlace V) (ended : Bool) (s : SessionState) (table : Table) → place ≡ Unstarted table → session_in session controls kept place ended ≡ s → IsAtEnd s
 unstarted_at_end {V} session controls kept place ended s table is same = inl (unstarted_at session controls kept place ended s table is same)
 
-pub ended_at_end : (session : List ℕ) (controls : ℕ) (kept : Kept) (site : SiteState) (ended : Bool) (s : SessionState) → session_on session controls kept site ended ≡ s → ended ≡ true → IsAtEnd s
+pub ended_at_end : (session : List ℕ) (controls : ℕ) (kept : SessionParts) (site : SiteState) (ended : Bool) (s : SessionState) → session_on session controls kept site ended ≡ s → ended ≡ true → IsAtEnd s
 ended_at_end session controls kept site ended s same is = inr (site, sym (ap (λ (x : SessionState). x.site) same), sym (ap (λ (x : SessionState). x.is_ended) same) ∙ is)
 
 module _ (tells : Type 0) (s : SessionState) (old : PlantState) (may : MayFinish tells s old) where

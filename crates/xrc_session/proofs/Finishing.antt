@@ -24,7 +24,7 @@ use Rattle.site_store.specs.Records.{VolumesStay}
 use Rattle.site_store.specs.Sites.{SiteState}
 use Rattle.group_state.specs.Groups.{Group}
 use Rattle.consistency.specs.Bearing.{ShowsPoint}
-use Rattle.consistency.specs.Stages.{Run, Stage, tracks_of_row}
+use Rattle.consistency.specs.Stages.{ScriptRun, Stage, tracks_of_row}
 use Rattle.consistency.specs.Pauses.{RunGoesOn}
 use Rattle.consistency.specs.Courses.{Answered, stage_at}
 use Rattle.consistency.specs.Leads.{Point}
@@ -53,7 +53,7 @@ use Rattle.xrc_session.proofs.RestingMarks.{nothing_is_walked}
 use Rattle.xrc_session.proofs.Trails.{rest_is_meant}
 
 -- A run that has answered its lines and heard the script's end, with a session behind them.
-module _ (run : Run) (lines : List Answered) (trail : Trail) (s : SessionState) (began old : PlantState) (at_end : old.script ≡ []) (goes : RunGoesOn run lines [] began old) (exact : AreExact run lines trail)
+module _ (run : ScriptRun) (lines : List Answered) (trail : Trail) (s : SessionState) (began old : PlantState) (at_end : old.script ≡ []) (goes : RunGoesOn run lines [] began old) (exact : AreExact run lines trail)
     (stands : StandsBehindLines run lines (stage_behind run lines [] began) trail s began old) where
   abbrev stage : Stage
   stage = stage_behind run lines [] began

@@ -13,7 +13,7 @@ use Rattle.site_means.specs.Images.{Shape, shape_of}
 use Rattle.site_means.proofs.Goes.{shape_same}
 use Rattle.xrc_command.specs.declared.line.Line.{Line}
 use Rattle.consistency.specs.Bearing.{GoesThroughPoints, ShowsPoint}
-use Rattle.consistency.specs.Stages.{Run, Stage}
+use Rattle.consistency.specs.Stages.{ScriptRun, Stage}
 use Rattle.consistency.specs.Pauses.{AreToldOf, HadExactReply, HasPassed, RunGoesOn, asked_in}
 use Rattle.consistency.specs.Courses.{Answered, last_line_time, lines_begun, lines_begun_from, next_line, replies_of, stage_at, texts_of}
 use Rattle.consistency.specs.Keeping.{stage_now}
@@ -66,7 +66,7 @@ next_one tells number before text left next.Nothing is = subst (λ (l : List ℕ
 -- ---- a run
 
 -- A reply that was exact is so still.
-module _ (old new : PlantState) (site : SameSite old new) (elapses : Elapses old new) (run : Run) where
+module _ (old new : PlantState) (site : SameSite old new) (elapses : Elapses old new) (run : ScriptRun) where
   passed_stay : (up : 0 < old.clock) (asked : ℕ → Option Line) (first : Leg) (points : List PassedPoint) (to : ℕ) → to ≤ old.clock → HasPassed run asked first points old to → HasPassed run asked first points new to
   passed_stay up asked first points to le passed = record {
     rowless = passed.rowless;
@@ -91,7 +91,7 @@ module _ (old new : PlantState) (site : SameSite old new) (elapses : Elapses old
         record { passed = passed_stay (omega (arith, up, le)) (asked_in (before ++ a ∷ [])) had.first had.points had.by had.within told.passed; answered = told.answered; changes = told.changes; rows = told.rows };
   }
 
-module _ (first old new : PlantState) (run : Run) (lines : List Answered) (text : List ℕ) (goes : RunGoesOn run lines [] first old) (tells : Type 0) (told : tells) (works : WorksOnConsole tells old new)
+module _ (first old new : PlantState) (run : ScriptRun) (lines : List Answered) (text : List ℕ) (goes : RunGoesOn run lines [] first old) (tells : Type 0) (told : tells) (works : WorksOnConsole tells old new)
     (heard : HearsText text old new) (silent : SaysNothing old new) where
   abbrev before : Stage
   before = stage_now run first.script lines []

@@ -12,7 +12,7 @@ use Rattle.crash_plant.proofs.Steps.{elapses_trans, none_lent_console, silent_tr
 use Rattle.sidefile.specs.declared.hand.Halt.{Halt}
 use Rattle.pair_table.specs.declared.row.PairRow.{PairRow}
 use Rattle.applier.specs.Returns.{WorksOnLent}
-use Rattle.consistency.specs.Stages.{Run}
+use Rattle.consistency.specs.Stages.{ScriptRun}
 use Rattle.record_rows.specs.Hits.{is_device_suspended}
 use Rattle.group_state.specs.Runs.{Answer}
 use Rattle.fed_logs.specs.Reads.{ReadsOn}
@@ -160,7 +160,7 @@ keeps_console tells old new works grows home = record { site = works.site; home 
 
 -- ---- faults of volumes
 
-pub rises_before : (run : Run) (began mid new : PlantState) → NoneFell mid new → RisesCover run began new → RisesCover run began mid
+pub rises_before : (run : ScriptRun) (began mid new : PlantState) → NoneFell mid new → RisesCover run began new → RisesCover run began mid
 rises_before run began mid new fell rises d =
     let both = rises d in
     let later = fell.devices (Volume d) in

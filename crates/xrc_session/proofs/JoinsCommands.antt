@@ -22,12 +22,12 @@ use Rattle.turn_group.specs.Notes.{known_of, volumes_known}
 use Rattle.site_store.specs.IdleSites.{IsSiteIdle}
 use Rattle.site_store.specs.Changing.{IsBehindChange, LogsChange, changed_items}
 use Rattle.site_store.specs.Commands.{behind_command}
-use Rattle.site_store.specs.Records.{behind_way}
+use Rattle.site_store.specs.Records.{behind_placement}
 use Rattle.site_store.specs.Sites.{SiteState}
 use Rattle.site_store.proofs.Between.{changed_idle}
-use Rattle.site_store.proofs.ByWays.{RecordWay, by_ways}
+use Rattle.site_store.proofs.ByPlacements.{RecordPlacement, by_placements}
 use Rattle.mover.proofs.Pairs.{contains_of, pairs_of, same_pairs}
-use Rattle.xrc_session.specs.Taking.{IfAdds, KeepsForRows, after_calls, calls_of_change}
+use Rattle.xrc_session.specs.Taking.{IfAdds, IsSoundForRows, after_calls, calls_of_change}
 use Rattle.xrc_session.proofs.Walking.{found_in}
 use Rattle.mover.specs.declared.lane.Lane.{Lane}
 use Rattle.mover.specs.Rounds.{AreLanesOf}
@@ -48,11 +48,11 @@ hit_pairs : (level : Level) (time : ℕ) (hit : List ℕ) (rows : List PairRow) 
 hit_pairs level time [] rows = refl
 hit_pairs level time (d ∷ hit) rows = same_pairs level (record { time = time; change = Hit (d ∷ hit) } ∷ []) rows
 
-logged_record : (at : ℕ) (change : Change) (way : RecordWay) (site next : SiteState) (old : PlantState) → IsBehindChange at change way site next old → IsLeftByChange at site next
-logged_record at change way site next old behind = subst (λ (t : SiteState). IsLeftByChange at site t) (sym behind.next_is) (record {
-  controls = by_ways (λ (w : RecordWay). (behind_way w site).controls ≡ site.controls) refl refl refl way;
+logged_record : (at : ℕ) (change : Change) (placement : RecordPlacement) (site next : SiteState) (old : PlantState) → IsBehindChange at change placement site next old → IsLeftByChange at site next
+logged_record at change placement site next old behind = subst (λ (t : SiteState). IsLeftByChange at site t) (sym behind.next_is) (record {
+  controls = by_placements (λ (w : RecordPlacement). (behind_placement w site).controls ≡ site.controls) refl refl refl placement;
   time = refl;
-  marked = by_ways (λ (w : RecordWay). site.since ≡ 0 → (behind_way w site).since ≡ 0) (λ e. e) (λ e. e) (λ e. refl) way;
+  marked = by_placements (λ (w : RecordPlacement). site.since ≡ 0 → (behind_placement w site).since ≡ 0) (λ e. e) (λ e. e) (λ e. refl) placement;
   pairs = hit_pairs site.level at (hit_now next.failed site.table.rows) site.table.rows;
 })
 
@@ -63,7 +63,7 @@ logged_change at change site next old was is time logs = choose (changed_items c
     choose [] none = subst (λ (t : SiteState). IsLeftByChange at site t) (sym (logs.nothing none).1) (record { controls = refl; time = time; marked = λ e. e; pairs = refl })
     choose (i ∷ items) some =
         let logged = logs.rows (λ none. let clash : i ∷ items ≡ [] = sym some ∙ none in cc clash) in
-        logged_record at change logged.way site next old logged.behind
+        logged_record at change logged.placement site next old logged.behind
 
 -- ---- rows of lanes
 
@@ -132,8 +132,8 @@ rests_behind tells was is lanes old new names session command change at group en
     idle : IsSiteIdle tells next new
     idle = changed_idle tells changed next old new (λ e. e) at change was is (Ok tt) taken.may taken.leaves taken.logs
 
-    kept : KeepsForRows end next.told
-    kept = subst (KeepsForRows end) (sym idle.same) taken.kept
+    kept : IsSoundForRows end next.told
+    kept = subst (IsSoundForRows end) (sym idle.same) taken.kept
 
     stays : StaysForReaders group (after_calls (calls_of_change change group site.table.rows next.table.rows) group)
     stays = changes_stay change site.table.rows next.table.rows group

@@ -15,7 +15,7 @@ use Rattle.group_state.specs.Groups.{Group, Shown, control_at, cut_of, formed_at
 use Rattle.group_state.specs.Machine.{Call, Reply}
 use Rattle.group_state.specs.Machine.Call.{Join, NextWanted, Copied, Raise, Break, Form, Carry, Drop, Resume, Forget}
 use Rattle.group_state.specs.Runs.{Answer, Runs}
-use Rattle.group_state.specs.SoundStates.{KeepsGroup}
+use Rattle.group_state.specs.SoundStates.{IsGroupSound}
 use Rattle.group_state.specs.Volumes.{passes, volume_of}
 use Rattle.group_state.proofs.Kept.{kept_form}
 use Rattle.record_rows.specs.Deeds.{Deed}
@@ -33,7 +33,7 @@ use Rattle.turn_group.specs.Notes.{known_of, known_volume, volumes_known}
 use Rattle.turn_group.proofs.Known.{HasSizesOf, sizes_at, sizes_in}
 use Rattle.mover.specs.OwedTracks.{IsAny, is_volume_kept}
 use Rattle.mover.proofs.Pairs.{among_of, contains_of, is_of_volume_at, named_by, pair_before, pair_of, pairs_of}
-use Rattle.xrc_session.specs.Taking.{KeepsForRows}
+use Rattle.xrc_session.specs.Taking.{IsSoundForRows}
 use Rattle.mover.specs.Dropping.{is_duplex_state}
 use Rattle.mover.specs.Moves.{KeepsAll, KnowsDuplex, KnowsRows}
 use Rattle.mover.specs.Epochs.{IsSamePair}
@@ -57,19 +57,19 @@ module _ (ended : ℕ) (last : List PairRow) (known : Plans) where
   Made run t r p d = MakesAllDeeds t r p (part_of_mover run) d ended last known
 
   abbrev Stands : Group → Type 0
-  Stands end = KeepsGroup end × Stand end last known
+  Stands end = IsGroupSound end × Stand end last known
 
   -- what is so of calls from each state on
   abbrev Goes : List Answer → Group → Type 0
-  Goes run end = (s : Group) (time : ℕ) (rows : List PairRow) (done : Plans) (deeds : List Deed) → KeepsGroup s → Runs s run end → list_all is_call_of_seat run ≡ true → Stand s rows done → Made run time rows done deeds → Stands end
+  Goes run end = (s : Group) (time : ℕ) (rows : List PairRow) (done : Plans) (deeds : List Deed) → IsGroupSound s → Runs s run end → list_all is_call_of_seat run ≡ true → Stand s rows done → Made run time rows done deeds → Stands end
 
-  read : (call : Call) (reply : Reply) (run : List Answer) (end : Group) → is_call_of_reader call ≡ true → Goes run end → (s : Group) (time : ℕ) (rows : List PairRow) (done : Plans) (deeds : List Deed) → KeepsGroup s → Runs s (answer_of call reply ∷ run) end
+  read : (call : Call) (reply : Reply) (run : List Answer) (end : Group) → is_call_of_reader call ≡ true → Goes run end → (s : Group) (time : ℕ) (rows : List PairRow) (done : Plans) (deeds : List Deed) → IsGroupSound s → Runs s (answer_of call reply ∷ run) end
       → list_all is_call_of_seat run ≡ true → Stand s rows done → Made run time rows done deeds → Stands end
   read call reply run end reads rest s time rows done deeds keeps runs seats stand made =
       let went = went_read s runs.0 call reply reads runs.2 in
       rest runs.0 time rows done deeds (kept_read s runs.0 call reply runs.1 went keeps) runs.3 seats (stands_read s runs.0 call reply rows done went stand) made
 
-  form : (limit : Stamp) (reply : Reply) (run : List Answer) (end : Group) → Goes run end → (s : Group) (time : ℕ) (rows : List PairRow) (done : Plans) (deeds : List Deed) → KeepsGroup s → Runs s (answer_of (Form limit) reply ∷ run) end
+  form : (limit : Stamp) (reply : Reply) (run : List Answer) (end : Group) → Goes run end → (s : Group) (time : ℕ) (rows : List PairRow) (done : Plans) (deeds : List Deed) → IsGroupSound s → Runs s (answer_of (Form limit) reply ∷ run) end
       → list_all is_call_of_seat run ≡ true → Stand s rows done → KeepsCall time rows done (Form limit) reply deeds (Made run) → Stands end
   form limit reply run end rest s time rows done deeds keeps runs seats stand made =
       choose (kept_shown s runs.0 limit reply time rows done deeds (Made run) (form_shown s runs.0 limit reply runs.2) made)
@@ -117,7 +117,7 @@ module _ (ended : ℕ) (last : List PairRow) (known : Plans) where
   goes [] end s time rows done deeds keeps runs seats stand made =
       let same : end ≡ s = runs in
       let quiet = stands_quiet s time done deeds rows last made.0 stand in
-      (subst KeepsGroup (sym same) keeps, subst (λ (g : Group). Stand g last known) (sym same) (subst (λ (p : Plans). Stand s last p) (sym made.2) quiet))
+      (subst IsGroupSound (sym same) keeps, subst (λ (g : Group). Stand g last known) (sym same) (subst (λ (p : Plans). Stand s last p) (sym made.2) quiet))
   goes (a ∷ run) end s time rows done deeds keeps runs seats stand made = one a.call a.reply run end (goes run end) s time rows done deeds keeps runs seats stand made
 
 pub rows_stand : RowsStandBehindLogs
@@ -143,7 +143,7 @@ knows_duplex rows k v has =
     let at = at_of rows has.row has.among in
     any_there (is_duplex_at k v) rows at.0 has.row at.1 (and_from (is_of_volume_at k v has.row) (is_duplex_state has.row.state) (named_by k v has.row has.control has.volume) (ap is_duplex_state has.state))
 
-stands_kept : (s : Group) (rows : List PairRow) → KeepsForRows s rows → Stand s rows (plans_of_rows rows)
+stands_kept : (s : Group) (rows : List PairRow) → IsSoundForRows s rows → Stand s rows (plans_of_rows rows)
 stands_kept s rows kept = record {
   live = λ k v has. let own = kept.each has.row has.among in (subst (λ j. j < length s.controls) has.control own.low, subst (λ j. counts (control_at s j).phase ≡ true) has.control (own.counted has.state));
   duplex = knows_duplex rows;
@@ -182,8 +182,8 @@ kept_still first s k v h =
 
 -- ---- behind an epoch
 
-module _ (group next : Group) (before after : List PairRow) (log : List Answer) (known : Plans) (runs : Runs group log next) (seats : list_all is_call_of_seat log ≡ true) (kept : KeepsForRows group before) (pairs : InPlaces IsSamePair before after) (knows : KnowsRows (volumes_known next) after)
-    (stands : KeepsGroup next × Stand next after known) where
+module _ (group next : Group) (before after : List PairRow) (log : List Answer) (known : Plans) (runs : Runs group log next) (seats : list_all is_call_of_seat log ≡ true) (kept : IsSoundForRows group before) (pairs : InPlaces IsSamePair before after) (knows : KnowsRows (volumes_known next) after)
+    (stands : IsGroupSound next × Stand next after known) where
   sizes : HasSizesOf group next
   sizes = sizes_stay group group log next runs seats refl
 
@@ -195,7 +195,7 @@ module _ (group next : Group) (before after : List PairRow) (log : List Answer) 
       let p = pair_before has.row after before (same_pairs_of before after pairs) (among_of before has.row has.among) in
       record { row = p.row; among = contains_of p.row after p.among; control = ap (λ (r : PairRow). r.control) p.pair ∙ has.control; volume = ap (λ (r : PairRow). r.volume) p.pair ∙ has.volume; state = tt }
 
-  kept_behind : KeepsForRows next after
+  kept_behind : IsSoundForRows next after
   kept_behind = record {
     keeps = stands.0;
     apart = apart;
@@ -214,7 +214,7 @@ epochs_rest tells left faults was is limit group next lanes then site after ran 
   time = reached.time.time;
   lanes_of = reached.lanes;
   begins = reached.begins;
-  kept = subst (λ (end : Group). KeepsForRows end after.told) (sym ran.ended) (kept_behind group ran.end site.told after.told ran.log all.known ran.runs ran.seats kept reached.time.pairs
+  kept = subst (λ (end : Group). IsSoundForRows end after.told) (sym ran.ended) (kept_behind group ran.end site.told after.told ran.log all.known ran.runs ran.seats kept reached.time.pairs
       (subst (λ (end : Group). KnowsRows (volumes_known end) after.told) ran.ended reached.begins.knows.rows)
       (rows_stand group ran.end ran.log site.time after.time site.told after.told (plans_of_rows site.told) all.known (deeds_of ran.steps) kept.keeps ran.runs ran.seats (stands_kept group site.told kept) all.makes));
 }

@@ -20,7 +20,7 @@ use Rattle.fed_logs.specs.Logs.{is_of_size}
 use Rattle.fed_logs.specs.Moves.{HasRowIn}
 use Rattle.mover.specs.OwedTracks.{IsAny}
 use Rattle.mover.proofs.Pairs.{among_of, found_row, named_by}
-use Rattle.xrc_session.specs.Taking.{KeepsForRow, KeepsForRows}
+use Rattle.xrc_session.specs.Taking.{IsSoundForRow, IsSoundForRows}
 use Rattle.xrc_session.proofs.Knowing.{never_both}
 use Rattle.mover.specs.Moves.{IsOfLive, KnowsRows, are_numbers_distinct, is_carried_as, known_at_control, names_number, row_of_volume}
 use Rattle.mover.proofs.SamePairs.{at_of}
@@ -88,7 +88,7 @@ distinct_at (c ∷ controls) (suc k) sound = distinct_at controls k (λ i d low.
 
 -- ---- rows
 
-module _ (s : Group) (rows : List PairRow) (kept : KeepsForRows s rows) where
+module _ (s : Group) (rows : List PairRow) (kept : IsSoundForRows s rows) where
   known_is : (k : ℕ) → known_at_control k (volumes_known s) ≡ map known_volume (control_at s k).volumes
   known_is k = map_at known_of s.controls k (new_control 0 0 0) [] refl
 
@@ -101,7 +101,7 @@ module _ (s : Group) (rows : List PairRow) (kept : KeepsForRows s rows) where
       at : row_of_volume k u.number rows ≡ Some has.row
       at = found_row k u.number has.row rows kept.apart (among_of rows has.row has.among) (named_by k u.number has.row has.control has.volume)
 
-      own : KeepsForRow s has.row
+      own : IsSoundForRow s has.row
       own = kept.each has.row has.among
 
       here : volume_of has.row.volume (control_at s has.row.control).volumes ≡ Some w

@@ -21,7 +21,7 @@ use Rattle.group_state.specs.Controls.{ControlState, begun_volume, counts, dropp
 use Rattle.group_state.specs.Groups.{Group, control_at, with_control}
 use Rattle.group_state.specs.Machine.{group_after}
 use Rattle.group_state.specs.Machine.Call.{Carry, Drop, Forget, Resume}
-use Rattle.group_state.specs.SoundStates.{KeepsGroup, MayCarry, Sound, are_distinct}
+use Rattle.group_state.specs.SoundStates.{IsGroupSound, MayCarry, Sound, are_distinct}
 use Rattle.group_state.proofs.SoundLaws.{length_dropped}
 use Rattle.group_state.proofs.VolumeLaws.{has_none}
 use Rattle.consistency.specs.Stages.{tracks_of_row}
@@ -34,7 +34,7 @@ use Rattle.mover.proofs.Pairs.{Among, Apart, among_of, apart_among, apart_still}
 use Rattle.mover.proofs.Pairs.Among.{Here, Later}
 use Rattle.xrc_session.specs.EpochPauses.{Between, StandsBetween}
 use Rattle.xrc_session.specs.CarriedLaws.{StandingRowsAreKept}
-use Rattle.xrc_session.specs.Taking.{KeepsForRow, KeepsForRows}
+use Rattle.xrc_session.specs.Taking.{IsSoundForRow, IsSoundForRows}
 use Rattle.xrc_session.proofs.Calls.{KeepsOther, begin_itself, begin_other, drop_itself, drop_other, forget_itself, forget_other, kept_other, keeps_begin, keeps_drop, keeps_forget, keeps_resume, other_at, own_is, plan_other, resume_itself, resume_other}
 use Rattle.xrc_session.proofs.Knowing.{base, is_duplex, never_both, passes_map}
 use Rattle.xrc_session.proofs.CarriedRows.{IsOther, OthersSame, added_others, added_own, added_there, among_last, not_itself, stated_others, stated_own, stated_pairs, stated_there, without_others, without_own}
@@ -63,14 +63,14 @@ never_suspended state suspends is = true≢false (sym suspends ∙ ap is_suspend
 -- ---- rows of other volumes
 
 module _ (s : Group) (k v : ℕ) (change : ControlState → ControlState) (rows next : List PairRow) (others : OthersSame k v rows next)
-    (change_other : (u : ℕ) → nat_eq v u ≡ false → KeepsOther u (control_at s k) (change (control_at s k))) (phase : (c : ControlState) → (let d : ControlState = change c in d.phase) ≡ c.phase) (kept : KeepsForRows s rows) where
+    (change_other : (u : ℕ) → nat_eq v u ≡ false → KeepsOther u (control_at s k) (change (control_at s k))) (phase : (c : ControlState) → (let d : ControlState = change c in d.phase) ≡ c.phase) (kept : IsSoundForRows s rows) where
   abbrev end : Group
   end = with_control k change s
 
   counted : (j : ℕ) → j < length s.controls → counts (control_at s j).phase ≡ true → counts (control_at end j).phase ≡ true
   counted j low is = at_with s k j change (λ (c : ControlState). counts c.phase ≡ true) low (λ same. ap counts (phase (control_at s j)) ∙ is) (λ apart. is)
 
-  other_row : (r : PairRow) → IsOther k v r.control r.volume → KeepsForRow s r → KeepsForRow end r
+  other_row : (r : PairRow) → IsOther k v r.control r.volume → IsSoundForRow s r → IsSoundForRow end r
   other_row r apart h =
       let o = other_at s k v r.control r.volume change change_other apart h.low in
       record {
@@ -84,7 +84,7 @@ module _ (s : Group) (k v : ℕ) (change : ControlState → ControlState) (rows 
         done = λ is. plan_other r.volume (control_at s r.control) (control_at end r.control) o (h.done is);
       }
 
-  each_row : ((has : HasRowIn IsAny k v next) → KeepsForRow end has.row) → (r : PairRow) → Contains next r → KeepsForRow end r
+  each_row : ((has : HasRowIn IsAny k v next) → IsSoundForRow end has.row) → (r : PairRow) → Contains next r → IsSoundForRow end r
   each_row own r among = elim (cases_Bool (nat_eq k r.control && nat_eq v r.volume)) [
     | inl same ↦
         let p = and_parts (nat_eq k r.control) (nat_eq v r.volume) same in
@@ -102,7 +102,7 @@ module _ (s : Group) (k v : ℕ) (change : ControlState → ControlState) (rows 
       let low : j < length s.controls = omega (arith, within, same_count s k change) in
       others.forth j w apart (kept.rowed j w (sym (kept_other w (control_at s j) (control_at end j) (other_at s k v j w change change_other apart low)) ∙ there)))
 
-  pub kept_behind : k < length s.controls → none_clash next ≡ true → KeepsGroup end → ((has : HasRowIn IsAny k v next) → KeepsForRow end has.row) → (is_volume_kept v (change (control_at s k)) ≡ true → HasRowIn IsAny k v next) → KeepsForRows end next
+  pub kept_behind : k < length s.controls → none_clash next ≡ true → IsGroupSound end → ((has : HasRowIn IsAny k v next) → IsSoundForRow end has.row) → (is_volume_kept v (change (control_at s k)) ≡ true → HasRowIn IsAny k v next) → IsSoundForRows end next
   kept_behind low apart keeps own rowed = record { keeps = keeps; apart = apart; each = each_row own; rowed = rowed_behind low rowed }
 
   pub counted_still : k < length s.controls → counts (control_at s k).phase ≡ true → counts (control_at end k).phase ≡ true
@@ -110,14 +110,14 @@ module _ (s : Group) (k v : ℕ) (change : ControlState → ControlState) (rows 
 
 -- ---- a row among those for which the state keeps volumes
 
-module _ (s : Group) (rows : List PairRow) (r : PairRow) (kept : KeepsForRows s rows) (among : Contains rows r) where
+module _ (s : Group) (rows : List PairRow) (r : PairRow) (kept : IsSoundForRows s rows) (among : Contains rows r) where
   abbrev c : ControlState
   c = control_at s r.control
 
   there : Among r rows
   there = among_of rows r among
 
-  own : KeepsForRow s r
+  own : IsSoundForRow s r
   own = kept.each r among
 
   distinct : are_distinct c.volumes ≡ true
@@ -130,16 +130,16 @@ module _ (s : Group) (rows : List PairRow) (r : PairRow) (kept : KeepsForRows s 
   end_resumed = with_control r.control (resumed r.volume) s
 
   -- The row is suspended, and its volume dropped.
-  pub kept_dropped_row : (state : PairState) (all : Bool) → is_suspended state ≡ true → KeepsForRows (group_after s (Drop r.control r.volume all)) (with_state r.device state rows)
+  pub kept_dropped_row : (state : PairState) (all : Bool) → is_suspended state ≡ true → IsSoundForRows (group_after s (Drop r.control r.volume all)) (with_state r.device state rows)
   kept_dropped_row state all suspends =
       kept_behind s r.control r.volume (dropped r.volume all) rows (with_state r.device state rows) (stated_others r state rows kept.apart there) (λ u apart. drop_other r.volume u all c apart) (λ d. refl) kept own.low
       (apart_still rows (with_state r.device state rows) (stated_pairs r state rows kept.apart there) kept.apart) (keeps_drop s r.control r.volume all own.low kept.keeps)
-      (λ has. subst (KeepsForRow (end_dropped all)) (sym (stated_own r state rows kept.apart there IsAny has)) itself) (λ is. stated_there r state rows kept.apart there)
+      (λ has. subst (IsSoundForRow (end_dropped all)) (sym (stated_own r state rows kept.apart there IsAny has)) itself) (λ is. stated_there r state rows kept.apart there)
     where
       found : volume_of r.volume (control_at (end_dropped all) r.control).volumes ≡ option_map (dropped_volume all (entry_tracks r.volume c.queue.waiting)) (volume_of r.volume c.volumes)
       found = ap (λ (d : ControlState). volume_of r.volume d.volumes) (own_is s r.control (dropped r.volume all) own.low) ∙ drop_itself r.volume all c
 
-      itself : KeepsForRow (end_dropped all) (in_state state r)
+      itself : IsSoundForRow (end_dropped all) (in_state state r)
       itself = record {
         low = (let low = own.low in omega (arith, low, same_count s r.control (dropped r.volume all)));
         own = record {
@@ -154,16 +154,16 @@ module _ (s : Group) (rows : List PairRow) (r : PairRow) (kept : KeepsForRows s 
       }
 
   -- The row is pending again, and its volume is carried again.
-  pub kept_resumed_row : is_suspended r.state ≡ true → counts c.phase ≡ true → KeepsForRows (group_after s (Resume r.control r.volume)) (with_state r.device Pending rows)
+  pub kept_resumed_row : is_suspended r.state ≡ true → counts c.phase ≡ true → IsSoundForRows (group_after s (Resume r.control r.volume)) (with_state r.device Pending rows)
   kept_resumed_row suspended counted =
       kept_behind s r.control r.volume (resumed r.volume) rows (with_state r.device Pending rows) (stated_others r Pending rows kept.apart there) (λ u apart. resume_other r.volume u c apart) (λ d. refl) kept own.low
       (apart_still rows (with_state r.device Pending rows) (stated_pairs r Pending rows kept.apart there) kept.apart) (keeps_resume s r.control r.volume own.low (own.own.dropped suspended) kept.keeps)
-      (λ has. subst (KeepsForRow end_resumed) (sym (stated_own r Pending rows kept.apart there IsAny has)) itself) (λ is. stated_there r Pending rows kept.apart there)
+      (λ has. subst (IsSoundForRow end_resumed) (sym (stated_own r Pending rows kept.apart there IsAny has)) itself) (λ is. stated_there r Pending rows kept.apart there)
     where
       found : volume_of r.volume (control_at end_resumed r.control).volumes ≡ option_map resumed_volume (volume_of r.volume c.volumes)
       found = ap (λ (d : ControlState). volume_of r.volume d.volumes) (own_is s r.control (resumed r.volume) own.low) ∙ resume_itself r.volume c
 
-      itself : KeepsForRow end_resumed (in_state Pending r)
+      itself : IsSoundForRow end_resumed (in_state Pending r)
       itself = record {
         low = (let low = own.low in omega (arith, low, same_count s r.control (resumed r.volume)));
         own = record {
@@ -177,7 +177,7 @@ module _ (s : Group) (rows : List PairRow) (r : PairRow) (kept : KeepsForRows s 
       }
 
   -- The row is taken out, and its volume, which is dropped, is forgotten.
-  pub kept_forgotten_row : is_suspended r.state ≡ true → KeepsForRows (group_after s (Forget r.control r.volume)) (without_row r.device rows)
+  pub kept_forgotten_row : is_suspended r.state ≡ true → IsSoundForRows (group_after s (Forget r.control r.volume)) (without_row r.device rows)
   kept_forgotten_row suspended =
       kept_behind s r.control r.volume (forgotten r.volume) rows (without_row r.device rows) (without_others r rows kept.apart there) (λ u apart. forget_other r.volume u c distinct apart) (λ d. refl) kept own.low
       (apart-filter (λ t. not (is_of r.device t)) rows kept.apart) (keeps_forget s r.control r.volume own.low (own.own.dropped suspended) kept.keeps)
@@ -195,7 +195,7 @@ added_never r rows apart has =
     not_itself has.row.control has.row.volume r.control r.volume (apart_last r has.row rows apart (among_of rows has.row has.among)).volume has.control has.volume
 
 -- No volume is kept of a control and a number that no row has.
-unknown_of : (s : Group) (rows : List PairRow) (r : PairRow) → KeepsForRows s rows → none_clash (rows ++ r ∷ []) ≡ true → has_volume r.volume (control_at s r.control).volumes ≡ false
+unknown_of : (s : Group) (rows : List PairRow) (r : PairRow) → IsSoundForRows s rows → none_clash (rows ++ r ∷ []) ≡ true → has_volume r.volume (control_at s r.control).volumes ≡ false
 unknown_of s rows r kept apart = choose (volume_of r.volume (control_at s r.control).volumes) refl
   where
     choose : (o : Option Volume) → volume_of r.volume (control_at s r.control).volumes ≡ o → has_volume r.volume (control_at s r.control).volumes ≡ false
@@ -203,7 +203,7 @@ unknown_of s rows r kept apart = choose (volume_of r.volume (control_at s r.cont
     choose (Some u) is = absurd (added_never r rows apart (kept.rowed r.control r.volume (ap (passes is_there) is)))
 
 -- An added row is pending, and all tracks of its volume are wanted.
-module _ (s : Group) (rows : List PairRow) (r : PairRow) (kept : KeepsForRows s rows) (low : r.control < length s.controls) (counted : counts (control_at s r.control).phase ≡ true) (pending : r.state ≡ Pending)
+module _ (s : Group) (rows : List PairRow) (r : PairRow) (kept : IsSoundForRows s rows) (low : r.control < length s.controls) (counted : counts (control_at s r.control).phase ≡ true) (pending : r.state ≡ Pending)
     (apart : none_clash (rows ++ r ∷ []) ≡ true) where
   abbrev plan : PlanState
   plan = fresh_plan (every_track (tracks_of_row r))
@@ -217,7 +217,7 @@ module _ (s : Group) (rows : List PairRow) (r : PairRow) (kept : KeepsForRows s 
   found : volume_of r.volume (control_at end_there r.control).volumes ≡ Some (begun r.volume plan)
   found = ap (λ (d : ControlState). volume_of r.volume d.volumes) (own_is s r.control (begun_volume r.volume plan) low) ∙ begin_itself r.volume plan (control_at s r.control) may_carry_row.unknown
 
-  itself : KeepsForRow end_there r
+  itself : IsSoundForRow end_there r
   itself = record {
     low = omega (arith, low, same_count s r.control (begun_volume r.volume plan));
     own = record {
@@ -231,15 +231,15 @@ module _ (s : Group) (rows : List PairRow) (r : PairRow) (kept : KeepsForRows s 
     done = λ is. absurd (true≢false (sym (ap is_duplex is) ∙ ap is_duplex pending));
   }
 
-  pub kept_added_row : KeepsForRows (group_after s (Carry r.control r.volume plan)) (rows ++ r ∷ [])
+  pub kept_added_row : IsSoundForRows (group_after s (Carry r.control r.volume plan)) (rows ++ r ∷ [])
   kept_added_row =
       kept_behind s r.control r.volume (begun_volume r.volume plan) rows (rows ++ r ∷ []) (added_others r rows apart) (λ u other. begin_other r.volume u plan (control_at s r.control) may_carry_row.unknown other) (λ d. refl) kept low
       apart (keeps_begin s r.control r.volume plan low may_carry_row kept.keeps)
-      (λ has. subst (KeepsForRow end_there) (sym (added_own r rows apart IsAny has)) itself) (λ is. added_there r rows apart)
+      (λ has. subst (IsSoundForRow end_there) (sym (added_own r rows apart IsAny has)) itself) (λ is. added_there r rows apart)
 
 -- ---- a state that stands
 
--- Where the state stands for rows, it keeps what it does for them.
+-- Where the state stands for rows, it is sound for them.
 pub standing_rows_are_kept : (start : PlantState) → StandingRowsAreKept start
 standing_rows_are_kept start b st = record {
   keeps = st.keeps;

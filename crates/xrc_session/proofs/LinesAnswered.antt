@@ -20,7 +20,7 @@ use Rattle.site_store.specs.Sites.{SiteState}
 use Rattle.group_state.specs.Groups.{Group}
 use Rattle.consistency.specs.Answering.{answered_by, reply_content, points_before}
 use Rattle.consistency.specs.Bearing.{MayBeMeant, ShowsPoint}
-use Rattle.consistency.specs.Stages.{Run, Stage, accepts, accepts_end, breaks_of, names_of}
+use Rattle.consistency.specs.Stages.{ScriptRun, Stage, accepts, accepts_end, breaks_of, names_of}
 use Rattle.consistency.specs.Pauses.{AreToldOf, HasPassed, MayReply, asked_in}
 use Rattle.consistency.specs.Courses.{Answered, IsAnswered, stage_after, stage_at}
 use Rattle.consistency.specs.Leads.{Comes, Point}
@@ -56,7 +56,7 @@ use Rattle.xrc_session.proofs.Trails.{asked_then, first_then, forth_answered, ne
 -- ---- an ended session
 
 -- It accepts no end.
-never_ended : (run : Run) (p : Point) (o : Option Line) → p.is_ended ≡ true → accepts_end run (table_at run p) o ≡ true → ⊥
+never_ended : (run : ScriptRun) (p : Point) (o : Option Line) → p.is_ended ≡ true → accepts_end run (table_at run p) o ≡ true → ⊥
 never_ended run p o ended accepted = never o (subst (λ (e : Bool). accepts_end run (table_at run (record p { is_ended = e })) o ≡ true) ended accepted)
   where
     never : (o : Option Line) → accepts_end run (table_at run (record p { is_ended = true })) o ≡ true → ⊥
@@ -68,11 +68,11 @@ never_ended run p o ended accepted = never o (subst (λ (e : Bool). accepts_end 
         by_end false e = cc
 
 -- It stays ended.
-ended_stays : (run : Run) (table : Table) (line : Line) → table.is_ended ≡ true → (commanded (breaks_of run) (names_of run) table line).is_ended ≡ true
+ended_stays : (run : ScriptRun) (table : Table) (line : Line) → table.is_ended ≡ true → (commanded (breaks_of run) (names_of run) table line).is_ended ≡ true
 ended_stays run table line ended = subst (λ (e : Bool). (commanded (breaks_of run) (names_of run) (record table { is_ended = e }) line).is_ended ≡ true) (sym ended) refl
 
 -- Its lines change nothing.
-ended_command : (run : Run) (asked : LinesAsked) (number : ℕ) (hits : List Timed) (l : Leg) (more : List PassedPoint) → l.point.is_ended ≡ true → AreOfCommand number hits more → AreLinked (ComesNext run asked) leg_after l more → hits ≡ []
+ended_command : (run : ScriptRun) (asked : LinesAsked) (number : ℕ) (hits : List Timed) (l : Leg) (more : List PassedPoint) → l.point.is_ended ≡ true → AreOfCommand number hits more → AreLinked (ComesNext run asked) leg_after l more → hits ≡ []
 ended_command run asked number hits l more ended (OfCommand n is) linked = ((subst (λ (w : Way). ComesBy run asked l n.point w) is linked.0.0).2.ended ended).1
 ended_command run asked number hits l more ended (OfEnd n m own behind is ends all) linked =
     let come = subst (λ (w : Way). ComesBy run asked l n.point w) is linked.0.0 in
@@ -89,7 +89,7 @@ ended_command run asked number hits l more ended (BehindMark n points (inr marke
 -- ---- a leg that has just begun
 
 -- It stands at the point of its stage.
-begun_at : (run : Run) (s : Stage) (before l : Leg) → IsLegOf run s l → HasJustBegun before l → l.point ≡ stage_point s
+begun_at : (run : ScriptRun) (s : Stage) (before l : Leg) → IsLegOf run s l → HasJustBegun before l → l.point ≡ stage_point s
 begun_at run s before l leg begun =
     let there : Comes run.level (breaks_of run) NoneDue s.replied l.point.time s.table.rows [] l.point.due = subst (λ (c : List Timed). Comes run.level (breaks_of run) NoneDue s.replied l.point.time s.table.rows c l.point.due) begun.changes leg.whole.leads.may_come in
     let time : l.point.time ≡ s.replied = sym begun.replied ∙ leg.replied in
@@ -99,7 +99,7 @@ begun_at run s before l leg begun =
 -- ---- behind the command
 
 -- What a session has that stands behind the command of a line.
-pub record IsBehindCommand {S : Type 0} (run : Run) (s : SessionState) (lanes : List (Lane S)) (site : SiteState) (now : PlantState) : Type 0 where
+pub record IsBehindCommand {S : Type 0} (run : ScriptRun) (s : SessionState) (lanes : List (Lane S)) (site : SiteState) (now : PlantState) : Type 0 where
   pub its : IsRunOfSession s run
   pub site_is : s.site ≡ Some site
   pub table : s.table ≡ site.table
@@ -112,12 +112,12 @@ pub record IsBehindCommand {S : Type 0} (run : Run) (s : SessionState) (lanes : 
   pub applied : site.table.is_ended ≡ true → IsAllApplied now now.clock
 
 -- What a line finds at a leg: it is at the point of the stage, where the session has ended.
-pub record IsAtLeg (run : Run) (lines : List Answered) (stage : Stage) (l : Leg) : Type 0 where
+pub record IsAtLeg (run : ScriptRun) (lines : List Answered) (stage : Stage) (l : Leg) : Type 0 where
   pub leg : IsLegOf run stage l
   pub answered : l.answered ≡ length lines
   pub ended : stage.table.is_ended ≡ true → (l.point ≡ stage_point stage) × (l.changes ≡ [])
 
-module _ {S : Type 0} (run : Run) (lines : List Answered) (trail : Trail) (more : List PassedPoint) (text : List ℕ) (line : Line) (began mid new : PlantState) (heard : (stage_behind run lines text began).next ≡ Some line)
+module _ {S : Type 0} (run : ScriptRun) (lines : List Answered) (trail : Trail) (more : List PassedPoint) (text : List ℕ) (line : Line) (began mid new : PlantState) (heard : (stage_behind run lines text began).next ≡ Some line)
     (before : IsWithin run lines trail text (Some line) began mid) (at_leg : IsAtLeg run lines (stage_behind run lines text began) (last_leg run lines trail)) (behind : IsWithin run lines (with_points more trail) text (Some line) began new)
     (passes : PassesPointsOn run (stage_behind run lines text began) (asked_with lines (Some line)) (last_leg run lines trail) more None mid new) (answered : LineAnswer) (s : SessionState) (lanes : List (Lane S)) (site : SiteState)
     (stands : IsBehindCommand run s lanes site new)

@@ -20,7 +20,7 @@ use Rattle.pair_table.specs.Refusals.{refusal}
 use Rattle.pair_table.specs.Tables.{Table, new_table}
 use Rattle.site_store.specs.Records.{VolumesStay}
 use Rattle.site_store.specs.Sites.{SiteState}
-use Rattle.consistency.specs.Stages.{Run, Stage}
+use Rattle.consistency.specs.Stages.{ScriptRun, Stage}
 use Rattle.consistency.specs.Courses.{Answered}
 use Rattle.mover.specs.declared.lane.Lane.{Lane}
 use Rattle.mover.specs.Epochs.{LanesBrokeAs}
@@ -159,7 +159,7 @@ module _ {S : Type 0} (tells : Type 0) (left : S → Option (List ℕ)) (s : Ses
                 (λ c left. means_same s.session level line.time.0 began old heard.answered.goes.now.site c (mean c left))))
 
         pub start_does : tells → line.time.0 < 2 ^ 64 → (began : PlantState) → IsBetween tells next after new → IsStartedAt level line.time.0 s next → ((d : ℕ) → old.faults (Volume d) ≤ new.faults (Volume d))
-            → ((run : Run) → IsRunOver left run next lanes after began new → AreCountsFrom began old → StandsStartedAt run next after new) → (let r : Result LineAnswer Stop = Ok answered in DoesLine left line s next lanes after began old new r)
+            → ((run : ScriptRun) → IsRunOver left run next lanes after began new → AreCountsFrom began old → StandsStartedAt run next after new) → (let r : Result LineAnswer Stop = Ok answered in DoesLine left line s next lanes after began old new r)
         start_does told short began between_now started later stands run lines trail text over heard =
             let over_next = subst (λ (x : SessionState). IsRunOver left run x lanes after began new) (known_unstarted s next unstarted) over in
             let none = not_begun run lines trail text line s lanes began old heard unstarted fresh in

@@ -15,7 +15,7 @@ use Rattle.site_means.specs.Sight.{meant_by}
 use Rattle.site_store.specs.Sites.{SiteState, meant_for}
 use Rattle.site_store.proofs.MarkFits.{lengths_still}
 use Rattle.group_state.specs.Groups.{Group, new_group}
-use Rattle.consistency.specs.Stages.{Run, breaks_of, names_of}
+use Rattle.consistency.specs.Stages.{ScriptRun, breaks_of, names_of}
 use Rattle.consistency.specs.Steps.{names_at}
 use Rattle.mover.specs.declared.lane.Lane.{Lane}
 use Rattle.mover.specs.Epochs.{AreSameLanes, LanesBrokeAs}
@@ -121,7 +121,7 @@ module _ {S : Type 0} (tells : Type 0) (s : SessionState) (lanes : List (Lane S)
 
     -- ---- in a run
 
-    module _ (left : S → Option (List ℕ)) (later : 1 ≤ at) (broke : BreakOnAsTraces left at lanes lanes_now) (began : PlantState) (run : Run) (over : IsRunOver left run now lanes lanes_now began new) (counts : AreCountsFrom began old)
+    module _ (left : S → Option (List ℕ)) (later : 1 ≤ at) (broke : BreakOnAsTraces left at lanes lanes_now) (began : PlantState) (run : ScriptRun) (over : IsRunOver left run now lanes lanes_now began new) (counts : AreCountsFrom began old)
         (runs : StartsRuns left s.session level lanes lanes_now group began old new site) where
       unbroken : LanesBrokeAs 0 run.traces lanes
       unbroken = unbroken_at_start s lanes run.traces unstarted_is (as_many lanes run.traces over.heads)
@@ -176,7 +176,7 @@ module _ {S : Type 0} (tells : Type 0) (s : SessionState) (lanes : List (Lane S)
     pub begun_is_started_at : IsStartedAt level at s (with_site names group site s)
     begun_is_started_at = record { same = record { session = refl; controls = refl }; table = started.table; started = (started.level_is, started.time) }
 
-    pub begun_stands : (left : S → Option (List ℕ)) → 1 ≤ at → BreakOnAsTraces left at lanes lanes_now → (began : PlantState) (run : Run) → IsRunOver left run (with_site names group site s) lanes lanes_now began new → AreCountsFrom began old
+    pub begun_stands : (left : S → Option (List ℕ)) → 1 ≤ at → BreakOnAsTraces left at lanes lanes_now → (began : PlantState) (run : ScriptRun) → IsRunOver left run (with_site names group site s) lanes lanes_now began new → AreCountsFrom began old
         → StartsRuns left s.session level lanes lanes_now group began old new site → StandsStartedAt run (with_site names group site s) lanes_now new
     begun_stands left later broke began run over counts runs =
         subst (λ (x : SessionState). StandsStartedAt run (with_site names group site x) lanes_now new) (sym begun.is)
@@ -205,7 +205,7 @@ started_means tells told name level at site names old new same may table level_i
 -- ---- in the run's line
 
 -- A session that has just started stands so in a run.
-pub just_started : {S : Type 0} (tells : Type 0) (run : Run) (s next : SessionState) (lanes : List (Lane S)) (level : Level) (at : ℕ) (began new : PlantState) → IsBetween tells next lanes new → IsStartedAt level at s next → IsRunOfSession next run → StandsStartedAt run next lanes new
+pub just_started : {S : Type 0} (tells : Type 0) (run : ScriptRun) (s next : SessionState) (lanes : List (Lane S)) (level : Level) (at : ℕ) (began new : PlantState) → IsBetween tells next lanes new → IsStartedAt level at s next → IsRunOfSession next run → StandsStartedAt run next lanes new
     → ((d : ℕ) → began.faults (Volume d) ≤ new.faults (Volume d)) → (site : SiteState) × IsJustStarted run s next lanes site at level began new
 just_started {S} tells run s next lanes level at began new between started its stands faults = by_site next.site refl
   where

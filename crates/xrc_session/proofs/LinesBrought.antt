@@ -33,7 +33,7 @@ use Rattle.xrc_session.specs.Bringing.{IsSiteBrought}
 use Rattle.xrc_session.specs.Joins.{StaysForReaders}
 use Rattle.xrc_session.specs.Lanes.{HaveVolumes, primaries_in, with_lanes_broken}
 use Rattle.xrc_session.specs.States.{SessionState}
-use Rattle.xrc_session.specs.Taking.{KeepsForRows}
+use Rattle.xrc_session.specs.Taking.{IsSoundForRows}
 use Rattle.xrc_session.proofs.JoinsCommands.{added_of_lane}
 use Rattle.xrc_session.proofs.JoinsLanes.{changes_stay, lanes_behind}
 use Rattle.xrc_session.proofs.JoinsRows.{kept_known}
@@ -87,7 +87,7 @@ started_behind names table session c time started = by_refusal (is_none (refusal
 
 -- The shared state behind a line's change.
 module _ {S : Type 0} (tells : Type 0) (lanes : List (Lane S)) (names : Naming) (answered : Result Change Refusal) (before : List PairRow) (group : Group) (site : SiteState) (time : ℕ) (new : PlantState) (named : names.primaries ≡ primaries_in 0 lanes)
-    (may : MayCommandSite tells names new site) (at : site.time ≡ time) (lanes_of : AreLanesOf group time lanes) (cut : HasCut time group) (few : length (volumes_known group) ≤ site.controls) (kept : KeepsForRows (group_taken answered before site.told group) site.told) (marked : site.since ≡ 0) where
+    (may : MayCommandSite tells names new site) (at : site.time ≡ time) (lanes_of : AreLanesOf group time lanes) (cut : HasCut time group) (few : length (volumes_known group) ≤ site.controls) (kept : IsSoundForRows (group_taken answered before site.told group) site.told) (marked : site.since ≡ 0) where
   taken_stays : (r : Result Change Refusal) → StaysForReaders group (group_taken r before site.told group)
   taken_stays (Ok change) = changes_stay change before site.told group
   taken_stays (Err why) = record { many = refl; last = refl; floor = λ k low. refl; phase = λ k low. refl }
@@ -223,9 +223,9 @@ module _ {S : Type 0} (tells : Type 0) (s : SessionState) (lanes : List (Lane S)
     }
 
     -- What the command asks of the shared state.
-    pub brought_counts : next.table.is_ended ≡ false → IsSomeAnd group (λ g. KeepsForRows g next.told × ControlsCount names g)
+    pub brought_counts : next.table.is_ended ≡ false → IsSomeAnd group (λ g. IsSoundForRows g next.told × ControlsCount names g)
     brought_counts on =
-        subst (λ (o : Option Group). IsSomeAnd o (λ g. KeepsForRows g next.told × ControlsCount names g)) (sym some.1) (
+        subst (λ (o : Option Group). IsSomeAnd o (λ g. IsSoundForRows g next.told × ControlsCount names g)) (sym some.1) (
           some.2.kept,
           controls_count some.0 next.time lanes_now s.names names some.2.lanes_of (volumes_stay lanes lanes_now lanes_same between.headed) (between.named ∙ sym (primaries_stay lanes lanes_now lanes_same)) between.apart names_are,
         )
@@ -233,7 +233,7 @@ module _ {S : Type 0} (tells : Type 0) (s : SessionState) (lanes : List (Lane S)
 -- ---- behind the command
 
 module _ {S : Type 0} (tells : Type 0) (s : SessionState) (lanes : List (Lane S)) (names : Naming) (group : Option Group) (site : SiteState) (line : Line) (mid new : PlantState) (at : IsAtLine tells s lanes names group site line.time.0 mid) (names_now : Naming) (names_are : names_now ≡ names)
-    (group_now : Option Group) (next : SiteState) (answered : Result Change Refusal) (behind : IsSiteAnswered tells names line answered site next new) (kept : next.table.is_ended ≡ false → IsSomeAnd group_now (λ g. KeepsForRows g next.told))
+    (group_now : Option Group) (next : SiteState) (answered : Result Change Refusal) (behind : IsSiteAnswered tells names line answered site next new) (kept : next.table.is_ended ≡ false → IsSomeAnd group_now (λ g. IsSoundForRows g next.told))
     (taken : next.table.is_ended ≡ false → group_now ≡ option_map (group_taken answered site.told next.told) group) (flag : Bool) (flag_as : flag ≡ (s.is_ended || is_end_accepted answered)) where
   abbrev now : SessionState
   now = record { session = s.session; controls = s.controls; names = names_now; group = group_now; table = next.table; site = Some next; is_ended = flag }
@@ -262,7 +262,7 @@ module _ {S : Type 0} (tells : Type 0) (s : SessionState) (lanes : List (Lane S)
       let time : next.time ≡ line.time.0 = behind.time ∙ at.time_is goes in
       let group_is : group_now ≡ Some (group_taken answered site.told next.told g.0) = taken on ∙ ap (option_map (group_taken answered site.told next.told)) g.1 in
       let cut = subst (λ (o : Option Group). IsSomeAnd o (HasCut line.time.0)) g.1 (at.cut goes) in
-      let kept_now = subst (λ (o : Option Group). IsSomeAnd o (λ x. KeepsForRows x next.told)) group_is (kept on) in
+      let kept_now = subst (λ (o : Option Group). IsSomeAnd o (λ x. IsSoundForRows x next.told)) group_is (kept on) in
       let lanes_of = subst (λ (n : ℕ). AreLanesOf g.0 n lanes) (at.time_is goes) g.2.lanes_of in
       let marked : next.since ≡ 0 = behind.marked g.2.begins.marked in
       let few : length (volumes_known g.0) ≤ next.controls = omega (arith, g.2.begins.knows.controls, behind.controls) in

@@ -12,7 +12,7 @@ use Rattle.pair_table.specs.Tables.{Table}
 use Rattle.group_state.specs.Groups.{Group}
 use Rattle.site_store.specs.Sites.{SiteState}
 use Rattle.consistency.specs.Answering.{is_command_of}
-use Rattle.consistency.specs.Stages.{Run, Stage, breaks_of, names_of}
+use Rattle.consistency.specs.Stages.{ScriptRun, Stage, breaks_of, names_of}
 use Rattle.consistency.specs.Courses.{Answered}
 use Rattle.consistency.specs.Leads.{Point}
 use Rattle.consistency.specs.Steps.{names_at}
@@ -41,7 +41,7 @@ use Rattle.xrc_session.proofs.OfCommands.{just_begun}
 
 -- ---- before the command
 
-module _ {S : Type 0} (tells : Type 0) (run : Run) (lines : List Answered) (trail : Trail) (text : List ℕ) (line : Line) (s : SessionState) (lanes : List (Lane S)) (began old : PlantState) (heard : HasHeard run lines trail text line s lanes began old) (site : SiteState)
+module _ {S : Type 0} (tells : Type 0) (run : ScriptRun) (lines : List Answered) (trail : Trail) (text : List ℕ) (line : Line) (s : SessionState) (lanes : List (Lane S)) (began old : PlantState) (heard : HasHeard run lines trail text line s lanes began old) (site : SiteState)
     (is : s.site ≡ Some site) (at_site : IsAtSite tells s lanes old site) where
   abbrev stage : Stage
   stage = stage_behind run lines text began
@@ -176,7 +176,7 @@ module _ {S : Type 0} (tells : Type 0) (run : Run) (lines : List Answered) (trai
 -- ---- the command
 
 -- How a line ends behind the command of a session that was brought to its time, or that has ended.
-module _ {S : Type 0} (run : Run) (lines : List Answered) (trail : Trail) (text : List ℕ) (line : Line) (began mid new : PlantState) (heard : (stage_behind run lines text began).next ≡ Some line) (within : IsWithin run lines trail text (Some line) began mid)
+module _ {S : Type 0} (run : ScriptRun) (lines : List Answered) (trail : Trail) (text : List ℕ) (line : Line) (began mid new : PlantState) (heard : (stage_behind run lines text began).next ≡ Some line) (within : IsWithin run lines trail text (Some line) began mid)
     (at_leg : IsAtLeg run lines (stage_behind run lines text began) (last_leg run lines trail)) (same : SameSite mid new) (past : Elapses mid new) (silent : Silent mid new) (short : line.time.0 < 2 ^ 64) where
   pub command_ends : (s : SessionState) (lanes : List (Lane S)) (site : SiteState) (result : Result LineAnswer Stop) → (IsErrOf result Spent → IsSpentNow new) → OnOk result (IsBehindCommand run s lanes site new)
       → EndsCommand run (stage_behind run lines text began) line (asked_with lines (Some line)) (last_leg run lines trail) (first_leg run lines trail).point trail.points site s.group began mid new result → EndsDoing run lines text line s lanes began new result
@@ -191,7 +191,7 @@ module _ {S : Type 0} (run : Run) (lines : List Answered) (trail : Trail) (text 
       (with_points more trail, line_to_reply run lines trail more text line began mid new heard within at_leg behind passes answered s lanes site stands done short)
 
 -- What a session is to its run behind the command.
-pub behind_command_is : {S : Type 0} (tells : Type 0) (run : Run) (s : SessionState) (lanes_now : List (Lane S)) (names names_now : Naming) (site next : SiteState) (line : Line) (answered : Result Change Refusal) (new : PlantState) (group : Option Group) (flag : Bool) → IsRunOfSession s run → run.level ≡ site.level → run.labels ≡ names.labels
+pub behind_command_is : {S : Type 0} (tells : Type 0) (run : ScriptRun) (s : SessionState) (lanes_now : List (Lane S)) (names names_now : Naming) (site next : SiteState) (line : Line) (answered : Result Change Refusal) (new : PlantState) (group : Option Group) (flag : Bool) → IsRunOfSession s run → run.level ≡ site.level → run.labels ≡ names.labels
     → names_now ≡ names → site.table.session ≡ s.session → site.table.is_started ≡ true → IsSiteAnswered tells names line answered site next new → (next.table.is_ended ≡ false → names ≡ names_at site.time (breaks_of run) (names_of run)) → LanesBrokeAs site.time run.traces lanes_now
     → tells → (next.table.is_ended ≡ true → next.at ≡ next.mark.at)
     → IsBehindCommand run (record { session = s.session; controls = s.controls; names = names_now; group = group; table = next.table; site = Some next; is_ended = flag }) lanes_now next new

@@ -15,7 +15,7 @@ use Rattle.pair_table.specs.Naming.{Naming}
 use Rattle.pair_table.specs.Tables.{Table}
 use Rattle.group_state.specs.Groups.{Group}
 use Rattle.site_store.specs.Sites.{SiteState}
-use Rattle.consistency.specs.Stages.{Run, Stage, breaks_of, names_of}
+use Rattle.consistency.specs.Stages.{ScriptRun, Stage, breaks_of, names_of}
 use Rattle.consistency.specs.Courses.{Answered}
 use Rattle.consistency.specs.Leads.{Point}
 use Rattle.consistency.specs.Steps.{names_at}
@@ -27,7 +27,7 @@ use Rattle.xrc_command.specs.declared.line.Line.{Line}
 use Rattle.xrc_status.specs.declared.stop.Stop.{Stop}
 use Rattle.xrc_status.specs.declared.stop.Stop.TheVariants.{Spent}
 use Rattle.xrc_session.specs.declared.answering.LineAnswer.{LineAnswer}
-use Rattle.xrc_session.specs.declared.kept.Kept.{Kept}
+use Rattle.xrc_session.specs.declared.kept.SessionParts.{SessionParts}
 use Rattle.xrc_session.specs.Answering.{AnswersCommands, IsSiteAnswered, MayAnswer, group_taken, is_end_accepted}
 use Rattle.xrc_session.specs.LinePauses.{HasCut, IsAtSite, IsBetween, IsReadyForEpoch, IsRunOver, RestsAtSite, RisesCover, stage_behind}
 use Rattle.xrc_session.specs.Bringing.{BreakOnAsTraces, IsSiteBrought, IsWorkOfStore}
@@ -37,7 +37,7 @@ use Rattle.xrc_session.specs.Lines.{IsDoneLine}
 use Rattle.xrc_session.specs.States.{SessionState, session_time, site_time}
 use Rattle.xrc_session.specs.Steps.{BringsOn, DoesLine, EndsBringing, EndsDoing, HasHeard, MayBring}
 use Rattle.xrc_session.specs.Stops.{HasStopCause, IsSpentNow, StopsByCount}
-use Rattle.xrc_session.specs.Taking.{KeepsForRows}
+use Rattle.xrc_session.specs.Taking.{IsSoundForRows}
 use Rattle.xrc_session.specs.Trails.{Trail, asked_with, first_leg, last_leg, with_points}
 use Rattle.xrc_session.proofs.InTurn.{NoneFell, rises_before}
 use Rattle.xrc_session.proofs.LinesAnswered.{IsBehindCommand}
@@ -65,7 +65,7 @@ suspends_as was is rows rows_now old new same same_now suspends =
 
 module _ {S : Type 0} (tells : Type 0) (s : SessionState) (was : SiteState) (is : s.site ≡ Some was) (line : Line) (after : List (Lane S)) (names : Naming) (group : Option Group) (site : SiteState) (mid : PlantState) (at : IsAtLine tells s after names group site line.time.0 mid)
     (same_level : site.level ≡ was.level) (same_labels : names.labels ≡ s.names.labels) (new : PlantState) (names_now : Naming) (names_are : names_now ≡ names) (group_now : Option Group) (next : SiteState) (a : LineAnswer) (behind : IsSiteAnswered tells names line a.answer site next new)
-    (kept : next.table.is_ended ≡ false → IsSomeAnd group_now (λ g. KeepsForRows g next.told)) (taken : next.table.is_ended ≡ false → group_now ≡ option_map (group_taken a.answer site.told next.told) group) (flag : Bool) (flag_as : flag ≡ (s.is_ended || is_end_accepted a.answer)) where
+    (kept : next.table.is_ended ≡ false → IsSomeAnd group_now (λ g. IsSoundForRows g next.told)) (taken : next.table.is_ended ≡ false → group_now ≡ option_map (group_taken a.answer site.told next.told) group) (flag : Bool) (flag_as : flag ≡ (s.is_ended || is_end_accepted a.answer)) where
   abbrev now : SessionState
   now = record { session = s.session; controls = s.controls; names = names_now; group = group_now; table = next.table; site = Some next; is_ended = flag }
 
@@ -81,7 +81,7 @@ module _ {S : Type 0} (tells : Type 0) (s : SessionState) (was : SiteState) (is 
 -- ---- behind the end
 
 module _ {S : Type 0} (tells : Type 0) (told : tells) (left : S → Option (List ℕ)) (s : SessionState) (lanes : List (Lane S)) (old : PlantState) (between : IsBetween tells s lanes old) (site : SiteState) (is : s.site ≡ Some site) (line : Line) (short : line.time.0 < 2 ^ 64) (ended : s.is_ended ≡ true)
-    (new : PlantState) (same : SameSite old new) (past : Elapses old new) (silent : Silent old new) (kept : Kept) (next : SiteState) (result : Result LineAnswer Stop) (names_are : kept.names ≡ s.names) (behind : IfOk result (λ a. IsSiteAnswered tells s.names line a.answer site next new))
+    (new : PlantState) (same : SameSite old new) (past : Elapses old new) (silent : Silent old new) (kept : SessionParts) (next : SiteState) (result : Result LineAnswer Stop) (names_are : kept.names ≡ s.names) (behind : IfOk result (λ a. IsSiteAnswered tells s.names line a.answer site next new))
     (spent : IsErrOf result Spent → IsSpentNow new) where
   abbrev end_now : SessionState
   end_now = record { session = s.session; controls = s.controls; names = kept.names; group = kept.group; table = next.table; site = Some next; is_ended = s.is_ended }
@@ -92,7 +92,7 @@ module _ {S : Type 0} (tells : Type 0) (told : tells) (left : S → Option (List
   site_ended : site.table.is_ended ≡ true
   site_ended = sym stands_at.ended ∙ ended
 
-  pub end_does : (before : Kept) → before.names ≡ s.names → before.group ≡ s.group → (began : PlantState) → AnswersCommands line before kept site next began old new result → DoesLine left line s end_now lanes lanes began old new result
+  pub end_does : (before : SessionParts) → before.names ≡ s.names → before.group ≡ s.group → (began : PlantState) → AnswersCommands line before kept site next began old new result → DoesLine left line s end_now lanes lanes began old new result
   end_does before same_names same_group began answers run lines trail text over heard =
       command_ends run lines trail text line began old new heard.next (within_first run lines trail text line s lanes began old heard site is) (rest_at_leg tells run lines trail text line s lanes began old heard site is stands_at) same past silent short end_now lanes
       next result spent (ok_then (λ a. IsSiteAnswered tells s.names line a.answer site next new) (IsBehindCommand run end_now lanes next new) result of_answer behind)
@@ -118,18 +118,18 @@ module _ {S : Type 0} (tells : Type 0) (told : tells) (left : S → Option (List
 -- ---- in time
 
 module _ {S : Type 0} (tells : Type 0) (told : tells) (left : S → Option (List ℕ)) (s : SessionState) (lanes : List (Lane S)) (old : PlantState) (between : IsBetween tells s lanes old) (site : SiteState) (is : s.site ≡ Some site) (line : Line) (goes : s.is_ended ≡ false)
-    (up : site.time ≤ line.time.0) (after : List (Lane S)) (mid : PlantState) (same : SameSite old mid) (past : Elapses old mid) (silent : Silent old mid) (began : PlantState) (before between_kept : Kept) (same_group : before.group ≡ s.group) (brought : SiteState) where
+    (up : site.time ≤ line.time.0) (after : List (Lane S)) (mid : PlantState) (same : SameSite old mid) (past : Elapses old mid) (silent : Silent old mid) (began : PlantState) (before between_kept : SessionParts) (same_group : before.group ≡ s.group) (brought : SiteState) where
   site_at : IsAtSite tells s lanes old site
   site_at = at_site tells s lanes old between site is
 
   site_goes : site.table.is_ended ≡ false
   site_goes = sym site_at.ended ∙ goes
 
-  abbrev Ends : (run : Run) → List Answered → Trail → (text : List ℕ) → Result (Unit {0}) Stop → Type 0
+  abbrev Ends : (run : ScriptRun) → List Answered → Trail → (text : List ℕ) → Result (Unit {0}) Stop → Type 0
   Ends run lines trail text r =
       EndsBringing run (stage_behind run lines text began) line (asked_with lines (Some line)) (last_leg run lines trail) (first_leg run lines trail).point trail.points brought between_kept.group began old mid r
 
-  bringing : (run : Run) (lines : List Answered) (trail : Trail) (text : List ℕ) → HasHeard run lines trail text line s lanes began old → AllTurnOut left run.traces lanes after → RisesCover run began mid
+  bringing : (run : ScriptRun) (lines : List Answered) (trail : Trail) (text : List ℕ) → HasHeard run lines trail text line s lanes began old → AllTurnOut left run.traces lanes after → RisesCover run began mid
       → (r : Result (Unit {0}) Stop) → BringsOn left line.time.0 lanes after before between_kept site brought began old mid r → Ends run lines trail text r
   bringing run lines trail text heard traces rises r brings =
       brings run (stage_behind run lines text began) line (asked_with lines (Some line)) (last_leg run lines trail) (first_leg run lines trail).point trail.points refl
@@ -148,7 +148,7 @@ module _ {S : Type 0} (tells : Type 0) (told : tells) (left : S → Option (List
   -- It comes to the line's time, and the command is done.
   module _ (short : line.time.0 < 2 ^ 64) (lanes_same : AreSameLanes lanes after) (broke : BreakOnAsTraces left line.time.0 lanes after) (at : IsAtLine tells s after between_kept.names between_kept.group brought line.time.0 mid) (site_is : IsSiteBrought line.time.0 site brought)
       (names_are : between_kept.names ≡ with_lanes_broken 0 after s.names) (labels_are : between_kept.names.labels ≡ s.names.labels) (brings : let r : Result (Unit {0}) Stop = Ok tt in BringsOn left line.time.0 lanes after before between_kept site brought began old mid r)
-      (new : PlantState) (fell : NoneFell mid new) (same_then : SameSite mid new) (past_then : Elapses mid new) (silent_then : Silent mid new) (kept : Kept) (kept_names : kept.names ≡ between_kept.names) (next : SiteState) (flag : Bool) (result : Result LineAnswer Stop)
+      (new : PlantState) (fell : NoneFell mid new) (same_then : SameSite mid new) (past_then : Elapses mid new) (silent_then : Silent mid new) (kept : SessionParts) (kept_names : kept.names ≡ between_kept.names) (next : SiteState) (flag : Bool) (result : Result LineAnswer Stop)
       (behind : IfOk result (λ a. IsSiteAnswered tells between_kept.names line a.answer brought next new)) (spent : IsErrOf result Spent → IsSpentNow new) (answers : AnswersCommands line between_kept kept brought next began mid new result) where
     abbrev then_now : SessionState
     then_now = record { session = s.session; controls = s.controls; names = kept.names; group = kept.group; table = next.table; site = Some next; is_ended = flag }

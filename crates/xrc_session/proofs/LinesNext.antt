@@ -10,7 +10,7 @@ use Rattle.crash_plant.specs.Moments.{PlantState}
 use Rattle.crash_plant.proofs.Steps.{works_on_console_here}
 use Rattle.pair_table.specs.Tables.{new_table}
 use Rattle.site_store.specs.Sites.{SiteState}
-use Rattle.consistency.specs.Stages.{Run}
+use Rattle.consistency.specs.Stages.{ScriptRun}
 use Rattle.consistency.specs.Courses.{Answered, last_line_time, lines_begun}
 use Rattle.consistency.proofs.Between.{runs_begin}
 use Rattle.script_lines.specs.declared.next.Next.TheVariants as next
@@ -49,7 +49,7 @@ module _ {S : Type 0} (tells : Type 0) (left : S → Option (List ℕ)) (faults 
   not_started : IsUnstarted s lanes
   not_started = subst (λ (o : Option SiteState). MatchOption o (IsUnstarted s lanes) (IsAtSite tells s lanes began)) unstarted between.place
 
-  none_answered : (run : Run) → IsRunOver left run s lanes lanes began began → HasAnswered run [] no_trail [] s lanes began began
+  none_answered : (run : ScriptRun) → IsRunOver left run s lanes lanes began began → HasAnswered run [] no_trail [] s lanes began began
   none_answered run over = record {
     goes = runs_begin began run;
     exact = λ n a at. absurd cc;
@@ -133,13 +133,13 @@ module _ {S : Type 0} {tells : Type 0} {left : S → Option (List ℕ)} {faults 
   known_mid told = record { name = h.running.same.session; labels = labels_mid told }
 
   -- A run over what the lanes have read and the volumes failed has answered lines, and heard this.
-  heard_runs : tells → lines_begun text ≤ 1 → (run : Run) → IsRunOver left run s lanes lanes_now began old
+  heard_runs : tells → lines_begun text ≤ 1 → (run : ScriptRun) → IsRunOver left run s lanes lanes_now began old
       → (lines : List Answered) × ((trail : Trail) × HasAnswered run lines trail text s lanes_now began mid) × (number ≡ length lines + 1) × (last_line_time lines (length lines) ≡ before)
   heard_runs told one run over =
       let was = h.running.runs told run over in
       (was.0, (was.1.0, hears_on run was.0 was.1.0 text s lanes_now began old mid tells told h.works (h.hears told) (h.silent told) one (h.keeps told) was.1.1), was.2, was.3)
 
-  over_old : (run : Run) → IsRunOver left run s lanes lanes_now began mid → IsRunOver left run s lanes lanes_now began old
+  over_old : (run : ScriptRun) → IsRunOver left run s lanes lanes_now began mid → IsRunOver left run s lanes lanes_now began old
   over_old run over = record { its = over.its; heads = over.heads; traces = over.traces; rises = rises_before run began old mid fell_heard over.rises }
 
   -- ---- the console fails

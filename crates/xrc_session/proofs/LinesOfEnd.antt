@@ -13,7 +13,7 @@ use Rattle.mover.specs.Moves.{IsOfMover}
 use Rattle.xrc_command.specs.declared.line.Line.{Line}
 use Rattle.xrc_status.specs.declared.stop.Stop.{Stop}
 use Rattle.xrc_session.specs.declared.answering.LineAnswer.{LineAnswer}
-use Rattle.xrc_session.specs.declared.kept.Kept.{Kept}
+use Rattle.xrc_session.specs.declared.kept.SessionParts.{SessionParts}
 use Rattle.xrc_session.specs.Answering.{AnswersCommands, ControlsCount, IsSiteAnswered, group_taken, is_end_accepted}
 use Rattle.xrc_session.specs.LinePauses.{IsAtSite, IsBetween, MayCommandSite}
 use Rattle.xrc_session.specs.Bringing.{IsWorkOfStore}
@@ -21,13 +21,13 @@ use Rattle.xrc_session.specs.Frames.{KeepsPlant, SuspendsByCounts}
 use Rattle.xrc_session.specs.Lines.{IsDoneLine, IsSameSession}
 use Rattle.xrc_session.specs.States.{SessionState, session_time}
 use Rattle.xrc_session.specs.Steps.{DoesLine}
-use Rattle.xrc_session.specs.Taking.{KeepsForRows}
+use Rattle.xrc_session.specs.Taking.{IsSoundForRows}
 use Rattle.xrc_session.proofs.InTurn.{keeps_lent}
 use Rattle.xrc_session.proofs.LinesBrought.{at_site, ended_at_line}
 use Rattle.xrc_session.proofs.LinesInTime.{end_does, in_time_done, suspends_as}
 use Rattle.xrc_session.proofs.LinesPlaces.{session_on}
 
-module _ {S : Type 0} (tells : Type 0) (session : List ℕ) (controls : ℕ) (kept : Kept) (site : SiteState) (ended : Bool) (s : SessionState) (same : session_on session controls kept site ended ≡ s) (lanes : List (Lane S)) (old : PlantState) (between : IsBetween tells s lanes old) (line : Line)
+module _ {S : Type 0} (tells : Type 0) (session : List ℕ) (controls : ℕ) (kept : SessionParts) (site : SiteState) (ended : Bool) (s : SessionState) (same : session_on session controls kept site ended ≡ s) (lanes : List (Lane S)) (old : PlantState) (between : IsBetween tells s lanes old) (line : Line)
     (time : (1 ≤ line.time.0) × (session_time s ≤ line.time.0)) (is_ended : s.is_ended ≡ true) where
   abbrev was : SessionState
   was = session_on session controls kept site ended
@@ -54,14 +54,14 @@ module _ {S : Type 0} (tells : Type 0) (session : List ℕ) (controls : ℕ) (ke
   pub end_at : site.table.is_ended ≡ false → site.time ≡ line.time.0
   end_at goes = absurd (true≢false (sym site_ended ∙ goes))
 
-  pub end_kept : site.table.is_ended ≡ false → IsSomeAnd kept.group (λ group. KeepsForRows group site.told × ControlsCount kept.names group)
+  pub end_kept : site.table.is_ended ≡ false → IsSomeAnd kept.group (λ group. IsSoundForRows group site.told × ControlsCount kept.names group)
   end_kept goes = absurd (true≢false (sym site_ended ∙ goes))
 
   pub end_flag : site.mark.ended ≡ site.table.is_ended
   end_flag = at.flag
 
   -- What it leaves.
-  module _ (new : PlantState) (kept_now : Kept) (next : SiteState) (result : Result LineAnswer Stop) (behind : IfOk result (λ a. IsSiteAnswered tells kept.names line a.answer site next new)) (names_are : kept_now.names ≡ kept.names) (works : IsWorkOfStore tells site next old new result) where
+  module _ (new : PlantState) (kept_now : SessionParts) (next : SiteState) (result : Result LineAnswer Stop) (behind : IfOk result (λ a. IsSiteAnswered tells kept.names line a.answer site next new)) (names_are : kept_now.names ≡ kept.names) (works : IsWorkOfStore tells site next old new result) where
     abbrev now : SessionState
     now = session_on session controls kept_now next ended
 
@@ -81,11 +81,11 @@ module _ {S : Type 0} (tells : Type 0) (session : List ℕ) (controls : ℕ) (ke
         by_result (Ok a) is hits = suspends_as site.told next.told site.table.rows next.table.rows old new at.may.idle.same is.may.idle.same hits
         by_result (Err stop) is hits = tt
 
-    pub end_done : OnOk result (next.table.is_ended ≡ false → IsSomeAnd kept_now.group (λ g. KeepsForRows g next.told)) → IfOk result (λ a. next.table.is_ended ≡ false → kept_now.group ≡ option_map (group_taken a.answer site.told next.told) kept.group)
+    pub end_done : OnOk result (next.table.is_ended ≡ false → IsSomeAnd kept_now.group (λ g. IsSoundForRows g next.told)) → IfOk result (λ a. next.table.is_ended ≡ false → kept_now.group ≡ option_map (group_taken a.answer site.told next.told) kept.group)
         → IfOk result (IsDoneLine tells s now line lanes new)
     end_done keeps_rows taken = subst (λ (x : SessionState). IfOk result (IsDoneLine tells x now line lanes new)) same (by_result result behind keeps_rows taken)
       where
-        by_result : (r : Result LineAnswer Stop) → IfOk r (λ a. IsSiteAnswered tells kept.names line a.answer site next new) → OnOk r (next.table.is_ended ≡ false → IsSomeAnd kept_now.group (λ g. KeepsForRows g next.told))
+        by_result : (r : Result LineAnswer Stop) → IfOk r (λ a. IsSiteAnswered tells kept.names line a.answer site next new) → OnOk r (next.table.is_ended ≡ false → IsSomeAnd kept_now.group (λ g. IsSoundForRows g next.told))
             → IfOk r (λ a. next.table.is_ended ≡ false → kept_now.group ≡ option_map (group_taken a.answer site.told next.told) kept.group) → IfOk r (IsDoneLine tells was now line lanes new)
         by_result (Ok a) is rows took =
             in_time_done tells was site refl line lanes kept.names kept.group site old (ended_at_line tells was lanes old stands site refl line.time.0 up ended_is) refl refl new kept_now.names names_are kept_now.group next a is rows took ended

@@ -17,7 +17,7 @@ use Rattle.mover.specs.Moves.{IsOfMover}
 use Rattle.xrc_command.specs.declared.line.Line.{Line}
 use Rattle.xrc_status.specs.declared.stop.Stop.{Stop}
 use Rattle.xrc_session.specs.declared.answering.LineAnswer.{LineAnswer}
-use Rattle.xrc_session.specs.declared.kept.Kept.{Kept}
+use Rattle.xrc_session.specs.declared.kept.SessionParts.{SessionParts}
 use Rattle.xrc_session.specs.Answering.{AnswersCommands, ControlsCount, IsSiteAnswered, group_taken, is_end_accepted}
 use Rattle.xrc_session.specs.LinePauses.{HasCut, IsAtSite, IsBetween, IsReadyForEpoch, MayCommandSite}
 use Rattle.xrc_session.specs.Bringing.{BreakOnAsTraces, IsSiteBrought, IsWorkOfStore}
@@ -27,14 +27,14 @@ use Rattle.xrc_session.specs.Lines.{IsDoneLine, IsSameSession}
 use Rattle.xrc_session.specs.States.{SessionState, session_time}
 use Rattle.xrc_session.specs.Steps.{BringsOn, DoesLine}
 use Rattle.xrc_session.specs.Stops.{HasStopCause, StopsByCount}
-use Rattle.xrc_session.specs.Taking.{KeepsForRows}
+use Rattle.xrc_session.specs.Taking.{IsSoundForRows}
 use Rattle.xrc_session.proofs.InTurn.{NoneRisen, cause_before, counts_behind, counts_fell, done_raises_none, keeps_lent, keeps_then, none_risen_then, none_stop, suspends_then}
 use Rattle.xrc_session.proofs.LinesBrought.{IsAtLine, at_site, brought_at_line, brought_counts}
 use Rattle.xrc_session.proofs.LinesInTime.{bring_does, in_time_does, in_time_done, suspends_as}
 use Rattle.xrc_session.proofs.LinesPlaces.{cause_of, counts_of, session_on}
 use Rattle.xrc_session.proofs.Readying.{broken_alone}
 
-module _ {S : Type 0} (tells : Type 0) (session : List ℕ) (controls : ℕ) (kept : Kept) (site : SiteState) (ended : Bool) (s : SessionState) (same : session_on session controls kept site ended ≡ s) (lanes : List (Lane S)) (old : PlantState) (between : IsBetween tells s lanes old) (line : Line)
+module _ {S : Type 0} (tells : Type 0) (session : List ℕ) (controls : ℕ) (kept : SessionParts) (site : SiteState) (ended : Bool) (s : SessionState) (same : session_on session controls kept site ended ≡ s) (lanes : List (Lane S)) (old : PlantState) (between : IsBetween tells s lanes old) (line : Line)
     (time : (1 ≤ line.time.0) × (session_time s ≤ line.time.0)) (goes : s.is_ended ≡ false) where
   abbrev was : SessionState
   was = session_on session controls kept site ended
@@ -54,7 +54,7 @@ module _ {S : Type 0} (tells : Type 0) (session : List ℕ) (controls : ℕ) (ke
   site_goes : site.table.is_ended ≡ false
   site_goes = sym at.ended ∙ off
 
-  same_as : (kept_now : Kept) (next : SiteState) (flag : Bool) → IsSameSession s (session_on session controls kept_now next flag)
+  same_as : (kept_now : SessionParts) (next : SiteState) (flag : Bool) → IsSameSession s (session_on session controls kept_now next flag)
   same_as kept_now next flag = subst (λ (x : SessionState). IsSameSession x (session_on session controls kept_now next flag)) same (record { session = refl; controls = refl })
 
   -- What the way to the line's time asks.
@@ -69,7 +69,7 @@ module _ {S : Type 0} (tells : Type 0) (session : List ℕ) (controls : ℕ) (ke
 
   -- ---- a stop on the way
 
-  module _ (mid : PlantState) (kept_mid : Kept) (next : SiteState) (after : List (Lane S)) (stop : Stop) (result : Result LineAnswer Stop) (is : result ≡ Err stop) (works : let r : Result (Unit {0}) Stop = Err stop in IsWorkOfStore tells site next old mid r) where
+  module _ (mid : PlantState) (kept_mid : SessionParts) (next : SiteState) (after : List (Lane S)) (stop : Stop) (result : Result LineAnswer Stop) (is : result ≡ Err stop) (works : let r : Result (Unit {0}) Stop = Err stop in IsWorkOfStore tells site next old mid r) where
     abbrev stopped : SessionState
     stopped = session_on session controls kept_mid next ended
 
@@ -94,7 +94,7 @@ module _ {S : Type 0} (tells : Type 0) (session : List ℕ) (controls : ℕ) (ke
 
   -- ---- at the line's time
 
-  module _ (mid : PlantState) (kept_mid : Kept) (brought : SiteState) (after : List (Lane S)) (works : let r : Result (Unit {0}) Stop = Ok tt in IsWorkOfStore tells site brought old mid r) (ready : IsSomeAnd kept_mid.group (IsReadyForEpoch tells after brought mid))
+  module _ (mid : PlantState) (kept_mid : SessionParts) (brought : SiteState) (after : List (Lane S)) (works : let r : Result (Unit {0}) Stop = Ok tt in IsWorkOfStore tells site brought old mid r) (ready : IsSomeAnd kept_mid.group (IsReadyForEpoch tells after brought mid))
       (cut : IsSomeAnd kept_mid.group (HasCut line.time.0)) (site_is : IsSiteBrought line.time.0 site brought) (names_is : kept_mid.names ≡ with_lanes_broken 0 after kept.names) (lanes_same : AreSameLanes lanes after) where
     at_line : IsAtLine tells was after kept_mid.names kept_mid.group brought line.time.0 mid
     at_line = brought_at_line tells was lanes old stands site refl off line.time.0 after lanes_same kept_mid.names names_is kept_mid.group brought mid works.works.site site_is ready cut
@@ -115,13 +115,13 @@ module _ {S : Type 0} (tells : Type 0) (session : List ℕ) (controls : ℕ) (ke
     pub then_at : brought.table.is_ended ≡ false → brought.time ≡ line.time.0
     then_at = at_line.time_is
 
-    pub then_kept : brought.table.is_ended ≡ false → IsSomeAnd kept_mid.group (λ group. KeepsForRows group brought.told × ControlsCount kept_mid.names group)
+    pub then_kept : brought.table.is_ended ≡ false → IsSomeAnd kept_mid.group (λ group. IsSoundForRows group brought.told × ControlsCount kept_mid.names group)
     then_kept = brought_counts tells was lanes old stands site refl off line.time.0 after lanes_same kept_mid.names names_is kept_mid.group brought mid works.works.site site_is ready cut
 
     pub then_flag : brought.mark.ended ≡ brought.table.is_ended
     then_flag = at_line.flag
 
-    module _ (new : PlantState) (kept_now : Kept) (next : SiteState) (names_are : kept_now.names ≡ kept_mid.names) where
+    module _ (new : PlantState) (kept_now : SessionParts) (next : SiteState) (names_are : kept_now.names ≡ kept_mid.names) where
       -- In each run the line is done.
       line_does : (left : S → Option (List ℕ)) → tells → (began : PlantState) → line.time.0 < 2 ^ 64 → BreakOnAsTraces left line.time.0 lanes after → (let r : Result (Unit {0}) Stop = Ok tt in BringsOn left line.time.0 lanes after kept kept_mid site brought began old mid r) → (flag : Bool) (result : Result LineAnswer Stop)
           → IfOk result (λ a. IsSiteAnswered tells kept_mid.names line a.answer brought next new) → IsWorkOfStore tells brought next mid new result → AnswersCommands line kept_mid kept_now brought next began mid new result → DoesLine left line s (session_on session controls kept_now next flag) lanes after began old new result
@@ -189,7 +189,7 @@ module _ {S : Type 0} (tells : Type 0) (session : List ℕ) (controls : ℕ) (ke
             subst (λ (x : SessionState). SuspendsByCounts x.table.rows now.table.rows old new) same
             (suspends_as site.told next.told site.table.rows next.table.rows old new at.may.idle.same behind.may.idle.same (suspends_then site.told brought.told next.told old mid new none_mid.fell none_then.fell works.hits worked.hits))
 
-        pub done_line : (next.table.is_ended ≡ false → IsSomeAnd kept_now.group (λ g. KeepsForRows g next.told)) → (next.table.is_ended ≡ false → kept_now.group ≡ option_map (group_taken a.answer brought.told next.told) kept_mid.group) → IsDoneLine tells s now line after new a
+        pub done_line : (next.table.is_ended ≡ false → IsSomeAnd kept_now.group (λ g. IsSoundForRows g next.told)) → (next.table.is_ended ≡ false → kept_now.group ≡ option_map (group_taken a.answer brought.told next.told) kept_mid.group) → IsDoneLine tells s now line after new a
         done_line rows taken =
             subst (λ (x : SessionState). IsDoneLine tells x now line after new a) same
             (in_time_done tells was site refl line after kept_mid.names kept_mid.group brought mid at_line site_is.level labels new kept_now.names names_are kept_now.group next a behind rows taken flag

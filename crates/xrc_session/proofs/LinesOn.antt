@@ -9,7 +9,7 @@ use Rattle.crash_plant.specs.Moments.{IsDurable, PlantState, on}
 use Rattle.pair_table.specs.declared.level.Level.{Level}
 use Rattle.pair_table.specs.declared.names.NamedDevice.{NamedDevice}
 use Rattle.site_store.specs.Sites.{SiteState}
-use Rattle.consistency.specs.Stages.{Run}
+use Rattle.consistency.specs.Stages.{ScriptRun}
 use Rattle.consistency.specs.Courses.{Answered, first_line, last_line_time, later_line, most_lines}
 use Rattle.script_lines.specs.declared.next.Next.TheVariants as next
 use Rattle.script_lines.specs.NextLines.{IsNextLine}
@@ -162,7 +162,7 @@ module _ {S : Type 0} {tells : Type 0} {left : S → Option (List ℕ)} {faults 
   line_known told = record { name = name_of_known s.site refl ∙ h.running.same.session; labels = labels_new told s.site refl (known_by s nxt) refl }
 
   -- A run that is known by it is one over what came before the line.
-  its_before : (run : Run) (o : Option SiteState) → s.site ≡ o → IsRunOfSession (known_by s nxt) run → IsRunOfSession s run
+  its_before : (run : ScriptRun) (o : Option SiteState) → s.site ≡ o → IsRunOfSession (known_by s nxt) run → IsRunOfSession s run
   its_before run None none its = record {
     names = its.names;
     session = its.session ∙ name_of_known None none;
@@ -171,10 +171,10 @@ module _ {S : Type 0} {tells : Type 0} {left : S → Option (List ℕ)} {faults 
   }
   its_before run (Some site) some its = subst (λ (x : SessionState). IsRunOfSession x run) (known_started s nxt site some) its
 
-  turned : (run : Run) → AllTurnOut left run.traces lanes after → AllTurnOut left run.traces lanes lanes_now × AllTurnOut left run.traces lanes_now after
+  turned : (run : ScriptRun) → AllTurnOut left run.traces lanes after → AllTurnOut left run.traces lanes lanes_now × AllTurnOut left run.traces lanes_now after
   turned run traces = traces_turn_out left run.traces lanes lanes_now after (went_read left faults lanes lanes_now h.running.went) (between_may_go_on tells s lanes_now old h.running.between) (went_read left faults lanes_now after d.went) traces
 
-  over_first : (run : Run) → IsRunOver left run (known_by s nxt) lanes after began new → IsRunOver left run s lanes lanes_now began old
+  over_first : (run : ScriptRun) → IsRunOver left run (known_by s nxt) lanes after began new → IsRunOver left run s lanes lanes_now began old
   over_first run over = record {
     its = its_before run s.site refl over.its;
     heads = over.heads;
@@ -182,12 +182,12 @@ module _ {S : Type 0} {tells : Type 0} {left : S → Option (List ℕ)} {faults 
     rises = rises_before run began old new fell_line over.rises;
   }
 
-  over_line : (run : Run) → IsRunOver left run (known_by s nxt) lanes after began new → IsRunOver left run (known_by s nxt) lanes_now after began new
+  over_line : (run : ScriptRun) → IsRunOver left run (known_by s nxt) lanes after began new → IsRunOver left run (known_by s nxt) lanes_now after began new
   over_line run over = record { its = over.its; heads = h.running.heads run.traces over.heads; traces = (turned run over.traces).1; rises = over.rises }
 
   -- In such a run the line was answered, or the session stopped in it.
   module _ (told : tells) (result : Result (Unit {0}) Stop) (answers : AnswersLine left line s nxt lanes_now after began mid new result) where
-    line_in_run : (run : Run) → IsRunOver left run (known_by s nxt) lanes after began new
+    line_in_run : (run : ScriptRun) → IsRunOver left run (known_by s nxt) lanes after began new
         → (lines : List Answered) × EndsLine run lines text line nxt after began new result × (number ≡ length lines + 1) × (last_line_time lines (length lines) ≡ before) × AppliesEnds run lines began mid
     line_in_run run over =
         let one = next_one tells number before text mid.script (next.Line line) d.is in
@@ -273,7 +273,7 @@ module _ {S : Type 0} {tells : Type 0} {left : S → Option (List ℕ)} {faults 
         (subst (λ (o : Option Level). MatchOption o (nxt.site ≡ None) (λ l. IsSomeAnd nxt.site (λ site. site.level ≡ l))) (ap (λ (n : List ℕ). level_started n line) h.running.same.session ∙ starts_it) (starts none)))
 
     -- A run over what the session has come to is known by the session before it.
-    known_run : (run : Run) (o : Option SiteState) → s.site ≡ o → IsRunOver left run nxt lanes after began new → IsRunOver left run (known_by s nxt) lanes after began new
+    known_run : (run : ScriptRun) (o : Option SiteState) → s.site ≡ o → IsRunOver left run nxt lanes after began new → IsRunOver left run (known_by s nxt) lanes after began new
     known_run run None none over = subst (λ (x : SessionState). IsRunOver left run x lanes after began new) (sym (known_unstarted s nxt none)) over
     known_run run (Some site) some over =
         subst (λ (x : SessionState). IsRunOver left run x lanes after began new) (sym (known_started s nxt site some))

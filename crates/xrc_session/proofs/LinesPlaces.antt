@@ -8,9 +8,9 @@ use Rattle.site_store.specs.Sites.{SiteState}
 use Rattle.mover.specs.declared.lane.Lane.{Lane}
 use Rattle.mover.specs.Epochs.{AreSameLanes}
 use Rattle.xrc_status.specs.declared.stop.Stop.{Stop}
-use Rattle.xrc_session.specs.declared.kept.Kept.{Kept}
-use Rattle.xrc_session.specs.declared.place.Place.{Place}
-use Rattle.xrc_session.specs.declared.place.Place.TheVariants.{Started, Unstarted}
+use Rattle.xrc_session.specs.declared.kept.SessionParts.{SessionParts}
+use Rattle.xrc_session.specs.declared.place.SessionPlace.{SessionPlace}
+use Rattle.xrc_session.specs.declared.place.SessionPlace.TheVariants.{Started, Unstarted}
 use Rattle.xrc_session.specs.LinePauses.{IsBetween}
 use Rattle.xrc_session.specs.Lanes.{AllWent}
 use Rattle.xrc_session.specs.States.{SessionState, site_in, table_in}
@@ -22,30 +22,30 @@ use Rattle.xrc_session.proofs.StartWorks.{err_as}
 -- ---- the session
 
 -- the session that has these parts
-abbrev pub session_in : {V : Type 0} → (session : List ℕ) → (controls : ℕ) → Kept → Place V → (ended : Bool) → SessionState
+abbrev pub session_in : {V : Type 0} → (session : List ℕ) → (controls : ℕ) → SessionParts → SessionPlace V → (ended : Bool) → SessionState
 session_in session controls kept place ended = record { session = session; controls = controls; names = kept.names; group = kept.group; table = table_in place; site = site_in place; is_ended = ended }
 
 -- the session that has these parts and this site
-abbrev pub session_on : (session : List ℕ) → (controls : ℕ) → Kept → SiteState → (ended : Bool) → SessionState
+abbrev pub session_on : (session : List ℕ) → (controls : ℕ) → SessionParts → SiteState → (ended : Bool) → SessionState
 session_on session controls kept site ended = record { session = session; controls = controls; names = kept.names; group = kept.group; table = site.table; site = Some site; is_ended = ended }
 
 -- A session whose place is a site is on it.
-pub session_at : {V : Type 0} (session : List ℕ) (controls : ℕ) (kept : Kept) (place : Place V) (ended : Bool) (s : SessionState) (site : SiteState) → place ≡ Started site → session_in session controls kept place ended ≡ s → session_on session controls kept site ended ≡ s
-session_at {V} session controls kept place ended s site is same = ap (λ (p : Place V). session_in session controls kept p ended) (sym is) ∙ same
+pub session_at : {V : Type 0} (session : List ℕ) (controls : ℕ) (kept : SessionParts) (place : SessionPlace V) (ended : Bool) (s : SessionState) (site : SiteState) → place ≡ Started site → session_in session controls kept place ended ≡ s → session_on session controls kept site ended ≡ s
+session_at {V} session controls kept place ended s site is same = ap (λ (p : SessionPlace V). session_in session controls kept p ended) (sym is) ∙ same
 
 -- A session that has started is not at a place of its own table.
-pub never_unstarted : {V : Type 0} (session : List ℕ) (controls : ℕ) (kept : Kept) (place : Place V) (ended : Bool) (s : SessionState) (table : Table) → place ≡ Unstarted table → session_in session controls kept place ended ≡ s → IsSome s.site → ⊥
+pub never_unstarted : {V : Type 0} (session : List ℕ) (controls : ℕ) (kept : SessionParts) (place : SessionPlace V) (ended : Bool) (s : SessionState) (table : Table) → place ≡ Unstarted table → session_in session controls kept place ended ≡ s → IsSome s.site → ⊥
 never_unstarted {V} session controls kept place ended s table is same started =
-    let none : s.site ≡ None = sym (ap (λ (x : SessionState). x.site) same) ∙ ap (λ (p : Place V). site_in p) is in
+    let none : s.site ≡ None = sym (ap (λ (x : SessionState). x.site) same) ∙ ap (λ (p : SessionPlace V). site_in p) is in
     false≢true (ap is_some (sym none) ∙ started)
 
-pub unstarted_at : {V : Type 0} (session : List ℕ) (controls : ℕ) (kept : Kept) (place : Place V) (ended : Bool) (s : SessionState) (table : Table) → place ≡ Unstarted table → session_in session controls kept place ended ≡ s → s.site ≡ None
-unstarted_at {V} session controls kept place ended s table is same = sym (ap (λ (x : SessionState). x.site) same) ∙ ap (λ (p : Place V). site_in p) is
+pub unstarted_at : {V : Type 0} (session : List ℕ) (controls : ℕ) (kept : SessionParts) (place : SessionPlace V) (ended : Bool) (s : SessionState) (table : Table) → place ≡ Unstarted table → session_in session controls kept place ended ≡ s → s.site ≡ None
+unstarted_at {V} session controls kept place ended s table is same = sym (ap (λ (x : SessionState). x.site) same) ∙ ap (λ (p : SessionPlace V). site_in p) is
 
-pub started_at : (session : List ℕ) (controls : ℕ) (kept : Kept) (site : SiteState) (ended : Bool) (s : SessionState) → session_on session controls kept site ended ≡ s → IsSome s.site
+pub started_at : (session : List ℕ) (controls : ℕ) (kept : SessionParts) (site : SiteState) (ended : Bool) (s : SessionState) → session_on session controls kept site ended ≡ s → IsSome s.site
 started_at session controls kept site ended s same = ap (λ (x : SessionState). is_some x.site) (sym same)
 
-pub never_none : (session : List ℕ) (controls : ℕ) (kept : Kept) (site : SiteState) (ended : Bool) (s : SessionState) → session_on session controls kept site ended ≡ s → s.site ≡ None → ⊥
+pub never_none : (session : List ℕ) (controls : ℕ) (kept : SessionParts) (site : SiteState) (ended : Bool) (s : SessionState) → session_on session controls kept site ended ≡ s → s.site ≡ None → ⊥
 never_none session controls kept site ended s same none = let clash : Some site ≡ None = ap (λ (x : SessionState). x.site) same ∙ none in absurd cc
 
 -- ---- results

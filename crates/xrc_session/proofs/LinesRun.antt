@@ -10,7 +10,7 @@ use Rattle.crash_plant.specs.Moments.{PlantState}
 use Rattle.write_trace.specs.declared.trace.Trace.{Trace}
 use Rattle.pair_table.specs.declared.names.NamedDevice.{NamedDevice}
 use Rattle.site_store.specs.Sites.{SiteState}
-use Rattle.consistency.specs.Stages.{Run}
+use Rattle.consistency.specs.Stages.{ScriptRun}
 use Rattle.consistency.specs.Courses.{Answered, first_line, is_whole_line, last_line_time, later_line, lines_begun, most_lines, texts_of, stage_at}
 use Rattle.consistency.proofs.Lines.{whole_at_end}
 use Rattle.script_lines.specs.declared.next.Next.TheVariants as next
@@ -53,7 +53,7 @@ labels_before old mid new labels site leaves are = labels_since old mid new 0 la
 
 -- ---- hearing
 
-module _ {S : Type 0} (run : Run) (lines : List Answered) (trail : Trail) (text : List ℕ) (s : SessionState) (lanes : List (Lane S)) (began old new : PlantState) (tells : Type 0) (told : tells) (works : WorksOnConsole tells old new) (heard : HearsText text old new) (silent : SaysNothing old new)
+module _ {S : Type 0} (run : ScriptRun) (lines : List Answered) (trail : Trail) (text : List ℕ) (s : SessionState) (lanes : List (Lane S)) (began old new : PlantState) (tells : Type 0) (told : tells) (works : WorksOnConsole tells old new) (heard : HearsText text old new) (silent : SaysNothing old new)
     (one : lines_begun text ≤ 1) (keeps : KeepsHearing [] text began old new) (answered : HasAnswered run lines trail [] s lanes began old) where
   -- So much was heard behind the lines that a session has answered.
   pub hears_on : HasAnswered run lines trail text s lanes began new
@@ -74,7 +74,7 @@ module _ {S : Type 0} (run : Run) (lines : List Answered) (trail : Trail) (text 
       (answered.goes.now.script ∙ ap (λ (l : List ℕ). l ++ old.script) (append-nil (texts_of lines)) ∙ ap (λ (l : List ℕ). texts_of lines ++ l) heard.script ∙ sym (append_assoc (texts_of lines) text new.script)) is counted time
 
 -- A run stops behind lines where so much was heard of the next one.
-pub hearing_stops : {S : Type 0} (run : Run) (lines : List Answered) (trail : Trail) (text : List ℕ) (s : SessionState) (lanes : List (Lane S)) (began now : PlantState) (stop : Stop) → HasAnswered run lines trail text s lanes began now → (s.site ≡ None → s.table.is_started ≡ false) → ¬ (stop ≡ Spent) → StopsInLine run lines text began now stop
+pub hearing_stops : {S : Type 0} (run : ScriptRun) (lines : List Answered) (trail : Trail) (text : List ℕ) (s : SessionState) (lanes : List (Lane S)) (began now : PlantState) (stop : Stop) → HasAnswered run lines trail text s lanes began now → (s.site ≡ None → s.table.is_started ≡ false) → ¬ (stop ≡ Spent) → StopsInLine run lines text began now stop
 hearing_stops {S} run lines trail text s lanes began now stop answered unstarted other = record {
   trail = trail;
   stopped = record {
@@ -133,13 +133,13 @@ pub record IsRunning {S : Type 0} (tells : Type 0) (left : S → Option (List �
   pub labels : tells → IfSome s.site (λ site. AreLabels began now 0 s.names.labels)
   pub begun : tells → HasBegunRun first.session s.site began now
   pub heard : tells → s.site ≡ None → HasHeardLines first.session began now number before
-  pub runs : tells → (run : Run) → IsRunOver left run s lanes lanes_now began now
+  pub runs : tells → (run : ScriptRun) → IsRunOver left run s lanes lanes_now began now
       → (lines : List Answered) × ((trail : Trail) × HasAnswered run lines trail [] s lanes_now began now) × (number ≡ length lines + 1) × (last_line_time lines (length lines) ≡ before)
 
 -- ---- one line
 
 -- A run over what a session has come to behind a line is one over what it was before it.
-pub over_before : {S : Type 0} (left : S → Option (List ℕ)) (run : Run) (s next : SessionState) (lanes mid after : List (Lane S)) (began old new : PlantState) → KeepsStart s next → next.session ≡ s.session → AllReadOn left lanes mid → AllMayGoOn mid → AllReadOn left mid after → NoneFell old new
+pub over_before : {S : Type 0} (left : S → Option (List ℕ)) (run : ScriptRun) (s next : SessionState) (lanes mid after : List (Lane S)) (began old new : PlantState) → KeepsStart s next → next.session ≡ s.session → AllReadOn left lanes mid → AllMayGoOn mid → AllReadOn left mid after → NoneFell old new
     → IsRunOver left run next lanes after began new → IsRunOver left run s lanes mid began old × AllTurnOut left run.traces mid after
 over_before {S} left run s next lanes mid after began old new keeps name first may on_to fell over =
     let turned = traces_turn_out left run.traces lanes mid after first may on_to over.traces in (

@@ -9,7 +9,7 @@ use Rattle.crash_plant.specs.declared.device.Device.TheVariants.{Control}
 use Rattle.crash_plant.specs.Calls.{Says, WorksOnConsole}
 use Rattle.crash_plant.specs.Moments.{PlantState}
 use Rattle.site_store.specs.Sites.{SiteState}
-use Rattle.consistency.specs.Stages.{Run, Stage}
+use Rattle.consistency.specs.Stages.{ScriptRun, Stage}
 use Rattle.consistency.specs.Pauses.{MayReply, RunGoesOn}
 use Rattle.consistency.specs.Courses.{Answered, AreAsked, IsAnswered, IsCourse, replies_of, stage_at, texts_of}
 use Rattle.consistency.specs.Moments.{BearsThroughout}
@@ -34,7 +34,7 @@ use Rattle.xrc_session.proofs.Courses.{none_next}
 use Rattle.xrc_session.proofs.Exactly.{exact_more}
 use Rattle.xrc_session.proofs.Replied.{IsAsTold, reply_is_exact}
 
-module _ {S : Type 0} (run : Run) (lines : List Answered) (trail : Trail) (text : List ℕ) (line : Line) (answer : LineAnswer) (s : SessionState) (lanes : List (Lane S)) (began mid new : PlantState)
+module _ {S : Type 0} (run : ScriptRun) (lines : List Answered) (trail : Trail) (text : List ℕ) (line : Line) (answer : LineAnswer) (s : SessionState) (lanes : List (Lane S)) (began mid new : PlantState)
     (to : IsToReply run lines trail text line answer s lanes began mid) (as_told : IsAsTold s) (many : length run.traces ≡ length lanes) (reply : List ℕ) (composed : reply ≡ reply_composed s.site lanes line answer)
     (tells : Type 0) (told : tells) (works : WorksOnConsole tells mid new) (says : Says reply mid new) where
   abbrev a : Answered
@@ -84,7 +84,7 @@ module _ {S : Type 0} (run : Run) (lines : List Answered) (trail : Trail) (text 
         front = (said.0, said.1, said.2 ∙ ap (λ (l : List ℕ). l ++ take said.0 reply) to.goes.now.said ∙ append_assoc (began.said began.clock) (replies_of lines) (take said.0 reply));
         applied = applied_now;
         bears = λ up. replies_fail run lines (first_leg run (lines ++ a ∷ []) trail) trail.points a began mid new to.goes may tells told works says up;
-        behind = bears_behind run lines (first_leg run (lines ++ a ∷ []) trail) trail.points a began mid new to.goes may tells told works;
+        bears_now = bears_behind run lines (first_leg run (lines ++ a ∷ []) trail) trail.points a began mid new to.goes may tells told works;
       }
 
   -- Where the console failed the session stops within the reply.

@@ -20,7 +20,7 @@ use Rattle.site_store.specs.Records.{IsStore}
 use Rattle.site_store.specs.Sites.{SiteState}
 use Rattle.ckd_track.specs.declared.write.Cause.{Cause}
 use Rattle.xquery_report.specs.Replies.{reply_line}
-use Rattle.consistency.specs.Stages.{Run}
+use Rattle.consistency.specs.Stages.{ScriptRun}
 use Rattle.consistency.specs.Courses.{Answered}
 use Rattle.mover.specs.declared.lane.Lane.{Lane}
 use Rattle.xrc_command.specs.declared.line.Line.{Line}

@@ -21,7 +21,7 @@ use Rattle.site_store.specs.Records.{VolumesStay}
 use Rattle.site_store.specs.Sites.{SiteState}
 use Rattle.group_state.specs.Groups.{Group}
 use Rattle.consistency.specs.Bearing.{ShowsPoint}
-use Rattle.consistency.specs.Stages.{Run, Stage, accepts_end, breaks_of, names_of}
+use Rattle.consistency.specs.Stages.{ScriptRun, Stage, accepts_end, breaks_of, names_of}
 use Rattle.consistency.specs.Courses.{Answered, replies_of, stage_after, stage_at}
 use Rattle.consistency.specs.Leads.{Point}
 use Rattle.consistency.specs.Steps.{names_at}
@@ -49,7 +49,7 @@ use Rattle.xrc_session.proofs.Exactly.{exactly_any}
 use Rattle.xrc_session.proofs.LinesUnstarted.{has_names, none_past, none_started, not_begun, off, table_by_level, table_is, unstarted_answers, unstarted_goes, unstarted_stops, unstarted_table, unstarted_tells, unstarted_volumes, unstarted_wants}
 
 -- A session that has just started, in a run.
-pub record IsJustStarted {S : Type 0} (run : Run) (s next : SessionState) (lanes : List (Lane S)) (site : SiteState) (at : ℕ) (level : Level) (began new : PlantState) : Type 0 where
+pub record IsJustStarted {S : Type 0} (run : ScriptRun) (s next : SessionState) (lanes : List (Lane S)) (site : SiteState) (at : ℕ) (level : Level) (began new : PlantState) : Type 0 where
   pub its : IsRunOfSession next run
   pub site_is : next.site ≡ Some site
   pub table : next.table ≡ started_table s.session []
@@ -65,7 +65,7 @@ pub record IsJustStarted {S : Type 0} (run : Run) (s next : SessionState) (lanes
   pub broke : LanesBrokeAs site.time run.traces lanes
   pub faults : (d : ℕ) → began.faults (Volume d) ≤ new.faults (Volume d)
 
-module _ {S : Type 0} (run : Run) (lines : List Answered) (trail : Trail) (text : List ℕ) (line : Line) (s : SessionState) (lanes : List (Lane S)) (began old : PlantState) (heard : HasHeard run lines trail text line s lanes began old) (unstarted : s.site ≡ None)
+module _ {S : Type 0} (run : ScriptRun) (lines : List Answered) (trail : Trail) (text : List ℕ) (line : Line) (s : SessionState) (lanes : List (Lane S)) (began old : PlantState) (heard : HasHeard run lines trail text line s lanes began old) (unstarted : s.site ≡ None)
     (fresh : s.table ≡ new_table s.session) (new : PlantState) (same : SameSite old new) (elapses : Elapses old new) (silent : Silent old new) (tells : Type 0) (told : tells) (volumes : VolumesStay tells old new) (names : Naming) (answered : LineAnswer)
     (is : answered.answer ≡ answer names s.table line.session line.command) (level : Level) (starts : level_started s.session line ≡ Some level) (command : line.command ≡ Start level) (next : SessionState) (lanes_now : List (Lane S)) (site : SiteState)
     (started : IsJustStarted run s next lanes_now site line.time.0 level began new) (short : line.time.0 < 2 ^ 64) where

@@ -18,7 +18,7 @@ use Rattle.state_set.specs.Slots.{started_table}
 use Rattle.site_store.specs.Records.{VolumesStay}
 use Rattle.site_store.specs.Sites.{SiteState}
 use Rattle.consistency.specs.Answering.{answered_by, reply_content}
-use Rattle.consistency.specs.Stages.{Run, Stage, accepts, breaks_of, names_of}
+use Rattle.consistency.specs.Stages.{ScriptRun, Stage, accepts, breaks_of, names_of}
 use Rattle.consistency.specs.Pauses.{RunGoesOn}
 use Rattle.consistency.specs.Courses.{Answered, IsAnswered, stage_at}
 use Rattle.consistency.specs.Leads.{Point}
@@ -154,7 +154,7 @@ none_resumes names name session c device is = by_answer c (answers_unstarted nam
 
 -- ---- in a run
 
-module _ {S : Type 0} (run : Run) (lines : List Answered) (trail : Trail) (text : List ℕ) (line : Line) (s : SessionState) (lanes : List (Lane S)) (began old : PlantState) (heard : HasHeard run lines trail text line s lanes began old) (unstarted : s.site ≡ None)
+module _ {S : Type 0} (run : ScriptRun) (lines : List Answered) (trail : Trail) (text : List ℕ) (line : Line) (s : SessionState) (lanes : List (Lane S)) (began old : PlantState) (heard : HasHeard run lines trail text line s lanes began old) (unstarted : s.site ≡ None)
     (fresh : s.table ≡ new_table s.session) where
   abbrev stage : Stage
   stage = stage_behind run lines text began

@@ -10,7 +10,7 @@ use Rattle.pair_table.specs.Tables.{Table}
 use Rattle.xrc_command.specs.declared.line.Line.{Line}
 use Rattle.site_store.specs.Sites.{SiteState}
 use Rattle.consistency.specs.Bearing.{MayBeMeant}
-use Rattle.consistency.specs.Stages.{Run, Stage}
+use Rattle.consistency.specs.Stages.{ScriptRun, Stage}
 use Rattle.consistency.specs.Pauses.{RunGoesOn}
 use Rattle.consistency.specs.Courses.{Answered, stage_at}
 use Rattle.consistency.specs.Leads.{Point}
@@ -35,7 +35,7 @@ use Rattle.xrc_session.proofs.Trails.{goes_forth_on, last_meant, rest_is_meant, 
 
 -- A session that has started is within a line that it heard behind others, or behind them where it heard none: its devices have gone to the last leg
 -- of its trail, whose point may be meant. All lines before were answered there, and no mark was made for the line's command alone.
-pub record IsWithin (run : Run) (lines : List Answered) (trail : Trail) (text : List ℕ) (line : Option Line) (began now : PlantState) : Type 0 where
+pub record IsWithin (run : ScriptRun) (lines : List Answered) (trail : Trail) (text : List ℕ) (line : Option Line) (began now : PlantState) : Type 0 where
   pub goes : RunGoesOn run lines text began now
   pub exact : AreExact run lines trail
   pub some : 0 < trail.started
@@ -49,7 +49,7 @@ pub record IsWithin (run : Run) (lines : List Answered) (trail : Trail) (text : 
   pub volumes : ChangesRows (rows_passed trail.points) began now
   pub may : MayBeMeant run (stage_behind run lines text began) (last_leg run lines trail).point
 
-module _ (run : Run) (lines : List Answered) (trail : Trail) (text : List ℕ) (line : Option Line) (began old new : PlantState) (heard : (stage_behind run lines text began).next ≡ line) (within : IsWithin run lines trail text line began old)
+module _ (run : ScriptRun) (lines : List Answered) (trail : Trail) (text : List ℕ) (line : Option Line) (began old new : PlantState) (heard : (stage_behind run lines text began).next ≡ line) (within : IsWithin run lines trail text line began old)
     (site : SameSite old new) (elapses : Elapses old new) (silent : Silent old new) where
   abbrev stage : Stage
   stage = stage_behind run lines text began
@@ -145,7 +145,7 @@ module _ (run : Run) (lines : List Answered) (trail : Trail) (text : List ℕ) (
 -- ---- at first
 
 -- A started session that heard a line at rest is within it.
-module _ {S : Type 0} (run : Run) (lines : List Answered) (trail : Trail) (text : List ℕ) (line : Line) (s : SessionState) (lanes : List (Lane S)) (began old : PlantState) (heard : HasHeard run lines trail text line s lanes began old) (site : SiteState) (is : s.site ≡ Some site) where
+module _ {S : Type 0} (run : ScriptRun) (lines : List Answered) (trail : Trail) (text : List ℕ) (line : Line) (s : SessionState) (lanes : List (Lane S)) (began old : PlantState) (heard : HasHeard run lines trail text line s lanes began old) (site : SiteState) (is : s.site ≡ Some site) where
   pub rests_at : RestsAtSite run lines (stage_behind run lines text began) trail s began old site
   rests_at = subst (λ (o : Option SiteState). MatchOption o (HasNotBegun trail began old) (RestsAtSite run lines (stage_behind run lines text began) trail s began old)) is heard.answered.stands.place
 

@@ -35,7 +35,7 @@ use Rattle.fed_logs.proofs.ReadCalls.{ReadOn, answer_of, drop_begins, drop_log, 
 use Rattle.fed_logs.proofs.Went.{form_shown}
 use Rattle.mover.specs.Dropping.{is_duplex_state, owed_by_call, owed_by_calls, owed_in_turn, stood_duplex}
 use Rattle.mover.specs.Moves.{LogsEntriesOf, MayHaveEntries}
-use Rattle.xrc_session.specs.Maps.{KeepsMaps, MapsBegin, RowsGo, maps_track, has_write_between}
+use Rattle.xrc_session.specs.Maps.{AreMapsSound, MapsBegin, RowsGo, maps_track, has_write_between}
 use Rattle.xrc_session.proofs.MapsCalls.{Grown}
 use Rattle.xrc_session.proofs.MapsKeeps.{calls_keep_maps, form_maps, sound_at}
 use Rattle.xrc_session.proofs.MapsLogs.{grows_over, never_owes, some_flag, test_drop, test_form, test_read}
@@ -130,7 +130,7 @@ module _ (size : Sizes) (traces : List Trace) (k v place : ℕ) (t : Trace) (own
 
   record Ready (held : HeldTracks) (s : Group) (time : ℕ) (rows : List PairRow) (done : Plans) (deeds : List Deed) : Type 0 where
     begins : BeginsLog size traces held s time rows done
-    keeps : KeepsMaps s
+    keeps : AreMapsSound s
     cut : s.last.0 ≡ time
     waits : WaitsAsWritten t s.last.0 (control_at s k)
     live : passes is_live (volume_of v (control_at s k).volumes) ≡ true

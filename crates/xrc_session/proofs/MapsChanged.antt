@@ -11,7 +11,7 @@ use Rattle.write_trace.specs.Writes.{writes_of}
 use Rattle.xrc_edge.specs.Order.{in_order, put_in_order}
 use Rattle.primary_ctl.specs.States.{is_on}
 use Rattle.primary_ctl.specs.Primaries.{ControlWrite, all_writes, is_on_track, is_written_earlier, write_of_control}
-use Rattle.consistency.specs.Stages.{Run}
+use Rattle.consistency.specs.Stages.{ScriptRun}
 use Rattle.consistency.specs.Owing.{is_changed}
 use Rattle.xrc_session.specs.Maps.{has_write_between}
 
@@ -94,14 +94,14 @@ module _ (k v x since to : ℕ) where
       ∙ at_place place (j + 1) traces t (omega (arith, is)) at
 
 -- A track is changed exactly if its control's trace writes on it.
-pub changed_is : (run : Run) (k v x since to : ℕ) (t : Trace) → slice_get run.traces k ≡ Some t → is_changed run k v since to x ≡ has_write_between t v x since to
+pub changed_is : (run : ScriptRun) (k v x since to : ℕ) (t : Trace) → slice_get run.traces k ≡ Some t → is_changed run k v since to x ≡ has_write_between t v x since to
 changed_is run k v x since to t at =
     any_order (λ w. is_on_track k v x w && nat_lt since w.write.stamp.0) is_written_earlier (filter (λ w. nat_le w.write.stamp.0 to) (all_writes 0 run.traces))
     ∙ any_filter (λ w. is_on_track k v x w && nat_lt since w.write.stamp.0) (λ w. nat_le w.write.stamp.0 to) (all_writes 0 run.traces)
     ∙ at_place k v x since to k 0 run.traces t (omega arith) at
 
 -- No track changes behind a time up to that time.
-pub none_changed : (run : Run) (k v time x : ℕ) → is_changed run k v time time x ≡ false
+pub none_changed : (run : ScriptRun) (k v time x : ℕ) → is_changed run k v time time x ≡ false
 none_changed run k v time x =
     any_order (λ w. is_on_track k v x w && nat_lt time w.write.stamp.0) is_written_earlier (filter (λ w. nat_le w.write.stamp.0 time) (all_writes 0 run.traces))
     ∙ any_filter (λ w. is_on_track k v x w && nat_lt time w.write.stamp.0) (λ w. nat_le w.write.stamp.0 time) (all_writes 0 run.traces)

@@ -23,13 +23,13 @@ use Rattle.group_state.specs.Controls.{ControlState, counts, resumed}
 use Rattle.group_state.specs.Groups.{Group, control_at}
 use Rattle.group_state.specs.Machine.{Call, group_after}
 use Rattle.group_state.specs.Machine.Call.{Drop, Resume}
-use Rattle.group_state.specs.SoundStates.{KeepsGroup}
+use Rattle.group_state.specs.SoundStates.{IsGroupSound}
 use Rattle.group_state.specs.Volumes.{owed, owed_in, passes, resumed_volume, volume_of}
 use Rattle.group_state.proofs.Kept.{kept_next}
 use Rattle.record_rows.specs.Hits.{is_by_device, is_device_suspended}
 use Rattle.record_rows.proofs.Devices.{apart_of}
 use Rattle.passages.specs.Points.{last_point}
-use Rattle.consistency.specs.Stages.{Run, tracks_of_row}
+use Rattle.consistency.specs.Stages.{ScriptRun, tracks_of_row}
 use Rattle.consistency.specs.Leads.{Point}
 use Rattle.consistency.specs.Owing.{has_pair_in, is_changed, is_same_state, owes_in, owes_track, was_duplex}
 use Rattle.consistency.specs.Ways.{PassedPoint}
@@ -39,7 +39,7 @@ use Rattle.mover.proofs.Pairs.{Among, among_of, apart_still, contains_of, found_
 use Rattle.xrc_session.specs.Maps.{RestsAtCut, maps_track}
 use Rattle.xrc_session.specs.MapsOwed.{MapsOwed, MapsRest, SuspendedUpTo}
 use Rattle.xrc_session.specs.MapsTaken.{MapsOwedBehindChanges, PassesBy, SuspendsAt}
-use Rattle.xrc_session.specs.Taking.{AllMay, KeepsForRow, KeepsForRows, MayTake, after_calls, as_pending, calls_of_change, command_calls, drop_between, drop_call, drop_calls, is_begun, is_suspended_as, owes_again}
+use Rattle.xrc_session.specs.Taking.{AllMay, IsSoundForRow, IsSoundForRows, MayTake, after_calls, as_pending, calls_of_change, command_calls, drop_between, drop_call, drop_calls, is_begun, is_suspended_as, owes_again}
 use Rattle.xrc_session.specs.Taking.{resume_calls, rows_by_command, stands_again, state_by_command, state_or_pending, tracks_owed_to}
 use Rattle.xrc_session.proofs.CallRuns.{after_both, first_may, second_may}
 use Rattle.xrc_session.proofs.Calls.{own_is, resume_itself}
@@ -131,7 +131,7 @@ never_owes_all true w c e = refl
 never_owes_all false true c e = absurd (true≢false e)
 never_owes_all false false c e = refl
 
-module _ (run : Run) (first : Point) (points more : List PassedPoint) (p q : Point) (s : Group) (change : Change) (kept : KeepsForRows s p.rows) (may : MayTake s change p.rows q.rows) (on : q.time ≡ p.time) (since : SuspendsAt p.time change p.rows q.rows)
+module _ (run : ScriptRun) (first : Point) (points more : List PassedPoint) (p q : Point) (s : Group) (change : Change) (kept : IsSoundForRows s p.rows) (may : MayTake s change p.rows q.rows) (on : q.time ≡ p.time) (since : SuspendsAt p.time change p.rows q.rows)
     (here : (last_point first points).rows ≡ p.rows) (passed : PassesBy p q more) (rest : MapsRest p s) (cut : s.last.0 ≡ p.time) (owed : MapsOwed run first points p s) where
   abbrev before : List PairRow
   before = p.rows
@@ -167,7 +167,7 @@ module _ (run : Run) (first : Point) (points more : List PassedPoint) (p q : Poi
     device : from.row.device ≡ z.device
     device = sym (ap (λ (r : PairRow). r.device) from.goes.same)
 
-    its : KeepsForRow end z
+    its : IsSoundForRow end z
     its = walk.ends.each z (contains_of z after there)
 
     within : z.control < length s.controls
@@ -301,7 +301,7 @@ module _ (run : Run) (first : Point) (points more : List PassedPoint) (p q : Poi
             | inr then ↦ then
           ]
 
-          kept_r : KeepsForRow s r
+          kept_r : IsSoundForRow s r
           kept_r = kept.each r (contains_of r before was.among)
 
           live : is_suspended r.state ≡ false
@@ -457,7 +457,7 @@ module _ (run : Run) (first : Point) (points more : List PassedPoint) (p q : Poi
         mays_behind : (all : Bool) → whole ≡ all → AllMay drops (group_after t (Drop k v all))
         mays_behind all e = subst (λ (b : Bool). AllMay drops (group_after t (Drop k v b))) e mays.1.1
 
-        t_keeps : KeepsGroup t
+        t_keeps : IsGroupSound t
         t_keeps = kept_next s (Resume k v) kept.keeps mays.0
 
         t_within : k < length t.controls

@@ -12,10 +12,10 @@ use Rattle.group_state.specs.declared.phase.Phase.{Phase}
 use Rattle.group_state.specs.declared.phase.Phase.TheVariants.{Telling, Broken, Reported}
 use Rattle.group_state.specs.Controls.{counts, is_telling, new_control}
 use Rattle.group_state.specs.Groups.{Group, control_at}
-use Rattle.group_state.specs.SoundStates.{KeepsGroup, has_told}
+use Rattle.group_state.specs.SoundStates.{IsGroupSound, has_told}
 use Rattle.group_state.proofs.FormLaws.{all_at}
 use Rattle.passages.specs.Points.{last_point}
-use Rattle.consistency.specs.Stages.{Run, breaks_of}
+use Rattle.consistency.specs.Stages.{ScriptRun, breaks_of}
 use Rattle.consistency.specs.Leads.{Point}
 use Rattle.consistency.specs.Ways.{PassedPoint}
 use Rattle.site_store.specs.DeedChanges.{deeds_of}
@@ -41,7 +41,7 @@ use Rattle.xrc_session.proofs.MapsSteps.{steps_go}
 
 -- ---- at the limit
 
-broken_at : (next : Group) (k limit : ℕ) (t : Trace) (traces : List Trace) → slice_get traces k ≡ Some t → k < length next.controls → KeepsGroup next → next.last.0 ≡ limit → BrokeAsTraces traces next → BreaksAreToCome traces limit next
+broken_at : (next : Group) (k limit : ℕ) (t : Trace) (traces : List Trace) → slice_get traces k ≡ Some t → k < length next.controls → IsGroupSound next → next.last.0 ≡ limit → BrokeAsTraces traces next → BreaksAreToCome traces limit next
     → (cause : Cause) → (control_at next k).phase ≡ Broken cause → ⊥
 broken_at next k limit t traces at low keeps cut broke come cause is =
     let counted : counts (control_at next k).phase ≡ true = ap counts is in
@@ -51,7 +51,7 @@ broken_at next k limit t traces at low keeps cut broke come cause is =
     true≢false (sym tells.telling ∙ ap is_telling is)
 
 -- Behind an epoch that reached its limit each control that counts has told up to it.
-told_at_limit : (next : Group) (k limit : ℕ) (t : Trace) (traces : List Trace) (o : Option LaneReaderState) → slice_get traces k ≡ Some t → k < length next.controls → KeepsGroup next → next.last.0 ≡ limit → BrokeAsTraces traces next → BreaksAreToCome traces limit next
+told_at_limit : (next : Group) (k limit : ℕ) (t : Trace) (traces : List Trace) (o : Option LaneReaderState) → slice_get traces k ≡ Some t → k < length next.controls → IsGroupSound next → next.last.0 ≡ limit → BrokeAsTraces traces next → BreaksAreToCome traces limit next
     → IsSomeAnd o (IsReaderOf next k limit) → IsSomeAnd o (IsAtLimit limit) → counts (control_at next k).phase ≡ true → floor_of next k ≡ limit
 told_at_limit next k limit t traces None at low keeps cut broke come reads stands counted = absurd reads
 told_at_limit next k limit t traces (Some r) at low keeps cut broke come reads stands counted = choose r.feed.halted refl
@@ -72,7 +72,7 @@ some_lane (lane ∷ lanes) k low = lane
 
 -- ---- an epoch
 
-module _ {S : Type 0} (tells : Type 0) (left : S → Option (List ℕ)) (faults : S → ℕ) (limit : ℕ) (run : Run) (group next : Group) (old new : List (Lane S)) (site after : SiteState) (was is : PlantState)
+module _ {S : Type 0} (tells : Type 0) (left : S → Option (List ℕ)) (faults : S → ℕ) (limit : ℕ) (run : ScriptRun) (group next : Group) (old new : List (Lane S)) (site after : SiteState) (was is : PlantState)
     (e : ReachesLimit tells left faults limit run group next old new site after was is) (entries : LogsEntriesOf site.told (deeds_of e.goes.ran.steps)) where
   kept : KeepsAll site after e.done (part_of_mover e.goes.ran.log) (deeds_of e.goes.ran.steps)
   kept = e.goes.ran.all e.done e.begins.stand.duplex
@@ -93,11 +93,11 @@ module _ {S : Type 0} (tells : Type 0) (left : S → Option (List ℕ)) (faults 
     times = λ n low. let below = (e.goes.bears.times n n (omega arith) low).1 in let at = e.reached.time.time in omega (arith, below, at);
   }
 
-  end_keeps : KeepsGroup e.goes.ran.end
+  end_keeps : IsGroupSound e.goes.ran.end
   end_keeps = (reached_holds e.size run.traces e.held group e.goes.ran.end e.goes.ran.log site.time after.time site.told after.told e.done kept.known (deeds_of e.goes.ran.steps) fed e.begins kept.makes).2
 
-  next_keeps : KeepsGroup next
-  next_keeps = subst KeepsGroup (sym e.goes.ran.ended) end_keeps
+  next_keeps : IsGroupSound next
+  next_keeps = subst IsGroupSound (sym e.goes.ran.ended) end_keeps
 
   next_broke : BrokeAsTraces run.traces next
   next_broke = subst (BrokeAsTraces run.traces) (sym e.goes.ran.ended) (logs_break_as_traces run.traces group e.goes.ran.end e.goes.ran.log fed e.broke)

@@ -16,7 +16,7 @@ use Rattle.group_state.specs.Groups.{Group, control_at, cut_of, formed_at, shown
 use Rattle.group_state.specs.Machine.{Call, Reply}
 use Rattle.group_state.specs.Machine.Call.{Join, NextWanted, Copied, Raise, Break, Form, Carry, Drop, Resume, Forget}
 use Rattle.group_state.specs.Runs.{Answer}
-use Rattle.group_state.specs.SoundStates.{KeepsGroup, is_dropped}
+use Rattle.group_state.specs.SoundStates.{IsGroupSound, is_dropped}
 use Rattle.record_rows.specs.Deeds.{Deed, rows_by_deed, time_by_deed}
 use Rattle.record_rows.specs.Deeds.Deed.{Logged, Changed, Marked}
 use Rattle.record_rows.specs.ToldRows.{InPlaces}
@@ -129,7 +129,7 @@ module _ (traces : List Trace) (k v place : ℕ) (t : Trace) (own : slice_get tr
           (dropped_is v all (entry_tracks v (control_at s k).queue.waiting) (control_at s k).volumes (kept_of is_gone (volume_of v (control_at s k).volumes) gone))
 
   -- No plan of a dropped volume is shown done.
-  none_shown : (s : Group) (cut : Stamp) → KeepsGroup s → k < length s.controls → is_dropped v (control_at s k).volumes ≡ true → is_plan_shown_done k v (shown_at cut s) ≡ true → ⊥
+  none_shown : (s : Group) (cut : Stamp) → IsGroupSound s → k < length s.controls → is_dropped v (control_at s k).volumes ≡ true → is_plan_shown_done k v (shown_at cut s) ≡ true → ⊥
   none_shown s cut keeps low gone shown =
       let plan = (shown_done s cut k v keeps shown).1 in
       let behind = (form_grows t k v s low gone cut).dropped in

@@ -9,13 +9,13 @@ use Rattle.group_state.specs.Groups.{Group, control_at, cut_of, with_control}
 use Rattle.group_state.specs.Machine.{Call, group_after, reply_to}
 use Rattle.group_state.specs.Machine.Call.{Join, NextWanted, Copied, Raise, Break, Form, Carry, Drop, Resume, Forget}
 use Rattle.group_state.specs.Runs.{May}
-use Rattle.group_state.specs.SoundStates.{KeepsGroup, is_dropped}
+use Rattle.group_state.specs.SoundStates.{IsGroupSound, is_dropped}
 use Rattle.group_state.specs.Volumes.{is_wanted, passes, volume_of}
 use Rattle.group_state.proofs.Kept.{kept_next}
 use Rattle.group_state.proofs.SoundLaws.{all_filter, dropped_none, none_waits}
 use Rattle.fed_logs.specs.Logs.{IsPlanDone, is_of_size}
 use Rattle.fed_logs.proofs.Standing.{at_with, formed_count, same_count}
-use Rattle.xrc_session.specs.Maps.{KeepsMaps, RestsAtCut, maps_track, waits_above}
+use Rattle.xrc_session.specs.Maps.{AreMapsSound, RestsAtCut, maps_track, waits_above}
 use Rattle.xrc_session.specs.Taking.{AllMay, after_calls}
 use Rattle.xrc_session.proofs.Calls.{KeepsOther, begin_other, drop_other, forget_other, other_at, own_is, resume_other}
 use Rattle.xrc_session.proofs.CarriedRows.{IsOther}
@@ -25,11 +25,11 @@ use Rattle.xrc_session.proofs.MapsVolumes.{all_mapped, none_tracked, sized_dropp
 
 -- ---- what states keep through calls
 
-pub calls_keep : (calls : List Call) (s : Group) → AllMay calls s → KeepsGroup s → KeepsGroup (after_calls calls s)
+pub calls_keep : (calls : List Call) (s : Group) → AllMay calls s → IsGroupSound s → IsGroupSound (after_calls calls s)
 calls_keep [] s may keeps = keeps
 calls_keep (call ∷ calls) s may keeps = calls_keep calls (group_after s call) may.1 (kept_next s call keeps may.0)
 
-pub maps_keep : (calls : List Call) (s : Group) → AllMay calls s → KeepsGroup s → KeepsMaps s → KeepsMaps (after_calls calls s)
+pub maps_keep : (calls : List Call) (s : Group) → AllMay calls s → IsGroupSound s → AreMapsSound s → AreMapsSound (after_calls calls s)
 maps_keep [] s may keeps h = h
 maps_keep (call ∷ calls) s may keeps h =
     maps_keep calls (group_after s call) may.1 (kept_next s call keeps may.0) (calls_keep_maps s (group_after s call) call (reply_to s call) keeps may.0 (refl, refl) h)
@@ -68,7 +68,7 @@ module _ (k v : ℕ) where
     quiet = λ none. at_with s j k change (λ (c : ControlState). list_all (is_off_volume v) c.queue.waiting ≡ true) low (λ same. quiet (control_at s k) none) (λ apart. none);
   }
 
-  call_left : (s : Group) (call : Call) → IsOff k v call → May s call → KeepsGroup s → k < length s.controls → IsLeft k v s (group_after s call)
+  call_left : (s : Group) (call : Call) → IsOff k v call → May s call → IsGroupSound s → k < length s.controls → IsLeft k v s (group_after s call)
   call_left s (Join b) off may keeps low = absurd off
   call_left s (NextWanted j) off may keeps low = absurd off
   call_left s (Copied j w x at slot) off may keeps low = absurd off
@@ -81,7 +81,7 @@ module _ (k v : ℕ) where
   call_left s (Resume j w) off may keeps low = changed_left s j w (resumed w) (λ u apart. resume_other w u (control_at s j) apart) (λ c none. none) off low
   call_left s (Forget j w) off may keeps low = changed_left s j w (forgotten w) (λ u apart. forget_other w u (control_at s j) (sound_at s j keeps may.0).distinct apart) (λ c none. none) off low
 
-  pub calls_left : (calls : List Call) (s : Group) → Each (IsOff k v) calls → AllMay calls s → KeepsGroup s → k < length s.controls → IsLeft k v s (after_calls calls s)
+  pub calls_left : (calls : List Call) (s : Group) → Each (IsOff k v) calls → AllMay calls s → IsGroupSound s → k < length s.controls → IsLeft k v s (after_calls calls s)
   calls_left [] s off may keeps low = record { many = refl; found = refl; quiet = λ none. none }
   calls_left (call ∷ calls) s off may keeps low =
       let one = call_left s call off.0 may.0 keeps low in
@@ -115,7 +115,7 @@ pub after_count : (calls : List Call) (s : Group) → length (after_calls calls 
 after_count [] s = refl
 after_count (call ∷ calls) s = after_count calls (group_after s call) ∙ one_count s call
 
-module _ (t : Group) (k v : ℕ) (within : k < length t.controls) (keeps : KeepsGroup t) (calls : List Call) where
+module _ (t : Group) (k v : ℕ) (within : k < length t.controls) (keeps : IsGroupSound t) (calls : List Call) where
   -- the map behind a drop and such calls
   behind_drop : (all : Bool) → Each (IsOff k v) calls → AllMay calls (group_after t (Drop k v all))
       → volume_of v (control_at (after_calls calls (group_after t (Drop k v all))) k).volumes ≡ volume_of v (dropped v all (control_at t k)).volumes
@@ -139,11 +139,11 @@ module _ (t : Group) (k v : ℕ) (within : k < length t.controls) (keeps : Keeps
 -- ---- what waits at rest
 
 -- No entry of a dropped volume waits.
-pub dropped_quiet : (s : Group) (k v : ℕ) → KeepsGroup s → k < length s.controls → is_dropped v (control_at s k).volumes ≡ true → list_all (is_off_volume v) (control_at s k).queue.waiting ≡ true
+pub dropped_quiet : (s : Group) (k v : ℕ) → IsGroupSound s → k < length s.controls → is_dropped v (control_at s k).volumes ≡ true → list_all (is_off_volume v) (control_at s k).queue.waiting ≡ true
 dropped_quiet s k v keeps low gone = let c = control_at s k in none_waits v c.volumes c.queue.waiting (dropped_none v c.volumes gone) (sound_at s k keeps low).entries
 
 -- At rest no entry of a volume waits whose plan is done.
-pub done_quiet : (s : Group) (k v time : ℕ) → KeepsGroup s → KeepsMaps s → RestsAtCut s time → k < length s.controls → counts (control_at s k).phase ≡ true → IsPlanDone v (control_at s k)
+pub done_quiet : (s : Group) (k v time : ℕ) → IsGroupSound s → AreMapsSound s → RestsAtCut s time → k < length s.controls → counts (control_at s k).phase ≡ true → IsPlanDone v (control_at s k)
     → list_all (is_off_volume v) (control_at s k).queue.waiting ≡ true
 done_quiet s k v time keeps maps rests low counted done =
     all_three (control_at s k).queue.waiting (maps.above k low) (sound_at s k keeps low).stamps done.copies

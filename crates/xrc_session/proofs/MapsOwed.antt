@@ -17,13 +17,13 @@ use Rattle.group_state.specs.Groups.{Group, control_at}
 use Rattle.group_state.specs.Machine.{Call}
 use Rattle.group_state.specs.Machine.Call.{Join, NextWanted, Copied, Raise, Break, Form, Carry, Drop, Resume, Forget}
 use Rattle.group_state.specs.Runs.{Answer, Runs}
-use Rattle.group_state.specs.SoundStates.{KeepsGroup}
+use Rattle.group_state.specs.SoundStates.{IsGroupSound}
 use Rattle.group_state.specs.Volumes.{volume_of}
 use Rattle.group_state.proofs.Kept.{kept_next}
 use Rattle.record_rows.specs.Deeds.{Deed, rows_behind, rows_by_deed, time_by_deed, time_meant_behind}
 use Rattle.record_rows.specs.Hits.{is_by_device, is_device_suspended}
 use Rattle.passages.specs.Points.{last_point}
-use Rattle.consistency.specs.Stages.{Run, tracks_of_row}
+use Rattle.consistency.specs.Stages.{ScriptRun, tracks_of_row}
 use Rattle.consistency.specs.Leads.{Point}
 use Rattle.consistency.specs.Owing.{is_changed, owes_in, owes_track, was_duplex}
 use Rattle.consistency.specs.Ways.{PassedPoint}
@@ -36,7 +36,7 @@ use Rattle.fed_logs.proofs.ReadCalls.{some_trace}
 use Rattle.mover.specs.Dropping.{owed_by_call, owed_by_calls, owed_in_turn, owes_hit, owes_suspended, owes_through, stood_duplex}
 use Rattle.mover.specs.OwedTracks.{IsCarriedAsLive}
 use Rattle.mover.proofs.Copying.{kept_within}
-use Rattle.xrc_session.specs.Maps.{BecomesAt, KeepsMaps, RestsAtCut, RowsGo, maps_track, has_write_between}
+use Rattle.xrc_session.specs.Maps.{BecomesAt, AreMapsSound, RestsAtCut, RowsGo, maps_track, has_write_between}
 use Rattle.xrc_session.specs.MapsOwed.{HasCutOrNoRow, HaveRowsOf, DeedsLeadTo, MapsOwed, MapsOwedBehindLogs, MapsRest, SuspendedUpTo}
 use Rattle.xrc_session.proofs.MapsBegins.{maps_begin}
 use Rattle.xrc_session.proofs.MapsCounted.{counted_before}
@@ -56,10 +56,10 @@ pub run_count : (run : List Answer) (s end : Group) → Runs s run end → lengt
 run_count [] s end runs = ap (λ (g : Group). length g.controls) runs
 run_count (a ∷ run) s end runs = run_count run runs.0 end runs.3 ∙ ap (λ (g : Group). length g.controls) runs.2.1 ∙ one_count s a.call
 
-pub run_keeps : (run : List Answer) (s end : Group) → KeepsGroup s → Runs s run end → KeepsMaps s → KeepsMaps end
-run_keeps [] s end keeps runs h = subst KeepsMaps (sym runs) h
+pub run_keeps : (run : List Answer) (s end : Group) → IsGroupSound s → Runs s run end → AreMapsSound s → AreMapsSound end
+run_keeps [] s end keeps runs h = subst AreMapsSound (sym runs) h
 run_keeps (a ∷ run) s end keeps runs h =
-    run_keeps run runs.0 end (subst KeepsGroup (sym runs.2.1) (kept_next s a.call keeps runs.1)) runs.3 (calls_keep_maps s runs.0 a.call a.reply keeps runs.1 runs.2 h)
+    run_keeps run runs.0 end (subst IsGroupSound (sym runs.2.1) (kept_next s a.call keeps runs.1)) runs.3 (calls_keep_maps s runs.0 a.call a.reply keeps runs.1 runs.2 h)
 
 -- What calls owe, the mover's owe.
 owed_of_mover : (k v : ℕ) (run : List Answer) → owed_by_calls k v (part_of_mover run) ≡ owed_by_calls k v run
@@ -118,7 +118,7 @@ since_up_to bound time rows (deed ∷ deeds) place r z cause since go times at l
 
 -- ---- one row
 
-module _ (run : Run) (size : Sizes) (held : HeldTracks) (s end : Group) (log : List Answer) (first : Point) (points more : List PassedPoint) (p q : Point) (done known : Plans) (deeds : List Deed)
+module _ (run : ScriptRun) (size : Sizes) (held : HeldTracks) (s end : Group) (log : List Answer) (first : Point) (points more : List PassedPoint) (p q : Point) (done known : Plans) (deeds : List Deed)
     (h : DeedsLeadTo run size held s end log p q done known deeds) (here : (last_point first points).rows ≡ p.rows) (have : HaveRowsOf more deeds) (rest : MapsRest p s) (cut : HasCutOrNoRow p.time p.rows s) (told : RestsAtCut end q.time) (owed : MapsOwed run first points p s) where
   rows_are : q.rows ≡ rows_behind deeds p.rows
   rows_are = (reached_holds size run.traces held s end log p.time q.time p.rows q.rows done known deeds h.fed h.begins h.kept).0

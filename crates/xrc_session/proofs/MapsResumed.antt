@@ -18,14 +18,14 @@ use Rattle.group_state.specs.Machine.{Call, group_after}
 use Rattle.group_state.specs.Machine.Call.{Drop, Resume}
 use Rattle.group_state.specs.Volumes.{is_wanted, passes, resumed_volume, volume_of, wants}
 use Rattle.group_state.proofs.Kept.{kept_next}
-use Rattle.consistency.specs.Stages.{Run, tracks_of_row}
+use Rattle.consistency.specs.Stages.{ScriptRun, tracks_of_row}
 use Rattle.consistency.specs.Leads.{Point}
 use Rattle.consistency.specs.Owing.{owes_track}
 use Rattle.consistency.specs.Ways.{PassedPoint}
 use Rattle.fed_logs.proofs.Standing.{same_count}
 use Rattle.mover.proofs.Pairs.{Among, among_of, apart_still, found_of_device}
 use Rattle.xrc_session.specs.MapsOwed.{MapsOwed}
-use Rattle.xrc_session.specs.Taking.{AllMay, KeepsForRows, MayTake, after_calls, calls_of_change, command_calls, drop_between, drop_call, drop_calls, owes_again, resume_calls, rows_by_command, stands_again, state_by_command, tracks_owed_to}
+use Rattle.xrc_session.specs.Taking.{AllMay, IsSoundForRows, MayTake, after_calls, calls_of_change, command_calls, drop_between, drop_call, drop_calls, owes_again, resume_calls, rows_by_command, stands_again, state_by_command, tracks_owed_to}
 use Rattle.xrc_session.proofs.Calls.{own_is, resume_itself}
 use Rattle.xrc_session.proofs.CarriedRows.{one_of_device, stated_among}
 use Rattle.xrc_session.proofs.Changed.{Kept, no_plans, taken}
@@ -51,7 +51,7 @@ pub resumed_was : (s : Group) (before after : List PairRow) (r : PairRow) → no
 resumed_was s before after r apart there may =
     subst (λ (o : Option PairRow). IfSome o (λ y. (is_suspended y.state ≡ true) × (counts (control_at s y.control).phase ≡ true))) (found_of_device r before apart (among_of before r there)) may.begun
 
-module _ (run : Run) (first : Point) (points : List PassedPoint) (p : Point) (after : List PairRow) (s : Group) (kept : KeepsForRows s p.rows) (owed : MapsOwed run first points p s) (r z : PairRow) (may : MayTake s (Resumed r.device) p.rows after) (in_before : Contains p.rows r) (in_after : Contains after z)
+module _ (run : ScriptRun) (first : Point) (points : List PassedPoint) (p : Point) (after : List PairRow) (s : Group) (kept : IsSoundForRows s p.rows) (owed : MapsOwed run first points p s) (r z : PairRow) (may : MayTake s (Resumed r.device) p.rows after) (in_before : Contains p.rows r) (in_after : Contains after z)
     (same : z.device ≡ r.device) (live : is_suspended z.state ≡ false) where
   abbrev before : List PairRow
   before = p.rows

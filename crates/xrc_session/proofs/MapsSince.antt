@@ -14,7 +14,7 @@ use Rattle.group_state.specs.declared.volume.Volume.{Volume}
 use Rattle.group_state.specs.Volumes.{carries, dropped_volume, passes, volume_of, wants}
 use Rattle.group_state.specs.Controls.{ControlState, dropped, formed}
 use Rattle.group_state.specs.Groups.{Group, control_at, shown_at}
-use Rattle.group_state.specs.SoundStates.{KeepsGroup, Sound, is_entry_of_control}
+use Rattle.group_state.specs.SoundStates.{IsGroupSound, Sound, is_entry_of_control}
 use Rattle.group_state.proofs.OwnParts.{own_part}
 use Rattle.group_state.proofs.SoundLaws.{all_filter, all_kept, tracks_within}
 use Rattle.group_state.proofs.VolumeLaws.{found_with}
@@ -123,7 +123,7 @@ all_own k v (e ∷ entries) none own =
     and_from (not (is_of_volume v e)) (list_all (λ e. not (is_of_volume v e)) entries) (ap (λ (b : Bool). not (b && is_of_volume v e)) (sym mine.0) ∙ first.0) (all_own k v entries first.1 mine.1)
 
 -- If no entry that a form shows is of a volume, none of it is due.
-pub none_due : (s : Group) (cut : Stamp) (k v : ℕ) → KeepsGroup s → k < length s.controls → list_all (λ e. not (is_entry_of_control k e && is_of_volume v e)) (shown_at cut s).entries ≡ true → list_all (λ e. not (is_of_volume v e)) (due cut (control_at s k).queue.waiting) ≡ true
+pub none_due : (s : Group) (cut : Stamp) (k v : ℕ) → IsGroupSound s → k < length s.controls → list_all (λ e. not (is_entry_of_control k e && is_of_volume v e)) (shown_at cut s).entries ≡ true → list_all (λ e. not (is_of_volume v e)) (due cut (control_at s k).queue.waiting) ≡ true
 none_due s cut k v keeps low none =
     let own = own_part s cut k keeps low in
     ap (list_all (λ e. not (is_of_volume v e))) (sym own)

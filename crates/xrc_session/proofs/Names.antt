@@ -18,7 +18,7 @@ use Rattle.pair_table.specs.Commands.{answer, answer_by, change_of}
 use Rattle.pair_table.specs.Naming.{Naming, has_volumes, numbers_set, primary_of}
 use Rattle.pair_table.specs.Refusals.{refuses_primary}
 use Rattle.pair_table.specs.Tables.{Table}
-use Rattle.consistency.specs.Stages.{Run, breaks_of, names_of, primaries_named, volumes_named}
+use Rattle.consistency.specs.Stages.{ScriptRun, breaks_of, names_of, primaries_named, volumes_named}
 use Rattle.consistency.specs.Steps.{broken_at, names_at}
 use Rattle.mover.specs.declared.lane.Lane.{Lane}
 use Rattle.mover.specs.Lanes.{broken_by, reader_in}
@@ -84,7 +84,7 @@ lane_flags time (lane ∷ lanes) (t ∷ traces) many each =
 -- ---- the names
 
 -- At the start no control has broken.
-pub names_at_start : {S : Type 0} (run : Run) (lanes : List (Lane S)) (names : Naming) → HaveHeadsOf lanes run.traces → names.primaries ≡ primaries_in 0 lanes → names.labels ≡ run.labels → names.broken ≡ [] → names ≡ names_at 0 (breaks_of run) (names_of run)
+pub names_at_start : {S : Type 0} (run : ScriptRun) (lanes : List (Lane S)) (names : Naming) → HaveHeadsOf lanes run.traces → names.primaries ≡ primaries_in 0 lanes → names.labels ≡ run.labels → names.broken ≡ [] → names ≡ names_at 0 (breaks_of run) (names_of run)
 names_at_start run lanes names heads named labels broken =
     let same : names.primaries ≡ primaries_named 0 run.traces = named ∙ sym (named_as_lanes 0 lanes run.traces heads) in
     let none : names.broken ≡ broken_at 0 0 (breaks_of run) = broken ∙ sym (none_at_zero 0 (breaks_of run)) in
@@ -99,7 +99,7 @@ names_at_start run lanes names heads named labels broken =
     none_at_zero k (b ∷ breaks) = rw (none_below b) (none_at_zero (k + 1) breaks)
 
 -- Once the controls are named whose lanes have broken, the names are those at the time up to which the lanes broke as their traces do.
-pub names_at_time : {S : Type 0} (run : Run) (lanes : List (Lane S)) (from time : ℕ) (before names : Naming) → from ≤ time → LanesBrokeAs time run.traces lanes → HaveHeadsOf lanes run.traces → HaveVolumes lanes
+pub names_at_time : {S : Type 0} (run : ScriptRun) (lanes : List (Lane S)) (from time : ℕ) (before names : Naming) → from ≤ time → LanesBrokeAs time run.traces lanes → HaveHeadsOf lanes run.traces → HaveVolumes lanes
     → before ≡ names_at from (breaks_of run) (names_of run) → names ≡ with_lanes_broken 0 lanes before → names ≡ names_at time (breaks_of run) (names_of run)
 names_at_time run lanes from time before names up broke heads have was is =
     is

@@ -12,7 +12,7 @@ use Rattle.row_changes.specs.Changes.{Timed, after_changes}
 use Rattle.row_changes.specs.Spans.{AreCounted}
 use Rattle.xrc_command.specs.declared.line.Line.{Line}
 use Rattle.consistency.specs.Answering.{answered_by, is_command_of, points_before}
-use Rattle.consistency.specs.Stages.{Run, Stage, accepts, accepts_end, breaks_of}
+use Rattle.consistency.specs.Stages.{ScriptRun, Stage, accepts, accepts_end, breaks_of}
 use Rattle.consistency.specs.Pauses.{AreToldOf, HasPassed, asked_in}
 use Rattle.consistency.specs.Courses.{Answered, IsAnswered}
 use Rattle.consistency.specs.Leads.{Point}
@@ -35,7 +35,7 @@ use Rattle.xrc_session.proofs.Asked.{fold_append, last_of_leg, none_of_number}
 
 -- ---- a line that ends the session
 
-module _ (run : Run) (s : Stage) (goes : s.table.is_ended ≡ false) (l : Leg) (leg : IsLegOf run s l) (q r : Point) (hits more : List Timed) (c : IsCommanding run s.next l q hits) (ending : IsEnding run s.next q r more) (text reply : List ℕ) (first : Point) (points : List PassedPoint) (number : ℕ) (names : HasNames s.table) where
+module _ (run : ScriptRun) (s : Stage) (goes : s.table.is_ended ≡ false) (l : Leg) (leg : IsLegOf run s l) (q r : Point) (hits more : List Timed) (c : IsCommanding run s.next l q hits) (ending : IsEnding run s.next q r more) (text reply : List ℕ) (first : Point) (points : List PassedPoint) (number : ℕ) (names : HasNames s.table) where
   pub ending_exactly : AreCounted run.rises (s.past ++ l.changes ++ (hits ++ more)) → IsExact run s first points number (answered_by run s text reply c.line l.changes (hits ++ more))
       → IsAnswered run s (answered_by run s text reply c.line l.changes (hits ++ more))
   ending_exactly counted exact =
@@ -48,7 +48,7 @@ module _ (run : Run) (s : Stage) (goes : s.table.is_ended ≡ false) (l : Leg) (
 -- ---- a line by the points of its command
 
 -- A line with these changes before its command and these hits behind it is answered with its exact reply.
-abbrev pub AnswersExactly : Run → Stage → Line → (changes hits : List Timed) → Type 0
+abbrev pub AnswersExactly : ScriptRun → Stage → Line → (changes hits : List Timed) → Type 0
 AnswersExactly run s line changes hits = (text reply : List ℕ) (first : Point) (points : List PassedPoint) (number : ℕ) → (let a = answered_by run s text reply line changes hits in IsExact run s first points number a → IsAnswered run s a)
 
 -- A mark before a command leaves the changes.
@@ -56,7 +56,7 @@ marks_change_none : (number : ℕ) (l : Leg) (n : PassedPoint) → (n.way ≡ On
 marks_change_none number l n (inl way) = ap (λ (w : Way). (leg_by l n.point w).changes) way ∙ append-nil l.changes
 marks_change_none number l n (inr marked) = ap (λ (w : Way). (leg_by l n.point w).changes) marked.1
 
-module _ (run : Run) (s : Stage) (goes : s.table.is_ended ≡ false) (names : HasNames s.table) (asked : LinesAsked) (number : ℕ) (line : Line) (heard : s.next ≡ Some line) (same : asked number ≡ s.next) where
+module _ (run : ScriptRun) (s : Stage) (goes : s.table.is_ended ≡ false) (names : HasNames s.table) (asked : LinesAsked) (number : ℕ) (line : Line) (heard : s.next ≡ Some line) (same : asked number ≡ s.next) where
   -- What comes by the command of the line.
   by_command : (l : Leg) (n : PassedPoint) (hits : List Timed) → n.way ≡ Commanded number hits → ComesNext run asked l n → IsCommanding run s.next l n.point hits
   by_command l n hits is next =
@@ -150,7 +150,7 @@ none_leave : (l : Leg) (more : List PassedPoint) → more ≡ [] → LeavesRows 
 none_leave l more is = subst (LeavesRows l) (sym is) (record { changes = refl; rows = refl })
 
 -- A mark with no hit is before the command, and those behind it.
-module _ (run : Run) (asked : LinesAsked) (number : ℕ) (l : Leg) (n : PassedPoint) (points : List PassedPoint) (way : n.way ≡ OnTheWay []) (next : ComesNext run asked l n) (later : LeavesRows (leg_after l n) (points_before number points)) where
+module _ (run : ScriptRun) (asked : LinesAsked) (number : ℕ) (l : Leg) (n : PassedPoint) (points : List PassedPoint) (way : n.way ≡ OnTheWay []) (next : ComesNext run asked l n) (later : LeavesRows (leg_after l n) (points_before number points)) where
   same_point : (leg_after l n).point ≡ n.point
   same_point = ap (λ (w : Way). (leg_by l n.point w).point) way
 
@@ -166,7 +166,7 @@ module _ (run : Run) (asked : LinesAsked) (number : ℕ) (l : Leg) (n : PassedPo
   is_before : LeavesRows l (points_before number (n ∷ points))
   is_before = subst (LeavesRows l) (sym (ap (λ (w : Way). if is_command_of number w then [] else n ∷ points_before number points) way)) behind_mark
 
-pub before_command : (run : Run) (asked : LinesAsked) (number : ℕ) (hits : List Timed) (l : Leg) (more : List PassedPoint) → AreOfCommand number hits more → AreLinked (ComesNext run asked) leg_after l more → LeavesRows l (points_before number more)
+pub before_command : (run : ScriptRun) (asked : LinesAsked) (number : ℕ) (hits : List Timed) (l : Leg) (more : List PassedPoint) → AreOfCommand number hits more → AreLinked (ComesNext run asked) leg_after l more → LeavesRows l (points_before number more)
 before_command run asked number hits l more (OfCommand n is) linked = none_leave l (points_before number (n ∷ [])) (cut_here number n [] (of_command number n.way hits (inl is)))
 before_command run asked number hits l more (OfEnd n m own behind is ends all) linked = none_leave l (points_before number (n ∷ m ∷ [])) (cut_here number n (m ∷ []) (of_command number n.way own (inl is)))
 before_command run asked number hits l more (BehindMark n points (inr marked) rest) linked = none_leave l (points_before number (n ∷ points)) (cut_here number n points (of_command number n.way marked.0 (inr marked.1)))
@@ -179,7 +179,7 @@ last_append p (n ∷ points) more = last_append n.point points more
 -- ---- what a reply tells of
 
 -- Points that were passed behind others answer a line with this number, from a leg of its stage on.
-pub record AreOfLine (run : Run) (s : Stage) (asked : LinesAsked) (first : Leg) (points more : List PassedPoint) (number : ℕ) (hits : List Timed) : Type 0 where
+pub record AreOfLine (run : ScriptRun) (s : Stage) (asked : LinesAsked) (first : Leg) (points more : List PassedPoint) (number : ℕ) (hits : List Timed) : Type 0 where
   pub before : AreLinked (ComesNext run asked) leg_after first points
   pub leg : IsLegOf run s (fold leg_after first points)
   pub none_marked : (fold leg_after first points).marked ≡ []
@@ -188,7 +188,7 @@ pub record AreOfLine (run : Run) (s : Stage) (asked : LinesAsked) (first : Leg) 
   pub by : AreOfCommand number hits more
 
 -- The reply tells of them, and they bring its changes.
-module _ (run : Run) (s : Stage) (asked : LinesAsked) (first : Leg) (points more : List PassedPoint) (number : ℕ) (hits : List Timed) (are : AreOfLine run s asked first points more number hits) where
+module _ (run : ScriptRun) (s : Stage) (asked : LinesAsked) (first : Leg) (points more : List PassedPoint) (number : ℕ) (hits : List Timed) (are : AreOfLine run s asked first points more number hits) where
   abbrev l : Leg
   l = fold leg_after first points
 

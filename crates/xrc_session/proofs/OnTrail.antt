@@ -6,7 +6,7 @@ use Rattle.crash_plant.specs.Moments.{PlantState}
 use Rattle.site_means.specs.Images.{shape_of}
 use Rattle.xrc_command.specs.declared.line.Line.{Line}
 use Rattle.consistency.specs.Bearing.{MayBeMeant, ShowsPoint}
-use Rattle.consistency.specs.Stages.{Run, Stage}
+use Rattle.consistency.specs.Stages.{ScriptRun, Stage}
 use Rattle.consistency.specs.Courses.{Answered}
 use Rattle.consistency.specs.Leads.{Point}
 use Rattle.consistency.specs.Ways.{ComesNext, Leg, PassedPoint, leg_after}
@@ -22,7 +22,7 @@ use Rattle.xrc_session.proofs.LastPoints.{last_append}
 use Rattle.xrc_session.proofs.Asked.{fold_append, last_of_leg}
 
 -- It does where each choice shows the point of its last leg.
-pub shown_on_trail : (run : Run) (lines : List Answered) (asked : Option Line) (trail : Trail) (now : PlantState) → (first_leg run lines trail).point.rows ≡ [] → AreNext run lines asked trail → (last_leg run lines trail).marked ≡ []
+pub shown_on_trail : (run : ScriptRun) (lines : List Answered) (asked : Option Line) (trail : Trail) (now : PlantState) → (first_leg run lines trail).point.rows ≡ [] → AreNext run lines asked trail → (last_leg run lines trail).marked ≡ []
     → AtNow (ShowsPoint run (shape_of now) (last_leg run lines trail).point) now → StandsOnTrail run lines asked trail None now
 shown_on_trail run lines asked trail now rowless linked none shows = record {
   rowless = rowless;
@@ -32,13 +32,13 @@ shown_on_trail run lines asked trail now rowless linked none shows = record {
 }
 
 -- It does where it rests.
-pub rests_on_trail : (run : Run) (lines : List Answered) (stage : Stage) (trail : Trail) (s : SessionState) (began now : PlantState) (site : SiteState) → RestsAtSite run lines stage trail s began now site → StandsOnTrail run lines stage.next trail None now
+pub rests_on_trail : (run : ScriptRun) (lines : List Answered) (stage : Stage) (trail : Trail) (s : SessionState) (began now : PlantState) (site : SiteState) → RestsAtSite run lines stage trail s began now site → StandsOnTrail run lines stage.next trail None now
 rests_on_trail run lines stage trail s began now site rests =
     shown_on_trail run lines stage.next trail now rests.under_way.rowless rests.under_way.next rests.rest.marked
     (subst (λ (p : Point). AtNow (ShowsPoint run (shape_of now) p) now) (sym rests.under_way.at.here) rests.under_way.at.shows)
 
 -- It does behind more points.
-pub passed_on_trail : (run : Run) (lines : List Answered) (asked : Option Line) (trail : Trail) (s : Stage) (more : List PassedPoint) (next : Option Point) (old new : PlantState) → (first_leg run lines trail).point.rows ≡ [] → AreNext run lines asked trail → (last_leg run lines trail).marked ≡ []
+pub passed_on_trail : (run : ScriptRun) (lines : List Answered) (asked : Option Line) (trail : Trail) (s : Stage) (more : List PassedPoint) (next : Option Point) (old new : PlantState) → (first_leg run lines trail).point.rows ≡ [] → AreNext run lines asked trail → (last_leg run lines trail).marked ≡ []
     → PassesPointsOn run s (asked_with lines asked) (last_leg run lines trail) more next old new → StandsOnTrail run lines asked (with_points more trail) next new
 passed_on_trail run lines asked trail s more next old new rowless linked none passes = record {
   rowless = rowless;

@@ -23,7 +23,7 @@ use Rattle.xquery_report.specs.Reports.{report_text}
 use Rattle.tod_stamp.specs.Stamps.{stamp_text}
 use Rattle.site_store.specs.Sites.{SiteState}
 use Rattle.consistency.specs.Answering.{ReplyContent, answered_by, reply_content}
-use Rattle.consistency.specs.Stages.{Run, Stage, accepts, breaks_of, names_of}
+use Rattle.consistency.specs.Stages.{ScriptRun, Stage, accepts, breaks_of, names_of}
 use Rattle.consistency.specs.Courses.{Answered, replied_after, stage_after, stage_at}
 use Rattle.consistency.specs.Leads.{Point}
 use Rattle.consistency.specs.Replying.{is_query, is_reported, own_line, report_before, told_tracks}
@@ -67,7 +67,7 @@ causes_are time (t ∷ traces) (lane ∷ lanes) same each =
 -- ---- an accepted query
 
 -- A query that is accepted is one of a session that has started and not ended.
-query_of_active : (run : Run) (table : Table) (line : Line) → line.command ≡ Query → accepts run table line ≡ true → (table.is_started ≡ true) × (table.is_ended ≡ false)
+query_of_active : (run : ScriptRun) (table : Table) (line : Line) → line.command ≡ Query → accepts run table line ≡ true → (table.is_started ≡ true) × (table.is_ended ≡ false)
 query_of_active run table line query accepted =
     by_flags table.is_ended table.is_started (bytes_eq line.session table.session)
     (subst (λ (c : Command). is_none (refusal (names_at line.time.0 (breaks_of run) (names_of run)) table line.session c) ≡ true) query accepted)
@@ -79,7 +79,7 @@ query_of_active run table line query accepted =
     by_flags false false false is = absurd cc
 
 -- It leaves the table.
-query_leaves : (run : Run) (table : Table) (line : Line) → line.command ≡ Query → accepts run table line ≡ true → commanded (breaks_of run) (names_of run) table line ≡ table
+query_leaves : (run : ScriptRun) (table : Table) (line : Line) → line.command ≡ Query → accepts run table line ≡ true → commanded (breaks_of run) (names_of run) table line ≡ table
 query_leaves run table line query accepts_it =
     let names = names_at line.time.0 (breaks_of run) (names_of run) in
     let flags = query_of_active run table line query accepts_it in
@@ -116,7 +116,7 @@ pub record IsAsTold (s : SessionState) : Type 0 where
   pub unstarted : s.site ≡ None → s.table.is_started ≡ false
   pub started : IfSome s.site (λ site. (site.table ≡ s.table) × (s.table.is_started ≡ true))
 
-module _ {S : Type 0} (run : Run) (lines : List Answered) (trail : Trail) (text : List ℕ) (line : Line) (answer : LineAnswer) (s : SessionState) (lanes : List (Lane S)) (began now : PlantState) (to : IsToReply run lines trail text line answer s lanes began now) (as_told : IsAsTold s)
+module _ {S : Type 0} (run : ScriptRun) (lines : List Answered) (trail : Trail) (text : List ℕ) (line : Line) (answer : LineAnswer) (s : SessionState) (lanes : List (Lane S)) (began now : PlantState) (to : IsToReply run lines trail text line answer s lanes began now) (as_told : IsAsTold s)
     (many : length run.traces ≡ length lanes) (reply : List ℕ) where
   abbrev stage : Stage
   stage = stage_behind run lines text began

@@ -8,7 +8,7 @@ use Rattle.crash_plant.specs.Calls.{WorksOnConsole}
 use Rattle.crash_plant.specs.Choices.{AtNow}
 use Rattle.crash_plant.specs.Moments.{PlantState}
 use Rattle.site_means.specs.Images.{shape_of}
-use Rattle.consistency.specs.Stages.{Run, Stage}
+use Rattle.consistency.specs.Stages.{ScriptRun, Stage}
 use Rattle.consistency.specs.Pauses.{MayReply, RunGoesOn}
 use Rattle.consistency.specs.Courses.{Answered, IsAnswered, last_line_time, replies_of, stage_after, stage_at, texts_of}
 use Rattle.consistency.specs.Keeping.{stage_now}
@@ -23,7 +23,7 @@ use Rattle.consistency.proofs.Pieces.{times_append}
 use Rattle.consistency.proofs.Replying.{exact_says_up_to}
 use Rattle.consistency.proofs.Standing.{bears_on, console_choice}
 
-module _ (run : Run) (lines : List Answered) (from : Leg) (points : List PassedPoint) (a : Answered) (first old new : PlantState) (goes : RunGoesOn run lines a.text first old)
+module _ (run : ScriptRun) (lines : List Answered) (from : Leg) (points : List PassedPoint) (a : Answered) (first old new : PlantState) (goes : RunGoesOn run lines a.text first old)
     (reply : MayReply run (stage_now run first.script lines a.text) lines from points a old) (tells : Type 0) (told : tells) (works : WorksOnConsole tells old new) where
   abbrev s : Stage
   s = stage_now run first.script lines a.text

@@ -44,7 +44,7 @@ use Rattle.site_store.specs.Changing.{DoesChange, change_deeds, change_deeds_of,
 use Rattle.site_store.specs.Commands.{excepted_by_change, is_added}
 use Rattle.site_store.specs.Marking.{excepted_with_waiting, rows_at_mark}
 use Rattle.site_store.specs.Sites.{SiteState, has_failed}
-use Rattle.site_store.specs.Ways.{record_has_room, way_of}
+use Rattle.site_store.specs.Placements.{record_has_room, placement_of}
 use Rattle.site_store.proofs.LogStage.{stands_more}
 use Rattle.xrc_session.specs.Resting.{ChangesKeepTracks, ExceptedBehindChangesAreOwed, IdleMarksExceptNoMore, IsOfChange, KeepTracks, LogsFrom, MarksKeepTracks, RowsStandBehindChanges, RowsStandBehindCommands, SitesStandBehindDeeds}
 use Rattle.xrc_session.proofs.RestingSites.{hits_told}
@@ -91,22 +91,22 @@ cond_has P false x y left right = right
 
 -- There is none, or its record alone, or a mark before it.
 module _ (tells : Type 0) (cut : ℕ) (change : Change) (site next : SiteState) (old new : PlantState) (result : Result (Unit {0}) StoreError) (does : DoesChange tells cut change site next old new result) (P : List Deed → Type 0) where
-  by_way : (items : List Item) → P (Changed cut (table_with_hits cut next.failed site) ∷ []) → P (Marked site.at site.mark.ended (told_by_mark next.failed site) ∷ Changed cut (table_with_hits cut next.failed site) ∷ [])
-      → P (change_deeds (way_of old site items) site cut next.failed)
-  by_way items alone marked =
-      cond_has (λ way. P (change_deeds way site cut next.failed)) (record_has_room old site.at items) _ _ alone
-      (cond_has (λ way. P (change_deeds way site cut next.failed)) (next_set old.journals site.at.set == site.mark.at.set) _ _ marked alone)
+  by_placement : (items : List Item) → P (Changed cut (table_with_hits cut next.failed site) ∷ []) → P (Marked site.at site.mark.ended (told_by_mark next.failed site) ∷ Changed cut (table_with_hits cut next.failed site) ∷ [])
+      → P (change_deeds (placement_of old site items) site cut next.failed)
+  by_placement items alone marked =
+      cond_has (λ placement. P (change_deeds placement site cut next.failed)) (record_has_room old site.at items) _ _ alone
+      (cond_has (λ placement. P (change_deeds placement site cut next.failed)) (next_set old.journals site.at.set == site.mark.at.set) _ _ marked alone)
 
   pub deeds_cases : (changed_items change site.table.rows ≡ [] → P []) → (changed_items change site.table.rows ≢ [] → P (Changed cut (table_with_hits cut next.failed site) ∷ []))
-      → (changed_items change site.table.rows ≢ [] → P (Marked site.at site.mark.ended (told_by_mark next.failed site) ∷ Changed cut (table_with_hits cut next.failed site) ∷ [])) → P (change_deeds_of change does.way site cut next.failed)
+      → (changed_items change site.table.rows ≢ [] → P (Marked site.at site.mark.ended (told_by_mark next.failed site) ∷ Changed cut (table_with_hits cut next.failed site) ∷ [])) → P (change_deeds_of change does.placement site cut next.failed)
   deeds_cases none alone marked = by_items (changed_items change site.table.rows) refl
     where
-      by_items : (items : List Item) → changed_items change site.table.rows ≡ items → P (change_deeds_of change does.way site cut next.failed)
+      by_items : (items : List Item) → changed_items change site.table.rows ≡ items → P (change_deeds_of change does.placement site cut next.failed)
       by_items [] is = rw (is, change_deeds_of) (none is)
       by_items (i ∷ items) is =
           let some : changed_items change site.table.rows ≢ [] = λ empty. let clash : i ∷ items ≡ [] = sym is ∙ empty in cc clash in
-          let way = does.is_way some in
-          rw (is, change_deeds_of) (subst (λ w. P (change_deeds w site cut next.failed)) (sym way.way_is) (by_way way.first (alone some) (marked some)))
+          let placement = does.is_placement some in
+          rw (is, change_deeds_of) (subst (λ w. P (change_deeds w site cut next.failed)) (sym placement.placement_is) (by_placement placement.first (alone some) (marked some)))
 
 -- ---- what is owed
 

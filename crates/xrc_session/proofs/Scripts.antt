@@ -14,7 +14,7 @@ use Rattle.pair_table.specs.Tables.{Table}
 use Rattle.record_rows.specs.Hits.{hit_now}
 use Rattle.site_store.specs.IdleSites.{IsSiteIdle}
 use Rattle.site_store.specs.Sites.{SiteState}
-use Rattle.consistency.specs.Stages.{Run}
+use Rattle.consistency.specs.Stages.{ScriptRun}
 use Rattle.consistency.specs.Courses.{Answered, last_line_time}
 use Rattle.consistency.specs.Replying.{HasRunNames}
 use Rattle.consistency.proofs.Between.{runs_begin}
@@ -69,7 +69,7 @@ given_traces controls plant sources none = headers_good 0 [] sources (opening_no
 -- ---- the run
 
 -- The run of a script, by what is known of its session.
-abbrev run_of : (session : List ℕ) → List Trace → List NamedDevice → Level → (old new : PlantState) → Run
+abbrev run_of : (session : List ℕ) → List Trace → List NamedDevice → Level → (old new : PlantState) → ScriptRun
 run_of session traces labels level old new = record { session = session; traces = traces; labels = labels; level = level; rises = λ d. new.faults (Volume d) - old.faults (Volume d) }
 
 module _ (session : List ℕ) (valid : is_session session ≡ true) (sources : List SourceBytes) (traces : List Trace) (given : AreTracesGiven sources traces) (old new : PlantState) (fell : NoneFell old new) where
@@ -82,7 +82,7 @@ module _ (session : List ℕ) (valid : is_session session ≡ true) (sources : L
 
   -- There is a run of the script that is known by this session.
   pub record KnownRun (known : SessionState) : Type 0 where
-    pub run : Run
+    pub run : ScriptRun
     pub its : IsRunOfSession known run
     pub traces_are : run.traces ≡ traces
     pub over : IsRunOfScript session sources old new run
@@ -218,7 +218,7 @@ module _ {S : Type 0} (tells : Type 0) (left : S → Option (List ℕ)) (faults 
       let finished = finishes k.run ends.0 ends.1.0 over.1 ends.2 answered.goes answered.exact answered.stands in
       record { run = k.run; over = k.over; lines = ends.0; text = []; ends = by_result k.run ends.0 result cause finished (applies_on k.run ends.0 old mid new answered.goes.now.later site past answered.applied) }
     where
-      by_result : (run : Run) (lines : List Answered) (r : Result (Unit {0}) Stop) → IfErr r (HasStopCause mid new) → EndsFinishing run lines old new r → AppliesEnds run lines old new → EndsScript tells run lines [] old new r
+      by_result : (run : ScriptRun) (lines : List Answered) (r : Result (Unit {0}) Stop) → IfErr r (HasStopCause mid new) → EndsFinishing run lines old new r → AppliesEnds run lines old new → EndsScript tells run lines [] old new r
       by_result run lines (Ok value) why finished applied = (refl, finished, applied)
       by_result run lines (Err stop) why finished applied = record {
         stops = finished;

@@ -9,7 +9,7 @@ use Rattle.pair_table.specs.Tables.{are_below, none_clash}
 use Rattle.group_state.specs.Volumes.{volume_of}
 use Rattle.group_state.specs.Controls.{ControlState, counts}
 use Rattle.group_state.specs.Groups.{Group, control_at, with_control}
-use Rattle.group_state.specs.SoundStates.{KeepsGroup, passes_or_none}
+use Rattle.group_state.specs.SoundStates.{IsGroupSound, passes_or_none}
 use Rattle.consistency.specs.Stages.{tracks_of_row}
 use Rattle.fed_logs.specs.ToldTracks.{AllHold, after_entries, is_queued_up_to, is_settled_in}
 use Rattle.fed_logs.specs.Feeds.{truth_of}
@@ -37,7 +37,7 @@ pub record Changes (start : PlantState) (b : Between) (k v : ℕ) (change : Cont
   pub change_other : (u : ℕ) → nat_eq v u ≡ false → KeepsOther u (control_at b.group k) (changed_control b k change)
   pub phase : (c : ControlState) → (change c).phase ≡ c.phase
   pub sized : passes_or_none (is_of_size (b.size k v)) (volume_of v (changed_control b k change).volumes) ≡ true
-  pub keeps : KeepsGroup (with_control k change b.group)
+  pub keeps : IsGroupSound (with_control k change b.group)
   pub all : (c : Choice) → IsChoice start start.clock c → AllHold (truth_of b.run.traces) (held_by_choice start c b.point.rows) (with_control k change b.group)
   -- its row
   pub live : HasRowIn IsLive k v next → counts (control_at b.group k).phase ≡ true

@@ -21,7 +21,7 @@ use Rattle.group_state.proofs.SoundLaws.{all_up, count_cons, dropped_none, none_
 use Rattle.fed_logs.specs.Logs.{IsPlanDone}
 use Rattle.mover.proofs.Pairs.{Among, among_of}
 use Rattle.mover.proofs.Pairs.Among.{Here, Later}
-use Rattle.xrc_session.specs.Taking.{KeepsForRow, KeepsForRows}
+use Rattle.xrc_session.specs.Taking.{IsSoundForRow, IsSoundForRows}
 use Rattle.xrc_session.proofs.Calls.{own_is, resume_itself}
 use Rattle.xrc_session.proofs.CarriedRows.{one_of_device}
 use Rattle.xrc_session.proofs.KeptRows.{sized_there}
@@ -43,11 +43,11 @@ none_copied v e = choose (is_of_volume v e)
     choose true is = absurd (true≢false (sym is))
     choose false is = refl
 
-module _ (s : Group) (rows : List PairRow) (r : PairRow) (kept : KeepsForRows s rows) (among : Contains rows r) (suspended : is_suspended r.state ≡ true) (none : owed r.volume (control_at s r.control).volumes ≡ 0) where
+module _ (s : Group) (rows : List PairRow) (r : PairRow) (kept : IsSoundForRows s rows) (among : Contains rows r) (suspended : is_suspended r.state ≡ true) (none : owed r.volume (control_at s r.control).volumes ≡ 0) where
   abbrev c : ControlState
   c = control_at s r.control
 
-  own : KeepsForRow s r
+  own : IsSoundForRow s r
   own = kept.each r among
 
   behind : control_at (group_after s (Resume r.control r.volume)) r.control ≡ resumed r.volume c

@@ -32,7 +32,7 @@ use Rattle.site_means.proofs.Goes.{shape_same}
 use Rattle.xrc_command.specs.declared.line.Line.{Line}
 use Rattle.site_store.specs.Sites.{SiteState, new_site}
 use Rattle.site_store.specs.Standing.{SiteStands, none_excepted}
-use Rattle.consistency.specs.Stages.{Run, Stage}
+use Rattle.consistency.specs.Stages.{ScriptRun, Stage}
 use Rattle.consistency.specs.Bearing.{ShowsPoint}
 use Rattle.consistency.specs.Leads.{Point}
 use Rattle.consistency.specs.Ways.{Leg, PassedPoint, leg_at}
@@ -42,7 +42,7 @@ use Rattle.mover.specs.Epochs.{AllTurnOut, IsSamePair, point_of}
 use Rattle.mover.specs.Rounds.{AreLanesOf}
 use Rattle.mover.specs.Working.{LinesAsked, StandsForRows}
 use Rattle.xrc_status.specs.declared.stop.Stop.TheVariants as stops
-use Rattle.xrc_session.specs.declared.kept.Kept.{Kept}
+use Rattle.xrc_session.specs.declared.kept.SessionParts.{SessionParts}
 use Rattle.xrc_session.specs.Beginnings.{HasJustStarted, run_at_start, stage_at_start}
 use Rattle.xrc_session.specs.LinePauses.{AreCountsFrom, HasCut, IsReadyForEpoch, MayCommandSite, RisesCover, StandsForSite, site_point}
 use Rattle.xrc_session.specs.MapsOwed.{MapsOwed, MapsRest}
@@ -50,7 +50,7 @@ use Rattle.xrc_session.specs.Bringing.{IsSiteBrought}
 use Rattle.xrc_session.specs.Lanes.{sizes_of, with_lanes_broken}
 use Rattle.xrc_session.specs.Starting.{FormatsFirst, IsSafeThroughout, IsSiteStarted, MeansStart, ShutsOrStarts, StandsStarted, StartsRuns}
 use Rattle.xrc_session.specs.Steps.{BringsOn, HasBrought, MayBring}
-use Rattle.xrc_session.specs.Taking.{KeepsForRows}
+use Rattle.xrc_session.specs.Taking.{IsSoundForRows}
 use Rattle.xrc_session.proofs.JoinsLanes.{lanes_later}
 use Rattle.xrc_session.proofs.JoinsRows.{kept_known}
 use Rattle.xrc_session.proofs.MapsKeeps.{new_groups_keep_maps}
@@ -75,7 +75,7 @@ no_row : (r : PairRow) → Contains {X = PairRow} [] r → ⊥
 no_row r among = absurd (let low = among.1 in omega (arith, low))
 
 -- A new state keeps volumes for no row.
-keeps_none : (controls : ℕ) (rows : List PairRow) → 1 ≤ controls → controls ≤ 16 → rows ≡ [] → KeepsForRows (first_group controls) rows
+keeps_none : (controls : ℕ) (rows : List PairRow) → 1 ≤ controls → controls ≤ 16 → rows ≡ [] → IsSoundForRows (first_group controls) rows
 keeps_none controls rows some few none = record {
   keeps = kept_first controls WRITES_OF_RUN BLOCKS_OF_QUEUE some few (omega arith);
   apart = ap none_clash none;
@@ -105,7 +105,7 @@ ready_at_start tells controls volumes session level at lanes names site plant so
     none : site.told ≡ []
     none = ap (λ (s : SiteState). s.told) is
 
-    kept : KeepsForRows (first_group controls) site.told
+    kept : IsSoundForRows (first_group controls) site.told
     kept = keeps_none controls site.told some few none
 
     many : length (volumes_known (first_group controls)) ≤ site.controls
@@ -125,7 +125,7 @@ pub none_brought : (time : ℕ) (site after : SiteState) → site.told ≡ [] �
 none_brought time site after none brought = rows_stay after.told (subst (λ (l : List PairRow). InPlaces IsSamePair l after.told) none brought.pairs)
 
 -- Nothing is owed without a row.
-no_maps : (run : Run) (first : Point) (points : List PassedPoint) (p : Point) (group : Group) → p.rows ≡ [] → MapsOwed run first points p group
+no_maps : (run : ScriptRun) (first : Point) (points : List PassedPoint) (p : Point) (group : Group) → p.rows ≡ [] → MapsOwed run first points p group
 no_maps run first points p group none r among = absurd (no_row r (subst (λ (l : List PairRow). Contains l r) none among))
 
 -- Maps of a new state are at rest, since it has no cut and there is no row.
@@ -172,10 +172,10 @@ site_started tells controls volumes session level at lanes names now group site 
 
 -- ---- in runs
 
-module _ {S : Type 0} (tells : Type 0) (told : tells) (left : S → Option (List ℕ)) (controls volumes : ℕ) (session : List ℕ) (level : Level) (at : Stamp) (lanes then : List (Lane S)) (kept kept_now : Kept) (site after : SiteState) (began old mid new : PlantState) (some : 1 ≤ controls) (few : controls ≤ 16) (later : 1 ≤ at.0)
+module _ {S : Type 0} (tells : Type 0) (told : tells) (left : S → Option (List ℕ)) (controls volumes : ℕ) (session : List ℕ) (level : Level) (at : Stamp) (lanes then : List (Lane S)) (kept kept_now : SessionParts) (site after : SiteState) (began old mid new : PlantState) (some : 1 ≤ controls) (few : controls ≤ 16) (later : 1 ≤ at.0)
     (is : site ≡ new_site controls volumes session level at) (stands : SiteStands none_excepted site mid) (names : Naming) (may : MayCommandSite tells names mid site) (shared : kept.group ≡ Some (first_group controls)) (of : AreLanesOf (first_group controls) 0 lanes)
     (up : (d : ℕ) → old.faults (Volume d) ≤ mid.faults (Volume d)) (brought : IsSiteBrought at.0 site after) (brings : BringsOn left at.0 lanes then kept kept_now site after began mid new (Ok tt)) (read : (d : Device) → IsThere mid d → mid.images mid.clock d (mid.bytes d)) where
-  module _ (run : Run) (name : run.session ≡ session) (at_level : run.level ≡ level) (from : AreCountsFrom began old) (turns : AllTurnOut left run.traces lanes then) (rises : RisesCover run began new) where
+  module _ (run : ScriptRun) (name : run.session ≡ session) (at_level : run.level ≡ level) (from : AreCountsFrom began old) (turns : AllTurnOut left run.traces lanes then) (rises : RisesCover run began new) where
     abbrev group : Group
     group = first_group controls
 

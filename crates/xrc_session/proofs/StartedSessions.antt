@@ -8,14 +8,14 @@ use Rattle.crash_plant.specs.Choices.{AtNow, Choice, IsChoice}
 use Rattle.crash_plant.specs.Moments.{PlantState}
 use Rattle.group_state.specs.Controls.{ControlState, new_control}
 use Rattle.group_state.specs.Groups.{Group, control_at, new_group}
-use Rattle.group_state.specs.SoundStates.{KeepsGroup}
+use Rattle.group_state.specs.SoundStates.{IsGroupSound}
 use Rattle.group_state.proofs.GroupLaws.{length_new}
 use Rattle.group_state.proofs.Kept.{kept_first}
 use Rattle.group_state.proofs.Stands.{new_at}
 use Rattle.site_means.specs.Images.{shape_of}
 use Rattle.site_means.specs.Sight.{meant_by}
 use Rattle.xrc_command.specs.declared.line.Line.{Line}
-use Rattle.consistency.specs.Stages.{Run}
+use Rattle.consistency.specs.Stages.{ScriptRun}
 use Rattle.fed_logs.specs.Logs.{Sizes}
 use Rattle.fed_logs.specs.ShownBreaks.{BreaksAreToCome, BrokeAsTraces, StillTells}
 use Rattle.fed_logs.proofs.BreaksToCome.{all_breaks_are_to_come}
@@ -38,7 +38,7 @@ has_nothing n records blocks k low =
     let is : control_at (new_group n records blocks) k ≡ new_control (0 + k) records blocks = new_at n 0 records blocks k (new_control 0 0 0) (omega (arith, low, length_new n 0 records blocks)) in
     (ap (λ (c : ControlState). c.volumes) is, ap (λ (c : ControlState). c.queue.waiting) is)
 
-module _ (tells : Type 0) (plant : PlantState) (run : Run) (time : Stamp) (next : Option Line) (answered : ℕ) (size : Sizes) (counts : (device : ℕ) → ℕ) (group : Group) (site : SiteState) (h : HasJustStarted tells run time counts group site plant)
+module _ (tells : Type 0) (plant : PlantState) (run : ScriptRun) (time : Stamp) (next : Option Line) (answered : ℕ) (size : Sizes) (counts : (device : ℕ) → ℕ) (group : Group) (site : SiteState) (h : HasJustStarted tells run time counts group site plant)
     (read : (d : Device) → IsThere plant d → plant.images plant.clock d (plant.bytes d)) where
   abbrev so : RunSoFar
   so = run_at_start run (stage_at_start run time.0 next) answered size counts
@@ -65,8 +65,8 @@ module _ (tells : Type 0) (plant : PlantState) (run : Run) (time : Stamp) (next 
     tracks = λ place r at duplex x low. let none : None ≡ Some r = at in cc none;
   }
 
-  keeps : KeepsGroup group
-  keeps = subst KeepsGroup (sym h.shared) (kept_first h.controls h.records h.blocks h.some h.few h.most)
+  keeps : IsGroupSound group
+  keeps = subst IsGroupSound (sym h.shared) (kept_first h.controls h.records h.blocks h.some h.few h.most)
 
   abbrev between : Between
   between = record { run = run; size = size; excepted = none_excepted; group = group; point = p; done = λ k v. false }

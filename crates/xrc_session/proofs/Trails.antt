@@ -19,7 +19,7 @@ use Rattle.site_means.specs.Images.{Shape, shape_of}
 use Rattle.site_means.proofs.Goes.{shape_same}
 use Rattle.xrc_command.specs.declared.line.Line.{Line}
 use Rattle.consistency.specs.Bearing.{GoesThroughPoints, MayBeMeant, ShowsPoint}
-use Rattle.consistency.specs.Stages.{IsTime, Run, Stage}
+use Rattle.consistency.specs.Stages.{IsTime, ScriptRun, Stage}
 use Rattle.consistency.specs.Pauses.{RunGoesOn, ShowsMeant}
 use Rattle.consistency.specs.Courses.{Answered, AreAsked, last_line_time, next_line, replies_of, stage_at, texts_of}
 use Rattle.consistency.specs.Keeping.{stage_now}
@@ -49,13 +49,13 @@ use Rattle.xrc_session.proofs.Asked.{asked_alike, asked_of_lines, asked_of_none,
 up_to_later : (early late : ℕ) (times : List ℕ) → early ≤ late → AreUpTo early times → AreUpTo late times
 up_to_later early late times le all = All-weaker (λ z. z ≤ early) (λ z. z ≤ late) (λ z at. omega (arith, le, at)) times all
 
-pub last_meant : (run : Run) (s : Stage) (p : Point) (points : List PassedPoint) → MayBeMeant run s p → All (λ n. MayBeMeant run s n.point) points → MayBeMeant run s (last_point p points)
+pub last_meant : (run : ScriptRun) (s : Stage) (p : Point) (points : List PassedPoint) → MayBeMeant run s p → All (λ n. MayBeMeant run s n.point) points → MayBeMeant run s (last_point p points)
 last_meant run s p [] may all = may
 last_meant run s p (n ∷ points) may all =
     last_meant run s n.point points (All-head (λ (m : PassedPoint). MayBeMeant run s m.point) n points all) (All-tail (λ (m : PassedPoint). MayBeMeant run s m.point) n points all)
 
 -- What may be meant is shown now, by each choice that shows the last of points or the one on its way.
-module _ (run : Run) (s : Stage) (asked : LinesAsked) (l : Leg) (points : List PassedPoint) (next : Option Point) (old new : PlantState) (may : MayBeMeant run s l.point) (passes : PassesPointsOn run s asked l points next old new) where
+module _ (run : ScriptRun) (s : Stage) (asked : LinesAsked) (l : Leg) (points : List PassedPoint) (next : Option Point) (old new : PlantState) (may : MayBeMeant run s l.point) (passes : PassesPointsOn run s asked l points next old new) where
   pub next_meant : IfSome next (MayBeMeant run s)
   next_meant = of_next next passes.on_its_way
     where
@@ -74,7 +74,7 @@ module _ (run : Run) (s : Stage) (asked : LinesAsked) (l : Leg) (points : List P
       of_next (Some q) on (inl shown) = (last_point l.point points, last, shown)
       of_next (Some q) on (inr shown) = (q, on, shown)
 
-module _ (first old new : PlantState) (run : Run) (lines : List Answered) (text : List ℕ) (goes : RunGoesOn run lines text first old) (site : SameSite old new) (elapses : Elapses old new) (silent : Silent old new) where
+module _ (first old new : PlantState) (run : ScriptRun) (lines : List Answered) (text : List ℕ) (goes : RunGoesOn run lines text first old) (site : SameSite old new) (elapses : Elapses old new) (silent : Silent old new) where
   abbrev s : Stage
   s = stage_now run first.script lines text
 
@@ -132,7 +132,7 @@ module _ (first old new : PlantState) (run : Run) (lines : List Answered) (text 
 -- ---- a leg at rest
 
 -- The point of a leg of a stage at which no row has changed may be meant, whatever line was heard next.
-module _ (run : Run) (script : List ℕ) (lines : List Answered) (text : List ℕ) (asked : AreAsked script lines) (counted : AreCounted run.rises (stage_at run lines (length lines)).past) where
+module _ (run : ScriptRun) (script : List ℕ) (lines : List Answered) (text : List ℕ) (asked : AreAsked script lines) (counted : AreCounted run.rises (stage_at run lines (length lines)).past) where
   abbrev here : Stage
   here = stage_now run script lines text
 
@@ -159,11 +159,11 @@ module _ (run : Run) (script : List ℕ) (lines : List Answered) (text : List �
 -- ---- forth
 
 -- Whatever a crash leaves at the last moment shows the last point.
-pub last_shown : (run : Run) (plant : PlantState) (from to : ℕ) (p : Point) (points : List PassedPoint) → GoesThroughPoints run plant from p points to None → (c : Choice) → IsChoice plant to c → ShowsPoint run (shape_of plant) (last_point p points) c
+pub last_shown : (run : ScriptRun) (plant : PlantState) (from to : ℕ) (p : Point) (points : List PassedPoint) → GoesThroughPoints run plant from p points to None → (c : Choice) → IsChoice plant to c → ShowsPoint run (shape_of plant) (last_point p points) c
 last_shown run plant from to p [] goes c is = goes.1 to goes.0 (omega arith) c is
 last_shown run plant from to p (n ∷ points) goes c is = last_shown run plant n.moment to n.point points goes.3 c is
 
-module _ (run : Run) (lines : List Answered) (asked : Option Line) (trail : Trail) (began old new : PlantState) (site : SameSite old new) (elapses : Elapses old new) (up : 0 < old.clock) (forth : GoesForth run lines asked trail None began old) where
+module _ (run : ScriptRun) (lines : List Answered) (asked : Option Line) (trail : Trail) (began old new : PlantState) (site : SameSite old new) (elapses : Elapses old new) (up : 0 < old.clock) (forth : GoesForth run lines asked trail None began old) where
   from_before : forth.from ≤ old.clock
   from_before = moments_rise Point Way Choice (IsChoice old) (ShowsPoint run (shape_of old)) forth.from old.clock (first_leg run lines trail).point trail.points None forth.goes
 
@@ -225,7 +225,7 @@ module _ (run : Run) (lines : List Answered) (asked : Option Line) (trail : Trai
           subst (λ (shape : Shape). ShowsPoint run shape (last_point (first_leg run lines trail).point trail.points) c) (sym (shape_same old new site))
           (last_shown run old forth.from old.clock (first_leg run lines trail).point trail.points forth.goes c (console_choice tells told old new t c works since within is))
 
-module _ (run : Run) (lines : List Answered) (trail : Trail) where
+module _ (run : ScriptRun) (lines : List Answered) (trail : Trail) where
   -- Links stay as they are when a line is heard at rest.
   pub next_heard : (asked other : Option Line) → (last_leg run lines trail).marked ≡ [] → (last_leg run lines trail).answered ≤ length lines → AreNext run lines asked trail → AreNext run lines other trail
   next_heard asked other none up linked = links_look_back run (asked_with lines asked) (asked_with lines other) (first_leg run lines trail) trail.points none (λ k below. asked_alike lines asked other k (omega (arith, below, up))) linked

@@ -30,7 +30,7 @@ use Rattle.fed_logs.specs.Moves.{Plans, plans_without}
 use Rattle.mover.proofs.Failing.{among_map}
 use Rattle.mover.proofs.Pairs.{Among, among_of, apart_among, apart_still, contains_of, found_of_device, pair_of, pairs_of}
 use Rattle.mover.proofs.Pairs.Among.{Here, Later}
-use Rattle.xrc_session.specs.Taking.{AllMay, IfAdds, IsSuspendedSince, KeepsForRows, MayBeBegun, MayTake, after_calls, as_pending, calls_of_change, carry_calls, command_calls, drop_between, drop_by, drop_call, drop_calls, forget_calls, is_begun, owes_again, plans_after, plans_after_calls}
+use Rattle.xrc_session.specs.Taking.{AllMay, IfAdds, IsSuspendedSince, IsSoundForRows, MayBeBegun, MayTake, after_calls, as_pending, calls_of_change, carry_calls, command_calls, drop_between, drop_by, drop_call, drop_calls, forget_calls, is_begun, owes_again, plans_after, plans_after_calls}
 use Rattle.xrc_session.specs.Taking.{resume_calls, rows_by_command, stands_again, state_by_command, state_or_pending, tracks_owed_to}
 use Rattle.xrc_session.proofs.KeptRows.{apart_last, may_carry_row}
 use Rattle.xrc_session.proofs.CarriedRows.{among_either, among_kept, stated_among}
@@ -69,7 +69,7 @@ found_in test (t ∷ rows) r found = choose (test t) found (found_in test rows r
 
 -- What each call leaves of something that goes with a state, its rows and the plans that are known to be done. An added row may have to fit.
 pub record Steps (J : Group → List PairRow → Plans → Type 0) (fits : PairRow → Type 0) : Type 1 where
-  pub kept : (s : Group) (rows : List PairRow) (done : Plans) → J s rows done → KeepsForRows s rows
+  pub kept : (s : Group) (rows : List PairRow) (done : Plans) → J s rows done → IsSoundForRows s rows
   pub drop : (s : Group) (rows : List PairRow) (done : Plans) (r : PairRow) (state : PairState) (all : Bool) → J s rows done → Contains rows r → is_suspended state ≡ true
       → (is_device_suspended state ≡ true → all ≡ true) → (all ≡ false → IsPlanDone r.volume (control_at s r.control))
       → J (group_after s (Drop r.control r.volume all)) (with_state r.device state rows) (plans_without r.control r.volume done)
@@ -135,7 +135,7 @@ module _ (J : Group → List PairRow → Plans → Type 0) (fits : PairRow → T
       → Walked J (drop_call (in_state state r) (drop_between r.state state)) s (xs ++ in_state state r ∷ rest) done
   drop_one xs r rest state s done stays j = choose (drop_between r.state state) refl
     where
-      kept : KeepsForRows s (xs ++ r ∷ rest)
+      kept : IsSoundForRows s (xs ++ r ∷ rest)
       kept = steps.kept s (xs ++ r ∷ rest) done j
 
       among : Contains (xs ++ r ∷ rest) r
@@ -235,7 +235,7 @@ module _ (J : Group → List PairRow → Plans → Type 0) (fits : PairRow → T
         (steps.drop t (with_state r.device Pending before) done pending r.state all resumed.ends there suspended failed known);
   }
     where
-      kept : KeepsForRows s before
+      kept : IsSoundForRows s before
       kept = steps.kept s before done j
 
       resumed : Walked J (Resume r.control r.volume ∷ []) s (with_state r.device Pending before) done
@@ -250,7 +250,7 @@ module _ (J : Group → List PairRow → Plans → Type 0) (fits : PairRow → T
       all : Bool
       all = owes_again (tracks_owed_to s (Some r)) r.state
 
-      behind : KeepsForRows t (with_state r.device Pending before)
+      behind : IsSoundForRows t (with_state r.device Pending before)
       behind = steps.kept t (with_state r.device Pending before) done resumed.ends
 
       there : Contains (with_state r.device Pending before) pending

@@ -11,7 +11,7 @@ use Rattle.passages.specs.Points.{last_point}
 use Rattle.passages.proofs.InARow.{moments_rise}
 use Rattle.site_means.specs.Images.{shape_of}
 use Rattle.consistency.specs.Bearing.{GoesThroughPoints, ShowsPoint}
-use Rattle.consistency.specs.Stages.{Run}
+use Rattle.consistency.specs.Stages.{ScriptRun}
 use Rattle.consistency.specs.Leads.{Point}
 use Rattle.consistency.specs.Ways.{PassedPoint, Way, is_on_the_way}
 use Rattle.xrc_session.specs.Frames.{ChangesRows}
@@ -26,7 +26,7 @@ passed_later from to upto [] early passed = tt
 passed_later from to upto (n ∷ points) early passed = (let first = passed.0 in omega (arith, early, first), passed.1, passed_later from to upto points early passed.2)
 
 -- Points that devices go through are passed meanwhile.
-pub passed_within : (run : Run) (plant : PlantState) (from to : ℕ) (p : Point) (points : List PassedPoint) (next : Option Point) → GoesThroughPoints run plant from p points to next → ArePassedWithin from to points
+pub passed_within : (run : ScriptRun) (plant : PlantState) (from to : ℕ) (p : Point) (points : List PassedPoint) (next : Option Point) → GoesThroughPoints run plant from p points to next → ArePassedWithin from to points
 passed_within run plant from to p [] next goes = tt
 passed_within run plant from to p (n ∷ points) next goes = (
   goes.0,

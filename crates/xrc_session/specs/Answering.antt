@@ -13,7 +13,7 @@ use Rattle.pair_table.specs.declared.names.NamedVolume.{NamedVolume}
 use Rattle.pair_table.specs.declared.row.PairRow.{PairRow}
 use Rattle.pair_table.specs.Commands.{answer, table_after}
 use Rattle.pair_table.specs.Naming.{Naming, is_broken, none_alike}
-use Rattle.pair_table.specs.Tables.{KeepsRows, with_rows}
+use Rattle.pair_table.specs.Tables.{AreRowsSound, with_rows}
 use Rattle.xrc_command.specs.declared.line.Line.{Line}
 use Rattle.group_state.specs.Controls.{counts}
 use Rattle.group_state.specs.Groups.{Group, control_at}
@@ -26,7 +26,7 @@ use Rattle.site_store.specs.IdleSites.{IsSiteIdle}
 use Rattle.site_store.specs.Commands.{IsToLog, LabelsFit, MayDo, behind_command}
 use Rattle.site_store.specs.Sites.{SiteState}
 use Rattle.site_store.specs.Standing.{FitsPlant}
-use Rattle.consistency.specs.Stages.{Run, Stage, accepts_end, breaks_of, names_of}
+use Rattle.consistency.specs.Stages.{ScriptRun, Stage, accepts_end, breaks_of, names_of}
 use Rattle.consistency.specs.Courses.{stage_after}
 use Rattle.consistency.specs.Steps.{names_at, table_on_the_way}
 use Rattle.mover.specs.Working.{LinesAsked}
@@ -41,7 +41,7 @@ use Rattle.mover.specs.Epochs.{IsSamePair}
 use Rattle.xrc_status.specs.declared.stop.Stop.{Stop}
 use Rattle.xrc_status.specs.declared.stop.Stop.TheVariants.{NoMemory}
 use Rattle.xrc_session.specs.declared.answering.LineAnswer.{LineAnswer}
-use Rattle.xrc_session.specs.declared.kept.Kept.{Kept}
+use Rattle.xrc_session.specs.declared.kept.SessionParts.{SessionParts}
 use Rattle.xrc_session.specs.LinePauses.{GoesOnFrom, HasCut, MayCommandSite, RisesCover, StandsAtLeg, StandsForSite, site_point}
 use Rattle.xrc_session.specs.Steps.{BeginsToPass, PassesPointsOn, TellsAnswer}
 use Rattle.xrc_session.specs.Trails.{AreHitsOfFaults}
@@ -97,7 +97,7 @@ pub record MayLogChange (tells : Type 0) (names : Naming) (line : Line) (change 
   pub rows : before ≡ was.told
   pub at : was.time ≡ line.time.0
   pub again : MayDo names site
-  pub rules : KeepsRows site.table.rows
+  pub rules : AreRowsSound site.table.rows
   pub to_log : IsToLog change site
 
 -- A site behind calls that leave its time, its level and its mark's flag, and log no group. Any command may come, and the table has these flags and
@@ -157,7 +157,7 @@ pub record IsSiteAnswered (tells : Type 0) (names : Naming) (line : Line) (answe
 --   fresh: none of the points so far is of the line
 --   active: the names are those at the line's time, and the command may take effect
 --   ended: the leg is at the point of its stage
-pub record MayAnswer (run : Run) (stage : Stage) (line : Line) (asked : LinesAsked) (l : Leg) (first : Point) (points : List PassedPoint) (names : Naming) (site : SiteState) (group : Option Group) (began now : PlantState) : Type 0 where
+pub record MayAnswer (run : ScriptRun) (stage : Stage) (line : Line) (asked : LinesAsked) (l : Leg) (first : Point) (points : List PassedPoint) (names : Naming) (site : SiteState) (group : Option Group) (began now : PlantState) : Type 0 where
   pub heard : stage.next ≡ Some line
   pub asked_is : asked l.answered ≡ Some line
   pub marked : l.marked ≡ []
@@ -172,13 +172,13 @@ pub record MayAnswer (run : Run) (stage : Stage) (line : Line) (asked : LinesAsk
 -- ---- a mark in a run
 
 -- A mark may come at a leg: on the way; or as the end of the session, behind the command of an end that is accepted.
-pub data IsMarkedAt (run : Run) (stage : Stage) (asked : LinesAsked) (l : Leg) : (ended : Bool) → Type 0 where
+pub data IsMarkedAt (run : ScriptRun) (stage : Stage) (asked : LinesAsked) (l : Leg) : (ended : Bool) → Type 0 where
   IsOnWay : stage.next ≡ None → IsLegOf run stage l → l.point.time ≡ stage.replied → IsAtWork run asked l → IsMarkedAt run stage asked l false
   IsAtEnd : (number : ℕ) (before : Leg) (hits : List Timed) → IsLegOf run stage before → asked number ≡ stage.next → IsCommanding run stage.next before l.point hits → l ≡ leg_by before l.point (Commanded number hits) → IsToEnd number l
       → IsTrue (accepts_end run (table_at run l.point) stage.next) → IsMarkedAt run stage asked l true
 
 -- It may end or go on by a mark there: the shared state stands for the site's rows.
-pub record MayEndBy (run : Run) (stage : Stage) (asked : LinesAsked) (l : Leg) (ended : Bool) (site : SiteState) (began now : PlantState) : Type 0 where
+pub record MayEndBy (run : ScriptRun) (stage : Stage) (asked : LinesAsked) (l : Leg) (ended : Bool) (site : SiteState) (began now : PlantState) : Type 0 where
   pub marked : IsMarkedAt run stage asked l ended
   pub here : l.point ≡ site_point site
   pub shows : AtNow (ShowsPoint run (shape_of now) l.point) now
@@ -187,7 +187,7 @@ pub record MayEndBy (run : Run) (stage : Stage) (asked : LinesAsked) (l : Leg) (
   pub rows : StandsForSite run site group now
 
 -- The session stands at the mark's point.
-pub record HasMarked (run : Run) (l : Leg) (site : SiteState) (began now : PlantState) : Type 0 where
+pub record HasMarked (run : ScriptRun) (l : Leg) (site : SiteState) (began now : PlantState) : Type 0 where
   pub here : l.point ≡ site_point site
   pub shows : AtNow (ShowsPoint run (shape_of now) l.point) now
   pub counted : AreHitsOfFaults l began now
@@ -198,7 +198,7 @@ way_of_mark false line hits = OnTheWay hits
 way_of_mark true line hits = Ending line hits
 
 -- How a mark ends: by its point, with hits at its time.
-abbrev pub EndsMark : Run → Stage → LinesAsked → Leg → (ended : Bool) → SiteState → (began old new : PlantState) → Result (Unit {0}) Stop → Type 0
+abbrev pub EndsMark : ScriptRun → Stage → LinesAsked → Leg → (ended : Bool) → SiteState → (began old new : PlantState) → Result (Unit {0}) Stop → Type 0
 EndsMark run stage asked l ended site began old new (Ok done) = (n : PassedPoint) × ((line : ℕ) × ((hits : List Timed) × (n.way ≡ way_of_mark ended line hits) × IsTrue (list_all (is_hit_at l.point.time) hits)))
     × PassesPointsOn run stage asked l (n ∷ []) None old new × HasMarked run (leg_after l n) site began new
 EndsMark run stage asked l ended site began old new (Err stop) = BeginsToPass run stage asked l old new
@@ -206,7 +206,7 @@ EndsMark run stage asked l ended site began old new (Err stop) = BeginsToPass ru
 -- ---- how a command ends
 
 -- the stage behind a line whose command was done at a leg, before these hits; its texts don't count
-abbrev pub stage_then : Run → Stage → Line → Leg → (hits : List Timed) → Stage
+abbrev pub stage_then : ScriptRun → Stage → Line → Leg → (hits : List Timed) → Stage
 stage_then run stage line l hits = stage_after stage (answered_by run stage [] [] line l.changes hits)
 
 -- These points answer the line with a number: its command, behind a mark that its record needs first, and before the mark by which an accepted end
@@ -221,7 +221,7 @@ pub data AreOfCommand (number : ℕ) (hits : List Timed) : List PassedPoint → 
 --   ending: or the command is an end that is accepted, and its mark may come
 --   unhit: behind a line that is answered with a report no hit stands
 --   wants: a resume wants the tracks that the row owed
-pub record HasCommanded (run : Run) (stage : Stage) (line : Line) (asked : LinesAsked) (l : Leg) (first : Point) (points more : List PassedPoint) (answered : LineAnswer) (site : SiteState) (began now : PlantState) (group : Option Group) : Type 0 where
+pub record HasCommanded (run : ScriptRun) (stage : Stage) (line : Line) (asked : LinesAsked) (l : Leg) (first : Point) (points more : List PassedPoint) (answered : LineAnswer) (site : SiteState) (began now : PlantState) (group : Option Group) : Type 0 where
   pub hits : List Timed
   pub by : AreOfCommand l.answered hits more
   pub at : site.mark.ended ≡ site.table.is_ended → StandsAtLeg run (stage_then run stage line l hits) (fold leg_after l more) site began now
@@ -233,7 +233,7 @@ pub record HasCommanded (run : Run) (stage : Stage) (line : Line) (asked : Lines
       → IsSomeAnd group (WantsOwed run first (points_before l.answered (points ++ more)) device (table_on_the_way run.level l.changes stage.table).rows site.told line.time.0)
 
 -- How it ends.
-abbrev pub EndsCommand : Run → Stage → Line → LinesAsked → Leg → (first : Point) → List PassedPoint → SiteState → Option Group → (began old new : PlantState) → Result LineAnswer Stop → Type 0
+abbrev pub EndsCommand : ScriptRun → Stage → Line → LinesAsked → Leg → (first : Point) → List PassedPoint → SiteState → Option Group → (began old new : PlantState) → Result LineAnswer Stop → Type 0
 EndsCommand run stage line asked l first points site group began old new (Ok answered) =
     (more : List PassedPoint) × PassesPointsOn run stage asked l more None old new × HasCommanded run stage line asked l first points more answered site began new group
 EndsCommand run stage line asked l first points site group began old new (Err stop) = BeginsToPass run stage asked l old new
@@ -241,16 +241,16 @@ EndsCommand run stage line asked l first points site group began old new (Err st
 -- ---- in each run
 
 -- In each run a command may come at a leg, and is done or refused.
-abbrev pub AnswersCommands : Line → (kept kept_now : Kept) → (site site_now : SiteState) → (began old new : PlantState) → Result LineAnswer Stop → Type 0
-AnswersCommands line kept kept_now site site_now began old new result = (run : Run) (stage : Stage) (asked : LinesAsked) (l : Leg) (first : Point) (points : List PassedPoint)
+abbrev pub AnswersCommands : Line → (kept kept_now : SessionParts) → (site site_now : SiteState) → (began old new : PlantState) → Result LineAnswer Stop → Type 0
+AnswersCommands line kept kept_now site site_now began old new result = (run : ScriptRun) (stage : Stage) (asked : LinesAsked) (l : Leg) (first : Point) (points : List PassedPoint)
     → MayAnswer run stage line asked l first points kept.names site kept.group began old → RisesCover run began new → EndsCommand run stage line asked l first points site_now kept_now.group began old new result
 
 -- So it is where a site had done the command already, and its change is logged.
-abbrev pub LogsCommands : Line → Change → (kept kept_now : Kept) → (site site_now : SiteState) → (began old new : PlantState) → Result LineAnswer Stop → Type 0
+abbrev pub LogsCommands : Line → Change → (kept kept_now : SessionParts) → (site site_now : SiteState) → (began old new : PlantState) → Result LineAnswer Stop → Type 0
 LogsCommands line change kept kept_now site site_now began old new result = (was : SiteState) → IsDoneFrom kept.names line change was site old
     → AnswersCommands line kept kept_now was site_now began old new result
 
 -- In each run a mark may come at a leg, and is made.
 abbrev pub MarksOn : (ended : Bool) → (site site_now : SiteState) → (began old new : PlantState) → Result (Unit {0}) Stop → Type 0
-MarksOn ended site site_now began old new result = (run : Run) (stage : Stage) (asked : LinesAsked) (l : Leg)
+MarksOn ended site site_now began old new result = (run : ScriptRun) (stage : Stage) (asked : LinesAsked) (l : Leg)
     → MayEndBy run stage asked l ended site began old → RisesCover run began new → EndsMark run stage asked l ended site_now began old new result

@@ -3,7 +3,7 @@ use Rattle.std.specs.Prelude.{◌≡◌, ◌⊎◌, ℕ, suc, ◌<◌, ◌≤◌
 use Rattle.crash_plant.specs.Choices.{AtMoment}
 use Rattle.crash_plant.specs.Moments.{PlantState}
 use Rattle.site_means.specs.Sight.{walked}
-use Rattle.consistency.specs.Stages.{Run}
+use Rattle.consistency.specs.Stages.{ScriptRun}
 use Rattle.consistency.specs.Courses.{Answered, replies_of, stage_at}
 
 -- All that was journaled is on the volumes, and marked: whatever a crash at a moment leaves has no item behind the mark.
@@ -19,10 +19,10 @@ pub record AppliesBehind (lines : List Answered) (number : ℕ) (began now : Pla
   pub applied : IsAllApplied now at
 
 -- So it was behind each of these lines behind which the session has ended, where the plant keeps its past.
-abbrev pub AppliesEnds : Run → List Answered → (began now : PlantState) → Type 0
+abbrev pub AppliesEnds : ScriptRun → List Answered → (began now : PlantState) → Type 0
 AppliesEnds run lines began now = 0 < began.clock → (number : ℕ) → number < length lines → IsTrue (stage_at run lines (suc number)).table.is_ended → AppliesBehind lines number began now
 
 -- So it was, or it is so now behind the last line, whose reply was said in part.
-abbrev pub AppliesEndsSoFar : Run → List Answered → (began now : PlantState) → Type 0
+abbrev pub AppliesEndsSoFar : ScriptRun → List Answered → (began now : PlantState) → Type 0
 AppliesEndsSoFar run lines began now = 0 < began.clock → (number : ℕ) → number < length lines → IsTrue (stage_at run lines (suc number)).table.is_ended
     → AppliesBehind lines number began now ⊎ ((suc number ≡ length lines) × IsAllApplied now now.clock)

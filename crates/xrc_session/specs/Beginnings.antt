@@ -7,7 +7,7 @@ use Rattle.crash_plant.specs.Moments.{PlantState}
 use Rattle.xrc_command.specs.declared.line.Line.{Line}
 use Rattle.state_set.specs.Slots.{started_table}
 use Rattle.group_state.specs.Groups.{Group, most_records, new_group}
-use Rattle.consistency.specs.Stages.{Run, Stage}
+use Rattle.consistency.specs.Stages.{ScriptRun, Stage}
 use Rattle.fed_logs.specs.Logs.{Sizes}
 use Rattle.consistency.specs.Ways.{leg_at}
 use Rattle.site_store.specs.Sites.{SiteState, new_site}
@@ -15,16 +15,16 @@ use Rattle.site_store.specs.Standing.{FitsPlant, SiteStands, none_excepted}
 use Rattle.mover.specs.Bearing.{RunSoFar, StandsSoFar}
 
 -- the stage of a session that has just started at a time: it has no row, nothing has changed yet, and this line comes next
-abbrev pub stage_at_start : Run → (time : ℕ) → (next : Option Line) → Stage
+abbrev pub stage_at_start : ScriptRun → (time : ℕ) → (next : Option Line) → Stage
 stage_at_start run time next = record { table = started_table run.session []; replied = time; past = []; next = next }
 
 -- the run so far, behind so many lines: no track is excepted, and no plan is known to be done
-abbrev pub run_at_start : Run → Stage → (answered : ℕ) → Sizes → (counts : (device : ℕ) → ℕ) → RunSoFar
+abbrev pub run_at_start : ScriptRun → Stage → (answered : ℕ) → Sizes → (counts : (device : ℕ) → ℕ) → RunSoFar
 run_at_start run stage answered size counts =
     record { run = run; stage = stage; leg = leg_at stage answered; size = size; counts = counts; excepted = none_excepted; done = λ k v. false }
 
 -- A run's session has just started at a time, on a plant that tells its bytes. A new state is shared for it, with a control for each trace.
-pub record HasJustStarted (tells : Type 0) (run : Run) (time : Stamp) (counts : (device : ℕ) → ℕ) (group : Group) (site : SiteState) (plant : PlantState) : Type 0 where
+pub record HasJustStarted (tells : Type 0) (run : ScriptRun) (time : Stamp) (counts : (device : ℕ) → ℕ) (group : Group) (site : SiteState) (plant : PlantState) : Type 0 where
   pub told : tells
   pub controls : ℕ
   pub records : ℕ
@@ -43,5 +43,5 @@ pub record HasJustStarted (tells : Type 0) (run : Run) (time : Stamp) (counts : 
 -- It has what an epoch begins with, whatever line comes next.
 abbrev pub StartedSessionsStand : (tells : Type 0) → PlantState → Type 0
 StartedSessionsStand tells plant =
-    (run : Run) (time : Stamp) (next : Option Line) (answered : ℕ) (size : Sizes) (counts : (device : ℕ) → ℕ) (group : Group) (site : SiteState) → HasJustStarted tells run time counts group site plant
+    (run : ScriptRun) (time : Stamp) (next : Option Line) (answered : ℕ) (size : Sizes) (counts : (device : ℕ) → ℕ) (group : Group) (site : SiteState) → HasJustStarted tells run time counts group site plant
     → StandsSoFar (run_at_start run (stage_at_start run time.0 next) answered size counts) group site plant

@@ -26,7 +26,7 @@ use Rattle.site_store.specs.DoneDeeds.{DoesDeeds}
 use Rattle.mover.specs.OwedTracks.{ExceptedAreOwed}
 use Rattle.site_store.specs.Exceptions.{excepted_behind, excepted_by_deed}
 use Rattle.xrc_session.specs.EpochPauses.{Between, MayAdd, MayBegin, MayForget, MayResume, MaySuspend, StandsBetween, between_after}
-use Rattle.xrc_session.specs.Taking.{IfAdds, KeepsForRows, MayTake, after_calls, calls_of_change, is_begun, plans_after_calls}
+use Rattle.xrc_session.specs.Taking.{IfAdds, IsSoundForRows, MayTake, after_calls, calls_of_change, is_begun, plans_after_calls}
 
 -- Without a row and without a volume the state stands for the rows.
 abbrev pub FirstRowsStand : PlantState → Type 0
@@ -84,11 +84,11 @@ between_taken change after b =
 
 -- If the state stands for rows, it keeps for them what a change asks.
 abbrev pub StandingRowsAreKept : PlantState → Type 0
-StandingRowsAreKept start = (b : Between) → StandsBetween start b → KeepsForRows b.group b.point.rows
+StandingRowsAreKept start = (b : Between) → StandsBetween start b → IsSoundForRows b.group b.point.rows
 
 -- A command's change that is taken over, with suspensions behind it, leaves that the state stands for the rows after it.
 abbrev pub TakenRowsStand : PlantState → Type 0
-TakenRowsStand start = (b : Between) (change : Change) (after : List PairRow) → StandsBetween start b → KeepsForRows b.group b.point.rows → MayTake b.group change b.point.rows after
+TakenRowsStand start = (b : Between) (change : Change) (after : List PairRow) → StandsBetween start b → IsSoundForRows b.group b.point.rows → MayTake b.group change b.point.rows after
     → IfAdds change after (FitsOn start b.size) → StandsBetween start (between_taken change after b)
 
 -- The control of a row that a change adds or resumes counts.

@@ -13,7 +13,7 @@ use Rattle.row_changes.specs.Spans.{is_hit_at}
 use Rattle.passages.specs.Points.{last_point}
 use Rattle.applier.specs.Slots.{BeginsWithTrack}
 use Rattle.site_means.specs.Sight.{walked}
-use Rattle.consistency.specs.Stages.{Run, tracks_of_row}
+use Rattle.consistency.specs.Stages.{ScriptRun, tracks_of_row}
 use Rattle.consistency.specs.Courses.{Answered, stage_at}
 use Rattle.consistency.specs.Pauses.{RunGoesOn}
 use Rattle.xrc_status.specs.declared.stop.Stop.{Stop}
@@ -27,22 +27,22 @@ use Rattle.xrc_session.specs.Trails.{AreExact, GoesForth, Trail, HasBegunTrail, 
 -- ---- done
 
 -- the rows behind the last of these lines
-abbrev pub rows_at_end : Run → List Answered → List PairRow
+abbrev pub rows_at_end : ScriptRun → List Answered → List PairRow
 rows_at_end run lines = (stage_at run lines (length lines)).table.rows
 
 -- Behind the last line the walk is empty. So the slot of each track of a duplex row begins with the image of its primary's track at the time of the
 -- last reply.
-pub record IsApplied (run : Run) (lines : List Answered) (now : PlantState) : Type 0 where
+pub record IsApplied (run : ScriptRun) (lines : List Answered) (now : PlantState) : Type 0 where
   pub walk : AtNow (λ c. walked now c ≡ []) now
   pub slots : (place : ℕ) (r : PairRow) → slice_get (rows_at_end run lines) place ≡ Some r → r.state ≡ Duplex → IsBytes (now.bytes (Volume r.device))
       → (x : ℕ) → x < tracks_of_row r → BeginsWithTrack (now.bytes (Volume r.device)) x (Some (primary run.traces (stage_at run lines (length lines)).replied r.control r.volume x))
 
 -- Behind the last line rows change by hits alone, at the time of its reply. So where no volume failed since then, they are the last line's rows.
-abbrev pub StaysAtLastLine : Run → List Answered → Trail → Type 0
+abbrev pub StaysAtLastLine : ScriptRun → List Answered → Trail → Type 0
 StaysAtLastLine run lines trail = (hits : List Timed) × IsTrue (list_all (is_hit_at (stage_at run lines (length lines)).replied) hits) × ((last_point (first_leg run lines trail).point trail.points).rows ≡ after_changes run.level hits (rows_at_end run lines))
 
 -- The script was heard to its end, each line has its reply, and nothing else was said. In a started session all is applied and marked.
-pub record IsRunDone (run : Run) (lines : List Answered) (trail : Trail) (began now : PlantState) : Type 0 where
+pub record IsRunDone (run : ScriptRun) (lines : List Answered) (trail : Trail) (began now : PlantState) : Type 0 where
   pub goes : RunGoesOn run lines [] began now
   pub at_end : now.script ≡ []
   pub exact : AreExact run lines trail
@@ -57,7 +57,7 @@ pub record IsRunDone (run : Run) (lines : List Answered) (trail : Trail) (began 
 -- ---- stopped
 
 -- A run stopped in the work for a line, behind the answered ones. At a stop for numbers the devices tell that the session's own are spent.
-pub record StopsInLine (run : Run) (lines : List Answered) (text : List ℕ) (began now : PlantState) (stop : Stop) : Type 0 where
+pub record StopsInLine (run : ScriptRun) (lines : List Answered) (text : List ℕ) (began now : PlantState) (stop : Stop) : Type 0 where
   pub trail : Trail
   pub stopped : IsStopped run lines trail text began now stop
   pub volumes : ChangesRows (rows_passed trail.points) began now

@@ -15,9 +15,9 @@ use Rattle.group_state.specs.Groups.{Group, control_at}
 use Rattle.group_state.specs.Machine.{Call, group_after}
 use Rattle.group_state.specs.Machine.Call.{Carry, Drop, Forget, Resume}
 use Rattle.group_state.specs.Runs.{May}
-use Rattle.group_state.specs.SoundStates.{KeepsGroup}
+use Rattle.group_state.specs.SoundStates.{IsGroupSound}
 use Rattle.record_rows.specs.Hits.{is_device_suspended}
-use Rattle.consistency.specs.Stages.{Run, tracks_of_row}
+use Rattle.consistency.specs.Stages.{ScriptRun, tracks_of_row}
 use Rattle.fed_logs.specs.Logs.{Sizes}
 use Rattle.fed_logs.specs.Moves.{Plans}
 use Rattle.consistency.specs.Leads.{Point}
@@ -27,17 +27,17 @@ use Rattle.mover.specs.Working.{StandsForRows}
 -- What the shared state is between two epochs: how many tracks volumes have, the tracks of which no content is told, the state, the point that
 -- is meant, and the plans that are known to be done.
 pub record Between : Type 0 where
-  pub run : Run
+  pub run : ScriptRun
   pub size : Sizes
   pub excepted : Exceptions
   pub group : Group
   pub point : Point
   pub done : Plans
 
--- The state stands for the rows, and keeps what every state keeps. A crash may leave something now.
+-- The state stands for the rows, and is sound. A crash may leave something now.
 pub record StandsBetween (start : PlantState) (b : Between) : Type 0 where
   pub rows : StandsForRows b.run b.size start b.excepted b.group b.point b.done
-  pub keeps : KeepsGroup b.group
+  pub keeps : IsGroupSound b.group
   pub some : (c : Choice) × IsChoice start start.clock c
 
 -- The state has no volume, and nothing waits in it.
@@ -50,7 +50,7 @@ pub record MayBegin (start : PlantState) (b : Between) : Type 0 where
   pub nothing : HasNothing b.group
   pub known : (k v : ℕ) → b.done k v ≡ false
   pub last : b.group.last.0 ≤ b.point.time
-  pub keeps : KeepsGroup b.group
+  pub keeps : IsGroupSound b.group
   pub some : (c : Choice) × IsChoice start start.clock c
 
 -- the state behind a call, with other rows, and with other plans that are known to be done

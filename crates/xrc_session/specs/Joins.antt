@@ -10,7 +10,7 @@ use Rattle.pair_table.specs.declared.row.PairRow.{PairRow}
 use Rattle.pair_table.specs.Naming.{Naming}
 use Rattle.group_state.specs.Groups.{Group, control_at}
 use Rattle.group_state.specs.Runs.{Answer, Runs}
-use Rattle.group_state.specs.SoundStates.{KeepsGroup}
+use Rattle.group_state.specs.SoundStates.{IsGroupSound}
 use Rattle.record_rows.specs.Deeds.{Deed}
 use Rattle.record_rows.specs.Hits.{hit_now}
 use Rattle.fed_logs.specs.Feeds.{part_of_mover}
@@ -21,7 +21,7 @@ use Rattle.site_store.specs.Changing.{LogsChange, MayChange}
 use Rattle.site_store.specs.Commands.{MayDo, behind_command}
 use Rattle.site_store.specs.Sites.{SiteState}
 use Rattle.site_store.specs.Standing.{Leaves}
-use Rattle.xrc_session.specs.Taking.{IfAdds, KeepsForRows, after_calls, calls_of_change}
+use Rattle.xrc_session.specs.Taking.{IfAdds, IsSoundForRows, after_calls, calls_of_change}
 use Rattle.mover.specs.declared.ends.EpochEnd.TheVariants as ends
 use Rattle.mover.specs.declared.lane.Lane.{Lane}
 use Rattle.mover.specs.Readers.{LaneReaderState}
@@ -81,7 +81,7 @@ LanesStandBehindChanges lanes = (limit : ℕ) (change : Change) (before after : 
 
 -- A mover that begins with a state that keeps volumes for rows knows these rows.
 abbrev pub KeptRowsAreKnown : Type 0
-KeptRowsAreKnown = (s : Group) (rows : List PairRow) → KeepsForRows s rows → KnowsRows (volumes_known s) rows
+KeptRowsAreKnown = (s : Group) (rows : List PairRow) → IsSoundForRows s rows → KnowsRows (volumes_known s) rows
 
 -- ---- a command between two epochs
 
@@ -92,7 +92,7 @@ pub record RestsAt {S : Type 0} (tells : Type 0) (at : ℕ) (lanes : List (Lane 
   pub time : site.time ≡ at
   pub lanes_of : AreLanesOf group at lanes
   pub begins : MayBeginEpoch tells at group site plant
-  pub kept : KeepsForRows group site.told
+  pub kept : IsSoundForRows group site.told
 
 -- A change of a site's rows was logged at a time and taken over into the shared state, and each failure of a volume with a row was told.
 --   may, logs, leaves: it was logged
@@ -102,7 +102,7 @@ pub record IsTakenOver {P : Type 0} (tells : Type 0) (at : ℕ) (change : Change
   pub logs : LogsChange at change site next old was is (Ok tt)
   pub leaves : Leaves tells (λ e. e) site next old new
   pub calls : end ≡ after_calls (calls_of_change change group before next.table.rows) group
-  pub kept : KeepsForRows end next.table.rows
+  pub kept : IsSoundForRows end next.table.rows
   pub told : hit_now next.failed next.told ≡ []
 
 -- A session at rest is at rest again behind a command at its time, whose change is logged and taken over.
@@ -116,10 +116,10 @@ RestsBehindCommands tells was is lanes old new =
 
 -- Rows stand behind a log of calls, whatever the traces are, if all of the mover's calls were kept.
 abbrev pub RowsStandBehindLogs : Type 0
-RowsStandBehindLogs = (s end : Group) (run : List Answer) (time ended : ℕ) (rows last : List PairRow) (done known : Plans) (deeds : List Deed) → KeepsGroup s → Runs s run end → IsTrue (list_all is_call_of_seat run)
-    → Stand s rows done → MakesAllDeeds time rows done (part_of_mover run) deeds ended last known → KeepsGroup end × Stand end last known
+RowsStandBehindLogs = (s end : Group) (run : List Answer) (time ended : ℕ) (rows last : List PairRow) (done known : Plans) (deeds : List Deed) → IsGroupSound s → Runs s run end → IsTrue (list_all is_call_of_seat run)
+    → Stand s rows done → MakesAllDeeds time rows done (part_of_mover run) deeds ended last known → IsGroupSound end × Stand end last known
 
 -- An epoch that reaches its limit comes to rest there, if the shared state kept volumes for the rows before it.
 abbrev pub EpochsComeToRest : {S : Type 0} → (tells : Type 0) → (left : S → Option (List ℕ)) → (faults : S → ℕ) → (was is : PlantState) → Type 0
 EpochsComeToRest tells left faults was is = (limit : ℕ) (group next : Group) (lanes then : List (Lane _)) (site after : SiteState) → EpochRun left faults limit group lanes then site after was is (ends.Reached next)
-    → ReachedBy tells left limit group lanes then site next after is → KeepsForRows group site.told → RestsAt tells limit then next after is
+    → ReachedBy tells left limit group lanes then site next after is → IsSoundForRows group site.told → RestsAt tells limit then next after is

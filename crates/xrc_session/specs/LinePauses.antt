@@ -20,7 +20,7 @@ use Rattle.site_store.specs.Standing.{HasLengths, SiteStands}
 use Rattle.site_store.specs.Exceptions.{Exceptions}
 use Rattle.fed_logs.specs.Moves.{Plans}
 use Rattle.fed_logs.specs.ShownBreaks.{BreaksAreToCome, BrokeAsTraces}
-use Rattle.consistency.specs.Stages.{Run, Stage, breaks_of, names_of}
+use Rattle.consistency.specs.Stages.{ScriptRun, Stage, breaks_of, names_of}
 use Rattle.consistency.specs.Courses.{Answered, stage_at}
 use Rattle.consistency.specs.Keeping.{stage_now}
 use Rattle.consistency.specs.Steps.{names_at}
@@ -31,7 +31,7 @@ use Rattle.consistency.specs.Replying.{HasRunNames}
 use Rattle.consistency.specs.Ways.{IsLegOf, Leg, PassedPoint, is_ending, stage_point}
 use Rattle.xrc_session.specs.AppliedEnds.{AppliesEnds}
 use Rattle.xrc_session.specs.EpochPauses.{StandsBetween}
-use Rattle.xrc_session.specs.Taking.{KeepsForRows}
+use Rattle.xrc_session.specs.Taking.{IsSoundForRows}
 use Rattle.mover.specs.declared.lane.Lane.{Lane}
 use Rattle.mover.specs.Epochs.{AllTurnOut, LanesBrokeAs, MayBeginEpoch, point_of}
 use Rattle.mover.specs.Moves.{most_faults}
@@ -49,7 +49,7 @@ use Rattle.xrc_session.specs.Trails.{AreExact, AreHitsOfFaults, AreNext, BeginsA
 pub record IsReadyForEpoch {S : Type 0} (tells : Type 0) (lanes : List (Lane S)) (site : SiteState) (plant : PlantState) (group : Group) : Type 0 where
   pub begins : MayBeginEpoch tells site.time group site plant
   pub lanes_of : AreLanesOf group site.time lanes
-  pub kept : KeepsForRows group site.told
+  pub kept : IsSoundForRows group site.told
 
 -- The last cut of the shared state is this time.
 abbrev pub HasCut : (time : ℕ) → Group → Type 0
@@ -99,14 +99,14 @@ pub record IsBetween {S : Type 0} (tells : Type 0) (s : SessionState) (lanes : L
 -- ---- a run
 
 -- A run is a session's, as far as this has come: its level and its labels are known from the start on. What it may speak of has names.
-pub record IsRunOfSession (s : SessionState) (run : Run) : Type 0 where
+pub record IsRunOfSession (s : SessionState) (run : ScriptRun) : Type 0 where
   pub names : HasRunNames run
   pub session : run.session ≡ s.session
   pub level : IfSome s.site (λ site. run.level ≡ site.level)
   pub labels : IfSome s.site (λ site. run.labels ≡ s.names.labels)
 
 -- The counts of volumes end below the largest number, and rose by no more than a run has.
-abbrev pub RisesCover : Run → (began now : PlantState) → Type 0
+abbrev pub RisesCover : ScriptRun → (began now : PlantState) → Type 0
 RisesCover run began now = (d : ℕ) → (now.faults (Volume d) < most_faults) × (now.faults (Volume d) ≤ began.faults (Volume d) + run.rises d)
 
 -- No volume's count has fallen since the run began.
@@ -114,7 +114,7 @@ abbrev pub AreCountsFrom : (began now : PlantState) → Type 0
 AreCountsFrom began now = (d : ℕ) → began.faults (Volume d) ≤ now.faults (Volume d)
 
 -- A run is over what lanes read from first to last and over what a plant's volumes failed: it has their traces and at least these faults.
-pub record IsRunOver {S : Type 0} (left : S → Option (List ℕ)) (run : Run) (s : SessionState) (first last : List (Lane S)) (began now : PlantState) : Type 0 where
+pub record IsRunOver {S : Type 0} (left : S → Option (List ℕ)) (run : ScriptRun) (s : SessionState) (first last : List (Lane S)) (began now : PlantState) : Type 0 where
   pub its : IsRunOfSession s run
   pub heads : HaveHeadsOf first run.traces
   pub traces : AllTurnOut left run.traces first last
@@ -127,7 +127,7 @@ abbrev pub site_point : SiteState → Point
 site_point site = record (point_of site) { is_ended = site.mark.ended }
 
 -- Every crash leaves the site, but for some tracks, and the shared state stands for its rows.
-pub record StandsForSite (run : Run) (site : SiteState) (group : Group) (now : PlantState) : Type 0 where
+pub record StandsForSite (run : ScriptRun) (site : SiteState) (group : Group) (now : PlantState) : Type 0 where
   pub excepted : Exceptions
   pub done : Plans
   pub stands : SiteStands excepted site now
@@ -137,7 +137,7 @@ pub record StandsForSite (run : Run) (site : SiteState) (group : Group) (now : P
 --   broke, come: controls broke as their traces do, and the others will
 --   last: the last of the points has the site's rows
 --   maps, maps_rest: suspended rows owe what their maps have, and what maps stand on is there
-pub record GoesOnFrom (run : Run) (first : Point) (points : List PassedPoint) (site : SiteState) (now : PlantState) (group : Group) : Type 0 where
+pub record GoesOnFrom (run : ScriptRun) (first : Point) (points : List PassedPoint) (site : SiteState) (now : PlantState) (group : Group) : Type 0 where
   pub rows : StandsForSite run site group now
   pub broke : BrokeAsTraces run.traces group
   pub come : BreaksAreToCome run.traces site.time group
@@ -146,14 +146,14 @@ pub record GoesOnFrom (run : Run) (first : Point) (points : List PassedPoint) (s
   pub maps_rest : MapsRest (site_point site) group
 
 -- A started session stands in a run at a leg of a stage, whose point is the site's. Each hit up to there needed a fault since the run began.
-pub record StandsAtLeg (run : Run) (stage : Stage) (l : Leg) (site : SiteState) (began now : PlantState) : Type 0 where
+pub record StandsAtLeg (run : ScriptRun) (stage : Stage) (l : Leg) (site : SiteState) (began now : PlantState) : Type 0 where
   pub here : l.point ≡ site_point site
   pub shows : AtNow (ShowsPoint run (shape_of now) (site_point site)) now
   pub leg : IsLegOf run stage l
   pub counted : AreHitsOfFaults l began now
 
 -- A started session is under way in a run, at a stage behind some lines: its devices have gone to the point of a leg of the stage.
-pub record IsUnderWay (run : Run) (lines : List Answered) (stage : Stage) (trail : Trail) (s : SessionState) (began now : PlantState) (site : SiteState) : Type 0 where
+pub record IsUnderWay (run : ScriptRun) (lines : List Answered) (stage : Stage) (trail : Trail) (s : SessionState) (began now : PlantState) (site : SiteState) : Type 0 where
   pub some : 0 < trail.started
   pub started : trail.started ≤ length lines
   pub begins : BeginsAtStart run lines trail
@@ -166,7 +166,7 @@ pub record IsUnderWay (run : Run) (lines : List Answered) (stage : Stage) (trail
 -- ---- at rest
 
 -- A leg has come to rest behind lines: at the point of the stage, with no change and no mark since.
-pub record HasComeToRest (run : Run) (lines : List Answered) (l : Leg) : Type 0 where
+pub record HasComeToRest (run : ScriptRun) (lines : List Answered) (l : Leg) : Type 0 where
   pub point : l.point ≡ stage_point (stage_at run lines (length lines))
   pub changes : l.changes ≡ []
   pub marked : l.marked ≡ []
@@ -174,7 +174,7 @@ pub record HasComeToRest (run : Run) (lines : List Answered) (l : Leg) : Type 0 
   pub not_ending : is_ending run (asked_with lines None) l ≡ false
 
 -- A started session rests behind its lines. Until it has ended, its names are those at its time.
-pub record RestsAtSite (run : Run) (lines : List Answered) (stage : Stage) (trail : Trail) (s : SessionState) (began now : PlantState) (site : SiteState) : Type 0 where
+pub record RestsAtSite (run : ScriptRun) (lines : List Answered) (stage : Stage) (trail : Trail) (s : SessionState) (began now : PlantState) (site : SiteState) : Type 0 where
   pub under_way : IsUnderWay run lines stage trail s began now site
   pub rest : HasComeToRest run lines (last_leg run lines trail)
   pub named : site.table.is_ended ≡ false → s.names ≡ names_at site.time (breaks_of run) (names_of run)
@@ -190,19 +190,19 @@ pub record HasNotBegun (trail : Trail) (began now : PlantState) : Type 0 where
 
 -- What a session has come to in a run behind its lines, at a stage there: its table is the stage's. Of the volumes only slots of its points' rows
 -- were written.
-pub record StandsBehindLines (run : Run) (lines : List Answered) (stage : Stage) (trail : Trail) (s : SessionState) (began now : PlantState) : Type 0 where
+pub record StandsBehindLines (run : ScriptRun) (lines : List Answered) (stage : Stage) (trail : Trail) (s : SessionState) (began now : PlantState) : Type 0 where
   pub its : IsRunOfSession s run
   pub table : stage.table ≡ s.table
   pub volumes : ChangesRows (rows_passed trail.points) began now
   pub place : MatchOption s.site (HasNotBegun trail began now) (RestsAtSite run lines stage trail s began now)
 
 -- the stage behind lines where this was heard of the next one
-abbrev pub stage_behind : Run → List Answered → (text : List ℕ) → (began : PlantState) → Stage
+abbrev pub stage_behind : ScriptRun → List Answered → (text : List ℕ) → (began : PlantState) → Stage
 stage_behind run lines text began = stage_now run began.script lines text
 
 -- A session has answered these lines in a run since a plant's state, each exactly, has heard so much of the next one, and stands behind them. Its
 -- lanes have broken as their traces do below its time. Behind each line behind which it has ended all was applied.
-pub record HasAnswered {S : Type 0} (run : Run) (lines : List Answered) (trail : Trail) (text : List ℕ) (s : SessionState) (lanes : List (Lane S)) (began now : PlantState) : Type 0 where
+pub record HasAnswered {S : Type 0} (run : ScriptRun) (lines : List Answered) (trail : Trail) (text : List ℕ) (s : SessionState) (lanes : List (Lane S)) (began now : PlantState) : Type 0 where
   pub goes : RunGoesOn run lines text began now
   pub exact : AreExact run lines trail
   pub stands : StandsBehindLines run lines (stage_behind run lines text began) trail s began now

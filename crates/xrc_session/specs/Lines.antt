@@ -4,7 +4,7 @@ use Rattle.crash_plant.specs.Calls.{NoneLent}
 use Rattle.crash_plant.specs.Moments.{PlantState}
 use Rattle.pair_table.specs.declared.command.Change.TheVariants.{Started}
 use Rattle.pair_table.specs.declared.level.Level.{Level}
-use Rattle.consistency.specs.Stages.{Run, breaks_of, names_of}
+use Rattle.consistency.specs.Stages.{ScriptRun, breaks_of, names_of}
 use Rattle.consistency.specs.Steps.{names_at}
 use Rattle.record_rows.specs.Hits.{hit_now}
 use Rattle.state_set.specs.Slots.{started_table}
@@ -66,7 +66,7 @@ pub record IsStartedAt (level : Level) (at : ℕ) (old new : SessionState) : Typ
   pub started : IsSomeAnd new.site (λ site. (site.level ≡ level) × (site.time ≡ at))
 
 -- In a run it stands at its start's point, which whatever a crash leaves shows.
-pub record StandsStartedAt {S : Type 0} (run : Run) (s : SessionState) (lanes : List (Lane S)) (now : PlantState) : Type 0 where
+pub record StandsStartedAt {S : Type 0} (run : ScriptRun) (s : SessionState) (lanes : List (Lane S)) (now : PlantState) : Type 0 where
   pub stands : IsSomeAnd s.site (λ site. IsSomeAnd s.group (StandsStarted run site now))
   pub broke : LanesBrokeAs (session_time s) run.traces lanes
   pub named : IfSome s.site (λ site. s.names ≡ names_at site.time (breaks_of run) (names_of run))

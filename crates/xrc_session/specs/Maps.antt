@@ -20,7 +20,7 @@ use Rattle.group_state.specs.Controls.{ControlState, counts}
 use Rattle.group_state.specs.Groups.{Group, control_at, new_group}
 use Rattle.group_state.specs.Machine.{Call, Reply, steps}
 use Rattle.group_state.specs.Runs.{Answer, May}
-use Rattle.group_state.specs.SoundStates.{KeepsGroup, is_dropped}
+use Rattle.group_state.specs.SoundStates.{IsGroupSound, is_dropped}
 use Rattle.fed_logs.specs.Feeds.{part_of_mover}
 use Rattle.fed_logs.specs.Logs.{BeginsLog, IsFedLog, Sizes, is_of_size}
 use Rattle.fed_logs.specs.Moves.{MakesAllDeeds, Plans}
@@ -36,26 +36,26 @@ has_write_between t v x from to = list_any (λ w. is_on v x w && (nat_lt from w.
 abbrev pub maps_track : (volume track : ℕ) → ControlState → Bool
 maps_track v x c = passes (λ u. has_track u.map x) (volume_of v c.volumes)
 
--- ---- what every state keeps of maps
+-- ---- maps that are sound
 
 -- An entry that waits is a copied track, or is stamped above the last cut.
 abbrev pub waits_above : (last : ℕ) → WaitingEntry → Bool
 waits_above last e = e.is_copy || nat_lt last (entry_stamp e)
 
--- What every state keeps beside what it keeps of itself.
+-- The maps of a state are sound.
 --   above: writes that wait are stamped above the last cut
 --   empty: the map of a volume that is carried has no track
-pub record KeepsMaps (s : Group) : Type 0 where
+pub record AreMapsSound (s : Group) : Type 0 where
   pub above : (k : ℕ) → k < length s.controls → IsTrue (list_all (waits_above s.last.0) (control_at s k).queue.waiting)
   pub empty : (k v x : ℕ) → k < length s.controls → IsTrue (passes (λ u. u.carried) (volume_of v (control_at s k).volumes)) → maps_track v x (control_at s k) ≡ false
 
--- Each call keeps it.
+-- Each call leaves them sound.
 abbrev pub CallsKeepMaps : Type 0
-CallsKeepMaps = (s next : Group) (call : Call) (reply : Reply) → KeepsGroup s → May s call → steps s call reply next → KeepsMaps s → KeepsMaps next
+CallsKeepMaps = (s next : Group) (call : Call) (reply : Reply) → IsGroupSound s → May s call → steps s call reply next → AreMapsSound s → AreMapsSound next
 
--- A new state begins with it.
+-- Those of a new state are sound.
 abbrev pub NewGroupsKeepMaps : Type 0
-NewGroupsKeepMaps = (controls records blocks : ℕ) → KeepsMaps (new_group controls records blocks)
+NewGroupsKeepMaps = (controls records blocks : ℕ) → AreMapsSound (new_group controls records blocks)
 
 -- ---- over a log
 
@@ -100,7 +100,7 @@ pub record IsSuspendedBy (rows : List PairRow) (deeds : List Deed) (place : ℕ)
 abbrev pub MapsBegin : Type 0
 MapsBegin = (size : Sizes) (traces : List Trace) (held : HeldTracks) (s end : Group) (run : List Answer) (time ended : ℕ) (rows last : List PairRow) (done known : Plans) (deeds : List Deed)
     → IsFedLog traces s end run → BeginsLog size traces held s time rows done → MakesAllDeeds time rows done (part_of_mover run) deeds ended last known
-    → KeepsMaps s → RestsAtCut s time → IsTrue (none_clash rows) → RowsGo time rows deeds → LogsEntriesOf rows deeds
+    → AreMapsSound s → RestsAtCut s time → IsTrue (none_clash rows) → RowsGo time rows deeds → LogsEntriesOf rows deeds
     → (place : ℕ) (r z : PairRow) (cause : SuspendCause) (since : Stamp) (t : Trace) → IsSuspendedBy rows deeds place r z cause since → slice_get traces r.control ≡ Some t
     → IsTrue (counts (control_at end r.control).phase) → IsTrue (passes (λ u. u.carried) (volume_of r.volume (control_at s r.control).volumes)) → owed_by_calls r.control r.volume run ≡ Some false
     → (x : ℕ) → maps_track r.volume x (control_at end r.control) ≡ has_write_between t r.volume x since.0 (floor_of end r.control)

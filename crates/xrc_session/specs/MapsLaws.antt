@@ -3,9 +3,9 @@ use Rattle.std.specs.Prelude.{◌≡◌, ℕ, ◌<◌, ◌++◌, List, false, Op
 use Rattle.crash_plant.specs.Moments.{PlantState}
 use Rattle.pair_table.specs.Tables.{none_clash}
 use Rattle.group_state.specs.Groups.{Group}
-use Rattle.group_state.specs.SoundStates.{KeepsGroup}
+use Rattle.group_state.specs.SoundStates.{IsGroupSound}
 use Rattle.passages.specs.Points.{last_point}
-use Rattle.consistency.specs.Stages.{Run}
+use Rattle.consistency.specs.Stages.{ScriptRun}
 use Rattle.consistency.specs.Leads.{Point}
 use Rattle.consistency.specs.Ways.{PassedPoint}
 use Rattle.site_store.specs.DeedChanges.{deeds_of}
@@ -24,14 +24,14 @@ use Rattle.xrc_session.specs.MapsOwed.{HasCutOrNoRow, HaveRowsOf, MapsOwed, Maps
 -- ---- an epoch
 
 -- An epoch of a run reached its limit, from a state that stands for the site's rows, and whose controls broke as the run's traces do.
-pub record ReachesLimit {S : Type 0} (tells : Type 0) (left : S → Option (List ℕ)) (faults : S → ℕ) (limit : ℕ) (run : Run) (group next : Group) (old new : List (Lane S)) (site after : SiteState) (was is : PlantState) : Type 0 where
+pub record ReachesLimit {S : Type 0} (tells : Type 0) (left : S → Option (List ℕ)) (faults : S → ℕ) (limit : ℕ) (run : ScriptRun) (group next : Group) (old new : List (Lane S)) (site after : SiteState) (was is : PlantState) : Type 0 where
   pub goes : EpochGoes tells left faults limit group old new site after was is (ends.Reached next)
   pub reached : ReachedBy tells left limit group old new site next after is
   pub up : 0 < limit
   pub turns : AllTurnOut left run.traces old new
   pub level : run.level ≡ site.level
   pub going : site.mark.ended ≡ false
-  pub keeps : KeepsGroup group
+  pub keeps : IsGroupSound group
   pub broke : BrokeAsTraces run.traces group
   pub come : BreaksAreToCome run.traces site.time group
   pub size : Sizes
@@ -44,7 +44,7 @@ pub record ReachesLimit {S : Type 0} (tells : Type 0) (left : S → Option (List
 -- Where the maps have what rows owe, they do so behind such an epoch, at the points that its deeds pass.
 abbrev pub MapsOwedBehindEpochs : {S : Type 0} → (tells : Type 0) → (left : S → Option (List ℕ)) → (faults : S → ℕ) → (was is : PlantState) → Type 0
 MapsOwedBehindEpochs {S} tells left faults was is =
-    (limit : ℕ) (run : Run) (group next : Group) (old new : List (Lane S)) (site after : SiteState) (first : Point) (points more : List PassedPoint) → (e : ReachesLimit tells left faults limit run group next old new site after was is)
+    (limit : ℕ) (run : ScriptRun) (group next : Group) (old new : List (Lane S)) (site after : SiteState) (first : Point) (points more : List PassedPoint) → (e : ReachesLimit tells left faults limit run group next old new site after was is)
     → LogsEntriesOf site.told (deeds_of e.goes.ran.steps) → HaveRowsOf more (deeds_of e.goes.ran.steps) → (last_point first points).rows ≡ site.told → MapsRest (point_of site) group → HasCutOrNoRow site.time site.told group
     → MapsOwed run first points (point_of site) group
     → MapsOwed run first (points ++ more) (point_of after) next × MapsRest (point_of after) next

@@ -14,7 +14,7 @@ use Rattle.group_state.specs.Runs.{Answer}
 use Rattle.group_state.specs.Volumes.{passes, volume_of}
 use Rattle.record_rows.specs.Deeds.{Deed, rows_by_deed, time_meant_behind}
 use Rattle.passages.specs.Points.{last_point}
-use Rattle.consistency.specs.Stages.{Run, tracks_of_row}
+use Rattle.consistency.specs.Stages.{ScriptRun, tracks_of_row}
 use Rattle.consistency.specs.Leads.{Point}
 use Rattle.consistency.specs.Owing.{owes_track}
 use Rattle.consistency.specs.Ways.{PassedPoint}
@@ -25,10 +25,10 @@ use Rattle.fed_logs.specs.ToldTracks.{HeldTracks}
 use Rattle.mover.specs.Dropping.{OwesExactly}
 use Rattle.mover.specs.OwedTracks.{CarriedAsLive}
 use Rattle.mover.specs.Moves.{LogsEntriesOf}
-use Rattle.xrc_session.specs.Maps.{KeepsMaps, RestsAtCut, RowsGo}
+use Rattle.xrc_session.specs.Maps.{AreMapsSound, RestsAtCut, RowsGo}
 
 -- The map of each suspended row's volume, if its control counts, has exactly the tracks that the row owes at a point's time.
-abbrev pub MapsOwed : Run → (first : Point) → List PassedPoint → Point → Group → Type 0
+abbrev pub MapsOwed : ScriptRun → (first : Point) → List PassedPoint → Point → Group → Type 0
 MapsOwed run first points p group = (r : PairRow) → Contains p.rows r → is_suspended r.state ≡ true → IsTrue (counts (control_at group r.control).phase)
     → (x : ℕ) → x < tracks_of_row r → passes (λ u. has_track u.map x) (volume_of r.volume (control_at group r.control).volumes) ≡ owes_track run first points r p.time x
 
@@ -40,7 +40,7 @@ SuspendedUpTo time rows = (r : PairRow) (cause : SuspendCause) (since : Stamp) �
 
 -- What maps stand on between two epochs. The state of a session that has just started has no cut yet.
 pub record MapsRest (p : Point) (s : Group) : Type 0 where
-  pub keeps : KeepsMaps s
+  pub keeps : AreMapsSound s
   pub rests : s.last.0 ≡ p.time → RestsAtCut s p.time
   pub since : SuspendedUpTo p.time p.rows
 
@@ -50,7 +50,7 @@ pub record MapsRest (p : Point) (s : Group) : Type 0 where
 --   go, entries: what the deeds make of rows, and of which rows their groups have entries
 --   owed: the volume of each row is dropped exactly for what it owes more
 --   times: no deed's time is above the last one's
-pub record DeedsLeadTo (run : Run) (size : Sizes) (held : HeldTracks) (s end : Group) (log : List Answer) (p q : Point) (done known : Plans) (deeds : List Deed) : Type 0 where
+pub record DeedsLeadTo (run : ScriptRun) (size : Sizes) (held : HeldTracks) (s end : Group) (log : List Answer) (p q : Point) (done known : Plans) (deeds : List Deed) : Type 0 where
   pub fed : IsFedLog run.traces s end log
   pub begins : BeginsLog size run.traces held s p.time p.rows done
   pub kept : MakesAllDeeds p.time p.rows done (part_of_mover log) deeds q.time q.rows known
@@ -71,6 +71,6 @@ HasCutOrNoRow time rows s = (s.last.0 ≡ time) ⊎ (rows ≡ [])
 
 -- Where the maps have what rows owe, they do so behind a log that leads to another point, once the controls that count have told up to its time.
 abbrev pub MapsOwedBehindLogs : Type 0
-MapsOwedBehindLogs = (run : Run) (size : Sizes) (held : HeldTracks) (s end : Group) (log : List Answer) (first : Point) (points more : List PassedPoint) (p q : Point) (done known : Plans) (deeds : List Deed)
+MapsOwedBehindLogs = (run : ScriptRun) (size : Sizes) (held : HeldTracks) (s end : Group) (log : List Answer) (first : Point) (points more : List PassedPoint) (p q : Point) (done known : Plans) (deeds : List Deed)
     → DeedsLeadTo run size held s end log p q done known deeds → (last_point first points).rows ≡ p.rows → HaveRowsOf more deeds → MapsRest p s → HasCutOrNoRow p.time p.rows s → RestsAtCut end q.time → MapsOwed run first points p s
     → MapsOwed run first (points ++ more) q end × MapsRest q end

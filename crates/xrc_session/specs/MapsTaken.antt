@@ -13,12 +13,12 @@ use Rattle.pair_table.specs.Tables.{row_of}
 use Rattle.group_state.specs.Groups.{Group, control_at}
 use Rattle.record_rows.specs.Hits.{is_device_suspended}
 use Rattle.passages.specs.Points.{last_point}
-use Rattle.consistency.specs.Stages.{Run, tracks_of_row}
+use Rattle.consistency.specs.Stages.{ScriptRun, tracks_of_row}
 use Rattle.consistency.specs.Leads.{Point}
 use Rattle.consistency.specs.Owing.{has_pair_in, owes_track}
 use Rattle.consistency.specs.Ways.{PassedPoint}
 use Rattle.xrc_session.specs.MapsOwed.{MapsOwed, MapsRest}
-use Rattle.xrc_session.specs.Taking.{KeepsForRows, MayTake, after_calls, calls_of_change, is_begun}
+use Rattle.xrc_session.specs.Taking.{IsSoundForRows, MayTake, after_calls, calls_of_change, is_begun}
 
 -- ---- a command
 
@@ -35,7 +35,7 @@ SuspendsAt time change before after = (z : PairRow) (cause : SuspendCause) (sinc
 
 -- Behind a command that resumes a device's row, unless the row is suspended again, the tracks that are wanted of its volume are exactly those that
 -- the row owed at a time.
-abbrev pub WantsOwed : Run → (first : Point) → List PassedPoint → (device : ℕ) → (before after : List PairRow) → (time : ℕ) → Group → Type 0
+abbrev pub WantsOwed : ScriptRun → (first : Point) → List PassedPoint → (device : ℕ) → (before after : List PairRow) → (time : ℕ) → Group → Type 0
 WantsOwed run first points device before after time s = (r z : PairRow) → Contains before r → Contains after z → r.device ≡ device → z.device ≡ device → is_suspended z.state ≡ false
     → (x : ℕ) → x < tracks_of_row r → is_wanted r.volume x (control_at s r.control).volumes ≡ owes_track run first points r time x
 
@@ -49,6 +49,6 @@ pub record PassesBy (p q : Point) (more : List PassedPoint) : Type 0 where
 
 -- Where the maps have what rows owe, they do so behind a command's change that was taken over.
 abbrev pub MapsOwedBehindChanges : Type 0
-MapsOwedBehindChanges = (run : Run) (first : Point) (points more : List PassedPoint) (p q : Point) (s : Group) (change : Change) → KeepsForRows s p.rows → MayTake s change p.rows q.rows → q.time ≡ p.time → SuspendsAt p.time change p.rows q.rows
+MapsOwedBehindChanges = (run : ScriptRun) (first : Point) (points more : List PassedPoint) (p q : Point) (s : Group) (change : Change) → IsSoundForRows s p.rows → MayTake s change p.rows q.rows → q.time ≡ p.time → SuspendsAt p.time change p.rows q.rows
     → (last_point first points).rows ≡ p.rows → PassesBy p q more → MapsRest p s → s.last.0 ≡ p.time → MapsOwed run first points p s
     → let end = after_calls (calls_of_change change s p.rows q.rows) s in MapsOwed run first (points ++ more) q end × MapsRest q end

@@ -105,7 +105,7 @@ pub record LogsFrom (tells : Type 0) (b : Between) (cut : ℕ) (change : Change)
   pub result : Result (Unit {0}) StoreError
   pub does : DoesChange tells cut change site next old new result
   pub deeds : List Deed
-  pub deeds_are : deeds ≡ change_deeds_of change does.way site cut next.failed
+  pub deeds_are : deeds ≡ change_deeds_of change does.placement site cut next.failed
 
 -- What its record excepts, and a mark that the record needs first, is owed once the change was taken over.
 abbrev pub ExceptedBehindChangesAreOwed : (tells : Type 0) → (old new : PlantState) → Type 0

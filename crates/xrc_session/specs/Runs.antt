@@ -7,7 +7,7 @@ use Rattle.pair_table.specs.declared.names.NamedDevice.{NamedDevice}
 use Rattle.pair_table.specs.Naming.{Naming}
 use Rattle.volume_label.specs.Labels.{label_of}
 use Rattle.volume_label.specs.declared.label.Label.{Label}
-use Rattle.consistency.specs.Stages.{Run}
+use Rattle.consistency.specs.Stages.{ScriptRun}
 use Rattle.consistency.specs.Courses.{Answered, last_line_time}
 use Rattle.script_lines.specs.NextLines.{IsNextLine}
 use Rattle.script_lines.specs.Texts.{has_feed}
@@ -51,7 +51,7 @@ pub record NamesLabel (old new : PlantState) (device : ℕ) (names named : Namin
 
 -- A run is what a script was run over: the session's name, the traces of what the sources gave, the labels that volumes had, and as many faults of
 -- volumes as their counts rose by. Its level is that of the start that was answered.
-pub record IsRunOfScript (session : List ℕ) (sources : List SourceBytes) (old new : PlantState) (run : Run) : Type 0 where
+pub record IsRunOfScript (session : List ℕ) (sources : List SourceBytes) (old new : PlantState) (run : ScriptRun) : Type 0 where
   pub name : run.session ≡ session
   pub traces : AreTracesGiven sources run.traces
   pub labels : AreLabels old new 0 run.labels
@@ -66,14 +66,14 @@ IsBadBehind tells lines text left = IsNextLine tells (length lines + 1) (last_li
 
 -- A run stopped behind its lines. The stop is that of a bad line exactly if one was heard, with its number. A last line without a line feed is heard
 -- only once the script's end was told, which the console may fail to do. Behind each of the lines behind which the session has ended all was applied.
-pub record StopsAtLine (tells : Type 0) (run : Run) (lines : List Answered) (text : List ℕ) (began now : PlantState) (stop : Stop) : Type 0 where
+pub record StopsAtLine (tells : Type 0) (run : ScriptRun) (lines : List Answered) (text : List ℕ) (began now : PlantState) (stop : Stop) : Type 0 where
   pub stops : StopsInLine run lines text began now stop
   pub bad : IsBadBehind tells lines text now.script → (stop ≡ BadLine (length lines + 1)) ⊎ ((stop ≡ ConsoleFault) × (has_feed text ≡ false))
   pub of_bad : (n : ℕ) → stop ≡ BadLine n → (n ≡ length lines + 1) × IsBadBehind tells lines text now.script
   pub applied : AppliesEnds run lines began now
 
 -- How the lines of a script end: the script was heard to its end and each line was answered, or the run stopped behind its lines.
-abbrev pub EndsLines : {S : Type 0} → (tells : Type 0) → Run → SessionState → List (Lane S) → (began now : PlantState) → Result (Unit {0}) Stop → Type 0
+abbrev pub EndsLines : {S : Type 0} → (tells : Type 0) → ScriptRun → SessionState → List (Lane S) → (began now : PlantState) → Result (Unit {0}) Stop → Type 0
 EndsLines tells run s lanes began now (Ok done) = (lines : List Answered) × ((trail : Trail) × HasAnswered run lines trail [] s lanes began now) × (now.script ≡ [])
 EndsLines tells run s lanes began now (Err stop) = (lines : List Answered) × ((text : List ℕ) × StopsAtLine tells run lines text began now stop)
 
@@ -84,13 +84,13 @@ abbrev pub AreCountsBelow : PlantState → Type 0
 AreCountsBelow plant = (d : ℕ) → plant.faults (Volume d) < most_faults
 
 -- How a run of a script ends: done, or stopped behind its lines, where so much was heard of the next one.
-abbrev pub EndsScript : (tells : Type 0) → Run → List Answered → (text : List ℕ) → (began now : PlantState) → Result (Unit {0}) Stop → Type 0
+abbrev pub EndsScript : (tells : Type 0) → ScriptRun → List Answered → (text : List ℕ) → (began now : PlantState) → Result (Unit {0}) Stop → Type 0
 EndsScript tells run lines text began now (Ok done) = (text ≡ []) × ((trail : Trail) × IsRunDone run lines trail began now) × AppliesEnds run lines began now
 EndsScript tells run lines text began now (Err stop) = StopsAtLine tells run lines text began now stop
 
 -- What a run of a script has done when it ends, once its headers were good: its run, the lines that it answered, and what was heard of the next one.
 pub record RunsScript (tells : Type 0) (session : List ℕ) (sources : List SourceBytes) (old new : PlantState) (result : Result (Unit {0}) Stop) : Type 0 where
-  pub run : Run
+  pub run : ScriptRun
   pub over : IsRunOfScript session sources old new run
   pub lines : List Answered
   pub text : List ℕ
@@ -107,7 +107,7 @@ pub record RunsLines {S : Type 0} (tells : Type 0) (left : S → Option (List �
   pub known : SessionState
   pub is_known : IsKnownSession session old new known
   pub last : OnOk result (known ≡ next)
-  pub each : (run : Run) → IsRunOver left run known lanes after old new → EndsLines tells run next after old new result
+  pub each : (run : ScriptRun) → IsRunOver left run known lanes after old new → EndsLines tells run next after old new result
 
 -- Over sources that tell their bytes, and whose headers are good, where counts end below the largest number, the script is run.
 abbrev pub RunsTold : {S : Type 0} → (tells : Type 0) → (left : S → Option (List ℕ)) → (faults : S → ℕ) → (session : List ℕ) → (storage : ℕ) → (before now : List (Lane S)) → (old new : PlantState) → Result (Unit {0}) Stop → Type 0

@@ -24,7 +24,7 @@ use Rattle.site_store.specs.Formats.{ShutsFirst, started_means}
 use Rattle.site_store.specs.Records.{VolumesStay}
 use Rattle.site_store.specs.Sites.{SiteState, first_mark}
 use Rattle.site_store.specs.Standing.{HasLengths}
-use Rattle.consistency.specs.Stages.{Run, Stage}
+use Rattle.consistency.specs.Stages.{ScriptRun, Stage}
 use Rattle.consistency.specs.Courses.{Answered, AreAsked, last_line_time, lines_begun, next_line, texts_of}
 use Rattle.consistency.specs.Bearing.{ShowsPoint}
 use Rattle.mover.specs.declared.lane.Lane.{Lane}
@@ -178,7 +178,7 @@ HasBegunRun session (Some site) old new = HasStartedRun session old new
 
 -- A session's own numbers are spent in a run: the session has started, or its start was heard and whatever a crash leaves means just the session that
 -- starts.
-pub record AreOwnSpent (run : Run) (s : Stage) (began now : PlantState) : Type 0 where
+pub record AreOwnSpent (run : ScriptRun) (s : Stage) (began now : PlantState) : Type 0 where
   pub spent : IsSpentNow now
   pub own : IsTrue s.table.is_started ⊎ IsSomeAnd s.next (λ line. IsSomeAnd (level_started run.session line) (λ level. AtNow (MeansStart run.session level line.time.0 began) now))
 
@@ -209,7 +209,7 @@ pub record IsSiteStarted {S : Type 0} (tells : Type 0) (session : List ℕ) (lev
   pub cut : IsSomeAnd group (HasCut at)
 
 -- In a run it stands for its rows, of which there are none, and whatever a crash leaves shows its point.
-pub record StandsStarted (run : Run) (site : SiteState) (now : PlantState) (group : Group) : Type 0 where
+pub record StandsStarted (run : ScriptRun) (site : SiteState) (now : PlantState) (group : Group) : Type 0 where
   pub shows : AtNow (ShowsPoint run (shape_of now) (site_point site)) now
   pub goes_on : GoesOnFrom run (site_point site) [] site now group
 
@@ -239,7 +239,7 @@ pub record IsWorkOfStart {T : Type 0} (tells : Type 0) (old new : PlantState) (r
 
 -- In each run whose traces turn out so, and whose name and level are the start's, it does.
 abbrev pub StartsRuns : {S : Type 0} → (left : S → Option (List ℕ)) → (session : List ℕ) → Level → (lanes after : List (Lane S)) → Option Group → (began old new : PlantState) → SiteState → Type 0
-StartsRuns left session level lanes after group began old new site = (run : Run) → run.session ≡ session → run.level ≡ level → HaveHeadsOf lanes run.traces → AreCountsFrom began old → AllTurnOut left run.traces lanes after
+StartsRuns left session level lanes after group began old new site = (run : ScriptRun) → run.session ≡ session → run.level ≡ level → HaveHeadsOf lanes run.traces → AreCountsFrom began old → AllTurnOut left run.traces lanes after
     → RisesCover run began new → IsSomeAnd group (StandsStarted run site new)
 
 -- Work for a start's own time, without a row, leaves at every moment just the session that starts.

@@ -4,8 +4,8 @@ use Rattle.pair_table.specs.Naming.{Naming}
 use Rattle.pair_table.specs.Tables.{Table}
 use Rattle.group_state.specs.Groups.{Group}
 use Rattle.site_store.specs.Sites.{SiteState}
-use Rattle.xrc_session.specs.declared.place.Place.{Place}
-use Rattle.xrc_session.specs.declared.place.Place.TheVariants.{Unstarted, Started}
+use Rattle.xrc_session.specs.declared.place.SessionPlace.{SessionPlace}
+use Rattle.xrc_session.specs.declared.place.SessionPlace.TheVariants.{Unstarted, Started}
 
 -- what a session is to its callers
 pub record SessionState : Type 0 where
@@ -23,11 +23,11 @@ pub record SessionState : Type 0 where
   pub is_ended : Bool
 
 -- the pairs of a session at a place, and its site
-abbrev pub table_in : {V : Type 0} → Place V → Table
+abbrev pub table_in : {V : Type 0} → SessionPlace V → Table
 table_in (Unstarted table) = table
 table_in (Started site) = site.table
 
-abbrev pub site_in : {V : Type 0} → Place V → Option SiteState
+abbrev pub site_in : {V : Type 0} → SessionPlace V → Option SiteState
 site_in (Unstarted table) = None
 site_in (Started site) = Some site
 

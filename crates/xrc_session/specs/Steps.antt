@@ -10,7 +10,7 @@ use Rattle.site_means.specs.Images.{shape_of}
 use Rattle.xrc_command.specs.declared.line.Line.{Line}
 use Rattle.site_store.specs.Sites.{SiteState}
 use Rattle.group_state.specs.Groups.{Group}
-use Rattle.consistency.specs.Stages.{Run, Stage}
+use Rattle.consistency.specs.Stages.{ScriptRun, Stage}
 use Rattle.consistency.specs.Courses.{Answered}
 use Rattle.consistency.specs.Steps.{table_on_the_way}
 use Rattle.mover.specs.Working.{LinesAsked, IsOnItsWay, ShowsLast}
@@ -26,7 +26,7 @@ use Rattle.mover.specs.Epochs.{AllTurnOut, LanesBrokeAs}
 use Rattle.xrc_status.specs.declared.stop.Stop.{Stop}
 use Rattle.xrc_status.specs.declared.stop.Stop.TheVariants.{NoMemory}
 use Rattle.xrc_session.specs.declared.answering.LineAnswer.{LineAnswer}
-use Rattle.xrc_session.specs.declared.kept.Kept.{Kept}
+use Rattle.xrc_session.specs.declared.kept.SessionParts.{SessionParts}
 use Rattle.xrc_session.specs.AppliedEnds.{IsAllApplied}
 use Rattle.xrc_session.specs.MapsOwed.{HasCutOrNoRow}
 use Rattle.xrc_session.specs.LinePauses.{GoesOnFrom, HasAnswered, IsRunOver, RisesCover, StandsAtLeg, StandsBehindLines, stage_behind}
@@ -41,7 +41,7 @@ use Rattle.xrc_session.specs.Trails.{AreExact, BeginsAtStart, BringsChanges, Tra
 -- Calls pass points from a leg of a stage on, each next by its way, and each may be meant at the stage. One may be on its way at the end. Of the
 -- volumes only slots of the points' rows are written.
 --   written: they are written part by part
-pub record PassesPointsOn (run : Run) (stage : Stage) (asked : LinesAsked) (l : Leg) (points : List PassedPoint) (next : Option Point) (old new : PlantState) : Type 0 where
+pub record PassesPointsOn (run : ScriptRun) (stage : Stage) (asked : LinesAsked) (l : Leg) (points : List PassedPoint) (next : Option Point) (old new : PlantState) : Type 0 where
   pub goes : 0 < old.clock → GoesThroughPoints run new old.clock l.point points new.clock next
   pub linked : AreLinked (ComesNext run asked) leg_after l points
   pub may : All (λ n. MayBeMeant run stage n.point) points
@@ -51,13 +51,13 @@ pub record PassesPointsOn (run : Run) (stage : Stage) (asked : LinesAsked) (l : 
   pub written : 0 < old.clock → PassesInParts new old.clock new.clock l.point points
 
 -- So they do, as far as they come.
-abbrev pub BeginsToPass : Run → Stage → LinesAsked → Leg → (old new : PlantState) → Type 0
+abbrev pub BeginsToPass : ScriptRun → Stage → LinesAsked → Leg → (old new : PlantState) → Type 0
 BeginsToPass run stage asked l old new = (points : List PassedPoint) × ((next : Option Point) × PassesPointsOn run stage asked l points next old new)
 
 -- ---- to a line's time
 
 -- Work for the time of a stage's next line may begin at a leg, at which no row has changed since the last reply.
-pub record MayBring (run : Run) (stage : Stage) (line : Line) (asked : LinesAsked) (l : Leg) (first : Point) (points : List PassedPoint) (site : SiteState) (began now : PlantState) (group : Group) : Type 0 where
+pub record MayBring (run : ScriptRun) (stage : Stage) (line : Line) (asked : LinesAsked) (l : Leg) (first : Point) (points : List PassedPoint) (site : SiteState) (began now : PlantState) (group : Group) : Type 0 where
   pub heard : stage.next ≡ Some line
   pub asked_is : asked l.answered ≡ Some line
   pub active : stage.table.is_ended ≡ false
@@ -68,7 +68,7 @@ pub record MayBring (run : Run) (stage : Stage) (line : Line) (asked : LinesAske
   pub cut : HasCutOrNoRow site.time site.told group
 
 -- The work has come to the line's time, at a leg behind these points: the line's command may take effect, and the work may go on from there.
-pub record HasBrought (run : Run) (stage : Stage) (line : Line) (asked : LinesAsked) (l : Leg) (first : Point) (points : List PassedPoint) (site : SiteState) (began now : PlantState) (group : Group) : Type 0 where
+pub record HasBrought (run : ScriptRun) (stage : Stage) (line : Line) (asked : LinesAsked) (l : Leg) (first : Point) (points : List PassedPoint) (site : SiteState) (began now : PlantState) (group : Group) : Type 0 where
   pub asked_is : asked l.answered ≡ Some line
   pub at : StandsAtLeg run stage l site began now
   pub at_work : IsAtWork run asked l
@@ -76,7 +76,7 @@ pub record HasBrought (run : Run) (stage : Stage) (line : Line) (asked : LinesAs
   pub goes_on : GoesOnFrom run first points site now group
 
 -- How it ends.
-abbrev pub EndsBringing : Run → Stage → Line → LinesAsked → Leg → (first : Point) → List PassedPoint → SiteState → Option Group → (began old new : PlantState) → Result (Unit {0}) Stop → Type 0
+abbrev pub EndsBringing : ScriptRun → Stage → Line → LinesAsked → Leg → (first : Point) → List PassedPoint → SiteState → Option Group → (began old new : PlantState) → Result (Unit {0}) Stop → Type 0
 EndsBringing run stage line asked l first points site group began old new (Ok done) =
     (more : List PassedPoint) × PassesPointsOn run stage asked l more None old new × IsSomeAnd group (HasBrought run stage line asked (fold leg_after l more) first (points ++ more) site began new)
 EndsBringing run stage line asked l first points site group began old new (Err stop) = BeginsToPass run stage asked l old new
@@ -84,22 +84,22 @@ EndsBringing run stage line asked l first points site group began old new (Err s
 -- ---- heard
 
 -- A line was heard whole behind those that a session has answered.
-pub record HasHeard {S : Type 0} (run : Run) (lines : List Answered) (trail : Trail) (text : List ℕ) (line : Line) (s : SessionState) (lanes : List (Lane S)) (began now : PlantState) : Type 0 where
+pub record HasHeard {S : Type 0} (run : ScriptRun) (lines : List Answered) (trail : Trail) (text : List ℕ) (line : Line) (s : SessionState) (lanes : List (Lane S)) (began now : PlantState) : Type 0 where
   pub answered : HasAnswered run lines trail text s lanes began now
   pub next : (stage_behind run lines text began).next ≡ Some line
 
 -- ---- answered
 
 -- the line as it is answered behind these changes and before these hits, if this is its reply
-abbrev pub line_answered : Run → List Answered → (text : List ℕ) → Line → (changes hits : List Timed) → (began : PlantState) → (reply : List ℕ) → Answered
+abbrev pub line_answered : ScriptRun → List Answered → (text : List ℕ) → Line → (changes hits : List Timed) → (began : PlantState) → (reply : List ℕ) → Answered
 line_answered run lines text line changes hits began reply = answered_by run (stage_behind run lines text began) text reply line changes hits
 
 -- The reply to a line behind others is exact, by the trail of the session.
-abbrev pub IsExactBehind : Run → List Answered → Trail → (text : List ℕ) → (began : PlantState) → Answered → Type 0
+abbrev pub IsExactBehind : ScriptRun → List Answered → Trail → (text : List ℕ) → (began : PlantState) → Answered → Type 0
 IsExactBehind run lines trail text began a = IsExact run (stage_behind run lines text began) (first_leg run (lines ++ a ∷ []) trail).point trail.points (length lines) a
 
 -- what the reply to it tells
-abbrev pub content_behind_lines : Run → List Answered → Trail → (text : List ℕ) → (began : PlantState) → Answered → ReplyContent
+abbrev pub content_behind_lines : ScriptRun → List Answered → Trail → (text : List ℕ) → (began : PlantState) → Answered → ReplyContent
 content_behind_lines run lines trail text began a = reply_content run (stage_behind run lines text began) (first_leg run (lines ++ a ∷ []) trail).point trail.points (length lines) a
 
 -- A reply's content tells an answer to a line, and the tracks that are to be copied where it tells some.
@@ -109,7 +109,7 @@ pub record TellsAnswer (line : Line) (content : ReplyContent) (answer : LineAnsw
 
 -- Behind a line that resumes a pair, unless the pair is suspended again, the tracks that are wanted of its volume are exactly those that its row owed
 -- at the line's time, as its reply counts them.
-abbrev pub WantsAsOwed : Run → List Answered → Trail → (text : List ℕ) → (began : PlantState) → Answered → SessionState → Type 0
+abbrev pub WantsAsOwed : ScriptRun → List Answered → Trail → (text : List ℕ) → (began : PlantState) → Answered → SessionState → Type 0
 WantsAsOwed run lines trail text began a s = (device : ℕ) → (content_behind_lines run lines trail text began a).answer ≡ Ok (Resumed device) → s.table.is_ended ≡ false
     → IsSomeAnd s.group (WantsOwed run (first_leg run (lines ++ a ∷ []) trail).point (points_before (length lines) trail.points) device (table_on_the_way run.level a.changes (stage_behind run lines text began).table).rows s.table.rows a.line.time.0)
 
@@ -119,7 +119,7 @@ WantsAsOwed run lines trail text began a s = (device : ℕ) → (content_behind_
 --   brings: once the session has started, the points before the command bring the changes behind which the line is answered
 --   applied: where the session has ended behind the line, all is applied and marked
 --   unhit: a report is that of the table that the line finds, since no hit stands behind the line
-pub record IsToReply {S : Type 0} (run : Run) (lines : List Answered) (trail : Trail) (text : List ℕ) (line : Line) (answer : LineAnswer) (s : SessionState) (lanes : List (Lane S)) (began now : PlantState) : Type 0 where
+pub record IsToReply {S : Type 0} (run : ScriptRun) (lines : List Answered) (trail : Trail) (text : List ℕ) (line : Line) (answer : LineAnswer) (s : SessionState) (lanes : List (Lane S)) (began now : PlantState) : Type 0 where
   pub goes : RunGoesOn run lines text began now
   pub changes : List Timed
   pub hits : List Timed
@@ -141,18 +141,18 @@ pub record IsToReply {S : Type 0} (run : Run) (lines : List Answered) (trail : T
 -- ---- how a line ends
 
 -- A line that was done and awaits its reply, or in which the session stopped.
-abbrev pub EndsDoing : {S : Type 0} → Run → List Answered → (text : List ℕ) → Line → SessionState → List (Lane S) → (began now : PlantState) → Result LineAnswer Stop → Type 0
+abbrev pub EndsDoing : {S : Type 0} → ScriptRun → List Answered → (text : List ℕ) → Line → SessionState → List (Lane S) → (began now : PlantState) → Result LineAnswer Stop → Type 0
 EndsDoing run lines text line s lanes began now (Ok answer) = (trail : Trail) × IsToReply run lines trail text line answer s lanes began now
 EndsDoing run lines text line s lanes began now (Err stop) = StopsInLine run lines text began now stop
 
 -- A line that was answered, or in which the session stopped. A resume wants the tracks that the row owed.
-abbrev pub EndsLine : {S : Type 0} → Run → List Answered → (text : List ℕ) → Line → SessionState → List (Lane S) → (began now : PlantState) → Result (Unit {0}) Stop → Type 0
+abbrev pub EndsLine : {S : Type 0} → ScriptRun → List Answered → (text : List ℕ) → Line → SessionState → List (Lane S) → (began now : PlantState) → Result (Unit {0}) Stop → Type 0
 EndsLine run lines text line s lanes began now (Ok done) =
     (a : Answered) × (a.line ≡ line) × (a.text ≡ text) × ((trail : Trail) × HasAnswered run (lines ++ a ∷ []) trail [] s lanes began now × WantsAsOwed run lines trail text began a s)
 EndsLine run lines text line s lanes began now (Err stop) = StopsInLine run lines text began now stop
 
 -- A session that was finished behind its lines, or that stopped meanwhile.
-abbrev pub EndsFinishing : Run → List Answered → (began now : PlantState) → Result (Unit {0}) Stop → Type 0
+abbrev pub EndsFinishing : ScriptRun → List Answered → (began now : PlantState) → Result (Unit {0}) Stop → Type 0
 EndsFinishing run lines began now (Ok done) = (trail : Trail) × IsRunDone run lines trail began now
 EndsFinishing run lines began now (Err stop) = StopsInLine run lines [] began now stop
 
@@ -164,21 +164,21 @@ known_by before behind = elim before.site [ None ↦ behind | Some site ↦ befo
 
 -- In each run over what its lanes read and its volumes failed, a line that was heard whole is done, or the session stops in it.
 abbrev pub DoesLine : {S : Type 0} → (left : S → Option (List ℕ)) → Line → (s next : SessionState) → (lanes after : List (Lane S)) → (began old new : PlantState) → Result LineAnswer Stop → Type 0
-DoesLine left line s next lanes after began old new result = (run : Run) (lines : List Answered) (trail : Trail) (text : List ℕ)
+DoesLine left line s next lanes after began old new result = (run : ScriptRun) (lines : List Answered) (trail : Trail) (text : List ℕ)
     → IsRunOver left run (known_by s next) lanes after began new → HasHeard run lines trail text line s lanes began old → EndsDoing run lines text line next after began new result
 
 -- So it is answered behind those before it.
 abbrev pub AnswersLine : {S : Type 0} → (left : S → Option (List ℕ)) → Line → (s next : SessionState) → (lanes after : List (Lane S)) → (began old new : PlantState) → Result (Unit {0}) Stop → Type 0
-AnswersLine left line s next lanes after began old new result = (run : Run) (lines : List Answered) (trail : Trail) (text : List ℕ)
+AnswersLine left line s next lanes after began old new result = (run : ScriptRun) (lines : List Answered) (trail : Trail) (text : List ℕ)
     → IsRunOver left run (known_by s next) lanes after began new → HasHeard run lines trail text line s lanes began old → EndsLine run lines text line next after began new result
 
 -- In each run that has answered its lines and heard the script's end, all is applied and marked, or the session stops meanwhile.
 abbrev pub FinishesRuns : (s : SessionState) → (began old new : PlantState) → Result (Unit {0}) Stop → Type 0
-FinishesRuns s began old new result = (run : Run) (lines : List Answered) (trail : Trail) → RisesCover run began new → old.script ≡ [] → RunGoesOn run lines [] began old
+FinishesRuns s began old new result = (run : ScriptRun) (lines : List Answered) (trail : Trail) → RisesCover run began new → old.script ≡ [] → RunGoesOn run lines [] began old
     → AreExact run lines trail → StandsBehindLines run lines (stage_behind run lines [] began) trail s began old → EndsFinishing run lines began new result
 
 -- In each run whose traces turn out so, work for the time of a line may begin at a leg, and comes to the line's time.
-abbrev pub BringsOn : {S : Type 0} → (left : S → Option (List ℕ)) → (limit : ℕ) → (lanes after : List (Lane S)) → (kept kept_now : Kept) → (site site_now : SiteState) → (began old new : PlantState) → Result (Unit {0}) Stop → Type 0
-BringsOn left limit lanes after kept kept_now site site_now began old new result = (run : Run) (stage : Stage) (line : Line) (asked : LinesAsked) (l : Leg) (first : Point) (points : List PassedPoint)
+abbrev pub BringsOn : {S : Type 0} → (left : S → Option (List ℕ)) → (limit : ℕ) → (lanes after : List (Lane S)) → (kept kept_now : SessionParts) → (site site_now : SiteState) → (began old new : PlantState) → Result (Unit {0}) Stop → Type 0
+BringsOn left limit lanes after kept kept_now site site_now began old new result = (run : ScriptRun) (stage : Stage) (line : Line) (asked : LinesAsked) (l : Leg) (first : Point) (points : List PassedPoint)
     → line.time.0 ≡ limit → run.level ≡ site.level → IsSomeAnd kept.group (MayBring run stage line asked l first points site began old) → AllTurnOut left run.traces lanes after → RisesCover run began new
     → EndsBringing run stage line asked l first points site_now kept_now.group began old new result

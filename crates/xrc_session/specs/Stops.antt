@@ -15,8 +15,8 @@ use Rattle.xrc_command.specs.declared.line.Line.{Line}
 use Rattle.site_store.specs.declared.store_error.StoreError.{StoreError}
 use Rattle.site_store.specs.declared.store_error.StoreError.TheVariants as store
 use Rattle.site_store.specs.Records.{IsStore}
-use Rattle.site_store.specs.Ways.{most}
-use Rattle.consistency.specs.Stages.{Run}
+use Rattle.site_store.specs.Placements.{most}
+use Rattle.consistency.specs.Stages.{ScriptRun}
 use Rattle.consistency.specs.Courses.{Answered, AreAsked, IsCourse, replies_of, texts_of}
 use Rattle.consistency.specs.Moments.{BearsThroughout, BearsTime}
 use Rattle.consistency.specs.Pauses.{RunGoesOn}
@@ -94,7 +94,7 @@ IsSpentNow plant = AtNow (AreNumbersSpent plant) plant
 -- The console failed within the reply to a line: a front of it was said behind the replies to the lines before, and each moment bears.
 --   applied: where the session has ended behind the line, all is applied and marked
 --   behind: whatever a crash leaves bears a time behind the line, also on a plant that keeps no past
-pub record RepliesInPart (run : Run) (lines : List Answered) (a : Answered) (began now : PlantState) : Type 0 where
+pub record RepliesInPart (run : ScriptRun) (lines : List Answered) (a : Answered) (began now : PlantState) : Type 0 where
   pub course : IsCourse run (lines ++ a ∷ [])
   pub asked : AreAsked began.script (lines ++ a ∷ [])
   pub heard : now.heard now.clock ≡ began.heard began.clock ++ texts_of (lines ++ a ∷ [])
@@ -102,11 +102,11 @@ pub record RepliesInPart (run : Run) (lines : List Answered) (a : Answered) (beg
   pub front : (k : ℕ) × (k ≤ length a.reply) × (now.said now.clock ≡ began.said began.clock ++ (replies_of lines ++ take k a.reply))
   pub bears : 0 < began.clock → BearsThroughout run (lines ++ a ∷ []) began now
   pub applied : IsTrue (stage_behind run (lines ++ a ∷ []) [] began).table.is_ended → IsAllApplied now now.clock
-  pub behind : let s = stage_behind run (lines ++ a ∷ []) [] began in IsTrue s.table.is_started → AtNow (BearsTime run s (replies_of (lines ++ a ∷ [])) now) now
+  pub bears_now : let s = stage_behind run (lines ++ a ∷ []) [] began in IsTrue s.table.is_started → AtNow (BearsTime run s (replies_of (lines ++ a ∷ [])) now) now
 
 -- How a run stands when a call stops it: the replies to the answered lines were said and nothing more, and so much was heard of the next line.
 -- Only where the console failed part of that line's reply may have been said.
-abbrev pub StandsStopped : Run → List Answered → (text : List ℕ) → (part : Option Answered) → (began now : PlantState) → Stop → Type 0
+abbrev pub StandsStopped : ScriptRun → List Answered → (text : List ℕ) → (part : Option Answered) → (began now : PlantState) → Stop → Type 0
 StandsStopped run lines text None began now stop = RunGoesOn run lines text began now
 StandsStopped run lines text (Some a) began now stop = (stop ≡ stops.ConsoleFault) × (a.text ≡ text) × RepliesInPart run lines a began now
 
@@ -121,7 +121,7 @@ line_asked heard (Some a) = None
 
 -- A run is stopped. Its devices have gone forth, if the session has started, and each reply of which something was said is exact. Without a start
 -- no point was passed.
-pub record IsStopped (run : Run) (lines : List Answered) (trail : Trail) (text : List ℕ) (began now : PlantState) (stop : Stop) : Type 0 where
+pub record IsStopped (run : ScriptRun) (lines : List Answered) (trail : Trail) (text : List ℕ) (began now : PlantState) (stop : Stop) : Type 0 where
   pub part : Option Answered
   pub stands : StandsStopped run lines text part began now stop
   pub exact : AreExact run (lines_said lines part) trail

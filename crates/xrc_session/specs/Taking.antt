@@ -17,7 +17,7 @@ use Rattle.group_state.specs.Groups.{Group, control_at}
 use Rattle.group_state.specs.Machine.{Call, group_after}
 use Rattle.group_state.specs.Machine.Call.{Carry, Drop, Forget, Resume}
 use Rattle.group_state.specs.Runs.{May}
-use Rattle.group_state.specs.SoundStates.{KeepsGroup}
+use Rattle.group_state.specs.SoundStates.{IsGroupSound}
 use Rattle.record_rows.specs.Hits.{is_by_device, is_device_suspended}
 use Rattle.record_rows.specs.ToldRows.{InPlaces}
 use Rattle.consistency.specs.Stages.{tracks_of_row}
@@ -28,18 +28,18 @@ use Rattle.mover.specs.OwedTracks.{IsCarriedAsLive, KeptHaveRows}
 
 -- ---- what is kept for rows
 
--- What the state keeps for a row: its volume, a control that counts if the row isn't suspended, and a plan that is done if it is duplex.
-pub record KeepsForRow (s : Group) (r : PairRow) : Type 0 where
+-- A state is sound for a row: it has the row's volume, a control that counts if the row isn't suspended, and a plan that is done if it is duplex.
+pub record IsSoundForRow (s : Group) (r : PairRow) : Type 0 where
   pub low : r.control < length s.controls
   pub own : IsCarriedAsLive s r
   pub counted : is_suspended r.state ≡ false → IsTrue (counts (control_at s r.control).phase)
   pub done : r.state ≡ Duplex → IsPlanDone r.volume (control_at s r.control)
 
--- The state keeps what every state keeps, and the volume of each of these rows. It keeps no other volume.
-pub record KeepsForRows (s : Group) (rows : List PairRow) : Type 0 where
-  pub keeps : KeepsGroup s
+-- A state is sound for rows: it is sound, and for each of them. It keeps no volume of another row.
+pub record IsSoundForRows (s : Group) (rows : List PairRow) : Type 0 where
+  pub keeps : IsGroupSound s
   pub apart : IsTrue (none_clash rows)
-  pub each : (r : PairRow) → Contains rows r → KeepsForRow s r
+  pub each : (r : PairRow) → Contains rows r → IsSoundForRow s r
   pub rowed : KeptHaveRows s rows
 
 -- ---- calls in a row

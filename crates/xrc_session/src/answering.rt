@@ -2,7 +2,7 @@
 
 ghost use Rattle.std.specs.Option.{option_map};
 ghost use Rattle.std.specs.Prelude.{◌≡◌, [], true, false, Ok, Err, IfOk, IsSomeAnd, OnOk};
-ghost use Rattle.xrc_session.specs.Taking.{KeepsForRows, tracks_to_copy};
+ghost use Rattle.xrc_session.specs.Taking.{IsSoundForRows, tracks_to_copy};
 ghost use Rattle.record_rows.specs.Hits.{hit_now};
 ghost use Rattle.site_store.specs.IdleSites.{IsSiteIdle};
 ghost use Rattle.site_store.specs.Changing.{changed_items};
@@ -12,7 +12,7 @@ ghost use Rattle.xrc_session.specs.LinePauses.{MayCommandSite};
 ghost use Rattle.xrc_session.specs.Bringing.{IsWorkOfStore};
 ghost use Rattle.xrc_status.specs.declared.stop.Stop.TheVariants as stops;
 
-use crate::kept::Kept;
+use crate::kept::SessionParts;
 use crate::stops::stop_of_store;
 use crate::take_change;
 use crash_plant::Plant;
@@ -77,7 +77,7 @@ pub(crate) fn mark<R: Threads + Sync, P: Plant>(
     }
 }
 
-impl Kept {
+impl SessionParts {
     /// Logs the change that a line's command made, and takes it over into the shared state. Tells how many tracks are to be copied.
     fn log<P: Plant>(
         &mut self,
@@ -88,10 +88,10 @@ impl Kept {
         change: &Change,
     ) -> Result<u32, Stop>
         requires may { MayLogChange P.tells self.old.names line.now change.now self.old.before.rows.items site.old (P.state plant.old) }
-        requires kept { IsSomeAnd self.old.group (λ group. KeepsForRows group self.old.before.rows.items) }
+        requires kept { IsSomeAnd self.old.group (λ group. IsSoundForRows group self.old.before.rows.items) }
         requires live { IsSomeAnd self.old.group (ControlsCount self.old.names) }
         ensures site { OnOk result (IsSiteBehind P.tells self.old.names site.old site.new (P.state plant.new)) }
-        ensures kept { OnOk result (IsSomeAnd self.new.group (λ group. KeepsForRows group site.new.told)) }
+        ensures kept { OnOk result (IsSomeAnd self.new.group (λ group. IsSoundForRows group site.new.told)) }
         ensures quiet { OnOk result (changed_items change.now site.old.table.rows ≡ [] → site.new ≡ record site.old { is_ahead = false }) }
         ensures tracks { IfOk result (λ tracks. IsSomeAnd self.old.group (λ group. tracks ≡ tracks_to_copy change.now group self.old.before.rows.items site.new.told)) }
         ensures names { self.new.names ≡ self.old.names }
@@ -119,10 +119,10 @@ impl Kept {
     ) -> Result<LineAnswer, Stop>
         requires may { MayCommandSite P.tells self.old.names (P.state plant.old) site.old }
         requires at { site.old.table.is_ended ≡ false → site.old.time ≡ line.now.time.0 }
-        requires kept { site.old.table.is_ended ≡ false → IsSomeAnd self.old.group (λ group. KeepsForRows group site.old.told × ControlsCount self.old.names group) }
+        requires kept { site.old.table.is_ended ≡ false → IsSomeAnd self.old.group (λ group. IsSoundForRows group site.old.told × ControlsCount self.old.names group) }
         requires flag { site.old.mark.ended ≡ site.old.table.is_ended }
         ensures site { IfOk result (λ answered. IsSiteCommanded P.tells self.old.names line.now answered.answer site.old site.new (P.state plant.new)) }
-        ensures kept { OnOk result (site.new.table.is_ended ≡ false → IsSomeAnd self.new.group (λ group. KeepsForRows group site.new.told)) }
+        ensures kept { OnOk result (site.new.table.is_ended ≡ false → IsSomeAnd self.new.group (λ group. IsSoundForRows group site.new.told)) }
         ensures names { self.new.names ≡ self.old.names }
         ensures taken { IfOk result (λ answered. self.new.group ≡ option_map (group_taken answered.answer site.old.told site.new.told) self.old.group) }
         ensures works { IsWorkOfStore P.tells site.old site.new (P.state plant.old) (P.state plant.new) result }
@@ -157,10 +157,10 @@ impl Kept {
     ) -> Result<LineAnswer, Stop>
         requires may { MayCommandSite P.tells self.old.names (P.state plant.old) site.old }
         requires at { site.old.table.is_ended ≡ false → site.old.time ≡ line.now.time.0 }
-        requires kept { site.old.table.is_ended ≡ false → IsSomeAnd self.old.group (λ group. KeepsForRows group site.old.told × ControlsCount self.old.names group) }
+        requires kept { site.old.table.is_ended ≡ false → IsSomeAnd self.old.group (λ group. IsSoundForRows group site.old.told × ControlsCount self.old.names group) }
         requires flag { site.old.mark.ended ≡ site.old.table.is_ended }
         ensures site { IfOk result (λ answered. IsSiteAnswered P.tells self.old.names line.now answered.answer site.old site.new (P.state plant.new)) }
-        ensures kept { OnOk result (site.new.table.is_ended ≡ false → IsSomeAnd self.new.group (λ group. KeepsForRows group site.new.told)) }
+        ensures kept { OnOk result (site.new.table.is_ended ≡ false → IsSomeAnd self.new.group (λ group. IsSoundForRows group site.new.told)) }
         ensures names { self.new.names ≡ self.old.names }
         ensures taken { IfOk result (λ answered. site.new.table.is_ended ≡ false → self.new.group ≡ option_map (group_taken answered.answer site.old.told site.new.told) self.old.group) }
         ensures works { IsWorkOfStore P.tells site.old site.new (P.state plant.old) (P.state plant.new) result }

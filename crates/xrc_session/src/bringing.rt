@@ -8,7 +8,7 @@ ghost use Rattle.xrc_session.specs.Lanes.{AllWent, with_lanes_broken};
 ghost use Rattle.xrc_session.specs.Starting.{StaysStarted};
 ghost use Rattle.xrc_session.specs.Steps.{BringsOn};
 
-use crate::kept::Kept;
+use crate::kept::SessionParts;
 use crate::stops::stop_of_store;
 use crash_plant::Plant;
 use mover::{EpochEnd, FreePass, Lane, epoch};
@@ -33,7 +33,7 @@ fn name_broken<S>(names: &mut Names, traces: &[Lane<S>])
     }
 }
 
-impl Kept {
+impl SessionParts {
     /// Brings a site to a limit: each write up to it is logged and applied, each wanted track is copied, and what suspends pairs up to
     /// it is logged. The controls whose traces broke below the limit are named.
     #[tactic(none)]

@@ -13,22 +13,22 @@ use xrc_edge::NoMemory;
 /// What a session keeps beside its site: the names that commands speak of, what readers and mover share, and the rows before the
 /// command of a line.
 #[derive(Drop)]
-pub(crate) struct Kept {
+pub(crate) struct SessionParts {
     pub(crate) names: Names,
     /// None only while readers and mover are at work, and behind a stop.
     pub(crate) group: Option<GroupState>,
     pub(crate) before: RowsBefore,
 }
 
-impl Kept {
+impl SessionParts {
     /// What a session of so many controls begins with.
-    pub(crate) fn make(alloc: Global, names: Names, controls: u16) -> Result<Kept, NoMemory>
+    pub(crate) fn make(alloc: Global, names: Names, controls: u16) -> Result<SessionParts, NoMemory>
         requires { (1 ≤ controls) × (controls ≤ 16) }
         ensures names { IfOk result (λ kept. kept.names ≡ names) }
         ensures group { IfOk result (λ kept. kept.group ≡ Some (new_group controls WRITES_OF_RUN BLOCKS_OF_QUEUE)) }
     {
         let (records, blocks) = (WRITES_OF_RUN as u32, BLOCKS_OF_QUEUE as u32);
-        Ok(Kept {
+        Ok(SessionParts {
             names,
             group: Some(GroupState::make(alloc, controls, records, blocks)?),
             before: RowsBefore::make(alloc)?,

@@ -7,7 +7,7 @@ ghost use Rattle.xquery_report.specs.Reports.{report_text};
 ghost use Rattle.xrc_session.specs.States.{site_in};
 
 use crate::answering::LineAnswer;
-use crate::place::Place;
+use crate::place::SessionPlace;
 use mover::Lane;
 use pair_table::Command;
 use site_store::Site;
@@ -79,7 +79,7 @@ impl ReplyText {
     pub(crate) fn compose<S, V>(
         &mut self,
         alloc: Global,
-        place: &Place<V>,
+        place: &SessionPlace<V>,
         traces: &[Lane<S>],
         line: &Line,
         answered: &LineAnswer,
@@ -105,21 +105,25 @@ impl ReplyText {
 }
 
 /// The site of which a line asks the report, if it does and isn't refused.
-fn asked_site<'a, V>(place: &'a Place<V>, line: &Line, answered: &LineAnswer) -> Option<&'a Site<V>>
+fn asked_site<'a, V>(
+    place: &'a SessionPlace<V>,
+    line: &Line,
+    answered: &LineAnswer,
+) -> Option<&'a Site<V>>
     ensures { option_copied result ≡ reported_site (site_in place.now) line.now.command answered.now.answer }
 {
     match (place, line.command) {
-        (Place::Started(site), Command::Query) if answered.answer.is_ok() => Some(site),
+        (SessionPlace::Started(site), Command::Query) if answered.answer.is_ok() => Some(site),
         _ => None,
     }
 }
 
 /// The session's time, which a reply tells from the start on.
-fn told_time<V>(place: &Place<V>) -> Option<Stamp>
+fn told_time<V>(place: &SessionPlace<V>) -> Option<Stamp>
     ensures { result ≡ time_told (site_in place.now) }
 {
     match place {
-        Place::Unstarted(_) => None,
-        Place::Started(site) => Some(site.time()),
+        SessionPlace::Unstarted(_) => None,
+        SessionPlace::Started(site) => Some(site.time()),
     }
 }

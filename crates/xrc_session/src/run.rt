@@ -2,7 +2,7 @@
 
 ghost use Rattle.std.specs.Prelude.{◌≡◌, ◌⊎◌, ◌≤◌, true, false, Err, None, Some, IfErr, IfOk, IfSome, IsSome, OnOk};
 ghost use Rattle.crash_plant.specs.Calls.{HearsNothing, NoneLent, Silent};
-ghost use Rattle.consistency.specs.Stages.{Run};
+ghost use Rattle.consistency.specs.Stages.{ScriptRun};
 ghost use Rattle.mover.specs.Epochs.{AreSameLanes};
 ghost use Rattle.xrc_status.specs.declared.stop.Stop.TheVariants as stops;
 ghost use Rattle.xrc_session.specs.LinePauses.{AreCountsFrom, IsBetween, IsRunOver};
@@ -18,10 +18,10 @@ ghost use Rattle.xrc_session.specs.Stops.{HasStopCause, StopsByCount};
 ghost use Rattle.xrc_session.specs.Steps.{AnswersLine, DoesLine, FinishesRuns};
 
 use crate::answering::{LineAnswer, answer_of, mark};
-use crate::kept::Kept;
+use crate::kept::SessionParts;
 use crate::numbers::check_site;
 use crate::opening::open_lanes;
-use crate::place::Place;
+use crate::place::SessionPlace;
 use crate::replying::ReplyText;
 use crate::starting::Beginning;
 use crash_plant::Plant;
@@ -42,8 +42,8 @@ use xrc_status::{Stop, say_text};
 pub struct SessionRun<V> {
     session: Session,
     controls: u16,
-    kept: Kept,
-    place: Place<V>,
+    kept: SessionParts,
+    place: SessionPlace<V>,
     /// Whether an end was answered.
     ended: bool,
     reply: ReplyText,
@@ -107,8 +107,8 @@ impl<V: Drop> SessionRun<V> {
         Ok(SessionRun {
             session,
             controls: storage,
-            kept: Kept::make(alloc, names, storage)?,
-            place: Place::Unstarted(PairTable::make(alloc, session)?),
+            kept: SessionParts::make(alloc, names, storage)?,
+            place: SessionPlace::Unstarted(PairTable::make(alloc, session)?),
             ended: false,
             reply: ReplyText::make(alloc),
         })
@@ -134,7 +134,7 @@ impl<V: Drop> SessionRun<V> {
         ensures safe { P.tells → IsSafeStart self.old.session level line.now.time.0 (P.state plant.old) (P.state plant.new) result }
         ensures works { IsWorkOfStart P.tells (P.state plant.old) (P.state plant.new) result }
         ensures labels { P.tells → IfSome self.new.site (λ site. AreLabels (P.state plant.old) (P.state plant.new) 0 self.new.names.labels) }
-        ensures stands { P.tells → (began : P) (run : Run) → IsRunOver S.left run self.new traces.old traces.new (P.state began) (P.state plant.new) → AreCountsFrom (P.state began) (P.state plant.old)
+        ensures stands { P.tells → (began : P) (run : ScriptRun) → IsRunOver S.left run self.new traces.old traces.new (P.state began) (P.state plant.new) → AreCountsFrom (P.state began) (P.state plant.old)
             → OnOk result (StandsStartedAt run self.new traces.new (P.state plant.new)) }
     {
         let beginning = Beginning {
@@ -144,7 +144,7 @@ impl<V: Drop> SessionRun<V> {
             at: line.time,
         };
         let site = self.kept.start(rt, alloc, beginning, traces, plant)?;
-        self.place = Place::Started(site);
+        self.place = SessionPlace::Started(site);
         Ok(())
     }
 
@@ -174,7 +174,7 @@ impl<V: Drop> SessionRun<V> {
     {
         // A line's time has 64 bits.
         prove!(line.time.0 <= u64::MAX);
-        let Place::Unstarted(table) = &mut self.place else {
+        let SessionPlace::Unstarted(table) = &mut self.place else {
             unreachable!()
         };
         let names = &self.kept.names;
@@ -212,7 +212,7 @@ impl<V: Drop> SessionRun<V> {
     {
         // A line's time has 64 bits.
         prove!(line.time.0 <= u64::MAX);
-        let Place::Started(site) = &mut self.place else {
+        let SessionPlace::Started(site) = &mut self.place else {
             unreachable!()
         };
         self.kept.answer(rt, alloc, site, plant, line)
@@ -245,7 +245,7 @@ impl<V: Drop> SessionRun<V> {
     {
         // A line's time has 64 bits.
         prove!(line.time.0 <= u64::MAX);
-        let Place::Started(site) = &mut self.place else {
+        let SessionPlace::Started(site) = &mut self.place else {
             unreachable!()
         };
         self.kept
@@ -314,8 +314,8 @@ impl<V: Drop> SessionRun<V> {
         ensures does { P.tells → (began : P) → DoesLine S.left line.now self.old self.new traces.old traces.new (P.state began) (P.state plant.old) (P.state plant.new) result }
     {
         match &self.place {
-            Place::Unstarted(_) => self.answer_before_start(rt, alloc, plant, traces, line),
-            Place::Started(_) => self.answer_from_start(rt, alloc, plant, traces, line),
+            SessionPlace::Unstarted(_) => self.answer_before_start(rt, alloc, plant, traces, line),
+            SessionPlace::Started(_) => self.answer_from_start(rt, alloc, plant, traces, line),
         }
     }
 
@@ -384,7 +384,7 @@ impl<V: Drop> SessionRun<V> {
         ensures counts { StopsByCount (P.state plant.old) (P.state plant.new) result }
     {
         let SessionRun { place, ended, .. } = self;
-        let Place::Started(mut site) = place else {
+        let SessionPlace::Started(mut site) = place else {
             return Ok(());
         };
         if ended {

@@ -11,7 +11,7 @@ ghost use Rattle.xrc_session.specs.Runs.{AreLabels};
 ghost use Rattle.xrc_session.specs.Starting.{MayBeStarted, IsSafeStart, IsSiteStarted, IsWorkOfStart, StartsRuns};
 ghost use Rattle.xrc_session.specs.Bringing.{BreakOnAsTraces};
 
-use crate::kept::Kept;
+use crate::kept::SessionParts;
 use crate::labels::name_devices;
 use crate::stops::stop_of_store;
 use crash_plant::Plant;
@@ -69,7 +69,7 @@ fn format<P: Plant>(
     Ok(site)
 }
 
-impl Kept {
+impl SessionParts {
     /// Starts a session: its site is formatted, the labels are read, and the traces are read up to the line's time. Nothing of them is
     /// carried, since there is no pair.
     #[tactic(none)]

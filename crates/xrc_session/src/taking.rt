@@ -10,7 +10,7 @@ ghost use Rattle.pair_table.specs.Rows.{cause_number};
 ghost use Rattle.pair_table.specs.declared.row.PairState.TheVariants.{Suspended};
 ghost use Rattle.record_rows.specs.Hits.{is_by_device, is_device_suspended};
 ghost use Rattle.consistency.specs.Stages.{tracks_of_row};
-ghost use Rattle.xrc_session.specs.Taking.{AllMay, KeepsForRows, MayTake, after_calls, calls_of_change, carry_calls, command_calls};
+ghost use Rattle.xrc_session.specs.Taking.{AllMay, IsSoundForRows, MayTake, after_calls, calls_of_change, carry_calls, command_calls};
 ghost use Rattle.xrc_session.specs.Taking.{drop_between, drop_by, drop_call, drop_calls, forget_calls, is_adding, is_begun, is_suspended_as};
 ghost use Rattle.xrc_session.specs.Taking.{resume_calls, stands_again, state_by_command, tracks_owed_to, tracks_to_copy};
 
@@ -281,10 +281,10 @@ pub fn take_change(
     table: &PairTable,
     change: &Change,
 ) -> Result<u32, NoMemory>
-    requires kept { KeepsForRows group.old before.now }
+    requires kept { IsSoundForRows group.old before.now }
     requires may { MayTake group.old change.now before.now table.now.rows }
     ensures calls { OnOk result (group.new ≡ after_calls (calls_of_change change.now group.old before.now table.now.rows) group.old) }
-    ensures kept { OnOk result (KeepsForRows group.new table.now.rows) }
+    ensures kept { OnOk result (IsSoundForRows group.new table.now.rows) }
     ensures tracks { IfOk result (λ tracks. tracks ≡ tracks_to_copy change.now group.old before.now table.now.rows) }
     ensures err { OnErr result (group.new ≡ group.old) }
     ensures memory { OnErr result (IsTrue (is_adding change.now)) }

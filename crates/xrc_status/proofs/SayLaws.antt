@@ -79,13 +79,13 @@ says_then tells x y a b c first said second = record {
 
 -- A call that did not fail has said its text whole.
 pub all_said : {T E : Type 0} (tells : Type 0) (x : List ℕ) (a b : PlantState) (v : T) → SaysText {T = T} {E = E} tells x a b (Ok v) → SaysWhole tells x a b
-all_said tells x a b v says = record { front = says.front; whole = says.whole; count = says.cause.ok }
+all_said tells x a b v says = record { front = says.front; whole = says.whole; console_count = says.cause.ok }
 
 pub ok_said : {T E : Type 0} (tells : Type 0) (x : List ℕ) (a b : PlantState) (v : T) → SaysWhole tells x a b → SaysText {T = T} {E = E} tells x a b (Ok v)
 ok_said tells x a b v says = record {
   front = says.front;
   whole = says.whole;
-  cause = record { later = omega (arith, says.count); by_one = omega (arith, says.count); ok = says.count; failed = tt };
+  cause = record { later = omega (arith, says.console_count); by_one = omega (arith, says.console_count); ok = says.console_count; failed = tt };
 }
 
 -- Of two texts the first was said whole, and then the second was said whole or in part.
@@ -93,12 +93,12 @@ pub text_then : {T E : Type 0} (tells : Type 0) (x y : List ℕ) (a b c : PlantS
 text_then tells x y a b c (Ok v) first second = record {
   front = says_then tells x y a b c first.front first.whole second.front;
   whole = λ told. second.whole told ∙ ap (λ (l : List ℕ). l ++ y) (first.whole told) ∙ append_assoc (a.said a.clock) x y;
-  cause = record { later = omega (arith, first.count, second.cause.later); by_one = omega (arith, first.count, second.cause.by_one); ok = second.cause.ok ∙ first.count; failed = tt };
+  cause = record { later = omega (arith, first.console_count, second.cause.later); by_one = omega (arith, first.console_count, second.cause.by_one); ok = second.cause.ok ∙ first.console_count; failed = tt };
 }
 text_then tells x y a b c (Err e) first second = record {
   front = says_then tells x y a b c first.front first.whole second.front;
   whole = λ told. tt;
-  cause = record { later = omega (arith, first.count, second.cause.later); by_one = omega (arith, first.count, second.cause.by_one); ok = tt; failed = subst (λ (n : ℕ). Rose n c.console_faults) first.count second.cause.failed };
+  cause = record { later = omega (arith, first.console_count, second.cause.later); by_one = omega (arith, first.console_count, second.cause.by_one); ok = tt; failed = subst (λ (n : ℕ). Rose n c.console_faults) first.console_count second.cause.failed };
 }
 
 pub whole_then : {T E : Type 0} (tells : Type 0) (x y : List ℕ) (a b c : PlantState) (v : T) → SaysWhole tells x a b → SaysText {T = T} {E = E} tells y b c (Ok v) → SaysWhole tells (x ++ y) a c

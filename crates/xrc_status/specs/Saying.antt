@@ -17,7 +17,7 @@ SaidWhole text old new = new.said new.clock ≡ old.said old.clock ++ text
 pub record SaysWhole (tells : Type 0) (text : List ℕ) (old new : PlantState) : Type 0 where
   pub front : SaysFront tells text old new
   pub whole : tells → SaidWhole text old new
-  pub count : new.console_faults ≡ old.console_faults
+  pub console_count : new.console_faults ≡ old.console_faults
 
 -- A text was said whole, or a front of it where the console failed.
 pub record SaysText {T E : Type 0} (tells : Type 0) (text : List ℕ) (old new : PlantState) (result : Result T E) : Type 0 where
@@ -29,6 +29,6 @@ pub record SaysText {T E : Type 0} (tells : Type 0) (text : List ℕ) (old new :
 pub record SaysLast (tells : Type 0) (text : List ℕ) (old new : PlantState) : Type 0 where
   pub front : SaysFront tells text old new
   pub whole : tells → SaidWhole text old new ⊎ Rose old.console_faults new.console_faults
-  pub count : (new.console_faults ≡ old.console_faults) ⊎ Rose old.console_faults new.console_faults
+  pub console_count : (new.console_faults ≡ old.console_faults) ⊎ Rose old.console_faults new.console_faults
   pub later : old.console_faults ≤ new.console_faults
-  pub by_one : new.console_faults ≤ old.console_faults + 1
+  pub console_once : new.console_faults ≤ old.console_faults + 1

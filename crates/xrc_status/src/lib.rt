@@ -6,7 +6,7 @@ mod say;
 mod status;
 mod stop;
 
-pub use line::Line;
+pub use line::TextLine;
 pub use say::say_text;
 pub use status::say_stop;
 pub use stop::Stop;

@@ -6,11 +6,11 @@ use xrc_edge::Text;
 
 /// A line that is put together piece by piece. It takes no memory, and has at most 160 bytes. Contracts see the list of its bytes.
 #[derive(Drop)]
-pub struct Line {
+pub struct TextLine {
     text: Text,
 }
 
-impl Model for Line {
+impl Model for TextLine {
     ghost Value = { List ℕ };
 
     ghost view = { λ line. line.text };
@@ -18,12 +18,12 @@ impl Model for Line {
     ghost invariant = { λ line. length line.text ≤ 160 };
 }
 
-impl Line {
+impl TextLine {
     /// The line with no bytes.
-    pub fn make() -> Line
+    pub fn make() -> TextLine
         ensures { result ≡ [] }
     {
-        Line { text: Text::make() }
+        TextLine { text: Text::make() }
     }
 
     /// Puts a text behind what stands in the line.

@@ -3,7 +3,7 @@ ghost use Rattle.xrc_status.specs.Saying.{SaysLast};
 ghost use Rattle.xrc_status.specs.Stops.{details, device_text, last_line, status_line, status_of};
 ghost use Rattle.xrc_status.specs.declared.stop.Stop.TheVariants.{ConsoleFault};
 
-use crate::line::Line;
+use crate::line::TextLine;
 use crate::say::say_text;
 use crate::stop::Stop;
 use crash_plant::{Device, Plant};
@@ -42,7 +42,7 @@ fn status_of(stop: &Stop) -> u8
 }
 
 /// Puts a space and a device's name.
-fn add_device(line: &mut Line, device: Device)
+fn add_device(line: &mut TextLine, device: Device)
     requires { length line.old ≤ 70 }
     ensures text { line.new ≡ line.old ++ device_text device }
     ensures short { length line.new ≤ length line.old + 49 }
@@ -62,7 +62,7 @@ fn add_device(line: &mut Line, device: Device)
 }
 
 /// Puts a space and a session's name.
-fn add_session(line: &mut Line, session: &Session)
+fn add_session(line: &mut TextLine, session: &Session)
     requires { length line.old ≤ 70 }
     ensures text { line.new ≡ line.old ++ 32 ∷ session.now }
     ensures short { length line.new ≤ length line.old + 9 }
@@ -72,7 +72,7 @@ fn add_session(line: &mut Line, session: &Session)
 }
 
 /// Puts a device's name and a number.
-fn add_place(line: &mut Line, device: Device, place: u64)
+fn add_place(line: &mut TextLine, device: Device, place: u64)
     requires { length line.old ≤ 47 }
     ensures text { line.new ≡ line.old ++ device_text device ++ 32 ∷ decimal place }
     ensures short { length line.new ≤ length line.old + 90 }
@@ -82,7 +82,7 @@ fn add_place(line: &mut Line, device: Device, place: u64)
 }
 
 /// Puts what a stop's line says behind its status.
-fn add_details(line: &mut Line, stop: &Stop)
+fn add_details(line: &mut TextLine, stop: &Stop)
     requires { length line.old ≤ 47 }
     ensures text { line.new ≡ line.old ++ details stop.now }
     ensures short { length line.new ≤ length line.old + 90 }
@@ -103,10 +103,10 @@ fn add_details(line: &mut Line, stop: &Stop)
 }
 
 /// The line of a stop's status.
-fn line_of(stop: &Stop) -> Line
+fn line_of(stop: &Stop) -> TextLine
     ensures { result ≡ status_line (status_of stop.now) (details stop.now) }
 {
-    let mut line = Line::make();
+    let mut line = TextLine::make();
     line.add(b"STATUS");
     line.add_number(u64::from(status_of(stop)));
     add_details(&mut line, stop);

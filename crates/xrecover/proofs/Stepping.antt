@@ -7,7 +7,7 @@ use Rattle.crash_plant.specs.declared.device.Device.TheVariants.{Control, State,
 use Rattle.crash_plant.specs.Moments.{PlantState}
 use Rattle.control_set.specs.declared.value.Mark.{Mark}
 use Rattle.pair_table.specs.declared.row.PairRow.{PairRow}
-use Rattle.pair_table.specs.Tables.{KeepsRows, are_below}
+use Rattle.pair_table.specs.Tables.{AreRowsSound, are_below}
 use Rattle.site_means.specs.Sight.{walked}
 use Rattle.xrc_journal.specs.Items.{Item}
 use Rattle.xrc_journal.specs.Jobs.{FailsByCount}
@@ -54,7 +54,7 @@ module _ (tells : Type 0) (labelling : Labelling) (rows : List PairRow) (i : ℕ
           (λ d x y z p q. recovers_one rows (walked old old.bytes) r.device (duplex_at rows i r is duplex) d x y z p q) (λ d x y p. p)
           (works_more tells (Recovers (take i rows) (walked old old.bytes)) (Recovers rows (walked old old.bytes)) old cur (λ told d x y p. recovers_whole rows i (walked old old.bytes) d x y p) going.works) own_works
 
-      pub pair_going : (flag : Bool) → KeepsRows rows → ((v : ℕ) → v ≢ r.device → new.faults (Volume v) ≡ cur.faults (Volume v)) → FailsByCount flag (cur.faults (Volume r.device)) (new.faults (Volume r.device))
+      pub pair_going : (flag : Bool) → AreRowsSound rows → ((v : ℕ) → v ≢ r.device → new.faults (Volume v) ≡ cur.faults (Volume v)) → FailsByCount flag (cur.faults (Volume r.device)) (new.faults (Volume r.device))
           → (tells → flag ≡ false → IsRedone labelling r (walked cur cur.bytes) cur new) → Going tells labelling (walked old old.bytes) (take (i + 1) rows) (failed ++ cond flag (r.device ∷ []) []) old new
       pair_going flag keeps counts cause redone =
           subst (λ (l : List PairRow). Going tells labelling (walked old old.bytes) l (failed ++ cond flag (r.device ∷ []) []) old new) (sym (take_more rows i r is))

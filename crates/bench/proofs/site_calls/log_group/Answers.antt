@@ -16,4 +16,4 @@ returns g c =
     let old = g.P.Plant.state c.args.plant.now in
     let next = c.log.new.self in
     let ok = c.in-Ok.ensures.ok in
-    logged_stands g.P.Plant.tells c.args.site.now next old (g.P.Plant.state c.log.new.plant) (λ e. e) old.journals ok.way c.args.formed.now next.waiting ok.logs.early next.failed c.requires c.in-Ok.ensures.leaves ok.logs.next_is
+    logged_stands g.P.Plant.tells c.args.site.now next old (g.P.Plant.state c.log.new.plant) (λ e. e) old.journals ok.placement c.args.formed.now next.waiting ok.logs.early next.failed c.requires c.in-Ok.ensures.leaves ok.logs.next_is

@@ -25,7 +25,7 @@ returns-clause-few g c =
     let logged = c.log.ensures.ok in
     let few : length c.form-formed.new.self.group.controls ≤ site.controls = omega (arith, c.requires.few, c.form-formed.ensures.same) in
     on_ok_both c.log.result
-    (λ is leaves. subst (λ n. length c.form-formed.new.self.group.controls ≤ n) (sym (ap (λ (t : SiteState). t.controls) is ∙ group_controls (g.P.Plant.state c.args.plant.now).journals logged.way c.form-formed.result c.log.new.self.waiting logged.logs.early c.log.new.self.failed site)) few)
+    (λ is leaves. subst (λ n. length c.form-formed.new.self.group.controls ≤ n) (sym (ap (λ (t : SiteState). t.controls) is ∙ group_controls (g.P.Plant.state c.args.plant.now).journals logged.placement c.form-formed.result c.log.new.self.waiting logged.logs.early c.log.new.self.failed site)) few)
     logged.logs.next_is c.log.ensures.leaves
 
 pub returns-clause-logged : goal.returns-clause-logged

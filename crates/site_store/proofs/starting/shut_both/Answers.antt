@@ -3,7 +3,7 @@ use Rattle.crash_plant.specs.declared.device.Device.TheVariants.{Control}
 use Rattle.crash_plant.specs.Moments.{on}
 use Rattle.crash_plant.proofs.Steps.{works_on_trans}
 use Rattle.control_set.specs.Slots.{lengths_of}
-use Rattle.site_store.specs.declared.starting.Front.{Front}
+use Rattle.site_store.specs.declared.starting.SlotFront.{SlotFront}
 use Rattle.site_store.proofs.Shutting.{both_follow, half_low, none_open, on_ok_both, one_follows, other_stays}
 use Rattle.site_store.proofs.starting.shut_both.Goals as goal
 
@@ -13,7 +13,7 @@ shut_gate-requires-clause-place g c κs within =
     omega (arith, low.0, c.requires.long)
 
 pub shut_gate-requires-clause-gate : goal.shut_gate-requires-clause-gate
-shut_gate-requires-clause-gate g c κs within told = ap (λ (f : Front). f.is_open) (c.requires.fronts told).0
+shut_gate-requires-clause-gate g c κs within told = ap (λ (f : SlotFront). f.is_open) (c.requires.fronts told).0
 
 pub shut_gate-requires-2-clause-place : goal.shut_gate-requires-2-clause-place
 shut_gate-requires-2-clause-place g c κs within =
@@ -24,7 +24,7 @@ pub shut_gate-requires-2-clause-gate : goal.shut_gate-requires-2-clause-gate
 shut_gate-requires-2-clause-gate g c κs within told =
     let old = g.P.Plant.state c.args.plant.now in
     let mid = g.P.Plant.state c.shut_gate.new.plant in
-    ap (λ (f : Front). f.is_open) (c.requires.fronts told).1
+    ap (λ (f : SlotFront). f.is_open) (c.requires.fronts told).1
     ∙ ap (λ (k : ℕ). k == 1) (sym (other_stays c.args.idle.place c.args.counted.place (old.bytes Control) (mid.bytes Control) c.requires.places (c.in_ok-shut_gate.ensures.torn told)))
 
 pub returns-in_err-shut_gate-clause-moments : goal.returns-in_err-shut_gate-clause-moments

@@ -1,7 +1,7 @@
 use Rattle.std.proofs.Common.{◌+◌, ℕ, Some, refl, sym, ap, subst, ◌∙◌, arith}
 use Rattle.tod_stamp.proofs.FieldLaws.{at_place}
 use Rattle.crash_plant.specs.declared.device.Device.TheVariants.{Journal as JournalDevice}
-use Rattle.xrc_journal.specs.declared.header.Header.{Header}
+use Rattle.xrc_journal.specs.declared.header.RecordHeader.{RecordHeader}
 use Rattle.xrc_journal.specs.Items.{form_of}
 use Rattle.xrc_journal.specs.Records.{Found, record_head_at, stretch}
 use Rattle.xrc_journal.specs.Answers.{Finds, header_of, group_at, switch_at, told_of}
@@ -32,7 +32,7 @@ returns-in-Ok-Some-Group-clause-finds g c = λ told none.
     let size = g.met.P.Plant.length_told c.args.plant.now (JournalDevice c.args.at.set) told c.requires.there in
     let time = c.in-Ok-Some-Group.time in
     let len = c.in-Ok-Some-Group.length in
-    let header = ap (λ (n : ℕ). header_of (record_head_at n c.args.at c.args.last.0 (at_place (c.args.at.place + 1) (stretch (c.args.at.place + 1) 21 journal)))) size ∙ sym (c.in-Ok-Some-Group.ensures.header told) ∙ c.in-Ok-Some-Group.field-0-is ∙ ap (λ (h : Header). Some h) c.in-Ok-Some-Group.field-0-0-is in
+    let header = ap (λ (n : ℕ). header_of (record_head_at n c.args.at c.args.last.0 (at_place (c.args.at.place + 1) (stretch (c.args.at.place + 1) 21 journal)))) size ∙ sym (c.in-Ok-Some-Group.ensures.header told) ∙ c.in-Ok-Some-Group.field-0-is ∙ ap (λ (h : RecordHeader). Some h) c.in-Ok-Some-Group.field-0-0-is in
     let form = same_form old mid c.read_header.ensures.only.site in
     let same = c.read_header.ensures.same told in
     let walked = group_by (form_of old) old.journals journal c.args.at c.args.last.0 (c.requires.gate told) time len header in
@@ -45,7 +45,7 @@ returns-in-Ok-Some-Switch-clause-finds g c = λ told none.
     let journal = old.bytes (JournalDevice c.args.at.set) in
     let size = g.met.P.Plant.length_told c.args.plant.now (JournalDevice c.args.at.set) told c.requires.there in
     let time = c.in-Ok-Some-Switch.time in
-    let header = ap (λ (n : ℕ). header_of (record_head_at n c.args.at c.args.last.0 (at_place (c.args.at.place + 1) (stretch (c.args.at.place + 1) 21 journal)))) size ∙ sym (c.in-Ok-Some-Switch.ensures.header told) ∙ c.in-Ok-Some-Switch.field-0-is ∙ ap (λ (h : Header). Some h) c.in-Ok-Some-Switch.field-0-0-is in
+    let header = ap (λ (n : ℕ). header_of (record_head_at n c.args.at c.args.last.0 (at_place (c.args.at.place + 1) (stretch (c.args.at.place + 1) 21 journal)))) size ∙ sym (c.in-Ok-Some-Switch.ensures.header told) ∙ c.in-Ok-Some-Switch.field-0-is ∙ ap (λ (h : RecordHeader). Some h) c.in-Ok-Some-Switch.field-0-0-is in
     let sets = c.read_header.ensures.only.site.journals in
     let same = c.read_header.ensures.same told in
     let walked = switch_by (form_of old) old.journals journal c.args.at c.args.last.0 (c.requires.gate told) time header in

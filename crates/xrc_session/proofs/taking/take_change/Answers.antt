@@ -1,7 +1,7 @@
 use Rattle.std.proofs.Common.{sym, ap, subst, ◌∙◌}
 use Rattle.std.specs.List.{flat_map}
 use Rattle.group_state.specs.Groups.{Group}
-use Rattle.xrc_session.specs.Taking.{AllMay, KeepsForRows, after_calls, command_calls, drop_calls}
+use Rattle.xrc_session.specs.Taking.{AllMay, IsSoundForRows, after_calls, command_calls, drop_calls}
 use Rattle.xrc_session.proofs.CallRuns.{after_both, first_may, second_may}
 use Rattle.xrc_session.proofs.Changed.{taken}
 use Rattle.xrc_session.proofs.taking.take_change.Goals as goal
@@ -33,4 +33,4 @@ returns-clause-calls c =
 
 pub returns-clause-kept : goal.returns-clause-kept
 returns-clause-kept c =
-    subst (λ (s : Group). KeepsForRows s c.args.table.now.rows) (sym (returns-clause-calls c)) (taken c.args.group.now c.args.change.now c.args.before.now c.args.table.now.rows c.requires.kept c.requires.may).ends
+    subst (λ (s : Group). IsSoundForRows s c.args.table.now.rows) (sym (returns-clause-calls c)) (taken c.args.group.now c.args.change.now c.args.before.now c.args.table.now.rows c.requires.kept c.requires.may).ends

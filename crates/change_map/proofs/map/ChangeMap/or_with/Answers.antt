@@ -1,6 +1,6 @@
 use Rattle.std.proofs.Common.{◌≡◌, ℕ, ◌||◌, length, drop, ap, subst, sym, ◌∙◌, arith}
 use Rattle.change_map.specs.Sets.{union}
-use Rattle.change_map.specs.Words.{has_bit, set_in, KeepsWords}
+use Rattle.change_map.specs.Words.{has_bit, set_in, AreWordsSound}
 use Rattle.change_map.proofs.InWords.{in_length}
 use Rattle.change_map.proofs.Bits.{or_in, or_keeps, written_all}
 use Rattle.change_map.proofs.map.ChangeMap.or_with.Goals as goal
@@ -25,8 +25,8 @@ invariant_of-self c =
     ∙ ap (λ ws. has_bit ws x || has_bit c.as_slice.result.now x) c.as_mut_slice.ensures.value
     ∙ ap (λ ws. has_bit items x || has_bit ws x) c.as_slice.ensures.value in
     let long = c.or_words.ensures.len ∙ ap length c.as_mut_slice.ensures.value in
-    let kept : KeepsWords tracks theirs = subst (λ (n : ℕ). KeepsWords n theirs) as_many c.other.invariant in
-    subst (KeepsWords tracks) (sym whole) (or_keeps tracks items theirs new c.self.invariant kept long each)
+    let kept : AreWordsSound tracks theirs = subst (λ (n : ℕ). AreWordsSound n theirs) as_many c.other.invariant in
+    subst (AreWordsSound tracks) (sym whole) (or_keeps tracks items theirs new c.self.invariant kept long each)
 
 pub returns : goal.returns
 returns c =

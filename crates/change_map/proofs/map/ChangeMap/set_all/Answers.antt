@@ -1,6 +1,6 @@
 use Rattle.std.proofs.Common.{◌≡◌, length, drop, ap, subst, sym, ◌∙◌}
 use Rattle.change_map.specs.Sets.{every_track}
-use Rattle.change_map.specs.Words.{set_in, KeepsWords}
+use Rattle.change_map.specs.Words.{set_in, AreWordsSound}
 use Rattle.change_map.proofs.InWords.{in_length}
 use Rattle.change_map.proofs.Bits.{all_in, all_keeps, written_all}
 use Rattle.change_map.proofs.map.ChangeMap.set_all.Goals as goal
@@ -12,7 +12,7 @@ invariant_of-self c =
     let new = c.set_first.new.words in
     let long : length new ≡ length items = c.set_first.ensures.len ∙ ap length c.as_mut_slice.ensures.value in
     let whole = written_all c.self.inside.words.len new (drop (length new) items) (c.set_first.ensures.len ∙ c.as_mut_slice.ensures.len) in
-    subst (KeepsWords tracks) (sym whole) (all_keeps tracks items new c.self.invariant long c.set_first.ensures.bits)
+    subst (AreWordsSound tracks) (sym whole) (all_keeps tracks items new c.self.invariant long c.set_first.ensures.bits)
 
 pub returns : goal.returns
 returns c =

@@ -1,5 +1,5 @@
 use Rattle.std.proofs.Common.{◌≡◌, refl, ◌∙◌, ap, arith, take, drop}
-use Rattle.crash_plant.specs.declared.plain_plant.Place.TheVariants.{Here}
+use Rattle.crash_plant.specs.declared.plain_plant.VolumePlace.TheVariants.{Here}
 use Rattle.crash_plant.specs.PlainPlant.{plain_sight, place_length, place_bytes, place_is_lent}
 use Rattle.crash_plant.proofs.Only.{lends_volume}
 use Rattle.crash_plant.proofs.plain_plant.PlainPlantPlant.lend.Goals as goal

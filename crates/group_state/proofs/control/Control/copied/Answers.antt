@@ -3,7 +3,7 @@ use Rattle.tod_stamp.specs.declared.stamp.Stamp.{Stamp}
 use Rattle.group_state.specs.declared.volume.Volume.{Volume}
 use Rattle.group_state.specs.Volumes.{with_volume, copied_track, is_wanted}
 use Rattle.group_state.specs.Controls.{ControlState, copied}
-use Rattle.group_state.specs.SoundStates.{KeepsVolumes, is_track_within}
+use Rattle.group_state.specs.SoundStates.{AreVolumesSound, is_track_within}
 use Rattle.group_state.proofs.SoundLaws.{last_up_to, written_back}
 use Rattle.group_state.proofs.Numbers.{volumes_copied}
 use Rattle.group_state.proofs.control.Control.copied.Goals as goal
@@ -31,7 +31,7 @@ invariant_of-self-2 c =
     let s = c.self.inside in
     let view : ControlState = record { queue = s.queue.state; floor = s.floor; phase = s.phase; volumes = s.volumes.items } in
     let same : view ≡ c.args.self.now = c.self.view_is in
-    subst KeepsVolumes (sym (closed c))
+    subst AreVolumesSound (sym (closed c))
     (volumes_copied c.args.number c.args.track c.args.at c.args.slot.now view c.self.invariant (c.requires.floor ∙ ap (λ (v : ControlState). v.floor) (sym same))
     (ap (λ (v : ControlState). is_wanted c.args.number c.args.track v.volumes) same ∙ c.requires.wanted) (ap (λ (v : ControlState). is_track_within v.volumes c.args.number c.args.track) same ∙ c.requires.track))
 

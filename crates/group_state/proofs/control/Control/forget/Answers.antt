@@ -3,7 +3,7 @@ use Rattle.std.specs.List.{remove}
 use Rattle.group_state.specs.declared.volume.Volume.{Volume}
 use Rattle.group_state.specs.Volumes.{without_number}
 use Rattle.group_state.specs.Controls.{ControlState}
-use Rattle.group_state.specs.SoundStates.{KeepsVolumes, is_dropped}
+use Rattle.group_state.specs.SoundStates.{AreVolumesSound, is_dropped}
 use Rattle.group_state.proofs.Numbers.{volumes_forgotten}
 use Rattle.group_state.proofs.control.Control.forget.Goals as goal
 
@@ -13,5 +13,5 @@ invariant_of-self c =
     let view : ControlState = record { queue = s.queue.state; floor = s.floor; phase = s.phase; volumes = s.volumes.items } in
     let place = c.in-Some.place in
     let items = c.remove.ensures.items ∙ ap (λ (us : List Volume). remove us place) (sym c.as_slice.ensures.value) ∙ c.in-Some.ensures.some.removes ∙ ap (without_number c.args.number) c.as_slice.ensures.value in
-    subst KeepsVolumes (λ i. record { queue = s.queue.state; floor = s.floor; phase = s.phase; volumes = sym items i })
+    subst AreVolumesSound (λ i. record { queue = s.queue.state; floor = s.floor; phase = s.phase; volumes = sym items i })
     (volumes_forgotten c.args.number view c.self.invariant (ap (λ (v : ControlState). is_dropped c.args.number v.volumes) c.self.view_is ∙ c.requires.dropped))

@@ -9,7 +9,7 @@ use Rattle.pending_queue.proofs.VolumeLaws.{carried_never_fall}
 use Rattle.group_state.specs.declared.volume.Volume.{Volume}
 use Rattle.group_state.specs.Volumes.{is_carried, with_writes}
 use Rattle.group_state.specs.Controls.{ControlState, fits}
-use Rattle.group_state.specs.SoundStates.{KeepsVolumes, MayJoin}
+use Rattle.group_state.specs.SoundStates.{AreVolumesSound, MayJoin}
 use Rattle.group_state.proofs.SoundLaws.{batch_rises, written_back}
 use Rattle.group_state.proofs.Numbers.{volumes_joined}
 use Rattle.group_state.proofs.control.Control.join.Goals as goal
@@ -39,7 +39,7 @@ invariant_of-self-2 c =
     let queue = c.in_ok-push_carried.ensures.pushed ∙ ap (λ (us : List Volume). with_waiting q (q.waiting ++ entries_of q.control (filter (λ w. is_carried us w) b.writes))) c.as_slice.ensures.value in
     let items = written_back s.volumes.len new (drop (length new) s.volumes.items) (omega arith) ∙ c.note_writes.ensures
     ∙ ap (λ (us : List Volume). with_writes us c.as_slice-2.result.now) c.as_mut_slice.ensures.value ∙ ap (λ (ws : List Write). with_writes s.volumes.items ws) c.as_slice-2.ensures in
-    subst KeepsVolumes (λ i. record { queue = sym queue i; floor = b.upto; phase = s.phase; volumes = sym items i })
+    subst AreVolumesSound (λ i. record { queue = sym queue i; floor = b.upto; phase = s.phase; volumes = sym items i })
     (volumes_joined b view c.self.invariant (subst (λ (v : ControlState). MayJoin v b) (sym c.self.view_is) c.requires.legal))
 
 pub returns-clause-full : goal.returns-clause-full

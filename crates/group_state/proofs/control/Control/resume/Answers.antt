@@ -2,7 +2,7 @@ use Rattle.std.proofs.Common.{◌≡◌, List, ◌++◌, length, drop, take, ap,
 use Rattle.group_state.specs.declared.volume.Volume.{Volume}
 use Rattle.group_state.specs.Volumes.{with_volume, resumed_volume}
 use Rattle.group_state.specs.Controls.{ControlState, resumed}
-use Rattle.group_state.specs.SoundStates.{KeepsVolumes, is_dropped}
+use Rattle.group_state.specs.SoundStates.{AreVolumesSound, is_dropped}
 use Rattle.group_state.proofs.Numbers.{volumes_resumed}
 use Rattle.group_state.proofs.SoundLaws.{written_back}
 use Rattle.group_state.proofs.control.Control.resume.Goals as goal
@@ -22,7 +22,7 @@ pub invariant_of-self : goal.invariant_of-self
 invariant_of-self c =
     let s = c.self.inside in
     let view : ControlState = record { queue = s.queue.state; floor = s.floor; phase = s.phase; volumes = s.volumes.items } in
-    subst KeepsVolumes (sym (closed c)) (volumes_resumed c.args.number view c.self.invariant (ap (λ (v : ControlState). is_dropped c.args.number v.volumes) c.self.view_is ∙ c.requires.dropped))
+    subst AreVolumesSound (sym (closed c)) (volumes_resumed c.args.number view c.self.invariant (ap (λ (v : ControlState). is_dropped c.args.number v.volumes) c.self.view_is ∙ c.requires.dropped))
 
 pub returns-clause-volume : goal.returns-clause-volume
 returns-clause-volume c = closed c ∙ ap (resumed c.args.number) c.self.view_is

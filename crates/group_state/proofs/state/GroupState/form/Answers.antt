@@ -9,7 +9,7 @@ use Rattle.group_state.specs.Controls.{ControlState, formed, lesser, has_news, d
 use Rattle.group_state.specs.Groups.{Group, HasRoomForNews, has_few, cut_of, gives_nothing, formed_at, shown_at, shown_in, with_news}
 use Rattle.group_state.specs.Machine.Reply.{Formed as Shows, Nothing as Quiet}
 use Rattle.group_state.specs.Answers.{form_reply}
-use Rattle.group_state.specs.SoundStates.{KeepsGroup}
+use Rattle.group_state.specs.SoundStates.{IsGroupSound}
 use Rattle.group_state.proofs.SoundLaws.{written_back}
 use Rattle.group_state.proofs.GroupLaws.{all_few}
 use Rattle.group_state.proofs.Kept.{kept_form}
@@ -34,7 +34,7 @@ invariant_of-self c =
     let new = c.take_due.new.controls in
     let cut = c.least-cut.result in
     let is = written_back s.controls.len new (drop (length new) items) (omega arith) ∙ c.take_due.ensures.controls ∙ ap (λ (cs : List ControlState). map (formed cut) cs) c.as_mut_slice.ensures.value in
-    subst (λ (cs : List ControlState). KeepsGroup (record { controls = cs; last = cut })) (sym is)
+    subst (λ (cs : List ControlState). IsGroupSound (record { controls = cs; last = cut })) (sym is)
     (kept_form (record { controls = items; last = s.last }) limit.0 cut (c.least-cut.ensures ∙ ap (λ (cs : List ControlState). fold lesser limit.0 cs) c.as_slice.ensures.value) c.self.invariant)
 
 -- what the group shows, and the state after it

@@ -1,7 +1,7 @@
 use Rattle.std.proofs.Common.{List, [], ◌∷◌, ◌++◌, ap, sym, subst, ◌∙◌, arith}
 use Rattle.group_state.specs.Controls.{ControlState, new_control}
 use Rattle.group_state.specs.Groups.{new_controls}
-use Rattle.group_state.specs.SoundStates.{KeepsGroup}
+use Rattle.group_state.specs.SoundStates.{IsGroupSound}
 use Rattle.group_state.proofs.GroupLaws.{new_more}
 use Rattle.group_state.proofs.Kept.{kept_first}
 use Rattle.group_state.proofs.state.GroupState.make.Goals as goal
@@ -16,4 +16,4 @@ loop-k-preserved c =
 pub invariant_of-result : goal.invariant_of-result
 invariant_of-result c =
     let k = c.loop-k.k in
-    subst (λ (cs : List ControlState). KeepsGroup (record { controls = cs; last = record { 0 = 0 } })) (sym c.loop-k.invariant) (kept_first k c.args.records c.args.blocks (omega (arith, c.requires.some)) (omega (arith, c.requires.few)) c.requires.records)
+    subst (λ (cs : List ControlState). IsGroupSound (record { controls = cs; last = record { 0 = 0 } })) (sym c.loop-k.invariant) (kept_first k c.args.records c.args.blocks (omega (arith, c.requires.some)) (omega (arith, c.requires.few)) c.requires.records)

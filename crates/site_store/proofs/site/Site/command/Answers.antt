@@ -1,7 +1,7 @@
 use Rattle.std.proofs.Common.{rules, ◌≡◌, ◌&&◌, ◌||◌, Bool, true, false, not, cond, length, sym, ap, subst, ◌∙◌, Ok}
 use Rattle.pair_table.specs.Commands.{MayCommand, answer, table_after, wants_memory}
 use Rattle.pair_table.specs.Refusals.{refusal}
-use Rattle.pair_table.specs.Tables.{KeepsRows, Table}
+use Rattle.pair_table.specs.Tables.{AreRowsSound, Table}
 use Rattle.site_store.specs.Commands.{AddsBelow, IsToLog, MayDo, alters, with_change, without_flag}
 use Rattle.site_store.specs.Sites.{SiteState}
 use Rattle.site_store.proofs.Commanded.{change_to_log, may_again, session_after}
@@ -102,9 +102,9 @@ returns-clause-to_log g c level keeps =
     c.take_added.ensures ∙ (λ i. record (c.self.view_is i) { table = table i; is_ahead = ahead i; told = told i; failed = without_flag 0 change (c.self.view_is i).failed }) in
     let told_is : site.told ≡ site.table.rows = subst (λ (k : SiteState). k.is_ahead ≡ false → k.told ≡ k.table.rows) c.self.view_is (λ e. ap (λ (b : Bool). cond b s.told.rows s.table.rows) e) level in
     let level_inside : s.ahead ≡ false = ap (λ (k : SiteState). k.is_ahead) c.self.view_is ∙ level in
-    let first : wants_memory command ≡ true → KeepsRows site.table.rows = λ wants. subst (λ (k : SiteState). KeepsRows k.table.rows) c.self.view_is
+    let first : wants_memory command ≡ true → AreRowsSound site.table.rows = λ wants. subst (λ (k : SiteState). AreRowsSound k.table.rows) c.self.view_is
     (c.in_ok-keep_rows.ensures.rules (c.is_to_keep-is_kept.ensures ∙ (λ i. wants i && not (level_inside i)))) in
-    let then : KeepsRows (table_after names site.table session command at).rows = subst (λ (k : SiteState). KeepsRows k.table.rows) next keeps in
+    let then : AreRowsSound (table_after names site.table session command at).rows = subst (λ (k : SiteState). AreRowsSound k.table.rows) next keeps in
     subst (IsToLog change) (sym next) (change_to_log names site session command at change is started level told_is first then c.requires.may.labels c.requires.may.rows)
 
 -- ---- the session of the rows that the devices tell

@@ -9,15 +9,15 @@ use Rattle.pair_table.specs.Tables.{Table, with_rows}
 use Rattle.record_rows.specs.Records.{rows_with_record}
 use Rattle.site_store.specs.declared.store_error.StoreError.{StoreError}
 use Rattle.site_store.specs.declared.store_error.StoreError.TheVariants.{Spent}
-use Rattle.site_store.specs.declared.way.Way.{Way}
-use Rattle.site_store.specs.declared.way.Way.TheVariants.{Marked as MarkedFirst}
+use Rattle.site_store.specs.declared.placement.Placement.{Placement}
+use Rattle.site_store.specs.declared.placement.Placement.TheVariants.{Marked as MarkedFirst}
 use Rattle.site_store.specs.Causes.{FailByCounts, HasStoreCause}
 use Rattle.site_store.specs.Jobs.{are_home_from, has_job_failed}
 use Rattle.site_store.specs.Logging.{IsOfEntries, LogsGroup, MayLog}
 use Rattle.site_store.specs.Records.{one_more}
 use Rattle.site_store.specs.Sites.{SiteState}
 use Rattle.site_store.specs.Standing.{MayRecord}
-use Rattle.site_store.specs.Ways.{is_spent, way_from}
+use Rattle.site_store.specs.Placements.{is_spent, placement_from}
 use Rattle.site_store.proofs.Below.{below_volumes}
 use Rattle.site_store.proofs.LogContent.{read_choice}
 use Rattle.site_store.proofs.LogExits as exits
@@ -55,8 +55,8 @@ form_record-hits-requires-clause-room g c κs within =
     let may : MayLog _ c.args.formed.now = subst (λ (x : SiteState). MayLog x c.args.formed.now) (sym c.self.view_is) c.requires.may in
     room_formed c.self.inside.controls c.args.formed.now.controls c.self.inside.body.room c.args.formed.now.entries c.self.invariant.room_is may.controls c.controls.ensures.few
 
-pub way_from-way-requires-clause-room : goal.way_from-way-requires-clause-room
-way_from-way-requires-clause-room g c κs within =
+pub placement_from-placement-requires-clause-room : goal.placement_from-placement-requires-clause-room
+placement_from-placement-requires-clause-room g c κs within =
     let tells = g.P.Plant.tells in
     let start = c.args.self.now in
     let group = c.args.formed.now in
@@ -73,10 +73,10 @@ way_from-way-requires-clause-room g c κs within =
     let failed = map has_job_failed c.form_record-hits.new.jobs in
     let items = c.form_record-hits.new.body.items in
     let hits = c.form_record-hits.result in
-    let way : Way = way_from mid site.at site.mark.at items in
-    let first : IsFirst tells group site old mid failed items way = is_first tells group site old mid s.body c.form_record-hits.new.body c.form_record-hits.new.due (map has_job_failed c.deref_mut.result.now) failed hits ready told_is f.forms f.hits
-    way may was_is f.fails f.by_entries f.reads f.home f.only c.controls.ensures.few refl in
-    room_there tells group site old mid failed items way first
+    let placement : Placement = placement_from mid site.at site.mark.at items in
+    let first : IsFirst tells group site old mid failed items placement = is_first tells group site old mid s.body c.form_record-hits.new.body c.form_record-hits.new.due (map has_job_failed c.deref_mut.result.now) failed hits ready told_is f.forms f.hits
+    placement may was_is f.fails f.by_entries f.reads f.home f.only c.controls.ensures.few refl in
+    room_there tells group site old mid failed items placement first
 
 -- ---- the numbers don't suffice
 
@@ -115,23 +115,23 @@ returns-then-record_needs_more g c =
     let failed = map has_job_failed c.form_record-hits.new.jobs in
     let items = c.form_record-hits.new.body.items in
     let hits = c.form_record-hits.result in
-    let way : Way = c.way_from-way.result in
-    let first : IsFirst tells group site old mid failed items way = is_first tells group site old mid s.body c.form_record-hits.new.body c.form_record-hits.new.due (map has_job_failed c.deref_mut.result.now) failed hits ready told_is f.forms f.hits
-    way may was_is f.fails f.by_entries f.reads f.home f.only c.controls.ensures.few c.way_from-way.ensures in
+    let placement : Placement = c.placement_from-placement.result in
+    let first : IsFirst tells group site old mid failed items placement = is_first tells group site old mid s.body c.form_record-hits.new.body c.form_record-hits.new.due (map has_job_failed c.deref_mut.result.now) failed hits ready told_is f.forms f.hits
+    placement may was_is f.fails f.by_entries f.reads f.home f.only c.controls.ensures.few c.placement_from-placement.ensures in
     let now_is : (with_items s.jobs c.form_record-hits.new.jobs).items ≡ c.form_record-hits.new.jobs = with_items_is s.jobs c.form_record-hits.new.jobs (omega (arith, c.form_record-hits.auto.jobs, c.deref_mut.ensures.len, s.jobs.ok.0)) in
     let failed_is : map has_job_failed (with_items s.jobs c.form_record-hits.new.jobs).items ≡ failed = λ i. map has_job_failed (now_is i) in
     let last : SiteState = record { controls = s.controls; level = s.level; table = s.table; is_ahead = s.ahead; told = cond s.ahead s.told.rows s.table.rows; time = s.time.0; mark = s.mark; at = s.journal.at; since = s.since; waiting = []; failed = map has_job_failed (with_items s.jobs c.form_record-hits.new.jobs).items; written = s.written.items } in
     let last_is : last ≡ with_failed failed site = λ i. record site { waiting = sym ready.idle i; failed = failed_is i } in
-    let spent : is_spent way site ≡ true = sym c.record_needs_more.ensures ∙ c.if-record_needs_more.true in
+    let spent : is_spent placement site ≡ true = sym c.record_needs_more.ensures ∙ c.if-record_needs_more.true in
     record {
-      ok = exits.spent_logged tells group site old mid failed items way first start last is failed_is spent;
+      ok = exits.spent_logged tells group site old mid failed items placement first start last is failed_is spent;
       leaves = tt;
-      others = exits.spent_others tells group site old mid failed items way first start is;
+      others = exits.spent_others tells group site old mid failed items placement first start is;
       volumes = stay_read tells old mid f.reads;
-      unwritten = λ spent. exits.spent_stays tells group site old mid failed items way first start last is last_is;
-      heard_said = λ told. (exits.spent_others tells group site old mid failed items way first start is).silent told;
-      cause = exits.spent_causes tells group site old mid failed items way first;
-      failed = exits.spent_failed tells group site old mid failed items way first start last is failed_is;
+      unwritten = λ spent. exits.spent_stays tells group site old mid failed items placement first start last is last_is;
+      heard_said = λ told. (exits.spent_others tells group site old mid failed items placement first start is).silent told;
+      cause = exits.spent_causes tells group site old mid failed items placement first;
+      failed = exits.spent_failed tells group site old mid failed items placement first start last is failed_is;
     }
 
 -- ---- behind a mark
@@ -171,14 +171,14 @@ log_group_behind_mark-requires-clause-ready g c κs within =
     let failed = map has_job_failed c.form_record-hits.new.jobs in
     let items = c.form_record-hits.new.body.items in
     let hits = c.form_record-hits.result in
-    let way : Way = c.way_from-way.result in
-    let first : IsFirst tells group site old mid failed items way = is_first tells group site old mid s.body c.form_record-hits.new.body c.form_record-hits.new.due (map has_job_failed c.deref_mut.result.now) failed hits ready told_is f.forms f.hits
-    way may was_is f.fails f.by_entries f.reads f.home f.only c.controls.ensures.few c.way_from-way.ensures in
+    let placement : Placement = c.placement_from-placement.result in
+    let first : IsFirst tells group site old mid failed items placement = is_first tells group site old mid s.body c.form_record-hits.new.body c.form_record-hits.new.due (map has_job_failed c.deref_mut.result.now) failed hits ready told_is f.forms f.hits
+    placement may was_is f.fails f.by_entries f.reads f.home f.only c.controls.ensures.few c.placement_from-placement.ensures in
     let now_is : (with_items s.jobs c.form_record-hits.new.jobs).items ≡ c.form_record-hits.new.jobs = with_items_is s.jobs c.form_record-hits.new.jobs (omega (arith, c.form_record-hits.auto.jobs, c.deref_mut.ensures.len, s.jobs.ok.0)) in
     let failed_is : map has_job_failed (with_items s.jobs c.form_record-hits.new.jobs).items ≡ failed = λ i. map has_job_failed (now_is i) in
     let last : SiteState = record { controls = s.controls; level = s.level; table = s.table; is_ahead = s.ahead; told = cond s.ahead s.told.rows s.table.rows; time = s.time.0; mark = s.mark; at = s.journal.at; since = s.since; waiting = []; failed = map has_job_failed (with_items s.jobs c.form_record-hits.new.jobs).items; written = s.written.items } in
     let last_is : last ≡ with_failed failed site = λ i. record site { waiting = sym ready.idle i; failed = failed_is i } in
-    mark_ready tells group site old mid failed items way first last last_is
+    mark_ready tells group site old mid failed items placement first last last_is
 
 pub log_group_behind_mark-requires-clause-may : goal.log_group_behind_mark-requires-clause-may
 log_group_behind_mark-requires-clause-may g c κs within =
@@ -198,14 +198,14 @@ log_group_behind_mark-requires-clause-may g c κs within =
     let failed = map has_job_failed c.form_record-hits.new.jobs in
     let items = c.form_record-hits.new.body.items in
     let hits = c.form_record-hits.result in
-    let way : Way = c.way_from-way.result in
-    let first : IsFirst tells group site old mid failed items way = is_first tells group site old mid s.body c.form_record-hits.new.body c.form_record-hits.new.due (map has_job_failed c.deref_mut.result.now) failed hits ready told_is f.forms f.hits
-    way may was_is f.fails f.by_entries f.reads f.home f.only c.controls.ensures.few c.way_from-way.ensures in
+    let placement : Placement = c.placement_from-placement.result in
+    let first : IsFirst tells group site old mid failed items placement = is_first tells group site old mid s.body c.form_record-hits.new.body c.form_record-hits.new.due (map has_job_failed c.deref_mut.result.now) failed hits ready told_is f.forms f.hits
+    placement may was_is f.fails f.by_entries f.reads f.home f.only c.controls.ensures.few c.placement_from-placement.ensures in
     let now_is : (with_items s.jobs c.form_record-hits.new.jobs).items ≡ c.form_record-hits.new.jobs = with_items_is s.jobs c.form_record-hits.new.jobs (omega (arith, c.form_record-hits.auto.jobs, c.deref_mut.ensures.len, s.jobs.ok.0)) in
     let failed_is : map has_job_failed (with_items s.jobs c.form_record-hits.new.jobs).items ≡ failed = λ i. map has_job_failed (now_is i) in
     let last : SiteState = record { controls = s.controls; level = s.level; table = s.table; is_ahead = s.ahead; told = cond s.ahead s.told.rows s.table.rows; time = s.time.0; mark = s.mark; at = s.journal.at; since = s.since; waiting = []; failed = map has_job_failed (with_items s.jobs c.form_record-hits.new.jobs).items; written = s.written.items } in
     let last_is : last ≡ with_failed failed site = λ i. record site { waiting = sym ready.idle i; failed = failed_is i } in
-    mark_may tells group site old mid failed items way first last last_is
+    mark_may tells group site old mid failed items placement first last last_is
 
 pub log_group_behind_mark-requires-clause-rows : goal.log_group_behind_mark-requires-clause-rows
 log_group_behind_mark-requires-clause-rows g c κs within =
@@ -225,9 +225,9 @@ log_group_behind_mark-requires-clause-rows g c κs within =
     let failed = map has_job_failed c.form_record-hits.new.jobs in
     let items = c.form_record-hits.new.body.items in
     let hits = c.form_record-hits.result in
-    let way : Way = c.way_from-way.result in
-    let first : IsFirst tells group site old mid failed items way = is_first tells group site old mid s.body c.form_record-hits.new.body c.form_record-hits.new.due (map has_job_failed c.deref_mut.result.now) failed hits ready told_is f.forms f.hits
-    way may was_is f.fails f.by_entries f.reads f.home f.only c.controls.ensures.few c.way_from-way.ensures in
+    let placement : Placement = c.placement_from-placement.result in
+    let first : IsFirst tells group site old mid failed items placement = is_first tells group site old mid s.body c.form_record-hits.new.body c.form_record-hits.new.due (map has_job_failed c.deref_mut.result.now) failed hits ready told_is f.forms f.hits
+    placement may was_is f.fails f.by_entries f.reads f.home f.only c.controls.ensures.few c.placement_from-placement.ensures in
     let now_is : (with_items s.jobs c.form_record-hits.new.jobs).items ≡ c.form_record-hits.new.jobs = with_items_is s.jobs c.form_record-hits.new.jobs (omega (arith, c.form_record-hits.auto.jobs, c.deref_mut.ensures.len, s.jobs.ok.0)) in
     let failed_is : map has_job_failed (with_items s.jobs c.form_record-hits.new.jobs).items ≡ failed = λ i. map has_job_failed (now_is i) in
     let last : SiteState = record { controls = s.controls; level = s.level; table = s.table; is_ahead = s.ahead; told = cond s.ahead s.told.rows s.table.rows; time = s.time.0; mark = s.mark; at = s.journal.at; since = s.since; waiting = []; failed = map has_job_failed (with_items s.jobs c.form_record-hits.new.jobs).items; written = s.written.items } in
@@ -252,12 +252,12 @@ log_group_behind_mark-requires-clause-mark g c κs within =
     let failed = map has_job_failed c.form_record-hits.new.jobs in
     let items = c.form_record-hits.new.body.items in
     let hits = c.form_record-hits.result in
-    let way : Way = c.way_from-way.result in
-    let first : IsFirst tells group site old mid failed items way = is_first tells group site old mid s.body c.form_record-hits.new.body c.form_record-hits.new.due (map has_job_failed c.deref_mut.result.now) failed hits ready told_is f.forms f.hits
-    way may was_is f.fails f.by_entries f.reads f.home f.only c.controls.ensures.few c.way_from-way.ensures in
-    let enough : is_spent way site ≡ false = sym c.record_needs_more.ensures ∙ c.if-record_needs_more.false in
-    let marked : way ≡ MarkedFirst = c.in-Marked.is in
-    mark_number tells group site old mid failed items way first marked enough
+    let placement : Placement = c.placement_from-placement.result in
+    let first : IsFirst tells group site old mid failed items placement = is_first tells group site old mid s.body c.form_record-hits.new.body c.form_record-hits.new.due (map has_job_failed c.deref_mut.result.now) failed hits ready told_is f.forms f.hits
+    placement may was_is f.fails f.by_entries f.reads f.home f.only c.controls.ensures.few c.placement_from-placement.ensures in
+    let enough : is_spent placement site ≡ false = sym c.record_needs_more.ensures ∙ c.if-record_needs_more.false in
+    let marked : placement ≡ MarkedFirst = c.in-Marked.is in
+    mark_number tells group site old mid failed items placement first marked enough
 
 pub log_group_behind_mark-requires-clause-next : goal.log_group_behind_mark-requires-clause-next
 log_group_behind_mark-requires-clause-next g c κs within =
@@ -277,12 +277,12 @@ log_group_behind_mark-requires-clause-next g c κs within =
     let failed = map has_job_failed c.form_record-hits.new.jobs in
     let items = c.form_record-hits.new.body.items in
     let hits = c.form_record-hits.result in
-    let way : Way = c.way_from-way.result in
-    let first : IsFirst tells group site old mid failed items way = is_first tells group site old mid s.body c.form_record-hits.new.body c.form_record-hits.new.due (map has_job_failed c.deref_mut.result.now) failed hits ready told_is f.forms f.hits
-    way may was_is f.fails f.by_entries f.reads f.home f.only c.controls.ensures.few c.way_from-way.ensures in
-    let enough : is_spent way site ≡ false = sym c.record_needs_more.ensures ∙ c.if-record_needs_more.false in
-    let marked : way ≡ MarkedFirst = c.in-Marked.is in
-    next_number tells group site old mid failed items way first marked enough
+    let placement : Placement = c.placement_from-placement.result in
+    let first : IsFirst tells group site old mid failed items placement = is_first tells group site old mid s.body c.form_record-hits.new.body c.form_record-hits.new.due (map has_job_failed c.deref_mut.result.now) failed hits ready told_is f.forms f.hits
+    placement may was_is f.fails f.by_entries f.reads f.home f.only c.controls.ensures.few c.placement_from-placement.ensures in
+    let enough : is_spent placement site ≡ false = sym c.record_needs_more.ensures ∙ c.if-record_needs_more.false in
+    let marked : placement ≡ MarkedFirst = c.in-Marked.is in
+    next_number tells group site old mid failed items placement first marked enough
 
 pub returns-in-Marked : goal.returns-in-Marked
 returns-in-Marked g c =
@@ -302,9 +302,9 @@ returns-in-Marked g c =
     let failed = map has_job_failed c.form_record-hits.new.jobs in
     let items = c.form_record-hits.new.body.items in
     let hits = c.form_record-hits.result in
-    let way : Way = c.way_from-way.result in
-    let first : IsFirst tells group site old mid failed items way = is_first tells group site old mid s.body c.form_record-hits.new.body c.form_record-hits.new.due (map has_job_failed c.deref_mut.result.now) failed hits ready told_is f.forms f.hits
-    way may was_is f.fails f.by_entries f.reads f.home f.only c.controls.ensures.few c.way_from-way.ensures in
+    let placement : Placement = c.placement_from-placement.result in
+    let first : IsFirst tells group site old mid failed items placement = is_first tells group site old mid s.body c.form_record-hits.new.body c.form_record-hits.new.due (map has_job_failed c.deref_mut.result.now) failed hits ready told_is f.forms f.hits
+    placement may was_is f.fails f.by_entries f.reads f.home f.only c.controls.ensures.few c.placement_from-placement.ensures in
     let now_is : (with_items s.jobs c.form_record-hits.new.jobs).items ≡ c.form_record-hits.new.jobs = with_items_is s.jobs c.form_record-hits.new.jobs (omega (arith, c.form_record-hits.auto.jobs, c.deref_mut.ensures.len, s.jobs.ok.0)) in
     let failed_is : map has_job_failed (with_items s.jobs c.form_record-hits.new.jobs).items ≡ failed = λ i. map has_job_failed (now_is i) in
     let last : SiteState = record { controls = s.controls; level = s.level; table = s.table; is_ahead = s.ahead; told = cond s.ahead s.told.rows s.table.rows; time = s.time.0; mark = s.mark; at = s.journal.at; since = s.since; waiting = []; failed = map has_job_failed (with_items s.jobs c.form_record-hits.new.jobs).items; written = s.written.items } in
@@ -312,17 +312,17 @@ returns-in-Marked g c =
     let new = g.P.Plant.state c.log_group_behind_mark.new.plant in
     let next = c.log_group_behind_mark.new.self in
     let k = c.log_group_behind_mark.ensures in
-    let enough : is_spent way site ≡ false = sym c.record_needs_more.ensures ∙ c.if-record_needs_more.false in
-    let marked : way ≡ MarkedFirst = c.in-Marked.is in
+    let enough : is_spent placement site ≡ false = sym c.record_needs_more.ensures ∙ c.if-record_needs_more.false in
+    let marked : placement ≡ MarkedFirst = c.in-Marked.is in
     record {
-      ok = exits.behind_logged tells group site old mid failed items way first start next last new c.log_group_behind_mark.result is last_is marked enough k.ok k.failed k.unspent;
-      leaves = exits.behind_leaves tells group site old mid failed items way first start next last new c.log_group_behind_mark.result is last_is k.leaves;
-      others = exits.behind_others tells group site old mid failed items way first start next last new c.log_group_behind_mark.result is last_is k.others;
+      ok = exits.behind_logged tells group site old mid failed items placement first start next last new c.log_group_behind_mark.result is last_is marked enough k.ok k.failed k.unspent;
+      leaves = exits.behind_leaves tells group site old mid failed items placement first start next last new c.log_group_behind_mark.result is last_is k.leaves;
+      others = exits.behind_others tells group site old mid failed items placement first start next last new c.log_group_behind_mark.result is last_is k.others;
       volumes = stay_then tells old mid new f.only.elapses k.others.elapses (stay_read tells old mid f.reads) k.volumes;
       unwritten = λ spent. absurd (k.unspent spent);
-      heard_said = λ told. (exits.behind_others tells group site old mid failed items way first start next last new c.log_group_behind_mark.result is last_is k.others).silent told;
-      cause = exits.behind_cause tells group site old mid failed items way first start next last new c.log_group_behind_mark.result is last_is k.cause;
-      failed = exits.behind_failed tells group site old mid failed items way first start next last new c.log_group_behind_mark.result is last_is k.failed;
+      heard_said = λ told. (exits.behind_others tells group site old mid failed items placement first start next last new c.log_group_behind_mark.result is last_is k.others).silent told;
+      cause = exits.behind_cause tells group site old mid failed items placement first start next last new c.log_group_behind_mark.result is last_is k.cause;
+      failed = exits.behind_failed tells group site old mid failed items placement first start next last new c.log_group_behind_mark.result is last_is k.failed;
     }
 
 -- ---- without a mark
@@ -345,14 +345,14 @@ put_record-requires-clause-may g c κs within =
     let failed = map has_job_failed c.form_record-hits.new.jobs in
     let items = c.form_record-hits.new.body.items in
     let hits = c.form_record-hits.result in
-    let way : Way = c.way_from-way.result in
-    let first : IsFirst tells group site old mid failed items way = is_first tells group site old mid s.body c.form_record-hits.new.body c.form_record-hits.new.due (map has_job_failed c.deref_mut.result.now) failed hits ready told_is f.forms f.hits
-    way may was_is f.fails f.by_entries f.reads f.home f.only c.controls.ensures.few c.way_from-way.ensures in
-    let enough : is_spent way site ≡ false = sym c.record_needs_more.ensures ∙ c.if-record_needs_more.false in
-    let plain : way ≢ MarkedFirst = λ marked. elim c.in-Here.is [ inl here ↦ cc (here, marked) | inr switched ↦ cc (switched, marked) ] in
+    let placement : Placement = c.placement_from-placement.result in
+    let first : IsFirst tells group site old mid failed items placement = is_first tells group site old mid s.body c.form_record-hits.new.body c.form_record-hits.new.due (map has_job_failed c.deref_mut.result.now) failed hits ready told_is f.forms f.hits
+    placement may was_is f.fails f.by_entries f.reads f.home f.only c.controls.ensures.few c.placement_from-placement.ensures in
+    let enough : is_spent placement site ≡ false = sym c.record_needs_more.ensures ∙ c.if-record_needs_more.false in
+    let plain : placement ≢ MarkedFirst = λ marked. elim c.in-Here.is [ inl here ↦ cc (here, marked) | inr switched ↦ cc (switched, marked) ] in
     let read = λ (told : tells). read_choice mid f.home (λ d there. g.met.P.Plant.read_is_image c.form_record-hits.new.plant d told there) in
-    let size = λ (told : tells). g.met.P.Plant.length_told c.form_record-hits.new.plant (Journal site.at.set) told (set_there tells group site old mid failed items way first) in
-    exits.end_may tells group way (with_failed failed site) (rows_with_record s.level group failed site.told) mid items (plain_ready tells group site old mid failed items way first plain enough) (some_stands tells group site old mid failed items way first) read size s.journal.marked c.cut.result.0 c.self.invariant.marked_is (ap (λ (t : Stamp). t.0) c.cut.ensures)
+    let size = λ (told : tells). g.met.P.Plant.length_told c.form_record-hits.new.plant (Journal site.at.set) told (set_there tells group site old mid failed items placement first) in
+    exits.end_may tells group placement (with_failed failed site) (rows_with_record s.level group failed site.told) mid items (plain_ready tells group site old mid failed items placement first plain enough) (some_stands tells group site old mid failed items placement first) read size s.journal.marked c.cut.result.0 c.self.invariant.marked_is (ap (λ (t : Stamp). t.0) c.cut.ensures)
 
 pub returns-in_err-put_record : goal.returns-in_err-put_record
 returns-in_err-put_record g c =
@@ -372,15 +372,15 @@ returns-in_err-put_record g c =
     let failed = map has_job_failed c.form_record-hits.new.jobs in
     let items = c.form_record-hits.new.body.items in
     let hits = c.form_record-hits.result in
-    let way : Way = c.way_from-way.result in
-    let first : IsFirst tells group site old mid failed items way = is_first tells group site old mid s.body c.form_record-hits.new.body c.form_record-hits.new.due (map has_job_failed c.deref_mut.result.now) failed hits ready told_is f.forms f.hits
-    way may was_is f.fails f.by_entries f.reads f.home f.only c.controls.ensures.few c.way_from-way.ensures in
-    let enough : is_spent way site ≡ false = sym c.record_needs_more.ensures ∙ c.if-record_needs_more.false in
-    let plain : way ≢ MarkedFirst = λ marked. elim c.in-Here.is [ inl here ↦ cc (here, marked) | inr switched ↦ cc (switched, marked) ] in
+    let placement : Placement = c.placement_from-placement.result in
+    let first : IsFirst tells group site old mid failed items placement = is_first tells group site old mid s.body c.form_record-hits.new.body c.form_record-hits.new.due (map has_job_failed c.deref_mut.result.now) failed hits ready told_is f.forms f.hits
+    placement may was_is f.fails f.by_entries f.reads f.home f.only c.controls.ensures.few c.placement_from-placement.ensures in
+    let enough : is_spent placement site ≡ false = sym c.record_needs_more.ensures ∙ c.if-record_needs_more.false in
+    let plain : placement ≢ MarkedFirst = λ marked. elim c.in-Here.is [ inl here ↦ cc (here, marked) | inr switched ↦ cc (switched, marked) ] in
     let read = λ (told : tells). read_choice mid f.home (λ d there. g.met.P.Plant.read_is_image c.form_record-hits.new.plant d told there) in
     let new = g.P.Plant.state c.put_record.new.plant in
     let after = rows_with_record s.level group failed site.told in
-    let stage = plain_put tells group site old mid failed items way first plain enough new in
+    let stage = plain_put tells group site old mid failed items placement first plain enough new in
     let works = c.put_record.ensures.only in
     let now_is : (with_items s.jobs c.form_record-hits.new.jobs).items ≡ c.form_record-hits.new.jobs = with_items_is s.jobs c.form_record-hits.new.jobs (omega (arith, c.form_record-hits.auto.jobs, c.deref_mut.ensures.len, s.jobs.ok.0)) in
     let failed_is : map has_job_failed (with_items s.jobs c.form_record-hits.new.jobs).items ≡ failed = λ i. map has_job_failed (now_is i) in
@@ -394,14 +394,14 @@ returns-in_err-put_record g c =
     let fails : FailByCounts failed last.failed mid.faults new.faults = subst (λ (l : List Bool). FailByCounts failed l mid.faults new.faults) (sym failed_is) (none_fails failed mid.faults new.faults (none_by_journals tells mid new works)) in
     record {
       ok = subst (λ (r : Result (Unit {0}) StoreError). LogsGroup tells group start last old new r) err_is
-          (plain_group tells group site old mid failed items way first plain enough start last new (Err error) is unspent fails (λ other. tt) (exits.end_fails tells group way site (with_failed failed site) after old mid new items stage read works start is s.journal.marked c.cut.result.0 c.self.invariant.marked_is (ap (λ (t : Stamp). t.0) c.cut.ensures) last error failed_is shows));
+          (plain_group tells group site old mid failed items placement first plain enough start last new (Err error) is unspent fails (λ other. tt) (exits.end_fails tells group placement site (with_failed failed site) after old mid new items stage read works start is s.journal.marked c.cut.result.0 c.self.invariant.marked_is (ap (λ (t : Stamp). t.0) c.cut.ensures) last error failed_is shows));
       leaves = search rules;
-      others = exits.end_others tells group way site (with_failed failed site) after old mid new items stage read works start is;
+      others = exits.end_others tells group placement site (with_failed failed site) after old mid new items stage read works start is;
       volumes = stay_logged tells (IsOfEntries site.table.rows group.entries) old mid new f.reads f.only works;
       unwritten = λ spent. absurd (subst (λ (r : Result (Unit {0}) StoreError). ¬ IsErrOf r Spent) err_is unspent spent);
-      heard_said = λ told. (exits.end_others tells group way site (with_failed failed site) after old mid new items stage read works start is).silent told;
-      cause = exits.end_cause tells group way site (with_failed failed site) after old mid new items stage read works start is result (subst (λ (r : Result (Unit {0}) StoreError). HasStoreCause mid.faults new.faults r) err_is c.in_err-put_record.ensures.cause);
-      failed = exits.end_failed tells group way site (with_failed failed site) after old mid new items stage read works start is last failed_is;
+      heard_said = λ told. (exits.end_others tells group placement site (with_failed failed site) after old mid new items stage read works start is).silent told;
+      cause = exits.end_cause tells group placement site (with_failed failed site) after old mid new items stage read works start is result (subst (λ (r : Result (Unit {0}) StoreError). HasStoreCause mid.faults new.faults r) err_is c.in_err-put_record.ensures.cause);
+      failed = exits.end_failed tells group placement site (with_failed failed site) after old mid new items stage read works start is last failed_is;
     }
 
 pub take_changed-requires : goal.take_changed-requires
@@ -461,15 +461,15 @@ returns g c =
     let failed = map has_job_failed c.form_record-hits.new.jobs in
     let items = c.form_record-hits.new.body.items in
     let hits = c.form_record-hits.result in
-    let way : Way = c.way_from-way.result in
-    let first : IsFirst tells group site old mid failed items way = is_first tells group site old mid s.body c.form_record-hits.new.body c.form_record-hits.new.due (map has_job_failed c.deref_mut.result.now) failed hits ready told_is f.forms f.hits
-    way may was_is f.fails f.by_entries f.reads f.home f.only c.controls.ensures.few c.way_from-way.ensures in
-    let enough : is_spent way site ≡ false = sym c.record_needs_more.ensures ∙ c.if-record_needs_more.false in
-    let plain : way ≢ MarkedFirst = λ marked. elim c.in-Here.is [ inl here ↦ cc (here, marked) | inr switched ↦ cc (switched, marked) ] in
+    let placement : Placement = c.placement_from-placement.result in
+    let first : IsFirst tells group site old mid failed items placement = is_first tells group site old mid s.body c.form_record-hits.new.body c.form_record-hits.new.due (map has_job_failed c.deref_mut.result.now) failed hits ready told_is f.forms f.hits
+    placement may was_is f.fails f.by_entries f.reads f.home f.only c.controls.ensures.few c.placement_from-placement.ensures in
+    let enough : is_spent placement site ≡ false = sym c.record_needs_more.ensures ∙ c.if-record_needs_more.false in
+    let plain : placement ≢ MarkedFirst = λ marked. elim c.in-Here.is [ inl here ↦ cc (here, marked) | inr switched ↦ cc (switched, marked) ] in
     let read = λ (told : tells). read_choice mid f.home (λ d there. g.met.P.Plant.read_is_image c.form_record-hits.new.plant d told there) in
     let new = g.P.Plant.state c.put_record.new.plant in
     let after = rows_with_record s.level group failed site.told in
-    let stage = plain_put tells group site old mid failed items way first plain enough new in
+    let stage = plain_put tells group site old mid failed items placement first plain enough new in
     let works = c.put_record.ensures.only in
     let now_is : (with_items s.jobs c.form_record-hits.new.jobs).items ≡ c.form_record-hits.new.jobs = with_items_is s.jobs c.form_record-hits.new.jobs (omega (arith, c.form_record-hits.auto.jobs, c.deref_mut.ensures.len, s.jobs.ok.0)) in
     let failed_is : map has_job_failed (with_items s.jobs c.form_record-hits.new.jobs).items ≡ failed = λ i. map has_job_failed (now_is i) in
@@ -479,16 +479,16 @@ returns g c =
     let time_is : c.cut-self-inside.result.0 ≡ group.cut.0 = ap (λ (t : Stamp). t.0) c.cut-self-inside.ensures in
     let since_is : c.saturating_add-self-inside.result ≡ one_more s.since = one_more_is s.since c.saturating_add-self-inside.result (λ last. omega (arith, last, c.saturating_add-self-inside.ensures)) (λ other. omega (arith, other, c.saturating_add-self-inside.ensures)) in
     let last : SiteState = record { controls = s.controls; level = s.level; table = c.take_changed.new.table; is_ahead = s.ahead; told = cond s.ahead s.told.rows c.take_changed.new.table.rows; time = c.cut-self-inside.result.0; mark = s.mark; at = c.put_record.new.journal.at; since = c.saturating_add-self-inside.result; waiting = items; failed = map has_job_failed (with_items s.jobs c.form_record-hits.new.jobs).items; written = s.written.items } in
-    let last_is : last ≡ logged_site mid.journals way group.cut.0 items after (one_more s.since) (with_failed failed site) = λ i. record site { table = table_is i; is_ahead = ahead_is i; told = told_now i; time = time_is i; at = c.in_ok-put_record.ensures.at i; since = since_is i; waiting = items; failed = failed_is i } in
+    let last_is : last ≡ logged_site mid.journals placement group.cut.0 items after (one_more s.since) (with_failed failed site) = λ i. record site { table = table_is i; is_ahead = ahead_is i; told = told_now i; time = time_is i; at = c.in_ok-put_record.ensures.at i; since = since_is i; waiting = items; failed = failed_is i } in
     let shows = c.in_ok-put_record.ensures.shows in
     let fails : FailByCounts failed last.failed mid.faults new.faults = subst (λ (l : List Bool). FailByCounts failed l mid.faults new.faults) (sym failed_is) (none_fails failed mid.faults new.faults (none_by_journals tells mid new works)) in
     record {
-      ok = plain_group tells group site old mid failed items way first plain enough start last new (Ok tt) is (λ e. cc e) fails (λ other. refl) (exits.end_logs tells group way site (with_failed failed site) after old mid new items stage read works start is s.journal.marked c.cut.result.0 c.self.invariant.marked_is (ap (λ (t : Stamp). t.0) c.cut.ensures) last last_is shows);
-      leaves = exits.end_leaves tells group way site (with_failed failed site) after old mid new items stage read works start is s.journal.marked c.cut.result.0 c.self.invariant.marked_is (ap (λ (t : Stamp). t.0) c.cut.ensures) last last_is shows;
-      others = exits.end_others tells group way site (with_failed failed site) after old mid new items stage read works start is;
+      ok = plain_group tells group site old mid failed items placement first plain enough start last new (Ok tt) is (λ e. cc e) fails (λ other. refl) (exits.end_logs tells group placement site (with_failed failed site) after old mid new items stage read works start is s.journal.marked c.cut.result.0 c.self.invariant.marked_is (ap (λ (t : Stamp). t.0) c.cut.ensures) last last_is shows);
+      leaves = exits.end_leaves tells group placement site (with_failed failed site) after old mid new items stage read works start is s.journal.marked c.cut.result.0 c.self.invariant.marked_is (ap (λ (t : Stamp). t.0) c.cut.ensures) last last_is shows;
+      others = exits.end_others tells group placement site (with_failed failed site) after old mid new items stage read works start is;
       volumes = stay_logged tells (IsOfEntries site.table.rows group.entries) old mid new f.reads f.only works;
       unwritten = λ spent. cc spent;
-      heard_said = λ told. (exits.end_others tells group way site (with_failed failed site) after old mid new items stage read works start is).silent told;
-      cause = exits.end_cause tells group way site (with_failed failed site) after old mid new items stage read works start is (Ok tt) c.in_ok-put_record.ensures.cause;
-      failed = exits.end_failed tells group way site (with_failed failed site) after old mid new items stage read works start is last failed_is;
+      heard_said = λ told. (exits.end_others tells group placement site (with_failed failed site) after old mid new items stage read works start is).silent told;
+      cause = exits.end_cause tells group placement site (with_failed failed site) after old mid new items stage read works start is (Ok tt) c.in_ok-put_record.ensures.cause;
+      failed = exits.end_failed tells group placement site (with_failed failed site) after old mid new items stage read works start is last failed_is;
     }

@@ -3,7 +3,7 @@ use Rattle.crash_plant.specs.declared.device.Device.TheVariants.{Journal}
 use Rattle.pair_table.specs.declared.row.PairRow.{PairRow}
 use Rattle.record_rows.specs.Hits.{hit_now, rows_marked}
 use Rattle.site_store.specs.declared.store_error.StoreError.{StoreError}
-use Rattle.site_store.specs.declared.way.Way.TheVariants.{Marked}
+use Rattle.site_store.specs.declared.placement.Placement.TheVariants.{Marked}
 use Rattle.site_store.specs.Causes.{FailByCounts}
 use Rattle.crash_plant.specs.Choices.{Choice, IsChoice}
 use Rattle.site_store.specs.Changing.{DoesRows, FormsChange, changed_items, told_by_mark}

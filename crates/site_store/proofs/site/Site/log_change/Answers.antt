@@ -8,24 +8,24 @@ use Rattle.pair_table.specs.declared.row.PairRow.{PairRow}
 use Rattle.record_rows.specs.Records.{rows_with_hits}
 use Rattle.site_store.specs.declared.store_error.StoreError.{StoreError}
 use Rattle.site_store.specs.declared.store_error.StoreError.TheVariants.{Spent}
-use Rattle.site_store.specs.declared.way.Way.{Way}
-use Rattle.site_store.specs.declared.way.Way.TheVariants.{Marked}
+use Rattle.site_store.specs.declared.placement.Placement.{Placement}
+use Rattle.site_store.specs.declared.placement.Placement.TheVariants.{Marked}
 use Rattle.site_store.specs.Causes.{FailByCounts}
-use Rattle.site_store.specs.Changing.{DoesRows, FormsChange, IsBehindChange, IsWayOfChange, changed_items}
+use Rattle.site_store.specs.Changing.{DoesRows, FormsChange, IsBehindChange, IsPlacementOfChange, changed_items}
 use Rattle.site_store.specs.Jobs.{has_job_failed}
 use Rattle.site_store.specs.Records.{IsJournal, IsOfRecord, behind_record}
 use Rattle.site_store.specs.Sites.{SiteState}
 use Rattle.site_store.specs.Standing.{Leaves}
-use Rattle.site_store.specs.Ways.{record_needs_more, way_from, way_of}
-use Rattle.site_store.proofs.ChangeEnds.{change_way, forms_there, level_view, mark_logs, marked_done, may_put, none_done, none_leaves, record_done, record_leaves, record_logs, spent_done, spent_logs, told_is}
+use Rattle.site_store.specs.Placements.{record_needs_more, placement_from, placement_of}
+use Rattle.site_store.proofs.ChangeEnds.{change_placement, forms_there, level_view, mark_logs, marked_done, may_put, none_done, none_leaves, record_done, record_leaves, record_logs, spent_done, spent_logs, told_is}
 use Rattle.site_store.proofs.ChangeFirst.{fail_first, none_fail}
 use Rattle.site_store.proofs.RowEnds.{plain_behind}
 use Rattle.site_store.proofs.RowRoom.{reads_choice}
-use Rattle.site_store.proofs.Views.{at_error, ends_there, flags_below, idle_site, jobs_below, keeps_still, last_way, may_put_there, rows_taken, shows_there, taken_view}
+use Rattle.site_store.proofs.Views.{at_error, ends_there, flags_below, idle_site, jobs_below, keeps_still, last_placement, may_put_there, rows_taken, shows_there, taken_view}
 use Rattle.site_store.proofs.VolumesStaying.{stay_here, stay_put}
 use Rattle.site_store.proofs.site.Site.log_change.Given as given
 use Rattle.site_store.proofs.site.Site.log_change.Goals as goal
-use Rattle.site_store.proofs.site.Site.log_change.Goals.{After-way_from-way}
+use Rattle.site_store.proofs.site.Site.log_change.Goals.{After-placement_from-placement}
 
 -- ---- what its calls ask
 
@@ -38,8 +38,8 @@ take_logged-requires-clause-below g c = flags_below _ c.args.self.now (g.P.Plant
 pub log_behind_mark-requires-clause-numbers : goal.log_behind_mark-requires-clause-numbers
 log_behind_mark-requires-clause-numbers g c κs within =
     let s = c.self.inside in
-    let marked = last_way c.way_from-way.result (λ is. let no = (rw is at c.eq.ensures) in let yes = c.if-eq.true in cc (no, yes)) (λ is. let no = (rw is at c.eq.ensures) in let yes = c.if-eq.true in cc (no, yes)) in
-    sym (c.record_needs_more.ensures ∙ ap (λ (w : Way). record_needs_more w s.journal.at.number s.mark.number) marked) ∙ c.if-record_needs_more.false
+    let marked = last_placement c.placement_from-placement.result (λ is. let no = (rw is at c.eq.ensures) in let yes = c.if-eq.true in cc (no, yes)) (λ is. let no = (rw is at c.eq.ensures) in let yes = c.if-eq.true in cc (no, yes)) in
+    sym (c.record_needs_more.ensures ∙ ap (λ (w : Placement). record_needs_more w s.journal.at.number s.mark.number) marked) ∙ c.if-record_needs_more.false
 
 -- ---- the jobs and the body
 
@@ -92,45 +92,45 @@ returns-then-not-form_change-clause-moments g c =
 
 -- ---- the record is formed
 
-some : (g : given.Over) (c : After-way_from-way g) → changed_items c.args.change.now c.args.self.now.table.rows ≢ []
+some : (g : given.Over) (c : After-placement_from-placement g) → changed_items c.args.change.now c.args.self.now.table.rows ≢ []
 some g c none = c.form_change.ensures.some c.if-not-form_change.false (ap (λ (x : SiteState). changed_items c.args.change.now x.table.rows) c.self.view_is ∙ none)
 
-forms : (g : given.Over) (c : After-way_from-way g) → FormsChange c.args.self.now.level c.args.cut c.args.self.now.failed c.args.change.now c.args.self.now.table.rows c.self.inside.body c.form_change.new.body
+forms : (g : given.Over) (c : After-placement_from-placement g) → FormsChange c.args.self.now.level c.args.cut c.args.self.now.failed c.args.change.now c.args.self.now.table.rows c.self.inside.body c.form_change.new.body
 forms g c =
     let s = c.self.inside in
     forms_there s.level c.args.cut (map has_job_failed c.deref.result.now) c.args.self.now.failed c.args.change.now s.table.rows c.args.self.now s.body c.form_change.new.body (ap (λ (x : SiteState). x.level) c.self.view_is)
     (ap (map has_job_failed) c.deref.ensures.value ∙ ap (λ (x : SiteState). x.failed) c.self.view_is) (ap (λ (x : SiteState). x.table.rows) c.self.view_is) (c.form_change.ensures.forms c.if-not-form_change.false)
 
-way_is : (g : given.Over) (c : After-way_from-way g) → c.way_from-way.result ≡ way_of (g.P.Plant.state c.args.plant.now) c.args.self.now c.form_change.new.body.items
-way_is g c = c.way_from-way.ensures ∙ (λ i. way_from (g.P.Plant.state c.args.plant.now) (c.self.view_is i).at (c.self.view_is i).mark.at c.form_change.new.body.items)
+placement_is : (g : given.Over) (c : After-placement_from-placement g) → c.placement_from-placement.result ≡ placement_of (g.P.Plant.state c.args.plant.now) c.args.self.now c.form_change.new.body.items
+placement_is g c = c.placement_from-placement.ensures ∙ (λ i. placement_from (g.P.Plant.state c.args.plant.now) (c.self.view_is i).at (c.self.view_is i).mark.at c.form_change.new.body.items)
 
 -- ---- the numbers are spent
 
 pub returns-then-record_needs_more-clause-ok : goal.returns-then-record_needs_more-clause-ok
 returns-then-record_needs_more-clause-ok g c =
-    let f = (goal.at.returns-then-record_needs_more-clause-ok g c).After-way_from-way in
+    let f = (goal.at.returns-then-record_needs_more-clause-ok g c).After-placement_from-placement in
     let site = c.args.self.now in
     let may = c.requires.may in
     let tells = g.P.Plant.tells in
     let old = g.P.Plant.state c.args.plant.now in
     let s = c.self.inside in
     let now = c.form_change.new.body in
-    let way = c.way_from-way.result in
-    let spent = sym (c.record_needs_more.ensures ∙ (λ i. record_needs_more way (c.self.view_is i).at.number (c.self.view_is i).mark.number)) ∙ c.if-record_needs_more.true in
-    spent_logs tells c.args.cut c.args.change.now site old may site.failed s.body now (forms g f) refl (some g f) way (way_is g f) c.args.plant.now _ spent
+    let placement = c.placement_from-placement.result in
+    let spent = sym (c.record_needs_more.ensures ∙ (λ i. record_needs_more placement (c.self.view_is i).at.number (c.self.view_is i).mark.number)) ∙ c.if-record_needs_more.true in
+    spent_logs tells c.args.cut c.args.change.now site old may site.failed s.body now (forms g f) refl (some g f) placement (placement_is g f) c.args.plant.now _ spent
 
 pub returns-then-record_needs_more-clause-moments :
     goal.returns-then-record_needs_more-clause-moments
 returns-then-record_needs_more-clause-moments g c =
-    let f = (goal.at.returns-then-record_needs_more-clause-moments g c).After-way_from-way in
+    let f = (goal.at.returns-then-record_needs_more-clause-moments g c).After-placement_from-placement in
     let site = c.args.self.now in
     let may = c.requires.may in
     let tells = g.P.Plant.tells in
     let old = g.P.Plant.state c.args.plant.now in
     let s = c.self.inside in
     let now = c.form_change.new.body in
-    let way = c.way_from-way.result in
-    spent_done tells c.args.cut c.args.change.now site old may site.failed s.body now (forms g f) refl (some g f) way (way_is g f) _
+    let placement = c.placement_from-placement.result in
+    spent_done tells c.args.cut c.args.change.now site old may site.failed s.body now (forms g f) refl (some g f) placement (placement_is g f) _
 
 pub returns-then-record_needs_more-clause-failed :
     goal.returns-then-record_needs_more-clause-failed
@@ -142,35 +142,35 @@ returns-then-record_needs_more-clause-failed g c =
 
 pub returns-then-eq-clause-ok : goal.returns-then-eq-clause-ok
 returns-then-eq-clause-ok g c =
-    let f = (goal.at.returns-then-eq-clause-ok g c).After-way_from-way in
+    let f = (goal.at.returns-then-eq-clause-ok g c).After-placement_from-placement in
     let site = c.args.self.now in
     let may = c.requires.may in
     let tells = g.P.Plant.tells in
     let old = g.P.Plant.state c.args.plant.now in
     let s = c.self.inside in
     let now = c.form_change.new.body in
-    let way = c.way_from-way.result in
-    let enough = sym (c.record_needs_more.ensures ∙ (λ i. record_needs_more way (c.self.view_is i).at.number (c.self.view_is i).mark.number)) ∙ c.if-record_needs_more.false in
-    let marked = last_way c.way_from-way.result (λ is. let no = (rw is at c.eq.ensures) in let yes = c.if-eq.true in cc (no, yes)) (λ is. let no = (rw is at c.eq.ensures) in let yes = c.if-eq.true in cc (no, yes)) in
+    let placement = c.placement_from-placement.result in
+    let enough = sym (c.record_needs_more.ensures ∙ (λ i. record_needs_more placement (c.self.view_is i).at.number (c.self.view_is i).mark.number)) ∙ c.if-record_needs_more.false in
+    let marked = last_placement c.placement_from-placement.result (λ is. let no = (rw is at c.eq.ensures) in let yes = c.if-eq.true in cc (no, yes)) (λ is. let no = (rw is at c.eq.ensures) in let yes = c.if-eq.true in cc (no, yes)) in
     let k = c.log_behind_mark in
-    mark_logs tells c.args.cut c.args.change.now site old may site.failed s.body now (forms g f) refl (some g f) way (way_is g f) enough c.args.plant.now k.new.plant k.new.self k.result marked k.ensures.unspent
+    mark_logs tells c.args.cut c.args.change.now site old may site.failed s.body now (forms g f) refl (some g f) placement (placement_is g f) enough c.args.plant.now k.new.plant k.new.self k.result marked k.ensures.unspent
     (subst (λ (x : SiteState). OnOk k.result (IsBehindChange c.args.cut.0 c.args.change.now Marked x k.new.self old)) (idle_site _ site c.self.view_is may.idle) k.ensures.ok)
 
 pub returns-then-eq-clause-moments : goal.returns-then-eq-clause-moments
 returns-then-eq-clause-moments g c =
-    let f = (goal.at.returns-then-eq-clause-moments g c).After-way_from-way in
+    let f = (goal.at.returns-then-eq-clause-moments g c).After-placement_from-placement in
     let site = c.args.self.now in
     let may = c.requires.may in
     let tells = g.P.Plant.tells in
     let old = g.P.Plant.state c.args.plant.now in
     let s = c.self.inside in
     let now = c.form_change.new.body in
-    let way = c.way_from-way.result in
+    let placement = c.placement_from-placement.result in
     let k = c.log_behind_mark in
     let new = g.P.Plant.state k.new.plant in
-    let marked = last_way c.way_from-way.result (λ is. let no = (rw is at c.eq.ensures) in let yes = c.if-eq.true in cc (no, yes)) (λ is. let no = (rw is at c.eq.ensures) in let yes = c.if-eq.true in cc (no, yes)) in
-    let is_way = subst (λ (w : Way). IsWayOfChange c.args.cut.0 c.args.change.now site old w) marked (change_way tells c.args.cut c.args.change.now site old may site.failed s.body now (forms g f) refl (some g f) way (way_is g f)) in
-    marked_done tells c.args.cut.0 c.args.change.now site k.new.self old new k.result (some g f) is_way
+    let marked = last_placement c.placement_from-placement.result (λ is. let no = (rw is at c.eq.ensures) in let yes = c.if-eq.true in cc (no, yes)) (λ is. let no = (rw is at c.eq.ensures) in let yes = c.if-eq.true in cc (no, yes)) in
+    let is_placement = subst (λ (w : Placement). IsPlacementOfChange c.args.cut.0 c.args.change.now site old w) marked (change_placement tells c.args.cut c.args.change.now site old may site.failed s.body now (forms g f) refl (some g f) placement (placement_is g f)) in
+    marked_done tells c.args.cut.0 c.args.change.now site k.new.self old new k.result (some g f) is_placement
     (subst (λ (x : SiteState). DoesRows tells Marked c.args.cut.0 x k.new.self old new k.result) (idle_site _ site c.self.view_is may.idle) k.ensures.moments)
 
 pub returns-then-eq-clause-others : goal.returns-then-eq-clause-others
@@ -185,55 +185,55 @@ returns-then-eq-clause-others g c =
 
 pub put_record-requires-clause-may : goal.put_record-requires-clause-may
 put_record-requires-clause-may g c κs within =
-    let f = (goal.at.put_record-requires-clause-may g c).After-way_from-way in
+    let f = (goal.at.put_record-requires-clause-may g c).After-placement_from-placement in
     let site = c.args.self.now in
     let may = c.requires.may in
     let tells = g.P.Plant.tells in
     let old = g.P.Plant.state c.args.plant.now in
     let s = c.self.inside in
     let now = c.form_change.new.body in
-    let way = c.way_from-way.result in
-    let enough = sym (c.record_needs_more.ensures ∙ (λ i. record_needs_more way (c.self.view_is i).at.number (c.self.view_is i).mark.number)) ∙ c.if-record_needs_more.false in
-    let plain : way ≢ Marked = λ is. let yes = (rw is at c.eq.ensures) in let no = c.if-eq.false in cc (yes, no) in
+    let placement = c.placement_from-placement.result in
+    let enough = sym (c.record_needs_more.ensures ∙ (λ i. record_needs_more placement (c.self.view_is i).at.number (c.self.view_is i).mark.number)) ∙ c.if-record_needs_more.false in
+    let plain : placement ≢ Marked = λ is. let yes = (rw is at c.eq.ensures) in let no = c.if-eq.false in cc (yes, no) in
     let read = λ (told : g.P.Plant.tells). reads_choice old may.fast.fits.home (λ d there. g.met.P.Plant.read_is_image c.args.plant.now d told there) in
     let low : site.at.number < 2 ^ 64 = omega (arith, ap (λ (x : SiteState). x.at.number) c.self.view_is) in
     let size = λ (told : g.P.Plant.tells). g.met.P.Plant.length_told c.args.plant.now (Journal site.at.set) told may.fast.fits.set in
-    may_put_there tells way s.journal.marked site.mark.at s.journal.at site.at c.args.cut.0 now.items now.items old (c.self.invariant.marked_is ∙ ap (λ (x : SiteState). x.mark.at) c.self.view_is) (ap (λ (x : SiteState). x.at) c.self.view_is) refl
-    (may_put tells c.args.cut c.args.change.now site old may site.failed s.body now (forms g f) refl (some g f) way (way_is g f) enough plain (ends_there tells site old c.args.cut.0 may.fast may.cut_is low read size))
+    may_put_there tells placement s.journal.marked site.mark.at s.journal.at site.at c.args.cut.0 now.items now.items old (c.self.invariant.marked_is ∙ ap (λ (x : SiteState). x.mark.at) c.self.view_is) (ap (λ (x : SiteState). x.at) c.self.view_is) refl
+    (may_put tells c.args.cut c.args.change.now site old may site.failed s.body now (forms g f) refl (some g f) placement (placement_is g f) enough plain (ends_there tells site old c.args.cut.0 may.fast may.cut_is low read size))
 
 pub returns-in_err-put_record-clause-ok : goal.returns-in_err-put_record-clause-ok
 returns-in_err-put_record-clause-ok g c =
-    let f = (goal.at.returns-in_err-put_record-clause-ok g c).After-way_from-way in
+    let f = (goal.at.returns-in_err-put_record-clause-ok g c).After-placement_from-placement in
     let site = c.args.self.now in
     let may = c.requires.may in
     let tells = g.P.Plant.tells in
     let old = g.P.Plant.state c.args.plant.now in
     let s = c.self.inside in
     let now = c.form_change.new.body in
-    let way = c.way_from-way.result in
-    let enough = sym (c.record_needs_more.ensures ∙ (λ i. record_needs_more way (c.self.view_is i).at.number (c.self.view_is i).mark.number)) ∙ c.if-record_needs_more.false in
-    let plain : way ≢ Marked = λ is. let yes = (rw is at c.eq.ensures) in let no = c.if-eq.false in cc (yes, no) in
+    let placement = c.placement_from-placement.result in
+    let enough = sym (c.record_needs_more.ensures ∙ (λ i. record_needs_more placement (c.self.view_is i).at.number (c.self.view_is i).mark.number)) ∙ c.if-record_needs_more.false in
+    let plain : placement ≢ Marked = λ is. let yes = (rw is at c.eq.ensures) in let no = c.if-eq.false in cc (yes, no) in
     let same : c.put_record.result ≡ c.from_residual.result = search rules in
-    record_logs tells c.args.cut c.args.change.now site old may site.failed s.body now (forms g f) refl (some g f) way (way_is g f) enough plain c.args.plant.now c.put_record.new.plant _ c.from_residual.result
+    record_logs tells c.args.cut c.args.change.now site old may site.failed s.body now (forms g f) refl (some g f) placement (placement_is g f) enough plain c.args.plant.now c.put_record.new.plant _ c.from_residual.result
     (subst (λ (r : Result (Unit {0}) StoreError). ¬ IsErrOf r Spent) same c.put_record.ensures.unspent) (ap (λ (x : SiteState). x.failed) c.self.view_is) (at_error _ c.from_residual.result c.in_err-put_record.field-0.0 (sym same ∙ c.in_err-put_record.was))
 
 pub returns-in_err-put_record-clause-moments : goal.returns-in_err-put_record-clause-moments
 returns-in_err-put_record-clause-moments g c =
-    let f = (goal.at.returns-in_err-put_record-clause-moments g c).After-way_from-way in
+    let f = (goal.at.returns-in_err-put_record-clause-moments g c).After-placement_from-placement in
     let site = c.args.self.now in
     let may = c.requires.may in
     let tells = g.P.Plant.tells in
     let old = g.P.Plant.state c.args.plant.now in
     let s = c.self.inside in
     let now = c.form_change.new.body in
-    let way = c.way_from-way.result in
-    let enough = sym (c.record_needs_more.ensures ∙ (λ i. record_needs_more way (c.self.view_is i).at.number (c.self.view_is i).mark.number)) ∙ c.if-record_needs_more.false in
-    let plain : way ≢ Marked = λ is. let yes = (rw is at c.eq.ensures) in let no = c.if-eq.false in cc (yes, no) in
+    let placement = c.placement_from-placement.result in
+    let enough = sym (c.record_needs_more.ensures ∙ (λ i. record_needs_more placement (c.self.view_is i).at.number (c.self.view_is i).mark.number)) ∙ c.if-record_needs_more.false in
+    let plain : placement ≢ Marked = λ is. let yes = (rw is at c.eq.ensures) in let no = c.if-eq.false in cc (yes, no) in
     let same : c.put_record.result ≡ c.from_residual.result = search rules in
     let new = g.P.Plant.state c.put_record.new.plant in
     let low : site.mark.at.number < 2 ^ 64 = omega (arith, ap (λ (x : SiteState). x.mark.at.number) c.self.view_is) in
-    record_done tells c.args.cut c.args.change.now site old may site.failed s.body now (forms g f) refl (some g f) way (way_is g f) enough plain low new c.put_record.ensures.only c.from_residual.result
-    (shows_there tells way s.journal.marked site.mark.at s.journal.at site.at c.args.cut.0 now.items now.items old new c.put_record.result c.from_residual.result (c.self.invariant.marked_is ∙ ap (λ (x : SiteState). x.mark.at) c.self.view_is) (ap (λ (x : SiteState). x.at) c.self.view_is) refl same c.put_record.ensures.shows)
+    record_done tells c.args.cut c.args.change.now site old may site.failed s.body now (forms g f) refl (some g f) placement (placement_is g f) enough plain low new c.put_record.ensures.only c.from_residual.result
+    (shows_there tells placement s.journal.marked site.mark.at s.journal.at site.at c.args.cut.0 now.items now.items old new c.put_record.result c.from_residual.result (c.self.invariant.marked_is ∙ ap (λ (x : SiteState). x.mark.at) c.self.view_is) (ap (λ (x : SiteState). x.at) c.self.view_is) refl same c.put_record.ensures.shows)
     _ (ap (λ (x : SiteState). x.failed) c.self.view_is)
 
 pub returns-in_err-put_record-clause-others : goal.returns-in_err-put_record-clause-others
@@ -253,60 +253,60 @@ returns-in_err-put_record-clause-failed g c =
 
 pub returns-clause-ok : goal.returns-clause-ok
 returns-clause-ok g c =
-    let f = (goal.at.returns-clause-ok g c).After-way_from-way in
+    let f = (goal.at.returns-clause-ok g c).After-placement_from-placement in
     let site = c.args.self.now in
     let may = c.requires.may in
     let tells = g.P.Plant.tells in
     let old = g.P.Plant.state c.args.plant.now in
     let s = c.self.inside in
     let now = c.form_change.new.body in
-    let way = c.way_from-way.result in
-    let enough = sym (c.record_needs_more.ensures ∙ (λ i. record_needs_more way (c.self.view_is i).at.number (c.self.view_is i).mark.number)) ∙ c.if-record_needs_more.false in
-    let plain : way ≢ Marked = λ is. let yes = (rw is at c.eq.ensures) in let no = c.if-eq.false in cc (yes, no) in
+    let placement = c.placement_from-placement.result in
+    let enough = sym (c.record_needs_more.ensures ∙ (λ i. record_needs_more placement (c.self.view_is i).at.number (c.self.view_is i).mark.number)) ∙ c.if-record_needs_more.false in
+    let plain : placement ≢ Marked = λ is. let yes = (rw is at c.eq.ensures) in let no = c.if-eq.false in cc (yes, no) in
     let still = ap (λ (x : SiteState). x.failed) c.take_logged.ensures ∙ ap (λ (x : SiteState). x.failed) c.self.view_is in
-    let next_is = c.take_logged.ensures ∙ taken_view _ site old.journals way c.args.cut.0 now.items now.items c.put_record.new.journal.at c.self.view_is may.idle c.in_ok-put_record.ensures.at refl in
-    record_logs tells c.args.cut c.args.change.now site old may site.failed s.body now (forms g f) refl (some g f) way (way_is g f) enough plain c.args.plant.now c.put_record.new.plant c.take_logged.new.self (Ok tt) (λ e. cc e) still
-    (next_is ∙ plain_behind old.journals way c.args.cut.0 now.items (rows_taken c.args.cut.0 site) site plain
-    ∙ ap (λ (failed : List Bool). behind_record old.journals way c.args.cut.0 now.items (rows_with_hits site.level c.args.cut.0 failed site.table.rows) failed site) (sym still))
+    let next_is = c.take_logged.ensures ∙ taken_view _ site old.journals placement c.args.cut.0 now.items now.items c.put_record.new.journal.at c.self.view_is may.idle c.in_ok-put_record.ensures.at refl in
+    record_logs tells c.args.cut c.args.change.now site old may site.failed s.body now (forms g f) refl (some g f) placement (placement_is g f) enough plain c.args.plant.now c.put_record.new.plant c.take_logged.new.self (Ok tt) (λ e. cc e) still
+    (next_is ∙ plain_behind old.journals placement c.args.cut.0 now.items (rows_taken c.args.cut.0 site) site plain
+    ∙ ap (λ (failed : List Bool). behind_record old.journals placement c.args.cut.0 now.items (rows_with_hits site.level c.args.cut.0 failed site.table.rows) failed site) (sym still))
 
 pub returns-clause-leaves : goal.returns-clause-leaves
 returns-clause-leaves g c =
-    let f = (goal.at.returns-clause-leaves g c).After-way_from-way in
+    let f = (goal.at.returns-clause-leaves g c).After-placement_from-placement in
     let site = c.args.self.now in
     let may = c.requires.may in
     let tells = g.P.Plant.tells in
     let old = g.P.Plant.state c.args.plant.now in
     let s = c.self.inside in
     let now = c.form_change.new.body in
-    let way = c.way_from-way.result in
-    let enough = sym (c.record_needs_more.ensures ∙ (λ i. record_needs_more way (c.self.view_is i).at.number (c.self.view_is i).mark.number)) ∙ c.if-record_needs_more.false in
-    let plain : way ≢ Marked = λ is. let yes = (rw is at c.eq.ensures) in let no = c.if-eq.false in cc (yes, no) in
+    let placement = c.placement_from-placement.result in
+    let enough = sym (c.record_needs_more.ensures ∙ (λ i. record_needs_more placement (c.self.view_is i).at.number (c.self.view_is i).mark.number)) ∙ c.if-record_needs_more.false in
+    let plain : placement ≢ Marked = λ is. let yes = (rw is at c.eq.ensures) in let no = c.if-eq.false in cc (yes, no) in
     let still = ap (λ (x : SiteState). x.failed) c.take_logged.ensures ∙ ap (λ (x : SiteState). x.failed) c.self.view_is in
-    let next_is = c.take_logged.ensures ∙ taken_view _ site old.journals way c.args.cut.0 now.items now.items c.put_record.new.journal.at c.self.view_is may.idle c.in_ok-put_record.ensures.at refl in
+    let next_is = c.take_logged.ensures ∙ taken_view _ site old.journals placement c.args.cut.0 now.items now.items c.put_record.new.journal.at c.self.view_is may.idle c.in_ok-put_record.ensures.at refl in
     let new = g.P.Plant.state c.put_record.new.plant in
     let low : site.mark.at.number < 2 ^ 64 = omega (arith, ap (λ (x : SiteState). x.mark.at.number) c.self.view_is) in
-    let shows = shows_there tells way s.journal.marked site.mark.at s.journal.at site.at c.args.cut.0 now.items now.items old new c.put_record.result (Ok tt) (c.self.invariant.marked_is ∙ ap (λ (x : SiteState). x.mark.at) c.self.view_is) (ap (λ (x : SiteState). x.at) c.self.view_is) refl c.in_ok-put_record.was c.put_record.ensures.shows in
+    let shows = shows_there tells placement s.journal.marked site.mark.at s.journal.at site.at c.args.cut.0 now.items now.items old new c.put_record.result (Ok tt) (c.self.invariant.marked_is ∙ ap (λ (x : SiteState). x.mark.at) c.self.view_is) (ap (λ (x : SiteState). x.at) c.self.view_is) refl c.in_ok-put_record.was c.put_record.ensures.shows in
     subst (λ (x : SiteState). Leaves tells (λ e. e) site x old new) (sym next_is)
-    (record_leaves tells c.args.cut c.args.change.now site old may site.failed s.body now (forms g f) refl (some g f) way (way_is g f) enough plain low new c.put_record.ensures.only (Ok tt) shows)
+    (record_leaves tells c.args.cut c.args.change.now site old may site.failed s.body now (forms g f) refl (some g f) placement (placement_is g f) enough plain low new c.put_record.ensures.only (Ok tt) shows)
 
 pub returns-clause-moments : goal.returns-clause-moments
 returns-clause-moments g c =
-    let f = (goal.at.returns-clause-moments g c).After-way_from-way in
+    let f = (goal.at.returns-clause-moments g c).After-placement_from-placement in
     let site = c.args.self.now in
     let may = c.requires.may in
     let tells = g.P.Plant.tells in
     let old = g.P.Plant.state c.args.plant.now in
     let s = c.self.inside in
     let now = c.form_change.new.body in
-    let way = c.way_from-way.result in
-    let enough = sym (c.record_needs_more.ensures ∙ (λ i. record_needs_more way (c.self.view_is i).at.number (c.self.view_is i).mark.number)) ∙ c.if-record_needs_more.false in
-    let plain : way ≢ Marked = λ is. let yes = (rw is at c.eq.ensures) in let no = c.if-eq.false in cc (yes, no) in
+    let placement = c.placement_from-placement.result in
+    let enough = sym (c.record_needs_more.ensures ∙ (λ i. record_needs_more placement (c.self.view_is i).at.number (c.self.view_is i).mark.number)) ∙ c.if-record_needs_more.false in
+    let plain : placement ≢ Marked = λ is. let yes = (rw is at c.eq.ensures) in let no = c.if-eq.false in cc (yes, no) in
     let still = ap (λ (x : SiteState). x.failed) c.take_logged.ensures ∙ ap (λ (x : SiteState). x.failed) c.self.view_is in
-    let next_is = c.take_logged.ensures ∙ taken_view _ site old.journals way c.args.cut.0 now.items now.items c.put_record.new.journal.at c.self.view_is may.idle c.in_ok-put_record.ensures.at refl in
+    let next_is = c.take_logged.ensures ∙ taken_view _ site old.journals placement c.args.cut.0 now.items now.items c.put_record.new.journal.at c.self.view_is may.idle c.in_ok-put_record.ensures.at refl in
     let new = g.P.Plant.state c.put_record.new.plant in
     let low : site.mark.at.number < 2 ^ 64 = omega (arith, ap (λ (x : SiteState). x.mark.at.number) c.self.view_is) in
-    let shows = shows_there tells way s.journal.marked site.mark.at s.journal.at site.at c.args.cut.0 now.items now.items old new c.put_record.result (Ok tt) (c.self.invariant.marked_is ∙ ap (λ (x : SiteState). x.mark.at) c.self.view_is) (ap (λ (x : SiteState). x.at) c.self.view_is) refl c.in_ok-put_record.was c.put_record.ensures.shows in
-    record_done tells c.args.cut c.args.change.now site old may site.failed s.body now (forms g f) refl (some g f) way (way_is g f) enough plain low new c.put_record.ensures.only (Ok tt) shows c.take_logged.new.self still
+    let shows = shows_there tells placement s.journal.marked site.mark.at s.journal.at site.at c.args.cut.0 now.items now.items old new c.put_record.result (Ok tt) (c.self.invariant.marked_is ∙ ap (λ (x : SiteState). x.mark.at) c.self.view_is) (ap (λ (x : SiteState). x.at) c.self.view_is) refl c.in_ok-put_record.was c.put_record.ensures.shows in
+    record_done tells c.args.cut c.args.change.now site old may site.failed s.body now (forms g f) refl (some g f) placement (placement_is g f) enough plain low new c.put_record.ensures.only (Ok tt) shows c.take_logged.new.self still
 
 pub returns-clause-others : goal.returns-clause-others
 returns-clause-others g c =

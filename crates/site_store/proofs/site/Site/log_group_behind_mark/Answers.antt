@@ -8,8 +8,8 @@ use Rattle.crash_plant.specs.declared.device.Device.TheVariants.{Journal}
 use Rattle.pair_table.specs.Tables.{Table, with_rows}
 use Rattle.record_rows.specs.Hits.{hit_now}
 use Rattle.site_store.specs.declared.store_error.StoreError.{StoreError}
-use Rattle.site_store.specs.declared.way.Way.{Way}
-use Rattle.site_store.specs.declared.way.Way.TheVariants.{Marked as MarkedFirst}
+use Rattle.site_store.specs.declared.placement.Placement.{Placement}
+use Rattle.site_store.specs.declared.placement.Placement.TheVariants.{Marked as MarkedFirst}
 use Rattle.site_store.specs.Causes.{HasStoreCause}
 use Rattle.site_store.specs.Hits.{are_some}
 use Rattle.site_store.specs.Jobs.{are_home_from, has_job_failed}
@@ -116,13 +116,13 @@ put_record-requires-clause-may g c κs within =
     let failed = map has_job_failed c.form_record-hits.new.jobs in
     let items = c.form_record-hits.new.body.items in
     let hits = c.form_record-hits.result in
-    let way : Way = MarkedFirst in
+    let placement : Placement = MarkedFirst in
     let first : IsBehind tells group site behind old marked mid failed items = is_behind tells group site behind old marked c.requires.ready c.requires.may c.requires.rows made mid s.body c.form_record-hits.new.body c.form_record-hits.new.due (map has_job_failed c.deref_mut.result.now) failed reached hits
     f.forms f.hits reached_is c.requires.next was_is f.fails f.by_entries f.reads f.home f.only c.controls.ensures.few in
     let after = rows_after group site behind failed in
     let read = λ (told : tells). read_choice mid f.home (λ d there. g.met.P.Plant.read_is_image c.form_record-hits.new.plant d told there) in
     let size = λ (told : tells). g.met.P.Plant.length_told c.form_record-hits.new.plant (Journal behind.at.set) told (last_set tells group site behind old marked mid failed items first) in
-    exits.end_may tells group way (with_failed failed behind) after mid items (last_ready tells group site behind old marked mid failed items first) (last_stands tells group site behind old marked mid failed items first) read size s.journal.marked c.cut.result.0 c.self-2.invariant.marked_is (ap (λ (t : Stamp). t.0) c.cut.ensures)
+    exits.end_may tells group placement (with_failed failed behind) after mid items (last_ready tells group site behind old marked mid failed items first) (last_stands tells group site behind old marked mid failed items first) read size s.journal.marked c.cut.result.0 c.self-2.invariant.marked_is (ap (λ (t : Stamp). t.0) c.cut.ensures)
 
 -- ---- it isn't put
 
@@ -163,7 +163,7 @@ returns-in_err-put_record g c =
     let failed = map has_job_failed c.form_record-hits.new.jobs in
     let items = c.form_record-hits.new.body.items in
     let hits = c.form_record-hits.result in
-    let way : Way = MarkedFirst in
+    let placement : Placement = MarkedFirst in
     let first : IsBehind tells group site behind old marked mid failed items = is_behind tells group site behind old marked c.requires.ready c.requires.may c.requires.rows made mid s.body c.form_record-hits.new.body c.form_record-hits.new.due (map has_job_failed c.deref_mut.result.now) failed reached hits
     f.forms f.hits reached_is c.requires.next was_is f.fails f.by_entries f.reads f.home f.only c.controls.ensures.few in
     let after = rows_after group site behind failed in
@@ -179,13 +179,13 @@ returns-in_err-put_record g c =
     let failing = err_from_is_err_and result c.from_residual-in_err-put_record.ensures.1 in
     let err_is : Err error ≡ result = cc (failing.1, failing.2) in
     record {
-      ok = subst (λ (r : Result (Unit {0}) StoreError). LogsBy tells group way site last old new r) err_is (exits.end_fails tells group way site (with_failed failed behind) after old mid new items stage read works site refl s.journal.marked c.cut.result.0 c.self-2.invariant.marked_is (ap (λ (t : Stamp). t.0) c.cut.ensures) last error failed_is c.in_err-put_record.ensures.shows);
+      ok = subst (λ (r : Result (Unit {0}) StoreError). LogsBy tells group placement site last old new r) err_is (exits.end_fails tells group placement site (with_failed failed behind) after old mid new items stage read works site refl s.journal.marked c.cut.result.0 c.self-2.invariant.marked_is (ap (λ (t : Stamp). t.0) c.cut.ensures) last error failed_is c.in_err-put_record.ensures.shows);
       leaves = search rules;
-      others = exits.end_others tells group way site (with_failed failed behind) after old mid new items stage read works site refl;
-      cause = exits.end_cause tells group way site (with_failed failed behind) after old mid new items stage read works site refl result (subst (λ (r : Result (Unit {0}) StoreError). HasStoreCause mid.faults new.faults r) err_is c.in_err-put_record.ensures.cause);
+      others = exits.end_others tells group placement site (with_failed failed behind) after old mid new items stage read works site refl;
+      cause = exits.end_cause tells group placement site (with_failed failed behind) after old mid new items stage read works site refl result (subst (λ (r : Result (Unit {0}) StoreError). HasStoreCause mid.faults new.faults r) err_is c.in_err-put_record.ensures.cause);
       unspent = search rules;
       volumes = stay_behind tells (IsOfMark site) (IsOfEntries behind.table.rows group.entries) old marked mid new m.makes.volumes c.mark_hits.ensures.only f.reads f.only works;
-      failed = exits.end_failed tells group way site (with_failed failed behind) after old mid new items stage read works site refl last failed_is;
+      failed = exits.end_failed tells group placement site (with_failed failed behind) after old mid new items stage read works site refl last failed_is;
     }
 
 -- ---- it is put
@@ -243,7 +243,7 @@ returns g c =
     let failed = map has_job_failed c.form_record-hits.new.jobs in
     let items = c.form_record-hits.new.body.items in
     let hits = c.form_record-hits.result in
-    let way : Way = MarkedFirst in
+    let placement : Placement = MarkedFirst in
     let first : IsBehind tells group site behind old marked mid failed items = is_behind tells group site behind old marked c.requires.ready c.requires.may c.requires.rows made mid s.body c.form_record-hits.new.body c.form_record-hits.new.due (map has_job_failed c.deref_mut.result.now) failed reached hits
     f.forms f.hits reached_is c.requires.next was_is f.fails f.by_entries f.reads f.home f.only c.controls.ensures.few in
     let after = rows_after group site behind failed in
@@ -259,14 +259,14 @@ returns g c =
     let time_is : c.cut-self-inside.result.0 ≡ group.cut.0 = ap (λ (t : Stamp). t.0) c.cut-self-inside.ensures in
     let since_is : c.saturating_add-self-inside.result ≡ one_more s.since = one_more_is s.since c.saturating_add-self-inside.result (λ last. omega (arith, last, c.saturating_add-self-inside.ensures)) (λ other. omega (arith, other, c.saturating_add-self-inside.ensures)) in
     let last : SiteState = record { controls = s.controls; level = s.level; table = c.take_changed.new.table; is_ahead = s.ahead; told = cond s.ahead s.told.rows c.take_changed.new.table.rows; time = c.cut-self-inside.result.0; mark = s.mark; at = c.put_record.new.journal.at; since = c.saturating_add-self-inside.result; waiting = items; failed = map has_job_failed (with_items s.jobs c.form_record-hits.new.jobs).items; written = s.written.items } in
-    let last_is : last ≡ logged_site mid.journals way group.cut.0 items after (one_more s.since) (with_failed failed behind) = λ i. record behind { table = table_is i; is_ahead = ahead_is i; told = told_now i; time = time_is i; at = c.in_ok-put_record.ensures.at i; since = since_is i; waiting = items; failed = failed_is i } in
+    let last_is : last ≡ logged_site mid.journals placement group.cut.0 items after (one_more s.since) (with_failed failed behind) = λ i. record behind { table = table_is i; is_ahead = ahead_is i; told = told_now i; time = time_is i; at = c.in_ok-put_record.ensures.at i; since = since_is i; waiting = items; failed = failed_is i } in
     let shows = c.in_ok-put_record.ensures.shows in
     record {
-      ok = exits.end_logs tells group way site (with_failed failed behind) after old mid new items stage read works site refl s.journal.marked c.cut.result.0 c.self-2.invariant.marked_is (ap (λ (t : Stamp). t.0) c.cut.ensures) last last_is shows;
-      leaves = exits.end_leaves tells group way site (with_failed failed behind) after old mid new items stage read works site refl s.journal.marked c.cut.result.0 c.self-2.invariant.marked_is (ap (λ (t : Stamp). t.0) c.cut.ensures) last last_is shows;
-      others = exits.end_others tells group way site (with_failed failed behind) after old mid new items stage read works site refl;
-      cause = exits.end_cause tells group way site (with_failed failed behind) after old mid new items stage read works site refl (Ok tt) c.in_ok-put_record.ensures.cause;
+      ok = exits.end_logs tells group placement site (with_failed failed behind) after old mid new items stage read works site refl s.journal.marked c.cut.result.0 c.self-2.invariant.marked_is (ap (λ (t : Stamp). t.0) c.cut.ensures) last last_is shows;
+      leaves = exits.end_leaves tells group placement site (with_failed failed behind) after old mid new items stage read works site refl s.journal.marked c.cut.result.0 c.self-2.invariant.marked_is (ap (λ (t : Stamp). t.0) c.cut.ensures) last last_is shows;
+      others = exits.end_others tells group placement site (with_failed failed behind) after old mid new items stage read works site refl;
+      cause = exits.end_cause tells group placement site (with_failed failed behind) after old mid new items stage read works site refl (Ok tt) c.in_ok-put_record.ensures.cause;
       unspent = λ e. cc e;
       volumes = stay_behind tells (IsOfMark site) (IsOfEntries behind.table.rows group.entries) old marked mid new m.makes.volumes c.mark_hits.ensures.only f.reads f.only works;
-      failed = exits.end_failed tells group way site (with_failed failed behind) after old mid new items stage read works site refl last failed_is;
+      failed = exits.end_failed tells group placement site (with_failed failed behind) after old mid new items stage read works site refl last failed_is;
     }

@@ -11,24 +11,24 @@ use Rattle.record_rows.specs.Records.{rows_with_hits}
 use Rattle.xrc_journal.specs.Bodies.{BodyState}
 use Rattle.site_store.specs.declared.store_error.StoreError.{StoreError}
 use Rattle.site_store.specs.declared.store_error.StoreError.TheVariants.{Spent}
-use Rattle.site_store.specs.declared.way.Way.TheVariants.{Marked}
+use Rattle.site_store.specs.declared.placement.Placement.TheVariants.{Marked}
 use Rattle.site_store.specs.Causes.{FailByCounts}
 use Rattle.site_store.specs.Hits.{pairs_with_next, with_hits}
 use Rattle.site_store.specs.Marking.{MakesMark}
 use Rattle.site_store.specs.Records.{IsOfMark, IsOfRecord, behind_mark}
 use Rattle.site_store.specs.Sites.{SiteState}
 use Rattle.site_store.specs.Standing.{Leaves, none_excepted}
-use Rattle.site_store.specs.Ways.{suspension_needs_more, way_from, way_of}
+use Rattle.site_store.specs.Placements.{suspension_needs_more, placement_from, placement_of}
 use Rattle.site_store.proofs.ChangeFirst.{fail_first, none_fail}
 use Rattle.site_store.proofs.HitStates.{hits_make_rows}
 use Rattle.site_store.proofs.RowEnds.{plain_behind}
 use Rattle.site_store.proofs.RowRoom.{reads_choice}
 use Rattle.site_store.proofs.SuspensionEnds.{AreFormed, are_formed, mark_does, mark_leaves, mark_suspends, may_put, none_does, none_hit, none_suspends, record_does, record_leaves, record_suspends, spent_does, spent_suspends}
-use Rattle.site_store.proofs.Views.{at_error, ends_there, idle_site, jobs_below, keeps_still, last_way, logged_view, may_put_there, rows_below, shows_there, told_there}
+use Rattle.site_store.proofs.Views.{at_error, ends_there, idle_site, jobs_below, keeps_still, last_placement, logged_view, may_put_there, rows_below, shows_there, told_there}
 use Rattle.site_store.proofs.VolumesStaying.{stay_here, stay_put}
 use Rattle.site_store.proofs.site.Site.suspend.Given as given
 use Rattle.site_store.proofs.site.Site.suspend.Goals as goal
-use Rattle.site_store.proofs.site.Site.suspend.Goals.{After-way_from-way}
+use Rattle.site_store.proofs.site.Site.suspend.Goals.{After-placement_from-placement}
 
 -- ---- what its calls ask
 
@@ -84,42 +84,42 @@ returns-then-not-is_any_hit-clause-moments g c =
 
 -- ---- the record is formed
 
-formed : (g : given.Over) (c : After-way_from-way g) → AreFormed g.P.Plant.tells c.args.cut c.args.self.now (g.P.Plant.state c.args.plant.now) c.hits_at-hits.result
+formed : (g : given.Over) (c : After-placement_from-placement g) → AreFormed g.P.Plant.tells c.args.cut c.args.self.now (g.P.Plant.state c.args.plant.now) c.hits_at-hits.result
 formed g c =
     are_formed g.P.Plant.tells c.args.cut _ c.args.self.now c.self.inside.told.rows (g.P.Plant.state c.args.plant.now) c.self.inside.jobs.items c.deref.result.now c.deref-2.result.now c.hits_at-hits.result c.form_hits.new.body c.self.inside.body.room c.self.view_is refl refl
     c.requires.ready c.requires.cut c.deref.ensures.value c.deref-2.ensures.value (sym c.if-not-is_any_hit.false ∙ c.is_any_hit.ensures) c.hits_at-hits.ensures.hits c.form_hits.ensures.rules c.form_hits.ensures.put c.form_hits.ensures.short
 
-rows_are : (g : given.Over) (c : After-way_from-way g) → c.self.inside.table.rows ≡ c.args.self.now.told
+rows_are : (g : given.Over) (c : After-placement_from-placement g) → c.self.inside.table.rows ≡ c.args.self.now.told
 rows_are g c = told_there _ c.args.self.now c.self.inside.told.rows c.self.view_is refl c.requires.ready.level
 
-items_are : (g : given.Over) (c : After-way_from-way g) → c.form_hits.new.body.items ≡ pairs_with_next (with_hits c.hits_at-hits.result) c.args.self.now.told
+items_are : (g : given.Over) (c : After-placement_from-placement g) → c.form_hits.new.body.items ≡ pairs_with_next (with_hits c.hits_at-hits.result) c.args.self.now.told
 items_are g c = ap (λ (h : BodyState). h.items) c.form_hits.ensures.put ∙ ap (pairs_with_next (with_hits c.hits_at-hits.result)) (rows_are g c)
 
-way_is : (g : given.Over) (c : After-way_from-way g) → c.way_from-way.result ≡ way_of (g.P.Plant.state c.args.plant.now) c.args.self.now (pairs_with_next (with_hits c.hits_at-hits.result) c.args.self.now.told)
-way_is g c = c.way_from-way.ensures ∙ (λ i. way_from (g.P.Plant.state c.args.plant.now) (c.self.view_is i).at (c.self.view_is i).mark.at (items_are g c i))
+placement_is : (g : given.Over) (c : After-placement_from-placement g) → c.placement_from-placement.result ≡ placement_of (g.P.Plant.state c.args.plant.now) c.args.self.now (pairs_with_next (with_hits c.hits_at-hits.result) c.args.self.now.told)
+placement_is g c = c.placement_from-placement.ensures ∙ (λ i. placement_from (g.P.Plant.state c.args.plant.now) (c.self.view_is i).at (c.self.view_is i).mark.at (items_are g c i))
 
 -- ---- the numbers are spent
 
 pub returns-then-suspension_needs_more-clause-ok :
     goal.returns-then-suspension_needs_more-clause-ok
 returns-then-suspension_needs_more-clause-ok g c =
-    let f = (goal.at.returns-then-suspension_needs_more-clause-ok g c).After-way_from-way in
+    let f = (goal.at.returns-then-suspension_needs_more-clause-ok g c).After-placement_from-placement in
     let site = c.args.self.now in
     let tells = g.P.Plant.tells in
     let old = g.P.Plant.state c.args.plant.now in
     let hits = c.hits_at-hits.result in
-    let spent = sym (c.suspension_needs_more.ensures ∙ (λ i. suspension_needs_more c.way_from-way.result (c.self.view_is i).at.number (c.self.view_is i).mark.number)) ∙ c.if-suspension_needs_more.true in
-    spent_suspends tells c.args.cut site old hits (formed g f) c.way_from-way.result (way_is g f) c.args.plant.now _ spent
+    let spent = sym (c.suspension_needs_more.ensures ∙ (λ i. suspension_needs_more c.placement_from-placement.result (c.self.view_is i).at.number (c.self.view_is i).mark.number)) ∙ c.if-suspension_needs_more.true in
+    spent_suspends tells c.args.cut site old hits (formed g f) c.placement_from-placement.result (placement_is g f) c.args.plant.now _ spent
 
 pub returns-then-suspension_needs_more-clause-moments :
     goal.returns-then-suspension_needs_more-clause-moments
 returns-then-suspension_needs_more-clause-moments g c =
-    let f = (goal.at.returns-then-suspension_needs_more-clause-moments g c).After-way_from-way in
+    let f = (goal.at.returns-then-suspension_needs_more-clause-moments g c).After-placement_from-placement in
     let site = c.args.self.now in
     let tells = g.P.Plant.tells in
     let old = g.P.Plant.state c.args.plant.now in
     let hits = c.hits_at-hits.result in
-    spent_does tells c.args.cut site old hits (formed g f) c.way_from-way.result (way_is g f) _
+    spent_does tells c.args.cut site old hits (formed g f) c.placement_from-placement.result (placement_is g f) _
 
 pub returns-then-suspension_needs_more-clause-failed :
     goal.returns-then-suspension_needs_more-clause-failed
@@ -135,20 +135,20 @@ returns-then-suspension_needs_more-clause-uncalled g c = λ spent. (idle_site _ 
 
 pub returns-then-eq-clause-ok : goal.returns-then-eq-clause-ok
 returns-then-eq-clause-ok g c =
-    let f = (goal.at.returns-then-eq-clause-ok g c).After-way_from-way in
+    let f = (goal.at.returns-then-eq-clause-ok g c).After-placement_from-placement in
     let site = c.args.self.now in
     let tells = g.P.Plant.tells in
     let old = g.P.Plant.state c.args.plant.now in
     let hits = c.hits_at-hits.result in
-    let enough = sym (c.suspension_needs_more.ensures ∙ (λ i. suspension_needs_more c.way_from-way.result (c.self.view_is i).at.number (c.self.view_is i).mark.number)) ∙ c.if-suspension_needs_more.false in
+    let enough = sym (c.suspension_needs_more.ensures ∙ (λ i. suspension_needs_more c.placement_from-placement.result (c.self.view_is i).at.number (c.self.view_is i).mark.number)) ∙ c.if-suspension_needs_more.false in
     let k = c.mark_suspensions in
-    let marked = last_way c.way_from-way.result (λ is. let no = (rw is at c.eq.ensures) in let yes = c.if-eq.true in cc (no, yes)) (λ is. let no = (rw is at c.eq.ensures) in let yes = c.if-eq.true in cc (no, yes)) in
-    mark_suspends tells c.args.cut site old hits (formed g f) c.args.plant.now k.new.plant k.new.self c.way_from-way.result (way_is g f) enough k.result k.ensures.unspent marked
+    let marked = last_placement c.placement_from-placement.result (λ is. let no = (rw is at c.eq.ensures) in let yes = c.if-eq.true in cc (no, yes)) (λ is. let no = (rw is at c.eq.ensures) in let yes = c.if-eq.true in cc (no, yes)) in
+    mark_suspends tells c.args.cut site old hits (formed g f) c.args.plant.now k.new.plant k.new.self c.placement_from-placement.result (placement_is g f) enough k.result k.ensures.unspent marked
     (subst (λ (x : SiteState). OnOk k.result (k.new.self ≡ behind_mark x.mark.ended (rows_with_hits x.level x.time k.new.self.failed x.told) k.new.self.failed x)) (idle_site _ site c.self.view_is c.requires.ready.idle) k.ensures.ok)
 
 pub returns-then-eq-clause-leaves : goal.returns-then-eq-clause-leaves
 returns-then-eq-clause-leaves g c =
-    let f = (goal.at.returns-then-eq-clause-leaves g c).After-way_from-way in
+    let f = (goal.at.returns-then-eq-clause-leaves g c).After-placement_from-placement in
     let site = c.args.self.now in
     let tells = g.P.Plant.tells in
     let old = g.P.Plant.state c.args.plant.now in
@@ -159,15 +159,15 @@ returns-then-eq-clause-leaves g c =
 
 pub returns-then-eq-clause-moments : goal.returns-then-eq-clause-moments
 returns-then-eq-clause-moments g c =
-    let f = (goal.at.returns-then-eq-clause-moments g c).After-way_from-way in
+    let f = (goal.at.returns-then-eq-clause-moments g c).After-placement_from-placement in
     let site = c.args.self.now in
     let tells = g.P.Plant.tells in
     let old = g.P.Plant.state c.args.plant.now in
     let hits = c.hits_at-hits.result in
     let k = c.mark_suspensions in
     let new = g.P.Plant.state k.new.plant in
-    let marked = last_way c.way_from-way.result (λ is. let no = (rw is at c.eq.ensures) in let yes = c.if-eq.true in cc (no, yes)) (λ is. let no = (rw is at c.eq.ensures) in let yes = c.if-eq.true in cc (no, yes)) in
-    mark_does tells c.args.cut site old hits (formed g f) c.way_from-way.result (way_is g f) marked k.new.self new k.result
+    let marked = last_placement c.placement_from-placement.result (λ is. let no = (rw is at c.eq.ensures) in let yes = c.if-eq.true in cc (no, yes)) (λ is. let no = (rw is at c.eq.ensures) in let yes = c.if-eq.true in cc (no, yes)) in
+    mark_does tells c.args.cut site old hits (formed g f) c.placement_from-placement.result (placement_is g f) marked k.new.self new k.result
     (subst (λ (x : SiteState). MakesMark tells x.mark.ended (rows_with_hits x.level x.time k.new.self.failed x.told) x k.new.self old new k.result) (idle_site _ site c.self.view_is c.requires.ready.idle) k.ensures.makes)
     (subst (λ (x : SiteState). OnOk k.result (k.new.self ≡ behind_mark x.mark.ended (rows_with_hits x.level x.time k.new.self.failed x.told) k.new.self.failed x)) (idle_site _ site c.self.view_is c.requires.ready.idle) k.ensures.ok)
 
@@ -184,48 +184,48 @@ returns-then-eq-clause-others g c =
 
 pub put_record-requires-clause-may : goal.put_record-requires-clause-may
 put_record-requires-clause-may g c κs within =
-    let f = (goal.at.put_record-requires-clause-may g c).After-way_from-way in
+    let f = (goal.at.put_record-requires-clause-may g c).After-placement_from-placement in
     let site = c.args.self.now in
     let s = c.self.inside in
     let tells = g.P.Plant.tells in
     let old = g.P.Plant.state c.args.plant.now in
     let hits = c.hits_at-hits.result in
-    let enough = sym (c.suspension_needs_more.ensures ∙ (λ i. suspension_needs_more c.way_from-way.result (c.self.view_is i).at.number (c.self.view_is i).mark.number)) ∙ c.if-suspension_needs_more.false in
-    let plain : c.way_from-way.result ≢ Marked = λ is. let yes = (rw is at c.eq.ensures) in let no = c.if-eq.false in cc (yes, no) in
+    let enough = sym (c.suspension_needs_more.ensures ∙ (λ i. suspension_needs_more c.placement_from-placement.result (c.self.view_is i).at.number (c.self.view_is i).mark.number)) ∙ c.if-suspension_needs_more.false in
+    let plain : c.placement_from-placement.result ≢ Marked = λ is. let yes = (rw is at c.eq.ensures) in let no = c.if-eq.false in cc (yes, no) in
     let read = λ (told : g.P.Plant.tells). reads_choice old c.requires.ready.fast.fits.home (λ d there. g.met.P.Plant.read_is_image c.args.plant.now d told there) in
     let low : site.at.number < 2 ^ 64 = omega (arith, ap (λ (x : SiteState). x.at.number) c.self.view_is) in
     let size = λ (told : g.P.Plant.tells). g.met.P.Plant.length_told c.args.plant.now (Journal site.at.set) told c.requires.ready.fast.fits.set in
-    may_put_there tells c.way_from-way.result s.journal.marked site.mark.at s.journal.at site.at c.args.cut.0 c.form_hits.new.body.items (pairs_with_next (with_hits hits) site.told) old (c.self.invariant.marked_is ∙ ap (λ (x : SiteState). x.mark.at) c.self.view_is) (ap (λ (x : SiteState). x.at) c.self.view_is) (items_are g f)
-    (may_put tells c.args.cut site old hits (formed g f) c.way_from-way.result (way_is g f) plain enough (omega arith) (ends_there tells site old c.args.cut.0 c.requires.ready.fast c.requires.cut low read size))
+    may_put_there tells c.placement_from-placement.result s.journal.marked site.mark.at s.journal.at site.at c.args.cut.0 c.form_hits.new.body.items (pairs_with_next (with_hits hits) site.told) old (c.self.invariant.marked_is ∙ ap (λ (x : SiteState). x.mark.at) c.self.view_is) (ap (λ (x : SiteState). x.at) c.self.view_is) (items_are g f)
+    (may_put tells c.args.cut site old hits (formed g f) c.placement_from-placement.result (placement_is g f) plain enough (omega arith) (ends_there tells site old c.args.cut.0 c.requires.ready.fast c.requires.cut low read size))
 
 pub returns-in_err-put_record-clause-ok : goal.returns-in_err-put_record-clause-ok
 returns-in_err-put_record-clause-ok g c =
-    let f = (goal.at.returns-in_err-put_record-clause-ok g c).After-way_from-way in
+    let f = (goal.at.returns-in_err-put_record-clause-ok g c).After-placement_from-placement in
     let site = c.args.self.now in
     let tells = g.P.Plant.tells in
     let old = g.P.Plant.state c.args.plant.now in
     let hits = c.hits_at-hits.result in
-    let enough = sym (c.suspension_needs_more.ensures ∙ (λ i. suspension_needs_more c.way_from-way.result (c.self.view_is i).at.number (c.self.view_is i).mark.number)) ∙ c.if-suspension_needs_more.false in
-    let plain : c.way_from-way.result ≢ Marked = λ is. let yes = (rw is at c.eq.ensures) in let no = c.if-eq.false in cc (yes, no) in
+    let enough = sym (c.suspension_needs_more.ensures ∙ (λ i. suspension_needs_more c.placement_from-placement.result (c.self.view_is i).at.number (c.self.view_is i).mark.number)) ∙ c.if-suspension_needs_more.false in
+    let plain : c.placement_from-placement.result ≢ Marked = λ is. let yes = (rw is at c.eq.ensures) in let no = c.if-eq.false in cc (yes, no) in
     let same : c.put_record.result ≡ c.from_residual.result = search rules in
-    record_suspends tells c.args.cut site old hits (formed g f) c.args.plant.now c.put_record.new.plant _ c.way_from-way.result (way_is g f) enough c.from_residual.result (subst (λ (r : Result (Unit {0}) StoreError). ¬ IsErrOf r Spent) same c.put_record.ensures.unspent) plain
+    record_suspends tells c.args.cut site old hits (formed g f) c.args.plant.now c.put_record.new.plant _ c.placement_from-placement.result (placement_is g f) enough c.from_residual.result (subst (λ (r : Result (Unit {0}) StoreError). ¬ IsErrOf r Spent) same c.put_record.ensures.unspent) plain
     (at_error _ c.from_residual.result c.in_err-put_record.field-0.0 (sym same ∙ c.in_err-put_record.was))
 
 pub returns-in_err-put_record-clause-moments : goal.returns-in_err-put_record-clause-moments
 returns-in_err-put_record-clause-moments g c =
-    let f = (goal.at.returns-in_err-put_record-clause-moments g c).After-way_from-way in
+    let f = (goal.at.returns-in_err-put_record-clause-moments g c).After-placement_from-placement in
     let site = c.args.self.now in
     let s = c.self.inside in
     let tells = g.P.Plant.tells in
     let old = g.P.Plant.state c.args.plant.now in
     let hits = c.hits_at-hits.result in
-    let enough = sym (c.suspension_needs_more.ensures ∙ (λ i. suspension_needs_more c.way_from-way.result (c.self.view_is i).at.number (c.self.view_is i).mark.number)) ∙ c.if-suspension_needs_more.false in
-    let plain : c.way_from-way.result ≢ Marked = λ is. let yes = (rw is at c.eq.ensures) in let no = c.if-eq.false in cc (yes, no) in
+    let enough = sym (c.suspension_needs_more.ensures ∙ (λ i. suspension_needs_more c.placement_from-placement.result (c.self.view_is i).at.number (c.self.view_is i).mark.number)) ∙ c.if-suspension_needs_more.false in
+    let plain : c.placement_from-placement.result ≢ Marked = λ is. let yes = (rw is at c.eq.ensures) in let no = c.if-eq.false in cc (yes, no) in
     let same : c.put_record.result ≡ c.from_residual.result = search rules in
     let new = g.P.Plant.state c.put_record.new.plant in
     let low : site.mark.at.number < 2 ^ 64 = omega (arith, ap (λ (x : SiteState). x.mark.at.number) c.self.view_is) in
-    record_does tells c.args.cut site old hits (formed g f) c.way_from-way.result (way_is g f) plain enough low new c.put_record.ensures.only c.from_residual.result
-    (shows_there tells c.way_from-way.result s.journal.marked site.mark.at s.journal.at site.at c.args.cut.0 c.form_hits.new.body.items (pairs_with_next (with_hits hits) site.told) old new c.put_record.result c.from_residual.result (c.self.invariant.marked_is ∙ ap (λ (x : SiteState). x.mark.at) c.self.view_is) (ap (λ (x : SiteState). x.at) c.self.view_is) (items_are g f) same c.put_record.ensures.shows)
+    record_does tells c.args.cut site old hits (formed g f) c.placement_from-placement.result (placement_is g f) plain enough low new c.put_record.ensures.only c.from_residual.result
+    (shows_there tells c.placement_from-placement.result s.journal.marked site.mark.at s.journal.at site.at c.args.cut.0 c.form_hits.new.body.items (pairs_with_next (with_hits hits) site.told) old new c.put_record.result c.from_residual.result (c.self.invariant.marked_is ∙ ap (λ (x : SiteState). x.mark.at) c.self.view_is) (ap (λ (x : SiteState). x.at) c.self.view_is) (items_are g f) same c.put_record.ensures.shows)
     _ (ap (λ (x : SiteState). x.failed) c.self.view_is) (at_error _ c.from_residual.result c.in_err-put_record.field-0.0 (sym same ∙ c.in_err-put_record.was))
 
 pub returns-in_err-put_record-clause-failed : goal.returns-in_err-put_record-clause-failed
@@ -237,62 +237,62 @@ returns-in_err-put_record-clause-failed g c =
 
 pub returns-clause-ok : goal.returns-clause-ok
 returns-clause-ok g c =
-    let f = (goal.at.returns-clause-ok g c).After-way_from-way in
+    let f = (goal.at.returns-clause-ok g c).After-placement_from-placement in
     let site = c.args.self.now in
     let s = c.self.inside in
     let tells = g.P.Plant.tells in
     let old = g.P.Plant.state c.args.plant.now in
     let hits = c.hits_at-hits.result in
-    let enough = sym (c.suspension_needs_more.ensures ∙ (λ i. suspension_needs_more c.way_from-way.result (c.self.view_is i).at.number (c.self.view_is i).mark.number)) ∙ c.if-suspension_needs_more.false in
-    let plain : c.way_from-way.result ≢ Marked = λ is. let yes = (rw is at c.eq.ensures) in let no = c.if-eq.false in cc (yes, no) in
+    let enough = sym (c.suspension_needs_more.ensures ∙ (λ i. suspension_needs_more c.placement_from-placement.result (c.self.view_is i).at.number (c.self.view_is i).mark.number)) ∙ c.if-suspension_needs_more.false in
+    let plain : c.placement_from-placement.result ≢ Marked = λ is. let yes = (rw is at c.eq.ensures) in let no = c.if-eq.false in cc (yes, no) in
     let made_rows = rows_with_hits site.level c.args.cut.0 site.failed site.told in
     let few : are_below 64 site.told ≡ true = subst (λ (l : List PairRow). are_below 64 l ≡ true) (rows_are g f) (rows_below _ site old c.self.view_is c.requires.ready.fast.fits) in
     let made = ap (rows_in_states (with_hits hits)) (rows_are g f) ∙ hits_make_rows site.level c.args.cut site.failed site.told hits (formed g f).are few in
-    let next_is = logged_view _ site old.journals c.way_from-way.result c.args.cut.0 c.form_hits.new.body.items (pairs_with_next (with_hits hits) site.told) made_rows s.told.rows c.take_hits.new.table s.ahead c.put_record.new.journal.at c.self.view_is c.requires.ready.idle
+    let next_is = logged_view _ site old.journals c.placement_from-placement.result c.args.cut.0 c.form_hits.new.body.items (pairs_with_next (with_hits hits) site.told) made_rows s.told.rows c.take_hits.new.table s.ahead c.put_record.new.journal.at c.self.view_is c.requires.ready.idle
     (c.take_hits.ensures ∙ ap (with_rows s.table) made) (ap (λ (x : SiteState). x.is_ahead) c.self.view_is ∙ c.requires.ready.level) c.in_ok-put_record.ensures.at (items_are g f) in
-    record_suspends tells c.args.cut site old hits (formed g f) c.args.plant.now c.put_record.new.plant _ c.way_from-way.result (way_is g f) enough (Ok tt) (λ e. cc e) plain
-    (next_is ∙ plain_behind old.journals c.way_from-way.result c.args.cut.0 (pairs_with_next (with_hits hits) site.told) made_rows site plain)
+    record_suspends tells c.args.cut site old hits (formed g f) c.args.plant.now c.put_record.new.plant _ c.placement_from-placement.result (placement_is g f) enough (Ok tt) (λ e. cc e) plain
+    (next_is ∙ plain_behind old.journals c.placement_from-placement.result c.args.cut.0 (pairs_with_next (with_hits hits) site.told) made_rows site plain)
 
 pub returns-clause-leaves : goal.returns-clause-leaves
 returns-clause-leaves g c =
-    let f = (goal.at.returns-clause-leaves g c).After-way_from-way in
+    let f = (goal.at.returns-clause-leaves g c).After-placement_from-placement in
     let site = c.args.self.now in
     let s = c.self.inside in
     let tells = g.P.Plant.tells in
     let old = g.P.Plant.state c.args.plant.now in
     let hits = c.hits_at-hits.result in
-    let enough = sym (c.suspension_needs_more.ensures ∙ (λ i. suspension_needs_more c.way_from-way.result (c.self.view_is i).at.number (c.self.view_is i).mark.number)) ∙ c.if-suspension_needs_more.false in
-    let plain : c.way_from-way.result ≢ Marked = λ is. let yes = (rw is at c.eq.ensures) in let no = c.if-eq.false in cc (yes, no) in
+    let enough = sym (c.suspension_needs_more.ensures ∙ (λ i. suspension_needs_more c.placement_from-placement.result (c.self.view_is i).at.number (c.self.view_is i).mark.number)) ∙ c.if-suspension_needs_more.false in
+    let plain : c.placement_from-placement.result ≢ Marked = λ is. let yes = (rw is at c.eq.ensures) in let no = c.if-eq.false in cc (yes, no) in
     let made_rows = rows_with_hits site.level c.args.cut.0 site.failed site.told in
     let few : are_below 64 site.told ≡ true = subst (λ (l : List PairRow). are_below 64 l ≡ true) (rows_are g f) (rows_below _ site old c.self.view_is c.requires.ready.fast.fits) in
     let made = ap (rows_in_states (with_hits hits)) (rows_are g f) ∙ hits_make_rows site.level c.args.cut site.failed site.told hits (formed g f).are few in
-    let next_is = logged_view _ site old.journals c.way_from-way.result c.args.cut.0 c.form_hits.new.body.items (pairs_with_next (with_hits hits) site.told) made_rows s.told.rows c.take_hits.new.table s.ahead c.put_record.new.journal.at c.self.view_is c.requires.ready.idle
+    let next_is = logged_view _ site old.journals c.placement_from-placement.result c.args.cut.0 c.form_hits.new.body.items (pairs_with_next (with_hits hits) site.told) made_rows s.told.rows c.take_hits.new.table s.ahead c.put_record.new.journal.at c.self.view_is c.requires.ready.idle
     (c.take_hits.ensures ∙ ap (with_rows s.table) made) (ap (λ (x : SiteState). x.is_ahead) c.self.view_is ∙ c.requires.ready.level) c.in_ok-put_record.ensures.at (items_are g f) in
     let new = g.P.Plant.state c.put_record.new.plant in
     let low : site.mark.at.number < 2 ^ 64 = omega (arith, ap (λ (x : SiteState). x.mark.at.number) c.self.view_is) in
-    let shows = shows_there tells c.way_from-way.result s.journal.marked site.mark.at s.journal.at site.at c.args.cut.0 c.form_hits.new.body.items (pairs_with_next (with_hits hits) site.told) old new c.put_record.result (Ok tt) (c.self.invariant.marked_is ∙ ap (λ (x : SiteState). x.mark.at) c.self.view_is) (ap (λ (x : SiteState). x.at) c.self.view_is) (items_are g f) c.in_ok-put_record.was c.put_record.ensures.shows in
-    subst (λ (x : SiteState). Leaves tells (λ e. e) site x old new) (sym next_is) (record_leaves tells c.args.cut site old hits (formed g f) c.way_from-way.result (way_is g f) plain enough low new c.put_record.ensures.only (Ok tt) shows)
+    let shows = shows_there tells c.placement_from-placement.result s.journal.marked site.mark.at s.journal.at site.at c.args.cut.0 c.form_hits.new.body.items (pairs_with_next (with_hits hits) site.told) old new c.put_record.result (Ok tt) (c.self.invariant.marked_is ∙ ap (λ (x : SiteState). x.mark.at) c.self.view_is) (ap (λ (x : SiteState). x.at) c.self.view_is) (items_are g f) c.in_ok-put_record.was c.put_record.ensures.shows in
+    subst (λ (x : SiteState). Leaves tells (λ e. e) site x old new) (sym next_is) (record_leaves tells c.args.cut site old hits (formed g f) c.placement_from-placement.result (placement_is g f) plain enough low new c.put_record.ensures.only (Ok tt) shows)
 
 pub returns-clause-moments : goal.returns-clause-moments
 returns-clause-moments g c =
-    let f = (goal.at.returns-clause-moments g c).After-way_from-way in
+    let f = (goal.at.returns-clause-moments g c).After-placement_from-placement in
     let site = c.args.self.now in
     let s = c.self.inside in
     let tells = g.P.Plant.tells in
     let old = g.P.Plant.state c.args.plant.now in
     let hits = c.hits_at-hits.result in
-    let enough = sym (c.suspension_needs_more.ensures ∙ (λ i. suspension_needs_more c.way_from-way.result (c.self.view_is i).at.number (c.self.view_is i).mark.number)) ∙ c.if-suspension_needs_more.false in
-    let plain : c.way_from-way.result ≢ Marked = λ is. let yes = (rw is at c.eq.ensures) in let no = c.if-eq.false in cc (yes, no) in
+    let enough = sym (c.suspension_needs_more.ensures ∙ (λ i. suspension_needs_more c.placement_from-placement.result (c.self.view_is i).at.number (c.self.view_is i).mark.number)) ∙ c.if-suspension_needs_more.false in
+    let plain : c.placement_from-placement.result ≢ Marked = λ is. let yes = (rw is at c.eq.ensures) in let no = c.if-eq.false in cc (yes, no) in
     let new = g.P.Plant.state c.put_record.new.plant in
     let low : site.mark.at.number < 2 ^ 64 = omega (arith, ap (λ (x : SiteState). x.mark.at.number) c.self.view_is) in
-    let shows = shows_there tells c.way_from-way.result s.journal.marked site.mark.at s.journal.at site.at c.args.cut.0 c.form_hits.new.body.items (pairs_with_next (with_hits hits) site.told) old new c.put_record.result (Ok tt) (c.self.invariant.marked_is ∙ ap (λ (x : SiteState). x.mark.at) c.self.view_is) (ap (λ (x : SiteState). x.at) c.self.view_is) (items_are g f) c.in_ok-put_record.was c.put_record.ensures.shows in
+    let shows = shows_there tells c.placement_from-placement.result s.journal.marked site.mark.at s.journal.at site.at c.args.cut.0 c.form_hits.new.body.items (pairs_with_next (with_hits hits) site.told) old new c.put_record.result (Ok tt) (c.self.invariant.marked_is ∙ ap (λ (x : SiteState). x.mark.at) c.self.view_is) (ap (λ (x : SiteState). x.at) c.self.view_is) (items_are g f) c.in_ok-put_record.was c.put_record.ensures.shows in
     let made_rows = rows_with_hits site.level c.args.cut.0 site.failed site.told in
     let few : are_below 64 site.told ≡ true = subst (λ (l : List PairRow). are_below 64 l ≡ true) (rows_are g f) (rows_below _ site old c.self.view_is c.requires.ready.fast.fits) in
     let made = ap (rows_in_states (with_hits hits)) (rows_are g f) ∙ hits_make_rows site.level c.args.cut site.failed site.told hits (formed g f).are few in
-    let next_is = logged_view _ site old.journals c.way_from-way.result c.args.cut.0 c.form_hits.new.body.items (pairs_with_next (with_hits hits) site.told) made_rows s.told.rows c.take_hits.new.table s.ahead c.put_record.new.journal.at c.self.view_is c.requires.ready.idle
+    let next_is = logged_view _ site old.journals c.placement_from-placement.result c.args.cut.0 c.form_hits.new.body.items (pairs_with_next (with_hits hits) site.told) made_rows s.told.rows c.take_hits.new.table s.ahead c.put_record.new.journal.at c.self.view_is c.requires.ready.idle
     (c.take_hits.ensures ∙ ap (with_rows s.table) made) (ap (λ (x : SiteState). x.is_ahead) c.self.view_is ∙ c.requires.ready.level) c.in_ok-put_record.ensures.at (items_are g f) in
-    record_does tells c.args.cut site old hits (formed g f) c.way_from-way.result (way_is g f) plain enough low new c.put_record.ensures.only (Ok tt) shows _ (ap (λ (x : SiteState). x.failed) c.self.view_is)
-    (next_is ∙ plain_behind old.journals c.way_from-way.result c.args.cut.0 (pairs_with_next (with_hits hits) site.told) made_rows site plain)
+    record_does tells c.args.cut site old hits (formed g f) c.placement_from-placement.result (placement_is g f) plain enough low new c.put_record.ensures.only (Ok tt) shows _ (ap (λ (x : SiteState). x.failed) c.self.view_is)
+    (next_is ∙ plain_behind old.journals c.placement_from-placement.result c.args.cut.0 (pairs_with_next (with_hits hits) site.told) made_rows site plain)
 
 pub returns-clause-failed : goal.returns-clause-failed
 returns-clause-failed g c =

@@ -1,6 +1,6 @@
 use Rattle.std.proofs.Common.{rules, arith, ◌≡◌, ◌<◌, ◌∷◌, [], length, Some, refl, sym, ap, ◌∙◌, subst, length-append}
 use Rattle.group_state.specs.Calls.{is_by_reader}
-use Rattle.turn_group.specs.Seats.{SeatView, KeepsView, reader_note, reader_view, new_reader}
+use Rattle.turn_group.specs.Seats.{SeatView, IsViewSound, reader_note, reader_view, new_reader}
 use Rattle.turn_group.proofs.Splitting.{split_more, split_seat, readers_more, new_places}
 use Rattle.turn_group.proofs.group.TurnGroup.make.Goals as goal
 
@@ -9,7 +9,7 @@ invariant_of-push_reserved c =
     let k = c.loop-control.control in
     let lt : k < length c.args.state.controls = omega (arith, c.loop-control-test.true, c.controls-controls.ensures.count) in
     let is = split_seat c.split-seat.result.place.table_id c.args.state k c.loop-control.mover.place.me.0 c.split-seat.result.place.me.0 lt c.loop-control.invariant.view c.split-seat.ensures.reader in
-    subst (λ (z : SeatView). KeepsView (reader_note k z.notes) (is_by_reader k) z) (sym is) (record { noted = refl; begun = refl; kept = c.controls-controls.ensures.kept; own = refl; unjoined = refl })
+    subst (λ (z : SeatView). IsViewSound (reader_note k z.notes) (is_by_reader k) z) (sym is) (record { noted = refl; begun = refl; kept = c.controls-controls.ensures.kept; own = refl; unjoined = refl })
 
 pub loop-control-preserved : goal.loop-control-preserved
 loop-control-preserved c =

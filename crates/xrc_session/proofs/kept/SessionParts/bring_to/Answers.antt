@@ -8,7 +8,7 @@ use Rattle.xrc_session.specs.LinePauses.{IsReadyForEpoch}
 use Rattle.xrc_session.specs.Bringing.{IsWorkOfStore}
 use Rattle.xrc_session.proofs.Brought.{all_went, brings_badly, brings_well, epoch_may, hits_by_counts, is_brought, lanes_few, lanes_may, none_taken, ready_again, stays_so, taken}
 use Rattle.xrc_session.proofs.BroughtWorks.{works_badly, works_well, works_without}
-use Rattle.xrc_session.proofs.kept.Kept.bring_to.Goals as goal
+use Rattle.xrc_session.proofs.kept.SessionParts.bring_to.Goals as goal
 
 pub unreachable-requires : goal.unreachable-requires
 unreachable-requires g c =

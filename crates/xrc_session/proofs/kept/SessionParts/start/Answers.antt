@@ -20,9 +20,9 @@ use Rattle.xrc_session.proofs.Readying.{broken_alone}
 use Rattle.xrc_session.proofs.Started.{first_group, formats_on, ready_at_start, safe_then, site_started, start_before, starts_runs}
 use Rattle.xrc_session.proofs.StartedWorks.{none_worked, works_then}
 use Rattle.xrc_session.proofs.StartWorks.{err_as}
-use Rattle.xrc_session.proofs.kept.Kept.start.Given as given
-use Rattle.xrc_session.proofs.kept.Kept.start.Goals as goal
-use Rattle.xrc_session.proofs.kept.Kept.start.Goals.{After-bring_to}
+use Rattle.xrc_session.proofs.kept.SessionParts.start.Given as given
+use Rattle.xrc_session.proofs.kept.SessionParts.start.Goals as goal
+use Rattle.xrc_session.proofs.kept.SessionParts.start.Goals.{After-bring_to}
 
 pub format-requires-clause-time : goal.format-requires-clause-time
 format-requires-clause-time g c κs within = c.requires.may.time

@@ -9,14 +9,14 @@ use Rattle.xrc_status.specs.declared.stop.Stop.{Stop}
 use Rattle.xrc_status.specs.declared.stop.Stop.TheVariants as stops
 use Rattle.xrc_session.specs.Answering.{ControlsCount, LogsCommands, change_result}
 use Rattle.xrc_session.specs.Bringing.{IsWorkOfStore}
-use Rattle.xrc_session.specs.Taking.{KeepsForRows, MayTake}
+use Rattle.xrc_session.specs.Taking.{IsSoundForRows, MayTake}
 use Rattle.xrc_session.proofs.AnswerCalls.{log_stops, log_untaken, log_works}
 use Rattle.xrc_session.proofs.AnswerChanges.{may_change, may_take_logged, site_behind}
 use Rattle.xrc_session.proofs.AnswerLogging.{logging_stops, taking_ends, taking_stops}
 use Rattle.xrc_session.proofs.AnswerTaken.{keeps_given, none_missing, may_given, taken_over, that_is_there, tracks_of_group, tracks_taken}
 use Rattle.xrc_session.proofs.AnswerWorks.{store_fault}
 use Rattle.xrc_session.proofs.Numbered.{given_on}
-use Rattle.xrc_session.proofs.kept.Kept.log.Goals as goal
+use Rattle.xrc_session.proofs.kept.SessionParts.log.Goals as goal
 
 pub log_change-requires-clause-may : goal.log_change-requires-clause-may
 log_change-requires-clause-may g c κs within =
@@ -47,7 +47,7 @@ returns-in-Err-clause-answers g c told began was d run stage asked l first point
 -- ---- it is taken over
 
 pub unreachable-requires : goal.unreachable-requires
-unreachable-requires g c = none_missing (λ group. KeepsForRows group c.args.self.now.before.rows.items) c.args.self.now.group c.in_default.is c.requires.kept
+unreachable-requires g c = none_missing (λ group. IsSoundForRows group c.args.self.now.before.rows.items) c.args.self.now.group c.in_default.is c.requires.kept
 
 pub take_change-requires-clause-kept : goal.take_change-requires-clause-kept
 take_change-requires-clause-kept g c =
@@ -63,7 +63,7 @@ take_change-requires-clause-may g c =
     let site = c.args.site.now in
     let next = c.log_change.new.self in
     let behind = site_behind g.P.Plant.tells c.args.self.now.names c.args.line.now c.args.change.now before site next old new c.args.plant.now c.log_change.new.plant h c.in-Ok.ensures.leaves c.in-Ok.ensures.ok c.log_change.ensures.failed c.log_change.ensures.others.site in
-    let kept = that_is_there (λ group. KeepsForRows group before) c.args.self.now.group c.in-Some.group c.in-Some.is c.requires.kept in
+    let kept = that_is_there (λ group. IsSoundForRows group before) c.args.self.now.group c.in-Some.group c.in-Some.is c.requires.kept in
     let live = that_is_there (ControlsCount c.args.self.now.names) c.args.self.now.group c.in-Some.group c.in-Some.is c.requires.live in
     may_given c.args.change.now c.in-Some.group c.args.self.now.group c.in-Some.is before c.as_slice.result.now c.table.result.now.rows next.told c.as_slice.ensures (ap (λ (t : Table). t.rows) c.table.ensures.table ∙ sym behind.may.idle.same)
     (subst (λ (rows : List PairRow). MayTake c.in-Some.group c.args.change.now before rows) (sym behind.may.idle.same)
@@ -99,7 +99,7 @@ pub returns-clause-kept : goal.returns-clause-kept
 returns-clause-kept g c =
     let behind = site_behind g.P.Plant.tells c.args.self.now.names c.args.line.now c.args.change.now c.args.self.now.before.rows.items c.args.site.now c.log_change.new.self (g.P.Plant.state c.args.plant.now) (g.P.Plant.state c.log_change.new.plant)
     c.args.plant.now c.log_change.new.plant c.requires.may c.in-Ok.ensures.leaves c.in-Ok.ensures.ok c.log_change.ensures.failed c.log_change.ensures.others.site in
-    subst (λ (rows : List PairRow). KeepsForRows c.take_change.new.group rows) (ap (λ (t : Table). t.rows) c.table.ensures.table ∙ sym behind.may.idle.same) c.in_ok-take_change.ensures.kept
+    subst (λ (rows : List PairRow). IsSoundForRows c.take_change.new.group rows) (ap (λ (t : Table). t.rows) c.table.ensures.table ∙ sym behind.may.idle.same) c.in_ok-take_change.ensures.kept
 
 pub returns-clause-quiet : goal.returns-clause-quiet
 returns-clause-quiet g c none = (c.in-Ok.ensures.ok.nothing none).1
@@ -120,7 +120,7 @@ returns-clause-taken g c =
 
 pub returns-clause-works : goal.returns-clause-works
 returns-clause-works g c =
-    let kept = that_is_there (λ group. KeepsForRows group c.args.self.now.before.rows.items) c.args.self.now.group c.in-Some.group c.in-Some.is c.requires.kept in
+    let kept = that_is_there (λ group. IsSoundForRows group c.args.self.now.before.rows.items) c.args.self.now.group c.in-Some.group c.in-Some.is c.requires.kept in
     log_works g.P.Plant.tells c.args.self.now.names c.args.line.now c.args.change.now c.args.self.now.before.rows.items c.args.site.now c.log_change.new.self (g.P.Plant.state c.args.plant.now) (g.P.Plant.state c.log_change.new.plant)
     c.args.plant.now c.log_change.new.plant c.requires.may c.log_change.ensures.others kept.apart c.log_change.ensures.failed c.in-Ok.ensures.cause c.in-Ok.ensures.ok c.in_ok-take_change.field-0
 

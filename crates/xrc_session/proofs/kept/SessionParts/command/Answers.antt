@@ -1,19 +1,19 @@
 -- A line's command is done, or refused.
 use Rattle.std.proofs.Common.{◌≡◌, ◌∙◌, ℕ, List, Result, Ok, Err, ap, arith, refl, subst, sym}
 use Rattle.std.specs.Option.{option_map}
-use Rattle.pair_table.specs.Tables.{KeepsRows, Table}
+use Rattle.pair_table.specs.Tables.{AreRowsSound, Table}
 use Rattle.pair_table.specs.declared.row.PairRow.{PairRow}
 use Rattle.xrc_status.specs.declared.stop.Stop.{Stop}
 use Rattle.xrc_session.specs.declared.answering.LineAnswer.{LineAnswer}
 use Rattle.xrc_session.specs.Answering.{AnswersCommands, ControlsCount, change_result, group_taken}
 use Rattle.xrc_session.specs.Bringing.{IsWorkOfStore}
-use Rattle.xrc_session.specs.Taking.{KeepsForRows}
+use Rattle.xrc_session.specs.Taking.{IsSoundForRows}
 use Rattle.xrc_session.proofs.AnswerCalls.{work_done_as, work_stopped_as}
 use Rattle.xrc_session.proofs.AnswerChanges.{was_goes}
 use Rattle.xrc_session.proofs.AnswerDone.{changed_site, changed_work, done_from, kept_before, may_log_change, some_second}
 use Rattle.xrc_session.proofs.AnswerGiven.{answers_logged, refused_in_runs, refused_keeps, refused_stands, refused_taken, refused_work, stops_in_runs, stops_work, was_done, was_refused, without_memory}
 use Rattle.xrc_session.proofs.Numbered.{given_on}
-use Rattle.xrc_session.proofs.kept.Kept.command.Goals as goal
+use Rattle.xrc_session.proofs.kept.SessionParts.command.Goals as goal
 
 -- ---- there is no memory for it
 
@@ -44,7 +44,7 @@ pub log-requires-clause-may : goal.log-requires-clause-may
 log-requires-clause-may g c κs within =
     let d = was_done c.args.self.now.names c.args.line.now c.args.site.now c.command-done.new.self c.command-done.result c.answer_of.result c.in_ok-answer.answer c.in-Ok.change c.answer_of.ensures c.in_ok-answer.was c.in-Ok.is c.command-done.ensures.ok c.command-done.ensures.answer c.command-done.ensures.to_log in
     may_log_change g.P.Plant.tells c.args.self.now.names c.args.line.now c.args.site.now c.command-done.new.self (g.P.Plant.state c.args.plant.now) c.requires.may c.in-Ok.change d.is d.done c.copy.new.self.rows.items
-    (c.copy.ensures ∙ ap (λ (t : Table). t.rows) c.table.ensures.table) c.requires.at c.command-done.ensures.again (subst KeepsRows (ap (λ (t : Table). t.rows) c.table-2.ensures.table) c.len.ensures.rules) d.to_log
+    (c.copy.ensures ∙ ap (λ (t : Table). t.rows) c.table.ensures.table) c.requires.at c.command-done.ensures.again (subst AreRowsSound (ap (λ (t : Table). t.rows) c.table-2.ensures.table) c.len.ensures.rules) d.to_log
 
 pub log-requires-clause-kept : goal.log-requires-clause-kept
 log-requires-clause-kept g c κs within =
@@ -58,7 +58,7 @@ log-requires-clause-live g c κs within =
     let names = c.args.self.now.names in
     let plant = g.P.Plant.state c.args.plant.now in
     let from = done_from g.P.Plant.tells names c.args.line.now c.args.site.now c.command-done.new.self plant c.requires.may c.in-Ok.change d.is d.done in
-    some_second (λ group. KeepsForRows group c.args.site.now.told) (ControlsCount names) c.args.self.now.group (c.requires.kept (was_goes names c.args.line.now c.in-Ok.change c.args.site.now c.command-done.new.self plant from))
+    some_second (λ group. IsSoundForRows group c.args.site.now.told) (ControlsCount names) c.args.self.now.group (c.requires.kept (was_goes names c.args.line.now c.in-Ok.change c.args.site.now c.command-done.new.self plant from))
 
 -- ---- its change can't be logged
 

@@ -7,7 +7,7 @@ use Rattle.xrc_session.specs.Bringing.{IsWorkOfStore}
 use Rattle.xrc_session.proofs.AnswerEnding.{end_done, end_stops}
 use Rattle.xrc_session.proofs.AnswerEnds.{answered_end, answered_on, ended_work, next_ended, stopped_work}
 use Rattle.xrc_session.proofs.Numbered.{given_on}
-use Rattle.xrc_session.proofs.kept.Kept.answer.Goals as goal
+use Rattle.xrc_session.proofs.kept.SessionParts.answer.Goals as goal
 
 -- ---- the command stops
 
