@@ -1,6 +1,7 @@
 pub mod Lists
 pub mod Entries
 pub mod Changing
+pub mod SlotFronts
 pub mod Reading
 pub mod Going
 pub mod Bodying

@@ -13,8 +13,27 @@ use pending_queue::{EntryHead, Formed};
 use xrc_edge::Failed;
 use xrc_journal::VolumeJob;
 
+/// How many bytes of a slot are read first. Most images lie whole in them, and they end with the page of 4,096 bytes in which the
+/// slot begins.
+const FRONT_LENGTH: usize = 3_584;
+
 /// Reads the track that its slot on the volume holds. One that holds none gives the empty track.
 fn read_track<D: Disk>(disk: &mut D, track: u32, slot: &mut Slot) -> Result<(), Failed>
+    requires { slot_end track ≤ (D.state disk.old).length_is }
+    ensures track { D.tells → OnOk result (slot.new ≡ unwrap_or (slot_track (D.state disk.old).bytes track) []) }
+    ensures reads { Reads D.state D.tells disk.old disk.new result }
+{
+    let mut front = [0; FRONT_LENGTH];
+    disk.read(slot_place(track), &mut front)?;
+    match slot.load(&front) {
+        Ok(_) => Ok(()),
+        Err(_) => read_whole_slot(disk, track, slot),
+    }
+}
+
+/// Does the same from the whole slot. It is a call of its own, so that no other pays for the long buffer.
+#[inline(never)]
+fn read_whole_slot<D: Disk>(disk: &mut D, track: u32, slot: &mut Slot) -> Result<(), Failed>
     requires { slot_end track ≤ (D.state disk.old).length_is }
     ensures track { D.tells → OnOk result (slot.new ≡ unwrap_or (slot_track (D.state disk.old).bytes track) []) }
     ensures reads { Reads D.state D.tells disk.old disk.new result }

@@ -177,14 +177,15 @@ const BOTH: [u8; 75] = [
 const GOOD: (bool, bool) = (false, false);
 
 /// No call fails; the images of a volume whose read fails are left out, and the reads of both are done again after one of them failed;
-/// no volume is read oftener than its tracks ask for; and a job that had failed is left alone.
-const WORKED: [Row<'static>; 9] = [
+/// a slot whose front holds no track is read once more, and no volume oftener than so; and a job that had failed is left alone.
+const WORKED: [Row<'static>; 10] = [
     ((None, None), GOOD, &BOTH, GOOD),
     ((Some(0), None), GOOD, &SECOND, (true, false)),
     ((Some(1), None), GOOD, &SECOND, (true, false)),
     ((None, Some(0)), GOOD, &FIRST, (false, true)),
     ((Some(1), Some(1)), GOOD, &[], (true, true)),
-    ((Some(2), Some(1)), GOOD, &BOTH, GOOD),
+    ((Some(2), None), GOOD, &SECOND, (true, false)),
+    ((Some(3), Some(1)), GOOD, &BOTH, GOOD),
     ((Some(0), None), (true, false), &SECOND, (true, false)),
     ((None, Some(0)), (false, true), &FIRST, (false, true)),
     ((Some(0), Some(0)), (true, true), &[], (true, true)),
