@@ -35,14 +35,14 @@ use Rattle.xrc_session.specs.Frames.{ChangesRows, KeepsPlant}
 use Rattle.xrc_session.specs.Runs.{AreLabels, GivesLabel, IsRunOfScript}
 use Rattle.xrc_session.specs.Runs.AreLabels.{Given, Last}
 use Rattle.xrc_session.specs.Lanes.{SourceBytes}
-use Rattle.xrc_session.specs.Starting.{AreOwnSpent, BeginsRun, FormatsFirst, HearsStart, IsUnsaid, LeavesVolumes, MeansStart, ShutsOrStarts, StartsBehind, level_started, reply_to_start}
+use Rattle.xrc_session.specs.Starting.{AreOwnSpent, BeginsRun, FormatsFirst, HasRepliedToStart, HearsStart, IsSafeNow, IsUnsaid, LeavesVolumes, MeansStart, ShutsOrStarts, StartsBehind, level_started, reply_to_start}
 use Rattle.xrc_session.specs.Starting.BeginsRun.{Starting, Unstarted}
 use Rattle.xrc_session.specs.Stops.{HasRunCause, HasStopCause, IsSpentNow}
 use Rattle.xrc_session.specs.Trails.{GoesForth, Trail, first_leg, StandsOnTrail}
 use Rattle.xrc_session.proofs.InTurn.{keeps_console, keeps_then}
 use Rattle.xrc_session.proofs.RowFrames.{changes_rows_none, changes_rows_then}
 use Rattle.xrc_session.proofs.WrittenLines.{written_still}
-use Rattle.xrc_session.proofs.SafeStarts.{leaves_console, leaves_then}
+use Rattle.xrc_session.proofs.SafeStarts.{leaves_console, leaves_then, now_then, replied_later}
 use Rattle.xrc_session.proofs.Started.{formats_on}
 
 -- ---- counts
@@ -349,11 +349,15 @@ module _ (tells : Type 0) (told : tells) (stop : Stop) (session : List ℕ) (old
     pub behind_still : StartsBehind session level at old new
     behind_still = elim b.reached [ inl whole ↦ replied_before whole | inr end ↦ unreplied end ]
 
+  ends_still : (level : Level) (at : ℕ) → HasRepliedToStart level at old mid ⊎ IsSafeNow session level at old mid → HasRepliedToStart level at old new ⊎ IsSafeNow session level at old new
+  ends_still level at (inl replied) = inl (replied_later level at old mid new (says_grows (last_line stop) mid new on_to (last.front.moments told)) replied)
+  ends_still level at (inr safe) = inr (now_then session level at old mid new on_to works.site (leaves_console tells mid new told works) safe)
+
   -- What a run has begun it has begun still.
   pub begins_still : BeginsRun session old mid → BeginsRun session old new
   begins_still (Unstarted leaves) = Unstarted (leaves_then old mid new since leaves gone (leaves_console tells mid new told works))
-  begins_still (Starting level at hears behind) = Starting level at (hears_still level at hears) (λ up durable. behind_still level at up (behind up durable))
+  begins_still (Starting level at hears ends behind) = Starting level at (hears_still level at hears) (ends_still level at ends) (λ up durable. behind_still level at up (behind up durable))
 
 -- Numbers, lengths and the past are kept.
 pub keeps_still : (tells : Type 0) (stop : Stop) (session : List ℕ) (old mid new : PlantState) → KeepsPlant tells old mid → SaysLast tells (last_line stop) mid new → KeepsPlant tells old new
-keeps_still tells stop session old mid new keeps last = keeps_then tells old mid new keeps (keeps_console tells mid new last.front.only (λ told. says_grows (last_line stop) mid new (last.front.moments told)) keeps.home)
+keeps_still tells stop session old mid new keeps last = keeps_then tells old mid new keeps (keeps_console tells mid new last.front.only (λ told. says_grows (last_line stop) mid new ((last.front.only.elapses told).kept Control).later (last.front.moments told)) keeps.home)

@@ -5,7 +5,7 @@ use Rattle.std.proofs.lemmas.Bool.{and_from, and_parts}
 use Rattle.tod_stamp.specs.declared.stamp.Stamp.{Stamp}
 use Rattle.crash_plant.specs.declared.device.Device.{Device}
 use Rattle.crash_plant.specs.declared.device.Device.TheVariants.{Control, State, Journal, Volume}
-use Rattle.crash_plant.specs.Calls.{NoneLent, SameSite, WorksOn}
+use Rattle.crash_plant.specs.Calls.{NoneLent, WorksOn}
 use Rattle.crash_plant.specs.Choices.{Choice, IsChoice}
 use Rattle.crash_plant.specs.Moments.{Follows, IsDurable, PlantState, Same, on}
 use Rattle.crash_plant.proofs.Behind.{same_after}
@@ -35,11 +35,11 @@ use Rattle.site_store.proofs.LogReads.{fits_still, stands_read}
 use Rattle.xrc_status.specs.declared.stop.Stop.{Stop}
 use Rattle.xrc_status.specs.declared.stop.Stop.TheVariants as stops
 use Rattle.xrc_session.specs.LinePauses.{MayCommandSite}
-use Rattle.xrc_session.specs.Runs.{AreLabels}
+use Rattle.xrc_session.specs.Runs.{AreLabelsRead}
 use Rattle.xrc_session.specs.Starting.{FormatsFirst, IsSafeThroughout, IsWorkOfStart, MeansStart, ShutsOrStarts, ShutsSite}
 use Rattle.xrc_session.specs.Stops.{HasStopCause, StopsByCount, stop_of_store}
 use Rattle.xrc_session.proofs.BroughtWorks.{cause_of_device, spent_store}
-use Rattle.xrc_session.proofs.Labelled.{labels_since}
+use Rattle.xrc_session.proofs.Labelled.{read_since}
 
 -- any device
 abbrev pub IsAnyDevice : Device → Type 0
@@ -47,12 +47,6 @@ IsAnyDevice d = Unit {0}
 
 pub on_any : (tells : Type 0) (among : Device → Type 0) (old new : PlantState) → WorksOn tells among old new → WorksOnLent tells IsAnyDevice old new
 on_any tells among old new works = works_lent_more tells among IsAnyDevice old new (λ d is. tt) (lent_of_works tells among old new works)
-
--- ---- labels
-
--- Labels that were read behind calls which left the volumes are those that these had before.
-pub labels_before : (old mid new : PlantState) → SameSite old mid → ((d : ℕ) → mid.bytes (Volume d) ≡ old.bytes (Volume d)) → ((d : ℕ) → mid.faults (Volume d) ≡ old.faults (Volume d)) → (from : ℕ) (labels : List NamedDevice) → AreLabels mid new from labels → AreLabels old new from labels
-labels_before old mid new site bytes faults from labels are = labels_since old mid new from labels site bytes (λ d. omega (arith, faults d)) are
 
 -- ---- safe
 
@@ -180,8 +174,8 @@ module _ (tells : Type 0) (session : List ℕ) (level : Level) (controls : ℕ) 
     images = λ told d. same_after (on old (Volume d)) (on mid (Volume d)) (on new (Volume d)) Same ((formats.elapses told).kept (Volume d)) (first_stay.images told d) ((reads.elapses told).kept (Volume d)) (stay.images told d);
   }
 
-  pub labels_of_start : tells → (labels : List NamedDevice) → AreLabels mid new 0 labels → AreLabels old new 0 labels
-  labels_of_start told labels are = labels_before old mid new formats.site (first_stay.bytes told) (λ d. formats.others_faults (Volume d) (not_formatted d)) 0 labels are
+  pub labels_of_start : tells → (labels : List NamedDevice) → AreLabelsRead mid new labels → AreLabelsRead old new labels
+  labels_of_start told labels read = read_since old mid new labels formats.site (first_stay.bytes told) (λ d. formats.others_faults (Volume d) (not_formatted d)) read
 
   pub stands_still : tells → (site : SiteState) → SiteStands none_excepted site mid → SiteStands none_excepted site new
   stands_still told site stands =

@@ -145,7 +145,7 @@ pub keeps_here : (tells : Type 0) (old : PlantState) → NoneLent old → (tells
 keeps_here tells old home past = record { site = record { journals = refl; volumes = refl; lengths = λ d. refl }; home = home; elapses = past; grows = λ told. here_grows old }
 
 pub keeps_lent : (tells : Type 0) (among : Device → Type 0) (old new : PlantState) → WorksOnLent tells among old new → NoneLent old → KeepsPlant tells old new
-keeps_lent tells among old new works home = record { site = works.site; home = λ v there. works.is_lent v ∙ home v (omega (arith, there, works.site.volumes)); elapses = works.elapses; grows = λ told. silent_grows old new (works.silent told).said }
+keeps_lent tells among old new works home = record { site = works.site; home = λ v there. works.is_lent v ∙ home v (omega (arith, there, works.site.volumes)); elapses = works.elapses; grows = λ told. silent_grows old new ((works.elapses told).kept Control).later (works.silent told).said }
 
 pub keeps_then : (tells : Type 0) (old mid new : PlantState) → KeepsPlant tells old mid → KeepsPlant tells mid new → KeepsPlant tells old new
 keeps_then tells old mid new x y = record {

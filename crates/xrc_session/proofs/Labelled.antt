@@ -1,20 +1,22 @@
 -- Volumes that are named by their labels.
-use Rattle.std.proofs.Common.{◌≡◌, inl, inr, ℕ, zero, suc, ◌+◌, ◌*◌, ◌<◌, ◌≤◌, ◌&&◌, true, nat_lt, nat_le, List, [], ◌∷◌, ◌++◌, take, Result, Ok, Err, refl, sym, ap, subst, ◌∙◌, append-nil, append_assoc, add-one, arith}
-use Rattle.std.specs.Prelude.{OnErr, OnOk, IsTrue}
-use Rattle.std.specs.List.{list_all}
+use Rattle.std.proofs.Common.{◌≡◌, inl, inr, ℕ, zero, suc, ◌+◌, ◌*◌, ◌<◌, ◌≤◌, ◌&&◌, true, nat_lt, nat_le, List, [], ◌∷◌, ◌++◌, take, Option, Some, None, Result, Ok, Err, refl, sym, ap, subst, ◌∙◌, append-nil, append_assoc, add-one, arith}
+use Rattle.std.specs.Prelude.{OnErr, OnOk, IsTrue, slice_index_or}
+use Rattle.std.specs.List.{All, list_all}
 use Rattle.std.proofs.lemmas.Bool.{and_from, and_parts, cases_eq, lt-ltb}
+use Rattle.std.proofs.lemmas.List.Elements.{All-append, All-cons, All-nil}
 use Rattle.std.proofs.lemmas.List.Folds.{list_all-append}
 use Rattle.crash_plant.specs.declared.device.Device.TheVariants.{Volume}
 use Rattle.crash_plant.specs.Calls.{SameSite, WorksOn}
-use Rattle.crash_plant.proofs.Steps.{works_on_more, works_on_trans}
+use Rattle.crash_plant.proofs.Steps.{works_on_here, works_on_more, works_on_trans}
 use Rattle.crash_plant.specs.Moments.{Follows, PlantState, Same, on}
 use Rattle.pair_table.specs.declared.names.NamedDevice.{NamedDevice}
 use Rattle.pair_table.specs.Naming.{Naming, with_label}
 use Rattle.site_store.specs.Commands.{LabelsFit, label_has_volume}
 use Rattle.site_store.specs.Records.{IsVolume, VolumesStay}
-use Rattle.site_store.proofs.VolumesStaying.{stay_then}
+use Rattle.site_store.proofs.VolumesStaying.{stay_here, stay_then}
+use Rattle.volume_label.specs.declared.label.Label.{Label}
 use Rattle.volume_label.specs.Labels.{holds_cylinders, label_of}
-use Rattle.xrc_session.specs.Runs.{AreLabels, GivesLabel, NamesLabel, front_of_volume, named_by}
+use Rattle.xrc_session.specs.Runs.{AreLabels, AreLabelsRead, GivesLabel, IsFaultless, NamesLabel, front_of_volume, named_by}
 use Rattle.xrc_session.specs.Runs.AreLabels.{Given, Last}
 
 -- ---- one volume
@@ -29,6 +31,34 @@ stay_by_read tells device old new same moments works = record {
     | inr other ↦ (works.others told (Volume d) (λ is. other (cc is))).images
   ];
 }
+
+-- It gave its label, and its count is as before.
+pub names_its : {E : Type 0} (result : Result (Unit {0}) E) (old new : PlantState) (d : ℕ) (was now : Naming) (label : Label) → label_of (old.lengths (Volume d)) (front_of_volume old d) ≡ Some label → new.faults (Volume d) ≡ old.faults (Volume d)
+    → OnOk result (now ≡ with_label (record { device = d; serial = label.serial; cylinders = label.cylinders }) was) → OnOk result (NamesLabel old new d was now)
+names_its (Ok x) old new d was now label is same named =
+    let its : NamedDevice = record { device = d; serial = label.serial; cylinders = label.cylinders } in
+    record { labels = its ∷ []; gives = inl (ap (named_by d) (sym is)); faultless = All-cons (IsFaultless old new) its [] same (All-nil (IsFaultless old new)); are = named }
+names_its (Err e) old new d was now label is same named = tt
+
+-- It gave none.
+pub names_none : (old new : PlantState) (d : ℕ) (names : Naming) → GivesLabel old new d [] → NamesLabel old new d names names
+names_none old new d names gives = record {
+  labels = [];
+  gives = gives;
+  faultless = All-nil (IsFaultless old new);
+  are = ap (λ (labels : List NamedDevice). record names { labels = labels }) (sym (append-nil names.labels));
+}
+
+-- What a volume gives is its own.
+gives_own : (old new : PlantState) (d : ℕ) (labels : List NamedDevice) → GivesLabel old new d labels → All (λ (l : NamedDevice). l.device ≡ d) labels
+gives_own old new d labels gives = elim gives [
+  | inl its ↦ subst (All (λ (l : NamedDevice). l.device ≡ d)) (sym its) (of (label_of (old.lengths (Volume d)) (front_of_volume old d)))
+  | inr none ↦ subst (All (λ (l : NamedDevice). l.device ≡ d)) (sym none.0) (All-nil (λ (l : NamedDevice). l.device ≡ d))
+]
+  where
+    of : (o : Option Label) → All (λ (l : NamedDevice). l.device ≡ d) (named_by d o)
+    of None = All-nil (λ (l : NamedDevice). l.device ≡ d)
+    of (Some label) = All-cons (λ (l : NamedDevice). l.device ≡ d) (record { device = d; serial = label.serial; cylinders = label.cylinders }) [] refl (All-nil (λ (l : NamedDevice). l.device ≡ d))
 
 -- ---- labels that fit
 
@@ -93,7 +123,11 @@ are_labels old new (suc n) all more within gave rest =
     let here = Given n labels more (omega arith) gives (rw add-one rest) in
     subst (AreLabels old new 0) (sym (append_assoc before labels more) ∙ ap (λ (l : List NamedDevice). l ++ more) (sym are)) (are_labels old new n before (labels ++ more) (omega arith) earlier here)
 
--- The volumes below a number were named by their labels.
+-- A label is of a volume below a number, which had no fault.
+abbrev pub IsFaultlessBelow : (old now : PlantState) → (below : ℕ) → NamedDevice → Type 0
+IsFaultlessBelow old now below l = (l.device < below) × IsFaultless old now l
+
+-- The volumes below a number were named by their labels, and the others weren't read.
 pub record IsLabelled (tells : Type 0) (old now : PlantState) (was names : Naming) (below : ℕ) : Type 0 where
   pub primaries : names.primaries ≡ was.primaries
   pub broken : names.broken ≡ was.broken
@@ -101,6 +135,21 @@ pub record IsLabelled (tells : Type 0) (old now : PlantState) (was names : Namin
   pub stay : VolumesStay tells old now
   pub works : WorksOn tells IsVolume old now
   pub gave : tells → Gave old now below names.labels
+  pub faultless : tells → All (IsFaultlessBelow old now below) names.labels
+  pub unread : (d : ℕ) → below ≤ d → now.faults (Volume d) ≡ old.faults (Volume d)
+
+-- None was yet.
+pub labelled_none : (tells : Type 0) (now : PlantState) (names : Naming) → names.labels ≡ [] → IsLabelled tells now now names names 0
+labelled_none tells now names none = record {
+  primaries = refl;
+  broken = refl;
+  fit = ap (list_all (label_has_volume now)) none;
+  stay = stay_here tells now;
+  works = works_on_here tells IsVolume now;
+  gave = λ told. none;
+  faultless = λ told. subst (All (IsFaultlessBelow now now 0)) (sym none) (All-nil (IsFaultlessBelow now now 0));
+  unread = λ d later. refl;
+}
 
 module _ (tells : Type 0) (old mid new : PlantState) (was names : Naming) (n : ℕ) (so_far : IsLabelled tells old mid was names n) (stay : VolumesStay tells mid new) (works : WorksOn tells (λ d. d ≡ Volume n) mid new) where
   abbrev step : WorksOn tells IsVolume mid new
@@ -117,6 +166,21 @@ module _ (tells : Type 0) (old mid new : PlantState) (was names : Naming) (n : �
       let here = gives_since old mid new n named.labels so_far.works.site (so_far.stay.bytes told n) (so_far.works.faults (Volume n)) named.gives in
       (names.labels, named.labels, ap (λ (m : Naming). m.labels) named.are, here, gave_still old mid new n names.labels (λ d. so_far.works.faults (Volume d)) (λ d. works.faults (Volume d)) (so_far.gave told))
 
+  -- The counts of the other volumes are as they were.
+  unread_next : (d : ℕ) → ¬ d ≡ n → new.faults (Volume d) ≡ mid.faults (Volume d)
+  unread_next d other = works.others_faults (Volume d) (λ is. other (cc is))
+
+  faultless_next : (next : Naming) → tells → NamesLabel mid new n names next → All (IsFaultlessBelow old new (suc n)) next.labels
+  faultless_next next told named =
+      subst (All (IsFaultlessBelow old new (suc n))) (sym (ap (λ (m : Naming). m.labels) named.are))
+      (All-append (IsFaultlessBelow old new (suc n)) names.labels named.labels
+      (λ k d less.
+      let was = so_far.faultless told k d less in
+      (omega (arith, was.0), unread_next (slice_index_or names.labels k d).device (λ same. omega (arith, same, was.0)) ∙ was.1))
+      (λ k d less.
+      let own = gives_own mid new n named.labels named.gives k d less in
+      (omega (arith, own), named.faultless k d less ∙ so_far.unread (slice_index_or named.labels k d).device (omega (arith, own)))))
+
   pub labelled_next : (next : Naming) → LabelsFit new next → (next.primaries ≡ names.primaries) × (next.broken ≡ names.broken) → (tells → NamesLabel mid new n names next) → IsLabelled tells old new was next (n + 1)
   labelled_next next fit others named = record {
     primaries = others.0 ∙ so_far.primaries;
@@ -125,10 +189,15 @@ module _ (tells : Type 0) (old mid new : PlantState) (was names : Naming) (n : �
     stay = stay_next;
     works = works_next;
     gave = λ told. rw add-one (gave_next next told (named told));
+    faultless = λ told. rw add-one (faultless_next next told (named told));
+    unread = λ d later. unread_next d (λ same. omega (arith, same, later)) ∙ so_far.unread d (omega (arith, later));
   }
 
-pub labelled_all : (tells : Type 0) (old now : PlantState) (was names : Naming) (n : ℕ) → n ≡ old.volumes → IsLabelled tells old now was names n → tells → AreLabels old now 0 names.labels
-labelled_all tells old now was names n all labelled told = subst (AreLabels old now 0) (append-nil names.labels) (are_labels old now n names.labels [] (omega arith) (labelled.gave told) (Last n (omega arith)))
+pub labelled_all : (tells : Type 0) (old now : PlantState) (was names : Naming) (n : ℕ) → n ≡ old.volumes → IsLabelled tells old now was names n → tells → AreLabelsRead old now names.labels
+labelled_all tells old now was names n all labelled told = record {
+  are = subst (AreLabels old now 0) (append-nil names.labels) (are_labels old now n names.labels [] (omega arith) (labelled.gave told) (Last n (omega arith)));
+  faultless = λ k d less. (labelled.faultless told k d less).1;
+}
 
 -- ---- labels over more calls
 
@@ -142,3 +211,17 @@ labels_since old mid new _ _ same bytes later (Given d given more there gives re
 pub labels_still : (old mid new : PlantState) (d : ℕ) (labels : List NamedDevice) → ((v : ℕ) → old.faults (Volume v) ≤ mid.faults (Volume v)) → ((v : ℕ) → mid.faults (Volume v) ≤ new.faults (Volume v)) → AreLabels old mid d labels → AreLabels old new d labels
 labels_still old mid new _ _ before later (Last d all) = Last d all
 labels_still old mid new _ _ before later (Given d given more there gives rest) = Given d given more there (gives_still old mid new d given (before d) (later d) gives) (labels_still old mid new (d + 1) more before later rest)
+
+-- Labels that were read by calls were read since earlier ones that left the volumes as they were.
+pub read_since : (old mid new : PlantState) (labels : List NamedDevice) → SameSite old mid → ((v : ℕ) → mid.bytes (Volume v) ≡ old.bytes (Volume v)) → ((v : ℕ) → mid.faults (Volume v) ≡ old.faults (Volume v)) → AreLabelsRead mid new labels → AreLabelsRead old new labels
+read_since old mid new labels same bytes faults read = record {
+  are = labels_since old mid new 0 labels same bytes (λ v. omega (arith, faults v)) read.are;
+  faultless = λ k d less. read.faultless k d less ∙ faults (slice_index_or labels k d).device;
+}
+
+-- So they were by later calls, too, that left the volumes' counts as they were.
+pub read_still : (old mid new : PlantState) (labels : List NamedDevice) → ((v : ℕ) → old.faults (Volume v) ≤ mid.faults (Volume v)) → ((v : ℕ) → new.faults (Volume v) ≡ mid.faults (Volume v)) → AreLabelsRead old mid labels → AreLabelsRead old new labels
+read_still old mid new labels before faults read = record {
+  are = labels_still old mid new 0 labels before (λ v. omega (arith, faults v)) read.are;
+  faultless = λ k d less. faults (slice_index_or labels k d).device ∙ read.faultless k d less;
+}

@@ -64,7 +64,7 @@ same_here old = (works_on_here (Unit {0}) (λ d. ⊥) old).site
 
 -- A line that starts nothing, or that stops before anything is done, begins nothing.
 pub begins_here : (session : List ℕ) (line : Line) (old : PlantState) → BeginsByLine session line old old
-begins_here session line old = begins_none session line old old (same_here old) (leaves_here old) (λ t from to. let now : t ≡ old.clock = omega (arith, from, to) in ap old.said now)
+begins_here session line old = begins_none session line old old (omega arith) (same_here old) (leaves_here old) (λ t from to. let now : t ≡ old.clock = omega (arith, from, to) in ap old.said now)
 
 -- ---- the table has taken a start
 

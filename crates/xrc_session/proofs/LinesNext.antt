@@ -22,7 +22,7 @@ use Rattle.mover.specs.Epochs.{LanesBrokeAs}
 use Rattle.xrc_status.specs.declared.stop.Stop.{Stop}
 use Rattle.xrc_status.specs.declared.stop.Stop.TheVariants.{BadLine, ConsoleFault}
 use Rattle.xrc_session.specs.LinePauses.{HasAnswered, HasNotBegun, IsAtSite, IsBetween, IsRunOver, IsUnstarted, RestsAtSite, stage_behind}
-use Rattle.xrc_session.specs.Frames.{KeepsPlant}
+use Rattle.xrc_session.specs.Frames.{KeepsPlant, SaidGrows}
 use Rattle.xrc_session.specs.Runs.{AreLabels, IsBadBehind, IsKnownSession, RunsLines}
 use Rattle.xrc_session.specs.Starting.{BeginsRun, HasBegunRun}
 use Rattle.xrc_session.specs.States.{SessionState, site_time}
@@ -103,8 +103,11 @@ module _ {S : Type 0} {tells : Type 0} {left : S → Option (List ℕ)} {faults 
   pub fell_heard : NoneFell old mid
   fell_heard = record { devices = λ d. omega (arith, h.works.faults d); console = h.console }
 
+  grows_heard : tells → SaidGrows old mid
+  grows_heard told = silent_grows old mid ((h.works.elapses told).kept Control).later (h.silent told)
+
   pub heard_keeps : KeepsPlant tells began mid
-  heard_keeps = keeps_then tells began old mid h.running.keeps (keeps_console tells old mid h.works (λ told. silent_grows old mid (h.silent told)) h.running.between.home)
+  heard_keeps = keeps_then tells began old mid h.running.keeps (keeps_console tells old mid h.works grows_heard h.running.between.home)
 
   pub heard_between : IsBetween tells s lanes_now mid
   heard_between = between_on tells old mid h.works s lanes_now h.running.between
@@ -117,7 +120,7 @@ module _ {S : Type 0} {tells : Type 0} {left : S → Option (List ℕ)} {faults 
     where
       by_site : (o : Option SiteState) → HasBegunRun first.session o began old → HasBegunRun first.session o began mid
       by_site None leaves = leaves_then began old mid (up_to_old told) leaves (h.works.elapses told) (leaves_console tells old mid told h.works)
-      by_site (Some site) started = started_later first.session began old mid text h.works.site (h.works.elapses told) (h.hears told).heard started
+      by_site (Some site) started = started_later first.session began old mid text h.works.site (h.works.elapses told) (grows_heard told) (h.hears told).heard started
 
   pub heard_begins : tells → BeginsRun first.session began mid
   heard_begins told = begun_run first.session s.site began mid (heard_begun told)

@@ -17,7 +17,7 @@ use Rattle.xrc_session.specs.LinePauses.{IsBetween}
 use Rattle.xrc_session.specs.Frames.{KeepsPlant, SuspendsByCounts}
 use Rattle.xrc_session.specs.Lines.{IsDoneLine, IsSameSession, IsStartAnswered, KeepsStart, StartsByLine}
 use Rattle.xrc_session.specs.Replying.{reply_composed}
-use Rattle.xrc_session.specs.Runs.{AreLabels}
+use Rattle.xrc_session.specs.Runs.{AreLabelsRead}
 use Rattle.xrc_session.specs.Starting.{BeginsByLine, RepliesToStart, StandsBehindStart, level_started}
 use Rattle.xrc_session.specs.States.{SessionState, session_time}
 use Rattle.xrc_session.specs.Steps.{AnswersLine, DoesLine}
@@ -50,8 +50,8 @@ unsaid_cause old new result is = cause_of old new result NoMemory is tt
 pub unsaid_counts : (old new : PlantState) (a : LineAnswer) (result : Result (Unit {0}) Stop) → (let r : Result LineAnswer Stop = Ok a in StopsByCount old new r) → StopsByCount old new result
 unsaid_counts old new a result counts = none_stop old new result (done_raises_none old new a counts)
 
-pub labels_as : (next now : SessionState) → next ≡ now → (old new : PlantState) → IfSome next.site (λ site. AreLabels old new 0 next.names.labels) → IfSome now.site (λ site. AreLabels old new 0 now.names.labels)
-labels_as next now same old new are = subst (λ (x : SessionState). IfSome x.site (λ site. AreLabels old new 0 x.names.labels)) same are
+pub labels_as : (next now : SessionState) → next ≡ now → (old new : PlantState) → IfSome next.site (λ site. AreLabelsRead old new next.names.labels) → IfSome now.site (λ site. AreLabelsRead old new now.names.labels)
+labels_as next now same old new are = subst (λ (x : SessionState). IfSome x.site (λ site. AreLabelsRead old new x.names.labels)) same are
 
 -- ---- the reply
 
@@ -79,10 +79,10 @@ module _ {S T E : Type 0} (tells : Type 0) (left : S → Option (List ℕ)) (s n
   pub reply_same : IsSameSession s now
   reply_same = subst (λ (x : SessionState). IsSameSession s x) (sym is) done.same
 
-  pub reply_labels : IfSome next.site (λ site. AreLabels old mid 0 next.names.labels) → IfSome now.site (λ site. AreLabels old new 0 now.names.labels)
+  pub reply_labels : IfSome next.site (λ site. AreLabelsRead old mid next.names.labels) → IfSome now.site (λ site. AreLabelsRead old new now.names.labels)
   reply_labels are =
-      subst (λ (x : SessionState). IfSome x.site (λ site. AreLabels old new 0 x.names.labels)) (sym is)
-      (labels_map next.site (AreLabels old mid 0 next.names.labels) (AreLabels old new 0 next.names.labels) (spoken_labels tells left s next lanes after line answered old mid done keeps silent none reply composed_next new T E result says next.names.labels) are)
+      subst (λ (x : SessionState). IfSome x.site (λ site. AreLabelsRead old new x.names.labels)) (sym is)
+      (labels_map next.site (AreLabelsRead old mid next.names.labels) (AreLabelsRead old new next.names.labels) (spoken_labels tells left s next lanes after line answered old mid done keeps silent none reply composed_next new T E result says next.names.labels) are)
 
   pub reply_keeps : KeepsPlant tells old new
   reply_keeps = spoken_keeps tells left s next lanes after line answered old mid done keeps silent none reply composed_next new T E result says

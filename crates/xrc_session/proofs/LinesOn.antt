@@ -5,7 +5,7 @@ use Rattle.std.proofs.lemmas.Bool.{leb-true, ltb-true}
 use Rattle.std.proofs.lemmas.List.{length_push, take_all}
 use Rattle.crash_plant.specs.declared.device.Device.TheVariants.{Control}
 use Rattle.crash_plant.specs.Calls.{HearsNothing}
-use Rattle.crash_plant.specs.Moments.{IsDurable, PlantState, on}
+use Rattle.crash_plant.specs.Moments.{PlantState}
 use Rattle.pair_table.specs.declared.level.Level.{Level}
 use Rattle.pair_table.specs.declared.names.NamedDevice.{NamedDevice}
 use Rattle.site_store.specs.Sites.{SiteState}
@@ -26,8 +26,8 @@ use Rattle.xrc_session.specs.LinePauses.{IsBetween, IsRunOfSession, IsRunOver, L
 use Rattle.xrc_session.specs.Frames.{KeepsPlant}
 use Rattle.xrc_session.specs.Lanes.{AllWent}
 use Rattle.xrc_session.specs.Lines.{IsSameSession, KeepsStart, StartsByLine}
-use Rattle.xrc_session.specs.Runs.{AreLabels, IsBadBehind, IsKnownSession, RunsLines}
-use Rattle.xrc_session.specs.Starting.{BeginsByLine, BeginsRun, HasBegunRun, HasStartedRun, RepliesToStart, StartsSafely, level_started, reply_to_start}
+use Rattle.xrc_session.specs.Runs.{AreLabels, AreLabelsRead, IsBadBehind, IsKnownSession, RunsLines}
+use Rattle.xrc_session.specs.Starting.{BeginsByLine, BeginsRun, BeginsSafely, HasBegunRun, HasStartedRun, RepliesToStart, level_started, reply_to_start}
 use Rattle.xrc_session.specs.Starting.BeginsRun.{Unstarted}
 use Rattle.xrc_session.specs.States.{SessionState, session_time}
 use Rattle.xrc_session.specs.Steps.{AnswersLine, EndsLine, known_by}
@@ -81,11 +81,11 @@ pub record LineWent {S : Type 0} (tells : Type 0) (left : S → Option (List ℕ
   pub went : AllWent left faults lanes after
   pub unheard : tells → HearsNothing mid new
   pub begins : tells → s.site ≡ None → BeginsByLine s.session line mid new
-  pub labels : tells → s.site ≡ None → IfSome nxt.site (λ site. AreLabels mid new 0 nxt.names.labels)
+  pub labels : tells → s.site ≡ None → IfSome nxt.site (λ site. AreLabelsRead mid new nxt.names.labels)
 
 pub line_went_by : {S : Type 0} {tells : Type 0} {left : S → Option (List ℕ)} {faults : S → ℕ} {first s : SessionState} {lanes lanes_now : List (Lane S)} {began old : PlantState} {number before : ℕ} {mid : PlantState} {text : List ℕ} {nxt : SessionState} {after : List (Lane S)} {new : PlantState} → Heard tells left faults first s lanes lanes_now began old number before mid text
     → (line : Line) → IsNextLine tells number before text mid.script (next.Line line) → mid.console_faults ≡ old.console_faults → IsSameSession s nxt → KeepsPlant tells mid new → NoneFell mid new → AllWent left faults lanes_now after → (tells → HearsNothing mid new)
-    → (tells → s.site ≡ None → BeginsByLine s.session line mid new) → (tells → s.site ≡ None → IfSome nxt.site (λ site. AreLabels mid new 0 nxt.names.labels)) → LineWent tells left faults s nxt lanes_now after old mid new number before text line
+    → (tells → s.site ≡ None → BeginsByLine s.session line mid new) → (tells → s.site ≡ None → IfSome nxt.site (λ site. AreLabelsRead mid new nxt.names.labels)) → LineWent tells left faults s nxt lanes_now after old mid new number before text line
 line_went_by h line is quiet same keeps fell went unheard begins labels =
     record { is = is; quiet = quiet; same = same; keeps_line = keeps; fell = fell; went = went; unheard = unheard; begins = begins; labels = labels }
 
@@ -111,7 +111,7 @@ module _ {S : Type 0} {tells : Type 0} {left : S → Option (List ℕ)} {faults 
 
   started_new : tells → HasStartedRun first.session began mid → HasStartedRun first.session began new
   started_new told started =
-      started_later first.session began mid new [] d.keeps_line.site (d.keeps_line.elapses told) ((d.unheard told).heard ∙ sym (append-nil (mid.heard mid.clock))) started
+      started_later first.session began mid new [] d.keeps_line.site (d.keeps_line.elapses told) (d.keeps_line.grows told) ((d.unheard told).heard ∙ sym (append-nil (mid.heard mid.clock))) started
 
   up_to_mid : tells → began.clock ≤ mid.clock
   up_to_mid told = (((heard_keeps h).elapses told).kept Control).later
@@ -120,7 +120,7 @@ module _ {S : Type 0} {tells : Type 0} {left : S → Option (List ℕ)} {faults 
   starts_none : tells → s.site ≡ None → level_started first.session line ≡ None → LeavesAll began new
   starts_none told none refused =
       leaves_then began mid new (up_to_mid told) (unstarted_mid told none) (d.keeps_line.elapses told)
-      (subst (λ (o : Option Level). MatchOption o (LeavesAll mid new) (λ level. 0 < mid.clock → IsDurable (on mid Control) → StartsSafely first.session level line.time.0 mid new)) refused (begins_first told none))
+      (subst (λ (o : Option Level). MatchOption o (LeavesAll mid new) (λ level. BeginsSafely first.session level line.time.0 mid new)) refused (begins_first told none))
 
   starts_some : tells → s.site ≡ None → (level : Level) → level_started first.session line ≡ Some level → BeginsRun first.session began new
   starts_some told none level starts =
@@ -145,9 +145,9 @@ module _ {S : Type 0} {tells : Type 0} {left : S → Option (List ℕ)} {faults 
   labels_new told None none k known =
       subst (λ (x : SessionState). IfSome x.site (λ site. AreLabels began new 0 x.names.labels)) (sym (known_unstarted s nxt none) ∙ known) (by_site nxt.site (d.labels told none))
     where
-      by_site : (o : Option SiteState) → IfSome o (λ site. AreLabels mid new 0 nxt.names.labels) → IfSome o (λ site. AreLabels began new 0 nxt.names.labels)
+      by_site : (o : Option SiteState) → IfSome o (λ site. AreLabelsRead mid new nxt.names.labels) → IfSome o (λ site. AreLabels began new 0 nxt.names.labels)
       by_site None no_labels = tt
-      by_site (Some site) has = labels_before began mid new nxt.names.labels (heard_keeps h).site (unstarted_mid told none) has
+      by_site (Some site) has = labels_before began mid new nxt.names.labels (heard_keeps h).site (unstarted_mid told none) has.are
   labels_new told (Some site) some k known = subst (λ (x : SessionState). IfSome x.site (λ y. AreLabels began new 0 x.names.labels)) (sym (known_started s nxt site some) ∙ known) (by_site s.site (labels_mid h told))
     where
       by_site : (o : Option SiteState) → IfSome o (λ y. AreLabels began mid 0 s.names.labels) → IfSome o (λ y. AreLabels began new 0 s.names.labels)
@@ -259,7 +259,7 @@ module _ {S : Type 0} {tells : Type 0} {left : S → Option (List ℕ)} {faults 
         by_level (Some level) starts_it (Some now) is_some =
             let was = h.running.heard told none in
             has_started first.session line level began mid new was.lines text (unstarted_mid told none) (heard_keeps h).site ((heard_keeps h).elapses told) (start_heard first.session tells told began old mid number before text line was (h.hears told) d.is level starts_it)
-            (heard_now first.session tells told began old mid number before text line was (h.hears told) d.is) d.keeps_line.site (d.keeps_line.elapses told) (d.unheard told).heard starts_it (begins_first told none)
+            (heard_now first.session tells told began old mid number before text line was (h.hears told) d.is) d.keeps_line.site (d.keeps_line.elapses told) (d.unheard told).heard starts_it (begins_first told none) ((heard_keeps h).grows told)
             (subst (λ (o : Option Level). IfSome o (λ l. new.said new.clock ≡ mid.said mid.clock ++ reply_to_start l line.time.0)) (named (Some level) starts_it) (replies told none))
 
     -- Where the session hasn't started yet, neither this line nor one before it starts it.

@@ -32,7 +32,7 @@ use Rattle.xrc_session.specs.LinePauses.{IsBetween, IsRunOver}
 use Rattle.xrc_session.specs.Frames.{KeepsPlant, SuspendsByCounts}
 use Rattle.xrc_session.specs.Lines.{IsDoneLine, IsStartAnswered}
 use Rattle.xrc_session.specs.Replying.{causes_in, reply_composed, report_in, reported_site, time_told}
-use Rattle.xrc_session.specs.Runs.{AreLabels}
+use Rattle.xrc_session.specs.Runs.{AreLabelsRead}
 use Rattle.xrc_session.specs.Starting.{BeginsByLine, RepliesToStart, StandsBehindStart, level_started, reply_to_start}
 use Rattle.xrc_session.specs.States.{SessionState}
 use Rattle.xrc_session.specs.Steps.{AnswersLine, DoesLine, EndsDoing, HasHeard, known_by, line_answered}
@@ -43,7 +43,7 @@ use Rattle.xrc_session.proofs.Consoles.{between_on}
 use Rattle.xrc_session.proofs.InTurn.{NoneFell, NoneRisen, cause_before, fell_then, keeps_console, keeps_then, none_risen_then, none_stop, suspends_same, suspends_then}
 use Rattle.xrc_session.proofs.LinesBefore.{started_command}
 use Rattle.xrc_session.proofs.LinesDone.{between_told}
-use Rattle.xrc_session.proofs.LinesRun.{labels_later}
+use Rattle.xrc_session.proofs.Labelled.{read_still}
 use Rattle.xrc_session.proofs.LinesSaid.{said_in_part, said_whole}
 use Rattle.xrc_session.proofs.Names.{as_many}
 use Rattle.xrc_session.proofs.SafeStarts.{begins_said}
@@ -73,7 +73,7 @@ module _ {S : Type 0} (tells : Type 0) (left : S → Option (List ℕ)) (s next 
   spoken_between = between_on tells mid new works next after done.between
 
   pub spoken_keeps : KeepsPlant tells old new
-  spoken_keeps = keeps_then tells old mid new keeps (keeps_console tells mid new works (λ told. says_grows reply mid new (says.front.moments told)) keeps.home)
+  spoken_keeps = keeps_then tells old mid new keeps (keeps_console tells mid new works (λ told. says_grows reply mid new ((works.elapses told).kept Control).later (says.front.moments told)) keeps.home)
 
   pub spoken_hits : (rows rows_now : List PairRow) → SuspendsByCounts rows rows_now old mid → SuspendsByCounts rows rows_now old new
   spoken_hits rows rows_now hits = suspends_then rows rows_now rows_now old mid new none.fell on hits (suspends_same rows_now mid new)
@@ -89,8 +89,8 @@ module _ {S : Type 0} (tells : Type 0) (left : S → Option (List ℕ)) (s next 
       let say = says.front.moments told in
       record { script = say.script ∙ (silent told).script; heard = say.heard new.clock (later_new told) (omega arith) ∙ (silent told).heard mid.clock (later_mid told) (omega arith) }
 
-  pub spoken_labels : (labels : List NamedDevice) → AreLabels old mid 0 labels → AreLabels old new 0 labels
-  spoken_labels labels are = labels_later old mid new labels none.fell on are
+  pub spoken_labels : (labels : List NamedDevice) → AreLabelsRead old mid labels → AreLabelsRead old new labels
+  spoken_labels labels read = read_still old mid new labels (λ d. none.fell.devices (Volume d)) (λ d. works.faults (Volume d)) read
 
   pub spoken_begins : (told : tells) (session : List ℕ) → BeginsByLine session line old mid → IfSome (level_started session line) (λ level. StandsBehindStart session level line.time.0 old mid) → BeginsByLine session line old new
   spoken_begins told session begins means = begins_said session line tells old mid new told keeps.site (keeps.elapses told) works begins means

@@ -25,8 +25,9 @@ use Rattle.site_store.proofs.Fresh.{first_here}
 use Rattle.site_store.proofs.Seeing.{same_means}
 use Rattle.consistency.specs.Courses.{Answered, texts_of}
 use Rattle.consistency.proofs.Standing.{console_choice}
+use Rattle.xrc_session.specs.Frames.{SaidGrows}
 use Rattle.xrc_session.specs.LinePauses.{LeavesAll}
-use Rattle.xrc_session.specs.Starting.{BeginsByLine, BeginsRun, FormatsFirst, HasBegunRun, HasStartedRun, HearsStart, IsSafeUpTo, IsStartOfScript, IsUnsaid, LeavesVolumes, MeansStart, ShutsOrStarts, ShutsSite, StandsBehindStart, StartsBehind, StartsSafely, level_started, reply_to_start}
+use Rattle.xrc_session.specs.Starting.{BeginsByLine, BeginsRun, BeginsSafely, FormatsFirst, HasBegunRun, HasRepliedToStart, HasStartedRun, HearsStart, IsSafeNow, IsSafeUpTo, IsStartOfScript, IsUnsaid, LeavesVolumes, MeansStart, ShutsOrStarts, ShutsSite, StandsBehindStart, StartsBehind, StartsSafely, level_started, reply_to_start}
 use Rattle.xrc_session.specs.Starting.BeginsRun.{Starting, Unstarted}
 use Rattle.xrc_session.proofs.Consoles.{stays_then}
 use Rattle.xrc_session.proofs.Started.{formats_on}
@@ -52,6 +53,12 @@ pub durable_still : (old new : PlantState) → old.clock ≤ new.clock → Leave
 durable_still old new later leaves durable c left =
     let start = (leaves Control).images new.clock later (omega arith) c left in
     start.2 ∙ durable start.0 start.1 ∙ sym (leaves Control).bytes
+
+-- What a crash leaves then of a volume it could leave before.
+image_left : (old new : PlantState) → old.clock ≤ new.clock → LeavesAll old new → (d : ℕ) (c : List ℕ) → new.images new.clock (Volume d) c → old.images old.clock (Volume d) c
+image_left old new later leaves d c is =
+    let start = (leaves (Volume d)).images new.clock later (omega arith) c is in
+    subst (λ (l : List ℕ). old.images old.clock (Volume d) l) (sym start.2) start.1
 
 -- ---- what is safe
 
@@ -153,19 +160,46 @@ module _ (session : List ℕ) (level : Level) (at : ℕ) where
           let start = f.before t late upto c is in
           (start.0, leaves_choice old mid before leaves mid.clock later (omega arith) start.0 start.1, by_step start.0 c start.2)
 
+  -- Calls that leave the devices alone end safely. With them others do, too, before or behind them.
+  pub now_here : (old new : PlantState) → old.clock ≤ new.clock → SameSite old new → LeavesAll old new → IsSafeNow session level at old new
+  now_here old new later site leaves = record {
+    bytes = λ d there. (leaves (Volume d)).bytes;
+    images = λ d there c is. image_left old new later leaves d c is;
+    safe = λ durable c is. (c, leaves_choice old new site leaves new.clock later (omega arith) c is, inl (shut_here (lengths_of old) c));
+  }
+
+  pub now_then : (old mid new : PlantState) → mid.clock ≤ new.clock → SameSite mid new → LeavesAll mid new → IsSafeNow session level at old mid → IsSafeNow session level at old new
+  now_then old mid new later site leaves safe = record {
+    bytes = λ d there. (leaves (Volume d)).bytes ∙ safe.bytes d there;
+    images = λ d there c is. safe.images d there c (image_left mid new later leaves d c is);
+    safe = λ durable c is. safe.safe durable c (leaves_choice mid new site leaves new.clock later (omega arith) c is);
+  }
+
+  pub now_behind : (old mid new : PlantState) → old.clock ≤ mid.clock → SameSite old mid → LeavesAll old mid → IsSafeNow session level at mid new → IsSafeNow session level at old new
+  now_behind old mid new later before leaves safe = record {
+    bytes = λ d there. safe.bytes d (omega (arith, there, before.volumes)) ∙ (leaves (Volume d)).bytes;
+    images = λ d there c is. image_left old mid later leaves d c (safe.images d (omega (arith, there, before.volumes)) c is);
+    safe = λ durable c is.
+        let start = safe.safe (durable_still old mid later leaves durable) c is in
+        (start.0, leaves_choice old mid before leaves mid.clock later (omega arith) start.0 start.1, starts_same old mid before start.0 c start.2);
+  }
+
 -- ---- a line
 
 -- A line that starts nothing, or a start that wasn't done, leaves the devices alone.
-pub begins_none : (session : List ℕ) (line : Line) (old new : PlantState) → SameSite old new → LeavesAll old new → ((t : ℕ) → old.clock ≤ t → t ≤ new.clock → new.said t ≡ old.said old.clock) → BeginsByLine session line old new
-begins_none session line old new site leaves quiet = by_level (level_started session line)
+pub begins_none : (session : List ℕ) (line : Line) (old new : PlantState) → old.clock ≤ new.clock → SameSite old new → LeavesAll old new → ((t : ℕ) → old.clock ≤ t → t ≤ new.clock → new.said t ≡ old.said old.clock) → BeginsByLine session line old new
+begins_none session line old new later site leaves quiet = by_level (level_started session line)
   where
-    by_level : (o : Option Level) → MatchOption o (LeavesAll old new) (λ level. 0 < old.clock → IsDurable (on old Control) → StartsSafely session level line.time.0 old new)
+    by_level : (o : Option Level) → MatchOption o (LeavesAll old new) (λ level. BeginsSafely session level line.time.0 old new)
     by_level None = leaves
-    by_level (Some level) = λ up durable. record {
-      safe = safe_here session level line.time.0 old new site leaves;
-      volumes = volumes_here session level line.time.0 old new site leaves;
-      means = λ t from to said. absurd (said (quiet t from to));
-      formats = λ t from to said. absurd (said (quiet t from to));
+    by_level (Some level) = record {
+      now = now_here session level line.time.0 old new later site leaves;
+      throughout = λ up durable. record {
+        safe = safe_here session level line.time.0 old new site leaves;
+        volumes = volumes_here session level line.time.0 old new site leaves;
+        means = λ t from to said. absurd (said (quiet t from to));
+        formats = λ t from to said. absurd (said (quiet t from to));
+      };
     }
 
 -- Volumes that stay hold what they held.
@@ -175,11 +209,28 @@ volumes_stay tells told old new site stay t from to c is d there =
     subst (λ (l : List ℕ). old.images old.clock (Volume d) l) (sym start.2) start.1
 
 -- A start was begun, and nothing was said.
-pub begins_start : (session : List ℕ) (line : Line) (level : Level) (old new : PlantState) → level_started session line ≡ Some level → SameSite old new → Silent old new → (tells : Type 0) → tells → VolumesStay tells old new → (IsDurable (on old Control) → IsSafeUpTo session level line.time.0 new.clock old new)
+pub begins_start : (session : List ℕ) (line : Line) (level : Level) (old new : PlantState) → level_started session line ≡ Some level → SameSite old new → Elapses old new → Silent old new → (tells : Type 0) → tells → VolumesStay tells old new → (IsDurable (on old Control) → IsSafeUpTo session level line.time.0 new.clock old new)
     → BeginsByLine session line old new
-begins_start session line level old new is site silent tells told volumes safe =
-    subst (λ (o : Option Level). MatchOption o (LeavesAll old new) (λ l. 0 < old.clock → IsDurable (on old Control) → StartsSafely session l line.time.0 old new)) (sym is)
-    (λ up durable. record { safe = safe durable; volumes = volumes_stay tells told old new site volumes; means = λ t from to said. absurd (said (silent.said t from to)); formats = λ t from to said. absurd (said (silent.said t from to)) })
+begins_start session line level old new is site past silent tells told volumes safe =
+    subst (λ (o : Option Level). MatchOption o (LeavesAll old new) (λ l. BeginsSafely session l line.time.0 old new)) (sym is)
+    (record {
+      now = record {
+        bytes = λ d there. volumes.bytes told d;
+        images = λ d there c is.
+            let start = volumes.images told d new.clock later (omega arith) c is in
+            subst (λ (l : List ℕ). old.images old.clock (Volume d) l) (sym start.2) start.1;
+        safe = λ durable c is. safe durable new.clock later (omega arith) c is;
+      };
+      throughout = λ up durable. record {
+        safe = safe durable;
+        volumes = volumes_stay tells told old new site volumes;
+        means = λ t from to said. absurd (said (silent.said t from to));
+        formats = λ t from to said. absurd (said (silent.said t from to));
+      };
+    })
+  where
+    later : old.clock ≤ new.clock
+    later = (past.kept Control).later
 
 -- What a line has begun stays begun while its reply is said. Once it means the start, whatever is said, it does.
 pub begins_said : (session : List ℕ) (line : Line) (tells : Type 0) (old mid new : PlantState) → tells → SameSite old mid → Elapses old mid → WorksOnConsole tells mid new → BeginsByLine session line old mid
@@ -189,17 +240,20 @@ begins_said session line tells old mid new told site past works begins means = b
     later : old.clock ≤ mid.clock
     later = (past.kept Control).later
 
-    by_level : (o : Option Level) → MatchOption o (LeavesAll old mid) (λ level. 0 < old.clock → IsDurable (on old Control) → StartsSafely session level line.time.0 old mid)
-        → IfSome o (λ level. StandsBehindStart session level line.time.0 old mid) → MatchOption o (LeavesAll old new) (λ level. 0 < old.clock → IsDurable (on old Control) → StartsSafely session level line.time.0 old new)
+    by_level : (o : Option Level) → MatchOption o (LeavesAll old mid) (λ level. BeginsSafely session level line.time.0 old mid)
+        → IfSome o (λ level. StandsBehindStart session level line.time.0 old mid) → MatchOption o (LeavesAll old new) (λ level. BeginsSafely session level line.time.0 old new)
     by_level None leaves none = leaves_then old mid new later leaves (works.elapses told) (leaves_console tells mid new told works)
-    by_level (Some level) starts mean = λ up durable.
-        let was = starts up durable in
-        record {
-          safe = safe_then session level line.time.0 old mid new later (omega (arith, up, later)) works.site (works.elapses told) (leaves_console tells mid new told works) was.safe;
-          volumes = volumes_then session level line.time.0 old mid new site later (omega (arith, up, later)) works.site (works.elapses told) (leaves_console tells mid new told works) was.volumes;
-          means = λ t from to said. by_side level was mean.means up t from to said (cases_lt t mid.clock);
-          formats = λ t from to said. formats_by level was (mean.formats up durable) up t from to said (cases_lt t mid.clock);
-        }
+    by_level (Some level) starts mean = record {
+      now = now_then session level line.time.0 old mid new ((works.elapses told).kept Control).later works.site (leaves_console tells mid new told works) starts.now;
+      throughout = λ up durable.
+          let was = starts.throughout up durable in
+          record {
+            safe = safe_then session level line.time.0 old mid new later (omega (arith, up, later)) works.site (works.elapses told) (leaves_console tells mid new told works) was.safe;
+            volumes = volumes_then session level line.time.0 old mid new site later (omega (arith, up, later)) works.site (works.elapses told) (leaves_console tells mid new told works) was.volumes;
+            means = λ t from to said. by_side level was mean.means up t from to said (cases_lt t mid.clock);
+            formats = λ t from to said. formats_by level was (mean.formats up durable) up t from to said (cases_lt t mid.clock);
+          };
+    }
       where
         by_side : (level : Level) → StartsSafely session level line.time.0 old mid → AtNow (MeansStart session level line.time.0 old) mid → 0 < old.clock → (t : ℕ) → old.clock ≤ t → t ≤ new.clock → new.said t ≢ old.said old.clock
             → (t < mid.clock) ⊎ (mid.clock ≤ t) → AtMoment (MeansStart session level line.time.0 old) new t
@@ -218,9 +272,19 @@ begins_said session line tells old mid new told site past works begins means = b
 
 -- ---- a run
 
+-- A reply that was said stays so behind what is said then.
+pub replied_later : (level : Level) (at : ℕ) (old mid new : PlantState) → SaidGrows mid new → HasRepliedToStart level at old mid → HasRepliedToStart level at old new
+replied_later level at old mid new grows replied = record {
+  before = replied.before;
+  later = replied.later ++ grows.more;
+  said =
+      grows.said ∙ ap (λ (l : List ℕ). l ++ grows.more) replied.said ∙ append_assoc (old.said old.clock) (replied.before ++ reply_to_start level at ++ replied.later) grows.more
+      ∙ ap (λ (l : List ℕ). old.said old.clock ++ l) (append_assoc (replied.before ++ reply_to_start level at) replied.later grows.more);
+}
+
 -- What was heard and said of a run that has started stays so behind calls that keep the past.
-pub started_later : (session : List ℕ) (old mid new : PlantState) (more : List ℕ) → SameSite mid new → Elapses mid new → new.heard new.clock ≡ mid.heard mid.clock ++ more → HasStartedRun session old mid → HasStartedRun session old new
-started_later session old mid new more site past heard started = record {
+pub started_later : (session : List ℕ) (old mid new : PlantState) (more : List ℕ) → SameSite mid new → Elapses mid new → SaidGrows mid new → new.heard new.clock ≡ mid.heard mid.clock ++ more → HasStartedRun session old mid → HasStartedRun session old new
+started_later session old mid new more site past grows heard started = record {
   level = started.level;
   at = started.at;
   hears = record {
@@ -232,6 +296,7 @@ started_later session old mid new more site past heard started = record {
         heard ∙ ap (λ (l : List ℕ). l ++ more) started.hears.heard ∙ append_assoc (old.heard old.clock) (texts_of started.hears.lines ++ started.hears.text ++ started.hears.later) more
         ∙ ap (λ (l : List ℕ). old.heard old.clock ++ l) (append_assoc (texts_of started.hears.lines ++ started.hears.text) started.hears.later more);
   };
+  replied = replied_later started.level started.at old mid new grows started.replied;
   behind = λ up durable.
       let was = started.behind up durable in
       let b = was.0 in
@@ -275,7 +340,7 @@ started_later session old mid new more site past heard started = record {
 
 -- A run whose session has started has begun.
 pub begun_by_start : (session : List ℕ) (old new : PlantState) → HasStartedRun session old new → BeginsRun session old new
-begun_by_start session old new started = Starting started.level started.at started.hears (λ up durable. (started.behind up durable).0)
+begun_by_start session old new started = Starting started.level started.at started.hears (inl started.replied) (λ up durable. (started.behind up durable).0)
 
 pub begun_run : (session : List ℕ) (site : Option SiteState) (old new : PlantState) → HasBegunRun session site old new → BeginsRun session old new
 begun_run session None old new begun = Unstarted begun
@@ -299,14 +364,15 @@ module _ (session : List ℕ) (line : Line) (level : Level) (old heard new : Pla
   later : old.clock ≤ heard.clock
   later = (past_first.kept Control).later
 
+  begun : BeginsSafely session level line.time.0 heard new
+  begun = subst (λ (o : Option Level). MatchOption o (LeavesAll heard new) (λ l. BeginsSafely session l line.time.0 heard new)) starts begins
+
   module _ (up : 0 < old.clock) (durable : IsDurable (on old Control)) where
     now : 0 < heard.clock
     now = omega (arith, up, later)
 
     safely : StartsSafely session level line.time.0 heard new
-    safely =
-        subst (λ (o : Option Level). MatchOption o (LeavesAll heard new) (λ l. 0 < heard.clock → IsDurable (on heard Control) → StartsSafely session l line.time.0 heard new)) starts begins now
-        (durable_still old heard later leaves durable)
+    safely = begun.throughout now (durable_still old heard later leaves durable)
 
     said_first : new.said heard.clock ≡ heard.said heard.clock
     said_first = past.said heard.clock now (omega arith)
@@ -351,13 +417,20 @@ module _ (session : List ℕ) (line : Line) (level : Level) (old heard new : Pla
 
   -- It begins the run, and once its reply was said whole the run has started.
   pub begins_by_start : BeginsRun session old new
-  begins_by_start = Starting level line.time.0 hears_start (λ up durable. starts_behind up durable (inr refl))
+  begins_by_start = Starting level line.time.0 hears_start (inr (now_behind session level line.time.0 old heard new later first leaves begun.now)) (λ up durable. starts_behind up durable (inr refl))
 
-  pub has_started : new.said new.clock ≡ heard.said heard.clock ++ reply_to_start level line.time.0 → HasStartedRun session old new
-  has_started replied = record {
+  pub has_started : SaidGrows old heard → new.said new.clock ≡ heard.said heard.clock ++ reply_to_start level line.time.0 → HasStartedRun session old new
+  has_started grows replied = record {
     level = level;
     at = line.time.0;
     hears = hears_start;
+    replied = record {
+      before = grows.more;
+      later = [];
+      said =
+          replied ∙ ap (λ (l : List ℕ). l ++ reply_to_start level line.time.0) grows.said ∙ append_assoc (old.said old.clock) grows.more (reply_to_start level line.time.0)
+          ∙ ap (λ (l : List ℕ). old.said old.clock ++ l) (sym (append-nil (grows.more ++ reply_to_start level line.time.0)));
+    };
     behind = λ up durable.
         let whole : new.said new.clock ≡ new.said heard.clock ++ reply_to_start level line.time.0 = replied ∙ ap (λ (l : List ℕ). l ++ reply_to_start level line.time.0) (sym (past.said heard.clock (omega (arith, up, later)) (omega arith))) in
         (starts_behind up durable (inl whole), whole);

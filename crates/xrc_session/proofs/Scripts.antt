@@ -43,6 +43,7 @@ use Rattle.xrc_session.proofs.LinesRun.{labels_later}
 use Rattle.xrc_session.proofs.RowFrames.{changes_rows_none}
 use Rattle.xrc_session.proofs.RunNames.{labels_have_serials, some_labels, traces_have_serials}
 use Rattle.xrc_session.proofs.ScriptOpens.{opening_none}
+use Rattle.xrc_session.proofs.Growing.{silent_grows}
 use Rattle.xrc_session.proofs.SafeStarts.{begun_by_start, leaves_here, started_later}
 
 -- ---- the traces
@@ -263,4 +264,4 @@ between_may_finish {S} tells s lanes plant between = record {
 pub finished_begins : (session : List ℕ) (site : Option SiteState) (old mid new : PlantState) → SameSite mid new → Elapses mid new → Silent mid new → (site ≡ None → new ≡ mid) → HasBegunRun session site old mid → BeginsRun session old new
 finished_begins session None old mid new same past silent still begun = subst (λ (p : PlantState). BeginsRun session old p) (sym (still refl)) (Unstarted begun)
 finished_begins session (Some site) old mid new same past silent still begun =
-    begun_by_start session old new (started_later session old mid new [] same past (silent.heard new.clock ((past.kept Control).later) (omega arith) ∙ sym (append-nil (mid.heard mid.clock))) begun)
+    begun_by_start session old new (started_later session old mid new [] same past (silent_grows mid new (past.kept Control).later silent.said) (silent.heard new.clock ((past.kept Control).later) (omega arith) ∙ sym (append-nil (mid.heard mid.clock))) begun)

@@ -38,9 +38,12 @@ abbrev pub SuspendsByCounts : (rows rows_now : List PairRow) → (old new : Plan
 SuspendsByCounts rows rows_now old new = (r : PairRow) → Contains rows_now r → is_device_suspended r.state ≡ true
     → CountRose (old.faults (Volume r.device)) (new.faults (Volume r.device)) ⊎ ((s : PairRow) × Contains rows s × (s.device ≡ r.device) × (s.state ≡ r.state))
 
--- On a plant that keeps its past what was said by a moment is a front of what was said by each later one.
-abbrev pub SaidGrows : (old new : PlantState) → Type 0
-SaidGrows old new = 0 < old.clock → (s t : ℕ) → old.clock ≤ s → s ≤ t → t ≤ new.clock → (more : List ℕ) × (new.said t ≡ new.said s ++ more)
+-- What was said is a front of what is said then. On a plant that keeps its past what was said by a moment is a front of what was said by each
+-- later one.
+pub record SaidGrows (old new : PlantState) : Type 0 where
+  pub more : List ℕ
+  pub said : new.said new.clock ≡ old.said old.clock ++ more
+  pub moments : 0 < old.clock → (s t : ℕ) → old.clock ≤ s → s ≤ t → t ≤ new.clock → (later : List ℕ) × (new.said t ≡ new.said s ++ later)
 
 -- Calls of a session keep the site's numbers and lengths and the past, and no volume stays lent. What they say they never take back.
 pub record KeepsPlant (tells : Type 0) (old new : PlantState) : Type 0 where

@@ -1,5 +1,6 @@
 -- How a run of a script ends.
 use Rattle.std.specs.Prelude.{◌≡◌, ◌⊎◌, ℕ, ◌+◌, ◌<◌, ◌≤◌, List, [], ◌∷◌, ◌++◌, length, take, Option, Some, None, Result, Ok, Err, false, OnOk, IfSome}
+use Rattle.std.specs.List.{All}
 use Rattle.xrc_edge.specs.Causes.{Rose}
 use Rattle.crash_plant.specs.declared.device.Device.TheVariants.{Volume}
 use Rattle.crash_plant.specs.Moments.{PlantState}
@@ -34,7 +35,7 @@ named_by d (Some label) = record { device = d; serial = label.serial; cylinders 
 abbrev pub front_of_volume : PlantState → (device : ℕ) → List ℕ
 front_of_volume plant d = take 14 (plant.bytes (Volume d))
 
--- What a volume gives to the labels: its valid label, if it began with one. None is given where its count rose.
+-- What a volume gives to the labels: its valid label, if it began with one. It may give none if its count rose.
 abbrev pub GivesLabel : (old new : PlantState) → (device : ℕ) → List NamedDevice → Type 0
 GivesLabel old new d labels = (labels ≡ named_by d (label_of (old.lengths (Volume d)) (front_of_volume old d))) ⊎ ((labels ≡ []) × Rose (old.faults (Volume d)) (new.faults (Volume d)))
 
@@ -43,10 +44,20 @@ pub data AreLabels (old new : PlantState) : (device : ℕ) → List NamedDevice 
   Last : (d : ℕ) → old.volumes ≤ d → AreLabels old new d []
   Given : (d : ℕ) (labels more : List NamedDevice) → d < old.volumes → GivesLabel old new d labels → AreLabels old new (d + 1) more → AreLabels old new d (labels ++ more)
 
--- A volume was named by its label, behind others.
+-- The volume that gave a label had no fault: its count is as before.
+abbrev pub IsFaultless : (old new : PlantState) → NamedDevice → Type 0
+IsFaultless old new label = new.faults (Volume label.device) ≡ old.faults (Volume label.device)
+
+-- These labels were read: each valid one, in order, but those of volumes whose counts rose meanwhile. Such a volume gives none.
+pub record AreLabelsRead (old new : PlantState) (labels : List NamedDevice) : Type 0 where
+  pub are : AreLabels old new 0 labels
+  pub faultless : All (IsFaultless old new) labels
+
+-- A volume was named by its label, behind others. If it gave one, its count is as before.
 pub record NamesLabel (old new : PlantState) (device : ℕ) (names named : Naming) : Type 0 where
   pub labels : List NamedDevice
   pub gives : GivesLabel old new device labels
+  pub faultless : All (IsFaultless old new) labels
   pub are : named ≡ record names { labels = names.labels ++ labels }
 
 -- A run is what a script was run over: the session's name, the traces of what the sources gave, the labels that volumes had, and as many faults of

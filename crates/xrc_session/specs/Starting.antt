@@ -57,13 +57,24 @@ pub record ShutsSite (lengths : List ℕ) (b c : Choice) : Type 0 where
 abbrev pub ShutsOrStarts : (session : List ℕ) → Level → (at : ℕ) → (plant : PlantState) → (b c : Choice) → Type 0
 ShutsOrStarts session level at plant b c = ShutsSite (lengths_of plant) b c ⊎ MeansStart session level at plant c
 
--- Up to a moment each choice comes so from one that a crash could leave at first.
+-- A choice comes so from one that a crash could leave at first.
+abbrev pub ComesSafely : (session : List ℕ) → Level → (at : ℕ) → PlantState → Choice → Type 0
+ComesSafely session level at old c = (b : Choice) × IsChoice old old.clock b × ShutsOrStarts session level at old b c
+
+-- Up to a moment each choice does.
 abbrev pub IsSafeUpTo : (session : List ℕ) → Level → (at to : ℕ) → (old new : PlantState) → Type 0
-IsSafeUpTo session level at to old new = (t : ℕ) → old.clock ≤ t → t ≤ to → (c : Choice) → IsChoice new t c → (b : Choice) × IsChoice old old.clock b × ShutsOrStarts session level at old b c
+IsSafeUpTo session level at to old new = (t : ℕ) → old.clock ≤ t → t ≤ to → (c : Choice) → IsChoice new t c → ComesSafely session level at old c
 
 -- So it is to the end of the calls, where a crash left at first of the control what a read gives.
 abbrev pub IsSafeThroughout : (session : List ℕ) → Level → (at : ℕ) → (old new : PlantState) → Type 0
 IsSafeThroughout session level at old new = IsDurable (on old Control) → IsSafeUpTo session level at new.clock old new
+
+-- At the end of calls, also on a plant that keeps no past: each volume holds what it held, and a crash leaves of it what it could leave at first. Each
+-- choice comes safely, where a crash left at first of the control what a read gives.
+pub record IsSafeNow (session : List ℕ) (level : Level) (at : ℕ) (old new : PlantState) : Type 0 where
+  pub bytes : (d : ℕ) → d < old.volumes → new.bytes (Volume d) ≡ old.bytes (Volume d)
+  pub images : (d : ℕ) → d < old.volumes → (c : List ℕ) → new.images new.clock (Volume d) c → old.images old.clock (Volume d) c
+  pub safe : IsDurable (on old Control) → AtNow (ComesSafely session level at old) new
 
 -- A session was formatted by a moment. Up to an earlier one the site that was is shut, or what a crash leaves means just the session that starts, from
 -- the first record's spot. At that moment its first mark counts, which has number 1.
@@ -86,6 +97,12 @@ pub record StartsSafely (session : List ℕ) (level : Level) (at : ℕ) (old new
   pub means : (t : ℕ) → old.clock ≤ t → t ≤ new.clock → new.said t ≢ old.said old.clock → AtMoment (MeansStart session level at old) new t
   pub formats : (t : ℕ) → old.clock ≤ t → t ≤ new.clock → new.said t ≢ old.said old.clock → FormatsFirst session level at old new t
 
+-- Calls start a session: they end safely, and on a plant that keeps its past it is safe throughout, where a crash left at first of the control what a
+-- read gives.
+pub record BeginsSafely (session : List ℕ) (level : Level) (at : ℕ) (old new : PlantState) : Type 0 where
+  pub now : IsSafeNow session level at old new
+  pub throughout : 0 < old.clock → IsDurable (on old Control) → StartsSafely session level at old new
+
 -- Nothing of a reply was said: nothing at all, or what begins as the line of a status does. A reply begins with a digit of its time.
 abbrev pub IsUnsaid : (before said : List ℕ) → Type 0
 IsUnsaid before said = (said ≡ before) ⊎ ((rest : List ℕ) × (said ≡ before ++ (codes "S" ++ rest)))
@@ -93,6 +110,12 @@ IsUnsaid before said = (said ≡ before) ⊎ ((rest : List ℕ) × (said ≡ bef
 -- the reply to a start that is done
 abbrev pub reply_to_start : Level → (at : ℕ) → List ℕ
 reply_to_start level at = reply_line at (Start level) (Ok Started) 0 (Some (stamp at))
+
+-- It was said whole, behind what was said at first.
+pub record HasRepliedToStart (level : Level) (at : ℕ) (old new : PlantState) : Type 0 where
+  pub before : List ℕ
+  pub later : List ℕ
+  pub said : new.said new.clock ≡ old.said old.clock ++ (before ++ reply_to_start level at ++ later)
 
 -- the line that asks for a start
 abbrev pub start_line : (session : List ℕ) → Level → (at : ℕ) → Line
@@ -147,16 +170,16 @@ pub record HearsStart (session : List ℕ) (level : Level) (at : ℕ) (old new :
   pub start : IsStartOfScript session level at old.script lines text
   pub heard : new.heard new.clock ≡ old.heard old.clock ++ (texts_of lines ++ text ++ later)
 
--- No device was worked on, or a start was heard whole. Then the session starts safely, on a plant that keeps its past, where a crash left at first of
--- the control what a read gives.
+-- No device was worked on, or a start was heard whole. Then its reply was said whole, or the calls end safely. On a plant that keeps its past the
+-- session starts safely, where a crash left at first of the control what a read gives.
 pub data BeginsRun (session : List ℕ) (old new : PlantState) : Type 0 where
   Unstarted : LeavesAll old new → BeginsRun session old new
-  Starting : (level : Level) (at : ℕ) → HearsStart session level at old new → (0 < old.clock → IsDurable (on old Control) → StartsBehind session level at old new) → BeginsRun session old new
+  Starting : (level : Level) (at : ℕ) → HearsStart session level at old new → HasRepliedToStart level at old new ⊎ IsSafeNow session level at old new → (0 < old.clock → IsDurable (on old Control) → StartsBehind session level at old new) → BeginsRun session old new
 
 -- A line is answered before the start: no device is worked on, unless it is a start that is accepted.
 abbrev pub BeginsByLine : (session : List ℕ) → Line → (old new : PlantState) → Type 0
 BeginsByLine session line old new =
-    MatchOption (level_started session line) (LeavesAll old new) (λ level. 0 < old.clock → IsDurable (on old Control) → StartsSafely session level line.time.0 old new)
+    MatchOption (level_started session line) (LeavesAll old new) (λ level. BeginsSafely session level line.time.0 old new)
 
 -- A start that is accepted was replied to.
 abbrev pub RepliesToStart : (session : List ℕ) → Line → (old new : PlantState) → Type 0
@@ -167,6 +190,7 @@ pub record HasStartedRun (session : List ℕ) (old new : PlantState) : Type 0 wh
   pub level : Level
   pub at : ℕ
   pub hears : HearsStart session level at old new
+  pub replied : HasRepliedToStart level at old new
   pub behind : 0 < old.clock → IsDurable (on old Control) → (b : StartsBehind session level at old new) × (new.said b.replied_at ≡ new.said b.heard_at ++ reply_to_start level at)
 
 -- What has begun of a run where its session stands between lines: no device was worked on before its start.

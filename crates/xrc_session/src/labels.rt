@@ -5,7 +5,7 @@ ghost use Rattle.crash_plant.specs.Calls.{NoneLent, WorksOn};
 ghost use Rattle.site_store.specs.Commands.{LabelsFit};
 ghost use Rattle.site_store.specs.Records.{IsVolume, VolumesStay};
 ghost use Rattle.crash_plant.specs.declared.device.Device.TheVariants.{Volume};
-ghost use Rattle.xrc_session.specs.Runs.{AreLabels, NamesLabel};
+ghost use Rattle.xrc_session.specs.Runs.{AreLabelsRead, NamesLabel};
 
 use crash_plant::Plant;
 use pair_table::Names;
@@ -24,7 +24,7 @@ fn name_device<P: Plant>(
     requires there { device < (P.state plant.old).volumes }
     requires few { (P.state plant.old).volumes ≤ 64 }
     requires fit { LabelsFit (P.state plant.old) names.old }
-    // Its own label alone, if it gives one.
+    // Its own label alone, if it gives one. It gives none if its count rose.
     ensures label { P.tells → OnOk result (NamesLabel (P.state plant.old) (P.state plant.new) device names.old names.new) }
     ensures others { OnOk result ((names.new.primaries ≡ names.old.primaries) × (names.new.broken ≡ names.old.broken)) }
     ensures fit { LabelsFit (P.state plant.new) names.new }
@@ -46,7 +46,7 @@ pub(crate) fn name_devices<P: Plant>(
     requires home { NoneLent (P.state plant.old) }
     requires few { (P.state plant.old).volumes ≤ 64 }
     requires none { names.old.labels ≡ [] }
-    ensures labels { P.tells → OnOk result (AreLabels (P.state plant.old) (P.state plant.new) 0 names.new.labels) }
+    ensures labels { P.tells → OnOk result (AreLabelsRead (P.state plant.old) (P.state plant.new) names.new.labels) }
     ensures others { OnOk result ((names.new.primaries ≡ names.old.primaries) × (names.new.broken ≡ names.old.broken)) }
     ensures fit { LabelsFit (P.state plant.new) names.new }
     ensures stay { VolumesStay P.tells (P.state plant.old) (P.state plant.new) }

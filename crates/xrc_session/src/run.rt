@@ -11,7 +11,7 @@ ghost use Rattle.xrc_session.specs.Lanes.{AllWent, HaveNoReader, TurnOutFrom};
 ghost use Rattle.xrc_session.specs.Lines.{MayFinish, IsBegunTable, IsDoneLine, IsNewSession, IsSameSession, IsStartedAt, StandsStartedAt, KeepsStart, IsStartAnswered, StartsByLine};
 ghost use Rattle.xrc_session.specs.Openings.{ComesEarly, OpensInOrder, StayGood};
 ghost use Rattle.xrc_session.specs.Replying.{level_in};
-ghost use Rattle.xrc_session.specs.Runs.{AreLabels};
+ghost use Rattle.xrc_session.specs.Runs.{AreLabelsRead};
 ghost use Rattle.xrc_session.specs.Starting.{BeginsByLine, IsSafeStart, IsWorkOfStart, RepliesToStart, StandsBehindStart, level_started};
 ghost use Rattle.xrc_session.specs.States.{session_time};
 ghost use Rattle.xrc_session.specs.Stops.{HasStopCause, StopsByCount};
@@ -133,7 +133,7 @@ impl<V: Drop> SessionRun<V> {
         ensures lanes { OnOk result (AreSameLanes traces.old traces.new) }
         ensures safe { P.tells → IsSafeStart self.old.session level line.now.time.0 (P.state plant.old) (P.state plant.new) result }
         ensures works { IsWorkOfStart P.tells (P.state plant.old) (P.state plant.new) result }
-        ensures labels { P.tells → IfSome self.new.site (λ site. AreLabels (P.state plant.old) (P.state plant.new) 0 self.new.names.labels) }
+        ensures labels { P.tells → IfSome self.new.site (λ site. AreLabelsRead (P.state plant.old) (P.state plant.new) self.new.names.labels) }
         ensures stands { P.tells → (began : P) (run : ScriptRun) → IsRunOver S.left run self.new traces.old traces.new (P.state began) (P.state plant.new) → AreCountsFrom (P.state began) (P.state plant.old)
             → OnOk result (StandsStartedAt run self.new traces.new (P.state plant.new)) }
     {
@@ -169,7 +169,7 @@ impl<V: Drop> SessionRun<V> {
         ensures means { P.tells → OnOk result (IfSome (level_started self.old.session line.now) (λ level. StandsBehindStart self.old.session level line.now.time.0 (P.state plant.old) (P.state plant.new))) }
         ensures starts { IfOk result (λ answered. IfSome (level_started self.old.session line.now) (λ level. IsStartAnswered self.new.site line.now.time.0 answered)) }
         ensures same { IsSameSession self.old self.new }
-        ensures labels { P.tells → IfSome self.new.site (λ site. AreLabels (P.state plant.old) (P.state plant.new) 0 self.new.names.labels) }
+        ensures labels { P.tells → IfSome self.new.site (λ site. AreLabelsRead (P.state plant.old) (P.state plant.new) self.new.names.labels) }
         ensures does { P.tells → (began : P) → DoesLine S.left line.now self.old self.new traces.old traces.new (P.state began) (P.state plant.old) (P.state plant.new) result }
     {
         // A line's time has 64 bits.
@@ -308,7 +308,7 @@ impl<V: Drop> SessionRun<V> {
         ensures means { P.tells → self.old.site ≡ None → OnOk result (IfSome (level_started self.old.session line.now) (λ level. StandsBehindStart self.old.session level line.now.time.0 (P.state plant.old) (P.state plant.new))) }
         ensures starts { self.old.site ≡ None → IfOk result (λ answered. IfSome (level_started self.old.session line.now) (λ level. IsStartAnswered self.new.site line.now.time.0 answered)) }
         ensures same { IsSameSession self.old self.new }
-        ensures labels { P.tells → self.old.site ≡ None → IfSome self.new.site (λ site. AreLabels (P.state plant.old) (P.state plant.new) 0 self.new.names.labels) }
+        ensures labels { P.tells → self.old.site ≡ None → IfSome self.new.site (λ site. AreLabelsRead (P.state plant.old) (P.state plant.new) self.new.names.labels) }
         ensures cause { IfErr result (HasStopCause (P.state plant.old) (P.state plant.new)) }
         ensures counts { StopsByCount (P.state plant.old) (P.state plant.new) result }
         ensures does { P.tells → (began : P) → DoesLine S.left line.now self.old self.new traces.old traces.new (P.state began) (P.state plant.old) (P.state plant.new) result }
@@ -340,7 +340,7 @@ impl<V: Drop> SessionRun<V> {
         ensures same { IsSameSession self.old self.new }
         ensures time { OnOk result (session_time self.new ≤ line.now.time.0) }
         ensures start { OnOk result (KeepsStart self.old self.new × StartsByLine line.now self.old self.new) }
-        ensures labels { P.tells → self.old.site ≡ None → IfSome self.new.site (λ site. AreLabels (P.state plant.old) (P.state plant.new) 0 self.new.names.labels) }
+        ensures labels { P.tells → self.old.site ≡ None → IfSome self.new.site (λ site. AreLabelsRead (P.state plant.old) (P.state plant.new) self.new.names.labels) }
         ensures keeps { KeepsPlant P.tells (P.state plant.old) (P.state plant.new) }
         ensures went { AllWent S.left S.faults traces.old traces.new }
         ensures lanes { OnOk result (AreSameLanes traces.old traces.new) }

@@ -7,7 +7,7 @@ ghost use Rattle.site_store.specs.Sites.{new_site};
 ghost use Rattle.site_store.specs.Standing.{HasLengths, SiteStands, none_excepted};
 ghost use Rattle.xrc_session.specs.LinePauses.{MayCommandSite};
 ghost use Rattle.xrc_session.specs.Lanes.{AllWent};
-ghost use Rattle.xrc_session.specs.Runs.{AreLabels};
+ghost use Rattle.xrc_session.specs.Runs.{AreLabelsRead};
 ghost use Rattle.xrc_session.specs.Starting.{MayBeStarted, IsSafeStart, IsSiteStarted, IsWorkOfStart, StartsRuns};
 ghost use Rattle.xrc_session.specs.Bringing.{BreakOnAsTraces};
 
@@ -49,7 +49,7 @@ fn format<P: Plant>(
     requires unlabelled { names.old.labels ≡ [] }
     ensures site { IfOk result (λ site. site ≡ new_site beginning.controls (P.state plant.old).volumes beginning.session beginning.level beginning.at) }
     ensures may { IfOk result (MayCommandSite P.tells names.new (P.state plant.new)) }
-    ensures labels { P.tells → OnOk result (AreLabels (P.state plant.old) (P.state plant.new) 0 names.new.labels) }
+    ensures labels { P.tells → OnOk result (AreLabelsRead (P.state plant.old) (P.state plant.new) names.new.labels) }
     ensures others { OnOk result ((names.new.primaries ≡ names.old.primaries) × (names.new.broken ≡ names.old.broken)) }
     ensures stands { P.tells → IfOk result (λ site. SiteStands none_excepted site (P.state plant.new)) }
     ensures safe { P.tells → IsSafeStart beginning.session beginning.level beginning.at.0 (P.state plant.old) (P.state plant.new) result }
@@ -83,7 +83,7 @@ impl SessionParts {
     ) -> Result<Site<P::Volume>, Stop>
         requires may { MayBeStarted beginning.controls beginning.at.0 self.old.names self.old.group traces.old (P.state plant.old) }
         ensures site { IfOk result (IsSiteStarted P.tells beginning.session beginning.level beginning.controls beginning.at.0 traces.new self.new.names self.new.group (P.state plant.new)) }
-        ensures names { P.tells → OnOk result (AreLabels (P.state plant.old) (P.state plant.new) 0 self.new.names.labels) }
+        ensures names { P.tells → OnOk result (AreLabelsRead (P.state plant.old) (P.state plant.new) self.new.names.labels) }
         ensures primaries { OnOk result (self.new.names.primaries ≡ self.old.names.primaries) }
         ensures went { AllWent S.left S.faults traces.old traces.new }
         ensures safe { P.tells → IsSafeStart beginning.session beginning.level beginning.at.0 (P.state plant.old) (P.state plant.new) result }

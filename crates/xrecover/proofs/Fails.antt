@@ -1,7 +1,7 @@
 -- Why a recovery fails: faults of calls that read.
 use Rattle.std.proofs.Common.{◌≡◌, ◌≢◌, ◌≤◌, ℕ, Bool, false, Result, Ok, Err, arith, ◌∙◌, ap, subst}
 use Rattle.std.specs.Prelude.{IsErrOf, is_err}
-use Rattle.xrc_edge.specs.Causes.{HasCause}
+use Rattle.xrc_edge.specs.Causes.{HasCause, Rose}
 use Rattle.crash_plant.specs.declared.device.Device.{Device}
 use Rattle.crash_plant.specs.declared.device.Device.TheVariants.{Control, State, Journal, Volume}
 use Rattle.xrc_journal.specs.Jobs.{FailsByCount}

@@ -1,5 +1,5 @@
 use Rattle.std.proofs.Common.{arith}
-use Rattle.xrc_session.proofs.Labelled.{labelled_all, labelled_next, stay_next, works_next}
+use Rattle.xrc_session.proofs.Labelled.{labelled_all, labelled_next, labelled_none, stay_next, works_next}
 use Rattle.xrc_session.proofs.labels.name_devices.Goals as goal
 
 pub returns-in_err-name_device-clause-stay : goal.returns-in_err-name_device-clause-stay
@@ -11,6 +11,9 @@ pub returns-in_err-name_device-clause-only : goal.returns-in_err-name_device-cla
 returns-in_err-name_device-clause-only g c =
     let before = c.loop-device in
     works_next g.P.Plant.tells (g.P.Plant.state c.args.plant.now) (g.P.Plant.state before.plant) (g.P.Plant.state c.name_device.new.plant) c.args.names.now before.names before.device before.invariant c.name_device.ensures.stay c.name_device.ensures.only
+
+pub loop-device-init : goal.loop-device-init
+loop-device-init g c = labelled_none g.P.Plant.tells (g.P.Plant.state c.args.plant.now) c.args.names.now c.requires.none
 
 pub loop-device-preserved : goal.loop-device-preserved
 loop-device-preserved g c =

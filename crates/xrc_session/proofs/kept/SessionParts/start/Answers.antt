@@ -11,9 +11,9 @@ use Rattle.site_store.proofs.MarkFits.{reads_choice}
 use Rattle.xrc_status.specs.declared.stop.Stop.{Stop}
 use Rattle.xrc_session.specs.LinePauses.{IsReadyForEpoch}
 use Rattle.xrc_session.specs.Starting.{IsSafeStart, IsSafeThroughout, IsWorkOfStart, MeansStart}
-use Rattle.xrc_session.specs.Runs.{AreLabels}
+use Rattle.xrc_session.specs.Runs.{AreLabelsRead}
 use Rattle.xrc_session.proofs.InTurn.{went_here}
-use Rattle.xrc_session.proofs.Labelled.{labels_still}
+use Rattle.xrc_session.proofs.Labelled.{read_still}
 use Rattle.xrc_session.proofs.LinesBegun.{lanes_may_go_on}
 use Rattle.xrc_session.proofs.Numbered.{given_on}
 use Rattle.xrc_session.proofs.Readying.{broken_alone}
@@ -181,12 +181,14 @@ returns-clause-site g c =
 
 pub returns-clause-names : goal.returns-clause-names
 returns-clause-names g c told =
+    let b = c.args.beginning in
     let old = g.P.Plant.state c.args.plant.now in
     let mid = g.P.Plant.state c.format.new.plant in
     let new = g.P.Plant.state c.bring_to.new.plant in
     let alone = broken_alone c.bring_to.new.traces c.format.new.names in
-    subst (AreLabels old new 0) (sym (ap (λ (n : Naming). n.labels) c.in_ok-bring_to.ensures.names ∙ alone.1))
-    (labels_still old mid new 0 c.format.new.names.labels (λ d. c.format.ensures.works.counts.later (Volume d)) (λ d. c.bring_to.ensures.works.counts.later (Volume d)) (c.in_ok-site.ensures.labels told))
+    let unworked = none_worked b.controls old.volumes b.session b.level b.at c.in_ok-site.site c.in_ok-site.ensures.site in
+    subst (AreLabelsRead old new) (sym (ap (λ (n : Naming). n.labels) c.in_ok-bring_to.ensures.names ∙ alone.1))
+    (read_still old mid new c.format.new.names.labels (λ d. c.format.ensures.works.counts.later (Volume d)) (λ d. c.bring_to.ensures.works.works.others_faults (Volume d) (unworked d)) (c.in_ok-site.ensures.labels told))
 
 pub returns-clause-primaries : goal.returns-clause-primaries
 returns-clause-primaries g c =

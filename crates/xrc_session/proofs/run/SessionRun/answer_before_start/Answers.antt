@@ -194,7 +194,7 @@ safe : (g : given.Over) (c : After-start g) → g.P.Plant.tells → IsSafeThroug
 safe g c tells = subst (λ (n : List ℕ). IsSafeThroughout n c.in-Some.level c.args.line.now.time.0 (g.P.Plant.state c.args.plant.now) (g.P.Plant.state c.start.new.plant)) (ap (λ (x : SessionState). x.session) c.self.view_is) (c.start.ensures.safe tells).safe
 
 begins : (g : given.Over) (c : After-start g) → level_started c.args.self.now.session c.args.line.now ≡ Some c.in-Some.level → g.P.Plant.tells → BeginsByLine c.args.self.now.session c.args.line.now (g.P.Plant.state c.args.plant.now) (g.P.Plant.state c.start.new.plant)
-begins g c level tells = begins_start c.args.self.now.session c.args.line.now c.in-Some.level (g.P.Plant.state c.args.plant.now) (g.P.Plant.state c.start.new.plant) level c.start.ensures.works.site (c.start.ensures.works.silent tells) g.P.Plant.tells tells c.start.ensures.works.volumes (safe g c tells)
+begins g c level tells = begins_start c.args.self.now.session c.args.line.now c.in-Some.level (g.P.Plant.state c.args.plant.now) (g.P.Plant.state c.start.new.plant) level c.start.ensures.works.site (c.start.ensures.works.elapses tells) (c.start.ensures.works.silent tells) g.P.Plant.tells tells c.start.ensures.works.volumes (safe g c tells)
 
 same_session : (g : given.Over) (c : After-start g) → IsSameSession c.args.self.now c.start.new.self
 same_session g c = record { session = c.start.ensures.same.session ∙ ap (λ (x : SessionState). x.session) c.self.view_is; controls = c.start.ensures.same.controls ∙ ap (λ (x : SessionState). x.controls) c.self.view_is }

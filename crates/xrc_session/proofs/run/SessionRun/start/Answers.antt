@@ -8,7 +8,7 @@ use Rattle.state_set.specs.Slots.{started_table}
 use Rattle.site_store.specs.Sites.{SiteState}
 use Rattle.xrc_status.specs.declared.stop.Stop.{Stop}
 use Rattle.xrc_session.specs.Lines.{IsBegunTable}
-use Rattle.xrc_session.specs.Runs.{AreLabels}
+use Rattle.xrc_session.specs.Runs.{AreLabelsRead}
 use Rattle.xrc_session.specs.Starting.{FormatsFirst, IsSafeStart, IsSafeThroughout, IsWorkOfStart, MayBeStarted}
 use Rattle.xrc_session.specs.States.{SessionState}
 use Rattle.xrc_session.proofs.LinesBegun.{begun_between, begun_is_started_at, begun_may_start, begun_stands, begun_unstarted}
@@ -61,7 +61,7 @@ returns-in_err-site-clause-labels g c told =
     let old = g.P.Plant.state c.args.plant.now in
     let new = g.P.Plant.state c.start.new.plant in
     let none = ap (λ (x : SessionState). x.site) c.self.view_is ∙ begun_unstarted g.P.Plant.tells c.args.self.now c.args.traces.now old c.requires.between in
-    subst (λ (o : Option SiteState). IfSome o (λ site. AreLabels old new 0 c.start.new.self.names.labels)) (sym none) tt
+    subst (λ (o : Option SiteState). IfSome o (λ site. AreLabelsRead old new c.start.new.self.names.labels)) (sym none) tt
 
 pub returns-in_err-site-clause-stands : goal.returns-in_err-site-clause-stands
 returns-in_err-site-clause-stands g c told began run over counts = IfOk-from_err c.from_residual.result _ c.from_residual.ensures.0
