@@ -48,7 +48,7 @@ module _ {S P : Type 0} (tells : Type 0) (told : tells) (state : P → PlantStat
   not_by_site : (status ≡ 14) ⊎ (status ≡ 16) → ⊥
   not_by_site is =
       let site = ends.opens.of_site is in
-      let due : stop_of_site storage (length sources) (state old) ≡ Some site.0 = ap (λ (n : ℕ). stop_of_site storage n (state old)) given.lanes_stay ∙ site.2 in
+      let due : stop_of_site storage (length sources) (state old) ≡ Some site.0 = ap (λ (n : ℕ). stop_of_site storage n (state old)) given.many ∙ site.2 in
       let stops : opening_stop storage (state old) sources ≡ Some site.0 = ap (λ (o : Option Stop). elim o [ Some stop ↦ Some stop | None ↦ stop_of_headers 0 [] sources ]) due in
       cc (opens, stops)
 

@@ -297,7 +297,7 @@ module _ {S P : Type 0} (tells : Type 0) (state : P → PlantState) (left : S �
     module _ (told : tells) (below : AreCountsBelow (state new)) (sources : List SourceBytes) (given : AllTold left faults before now sources) (none : opening_stop storage (state old) sources ≡ None) where
       not_early : ComesEarly stop → ⊥
       not_early (inl site) =
-          let due : stop_of_site storage (length sources) (state old) ≡ Some stop = ap (λ (n : ℕ). stop_of_site storage n (state old)) given.lanes_stay ∙ r.opens.of_site stop site refl in
+          let due : stop_of_site storage (length sources) (state old) ≡ Some stop = ap (λ (n : ℕ). stop_of_site storage n (state old)) given.many ∙ r.opens.of_site stop site refl in
           let stops : opening_stop storage (state old) sources ≡ Some stop = ap (λ (o : Option Stop). elim o [ Some x ↦ Some x | None ↦ stop_of_headers 0 [] sources ]) due in
           cc (none, stops)
       not_early (inr header) = let stops = r.opens.of_headers sources stop given header refl in cc (none, stops)

@@ -154,7 +154,7 @@ module _ (tells : Type 0) (device : ℕ) (label : Label) where
         console = λ bad. absurd (omega arith);
         complete = λ again enough none. refl;
         volume_count = λ other. s.front.only.faults (Volume device) ∙ same;
-        console_count = λ done. s.quiet is ∙ w.console_faults;
+        console_count = λ done. s.console_count is ∙ w.console_faults;
         says = says_later (label_line device label) s.front.only s.front.moments;
         whole = λ told. inl (whole_later (label_line device label) told (s.whole told is));
         labelled = λ told done. stands s.front.only told;
