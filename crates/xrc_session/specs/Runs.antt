@@ -48,7 +48,7 @@ pub data AreLabels (old new : PlantState) : (device : ℕ) → List NamedDevice 
 abbrev pub IsFaultless : (old new : PlantState) → NamedDevice → Type 0
 IsFaultless old new label = new.faults (Volume label.device) ≡ old.faults (Volume label.device)
 
--- These labels were read: each valid one, in order, but those of volumes whose counts rose meanwhile. Such a volume gives none.
+-- These labels were read: each valid one, in order. A volume whose count rose meanwhile gives none.
 pub record AreLabelsRead (old new : PlantState) (labels : List NamedDevice) : Type 0 where
   pub are : AreLabels old new 0 labels
   pub faultless : All (IsFaultless old new) labels

@@ -69,8 +69,8 @@ IsSafeUpTo session level at to old new = (t : ℕ) → old.clock ≤ t → t ≤
 abbrev pub IsSafeThroughout : (session : List ℕ) → Level → (at : ℕ) → (old new : PlantState) → Type 0
 IsSafeThroughout session level at old new = IsDurable (on old Control) → IsSafeUpTo session level at new.clock old new
 
--- At the end of calls, also on a plant that keeps no past: each volume holds what it held, and a crash leaves of it what it could leave at first. Each
--- choice comes safely, where a crash left at first of the control what a read gives.
+-- At the end of calls, also on a plant that keeps no past: each volume holds what it held, and a crash leaves of it what it could leave at first. If a
+-- crash left of the control at first what a read gives, each choice comes safely.
 pub record IsSafeNow (session : List ℕ) (level : Level) (at : ℕ) (old new : PlantState) : Type 0 where
   pub bytes : (d : ℕ) → d < old.volumes → new.bytes (Volume d) ≡ old.bytes (Volume d)
   pub images : (d : ℕ) → d < old.volumes → (c : List ℕ) → new.images new.clock (Volume d) c → old.images old.clock (Volume d) c
@@ -97,8 +97,8 @@ pub record StartsSafely (session : List ℕ) (level : Level) (at : ℕ) (old new
   pub means : (t : ℕ) → old.clock ≤ t → t ≤ new.clock → new.said t ≢ old.said old.clock → AtMoment (MeansStart session level at old) new t
   pub formats : (t : ℕ) → old.clock ≤ t → t ≤ new.clock → new.said t ≢ old.said old.clock → FormatsFirst session level at old new t
 
--- Calls start a session: they end safely, and on a plant that keeps its past it is safe throughout, where a crash left at first of the control what a
--- read gives.
+-- Calls start a session: they end safely. On a plant that keeps its past it is safe throughout, if a crash left of the control at first what a read
+-- gives.
 pub record BeginsSafely (session : List ℕ) (level : Level) (at : ℕ) (old new : PlantState) : Type 0 where
   pub now : IsSafeNow session level at old new
   pub throughout : 0 < old.clock → IsDurable (on old Control) → StartsSafely session level at old new
@@ -171,7 +171,7 @@ pub record HearsStart (session : List ℕ) (level : Level) (at : ℕ) (old new :
   pub heard : new.heard new.clock ≡ old.heard old.clock ++ (texts_of lines ++ text ++ later)
 
 -- No device was worked on, or a start was heard whole. Then its reply was said whole, or the calls end safely. On a plant that keeps its past the
--- session starts safely, where a crash left at first of the control what a read gives.
+-- session starts safely, if a crash left of the control at first what a read gives.
 pub data BeginsRun (session : List ℕ) (old new : PlantState) : Type 0 where
   Unstarted : LeavesAll old new → BeginsRun session old new
   Starting : (level : Level) (at : ℕ) → HearsStart session level at old new → HasRepliedToStart level at old new ⊎ IsSafeNow session level at old new → (0 < old.clock → IsDurable (on old Control) → StartsBehind session level at old new) → BeginsRun session old new
