@@ -31,9 +31,6 @@ const JOURNAL_OF_CONTROL: u64 = 1_818_624;
 /// The length of a volume of one cylinder.
 const VOLUME_LENGTH: u64 = 860_672;
 
-/// The most controls of a session.
-pub(crate) const CONTROLS: u16 = 16;
-
 pub(crate) fn session(rt: &impl Abort) -> Session {
     Session::read(b"ABC").expect(rt, "a name")
 }
@@ -140,12 +137,7 @@ fn look_at_table<V>(site: &Site<V>)
 
 /// Brings a session that may go to a limit on to a later one, or as far as its devices let it. None where they stop it. It may go on
 /// from the limit.
-pub(crate) fn brought_as_far<
-    R: Threads + Wait + Sync,
-    S: Source + Send + Drop,
-    P: Plant,
-    G: Gate + Sync,
->(
+fn brought_as_far<R: Threads + Wait + Sync, S: Source + Send + Drop, P: Plant, G: Gate + Sync>(
     rt: &R,
     alloc: Global,
     gate: &G,

@@ -92,7 +92,7 @@ fn log_two<R: Threads + Wait + Sync + Abort, P: Plant>(
 fn assert_one_of(rt: &impl Abort, left: &Left, times: &[u64]) {
     let content = if left.time == 0x6D { *b"AB" } else { [b'Z', 0] };
     assert!(rt; times.contains(&left.time), "{}", left.time);
-    assert!(rt; left.states[0] == DUPLEX);
+    assert!(rt; left.state == DUPLEX);
     assert!(rt; left.held.slots[2] == EMPTY && left.held.slots[3] == slot(content));
 }
 
@@ -154,7 +154,7 @@ fn a_crash_while_tracks_are_copied_leaves_the_volume(rt: HostRuntime) {
     log_seven(&rt, alloc, &mut plant);
     for choice in CHOICES {
         let left = recovered(&rt, alloc, &plant, choice);
-        assert!(&rt; left.time == 0x60 && left.states[0] == Some(PairState::Copy));
+        assert!(&rt; left.time == 0x60 && left.state == Some(PairState::Copy));
         assert!(&rt; left.held.label == EMPTY && left.held.slots == [EMPTY; 15]);
     }
 }

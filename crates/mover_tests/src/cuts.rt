@@ -1,12 +1,11 @@
-//! The cut of two controls, of which one has told less than the other: by steps, and by an epoch on threads that is stopped at each call
-//! of a device.
+//! The cut of two controls, of which one has told less than the other, by steps.
 
-ghost use Rattle.std.specs.Prelude.{◌≡◌, ◌≤◌, length, IfSome};
+ghost use Rattle.std.specs.Prelude.{◌≡◌, length};
 ghost use Rattle.crash_plant.specs.Calls.{NoneLent};
 ghost use Rattle.mover_tests.specs.Courses.{AreAtLimit, AreOpened, MayGoTo};
 
 use crate::commands::{add_pair, say};
-use crate::courses::{Course, begun, brought_as_far, brought_on, failing_plant};
+use crate::courses::{Course, begun, brought_on, failing_plant};
 use crate::lanes::{OpenLanes, add_lane, no_lanes, trace};
 use crate::left::{CHOICES, DUPLEX, EMPTY, Left, recovered, slot};
 use crate::steps::{log, stepping};
@@ -61,23 +60,13 @@ fn at_nine<R: Threads + Wait + Sync + Abort, P: Plant>(
     course
 }
 
-/// A device's call of this number fails, and all later ones.
-const fn stop_at(device: Device, call: u64) -> Fail {
-    Fail {
-        at: Some(device),
-        said: 1,
-        call,
-        stop: true,
-    }
-}
-
 /// The pair is duplex, and its volume holds the writes up to the time, which is one of these.
 fn assert_up_to(rt: &impl Abort, left: &Left, times: &[u64]) {
     let time = left.time;
     let first = if time >= 0x10 { slot(*b"AB") } else { EMPTY };
     let second = if time >= 0x20 { slot(*b"CD") } else { EMPTY };
     assert!(rt; times.contains(&time), "{time}");
-    assert!(rt; left.states[0] == DUPLEX);
+    assert!(rt; left.state == DUPLEX);
     assert!(rt; left.held.slots[0] == first && left.held.slots[1] == second);
     assert!(rt; left.held.slots[2] == EMPTY);
 }
@@ -119,7 +108,13 @@ fn assert_stopped<R: Threads + Wait + Sync + Abort>(
     is_logged: bool,
     times: &[u64],
 ) {
-    let mut plant = failing_plant(rt, alloc, 2, 1, &[stop_at(Device::Journal(0), call)]);
+    let stop = Fail {
+        at: Some(Device::Journal(0)),
+        said: 1,
+        call,
+        stop: true,
+    };
+    let mut plant = failing_plant(rt, alloc, 2, 1, &[stop]);
     assert!(rt; log_least(rt, alloc, &mut plant).is_ok() == is_logged);
     for choice in CHOICES {
         let left = recovered(rt, alloc, &plant, choice);
@@ -139,48 +134,4 @@ fn the_cut_is_the_least_floor(rt: HostRuntime) {
         assert_stopped(&rt, alloc, call, false, &[9, 0x15]);
     }
     assert_stopped(&rt, alloc, 5, true, &[0x15]);
-}
-
-/// The session goes on to [40] as far as its devices let it. Says whether it came there.
-fn go_on<R: Threads + Wait + Sync + Abort, P: Plant>(rt: &R, alloc: Global, plant: &mut P) -> bool
-    requires { NoneLent (P.state plant.old) }
-    ensures { NoneLent (P.state plant.new) }
-{
-    let course = at_nine(rt, alloc, plant);
-    let limits = (Stamp(9), Stamp(0x40));
-    brought_as_far(rt, alloc, &FreePass, course, plant, limits).is_some()
-}
-
-/// Where the epoch to [40] is stopped at this call of a device, the volume holds the writes up to a time that a cut may have. Says whether
-/// the epoch came to its end.
-fn comes_to_its_end<R: Threads + Wait + Sync + Abort>(
-    rt: &R,
-    alloc: Global,
-    device: Device,
-    call: u64,
-) -> bool {
-    let mut plant = failing_plant(rt, alloc, 2, 1, &[stop_at(device, call)]);
-    let came = go_on(rt, alloc, &mut plant);
-    let left = recovered(rt, alloc, &plant, &[0xFF]);
-    assert_up_to(rt, &left, &[9, 0x15, 0x1F, 0x2F, 0x40]);
-    assert!(rt; !came || left.time == 0x40);
-    came
-}
-
-/// Stops the epoch at each call of a device, up to its end.
-fn stop_at_each<R: Threads + Wait + Sync + Abort>(rt: &R, alloc: Global, device: Device) {
-    for call in 0..200 {
-        if comes_to_its_end(rt, alloc, device, call) {
-            assert!(rt; call > 0);
-            return;
-        }
-    }
-    panic!(rt; "an end");
-}
-
-#[test]
-fn a_stopped_epoch_leaves_the_writes_up_to_one_cut(rt: HostRuntime) {
-    let alloc = rt.alloc();
-    stop_at_each(&rt, alloc, Device::Journal(0));
-    stop_at_each(&rt, alloc, Device::Control);
 }

@@ -15,26 +15,11 @@ use primary_ctl::Primary;
 use sidefile::Sidefile;
 use std::alloc::Global;
 use std::process::Abort;
-use test_fixtures::bytes_of;
 use write_trace::{Header, start};
 use xrc_edge::{Bytes, MemorySource, Source};
 
-/// The most bytes of a pull that is cut at no other place.
-pub(crate) const PULL: u32 = 65_536;
-
-/// A source of bytes that gives so many a pull at most, and fails before the bytes that are marked.
-pub(crate) fn source(
-    rt: &impl Abort,
-    alloc: Global,
-    bytes: Bytes,
-    most: u32,
-    marks: &[u8],
-) -> MemorySource
-    requires { 0 < most }
-{
-    let marks = bytes_of(alloc, marks).expect(rt, "memory");
-    MemorySource::make(alloc, bytes, most, marks).expect(rt, "memory")
-}
+/// The most bytes of a pull.
+const PULL: u32 = 65_536;
 
 /// The source of a trace of so many volumes, with serials from that of a number on.
 pub(crate) fn trace(
@@ -44,7 +29,7 @@ pub(crate) fn trace(
     events: &[Event],
 ) -> MemorySource {
     let bytes = trace_bytes(rt, alloc, volumes, events);
-    source(rt, alloc, bytes, PULL, &[])
+    MemorySource::make(alloc, bytes, PULL, Bytes::make(alloc)).expect(rt, "memory")
 }
 
 /// Lanes, with the volumes that their headers name.

@@ -5,25 +5,17 @@ ghost use Rattle.crash_plant.specs.MemoryPlant.{memory_state};
 
 use crate::courses::session;
 use crash_plant::{Device, MemoryPlant, Plant};
-use pair_table::{PairState, PairTable, SuspendCause};
+use pair_table::PairState;
 use std::alloc::Global;
 use std::process::Abort;
 use std::thread::Threads;
 use test_fixtures::content;
-use tod_stamp::Stamp;
 use xrecover::recover;
 
 /// What a crash may leave in an open range: zeros, or bytes FF.
 pub(crate) const CHOICES: [&[u8]; 2] = [&[], &[0xFF]];
 
 pub(crate) const DUPLEX: Option<PairState> = Some(PairState::Duplex);
-
-pub(crate) const fn suspended(cause: SuspendCause, since: u64) -> Option<PairState> {
-    Some(PairState::Suspended {
-        cause,
-        since: Stamp(since),
-    })
-}
 
 /// The first bytes of a slot that holds record 1 alone, of two bytes.
 pub(crate) const fn slot(content: [u8; 2]) -> [u8; 8] {
@@ -46,15 +38,10 @@ pub(crate) struct Held {
 #[derive(Drop)]
 pub(crate) struct Left {
     pub(crate) time: u64,
-    /// The states of the rows of devices 0 and 1.
-    pub(crate) states: [Option<PairState>; 2],
+    /// The state of the row of volume 0.
+    pub(crate) state: Option<PairState>,
     /// What volume 0 holds.
     pub(crate) held: Held,
-}
-
-/// The state of a device's row.
-pub(crate) fn state_of(table: &PairTable, device: u16) -> Option<PairState> {
-    Some(table.row_of(device)?.state)
 }
 
 /// The first bytes of each track's slot on a volume.
@@ -88,10 +75,10 @@ fn recovered_of<R: Threads + Sync + Abort, P: Plant>(rt: &R, alloc: Global, left
     let Ok(outcome) = recover(rt, alloc, left, session(rt)) else {
         panic!(rt; "a recovery");
     };
-    let table = &outcome.means.table;
+    let row = outcome.means.table.row_of(0);
     Left {
         time: outcome.means.time.0,
-        states: [state_of(table, 0), state_of(table, 1)],
+        state: row.map(|row| row.state),
         held: held_by(left, 0),
     }
 }

@@ -1,5 +1,4 @@
-//! Tests of epochs: one limit behind another, readers that wait for each other, the cut of several controls, crashes, and volumes and
-//! sources that fail.
+//! Tests of epochs whose readers wait for each other, and of groups that are formed step by step: the cut of two controls, and crashes.
 #![tactic(auto)]
 
 #[cfg(test)]
@@ -11,17 +10,11 @@ mod crashes;
 #[cfg(test)]
 mod cuts;
 #[cfg(test)]
-mod failing;
-#[cfg(test)]
 mod gates;
 #[cfg(test)]
 mod lanes;
 #[cfg(test)]
 mod left;
-#[cfg(test)]
-mod limits;
-#[cfg(test)]
-mod sources;
 #[cfg(test)]
 mod steps;
 #[cfg(test)]

@@ -1,5 +1,4 @@
-//! Tests of a site of several volumes: groups that are logged, applied and marked, volumes that fail, and data sets that are used
-//! again.
+//! Tests of a site of several volumes: groups that are logged, applied and marked, and marks that a record needs.
 #![tactic(auto)]
 
 #[cfg(test)]
@@ -13,15 +12,9 @@ mod crashes;
 #[cfg(test)]
 mod entries;
 #[cfg(test)]
-mod failing_volumes;
-#[cfg(test)]
-mod faults;
-#[cfg(test)]
 mod fixtures;
 #[cfg(test)]
 mod groups;
-#[cfg(test)]
-mod restarts;
 #[cfg(test)]
 mod ring;
 #[cfg(test)]

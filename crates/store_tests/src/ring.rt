@@ -1,11 +1,10 @@
-//! Data sets that are used again: groups of which no two fit one set, a stop at each call of a switch and of a mark that had to come
-//! before a record, and a sync that fails in such a mark.
+//! Data sets that are used again: groups of which no two fit one set, a stop at each call of a mark that had to come before a record,
+//! and a sync that fails in such a mark.
 
-ghost use Rattle.std.specs.Prelude.{◌≡◌, OnOk};
+ghost use Rattle.std.specs.Prelude.{◌≡◌};
 ghost use Rattle.crash_plant.specs.Calls.{NoneLent};
-ghost use Rattle.site_store.specs.IdleSites.{IsSiteIdle};
 
-use crate::calls::{log, log_applied, mark, suspend};
+use crate::calls::{log, log_applied, suspend};
 use crate::entries::{add, longest};
 use crate::fixtures::{
     CHOICES, DUPLEX, Left, assert_same, group, paired, plant, recovered, suspended,
@@ -13,12 +12,11 @@ use crate::fixtures::{
 use crash_plant::{Device, Fail, Plant};
 use pair_table::{Level, SuspendCause};
 use pending_queue::Formed;
-use site_store::{Site, StoreError};
+use site_store::StoreError;
 use std::alloc::Global;
 use std::process::Abort;
 use std::thread::Threads;
 use test_fixtures::fail_at;
-use tod_stamp::Stamp;
 
 /// Adds the longest image of a track of a volume, of bytes equal to the cut.
 fn add_longest(rt: &impl Abort, alloc: Global, formed: &mut Formed, at: (u16, u32), cut: u8)
@@ -58,33 +56,13 @@ struct Came {
     next: u64,
 }
 
-/// Tells suspensions, and makes a mark if this is wanted.
-fn settle<R: Threads + Sync + Abort, P: Plant>(
-    rt: &R,
-    plant: &mut P,
-    site: &mut Site<P::Volume>,
-    cut: Stamp,
-    marks: bool,
-) -> Result<(), StoreError>
-    requires { IsSiteIdle P.tells site.old (P.state plant.old) }
-    ensures home { NoneLent (P.state plant.new) }
-    ensures idle { OnOk result (IsSiteIdle P.tells site.new (P.state plant.new)) }
-{
-    suspend(rt, plant, site, cut)?;
-    if marks {
-        return mark(rt, plant, site);
-    }
-    Ok(())
-}
-
-/// Logs and applies groups of one pair, and marks each if this is wanted.
+/// Logs and applies groups of one pair, and makes no mark of its own.
 #[tactic(auto, using(crate::proofs::Between::idle_home))]
 fn run<R: Threads + Sync + Abort, P: Plant>(
     rt: &R,
     alloc: Global,
     plant: &mut P,
     groups: &[Formed],
-    marks: bool,
     came: &mut Came,
 ) -> Result<(), StoreError>
     requires { NoneLent (P.state plant.old) }
@@ -95,7 +73,7 @@ fn run<R: Threads + Sync + Abort, P: Plant>(
         came.next = formed.cut().0;
         log_applied(rt, plant, &mut site, formed)?;
         came.told = came.next;
-        settle(rt, plant, &mut site, formed.cut(), marks)?;
+        suspend(rt, plant, &mut site, formed.cut())?;
     }
     Ok(())
 }
@@ -113,14 +91,13 @@ fn stop_at<R: Threads + Sync + Abort>(
     alloc: Global,
     (device, call): (Device, u64),
     groups: &[Formed],
-    marks: bool,
 ) {
     let mut came = Came {
         told: 0x60,
         next: 0x60,
     };
     let mut plant = plant(rt, alloc, 1, 3, &[fail_at(Some(device), call, true)]);
-    let result = run(rt, alloc, &mut plant, groups, marks, &mut came);
+    let result = run(rt, alloc, &mut plant, groups, &mut came);
     assert_same(rt, &result, &Err(StoreError::Fault(device)), &call);
     for choice in CHOICES {
         let left = recovered(rt, alloc, &plant, choice).expect(rt, "a session");
@@ -135,62 +112,33 @@ fn stop_at_each<R: Threads + Sync + Abort>(
     device: Device,
     calls: (u64, u64),
     groups: &[Formed],
-    marks: bool,
 ) {
     for call in calls.0..calls.1 {
-        stop_at(rt, alloc, (device, call), groups, marks);
+        stop_at(rt, alloc, (device, call), groups);
     }
 }
 
 /// Without a stop all groups are logged.
-fn assert_whole<R: Threads + Sync + Abort>(rt: &R, alloc: Global, groups: &[Formed], marks: bool) {
+fn assert_whole<R: Threads + Sync + Abort>(rt: &R, alloc: Global, groups: &[Formed]) {
     let mut came = Came { told: 0, next: 0 };
     let mut plant = plant(rt, alloc, 1, 3, &[]);
-    let result = run(rt, alloc, &mut plant, groups, marks, &mut came);
+    let result = run(rt, alloc, &mut plant, groups, &mut came);
     assert_same(rt, &result, &Ok(()), &"all groups");
     let left = recovered(rt, alloc, &plant, &[0xFF]).expect(rt, "a session");
     assert!(rt; left.time == 0x66 && left.slots[0][6] == 0x66);
 }
 
-// Journal 0 has 2 calls of the start, 5 of the pair's record and 5 of the first group's before the switch to journal 1.
-
-#[test]
-fn a_stop_at_each_call_of_a_switch_leaves_a_time(rt: HostRuntime) {
-    let alloc = rt.alloc();
-    let groups = groups(&rt, alloc);
-    assert_whole(&rt, alloc, &groups, true);
-    stop_at_each(&rt, alloc, Device::Journal(1), (0, 4), &groups, true);
-    stop_at_each(&rt, alloc, Device::Journal(0), (12, 16), &groups, true);
-}
-
-#[test]
-fn a_stop_at_each_call_of_a_switch_back_leaves_a_time(rt: HostRuntime) {
-    let alloc = rt.alloc();
-    let groups = groups(&rt, alloc);
-    stop_at_each(&rt, alloc, Device::Journal(1), (7, 11), &groups, true);
-    stop_at_each(&rt, alloc, Device::Journal(0), (16, 20), &groups, true);
-}
-
-// The control has 12 calls of the start, and then those of the mark that has to come before the third group.
+// The control has 12 calls of the start, and the state 2. Then come those of the mark before the third group. Journal 0 has 2 calls of the
+// start, 5 of the pair's record, 5 of the first group's and 4 of the switch to journal 1.
 
 #[test]
 fn a_stop_at_each_call_of_a_mark_before_a_record_leaves_a_time(rt: HostRuntime) {
     let alloc = rt.alloc();
     let groups = groups(&rt, alloc);
-    assert_whole(&rt, alloc, &groups, false);
-    stop_at_each(&rt, alloc, Device::State, (2, 4), &groups, false);
-    stop_at_each(&rt, alloc, Device::Control, (12, 18), &groups, false);
-    stop_at_each(&rt, alloc, Device::Journal(0), (16, 18), &groups, false);
-}
-
-// The state has 2 calls of the start and 2 of each mark, and the control 12 and 6.
-
-#[test]
-fn a_stop_at_each_call_of_a_mark_leaves_a_time(rt: HostRuntime) {
-    let alloc = rt.alloc();
-    let groups = groups(&rt, alloc);
-    stop_at_each(&rt, alloc, Device::State, (2, 6), &groups, true);
-    stop_at_each(&rt, alloc, Device::Control, (12, 24), &groups, true);
+    assert_whole(&rt, alloc, &groups);
+    stop_at_each(&rt, alloc, Device::State, (2, 4), &groups);
+    stop_at_each(&rt, alloc, Device::Control, (12, 18), &groups);
+    stop_at_each(&rt, alloc, Device::Journal(0), (16, 18), &groups);
 }
 
 /// Logs groups over two pairs, of whose second volume the sync fails in the mark before the third group's record.

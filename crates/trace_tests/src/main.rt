@@ -1,17 +1,13 @@
-//! Tests of what no scenario of the program shows: texts, sources, images and their faults, rows, headers, writers,
-//! what is handed over, commands, reports and replies.
+//! Tests of what no scenario of the program shows: texts, sources, images and their faults, rows, headers, writers and what is handed
+//! over.
 #![tactic(auto)]
 
-#[cfg(test)]
-mod commands;
 #[cfg(test)]
 mod fixtures;
 #[cfg(test)]
 mod handovers;
 #[cfg(test)]
 mod pairs;
-#[cfg(test)]
-mod reports;
 #[cfg(test)]
 mod sources;
 #[cfg(test)]

@@ -8,7 +8,7 @@ use std::alloc::Global;
 use std::process::Abort;
 use tod_stamp::{Session, Stamp};
 
-pub(crate) fn table(rt: &impl Abort, alloc: Global) -> PairTable
+fn table(rt: &impl Abort, alloc: Global) -> PairTable
     ensures { result.rows ≡ [] }
 {
     let session = Session::read(b"ABC").expect(rt, "a name");
@@ -16,7 +16,7 @@ pub(crate) fn table(rt: &impl Abort, alloc: Global) -> PairTable
 }
 
 /// A pending pair of the device, whose names, control and volume come from the device's number.
-pub(crate) fn row_on(rt: &impl Abort, device: u16) -> PairRow {
+fn row_on(rt: &impl Abort, device: u16) -> PairRow {
     assert!(rt; device < 100);
     let (tens, ones) = ((device / 10) as u8, (device % 10) as u8);
     PairRow {
@@ -31,7 +31,7 @@ pub(crate) fn row_on(rt: &impl Abort, device: u16) -> PairRow {
 }
 
 /// Puts a row that may be put.
-pub(crate) fn put(rt: &impl Abort, alloc: Global, table: &mut PairTable, row: PairRow) {
+fn put(rt: &impl Abort, alloc: Global, table: &mut PairTable, row: PairRow) {
     assert!(rt; table.may_put(&row));
     table.put_row(alloc, row).expect(rt, "memory");
 }
