@@ -1,7 +1,8 @@
 -- Behind an accepted end all stays known to have been applied, over calls in turn and over one line more.
-use Rattle.std.proofs.Common.{◌≡◌, ◌⊎◌, inl, inr, ℕ, suc, ◌<◌, ◌≤◌, true, List, [], ◌∷◌, ◌++◌, length, sym, ap, ◌∙◌, arith}
+use Rattle.std.proofs.Common.{◌≡◌, ◌⊎◌, inl, inr, ℕ, zero, suc, ◌+◌, ◌<◌, ◌≤◌, true, List, [], ◌∷◌, ◌++◌, length, take, get_or, Bool, None, Some, sym, ap, ◌∙◌, arith, length-append, slice_get}
 use Rattle.std.proofs.lemmas.Bool.{cases_lt}
 use Rattle.std.proofs.lemmas.List.{length_push, take-append-le, take_all}
+use Rattle.std.proofs.lemmas.Option.{slice_get_cases}
 use Rattle.crash_plant.specs.declared.device.Device.TheVariants.{Control}
 use Rattle.crash_plant.specs.Calls.{Elapses, SameSite, WorksOnConsole}
 use Rattle.crash_plant.specs.Choices.{Choice}
@@ -9,17 +10,25 @@ use Rattle.crash_plant.specs.Moments.{PlantState}
 use Rattle.crash_plant.proofs.Choices.{past_choice}
 use Rattle.site_means.specs.Images.{Shape}
 use Rattle.site_means.specs.Meaning.{meaning_in}
-use Rattle.site_means.specs.Sight.{walked, walked_by}
 use Rattle.site_means.proofs.Goes.{shape_same}
+use Rattle.xrc_command.specs.declared.line.Line.{Line}
 use Rattle.consistency.specs.Stages.{ScriptRun, Stage}
-use Rattle.consistency.specs.Courses.{Answered, replies_of, stage_at}
-use Rattle.consistency.proofs.Lines.{stage_front}
+use Rattle.consistency.specs.Courses.{Answered, StandsAt, replies_of, stage_at}
+use Rattle.consistency.specs.Keeping.{Keeps}
+use Rattle.consistency.specs.Replies.{IsReply}
+use Rattle.consistency.proofs.Lines.{replies_more, same_some, stage_front}
 use Rattle.consistency.proofs.Standing.{console_choice}
-use Rattle.xrc_session.specs.AppliedEnds.{AppliesBehind, AppliesEnds, AppliesEndsSoFar, IsAllApplied}
+use Rattle.xrc_session.specs.AppliedEnds.{AppliesBehind, AppliesEnds, AppliesEndsSoFar, HasEmptyWalk, IsAllApplied}
 
 -- Plants of one shape walk the same.
-walked_same : (old new : PlantState) → SameSite old new → (c : Choice) → walked new c ≡ walked old c
-walked_same old new site c = ap (λ (s : Shape). walked_by (meaning_in s c)) (shape_same old new site)
+empty_same : (old new : PlantState) → SameSite old new → (c : Choice) → HasEmptyWalk old c → HasEmptyWalk new c
+empty_same old new site c empty = record {
+  means = empty.means;
+  walk = empty.walk;
+  meant = ap (λ (s : Shape). meaning_in s c) (shape_same old new site) ∙ empty.meant;
+  no_group = empty.no_group;
+  ends_at_mark = empty.ends_at_mark;
+}
 
 -- ---- calls in turn
 
@@ -29,16 +38,70 @@ behind_on lines number began old new site past up is = record {
   since = is.since;
   within = omega (arith, is.within, (past.kept Control).later);
   said = past.said is.at up is.within ∙ is.said;
-  applied = λ c left. walked_same old new site c ∙ is.applied c (past_choice old new is.at c site past up is.within left);
+  applied = λ t from to same c left.
+      let within : t ≤ old.clock = omega (arith, to, is.within) in
+      empty_same old new site c (is.applied t from to (sym (past.said t up within) ∙ same ∙ past.said is.at up is.within) c (past_choice old new t c site past up within left));
 }
 
 pub applies_on : (run : ScriptRun) (lines : List Answered) (began old new : PlantState) → began.clock ≤ old.clock → SameSite old new → Elapses old new → AppliesEnds run lines began old → AppliesEnds run lines began new
 applies_on run lines began old new later site past ends up number below ended = behind_on lines number began old new site past (omega (arith, up, later)) (ends up number below ended)
 
--- The console changes no device.
+-- A call on the console changes no device, at any of its moments.
+applied_within : (tells : Type 0) → tells → (old new : PlantState) → WorksOnConsole tells old new → IsAllApplied old old.clock → (t : ℕ) → old.clock ≤ t → t ≤ new.clock → IsAllApplied new t
+applied_within tells told old new works is t from to c left = empty_same old new works.site c (is c (console_choice tells told old new t c works from to left))
+
 pub applied_still : (tells : Type 0) → tells → (old new : PlantState) → WorksOnConsole tells old new → IsAllApplied old old.clock → IsAllApplied new new.clock
-applied_still tells told old new works is c left =
-    walked_same old new works.site c ∙ is c (console_choice tells told old new new.clock c works ((works.elapses told).kept Control).later (omega arith) left)
+applied_still tells told old new works is = applied_within tells told old new works is new.clock ((works.elapses told).kept Control).later (omega arith)
+
+-- ---- what was said before
+
+-- The replies before a line and its own are no longer than those of all lines.
+replies_up_to : (lines : List Answered) (n : ℕ) (a : Answered) → slice_get lines n ≡ Some a → length (replies_of (take n lines)) + length a.reply ≤ length (replies_of lines)
+replies_up_to [] n a at = absurd cc
+replies_up_to (b ∷ lines) zero a at = omega (arith, length-append b.reply (replies_of lines), ap (λ (x : Answered). length x.reply) (same_some b a at))
+replies_up_to (b ∷ lines) (suc n) a at = omega (arith, replies_up_to lines n a at, length-append b.reply (replies_of (take n lines)), length-append b.reply (replies_of lines))
+
+-- Where nothing is said behind the last of the lines, no more was said than their replies.
+said_within : (lines : List Answered) (heard said : List ℕ) (at : StandsAt lines heard said) → (at.answered ≡ length lines → at.part ≡ []) → length said ≤ length (replies_of lines)
+said_within lines heard said at unsaid = by_line (slice_get_cases lines at.answered).1
+  where
+    size : length said ≡ length (replies_of (take at.answered lines)) + length at.part
+    size = ap (λ (l : List ℕ). length l) at.said_is ∙ length-append (replies_of (take at.answered lines)) at.part
+
+    by_line : ((a : Answered) × (at.answered < length lines) × (slice_get lines at.answered ≡ Some a) × (get_or lines at.answered a ≡ a)) ⊎ ((length lines ≤ at.answered) × (slice_get lines at.answered ≡ None)) → length said ≤ length (replies_of lines)
+    by_line (inl (a, below, is, same)) = omega (arith, size, at.not_whole a is, replies_up_to lines at.answered a is)
+    by_line (inr (all, none)) =
+        let last : at.answered ≡ length lines = omega (arith, all, at.within) in
+        omega (arith, size, ap (λ (l : List ℕ). length l) (unsaid last), ap (λ (l : List Answered). length (replies_of l)) (take_all at.answered lines all))
+
+-- So at no moment before a reply had more been said than just before it.
+said_before : (run : ScriptRun) (lines : List Answered) (text : List ℕ) (began now : PlantState) → Keeps run lines text began now → (t : ℕ) → began.clock ≤ t → t ≤ now.clock → length (now.said t) ≤ length (began.said began.clock) + length (replies_of lines)
+said_before run lines text began now keeps t from to =
+    let moment = keeps.each t from to in
+    omega (
+      arith,
+      said_within lines moment.heard moment.said moment.at (keeps.unsaid t from to),
+      ap (λ (l : List ℕ). length l) moment.said_is ∙ length-append (began.said began.clock) moment.said,
+    )
+
+-- A reply has a byte.
+reply_some : (is_accepted : Bool) (line : Line) (reply : List ℕ) → IsReply is_accepted line reply → 0 < length reply
+reply_some is_accepted line reply is = omega (
+  arith,
+  ap (λ (l : List ℕ). length l) is.parts,
+  length-append (is.report ++ is.last) (10 ∷ []),
+)
+
+-- With the reply to one line more, more was said than at each moment before it.
+pub says_more : (run : ScriptRun) (lines : List Answered) (a : Answered) (text : List ℕ) (is_accepted : Bool) (began old now : PlantState) → Keeps run lines text began old → IsReply is_accepted a.line a.reply
+    → now.said now.clock ≡ began.said began.clock ++ replies_of (lines ++ a ∷ []) → (t : ℕ) → began.clock ≤ t → t ≤ old.clock → length (old.said t) < length (now.said now.clock)
+says_more run lines a text is_accepted began old now keeps is_reply said t from to = omega (
+  arith,
+  said_before run lines text began old keeps t from to,
+  reply_some is_accepted a.line a.reply is_reply,
+  ap (λ (l : List ℕ). length l) said ∙ length-append (began.said began.clock) (replies_of (lines ++ a ∷ [])),
+  ap (λ (l : List ℕ). length l) (replies_more lines a) ∙ length-append (replies_of lines) a.reply,
+)
 
 -- ---- one line more
 
@@ -62,21 +125,36 @@ module _ (run : ScriptRun) (lines : List Answered) (a : Answered) (began now : P
   ended_last : (number : ℕ) → suc number ≡ length (lines ++ a ∷ []) → (stage_at run (lines ++ a ∷ []) (suc number)).table.is_ended ≡ (stage_at run (lines ++ a ∷ []) (length (lines ++ a ∷ []))).table.is_ended
   ended_last number is = ap (λ (n : ℕ). (stage_at run (lines ++ a ∷ []) n).table.is_ended) is
 
-  -- Its reply was said whole.
-  pub applies_more : began.clock ≤ now.clock → now.said now.clock ≡ began.said began.clock ++ replies_of (lines ++ a ∷ []) → ((stage_at run (lines ++ a ∷ []) (length (lines ++ a ∷ []))).table.is_ended ≡ true → IsAllApplied now now.clock) → AppliesEnds run lines began now
-      → AppliesEnds run (lines ++ a ∷ []) began now
-  applies_more later said applied ends up number below ended = by_side (cases_lt number (length lines))
+  -- Its reply was said whole, by a call before which less had been said at each moment.
+  pub applies_more : (tells : Type 0) → tells → (old : PlantState) → WorksOnConsole tells old now → began.clock ≤ old.clock → now.said now.clock ≡ began.said began.clock ++ replies_of (lines ++ a ∷ [])
+      → (0 < began.clock → (t : ℕ) → began.clock ≤ t → t ≤ old.clock → length (old.said t) < length (now.said now.clock))
+      → ((stage_at run (lines ++ a ∷ []) (length (lines ++ a ∷ []))).table.is_ended ≡ true → IsAllApplied old old.clock) → AppliesEnds run lines began now → AppliesEnds run (lines ++ a ∷ []) began now
+  applies_more tells told old works later said more applied ends up number below ended = by_side (cases_lt number (length lines))
     where
+      past : Elapses old now
+      past = works.elapses told
+
+      since : began.clock ≤ now.clock
+      since = omega (arith, later, (past.kept Control).later)
+
+      -- Where so much was said, a moment lies in that call.
+      in_call : IsAllApplied old old.clock → (t : ℕ) → began.clock ≤ t → t ≤ now.clock → now.said t ≡ now.said now.clock → IsAllApplied now t
+      in_call is t from to same = by_time (cases_lt old.clock t)
+        where
+          by_time : (old.clock < t) ⊎ (t ≤ old.clock) → IsAllApplied now t
+          by_time (inl late) = applied_within tells told old now works is t (omega (arith, late)) to
+          by_time (inr early) = absurd (omega (arith, more up t from early, ap (λ (l : List ℕ). length l) (sym (past.said t (omega (arith, up, later)) early) ∙ same)))
+
       by_side : (number < length lines) ⊎ (length lines ≤ number) → AppliesBehind (lines ++ a ∷ []) number began now
       by_side (inl before) = behind_more lines (a ∷ []) number began now before (ends up number before (sym (ended_before number before) ∙ ended))
       by_side (inr high) =
           let last = is_last number high below in
           record {
             at = now.clock;
-            since = later;
+            since = since;
             within = omega arith;
             said = said ∙ ap (λ (l : List Answered). began.said began.clock ++ replies_of l) (sym (take_all (suc number) (lines ++ a ∷ []) (omega (arith, last))));
-            applied = applied (sym (ended_last number last) ∙ ended);
+            applied = in_call (applied (sym (ended_last number last) ∙ ended));
           }
 
   -- Or in part.

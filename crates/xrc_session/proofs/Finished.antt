@@ -42,11 +42,13 @@ use Rattle.consistency.specs.Courses.{Answered, stage_at}
 use Rattle.consistency.specs.Leads.{Point}
 use Rattle.consistency.specs.Ways.{Leg, PassedPoint, stage_point}
 use Rattle.consistency.proofs.Lines.{same_some}
+use Rattle.xrc_session.specs.AppliedEnds.{HasEmptyWalk}
 use Rattle.xrc_session.specs.LinePauses.{GoesOnFrom, RestsAtSite, StandsForSite, site_point, stage_behind}
 use Rattle.xrc_session.specs.Ends.{IsApplied, rows_at_end}
 use Rattle.xrc_session.specs.Lanes.{sizes_of}
 use Rattle.xrc_session.specs.States.{SessionState}
 use Rattle.xrc_session.specs.Trails.{Trail, last_leg}
+use Rattle.xrc_session.proofs.RestingMarks.{walked_none}
 
 -- ---- slots
 
@@ -124,18 +126,18 @@ module _ (run : ScriptRun) (site : SiteState) (group : Group) (now : PlantState)
       stands.stands.applied r.device there not_failed x not_excepted
       ∙ ap (λ (l : List Item). content_through r.device x l (slot_track (now.bytes (Volume r.device)) x)) (sym items_are) ∙ held
 
--- Once no item is walked, slots hold what is meant.
-pub slot_is_meant : (run : ScriptRun) (site : SiteState) (now : PlantState) → IsChoice now now.clock now.bytes → AtNow (ShowsPoint run (shape_of now) (site_point site)) now → AtNow (λ c. walked now c ≡ []) now
+-- Once no record is walked, slots hold what is meant.
+pub slot_is_meant : (run : ScriptRun) (site : SiteState) (now : PlantState) → IsChoice now now.clock now.bytes → AtNow (ShowsPoint run (shape_of now) (site_point site)) now → AtNow (HasEmptyWalk now) now
     → (place : ℕ) (r : PairRow) → slice_get site.told place ≡ Some r → r.state ≡ Duplex → (x : ℕ) → x < tracks_of_row r → slot_track (now.bytes (Volume r.device)) x ≡ Some (primary run.traces site.time r.control r.volume x)
 slot_is_meant run site now read shows walk place r at duplex x within =
-    ap (λ (items : List Item). content_through r.device x items (slot_track (now.bytes (Volume r.device)) x)) (sym (walk now.bytes read)) ∙ (shows now.bytes read).tracks place r at duplex x within
+    ap (λ (items : List Item). content_through r.device x items (slot_track (now.bytes (Volume r.device)) x)) (sym (walked_none now now.bytes (walk now.bytes read))) ∙ (shows now.bytes read).tracks place r at duplex x within
 
 -- ---- at the end
 
 -- Behind the last line all is applied.
 pub all_applied : (run : ScriptRun) (lines : List Answered) (site : SiteState) (old now : PlantState) → stage_point (stage_at run lines (length lines)) ≡ site_point site
     → ((place : ℕ) (r : PairRow) → slice_get site.told place ≡ Some r → r.state ≡ Duplex → (x : ℕ) → x < tracks_of_row r → slot_track (old.bytes (Volume r.device)) x ≡ Some (primary run.traces site.time r.control r.volume x))
-    → ((d : ℕ) → now.bytes (Volume d) ≡ old.bytes (Volume d)) → AtNow (λ c. walked now c ≡ []) now → IsApplied run lines now
+    → ((d : ℕ) → now.bytes (Volume d) ≡ old.bytes (Volume d)) → AtNow (HasEmptyWalk now) now → IsApplied run lines now
 all_applied run lines site old now point hold same walk = record {
   walk = walk;
   slots = λ place r at duplex bytes x within.

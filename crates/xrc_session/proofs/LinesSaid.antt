@@ -28,7 +28,7 @@ use Rattle.xrc_session.specs.States.{SessionState}
 use Rattle.xrc_session.specs.Steps.{IsExactBehind, IsToReply, line_answered}
 use Rattle.xrc_session.specs.Stops.{RepliesInPart}
 use Rattle.xrc_session.specs.Trails.{AreExact, GoesForth, Trail, first_leg, BeginsAtStart, StandsOnTrail}
-use Rattle.xrc_session.proofs.AppliedEnds.{applied_still, applies_more, applies_on}
+use Rattle.xrc_session.proofs.AppliedEnds.{applied_still, applies_more, applies_on, says_more}
 use Rattle.xrc_session.proofs.Consoles.{behind_on}
 use Rattle.xrc_session.proofs.Courses.{none_next}
 use Rattle.xrc_session.proofs.Exactly.{exact_more}
@@ -67,7 +67,9 @@ module _ {S : Type 0} (run : ScriptRun) (lines : List Answered) (trail : Trail) 
         exact = exact_all;
         stands = stands;
         broke = to.broke;
-        applied = applies_more run lines a began new on.now.later on.now.said applied_now (applies_on run lines began mid new to.goes.now.later works.site (works.elapses told) ends);
+        applied =
+            applies_more run lines a began new tells told mid works to.goes.now.later on.now.said (λ up. says_more run lines a text _ began mid new (to.goes.keeps up) answered.is_reply on.now.said) (to.applied reply)
+            (applies_on run lines began mid new to.goes.now.later works.site (works.elapses told) ends);
       }
 
   later : mid.clock ≤ new.clock

@@ -19,6 +19,7 @@ use Rattle.site_means.proofs.Reaching.{MeantBy, meant_by}
 use Rattle.site_store.specs.Exceptions.{Exceptions}
 use Rattle.site_store.specs.Sites.{SiteState, meant_for}
 use Rattle.site_store.specs.Standing.{SiteStands}
+use Rattle.xrc_session.specs.AppliedEnds.{HasEmptyWalk}
 use Rattle.xrc_session.specs.Resting.{MarksBeginWalks, NothingIsWalked}
 
 pub marks_begin_walks : {P : Type 0} (was is : P) → MarksBeginWalks was is
@@ -82,15 +83,22 @@ module _ (plant : PlantState) (excepted : Exceptions) (site : SiteState) (stands
   mark_is : by.mark ≡ site.mark
   mark_is = let chosen = stands.chosen c is in let found = by.chosen in cc
 
+  ends : w.at ≡ site.mark.at
+  ends = stands.at ∙ empty
+
   none_walked : w.groups ≡ []
   none_walked =
       let counts = walks_count (turns_at by.mark.at) (shape_of plant) c (start by.mark by.stored.rows) in
-      let ends : w.at ≡ by.mark.at = stands.at ∙ empty ∙ sym (ap (λ (k : Mark). k.at) mark_is) in
-      let at : (walk_from (turns_at by.mark.at) (shape_of plant) c (start by.mark by.stored.rows)).at.number ≡ by.mark.at.number = ap (λ (k : Walk). k.at.number) by.walk_is ∙ ap (λ (s : Spot). s.number) ends in
+      let there : w.at ≡ by.mark.at = ends ∙ sym (ap (λ (k : Mark). k.at) mark_is) in
+      let at : (walk_from (turns_at by.mark.at) (shape_of plant) c (start by.mark by.stored.rows)).at.number ≡ by.mark.at.number = ap (λ (k : Walk). k.at.number) by.walk_is ∙ ap (λ (s : Spot). s.number) there in
       ap (λ (k : Walk). k.groups) (sym by.walk_is) ∙ counts.none at
 
-  none_there : walked plant c ≡ []
-  none_there = ap walked_by (stands.meant c is) ∙ ap (λ (gs : List Logged). flat_map (λ g. g.items) gs) none_walked
+  none_there : HasEmptyWalk plant c
+  none_there = record { means = meant_for site; walk = w; meant = stands.meant c is; no_group = none_walked; ends_at_mark = ends }
 
 pub nothing_is_walked : (plant : PlantState) → NothingIsWalked plant
 nothing_is_walked plant excepted site stands empty c is = none_there plant excepted site stands empty c is
+
+-- So no item is walked.
+pub walked_none : (plant : PlantState) (images : Images) → HasEmptyWalk plant images → walked plant images ≡ []
+walked_none plant images empty = ap walked_by empty.meant ∙ ap (λ (gs : List Logged). flat_map (λ g. g.items) gs) empty.no_group

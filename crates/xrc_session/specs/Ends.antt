@@ -12,12 +12,12 @@ use Rattle.row_changes.specs.Changes.{Timed, after_changes}
 use Rattle.row_changes.specs.Spans.{is_hit_at}
 use Rattle.passages.specs.Points.{last_point}
 use Rattle.applier.specs.Slots.{BeginsWithTrack}
-use Rattle.site_means.specs.Sight.{walked}
 use Rattle.consistency.specs.Stages.{ScriptRun, tracks_of_row}
 use Rattle.consistency.specs.Courses.{Answered, stage_at}
 use Rattle.consistency.specs.Pauses.{RunGoesOn}
 use Rattle.xrc_status.specs.declared.stop.Stop.{Stop}
 use Rattle.xrc_status.specs.declared.stop.Stop.TheVariants.{Spent}
+use Rattle.xrc_session.specs.AppliedEnds.{HasEmptyWalk}
 use Rattle.xrc_session.specs.Frames.{ChangesRows, rows_passed}
 use Rattle.xrc_session.specs.LinePauses.{stage_behind}
 use Rattle.xrc_session.specs.Starting.{AreOwnSpent}
@@ -30,10 +30,10 @@ use Rattle.xrc_session.specs.Trails.{AreExact, GoesForth, Trail, HasBegunTrail, 
 abbrev pub rows_at_end : ScriptRun → List Answered → List PairRow
 rows_at_end run lines = (stage_at run lines (length lines)).table.rows
 
--- Behind the last line the walk is empty. So the slot of each track of a duplex row begins with the image of its primary's track at the time of the
--- last reply.
+-- Behind the last line no record stands behind the mark. So the slot of each track of a duplex row begins with the image of its primary's track at
+-- the time of the last reply.
 pub record IsApplied (run : ScriptRun) (lines : List Answered) (now : PlantState) : Type 0 where
-  pub walk : AtNow (λ c. walked now c ≡ []) now
+  pub walk : AtNow (HasEmptyWalk now) now
   pub slots : (place : ℕ) (r : PairRow) → slice_get (rows_at_end run lines) place ≡ Some r → r.state ≡ Duplex → IsBytes (now.bytes (Volume r.device))
       → (x : ℕ) → x < tracks_of_row r → BeginsWithTrack (now.bytes (Volume r.device)) x (Some (primary run.traces (stage_at run lines (length lines)).replied r.control r.volume x))
 

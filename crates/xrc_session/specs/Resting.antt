@@ -17,11 +17,11 @@ use Rattle.site_store.specs.DoneDeeds.{BeginsDeeds, DoesDeeds, PassedDeed, point
 use Rattle.site_store.specs.Exceptions.{Exceptions, excepted_behind}
 use Rattle.site_store.specs.Seeing.{SeesBehind}
 use Rattle.site_means.specs.Images.{shape_of}
-use Rattle.site_means.specs.Sight.{walked}
 use Rattle.consistency.specs.Bearing.{GoesThroughPoints, ShowsPoint}
 use Rattle.consistency.specs.Leads.{Point}
 use Rattle.consistency.specs.Ways.{Way}
 use Rattle.mover.specs.OwedTracks.{ExceptedAreOwed}
+use Rattle.xrc_session.specs.AppliedEnds.{HasEmptyWalk}
 use Rattle.xrc_session.specs.EpochPauses.{Between, StandsBetween}
 use Rattle.xrc_session.specs.CarriedLaws.{FitsOn, IsWithoutEntries, between_taken}
 use Rattle.xrc_session.specs.Taking.{IfAdds, MayTake, after_calls, calls_of_change}
@@ -200,6 +200,6 @@ DoneDeedsShowLast old new = (b : Between) (rows : List PairRow) (deeds : List De
 abbrev pub MarksBeginWalks : {P : Type 0} → (was is : P) → Type 0
 MarksBeginWalks was is = (site next : SiteState) (ended : Bool) (result : Result (Unit {0}) StoreError) → Marks site next ended was is result → OnOk result (next.at ≡ next.mark.at)
 
--- Whatever a crash leaves then, no item is walked: what slots hold is what volumes hold.
+-- Whatever a crash leaves then, no record is walked: what slots hold is what volumes hold.
 abbrev pub NothingIsWalked : PlantState → Type 0
-NothingIsWalked plant = (excepted : Exceptions) (site : SiteState) → SiteStands excepted site plant → site.at ≡ site.mark.at → AtNow (λ c. walked plant c ≡ []) plant
+NothingIsWalked plant = (excepted : Exceptions) (site : SiteState) → SiteStands excepted site plant → site.at ≡ site.mark.at → AtNow (HasEmptyWalk plant) plant

@@ -1,6 +1,6 @@
 //! The labels of the volumes.
 
-ghost use Rattle.std.specs.Prelude.{◌+◌, ◌≡◌, ◌≤◌, ◌<◌, ◌++◌, [], None, Some, OnOk, List};
+ghost use Rattle.std.specs.Prelude.{◌+◌, ◌≡◌, ◌≤◌, ◌<◌, ◌++◌, [], None, Some, OnErr, OnOk, List};
 ghost use Rattle.crash_plant.specs.Calls.{NoneLent, WorksOn};
 ghost use Rattle.site_store.specs.Commands.{LabelsFit};
 ghost use Rattle.site_store.specs.Records.{IsVolume, VolumesStay};
@@ -27,6 +27,8 @@ fn name_device<P: Plant>(
     // Its own label alone, if it gives one. It gives none if its count rose.
     ensures label { P.tells → OnOk result (NamesLabel (P.state plant.old) (P.state plant.new) device names.old names.new) }
     ensures others { OnOk result ((names.new.primaries ≡ names.old.primaries) × (names.new.broken ≡ names.old.broken)) }
+    // Memory is wanted only for a label that was read: its volume's count is as before.
+    ensures memory { OnErr result ((P.state plant.new).faults (Volume device) ≡ (P.state plant.old).faults (Volume device)) }
     ensures fit { LabelsFit (P.state plant.new) names.new }
     ensures stay { VolumesStay P.tells (P.state plant.old) (P.state plant.new) }
     ensures only { WorksOn P.tells (λ d. d ≡ Volume device) (P.state plant.old) (P.state plant.new) }

@@ -49,7 +49,7 @@ pub fn points_are_shown_behind_changes<P: Plant>(old: &P, new: &P)
     ensures last { DoneDeedsShowLast (P.state old.now) (P.state new.now) }
 {}
 
-/// Behind a mark the walk is empty: the mark names the spot of the next record, and no item is walked.
+/// Behind a mark the walk is empty: the mark names the spot of the next record, and no record stands there.
 pub fn walks_begin_at_marks<P: Plant>(old: &P, new: &P)
     ensures marks { MarksBeginWalks old.now new.now }
     ensures walk { NothingIsWalked (P.state new.now) }
