@@ -6,7 +6,6 @@ use Rattle.xrc_edge.specs.Causes.{Rose}
 use Rattle.crash_plant.specs.declared.device.Device.TheVariants.{Control, Volume}
 use Rattle.crash_plant.specs.Calls.{Says, WorksOnConsole}
 use Rattle.crash_plant.specs.Moments.{PlantState}
-use Rattle.xrc_command.specs.declared.line.Line.{Line}
 use Rattle.consistency.specs.Stages.{ScriptRun}
 use Rattle.consistency.specs.Pauses.{RunGoesOn}
 use Rattle.consistency.specs.Courses.{Answered, replies_of, texts_of}
@@ -27,6 +26,7 @@ use Rattle.xrc_session.specs.Openings.{ComesEarly, IsOfSite, OpensInOrder, openi
 use Rattle.xrc_session.specs.Runs.{AreCountsBelow, IsBadBehind, IsRunOfScript, RunsScript, RunsTold, StopsAtLine}
 use Rattle.xrc_session.specs.AppliedEnds.{AppliesEnds}
 use Rattle.xrc_session.proofs.AppliedEnds.{applies_on, applies_so_far}
+use Rattle.xrc_session.proofs.Courses.{none_next}
 use Rattle.xrc_session.specs.Starting.{AreOwnSpent, BeginsRun}
 use Rattle.xrc_session.specs.Stops.{HasRunCause, RepliesInPart, StandsStopped, StopsByCount, line_asked, lines_said}
 use Rattle.xrc_session.specs.Trails.{AreExact, GoesForth, Trail, HasBegunTrail, StandsOnTrail}
@@ -81,6 +81,12 @@ module _ (tells : Type 0) (told : tells) (session : List ℕ) (sources : List So
   -- The console failed within the reply to a line.
   module _ (a : Answered) (none : trail.started ≡ 0 → trail.points ≡ []) (over : IsRunOfScript session sources old mid run) (is : stop ≡ ConsoleFault) (cause : HasRunCause old mid stop) (part : RepliesInPart run lines a old mid) (exact : AreExact run (lines ++ a ∷ []) trail) (begun : HasBegunTrail run (lines ++ a ∷ []) trail)
       (along : 0 < trail.started → StandsOnTrail run (lines ++ a ∷ []) None trail next mid) (forth : 0 < old.clock → 0 < trail.started → GoesForth run (lines ++ a ∷ []) None trail next old mid) (volumes : ChangesRows (rows_passed trail.points) old mid) (as_were : StoresAsWere old mid stop) (applied : AppliesEnds run lines old mid) where
+    heard_whole : mid.heard mid.clock ≡ old.heard old.clock ++ (texts_of (lines ++ a ∷ []) ++ [])
+    heard_whole = part.heard ∙ ap (λ (l : List ℕ). old.heard old.clock ++ l) (sym (append-nil (texts_of (lines ++ a ∷ []))))
+
+    heard_none : IsHeardBehind run (lines ++ a ∷ []) old mid None
+    heard_none = ([], heard_whole, none_next run old.script (lines ++ a ∷ []))
+
     pub ran_in_part : Ran tells session sources old mid (status_of stop)
     ran_in_part = record {
       run = run;
@@ -93,8 +99,8 @@ module _ (tells : Type 0) (told : tells) (session : List ℕ) (sources : List So
       exact = exact;
       unstarted = none;
       begun = begun;
-      goes_forth = λ up some. (None, tt, (next, forth up some));
-      on_trail = λ some. (None, tt, (next, along some));
+      goes_forth = λ up some. (None, heard_none, (next, forth up some));
+      on_trail = λ some. (None, heard_none, (next, along some));
       applied = applies_so_far run lines a old mid part.applied applied;
       volumes = volumes;
       done = λ zero. absurd (omega (arith, zero, ap status_of is));
@@ -104,7 +110,7 @@ module _ (tells : Type 0) (told : tells) (session : List ℕ) (sources : List So
         cause = cause;
         counts = as_were;
         text = [];
-        heard = part.heard ∙ ap (λ (l : List ℕ). old.heard old.clock ++ l) (sym (append-nil (texts_of (lines ++ a ∷ []))));
+        heard = heard_whole;
         script = part.script ∙ ap (λ (l : List ℕ). l ++ mid.script) (sym (append-nil (texts_of (lines ++ a ∷ []))));
         one_line = omega arith;
         said = λ other. absurd (other (ap status_of is));
@@ -154,9 +160,8 @@ module _ (tells : Type 0) (told : tells) (session : List ℕ) (sources : List So
         by_sides (inl whole) (inr rose) = inr (rose_before rose)
         by_sides (inl whole) (inl same) = inl (whole ∙ ap (λ (l : List ℕ). l ++ last_line stop) goes.now.said ∙ append_assoc (old.said old.clock) (replies_of lines) (last_line stop), same ∙ unfailed other)
 
-    heard_behind : (o : Option Line) → (stage_behind run lines text old).next ≡ o → IsHeardBehind run lines old new o
-    heard_behind None is = tt
-    heard_behind (Some line) is = (text, heard_is, is)
+    heard_behind : IsHeardBehind run lines old new (stage_behind run lines text old).next
+    heard_behind = (text, heard_is, refl)
 
     stops_with : StopsWith tells run lines old new (status_of stop)
     stops_with = record {
@@ -192,10 +197,10 @@ module _ (tells : Type 0) (told : tells) (session : List ℕ) (sources : List So
       begun = begun;
       goes_forth = λ up some.
           let heard = (stage_behind run lines text old).next in
-          (heard, heard_behind heard refl, (next, forth_still tells told mid new works (omega (arith, up, since)) run lines heard trail next old (forth up some)));
+          (heard, heard_behind, (next, forth_still tells told mid new works (omega (arith, up, since)) run lines heard trail next old (forth up some)));
       on_trail = λ some.
           let heard = (stage_behind run lines text old).next in
-          (heard, heard_behind heard refl, (next, along_still tells told mid new works run lines heard trail next (along some)));
+          (heard, heard_behind, (next, along_still tells told mid new works run lines heard trail next (along some)));
       applied = λ up number below ended. inl (applies_on run lines old mid new goes.now.later works.site (works.elapses told) applied up number below ended);
       volumes = rows_still tells told mid new works (rows_passed trail.points) old goes.now.site goes.now.later volumes;
       done = λ zero. absurd (not_done old new stop ends zero);
@@ -231,6 +236,7 @@ module _ {S P : Type 0} (tells : Type 0) (state : P → PlantState) (left : S �
         let runs = r.runs told sources below given none in
         let trail = runs.ends.1.0 in
         let is = runs.ends.1.1 in
+        let heard_none : IsHeardBehind runs.run runs.lines (state old) (state mid) None = ([], is.goes.now.heard, none_next runs.run (state old).script runs.lines) in
         record {
           run = runs.run;
           over = runs.over;
@@ -242,8 +248,8 @@ module _ {S P : Type 0} (tells : Type 0) (state : P → PlantState) (left : S �
           exact = is.exact;
           unstarted = is.unstarted;
           begun = is.begun;
-          goes_forth = λ up some. (None, tt, (None, is.goes_forth up some));
-          on_trail = λ some. (None, tt, (None, is.on_trail some));
+          goes_forth = λ up some. (None, heard_none, (None, is.goes_forth up some));
+          on_trail = λ some. (None, heard_none, (None, is.on_trail some));
           applied = λ up number below ended. inl (runs.ends.2 up number below ended);
           volumes = is.volumes;
           done = λ zero. is;

@@ -1,19 +1,17 @@
 -- What a run in memory left, and how the command ends.
-use Rattle.std.proofs.Common.{◌≡◌, ◌≢◌, ◌⊎◌, ◌∙◌, ◌<◌, inl, inr, ℕ, List, [], ◌∷◌, Option, Some, None, Result, Ok, Err, IfOk, IsTrue, map, refl, sym, ap, subst, arith}
-use Rattle.std.specs.List.{All}
+use Rattle.std.proofs.Common.{◌≡◌, ◌⊎◌, ◌∙◌, inl, inr, ℕ, List, ◌∷◌, Option, Some, None, Result, Ok, Err, IfOk, IsTrue, map, refl, sym, ap, subst, arith}
+use Rattle.std.specs.List.{All, range_with_len}
 use Rattle.std.specs.Prelude.{find, nat_lt}
-use Rattle.std.proofs.lemmas.List.Elements.{All-weaker}
-use Rattle.xrc_edge.specs.Causes.{Rose}
+use Rattle.std.proofs.lemmas.List.Elements.{All-map, All-weaker}
 use Rattle.xrc_edge.specs.MemorySources.{MemoryState}
 use Rattle.crash_plant.specs.declared.device.Device.{Device}
 use Rattle.crash_plant.specs.declared.device.Device.TheVariants.{Control, State}
 use Rattle.crash_plant.specs.Calls.{NoneLent}
 use Rattle.crash_plant.specs.Moments.{PlantState}
-use Rattle.pair_table.specs.declared.row.PairRow.{PairRow}
 use Rattle.site_means.specs.declared.means.Means.{Means}
 use Rattle.site_means.specs.declared.site_error.SiteError.{SiteError}
 use Rattle.site_means.specs.declared.site_error.SiteError.TheVariants.{TooSmall}
-use Rattle.site_means.specs.Answers.{Mean, examined, first_short, journals_from, need}
+use Rattle.site_means.specs.Answers.{Mean, first_short, journals_from, need}
 use Rattle.site_means.specs.Images.{Images, Shape, shape_of}
 use Rattle.site_means.specs.Meaning.{Meaning, meaning, meaning_in}
 use Rattle.site_means.proofs.Goes.{shape_same}
@@ -23,11 +21,8 @@ use Rattle.crash_plant.specs.PlainPlant.{plain_state}
 use Rattle.mover.specs.declared.lane.Lane.{Lane}
 use Rattle.workload.specs.declared.layout.TheConstants.{CONTROLS}
 use Rattle.workload.specs.Scripts.{generated_session}
-use Rattle.workload.specs.Traces.{generated_sources}
-use Rattle.xrc_status.specs.declared.stop.Stop.TheVariants.{NoMemory}
-use Rattle.xrc_status.specs.Saying.{SaysLast, SaysWhole}
-use Rattle.xrc_status.specs.Stops.{last_line}
-use Rattle.xrc_cli.specs.Generating.{EndsGenerating, SumsUp, SumsUpRun, unread_lane}
+use Rattle.workload.specs.Traces.{generated_source, generated_sources}
+use Rattle.xrc_cli.specs.Generating.{EndsGenerating, HasNoMarks, SumsUp, SumsUpRun, unread_lane}
 use Rattle.xrc_cli.specs.Generating.EndsGenerating.{ConsoleFailed, Done}
 use Rattle.xrc_cli.specs.Saying.{SaysDone}
 use Rattle.xrc_cli.specs.Statuses.{EndsScriptRun}
@@ -76,6 +71,10 @@ none_short a means result ok short = by (first_short a) refl
 
 -- ---- the run
 
+-- No generated source has a mark.
+pub none_marked : (number : ℕ) (sources : List MemoryState) → sources ≡ generated_sources number → All HasNoMarks sources
+none_marked number sources given = subst (λ (l : List MemoryState). All HasNoMarks l) (sym given) (All-map HasNoMarks (generated_source number) (range_with_len 0 CONTROLS) (λ k d within. refl))
+
 -- What is said of a line follows from what is known of it.
 pub weaker : {E : Type 0} (P Q : List ℕ → Type 0) (result : Result (List ℕ) E) → ((line : List ℕ) → P line → Q line) → IfOk result P → IfOk result Q
 weaker P Q (Ok line) more is = more line is
@@ -84,12 +83,12 @@ weaker P Q (Err e) more is = tt
 -- a run to status 0 of the generated session over the generated sources
 pub run_done : (number : ℕ) (made ran : PlainPlant) (session : List ℕ) (before lanes : List (Lane MemoryState)) (sources : List MemoryState) (status : ℕ) → session ≡ generated_session
     → before ≡ map unread_lane sources → sources ≡ generated_sources number → status ≡ 0
-    → EndsScriptRun (Unit {0}) plain_state (λ source. Some source.left) (λ source. source.faults) session CONTROLS before lanes made ran status
-    → EndsScriptRun (Unit {0}) plain_state (λ source. Some source.left) (λ source. source.faults) generated_session CONTROLS (map unread_lane (generated_sources number)) lanes made ran 0
+    → EndsScriptRun (Unit {0}) plain_state (λ source. Some source.left) (λ source. 0) session CONTROLS before lanes made ran status
+    → EndsScriptRun (Unit {0}) plain_state (λ source. Some source.left) (λ source. 0) generated_session CONTROLS (map unread_lane (generated_sources number)) lanes made ran 0
 run_done number made ran session before lanes sources status named opened given done ends =
-    subst (λ (n : ℕ). EndsScriptRun (Unit {0}) plain_state (λ source. Some source.left) (λ source. source.faults) generated_session CONTROLS (map unread_lane (generated_sources number)) lanes made ran n) done
-    (subst (λ (xs : List (Lane MemoryState)). EndsScriptRun (Unit {0}) plain_state (λ source. Some source.left) (λ source. source.faults) generated_session CONTROLS xs lanes made ran status) (opened ∙ ap (map unread_lane) given)
-    (subst (λ (name : List ℕ). EndsScriptRun (Unit {0}) plain_state (λ source. Some source.left) (λ source. source.faults) name CONTROLS before lanes made ran status) named ends))
+    subst (λ (n : ℕ). EndsScriptRun (Unit {0}) plain_state (λ source. Some source.left) (λ source. 0) generated_session CONTROLS (map unread_lane (generated_sources number)) lanes made ran n) done
+    (subst (λ (xs : List (Lane MemoryState)). EndsScriptRun (Unit {0}) plain_state (λ source. Some source.left) (λ source. 0) generated_session CONTROLS xs lanes made ran status) (opened ∙ ap (map unread_lane) given)
+    (subst (λ (name : List ℕ). EndsScriptRun (Unit {0}) plain_state (λ source. Some source.left) (λ source. 0) name CONTROLS before lanes made ran status) named ends))
 
 -- ---- the end
 

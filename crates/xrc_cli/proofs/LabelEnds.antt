@@ -1,10 +1,9 @@
 -- The ends of a labelling.
-use Rattle.std.proofs.Common.{◌≡◌, ◌≢◌, ◌≤◌, ◌⊎◌, ◌++◌, inl, inr, ℕ, List, take, Some, Result, Ok, Err, refl, sym, ◌∙◌, ap, subst, arith}
-use Rattle.xrc_edge.specs.Causes.{HasCause, Rose}
-use Rattle.crash_plant.specs.declared.device.Device.{Device}
+use Rattle.std.proofs.Common.{◌≡◌, ◌≢◌, ◌⊎◌, ◌++◌, inl, inr, ℕ, List, take, Some, refl, sym, ◌∙◌, ap, subst, arith}
+use Rattle.xrc_edge.specs.Causes.{Rose}
 use Rattle.crash_plant.specs.declared.device.Device.TheVariants.{Control, Volume}
 use Rattle.crash_plant.specs.Bytes.{Torn}
-use Rattle.crash_plant.specs.Calls.{NoneRose, Says, WorksOn, WorksOnConsole}
+use Rattle.crash_plant.specs.Calls.{Says, WorksOn, WorksOnConsole}
 use Rattle.crash_plant.specs.Moments.{PlantState, on, Follows, IsDurable}
 use Rattle.crash_plant.proofs.Behind.{same_after, torn_here}
 use Rattle.crash_plant.proofs.Steps.{elapses_trans, follows_here, loan_trans, site_trans, stays_trans, works_on_here}

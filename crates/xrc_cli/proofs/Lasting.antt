@@ -10,7 +10,7 @@ use Rattle.crash_plant.specs.declared.device.Device.{Device}
 use Rattle.crash_plant.specs.declared.device.Device.TheVariants.{Control, Journal, State, Volume}
 use Rattle.crash_plant.specs.Calls.{Elapses, SameSite, WorksOnConsole}
 use Rattle.crash_plant.specs.Choices.{AtMoment, AtNow, Choice, IsChoice}
-use Rattle.crash_plant.specs.Moments.{PlantState, on}
+use Rattle.crash_plant.specs.Moments.{PlantState}
 use Rattle.crash_plant.proofs.Choices.{past_choice}
 use Rattle.pair_table.specs.declared.level.Level.{Level}
 use Rattle.pair_table.specs.declared.names.NamedDevice.{NamedDevice}

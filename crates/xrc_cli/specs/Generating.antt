@@ -1,9 +1,8 @@
 -- The status that the run of a generated input ends with, and what was said by then.
-use Rattle.std.specs.Prelude.{◌≡◌, ◌⊎◌, ℕ, List, None, Some, map}
+use Rattle.std.specs.Prelude.{◌≡◌, ℕ, List, [], None, Some, map}
 use Rattle.xrc_edge.specs.Causes.{Rose}
 use Rattle.xrc_edge.specs.MemorySources.{MemoryState}
 use Rattle.crash_plant.specs.declared.plain_plant.PlainPlant.{PlainPlant}
-use Rattle.crash_plant.specs.Calls.{WorksOnConsole}
 use Rattle.crash_plant.specs.Moments.{PlantState}
 use Rattle.crash_plant.specs.PlainPlant.{plain_state}
 use Rattle.site_means.specs.declared.means.Means.{Means}
@@ -22,6 +21,10 @@ use Rattle.xrc_cli.specs.Statuses.{EndsScriptRun}
 
 -- ---- the run in memory
 
+-- No call on a source in memory is marked to fail.
+abbrev pub HasNoMarks : MemoryState → Type 0
+HasNoMarks source = source.fails ≡ []
+
 -- a lane whose source wasn't called yet
 abbrev pub unread_lane : MemoryState → Lane MemoryState
 unread_lane source = record { source = source; reader = None }
@@ -34,12 +37,13 @@ pub record SumsUp (number : ℕ) (plant : PlantState) (line : List ℕ) : Type 0
 
 -- A line sums up what a run of the input of a number left: the generated script was run over the generated traces and devices, as the command that
 -- runs a session does it, to status 0.
+--   done: a generated source never fails, and its count of faults is always 0
 pub record SumsUpRun (number : ℕ) (line : List ℕ) : Type 0 where
   pub made : PlainPlant
   pub ran : PlainPlant
   pub lanes : List (Lane MemoryState)
   pub input : HoldsInput (plain_state made)
-  pub done : EndsScriptRun (Unit {0}) plain_state (λ source. Some source.left) (λ source. source.faults) generated_session CONTROLS (map unread_lane (generated_sources number)) lanes made ran 0
+  pub done : EndsScriptRun (Unit {0}) plain_state (λ source. Some source.left) (λ source. 0) generated_session CONTROLS (map unread_lane (generated_sources number)) lanes made ran 0
   pub sums : SumsUp number (plain_state ran) line
 
 -- ---- the whole

@@ -1,6 +1,6 @@
 -- The status that a run of a session ends with: what it stands for, and what was done and said by then.
 use Rattle.crash_plant.specs.Choices.{AtNow}
-use Rattle.std.specs.Prelude.{◌≡◌, ◌≢◌, ◌⊎◌, ℕ, ◌+◌, ◌<◌, ◌≤◌, ◌==◌, ◌||◌, List, [], ◌∷◌, ◌++◌, length, take, Bool, Option, Some, None, IfSome, IsTrue, false, slice_index_or}
+use Rattle.std.specs.Prelude.{◌≡◌, ◌≢◌, ◌⊎◌, ℕ, ◌+◌, ◌<◌, ◌≤◌, ◌==◌, ◌||◌, List, [], ◌∷◌, ◌++◌, length, take, Bool, Option, Some, None, IsTrue, false, slice_index_or}
 use Rattle.xrc_edge.specs.Causes.{Rose}
 use Rattle.crash_plant.specs.declared.device.Device.{Device}
 use Rattle.crash_plant.specs.declared.device.Device.TheVariants.{Control, State, Journal}
@@ -102,7 +102,7 @@ pub record StopsWith (tells : Type 0) (run : ScriptRun) (lines : List Answered) 
 
 -- A line is the one that was heard whole behind the answered ones, if there is one.
 abbrev pub IsHeardBehind : ScriptRun → List Answered → (old new : PlantState) → Option Line → Type 0
-IsHeardBehind run lines old new heard = IfSome heard (λ line. (text : List ℕ) × (new.heard new.clock ≡ old.heard old.clock ++ (texts_of lines ++ text)) × ((stage_behind run lines text old).next ≡ Some line))
+IsHeardBehind run lines old new heard = (text : List ℕ) × (new.heard new.clock ≡ old.heard old.clock ++ (texts_of lines ++ text)) × ((stage_behind run lines text old).next ≡ heard)
 
 -- What a session has done when its run ends with a status: over the traces of what the sources gave, the labels that volumes had, and as many
 -- faults of volumes as their counts rose by, it answered these lines, and its devices went this way.

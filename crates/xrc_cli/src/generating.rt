@@ -1,6 +1,6 @@
 //! The command that runs a generated input in memory.
 
-ghost use Rattle.std.specs.Prelude.{◌≡◌, IfOk, IsTrue, Some, map, slice_get, true};
+ghost use Rattle.std.specs.Prelude.{◌≡◌, ◌↔◌, IfOk, IsTrue, Some, map, slice_get, true};
 ghost use Rattle.std.specs.List.{All};
 ghost use Rattle.crash_plant.specs.Calls.{NoneLent};
 ghost use Rattle.crash_plant.specs.PlainPlant.{plain_state};
@@ -8,10 +8,11 @@ ghost use Rattle.pair_table.specs.declared.row.PairRow.{PairRow as RowValue};
 ghost use Rattle.pair_table.specs.Tables.{are_below};
 ghost use Rattle.workload.specs.Scripts.{generated_session};
 ghost use Rattle.workload.specs.Summaries.{HasTracks};
-ghost use Rattle.xrc_cli.specs.Generating.{EndsGenerating, SumsUp, SumsUpRun, unread_lane};
+ghost use Rattle.xrc_cli.specs.Generating.{EndsGenerating, HasNoMarks, SumsUp, SumsUpRun, unread_lane};
 
 use crate::run::run_session;
 use crate::saying::{DONE, say_done};
+use crate::unfailing_source::UnfailingSource;
 use crash_plant::{Device, PlainPlant, Plant};
 use mover::Lane;
 use pair_table::PairTable;
@@ -36,12 +37,16 @@ fn session() -> Session
 }
 
 /// A lane for each source, in order.
-fn lanes_of(alloc: Global, sources: Vec<MemorySource>) -> Result<Vec<Lane<MemorySource>>, NoMemory>
+fn lanes_of(
+    alloc: Global,
+    sources: Vec<MemorySource>,
+) -> Result<Vec<Lane<UnfailingSource>>, NoMemory>
+    requires { All HasNoMarks sources.items }
     ensures { IfOk result (λ lanes. lanes.items ≡ map unread_lane sources.items) }
 {
     let mut lanes = Vec::new(alloc);
     for source in sources {
-        lanes.push(Lane::new(source))?;
+        lanes.push(Lane::new(UnfailingSource::new(source)))?;
     }
     Ok(lanes)
 }
@@ -50,7 +55,7 @@ fn lanes_of(alloc: Global, sources: Vec<MemorySource>) -> Result<Vec<Lane<Memory
 fn has_tracks_at(plant: &PlainPlant, table: &PairTable, place: u16) -> bool
     requires home { NoneLent (plain_state plant.now) }
     requires below { IsTrue (are_below (plain_state plant.now).volumes table.now.rows) }
-    ensures { (row : RowValue) → slice_get table.now.rows place ≡ Some row → result ≡ true → HasTracks (plain_state plant.now) row }
+    ensures { (row : RowValue) → slice_get table.now.rows place ≡ Some row → (result ≡ true) ↔ HasTracks (plain_state plant.now) row }
 {
     match table.row(place) {
         Some(row) => need(row.cylinders) <= plant.length(Device::Volume(row.device)),
@@ -62,7 +67,7 @@ fn has_tracks_at(plant: &PlainPlant, table: &PairTable, place: u16) -> bool
 fn have_tracks(plant: &PlainPlant, table: &PairTable) -> bool
     requires home { NoneLent (plain_state plant.now) }
     requires below { IsTrue (are_below (plain_state plant.now).volumes table.now.rows) }
-    ensures { result ≡ true → All (HasTracks (plain_state plant.now)) table.now.rows }
+    ensures { (result ≡ true) ↔ All (HasTracks (plain_state plant.now)) table.now.rows }
 {
     for place in 0..table.len() {
         if !has_tracks_at(plant, table, place) {

@@ -8,6 +8,7 @@ mod laws;
 mod opening;
 mod run;
 mod saying;
+mod unfailing_source;
 mod words;
 
 pub use command::xrc;

@@ -1,8 +1,11 @@
-use Rattle.std.proofs.Common.{rules, ℕ, List}
+use Rattle.std.proofs.Common.{rules}
 use Rattle.crash_plant.specs.PlainPlant.{plain_state}
 use Rattle.xrc_cli.specs.Generating.{SumsUp, SumsUpRun}
-use Rattle.xrc_cli.proofs.Generated.{run_done, weaker}
+use Rattle.xrc_cli.proofs.Generated.{none_marked, run_done, weaker}
 use Rattle.xrc_cli.proofs.generating.run_input.Goals as goal
+
+pub lanes_of-requires : goal.lanes_of-requires
+lanes_of-requires g c = none_marked _ c.in_ok-sources.sources.items c.in_ok-sources.ensures.sources
 
 pub returns : goal.returns
 returns g c =

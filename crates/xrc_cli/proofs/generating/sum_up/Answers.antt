@@ -9,7 +9,7 @@ summary-requires c =
     let a = plain_state c.args.ran.now in
     let b = plain_state c.examine.new.plant in
     let leaves = leaves_read c.args.ran.now c.examine.new.plant c.examine.ensures.others in
-    may_be_summed_up a b leaves c.in-Ok.means c.requires (none_short a c.in-Ok.means (Ok c.in-Ok.means) refl c.in-Ok.ensures.short) (c.in-Ok.ensures.says tt) (c.have_tracks.ensures c.if-have_tracks.true)
+    may_be_summed_up a b leaves c.in-Ok.means c.requires (none_short a c.in-Ok.means (Ok c.in-Ok.means) refl c.in-Ok.ensures.short) (c.in-Ok.ensures.says tt) (c.have_tracks.ensures.0 c.if-have_tracks.true)
 
 pub returns-in-Ok : goal.returns-in-Ok
 returns-in-Ok c =

@@ -1,6 +1,6 @@
-use Rattle.std.proofs.Common.{rules, ◌≡◌, ◌≤◌, ◌↔◌, IsTrue, ℕ, sym, subst}
-use Rattle.xrc_cli.specs.Labelling.{EndsLabelling, HasVolume, label_line}
-use Rattle.xrc_cli.proofs.LabelEnds.{labelled, no_room, no_volume, not_written}
+use Rattle.std.proofs.Common.{rules, ℕ, sym, subst}
+use Rattle.xrc_cli.specs.Labelling.{EndsLabelling}
+use Rattle.xrc_cli.proofs.LabelEnds.{labelled, no_volume, not_written}
 use Rattle.xrc_cli.proofs.labelling.label_volume.Goals as goal
 
 pub returns-then-not-has_volume : goal.returns-then-not-has_volume
