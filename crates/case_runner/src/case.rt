@@ -214,12 +214,7 @@ impl<'a> Case<'a> {
         else {
             return Err(words.wrong("it stands below a run"));
         };
-        match keyword {
-            "same" => done.wants_same(self.alloc, words, before, report),
-            "crash" => done.crash(self.alloc, words),
-            "unheard" => done.wants_unheard(words, call, report),
-            _ => done.made.take(keyword, words, report),
-        }
+        done.take(self.alloc, keyword, words, call, before, report)
     }
 
     fn take_row<R: Threads + Wait + Sync, P: Program>(
@@ -232,30 +227,29 @@ impl<'a> Case<'a> {
         report: &mut Report<'_>,
     ) -> Result<(), Wrong> {
         self.begin_try(words, book)?;
-        let (Some(call), Some(before)) = (&self.call, &self.before) else {
-            return Err(words.wrong("it stands below a run"));
-        };
-        let scene = Scene {
-            alloc: self.alloc,
-            call,
-            before,
-            traces: self.setup.traces(),
-        };
-        match keyword {
-            "at" => scene.try_ends(rt, program, self.table, words, book, report),
-            "in" => scene.try_ways(
+        match self.scene() {
+            Some(scene) => scene.try_row(
                 rt,
                 program,
+                keyword,
                 self.table,
                 self.ways.as_slice(),
                 words,
                 book,
                 report,
             ),
-            "calm" => scene.try_calm(rt, program, self.table, words, report),
-            "n" => scene.try_flaws(rt, program, self.table, words, report),
-            _ => scene.try_bytes(rt, program, words, report),
+            None => Err(words.wrong("it stands below a run")),
         }
+    }
+
+    /// The call that was told last, with what it begins with.
+    fn scene(&self) -> Option<Scene<'_, 'a>> {
+        Some(Scene {
+            alloc: self.alloc,
+            call: self.call.as_ref()?,
+            before: self.before.as_ref()?,
+            traces: self.setup.traces(),
+        })
     }
 
     /// Ends what is wanted of a call that was made, and goes on with what it left.
@@ -282,6 +276,24 @@ impl<'a> Case<'a> {
 }
 
 impl Done {
+    /// Takes a line that wants something of the call.
+    fn take(
+        &mut self,
+        alloc: Global,
+        keyword: &str,
+        words: Words<'_>,
+        call: &Call<'_>,
+        before: &Past,
+        report: &mut Report<'_>,
+    ) -> Result<(), Wrong> {
+        match keyword {
+            "same" => self.wants_same(alloc, words, before, report),
+            "crash" => self.crash(alloc, words),
+            "unheard" => self.wants_unheard(words, call, report),
+            _ => self.made.take(keyword, words, report),
+        }
+    }
+
     fn wants_same(
         &mut self,
         alloc: Global,

@@ -204,8 +204,29 @@ impl<'s, 'a> Scene<'s, 'a> {
         self.make(rt, program, Twist { fail, flaw, calm })
     }
 
+    /// The row of a table that begins with this word.
+    pub fn try_row<R: Threads + Wait + Sync, P: Program>(
+        self,
+        rt: &R,
+        program: &P,
+        keyword: &str,
+        table: Table,
+        ways: &[Words<'_>],
+        words: Words<'_>,
+        book: &Book<'_>,
+        report: &mut Report<'_>,
+    ) -> Result<(), Wrong> {
+        match keyword {
+            "at" => self.try_ends(rt, program, table, words, book, report),
+            "in" => self.try_ways(rt, program, table, ways, words, book, report),
+            "calm" => self.try_calm(rt, program, table, words, report),
+            "n" => self.try_flaws(rt, program, table, words, report),
+            _ => self.try_bytes(rt, program, words, report),
+        }
+    }
+
     /// A row of calls that fail.
-    pub fn try_ends<R: Threads + Wait + Sync, P: Program>(
+    fn try_ends<R: Threads + Wait + Sync, P: Program>(
         self,
         rt: &R,
         program: &P,
@@ -242,7 +263,7 @@ impl<'s, 'a> Scene<'s, 'a> {
     }
 
     /// A row of calls that fail, each of which ends in one of these ways.
-    pub fn try_ways<R: Threads + Wait + Sync, P: Program>(
+    fn try_ways<R: Threads + Wait + Sync, P: Program>(
         self,
         rt: &R,
         program: &P,
@@ -361,7 +382,7 @@ impl<'s, 'a> Scene<'s, 'a> {
     }
 
     /// At a call behind the last one all is as without a failure.
-    pub fn try_calm<R: Threads + Wait + Sync, P: Program>(
+    fn try_calm<R: Threads + Wait + Sync, P: Program>(
         self,
         rt: &R,
         program: &P,
@@ -381,7 +402,7 @@ impl<'s, 'a> Scene<'s, 'a> {
     }
 
     /// A row of flaws of a trace.
-    pub fn try_flaws<R: Threads + Wait + Sync, P: Program>(
+    fn try_flaws<R: Threads + Wait + Sync, P: Program>(
         self,
         rt: &R,
         program: &P,
@@ -401,7 +422,7 @@ impl<'s, 'a> Scene<'s, 'a> {
     }
 
     /// A call over devices with other bytes.
-    pub fn try_bytes<R: Threads + Wait + Sync, P: Program>(
+    fn try_bytes<R: Threads + Wait + Sync, P: Program>(
         self,
         rt: &R,
         program: &P,
