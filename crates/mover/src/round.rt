@@ -1,6 +1,6 @@
 //! Rounds: readers beside the mover, until the limit is reached.
 
-ghost use Rattle.std.specs.Prelude.{◌≡◌, ◌<◌, ◌≤◌, ℕ, All, Ok, OnOk, length, map, IsTrue, IsSomeAnd, false, true};
+ghost use Rattle.std.specs.Prelude.{◌≡◌, ◌↔◌, ◌<◌, ◌≤◌, ℕ, All, Ok, OnOk, length, map, IsTrue, IsSomeAnd, false};
 ghost use Rattle.tod_stamp.specs.declared.limits.TheConstants.{MOST_CONTROLS};
 ghost use Rattle.std.specs.List.{list_all};
 ghost use Rattle.std.specs.Thread.{IsSync};
@@ -85,7 +85,7 @@ fn are_settled(table: &PairTable) -> bool
 /// Whether a lane's reader lacked memory.
 fn is_any_lacking<S>(lanes: &[Lane<S>]) -> bool
     requires { (limit : ℕ) × (at : TurnState) × All (IsLaneSeated at limit) lanes.now }
-    ensures { result ≡ false → All (λ lane. IsSomeAnd lane.reader (λ r. MayGoOn r.feed)) lanes.now }
+    ensures { (result ≡ false) ↔ All (λ lane. IsSomeAnd lane.reader (λ r. MayGoOn r.feed)) lanes.now }
 {
     for place in 0..lanes.len() {
         if lanes[place].last() == Some(Reading::NoMemory) {
@@ -97,7 +97,7 @@ fn is_any_lacking<S>(lanes: &[Lane<S>]) -> bool
 
 /// Whether each lane's reader is at the limit, or has broken.
 fn are_done<S>(lanes: &[Lane<S>]) -> bool
-    ensures { result ≡ true → All (λ lane. IsSomeAnd lane.reader IsDone) lanes.now }
+    ensures { IsTrue result ↔ All (λ lane. IsSomeAnd lane.reader IsDone) lanes.now }
 {
     for place in 0..lanes.len() {
         match lanes[place].last() {

@@ -35,7 +35,7 @@ loop-preserved g c =
     let r = c.round.ensures in
     let was = c.loop.invariant in
     record {
-      may_read = all_again g.S.Source.left g.S.Source.faults c.args.group.now c.args.limit.0 c.loop.lanes c.round.new.lanes r.does.read (c.is_any_lacking.ensures c.if-is_any_lacking.false);
+      may_read = all_again g.S.Source.left g.S.Source.faults c.args.group.now c.args.limit.0 c.loop.lanes c.round.new.lanes r.does.read (c.is_any_lacking.ensures.0 c.if-is_any_lacking.false);
       table = r.does.still.here ∙ was.table;
       may = c.in-Ok.ensures.may;
       room = r.room ∙ was.room ∙ sym r.does.still.controls;
