@@ -25,7 +25,7 @@ home_labelled tells device label a b status none ends = λ v below. (ends.writes
 pub home_generated : (tells : Type 0) (number : ℕ) (a b : PlantState) (status : ℕ) → NoneLent a → EndsGenerating tells number a b status → NoneLent b
 home_generated tells number a b _ none (Done line sums says) = none_lent_console tells a b says.front.only none
 home_generated tells number a b _ none (WantsMemory says) = none_lent_console tells a b says.front.only none
-home_generated tells number a b _ none (ConsoleFailed line sums says rose) = none_lent_console tells a b says.only none
+home_generated tells number a b _ none (ConsoleFailed line sums says rose once) = none_lent_console tells a b says.only none
 
 -- ---- statuses
 
@@ -41,4 +41,4 @@ known_labelled tells device label a b status ends is = let known : IsTrue (ends_
 pub known_generated : (tells : Type 0) (number : ℕ) (a b : PlantState) (status : ℕ) → EndsGenerating tells number a b status → status ≢ 2
 known_generated tells number a b _ (Done line sums says) is = absurd (omega arith)
 known_generated tells number a b _ (WantsMemory says) is = absurd (omega arith)
-known_generated tells number a b _ (ConsoleFailed line sums says rose) is = absurd (omega arith)
+known_generated tells number a b _ (ConsoleFailed line sums says rose once) is = absurd (omega arith)

@@ -2,6 +2,7 @@
 use Rattle.std.proofs.Common.{◌≡◌, ◌⊎◌, inl, inr, ℕ, ◌+◌, ◌<◌, ◌≤◌, List, [], ◌∷◌, ◌++◌, length, take, drop, false, Option, Some, None, Result, Ok, Err, refl, sym, ap, subst, ◌∙◌, append_assoc, append-nil, arith}
 use Rattle.std.specs.Prelude.{◌≢◌, IfErr}
 use Rattle.std.proofs.Math.Seq.{take-append_seam}
+use Rattle.std.proofs.lemmas.Bool.{cases_eq}
 use Rattle.xrc_edge.specs.Causes.{Rose}
 use Rattle.crash_plant.specs.declared.device.Device.TheVariants.{Control, Volume}
 use Rattle.crash_plant.specs.Calls.{Says, WorksOnConsole}
@@ -101,7 +102,8 @@ module _ (tells : Type 0) (told : tells) (session : List ℕ) (sources : List So
       begun = begun;
       goes_forth = λ up some. (None, heard_none, (next, forth up some));
       on_trail = λ some. (None, heard_none, (next, along some));
-      applied = applies_so_far run lines a old mid part.applied applied;
+      applied = λ other. absurd (other (ap status_of is));
+      applied_in_part = λ three. applies_so_far run lines a old mid part.applied part.before applied;
       volumes = volumes;
       done = λ zero. absurd (omega (arith, zero, ap status_of is));
       stopped = λ not. record {
@@ -142,13 +144,12 @@ module _ (tells : Type 0) (told : tells) (session : List ℕ) (sources : List So
     heard_is : new.heard new.clock ≡ old.heard old.clock ++ (texts_of lines ++ text)
     heard_is = says.heard new.clock later (omega arith) ∙ goes.now.heard
 
-    said_behind : stop ≢ ConsoleFault → SaidBehind lines (last_line stop) stop old new
+    said_behind : stop ≢ ConsoleFault → SaidBehind lines (last_line stop) old new
     said_behind other =
         let front = says.front new.clock later (omega arith) in
         record {
           said = (front.0, front.1, front.2 ∙ ap (λ (l : List ℕ). l ++ take front.0 (last_line stop)) goes.now.said ∙ append_assoc (old.said old.clock) (replies_of lines) (take front.0 (last_line stop)));
           whole = by_sides (last.whole told) last.console_count;
-          by_one = (let same = unfailed other in let one = last.console_once in omega (arith, same, one));
         }
       where
         rose_before : Rose mid.console_faults new.console_faults → Rose old.console_faults new.console_faults
@@ -201,7 +202,8 @@ module _ (tells : Type 0) (told : tells) (session : List ℕ) (sources : List So
       on_trail = λ some.
           let heard = (stage_behind run lines text old).next in
           (heard, heard_behind, (next, along_still tells told mid new works run lines heard trail next (along some)));
-      applied = λ up number below ended. inl (applies_on run lines old mid new goes.now.later works.site (works.elapses told) applied up number below ended);
+      applied = λ other. applies_on run lines old mid new goes.now.later works.site (works.elapses told) applied;
+      applied_in_part = λ three up number below ended. inl (applies_on run lines old mid new goes.now.later works.site (works.elapses told) applied up number below ended);
       volumes = rows_still tells told mid new works (rows_passed trail.points) old goes.now.site goes.now.later volumes;
       done = λ zero. absurd (not_done old new stop ends zero);
       stopped = λ not. stops_with;
@@ -219,6 +221,7 @@ module _ {S P : Type 0} (tells : Type 0) (state : P → PlantState) (left : S �
       known = refl;
       counts = λ d store not. r.counts.devices d store (λ stop. no_err _ stop);
       console_count = λ is. r.counts.console (λ stop. no_err _ stop);
+      console_once = r.counts.console_once;
       console = λ is. absurd (omega (arith, is));
       journal = λ is. absurd (omega (arith, is));
       control = λ is. absurd (omega (arith, is));
@@ -250,7 +253,8 @@ module _ {S P : Type 0} (tells : Type 0) (state : P → PlantState) (left : S �
           begun = is.begun;
           goes_forth = λ up some. (None, heard_none, (None, is.goes_forth up some));
           on_trail = λ some. (None, heard_none, (None, is.on_trail some));
-          applied = λ up number below ended. inl (runs.ends.2 up number below ended);
+          applied = λ other. runs.ends.2;
+          applied_in_part = λ three. absurd (omega (arith, three));
           volumes = is.volumes;
           done = λ zero. is;
           stopped = λ not. absurd (not refl);
@@ -274,6 +278,14 @@ module _ {S P : Type 0} (tells : Type 0) (state : P → PlantState) (left : S �
 
     as_were : StoresAsWere (state old) (state new) stop
     as_were d store other = last.front.only.faults d ∙ as_were_mid d store other
+
+    -- Behind a fault of the console nothing is said.
+    once : (state new).console_faults ≤ (state old).console_faults + 1
+    once = by_status (cases_eq (status_of stop) 3)
+      where
+        by_status : (status_of stop ≡ 3) ⊎ (status_of stop ≢ 3) → (state new).console_faults ≤ (state old).console_faults + 1
+        by_status (inl is) = (let first = r.counts.console_once in let quiet = ap (λ (p : P). (state p).console_faults) (silent (is_console (state old) (state new) stop ends is)) in omega (arith, first, quiet))
+        by_status (inr other) = (let quiet = r.counts.console (λ is. other (ap status_of (err_is stop ConsoleFault is))) in let one = last.console_once in omega (arith, quiet, one))
 
     -- ---- opening
 
@@ -346,7 +358,7 @@ module _ {S P : Type 0} (tells : Type 0) (state : P → PlantState) (left : S �
     pub ends_stopped : EndsScriptRun tells state left faults session storage before now old new (status_of stop)
     ends_stopped = record {
       lanes_stay = r.lanes_stay;
-      cause = status_cause (state old) (state new) stop ends as_were;
+      cause = status_cause (state old) (state new) stop ends as_were once;
       keeps = keeps_still tells stop session (state old) (state mid) (state new) r.keeps last;
       opens = opens_now;
       begins = λ told. begins_still tells told stop session (state old) (state mid) (state new) r.keeps last (r.begins told);

@@ -97,4 +97,4 @@ said tells number line a b status sums s = by s.known
   where
     by : (status ≡ 0) ⊎ (status ≡ 3) → EndsGenerating tells number a b status
     by (inl is) = subst (λ (n : ℕ). EndsGenerating tells number a b n) (sym is) (Done line sums (record { front = s.front; whole = λ told. s.whole told is; console_count = s.console_count is }))
-    by (inr is) = subst (λ (n : ℕ). EndsGenerating tells number a b n) (sym is) (ConsoleFailed line sums s.front (s.console is))
+    by (inr is) = subst (λ (n : ℕ). EndsGenerating tells number a b n) (sym is) (ConsoleFailed line sums s.front (s.console is) s.console_once)

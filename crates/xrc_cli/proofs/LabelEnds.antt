@@ -64,6 +64,7 @@ module _ (tells : Type 0) (device : ℕ) (label : Label) where
     complete = λ has room none. absurd (not has);
     volume_count = λ other. s.front.only.faults (Volume device);
     console_count = λ is. absurd (omega arith);
+    console_once = s.console_once;
     says = λ told. s.front.moments told;
     whole = λ told. said_or_rose (last_line BadSite) 16 a c (λ is. absurd (omega arith)) (s.whole told);
     labelled = λ told. not_done;
@@ -85,6 +86,7 @@ module _ (tells : Type 0) (device : ℕ) (label : Label) where
     complete = λ again room none. absurd (not room);
     volume_count = λ other. s.front.only.faults (Volume device);
     console_count = λ is. absurd (omega arith);
+    console_once = s.console_once;
     says = λ told. s.front.moments told;
     whole = λ told. said_or_rose (last_line (TooSmall (Volume device) (volume_need label.cylinders))) 14 a c (λ is. absurd (omega arith)) (s.whole told);
     labelled = λ told. not_done;
@@ -116,6 +118,7 @@ module _ (tells : Type 0) (device : ℕ) (label : Label) where
       complete = λ again enough none. absurd (none.devices (Volume device) rises);
       volume_count = λ other. absurd (other refl);
       console_count = λ is. absurd (omega arith);
+      console_once = (let one = s.console_once in let same = w.console_faults in omega (arith, one, same));
       says = says_later (last_line VolumeFault) s.front.only s.front.moments;
       whole = λ told. whole_or_rose told (s.whole told);
       labelled = λ told. not_done;
@@ -154,6 +157,7 @@ module _ (tells : Type 0) (device : ℕ) (label : Label) where
         complete = λ again enough none. refl;
         volume_count = λ other. s.front.only.faults (Volume device) ∙ same;
         console_count = λ done. s.console_count is ∙ w.console_faults;
+        console_once = (let one = s.console_once in let same = w.console_faults in omega (arith, one, same));
         says = says_later (label_line device label) s.front.only s.front.moments;
         whole = λ told. inl (whole_later (label_line device label) told (s.whole told is));
         labelled = λ told done. stands s.front.only told;
@@ -173,6 +177,7 @@ module _ (tells : Type 0) (device : ℕ) (label : Label) where
         complete = λ again enough none. absurd (none.console rises);
         volume_count = λ other. s.front.only.faults (Volume device) ∙ same;
         console_count = λ bad. absurd (omega arith);
+        console_once = (let one = s.console_once in let same = w.console_faults in omega (arith, one, same));
         says = says_later (label_line device label) s.front.only s.front.moments;
         whole = λ told. inr ((λ bad. absurd (omega arith)), rises);
         labelled = λ told done. stands s.front.only told;

@@ -1,6 +1,6 @@
 -- Which stops end a run, and what their statuses tell.
 use Rattle.site_store.specs.Records.{IsStore}
-use Rattle.std.proofs.Common.{◌≡◌, ◌⊎◌, inl, inr, ℕ, ◌==◌, ◌||◌, Bool, true, false, true≢false, nat_eq, refl, sym, ap, subst, ◌∙◌, arith, ◌≢◌}
+use Rattle.std.proofs.Common.{◌≡◌, ◌⊎◌, inl, inr, ℕ, ◌+◌, ◌≤◌, ◌==◌, ◌||◌, Bool, true, false, true≢false, nat_eq, refl, sym, ap, subst, ◌∙◌, arith, ◌≢◌}
 use Rattle.std.proofs.lemmas.Bool.{eq-eqb}
 use Rattle.xrc_edge.specs.Causes.{Rose}
 use Rattle.crash_plant.specs.declared.device.Device.{Device}
@@ -96,11 +96,12 @@ module _ (old new : PlantState) where
   by_status stop as_were d store other = as_were d store (λ is. other (ap status_of is))
 
   -- A status without a cause by a count.
-  uncounted : (status : ℕ) → may_end_run status ≡ true → is_counted status ≡ false → ((d : Device) → IsStore d → status ≢ status_of (stop_of_device d) → new.faults d ≡ old.faults d) → HasStatusCause status old new
-  uncounted status known not as_were = record {
+  uncounted : (status : ℕ) → may_end_run status ≡ true → is_counted status ≡ false → ((d : Device) → IsStore d → status ≢ status_of (stop_of_device d) → new.faults d ≡ old.faults d) → new.console_faults ≤ old.console_faults + 1 → HasStatusCause status old new
+  uncounted status known not as_were once = record {
     known = known;
     counts = as_were;
     console_count = λ is. absurd (never 0 is refl);
+    console_once = once;
     console = λ is. absurd (never 3 is refl);
     journal = λ is. absurd (never 5 is refl);
     control = λ is. absurd (never 6 is refl);
@@ -111,45 +112,49 @@ module _ (old new : PlantState) where
       never n is counted = true≢false (sym counted ∙ sym (ap is_counted is) ∙ not)
 
   -- Each status has its cause.
-  pub status_cause : (stop : Stop) → EndsBy old new stop → StoresAsWere stop → HasStatusCause (status_of stop) old new
-  status_cause _ BySite as_were = uncounted 16 refl refl (by_status stops.BadSite as_were)
-  status_cause _ (ByLength d needed) as_were = uncounted 14 refl refl (by_status (stops.TooSmall d needed) as_were)
-  status_cause _ (ByHeader k place) as_were = uncounted 8 refl refl (by_status (stops.BadHeader k place) as_were)
-  status_cause _ (BySource k) as_were = uncounted 9 refl refl (by_status (stops.HeaderFault k) as_were)
-  status_cause _ ByMemory as_were = uncounted 1 refl refl (by_status stops.NoMemory as_were)
-  status_cause _ (ByLine n) as_were = uncounted 4 refl refl (by_status (stops.BadLine n) as_were)
-  status_cause _ ByNumbers as_were = uncounted 24 refl refl (by_status stops.Spent as_were)
-  status_cause _ (ByConsole rose) as_were = record {
+  pub status_cause : (stop : Stop) → EndsBy old new stop → StoresAsWere stop → new.console_faults ≤ old.console_faults + 1 → HasStatusCause (status_of stop) old new
+  status_cause _ BySite as_were once = uncounted 16 refl refl (by_status stops.BadSite as_were) once
+  status_cause _ (ByLength d needed) as_were once = uncounted 14 refl refl (by_status (stops.TooSmall d needed) as_were) once
+  status_cause _ (ByHeader k place) as_were once = uncounted 8 refl refl (by_status (stops.BadHeader k place) as_were) once
+  status_cause _ (BySource k) as_were once = uncounted 9 refl refl (by_status (stops.HeaderFault k) as_were) once
+  status_cause _ ByMemory as_were once = uncounted 1 refl refl (by_status stops.NoMemory as_were) once
+  status_cause _ (ByLine n) as_were once = uncounted 4 refl refl (by_status (stops.BadLine n) as_were) once
+  status_cause _ ByNumbers as_were once = uncounted 24 refl refl (by_status stops.Spent as_were) once
+  status_cause _ (ByConsole rose) as_were once = record {
     known = refl;
     counts = by_status stops.ConsoleFault as_were;
     console_count = λ is. absurd (omega (arith, is));
+    console_once = once;
     console = λ is. rose;
     journal = λ is. absurd (omega (arith, is));
     control = λ is. absurd (omega (arith, is));
     state = λ is. absurd (omega (arith, is));
   }
-  status_cause _ (ByJournal j rose) as_were = record {
+  status_cause _ (ByJournal j rose) as_were once = record {
     known = refl;
     counts = by_status (stops.JournalFault j) as_were;
     console_count = λ is. absurd (omega (arith, is));
+    console_once = once;
     console = λ is. absurd (omega (arith, is));
     journal = λ is. (j, rose, λ other not. as_were (Journal other) tt (λ same. not (let one : j ≡ other = cc same in sym one)));
     control = λ is. absurd (omega (arith, is));
     state = λ is. absurd (omega (arith, is));
   }
-  status_cause _ (ByControl rose) as_were = record {
+  status_cause _ (ByControl rose) as_were once = record {
     known = refl;
     counts = by_status stops.ControlFault as_were;
     console_count = λ is. absurd (omega (arith, is));
+    console_once = once;
     console = λ is. absurd (omega (arith, is));
     journal = λ is. absurd (omega (arith, is));
     control = λ is. rose;
     state = λ is. absurd (omega (arith, is));
   }
-  status_cause _ (ByState rose) as_were = record {
+  status_cause _ (ByState rose) as_were once = record {
     known = refl;
     counts = by_status stops.StateFault as_were;
     console_count = λ is. absurd (omega (arith, is));
+    console_once = once;
     console = λ is. absurd (omega (arith, is));
     journal = λ is. absurd (omega (arith, is));
     control = λ is. absurd (omega (arith, is));

@@ -1,5 +1,5 @@
 -- The status that the run of a generated input ends with, and what was said by then.
-use Rattle.std.specs.Prelude.{◌≡◌, ℕ, List, [], None, Some, map}
+use Rattle.std.specs.Prelude.{◌≡◌, ℕ, ◌+◌, ◌≤◌, List, [], None, Some, map}
 use Rattle.xrc_edge.specs.Causes.{Rose}
 use Rattle.xrc_edge.specs.MemorySources.{MemoryState}
 use Rattle.crash_plant.specs.declared.plain_plant.PlainPlant.{PlainPlant}
@@ -54,5 +54,5 @@ pub data EndsGenerating (tells : Type 0) (number : ℕ) (old new : PlantState) :
   Done : (line : List ℕ) → SumsUpRun number line → SaysWhole tells line old new → EndsGenerating tells number old new 0
   -- There was no memory for the run.
   WantsMemory : SaysLast tells (last_line NoMemory) old new → EndsGenerating tells number old new 1
-  -- The console failed, and at every moment a front of the line of a run was said.
-  ConsoleFailed : (line : List ℕ) → SumsUpRun number line → SaysFront tells line old new → Rose old.console_faults new.console_faults → EndsGenerating tells number old new 3
+  -- The console failed, its count rose by one at most, and at every moment a front of the line of a run was said.
+  ConsoleFailed : (line : List ℕ) → SumsUpRun number line → SaysFront tells line old new → Rose old.console_faults new.console_faults → new.console_faults ≤ old.console_faults + 1 → EndsGenerating tells number old new 3

@@ -17,7 +17,7 @@ use Rattle.xrc_status.specs.declared.stop.Stop.{Stop}
 use Rattle.xrc_status.specs.declared.stop.Stop.TheVariants.{BadLine, ConsoleFault, HeaderFault, NoMemory}
 use Rattle.xrc_status.specs.Saying.{SaysLast}
 use Rattle.xrc_status.specs.Stops.{last_line, status_of}
-use Rattle.xrc_session.specs.AppliedEnds.{AppliesEndsSoFar}
+use Rattle.xrc_session.specs.AppliedEnds.{AppliesEnds, AppliesEndsSoFar}
 use Rattle.xrc_session.specs.LinePauses.{stage_behind}
 use Rattle.xrc_session.specs.Ends.{IsRunDone}
 use Rattle.xrc_session.specs.Frames.{ChangesRows, KeepsPlant, rows_passed}
@@ -36,11 +36,13 @@ may_end_run status = status == 0 || status == 1 || status == 3 || status == 4 ||
 
 -- Each status has its cause, by counts. The other statuses are told by words, lengths, headers, lines and numbers, and 1 is free.
 --   counts: no count of the control, the state or a journal changes but with its own status
+--   console_once: at each status the console's count rises by one at most
 --   journal: of the journals one failed, and no other
 pub record HasStatusCause (status : ℕ) (old new : PlantState) : Type 0 where
   pub known : IsTrue (may_end_run status)
   pub counts : (d : Device) → IsStore d → status ≢ status_of (stop_of_device d) → new.faults d ≡ old.faults d
   pub console_count : status ≡ 0 → new.console_faults ≡ old.console_faults
+  pub console_once : new.console_faults ≤ old.console_faults + 1
   pub console : status ≡ 3 → Rose old.console_faults new.console_faults
   pub journal : status ≡ 5 → (j : ℕ) × Rose (old.faults (Journal j)) (new.faults (Journal j)) × ((other : ℕ) → other ≢ j → new.faults (Journal other) ≡ old.faults (Journal other))
   pub control : status ≡ 6 → Rose (old.faults Control) (new.faults Control)
@@ -65,11 +67,10 @@ pub record OpensFirst {S : Type 0} (tells : Type 0) (left : S → Option (List �
 
 -- ---- the end of a run
 
--- A stop's line was said behind the replies, whole, or in part where the console's count rose. No other call on the console failed.
-pub record SaidBehind (lines : List Answered) (text : List ℕ) (stop : Stop) (old new : PlantState) : Type 0 where
+-- A stop's line was said behind the replies: whole, with the console's count as it was, or a front of it where that count rose.
+pub record SaidBehind (lines : List Answered) (text : List ℕ) (old new : PlantState) : Type 0 where
   pub said : (k : ℕ) × (k ≤ length text) × (new.said new.clock ≡ old.said old.clock ++ (replies_of lines ++ take k text))
   pub whole : ((new.said new.clock ≡ old.said old.clock ++ (replies_of lines ++ text)) × (new.console_faults ≡ old.console_faults)) ⊎ Rose old.console_faults new.console_faults
-  pub by_one : new.console_faults ≤ old.console_faults + 1
 
 -- Nothing was said behind the replies to these lines. Or of the last reply a front was said, and nothing else.
 pub data SaidInPart (lines : List Answered) (old new : PlantState) : Type 0 where
@@ -91,7 +92,7 @@ pub record StopsWith (tells : Type 0) (run : ScriptRun) (lines : List Answered) 
   pub heard : new.heard new.clock ≡ old.heard old.clock ++ (texts_of lines ++ text)
   pub script : old.script ≡ texts_of lines ++ text ++ new.script
   pub one_line : lines_begun text ≤ 1
-  pub said : status ≢ 3 → SaidBehind lines (last_line stop) stop old new
+  pub said : status ≢ 3 → SaidBehind lines (last_line stop) old new
   pub in_part : status ≡ 3 → SaidInPart lines old new
   pub bad : IsBadBehind tells lines text new.script → (stop ≡ BadLine (length lines + 1)) ⊎ ((stop ≡ ConsoleFault) × (has_feed text ≡ false))
   pub of_bad : (n : ℕ) → stop ≡ BadLine n → (n ≡ length lines + 1) × IsBadBehind tells lines text new.script
@@ -124,8 +125,10 @@ pub record Ran (tells : Type 0) (session : List ℕ) (sources : List SourceBytes
   pub goes_forth : 0 < old.clock → 0 < trail.started → (heard : Option Line) × IsHeardBehind run lines old new heard × ((next : Option Point) × GoesForth run lines heard trail next old new)
   -- So they stand at its end, also on a plant that keeps no past.
   pub on_trail : 0 < trail.started → (heard : Option Line) × IsHeardBehind run lines old new heard × ((next : Option Point) × StandsOnTrail run lines heard trail next new)
-  -- Behind each line behind which the session has ended all is applied and marked.
-  pub applied : AppliesEndsSoFar run lines old new
+  -- Behind each line behind which the session has ended all is applied and marked, before any of its reply is said.
+  pub applied : status ≢ 3 → AppliesEnds run lines old new
+  -- At 3 the reply to the last of the lines may be cut: all is applied before as much of it as was said, and at the end.
+  pub applied_in_part : status ≡ 3 → AppliesEndsSoFar run lines old new
   -- Of the volumes only the slots of pairs that had a row are written.
   pub volumes : ChangesRows (rows_passed trail.points) old new
   -- Done: the script was heard to its end, so much was said, and all is applied.

@@ -146,6 +146,7 @@ module _ {T U : Type 0} (tells : Type 0) (site next : SiteState) (old new : Plan
       console = λ none. work.counts.console (λ is. none (ok_as a b stops.ConsoleFault is));
       later = work.counts.later;
       console_later = work.counts.console_later;
+      console_once = work.counts.console_once;
     };
     spent = λ told is. work.spent told (ok_as b a stops.Spent is);
     hits = work.hits;
@@ -160,6 +161,7 @@ module _ {T U : Type 0} (tells : Type 0) (site next : SiteState) (old new : Plan
       console = λ none. work.counts.console (λ is. none (stop_as {T = T} {U = U} stop stops.ConsoleFault is));
       later = work.counts.later;
       console_later = work.counts.console_later;
+      console_once = work.counts.console_once;
     };
     spent = λ told is. work.spent told (stop_as {T = U} {U = T} stop stops.Spent is);
     hits = tt;

@@ -29,7 +29,7 @@ use Rattle.consistency.specs.Ways.{Leg, PassedPoint}
 use Rattle.mover.specs.Moves.{IsOfMover, is_device_of_row, is_worked_on}
 use Rattle.mover.specs.Working.{LinesAsked}
 use Rattle.xrc_status.specs.declared.stop.Stop.{Stop}
-use Rattle.xrc_status.specs.declared.stop.Stop.TheVariants.{NoMemory, Spent}
+use Rattle.xrc_status.specs.declared.stop.Stop.TheVariants.{Spent}
 use Rattle.xrc_session.specs.Answering.{EndsCommand, IsDoneFrom, IsSiteBehind, IsSiteCommanded, MayAnswer, MayLogChange, answer_told, group_taken, is_end_accepted}
 use Rattle.xrc_session.specs.LinePauses.{MayCommandSite, RisesCover}
 use Rattle.xrc_session.specs.Bringing.{IsWorkOfStore}
@@ -74,7 +74,7 @@ pub no_work_done : {T : Type 0} (tells : Type 0) (site : SiteState) (plant : Pla
 no_work_done {T} tells site plant result cause spent = record {
   works = lent_of_works tells (IsOfMover site) plant plant (works_on_here tells (IsOfMover site) plant);
   cause = cause;
-  counts = record { devices = λ d store other. refl; console = λ other. refl; later = λ d. omega arith; console_later = omega arith };
+  counts = record { devices = λ d store other. refl; console = λ other. refl; later = λ d. omega arith; console_later = omega arith; console_once = omega arith };
   spent = spent;
   hits = by_result result;
 }

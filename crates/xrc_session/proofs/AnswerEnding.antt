@@ -1,5 +1,5 @@
 -- An end that is accepted, in a run: its command, and the mark behind it.
-use Rattle.std.proofs.Common.{◌≡◌, ℕ, suc, ◌+◌, ◌≤◌, true, false, List, [], ◌∷◌, ◌++◌, Option, Some, None, Result, Ok, Err, sym, ap, subst, ◌∙◌, arith, true≢false}
+use Rattle.std.proofs.Common.{◌≡◌, ℕ, suc, ◌≤◌, true, false, List, [], ◌∷◌, ◌++◌, Option, Some, None, Result, Ok, Err, sym, ap, subst, ◌∙◌, arith, true≢false}
 use Rattle.std.specs.Prelude.{fold}
 use Rattle.std.proofs.lemmas.Bool.{and_parts}
 use Rattle.applier.specs.Returns.{WorksOnLent}
@@ -10,7 +10,6 @@ use Rattle.crash_plant.specs.Choices.{AtNow}
 use Rattle.crash_plant.specs.Moments.{PlantState}
 use Rattle.pair_table.specs.declared.command.Change.{Change}
 use Rattle.pair_table.specs.declared.command.Refusal.{Refusal}
-use Rattle.pair_table.specs.Commands.{answer}
 use Rattle.pair_table.specs.Naming.{Naming}
 use Rattle.row_changes.specs.Changes.{Timed}
 use Rattle.group_state.specs.Groups.{Group}

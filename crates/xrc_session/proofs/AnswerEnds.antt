@@ -192,6 +192,7 @@ module _ (tells : Type 0) (was site next : SiteState) (old mid new : PlantState)
     console = λ none. rest.console (λ is. none (same stops.ConsoleFault is)) ∙ console;
     later = λ d. omega (arith, first.counts.later d, rest.later d);
     console_later = omega (arith, first.counts.console_later, rest.console_later);
+    console_once = (let quiet = console in let once = rest.console_once in omega (arith, quiet, once));
   }
 
   -- A mark behind a command works on the same devices.

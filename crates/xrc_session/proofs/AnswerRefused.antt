@@ -1,7 +1,7 @@
 -- A command that is refused, in a run: nothing is called, and its point is the one before it.
 use Rattle.pair_table.specs.declared.command.Change.TheVariants.{Resumed}
 use Rattle.pair_table.specs.declared.command.Change.{Change}
-use Rattle.std.proofs.Common.{◌≡◌, ◌+◌, Bool, true, false, List, [], ◌∷◌, ◌++◌, Option, Some, None, Ok, Err, refl, sym, ap, subst, ◌∙◌, arith, true≢false, ℕ}
+use Rattle.std.proofs.Common.{◌≡◌, Bool, true, false, List, [], ◌∷◌, ◌++◌, Option, Some, None, Ok, Err, refl, sym, ap, subst, ◌∙◌, arith, true≢false, ℕ}
 use Rattle.std.specs.Prelude.{if◌then◌else◌, is_none, Result}
 use Rattle.std.proofs.lemmas.List.Elements.{All-cons, All-nil}
 use Rattle.crash_plant.specs.Choices.{AtNow}

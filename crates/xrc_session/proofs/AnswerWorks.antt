@@ -107,6 +107,7 @@ module _ {T : Type 0} (tells : Type 0) (among : Device → Type 0) (old new : Pl
     console = λ other. works.console_faults;
     later = works.faults;
     console_later = (let same = works.console_faults in omega (arith, same));
+    console_once = (let same = works.console_faults in omega (arith, same));
   }
     where
       same : (d : Device) (e : StoreError) → (let r : Result (Unit {0}) StoreError = Err e in r ≡ Err (Fault d)) → stop_of_store e ≡ stop_of_device d
@@ -119,6 +120,7 @@ module _ {T : Type 0} (tells : Type 0) (among : Device → Type 0) (old new : Pl
     console = λ other. works.console_faults;
     later = works.faults;
     console_later = (let same = works.console_faults in omega (arith, same));
+    console_once = (let same = works.console_faults in omega (arith, same));
   }
 
 -- ---- jobs that fail

@@ -1,5 +1,6 @@
 -- Behind an accepted end all stays known to have been applied, over calls in turn and over one line more.
-use Rattle.std.proofs.Common.{◌≡◌, ◌⊎◌, inl, inr, ℕ, zero, suc, ◌+◌, ◌<◌, ◌≤◌, true, List, [], ◌∷◌, ◌++◌, length, take, get_or, Bool, None, Some, sym, ap, ◌∙◌, arith, length-append, slice_get}
+use Rattle.std.proofs.Common.{◌≡◌, ◌⊎◌, inl, inr, ℕ, zero, suc, ◌+◌, ◌<◌, ◌≤◌, true, List, [], ◌∷◌, ◌++◌, length, take, get_or, None, Some, sym, ap, subst, ◌∙◌, arith, length-append, slice_get}
+use Rattle.std.proofs.Math.Seq.{take-append_seam}
 use Rattle.std.proofs.lemmas.Bool.{cases_lt}
 use Rattle.std.proofs.lemmas.List.{length_push, take-append-le, take_all}
 use Rattle.std.proofs.lemmas.Option.{slice_get_cases}
@@ -11,14 +12,12 @@ use Rattle.crash_plant.proofs.Choices.{past_choice}
 use Rattle.site_means.specs.Images.{Shape}
 use Rattle.site_means.specs.Meaning.{meaning_in}
 use Rattle.site_means.proofs.Goes.{shape_same}
-use Rattle.xrc_command.specs.declared.line.Line.{Line}
 use Rattle.consistency.specs.Stages.{ScriptRun, Stage}
 use Rattle.consistency.specs.Courses.{Answered, StandsAt, replies_of, stage_at}
 use Rattle.consistency.specs.Keeping.{Keeps}
-use Rattle.consistency.specs.Replies.{IsReply}
-use Rattle.consistency.proofs.Lines.{replies_more, same_some, stage_front}
+use Rattle.consistency.proofs.Lines.{same_some, stage_front}
 use Rattle.consistency.proofs.Standing.{console_choice}
-use Rattle.xrc_session.specs.AppliedEnds.{AppliesBehind, AppliesEnds, AppliesEndsSoFar, HasEmptyWalk, IsAllApplied}
+use Rattle.xrc_session.specs.AppliedEnds.{AppliesBeforeReply, AppliesBehind, AppliesBehindLast, AppliesEnds, AppliesEndsSoFar, HasEmptyWalk, IsAllApplied}
 
 -- Plants of one shape walk the same.
 empty_same : (old new : PlantState) → SameSite old new → (c : Choice) → HasEmptyWalk old c → HasEmptyWalk new c
@@ -38,10 +37,15 @@ behind_on lines number began old new site past up is = record {
   since = is.since;
   within = omega (arith, is.within, (past.kept Control).later);
   said = past.said is.at up is.within ∙ is.said;
-  applied = λ t from to same c left.
+  applied = on is.at is.within is.applied;
+  before = λ t from to more.
       let within : t ≤ old.clock = omega (arith, to, is.within) in
-      empty_same old new site c (is.applied t from to (sym (past.said t up within) ∙ same ∙ past.said is.at up is.within) c (past_choice old new t c site past up within left));
+      on t within (is.before t from to (omega (arith, more, ap (λ (l : List ℕ). length l) (past.said t up within))));
 }
+  where
+    -- A moment that has passed stays as it was.
+    on : (t : ℕ) → t ≤ old.clock → IsAllApplied old t → IsAllApplied new t
+    on t within applied c left = empty_same old new site c (applied c (past_choice old new t c site past up within left))
 
 pub applies_on : (run : ScriptRun) (lines : List Answered) (began old new : PlantState) → began.clock ≤ old.clock → SameSite old new → Elapses old new → AppliesEnds run lines began old → AppliesEnds run lines began new
 applies_on run lines began old new later site past ends up number below ended = behind_on lines number began old new site past (omega (arith, up, later)) (ends up number below ended)
@@ -75,33 +79,24 @@ said_within lines heard said at unsaid = by_line (slice_get_cases lines at.answe
         omega (arith, size, ap (λ (l : List ℕ). length l) (unsaid last), ap (λ (l : List Answered). length (replies_of l)) (take_all at.answered lines all))
 
 -- So at no moment before a reply had more been said than just before it.
-said_before : (run : ScriptRun) (lines : List Answered) (text : List ℕ) (began now : PlantState) → Keeps run lines text began now → (t : ℕ) → began.clock ≤ t → t ≤ now.clock → length (now.said t) ≤ length (began.said began.clock) + length (replies_of lines)
+pub said_before : (run : ScriptRun) (lines : List Answered) (text : List ℕ) (began now : PlantState) → Keeps run lines text began now → (t : ℕ) → began.clock ≤ t → t ≤ now.clock → length (now.said t) ≤ length (began.said began.clock ++ replies_of lines)
 said_before run lines text began now keeps t from to =
     let moment = keeps.each t from to in
     omega (
       arith,
       said_within lines moment.heard moment.said moment.at (keeps.unsaid t from to),
       ap (λ (l : List ℕ). length l) moment.said_is ∙ length-append (began.said began.clock) moment.said,
+      length-append (began.said began.clock) (replies_of lines),
     )
 
--- A reply has a byte.
-reply_some : (is_accepted : Bool) (line : Line) (reply : List ℕ) → IsReply is_accepted line reply → 0 < length reply
-reply_some is_accepted line reply is = omega (
-  arith,
-  ap (λ (l : List ℕ). length l) is.parts,
-  length-append (is.report ++ is.last) (10 ∷ []),
-)
-
--- With the reply to one line more, more was said than at each moment before it.
-pub says_more : (run : ScriptRun) (lines : List Answered) (a : Answered) (text : List ℕ) (is_accepted : Bool) (began old now : PlantState) → Keeps run lines text began old → IsReply is_accepted a.line a.reply
-    → now.said now.clock ≡ began.said began.clock ++ replies_of (lines ++ a ∷ []) → (t : ℕ) → began.clock ≤ t → t ≤ old.clock → length (old.said t) < length (now.said now.clock)
-says_more run lines a text is_accepted began old now keeps is_reply said t from to = omega (
-  arith,
-  said_before run lines text began old keeps t from to,
-  reply_some is_accepted a.line a.reply is_reply,
-  ap (λ (l : List ℕ). length l) said ∙ length-append (began.said began.clock) (replies_of (lines ++ a ∷ [])),
-  ap (λ (l : List ℕ). length l) (replies_more lines a) ∙ length-append (replies_of lines) a.reply,
-)
+-- No more had been said at each moment before a call on the console, at which all is applied: so it is applied before the next reply.
+pub applies_before : (tells : Type 0) → tells → (lines : List Answered) (began old now : PlantState) → WorksOnConsole tells old now → began.clock ≤ old.clock → ((t : ℕ) → began.clock ≤ t → t ≤ old.clock → length (old.said t) ≤ length (began.said began.clock ++ replies_of lines))
+    → IsAllApplied old old.clock → 0 < began.clock → AppliesBeforeReply lines began now now.clock
+applies_before tells told lines began old now works later unsaid is up t from to more = by_time (cases_lt old.clock t)
+  where
+    by_time : (old.clock < t) ⊎ (t ≤ old.clock) → IsAllApplied now t
+    by_time (inl late) = applied_within tells told old now works is t (omega (arith, late)) to
+    by_time (inr early) = absurd (omega (arith, more, unsaid t from early, ap (λ (l : List ℕ). length l) ((works.elapses told).said t (omega (arith, up, later)) early)))
 
 -- ---- one line more
 
@@ -113,6 +108,7 @@ behind_more lines more number began now below is = record {
   within = is.within;
   said = is.said ∙ ap (λ (l : List Answered). began.said began.clock ++ replies_of l) (sym (take-append-le (suc number) lines more (omega (arith, below))));
   applied = is.applied;
+  before = subst (λ (l : List Answered). AppliesBeforeReply l began now is.at) (sym (take-append-le number lines more (omega (arith, below)))) is.before;
 }
 
 module _ (run : ScriptRun) (lines : List Answered) (a : Answered) (began now : PlantState) where
@@ -125,42 +121,39 @@ module _ (run : ScriptRun) (lines : List Answered) (a : Answered) (began now : P
   ended_last : (number : ℕ) → suc number ≡ length (lines ++ a ∷ []) → (stage_at run (lines ++ a ∷ []) (suc number)).table.is_ended ≡ (stage_at run (lines ++ a ∷ []) (length (lines ++ a ∷ []))).table.is_ended
   ended_last number is = ap (λ (n : ℕ). (stage_at run (lines ++ a ∷ []) n).table.is_ended) is
 
-  -- Its reply was said whole, by a call before which less had been said at each moment.
-  pub applies_more : (tells : Type 0) → tells → (old : PlantState) → WorksOnConsole tells old now → began.clock ≤ old.clock → now.said now.clock ≡ began.said began.clock ++ replies_of (lines ++ a ∷ [])
-      → (0 < began.clock → (t : ℕ) → began.clock ≤ t → t ≤ old.clock → length (old.said t) < length (now.said now.clock))
-      → ((stage_at run (lines ++ a ∷ []) (length (lines ++ a ∷ []))).table.is_ended ≡ true → IsAllApplied old old.clock) → AppliesEnds run lines began now → AppliesEnds run (lines ++ a ∷ []) began now
-  applies_more tells told old works later said more applied ends up number below ended = by_side (cases_lt number (length lines))
+  -- The lines before the last one are these.
+  before_last : (number : ℕ) → suc number ≡ length (lines ++ a ∷ []) → AppliesBeforeReply lines began now now.clock → AppliesBeforeReply (take number (lines ++ a ∷ [])) began now now.clock
+  before_last number is before =
+      let here : number ≡ length lines = omega (arith, is, length_push lines a) in
+      subst (λ (l : List Answered). AppliesBeforeReply l began now now.clock) (sym (ap (λ (n : ℕ). take n (lines ++ a ∷ [])) here ∙ take-append_seam lines (a ∷ []))) before
+
+  -- Its reply was said whole.
+  pub applies_more : began.clock ≤ now.clock → now.said now.clock ≡ began.said began.clock ++ replies_of (lines ++ a ∷ []) → ((stage_at run (lines ++ a ∷ []) (length (lines ++ a ∷ []))).table.is_ended ≡ true → IsAllApplied now now.clock)
+      → (0 < began.clock → (stage_at run (lines ++ a ∷ []) (length (lines ++ a ∷ []))).table.is_ended ≡ true → AppliesBeforeReply lines began now now.clock) → AppliesEnds run lines began now → AppliesEnds run (lines ++ a ∷ []) began now
+  applies_more since said applied before ends up number below ended = by_side (cases_lt number (length lines))
     where
-      past : Elapses old now
-      past = works.elapses told
-
-      since : began.clock ≤ now.clock
-      since = omega (arith, later, (past.kept Control).later)
-
-      -- Where so much was said, a moment lies in that call.
-      in_call : IsAllApplied old old.clock → (t : ℕ) → began.clock ≤ t → t ≤ now.clock → now.said t ≡ now.said now.clock → IsAllApplied now t
-      in_call is t from to same = by_time (cases_lt old.clock t)
-        where
-          by_time : (old.clock < t) ⊎ (t ≤ old.clock) → IsAllApplied now t
-          by_time (inl late) = applied_within tells told old now works is t (omega (arith, late)) to
-          by_time (inr early) = absurd (omega (arith, more up t from early, ap (λ (l : List ℕ). length l) (sym (past.said t (omega (arith, up, later)) early) ∙ same)))
-
       by_side : (number < length lines) ⊎ (length lines ≤ number) → AppliesBehind (lines ++ a ∷ []) number began now
-      by_side (inl before) = behind_more lines (a ∷ []) number began now before (ends up number before (sym (ended_before number before) ∙ ended))
+      by_side (inl less) = behind_more lines (a ∷ []) number began now less (ends up number less (sym (ended_before number less) ∙ ended))
       by_side (inr high) =
           let last = is_last number high below in
+          let ended_here = sym (ended_last number last) ∙ ended in
           record {
             at = now.clock;
             since = since;
             within = omega arith;
             said = said ∙ ap (λ (l : List Answered). began.said began.clock ++ replies_of l) (sym (take_all (suc number) (lines ++ a ∷ []) (omega (arith, last))));
-            applied = in_call (applied (sym (ended_last number last) ∙ ended));
+            applied = applied ended_here;
+            before = before_last number last (before up ended_here);
           }
 
   -- Or in part.
-  pub applies_so_far : ((stage_at run (lines ++ a ∷ []) (length (lines ++ a ∷ []))).table.is_ended ≡ true → IsAllApplied now now.clock) → AppliesEnds run lines began now → AppliesEndsSoFar run (lines ++ a ∷ []) began now
-  applies_so_far applied ends up number below ended = by_side (cases_lt number (length lines))
+  pub applies_so_far : ((stage_at run (lines ++ a ∷ []) (length (lines ++ a ∷ []))).table.is_ended ≡ true → IsAllApplied now now.clock)
+      → (0 < began.clock → (stage_at run (lines ++ a ∷ []) (length (lines ++ a ∷ []))).table.is_ended ≡ true → AppliesBeforeReply lines began now now.clock) → AppliesEnds run lines began now → AppliesEndsSoFar run (lines ++ a ∷ []) began now
+  applies_so_far applied before ends up number below ended = by_side (cases_lt number (length lines))
     where
-      by_side : (number < length lines) ⊎ (length lines ≤ number) → AppliesBehind (lines ++ a ∷ []) number began now ⊎ ((suc number ≡ length (lines ++ a ∷ [])) × IsAllApplied now now.clock)
-      by_side (inl before) = inl (behind_more lines (a ∷ []) number began now before (ends up number before (sym (ended_before number before) ∙ ended)))
-      by_side (inr high) = let last = is_last number high below in inr (last, applied (sym (ended_last number last) ∙ ended))
+      by_side : (number < length lines) ⊎ (length lines ≤ number) → AppliesBehind (lines ++ a ∷ []) number began now ⊎ AppliesBehindLast (lines ++ a ∷ []) number began now
+      by_side (inl less) = inl (behind_more lines (a ∷ []) number began now less (ends up number less (sym (ended_before number less) ∙ ended)))
+      by_side (inr high) =
+          let last = is_last number high below in
+          let ended_here = sym (ended_last number last) ∙ ended in
+          inr (record { is_last = last; applied = applied ended_here; before = before_last number last (before up ended_here) })

@@ -69,6 +69,7 @@ module _ (tells : Type 0) (site after : SiteState) (old new : PlantState) where
       console = λ none. works.others.console_faults;
       later = works.others.faults;
       console_later = (let same = works.others.console_faults in omega (arith, same));
+      console_once = (let same = works.others.console_faults in omega (arith, same));
     };
     spent = λ told is. absurd (cc is);
     hits = hits;
@@ -84,6 +85,7 @@ module _ (tells : Type 0) (site after : SiteState) (old new : PlantState) where
       console = λ none. works.others.console_faults;
       later = works.others.faults;
       console_later = (let same = works.others.console_faults in omega (arith, same));
+      console_once = (let same = works.others.console_faults in omega (arith, same));
     };
     spent = λ told is. let stop : stop_of_store error ≡ stops.Spent = cc is in spent_now tells told after new (works.spent (ap (λ (e : StoreError). Err e) (spent_store error stop)));
     hits = tt;
@@ -99,6 +101,7 @@ module _ (tells : Type 0) (site after : SiteState) (old new : PlantState) where
       console = λ none. works.others.console_faults;
       later = works.others.faults;
       console_later = (let same = works.others.console_faults in omega (arith, same));
+      console_once = (let same = works.others.console_faults in omega (arith, same));
     };
     spent = λ told is. absurd (cc is);
     hits = tt;

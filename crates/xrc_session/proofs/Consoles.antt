@@ -1,12 +1,11 @@
 -- What stands between two epochs, while the console alone works.
-use Rattle.std.proofs.Common.{◌≡◌, ◌⊎◌, inl, inr, ℕ, ◌<◌, ◌≤◌, Bool, true, false, List, [], ◌∷◌, ◌++◌, length, Option, Some, None, refl, sym, ap, subst, ◌∙◌, append-nil, arith}
+use Rattle.std.proofs.Common.{◌≡◌, ◌⊎◌, inl, inr, ℕ, ◌<◌, ◌≤◌, List, [], ◌++◌, length, Option, Some, None, refl, sym, ap, subst, ◌∙◌, arith}
 use Rattle.std.specs.Prelude.{◌+◌, ◌*◌, ◌&&◌, IsSomeAnd, IsTrue, MatchOption, find, nat_le, nat_lt}
 use Rattle.std.specs.List.{list_all}
 use Rattle.std.proofs.lemmas.Bool.{cases_lt}
-use Rattle.std.specs.List.{Contains}
 use Rattle.crash_plant.specs.declared.device.Device.{Device}
 use Rattle.crash_plant.specs.declared.device.Device.TheVariants.{Control, Journal, State, Volume}
-use Rattle.crash_plant.specs.Calls.{Elapses, SameSite, WorksOnConsole}
+use Rattle.crash_plant.specs.Calls.{SameSite, WorksOnConsole}
 use Rattle.crash_plant.specs.Choices.{AtNow, Choice, IsChoice}
 use Rattle.crash_plant.specs.Moments.{IsDurable, SamePast, PlantState, Same, Standing, Stays, on}
 use Rattle.crash_plant.proofs.Choices.{part_before}
@@ -19,10 +18,9 @@ use Rattle.site_means.specs.Meaning.{chosen_in, meaning_in}
 use Rattle.site_means.proofs.Goes.{shape_same}
 use Rattle.xrc_command.specs.declared.line.Line.{Line}
 use Rattle.group_state.specs.Groups.{Group}
-use Rattle.site_store.specs.IdleSites.{IsSiteIdle}
-use Rattle.site_store.specs.Commands.{LabelsFit, label_has_volume}
+use Rattle.site_store.specs.Commands.{LabelsFit}
 use Rattle.site_store.specs.Exceptions.{Exceptions}
-use Rattle.site_store.specs.Sites.{SiteState, has_failed}
+use Rattle.site_store.specs.Sites.{SiteState}
 use Rattle.site_store.specs.Standing.{AreApplied, FitsPlant, MayRecord, SiteStands, StandsFast}
 use Rattle.site_store.proofs.MarkFits.{lengths_still, site_fits}
 use Rattle.site_store.proofs.Seeing.{same_content}
@@ -41,7 +39,7 @@ use Rattle.mover.specs.OwedTracks.{held_by_choice, held_of_row, is_row_of_volume
 use Rattle.mover.specs.Working.{StandsForRows}
 use Rattle.xrc_session.specs.LinePauses.{GoesOnFrom, HasNotBegun, IsAtSite, IsBetween, IsReadyForEpoch, IsUnderWay, IsUnstarted, LeavesAll, MayCommandSite, RestsAtSite, StandsAtLeg, StandsBehindLines, StandsForSite, site_point}
 use Rattle.xrc_session.specs.EpochPauses.{Between, StandsBetween}
-use Rattle.xrc_session.specs.Frames.{ChangesRows, rows_passed}
+use Rattle.xrc_session.specs.Frames.{rows_passed}
 use Rattle.xrc_session.specs.Lanes.{sizes_of}
 use Rattle.xrc_session.specs.States.{SessionState}
 use Rattle.xrc_session.specs.Trails.{AreHitsOfFaults, GoesForth, Trail, first_leg, last_leg}

@@ -1,6 +1,6 @@
 -- The stages of a course: until the session starts, and behind its last line.
-use Rattle.std.proofs.Common.{◌≡◌, ◌⊎◌, inl, inr, ℕ, zero, suc, ◌<◌, ◌≤◌, Bool, true, false, true≢false, cond, List, [], ◌∷◌, ◌++◌, length, Some, None, refl, sym, ap, subst, ◌∙◌, append-nil, arith, get_or, slice_get}
-use Rattle.std.specs.Prelude.{◌==◌, ◌&&◌, ◌||◌, is_none, nat_lt, if◌then◌else◌}
+use Rattle.std.proofs.Common.{◌≡◌, ◌⊎◌, inl, inr, ℕ, zero, suc, ◌<◌, ◌≤◌, Bool, true, false, true≢false, List, [], ◌++◌, length, Some, None, refl, sym, ap, subst, ◌∙◌, arith, get_or, slice_get}
+use Rattle.std.specs.Prelude.{◌==◌, is_none, if◌then◌else◌}
 use Rattle.std.proofs.lemmas.Bool.{and_right, cases_lt}
 use Rattle.std.proofs.lemmas.Option.{slice_get_cases}
 use Rattle.pair_table.specs.Commands.{accepted}
@@ -9,7 +9,7 @@ use Rattle.pair_table.specs.Tables.{Table}
 use Rattle.row_changes.specs.Changes.{Timed}
 use Rattle.row_changes.specs.Spans.{AreCounted}
 use Rattle.consistency.specs.Stages.{ScriptRun, Stage, breaks_of, names_of}
-use Rattle.consistency.specs.Courses.{Answered, IsAnswered, IsCourse, is_whole_line, last_line_time, next_line, stage_after, stage_at, texts_of}
+use Rattle.consistency.specs.Courses.{Answered, IsAnswered, IsCourse, last_line_time, stage_after, stage_at, texts_of}
 use Rattle.consistency.specs.Keeping.{stage_now}
 use Rattle.consistency.specs.Steps.{is_active, names_at, table_on_the_way}
 use Rattle.consistency.proofs.Lines.{none_heard, stage_then}

@@ -1,5 +1,5 @@
 -- What an exact reply looks at: of the points before its command, and of none before the start.
-use Rattle.std.proofs.Common.{◌≡◌, ◌⊎◌, inl, inr, ℕ, suc, ◌<◌, ◌≤◌, Bool, true, false, true≢false, List, [], ◌∷◌, ◌++◌, length, Option, Some, None, refl, sym, ap, subst, ◌∙◌, arith, slice_get}
+use Rattle.std.proofs.Common.{◌≡◌, ◌⊎◌, inl, inr, ℕ, ◌<◌, ◌≤◌, Bool, true, false, true≢false, List, [], ◌∷◌, ◌++◌, length, Option, Some, refl, sym, ap, subst, ◌∙◌, arith}
 use Rattle.std.specs.Prelude.{◌&&◌, ◌||◌, not, fold, Result, Ok, Err, bytes_eq, if◌then◌else◌}
 use Rattle.std.specs.Option.{option_map}
 use Rattle.std.proofs.lemmas.Bool.{cases_lt}
@@ -16,21 +16,18 @@ use Rattle.pair_table.specs.Tables.{Table}
 use Rattle.sidefile.specs.Breaks.{stamp}
 use Rattle.xquery_report.specs.Replies.{answer_part, command_part, told_part}
 use Rattle.tod_stamp.specs.Stamps.{stamp_text}
-use Rattle.tod_stamp.specs.declared.stamp.Stamp.{Stamp}
 use Rattle.xrc_command.specs.declared.line.Line.{Line}
 use Rattle.consistency.specs.Answering.{ReplyContent, points_before, reply_content, tracks_of_command}
 use Rattle.consistency.specs.Stages.{ScriptRun, Stage, breaks_of, names_of}
-use Rattle.consistency.specs.Courses.{Answered, IsCourse, stage_at}
+use Rattle.consistency.specs.Courses.{Answered, stage_at}
 use Rattle.consistency.specs.Leads.{Point}
-use Rattle.consistency.specs.Replying.{IsExact, own_line, reply_text, report_before, told_tracks}
+use Rattle.consistency.specs.Replying.{IsExact, own_line, report_before, told_tracks}
 use Rattle.consistency.specs.Steps.{names_at, table_on_the_way}
 use Rattle.consistency.specs.Ways.{Leg, PassedPoint, leg_after, leg_at}
 use Rattle.passages.specs.Points.{last_point}
 use Rattle.consistency.proofs.Lines.{at_or_last, same_some, stage_front}
-use Rattle.mover.specs.Working.{LinesAsked}
 use Rattle.xrc_session.specs.Trails.{AreExact, AreNext, IsExactBy, BeginsAtStart, Trail, asked_with, first_leg, last_leg, with_points}
 use Rattle.xrc_session.proofs.Asked.{later_points}
-use Rattle.xrc_session.proofs.Courses.{unstarted_before}
 
 -- ---- the reply's own line
 

@@ -1,6 +1,6 @@
 -- What slots hold at the end of a run's script.
-use Rattle.std.proofs.Common.{◌≡◌, ◌⊎◌, inl, inr, ℕ, zero, suc, ◌+◌, ◌-◌, ◌<◌, ◌≤◌, Bool, true, false, true≢false, List, [], ◌∷◌, ◌++◌, length, take, drop, Option, Some, None, refl, sym, ap, subst, ◌∙◌, append-nil, arith, slice_get, get_or}
-use Rattle.std.specs.Prelude.{◌&&◌, not, IsSomeAnd, IsTrue, MatchOption, Result, Ok, Err, filter, fold, if◌then◌else◌, map, nat_lt, slice_index_or}
+use Rattle.std.proofs.Common.{◌≡◌, ℕ, zero, suc, ◌+◌, ◌-◌, ◌<◌, Bool, true, false, List, [], ◌∷◌, ◌++◌, length, take, drop, Some, refl, sym, ap, subst, ◌∙◌, append-nil, arith, slice_get}
+use Rattle.std.specs.Prelude.{◌&&◌, not, Result, Ok, Err, filter, if◌then◌else◌, map, nat_lt}
 use Rattle.std.specs.List.{Contains, list_all}
 use Rattle.std.proofs.lemmas.Bool.{and_parts, ltb-true}
 use Rattle.std.proofs.lemmas.Option.{get_or_from_slice_get, slice_get_within}
@@ -12,42 +12,32 @@ use Rattle.ckd_track.specs.Images.{image, image_at}
 use Rattle.ckd_track.specs.SlotPlaces.{slot_place, slot_track, track_read}
 use Rattle.ckd_track.proofs.Parts.{read_track}
 use Rattle.crash_plant.specs.declared.device.Device.TheVariants.{Volume}
-use Rattle.crash_plant.specs.Calls.{Elapses, SameSite, Silent}
 use Rattle.crash_plant.specs.Choices.{AtNow, IsChoice}
 use Rattle.crash_plant.specs.Moments.{PlantState}
 use Rattle.primary_ctl.specs.Primaries.{primary}
 use Rattle.pair_table.specs.declared.row.PairRow.{PairRow}
-use Rattle.pair_table.specs.declared.row.PairState.{PairState}
 use Rattle.pair_table.specs.declared.row.PairState.TheVariants.{Duplex}
 use Rattle.pair_table.specs.Tables.{are_below}
 use Rattle.xrc_journal.specs.Items.{Item}
 use Rattle.xrc_journal.specs.Contents.{content_through}
 use Rattle.record_rows.specs.Hits.{hit_now, is_device_suspended, is_down, is_hit_now}
 use Rattle.site_means.specs.Images.{shape_of}
-use Rattle.site_means.specs.Meaning.{Meaning}
 use Rattle.site_means.specs.Sight.{content_in, walked, walked_by}
-use Rattle.site_means.specs.Walk.{walk_items}
 use Rattle.applier.specs.Slots.{BeginsWithTrack}
-use Rattle.site_store.specs.Records.{VolumesStay}
 use Rattle.site_store.specs.Sites.{SiteState, has_failed}
-use Rattle.site_store.specs.Standing.{SiteStands}
 use Rattle.group_state.specs.Groups.{Group}
-use Rattle.fed_logs.specs.Moves.{HasRowIn, IsDuplex}
 use Rattle.mover.specs.OwedTracks.{held_by_choice}
 use Rattle.mover.proofs.Excepting.{none_excepted}
 use Rattle.consistency.specs.Bearing.{ShowsPoint}
-use Rattle.consistency.specs.Stages.{ScriptRun, Stage, tracks_of_row}
-use Rattle.consistency.specs.Pauses.{RunGoesOn}
+use Rattle.consistency.specs.Stages.{ScriptRun, tracks_of_row}
 use Rattle.consistency.specs.Courses.{Answered, stage_at}
 use Rattle.consistency.specs.Leads.{Point}
-use Rattle.consistency.specs.Ways.{Leg, PassedPoint, stage_point}
+use Rattle.consistency.specs.Ways.{stage_point}
 use Rattle.consistency.proofs.Lines.{same_some}
 use Rattle.xrc_session.specs.AppliedEnds.{HasEmptyWalk}
-use Rattle.xrc_session.specs.LinePauses.{GoesOnFrom, RestsAtSite, StandsForSite, site_point, stage_behind}
+use Rattle.xrc_session.specs.LinePauses.{StandsForSite, site_point}
 use Rattle.xrc_session.specs.Ends.{IsApplied, rows_at_end}
 use Rattle.xrc_session.specs.Lanes.{sizes_of}
-use Rattle.xrc_session.specs.States.{SessionState}
-use Rattle.xrc_session.specs.Trails.{Trail, last_leg}
 use Rattle.xrc_session.proofs.RestingMarks.{walked_none}
 
 -- ---- slots

@@ -1,49 +1,43 @@
 -- The end of a run's script.
 use Rattle.xrc_session.proofs.OnTrail.{rests_on_trail}
-use Rattle.std.proofs.Common.{◌≡◌, ◌⊎◌, inl, inr, ℕ, ◌<◌, ◌≤◌, Bool, true, false, true≢false, List, [], ◌∷◌, ◌++◌, length, Option, Some, None, Result, Ok, Err, refl, sym, ap, subst, ◌∙◌, arith, slice_get}
-use Rattle.std.specs.Prelude.{IfSome, IsErrOf, IsSomeAnd, MatchOption, OnOk, fold}
+use Rattle.std.proofs.Common.{◌≡◌, ◌⊎◌, inl, inr, ℕ, true, false, true≢false, List, [], ◌∷◌, length, Option, Some, None, Result, Ok, Err, refl, sym, ap, subst, ◌∙◌, arith}
+use Rattle.std.specs.Prelude.{IfSome, IsErrOf, MatchOption, OnOk}
 use Rattle.std.specs.List.{list_all}
-use Rattle.crash_plant.specs.declared.device.Device.TheVariants.{Control, Volume}
 use Rattle.crash_plant.specs.Calls.{Elapses, SameSite, Silent}
 use Rattle.crash_plant.specs.Choices.{AtNow, IsChoice}
 use Rattle.crash_plant.specs.Moments.{PlantState}
-use Rattle.pair_table.specs.declared.row.PairRow.{PairRow}
-use Rattle.pair_table.specs.declared.row.PairState.TheVariants.{Duplex}
 use Rattle.pair_table.specs.Tables.{Table}
-use Rattle.ckd_track.specs.SlotPlaces.{slot_track}
-use Rattle.primary_ctl.specs.Primaries.{primary}
 use Rattle.record_rows.specs.Hits.{hit_now}
 use Rattle.row_changes.specs.Changes.{Timed, after_changes}
 use Rattle.row_changes.specs.Spans.{is_hit_at}
 use Rattle.passages.specs.Points.{last_point}
 use Rattle.site_means.specs.Images.{shape_of}
-use Rattle.site_means.specs.Sight.{walked}
 use Rattle.xrc_command.specs.declared.line.Line.{Line}
 use Rattle.site_store.specs.IdleSites.{IsSiteIdle}
 use Rattle.site_store.specs.Records.{VolumesStay}
 use Rattle.site_store.specs.Sites.{SiteState}
 use Rattle.group_state.specs.Groups.{Group}
 use Rattle.consistency.specs.Bearing.{ShowsPoint}
-use Rattle.consistency.specs.Stages.{ScriptRun, Stage, tracks_of_row}
+use Rattle.consistency.specs.Stages.{ScriptRun, Stage}
 use Rattle.consistency.specs.Pauses.{RunGoesOn}
 use Rattle.consistency.specs.Courses.{Answered, stage_at}
 use Rattle.consistency.specs.Leads.{Point}
-use Rattle.consistency.specs.Ways.{IsAtWork, Leg, PassedPoint, leg_after, stage_point}
+use Rattle.consistency.specs.Ways.{IsAtWork, Leg, PassedPoint, stage_point}
 use Rattle.consistency.specs.Ways.Way.{OnTheWay}
 use Rattle.mover.specs.Working.{LinesAsked}
 use Rattle.xrc_status.specs.declared.stop.Stop.{Stop}
 use Rattle.xrc_status.specs.declared.stop.Stop.TheVariants.{Spent}
-use Rattle.xrc_session.specs.Answering.{EndsMark, IsMarkedSite, MarksOn, MayEndBy}
+use Rattle.xrc_session.specs.Answering.{IsMarkedSite, MarksOn, MayEndBy}
 use Rattle.xrc_session.specs.Answering.IsMarkedAt.{IsOnWay}
-use Rattle.xrc_session.specs.LinePauses.{GoesOnFrom, HasNotBegun, RestsAtSite, RisesCover, StandsBehindLines, StandsForSite, site_point, stage_behind}
-use Rattle.xrc_session.specs.Ends.{IsApplied, IsRunDone, StopsInLine}
+use Rattle.xrc_session.specs.LinePauses.{GoesOnFrom, HasNotBegun, RestsAtSite, StandsBehindLines, site_point, stage_behind}
+use Rattle.xrc_session.specs.Ends.{IsRunDone, StopsInLine}
 use Rattle.xrc_session.specs.Lines.{MayFinish}
 use Rattle.xrc_session.specs.States.{SessionState}
-use Rattle.xrc_session.specs.Steps.{BeginsToPass, EndsFinishing, FinishesRuns, PassesPointsOn}
+use Rattle.xrc_session.specs.Steps.{BeginsToPass, FinishesRuns, PassesPointsOn}
 use Rattle.xrc_session.specs.Stops.{IsSpentNow}
 use Rattle.xrc_session.specs.Trails.{AreExact, AreNext, GoesForth, Trail, asked_with, first_leg, last_leg, with_points, StandsOnTrail}
 use Rattle.xrc_session.proofs.AnswerLegs.{comes_by}
-use Rattle.xrc_session.proofs.Asked.{asked_there, last_of_leg}
+use Rattle.xrc_session.proofs.Asked.{last_of_leg}
 use Rattle.xrc_session.proofs.LastPoints.{last_append}
 use Rattle.xrc_session.proofs.Courses.{none_next, past_counted}
 use Rattle.xrc_session.proofs.Finished.{all_applied, slot_holds, slot_is_meant}

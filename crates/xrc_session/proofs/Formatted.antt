@@ -139,6 +139,7 @@ format_stops tells old new r error is home works cause = record {
     console = λ none. works.console_faults;
     later = works.faults;
     console_later = (let same = works.console_faults in omega (arith, same));
+    console_once = (let same = works.console_faults in omega (arith, same));
   };
   spent = λ told spent. let stop : stop_of_store error ≡ stops.Spent = cc spent in absurd (format_unspent old new r error is cause stop);
 }
@@ -247,6 +248,7 @@ module _ (tells : Type 0) (session : List ℕ) (level : Level) (controls : ℕ) 
     console = λ not. reads.console_faults ∙ formats.console_faults;
     later = λ d. (let first = formats.faults d in let then = reads.faults d in omega (arith, first, then));
     console_later = (let first = formats.console_faults in let then = reads.console_faults in omega (arith, first, then));
+    console_once = (let first = formats.console_faults in let then = reads.console_faults in omega (arith, first, then));
   }
     where
       store_or_volume : (d : Device) → IsStore d → ¬ IsVolume d

@@ -1,7 +1,6 @@
 -- A run that hears a line.
-use Rattle.std.proofs.Common.{◌≡◌, ◌⊎◌, inl, inr, ℕ, suc, ◌+◌, ◌<◌, ◌≤◌, Bool, true, false, cond, nat_eq, List, [], ◌∷◌, ◌++◌, length, take, Option, Some, None, refl, sym, ap, subst, ◌∙◌, append_assoc, append-nil, arith, slice_get}
-use Rattle.std.specs.Prelude.{◌==◌, ◌||◌, IsTrue}
-use Rattle.std.specs.List.{list_any}
+use Rattle.std.proofs.Common.{◌≡◌, inl, inr, ℕ, ◌<◌, ◌≤◌, Bool, true, false, cond, List, [], ◌∷◌, ◌++◌, length, take, Option, Some, None, refl, sym, ap, subst, ◌∙◌, append_assoc, append-nil, arith}
+use Rattle.std.specs.Prelude.{◌==◌}
 use Rattle.std.proofs.lemmas.Bool.{or_parts}
 use Rattle.crash_plant.specs.declared.device.Device.TheVariants.{Control}
 use Rattle.crash_plant.specs.Calls.{Elapses, SameSite, WorksOnConsole}
@@ -12,10 +11,10 @@ use Rattle.crash_plant.proofs.Steps.{site_trans}
 use Rattle.site_means.specs.Images.{Shape, shape_of}
 use Rattle.site_means.proofs.Goes.{shape_same}
 use Rattle.xrc_command.specs.declared.line.Line.{Line}
-use Rattle.consistency.specs.Bearing.{GoesThroughPoints, ShowsPoint}
+use Rattle.consistency.specs.Bearing.{ShowsPoint}
 use Rattle.consistency.specs.Stages.{ScriptRun, Stage}
-use Rattle.consistency.specs.Pauses.{AreToldOf, HadExactReply, HasPassed, RunGoesOn, asked_in}
-use Rattle.consistency.specs.Courses.{Answered, last_line_time, lines_begun, lines_begun_from, next_line, replies_of, stage_at, texts_of}
+use Rattle.consistency.specs.Pauses.{HadExactReply, HasPassed, RunGoesOn, asked_in}
+use Rattle.consistency.specs.Courses.{Answered, last_line_time, lines_begun, lines_begun_from, replies_of, stage_at, texts_of}
 use Rattle.consistency.specs.Keeping.{stage_now}
 use Rattle.consistency.specs.Moments.{BearsTime}
 use Rattle.consistency.specs.Ways.{Leg, PassedPoint, Way}
@@ -29,7 +28,7 @@ use Rattle.script_lines.specs.declared.next.Next.{Next}
 use Rattle.script_lines.specs.declared.next.Next.TheVariants as next
 use Rattle.script_lines.specs.Hearing.{HearsText, KeepsHearing, SaysNothing}
 use Rattle.script_lines.specs.NextLines.{IsNextLine}
-use Rattle.script_lines.specs.Texts.{IsFed, IsFront, IsLast, IsNothing, IsTooLong, IsWhole, has_feed}
+use Rattle.script_lines.specs.Texts.{IsFed, IsWhole, has_feed}
 use Rattle.xrc_session.proofs.Courses.{none_next}
 
 -- ---- one line

@@ -1,14 +1,14 @@
 -- Calls of a session in turn: why they stop, what their counts say, and how lanes read on.
 use Rattle.xrc_session.proofs.Growing.{grows_then, here_grows, silent_grows}
-use Rattle.std.proofs.Common.{◌≡◌, ◌⊎◌, inl, inr, ℕ, ◌≤◌, true, List, [], ◌∷◌, ◌++◌, length, Option, Some, None, refl, sym, ap, subst, ◌∙◌, arith}
-use Rattle.std.specs.Prelude.{IfErr, IsErrOf, IsSomeAnd, Ok, Err, Result, slice_index_or}
+use Rattle.std.proofs.Common.{◌≡◌, ◌⊎◌, inl, inr, ℕ, ◌≤◌, List, [], ◌++◌, Option, Some, None, refl, sym, ap, subst, ◌∙◌, arith}
+use Rattle.std.specs.Prelude.{IsErrOf, IsSomeAnd, Ok, Result, slice_index_or}
 use Rattle.std.specs.List.{Contains}
 use Rattle.xrc_edge.specs.Causes.{Rose}
 use Rattle.crash_plant.specs.declared.device.Device.{Device}
 use Rattle.crash_plant.specs.declared.device.Device.TheVariants.{Control, State, Journal, Volume}
-use Rattle.crash_plant.specs.Calls.{Elapses, NoneLent, SameSite, Silent, WorksOnConsole}
+use Rattle.crash_plant.specs.Calls.{Elapses, NoneLent, WorksOnConsole}
 use Rattle.crash_plant.specs.Moments.{PlantState}
-use Rattle.crash_plant.proofs.Steps.{elapses_trans, none_lent_console, silent_trans, site_trans}
+use Rattle.crash_plant.proofs.Steps.{elapses_trans, none_lent_console, site_trans}
 use Rattle.sidefile.specs.declared.hand.Halt.{Halt}
 use Rattle.pair_table.specs.declared.row.PairRow.{PairRow}
 use Rattle.applier.specs.Returns.{WorksOnLent}
@@ -19,16 +19,14 @@ use Rattle.fed_logs.specs.Reads.{ReadsOn}
 use Rattle.fed_logs.specs.Tellers.{HasFaultBy}
 use Rattle.fed_logs.proofs.InTurn.{reads_in_turn, reads_nothing}
 use Rattle.mover.specs.declared.lane.Lane.{Lane}
-use Rattle.mover.specs.Epochs.{LaneWent}
 use Rattle.mover.specs.Lanes.{HasFaultFrom, MayGoOn}
 use Rattle.fed_logs.specs.LaneFeeds.{FeedState}
-use Rattle.mover.specs.Moves.{most_faults}
 use Rattle.mover.specs.Readers.{LaneReaderState}
 use Rattle.mover.specs.TurningOut.{AllMayGoOn, AllReadOn}
 use Rattle.site_store.specs.Records.{IsStore}
 use Rattle.xrc_status.specs.declared.stop.Stop.{Stop}
 use Rattle.xrc_status.specs.declared.stop.Stop.TheVariants as stops
-use Rattle.xrc_session.specs.LinePauses.{AreCountsFrom, RisesCover}
+use Rattle.xrc_session.specs.LinePauses.{RisesCover}
 use Rattle.xrc_session.specs.Frames.{CountRose, KeepsPlant, SuspendsByCounts, SaidGrows}
 use Rattle.xrc_session.specs.Lanes.{AllWent}
 use Rattle.xrc_session.specs.Stops.{HasStopCause, StopsByCount, stop_of_device}
@@ -91,7 +89,7 @@ pub counts_fell : {T : Type 0} (old new : PlantState) (result : Result T Stop) �
 counts_fell {T} old new result counts = record { devices = counts.later; console = counts.console_later }
 
 pub none_stop : {T : Type 0} (old new : PlantState) (result : Result T Stop) → NoneRisen old new → StopsByCount old new result
-none_stop {T} old new result none = record { devices = λ d store no_stop. none.devices d store; console = λ no_stop. none.console; later = none.fell.devices; console_later = none.fell.console }
+none_stop {T} old new result none = record { devices = λ d store no_stop. none.devices d store; console = λ no_stop. none.console; later = none.fell.devices; console_later = none.fell.console; console_once = (let same = none.console in omega (arith, same)) }
 
 -- Behind calls that raised none the counts are those of the later ones.
 pub counts_behind : {T : Type 0} (old mid new : PlantState) (result : Result T Stop) → NoneRisen old mid → StopsByCount mid new result → StopsByCount old new result
@@ -100,6 +98,7 @@ counts_behind {T} old mid new result none counts = record {
   console = λ no_stop. counts.console no_stop ∙ none.console;
   later = λ d. omega (arith, none.fell.devices d, counts.later d);
   console_later = omega (arith, none.fell.console, counts.console_later);
+  console_once = omega (arith, none.console, counts.console_once);
 }
 
 -- They say of another result what they say of this, if this stops only as that does.
@@ -109,6 +108,7 @@ counts_as {T} {U} old new result other same counts = record {
   console = λ no_stop. counts.console (λ is. no_stop (same stops.ConsoleFault is));
   later = counts.later;
   console_later = counts.console_later;
+  console_once = counts.console_once;
 }
 
 -- ---- rows that are suspended

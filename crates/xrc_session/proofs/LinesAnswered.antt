@@ -1,33 +1,31 @@
 -- A line behind whose command a session stands may be replied to, and the session stands behind the line.
 use Rattle.xrc_session.specs.MapsTaken.{WantsOwed}
 use Rattle.xrc_session.proofs.OnTrail.{shown_on_trail}
-use Rattle.std.proofs.Common.{◌≡◌, ◌⊎◌, inl, inr, ℕ, zero, suc, ◌^◌, ◌<◌, ◌≤◌, Bool, true, false, true≢false, List, [], ◌∷◌, ◌++◌, length, Option, Some, None, refl, sym, ap, subst, ◌∙◌, append-nil, arith}
-use Rattle.std.specs.Prelude.{◌&&◌, not, fold, IsSomeAnd, IsTrue, MatchOption, is_none, if◌then◌else◌}
+use Rattle.std.proofs.Common.{◌≡◌, inl, inr, ℕ, ◌^◌, ◌<◌, Bool, true, false, true≢false, List, [], ◌∷◌, ◌++◌, length, Option, Some, None, refl, sym, ap, subst, ◌∙◌, arith}
+use Rattle.std.specs.Prelude.{◌&&◌, not, fold, IsSomeAnd, MatchOption}
 use Rattle.std.proofs.lemmas.List.{length_push}
-use Rattle.crash_plant.specs.Choices.{AtNow, Choice, IsChoice}
+use Rattle.crash_plant.specs.Choices.{AtNow}
 use Rattle.crash_plant.specs.Moments.{PlantState}
-use Rattle.pair_table.specs.declared.command.Command.{Command}
 use Rattle.pair_table.specs.declared.command.Command.TheVariants.{Start}
 use Rattle.pair_table.specs.declared.level.Level.{Level}
 use Rattle.pair_table.specs.declared.row.PairRow.{PairRow}
 use Rattle.pair_table.specs.Commands.{is_end}
 use Rattle.pair_table.specs.Tables.{Table}
-use Rattle.row_changes.specs.Changes.{Due, Timed, after_changes}
+use Rattle.row_changes.specs.Changes.{Timed, after_changes}
 use Rattle.row_changes.specs.Changes.Due.{NoneDue}
 use Rattle.site_means.specs.Images.{shape_of}
 use Rattle.xrc_command.specs.declared.line.Line.{Line}
 use Rattle.site_store.specs.Sites.{SiteState}
-use Rattle.group_state.specs.Groups.{Group}
 use Rattle.consistency.specs.Answering.{answered_by, reply_content, points_before}
 use Rattle.consistency.specs.Bearing.{MayBeMeant, ShowsPoint}
 use Rattle.consistency.specs.Stages.{ScriptRun, Stage, accepts, accepts_end, breaks_of, names_of}
 use Rattle.consistency.specs.Pauses.{AreToldOf, HasPassed, MayReply, asked_in}
-use Rattle.consistency.specs.Courses.{Answered, IsAnswered, stage_after, stage_at}
+use Rattle.consistency.specs.Courses.{Answered, IsAnswered}
 use Rattle.consistency.specs.Leads.{Comes, Point}
-use Rattle.consistency.specs.Replying.{HasNames, HasRunNames, IsExact}
+use Rattle.consistency.specs.Replying.{HasNames, IsExact}
 use Rattle.consistency.specs.Steps.{commanded, is_active, names_at, table_on_the_way}
-use Rattle.consistency.specs.Ways.{ComesBy, ComesNext, IsLegOf, Leg, PassedPoint, Way, is_ending, last_answered, leg_after, leg_by, stage_point, table_at}
-use Rattle.consistency.specs.Ways.Way.{Commanded, Ending, MarkedFor, OnTheWay}
+use Rattle.consistency.specs.Ways.{ComesBy, ComesNext, IsLegOf, Leg, PassedPoint, Way, last_answered, leg_after, leg_by, stage_point, table_at}
+use Rattle.consistency.specs.Ways.Way.{Commanded}
 use Rattle.consistency.proofs.Keeping.{stage_answered}
 use Rattle.consistency.proofs.Legs.{ends_alike}
 use Rattle.consistency.proofs.Lines.{stage_front, stage_more}

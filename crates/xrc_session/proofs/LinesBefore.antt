@@ -1,6 +1,6 @@
 -- A line that is answered before the start.
-use Rattle.std.proofs.Common.{◌≡◌, ◌⊎◌, inl, inr, ℕ, suc, ◌^◌, ◌<◌, ◌≤◌, Bool, true, false, List, [], ◌∷◌, length, Option, Some, None, Result, Ok, Err, refl, sym, ap, subst, ◌∙◌, arith}
-use Rattle.std.specs.Prelude.{IfOk, IfSome, IsErrOf, IsSomeAnd, MatchOption, OnErr, OnOk, bytes_eq, is_none, if◌then◌else◌}
+use Rattle.std.proofs.Common.{◌≡◌, inr, ℕ, suc, ◌^◌, ◌<◌, ◌≤◌, Bool, true, false, List, [], length, Option, Some, None, Result, Ok, Err, refl, sym, ap, subst, ◌∙◌, arith}
+use Rattle.std.specs.Prelude.{IfOk, IsSomeAnd, OnErr, OnOk, bytes_eq, is_none, if◌then◌else◌}
 use Rattle.crash_plant.specs.Calls.{Elapses, SameSite, Silent}
 use Rattle.crash_plant.specs.Choices.{AtNow}
 use Rattle.crash_plant.specs.declared.device.Device.TheVariants.{Volume}
@@ -13,15 +13,13 @@ use Rattle.pair_table.specs.declared.command.CommandError.{CommandError}
 use Rattle.pair_table.specs.declared.command.CommandError.TheVariants as errors
 use Rattle.pair_table.specs.declared.command.Refusal.{Refusal}
 use Rattle.pair_table.specs.declared.level.Level.{Level}
-use Rattle.pair_table.specs.declared.row.PairRow.{PairRow}
 use Rattle.pair_table.specs.Commands.{accepted, answer, answer_by, change_of, table_after}
 use Rattle.pair_table.specs.Naming.{Naming}
 use Rattle.pair_table.specs.Refusals.{refusal}
 use Rattle.pair_table.specs.Tables.{Table, new_table}
 use Rattle.site_store.specs.Records.{VolumesStay}
 use Rattle.site_store.specs.Sites.{SiteState}
-use Rattle.consistency.specs.Stages.{ScriptRun, Stage}
-use Rattle.consistency.specs.Courses.{Answered}
+use Rattle.consistency.specs.Stages.{ScriptRun}
 use Rattle.mover.specs.declared.lane.Lane.{Lane}
 use Rattle.mover.specs.Epochs.{LanesBrokeAs}
 use Rattle.xrc_command.specs.declared.line.Line.{Line}
@@ -29,12 +27,12 @@ use Rattle.xrc_status.specs.declared.stop.Stop.{Stop}
 use Rattle.xrc_status.specs.declared.stop.Stop.TheVariants.{NoMemory, Spent}
 use Rattle.xrc_session.specs.declared.answering.LineAnswer.{LineAnswer}
 use Rattle.xrc_session.specs.Answering.{answer_told}
-use Rattle.xrc_session.specs.LinePauses.{AreCountsFrom, IsAtSite, IsBetween, IsRunOver, IsUnstarted, stage_behind}
+use Rattle.xrc_session.specs.LinePauses.{AreCountsFrom, IsBetween, IsRunOver, stage_behind}
 use Rattle.xrc_session.specs.Lines.{IsDoneLine, IsStartedAt, StandsStartedAt}
 use Rattle.xrc_session.specs.Replying.{level_in}
 use Rattle.xrc_session.specs.Starting.{MeansStart, level_started}
-use Rattle.xrc_session.specs.States.{SessionState, session_time, site_time}
-use Rattle.xrc_session.specs.Steps.{DoesLine, HasHeard, known_by}
+use Rattle.xrc_session.specs.States.{SessionState, site_time}
+use Rattle.xrc_session.specs.Steps.{DoesLine}
 use Rattle.xrc_session.specs.Stops.{IsSpentNow}
 use Rattle.xrc_session.proofs.LinesBegun.{just_started, unstarted_is}
 use Rattle.xrc_session.proofs.LinesDone.{known_unstarted, unstarted_done}

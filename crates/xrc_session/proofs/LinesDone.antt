@@ -1,19 +1,17 @@
 -- What a line that was answered leaves to the next one.
-use Rattle.std.proofs.Common.{◌≡◌, ◌⊎◌, inl, inr, ℕ, ◌^◌, ◌<◌, ◌≤◌, Bool, true, false, true≢false, List, [], ◌∷◌, ◌++◌, length, Option, Some, None, Result, Ok, Err, refl, sym, ap, subst, ◌∙◌, arith}
-use Rattle.std.specs.Prelude.{IfOk, IfSome, IsErrOf, IsSome, IsSomeAnd, MatchOption, OnOk}
+use Rattle.std.proofs.Common.{◌≡◌, ◌≤◌, true, false, List, Option, Some, None, refl, sym, ap, subst, ◌∙◌, arith}
+use Rattle.std.specs.Prelude.{IfSome, IsSomeAnd, MatchOption}
 use Rattle.crash_plant.specs.Moments.{PlantState}
 use Rattle.pair_table.specs.declared.level.Level.{Level}
-use Rattle.pair_table.specs.Naming.{Naming}
-use Rattle.pair_table.specs.Tables.{Table, new_table}
+use Rattle.pair_table.specs.Tables.{Table}
 use Rattle.site_store.specs.Sites.{SiteState}
-use Rattle.group_state.specs.Groups.{Group}
 use Rattle.mover.specs.declared.lane.Lane.{Lane}
 use Rattle.xrc_command.specs.declared.line.Line.{Line}
 use Rattle.xrc_session.specs.declared.answering.LineAnswer.{LineAnswer}
 use Rattle.xrc_session.specs.LinePauses.{IsAtSite, IsBetween, IsUnstarted}
-use Rattle.xrc_session.specs.Lines.{IsDoneLine, IsSameSession, IsStartedAt, KeepsStart, StartsByLine}
+use Rattle.xrc_session.specs.Lines.{IsDoneLine, IsSameSession, IsStartedAt}
 use Rattle.xrc_session.specs.Starting.{level_started}
-use Rattle.xrc_session.specs.States.{SessionState, session_time, site_time}
+use Rattle.xrc_session.specs.States.{SessionState, site_time}
 use Rattle.xrc_session.specs.Steps.{known_by}
 use Rattle.xrc_session.proofs.Replied.{IsAsTold}
 

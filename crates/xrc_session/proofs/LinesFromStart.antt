@@ -1,6 +1,6 @@
 -- A line that is answered from the start on, in a run.
-use Rattle.std.proofs.Common.{◌≡◌, ◌⊎◌, inl, inr, ℕ, ◌^◌, ◌<◌, ◌≤◌, Bool, true, false, true≢false, List, [], ◌∷◌, ◌++◌, length, Option, Some, None, Result, Ok, Err, refl, sym, ap, subst, ◌∙◌, arith}
-use Rattle.std.specs.Prelude.{IfSome, IsErrOf, IsSomeAnd, MatchOption, OnOk, fold}
+use Rattle.std.proofs.Common.{◌≡◌, inl, ℕ, ◌^◌, ◌<◌, Bool, true, false, true≢false, List, ◌++◌, length, Option, Some, None, Result, Ok, Err, refl, sym, ap, subst, ◌∙◌, arith}
+use Rattle.std.specs.Prelude.{IfSome, IsErrOf, IsSomeAnd, OnOk, fold}
 use Rattle.std.specs.List.{All}
 use Rattle.crash_plant.specs.Calls.{Elapses, SameSite, Silent}
 use Rattle.crash_plant.specs.Moments.{PlantState}
@@ -16,19 +16,18 @@ use Rattle.consistency.specs.Stages.{ScriptRun, Stage, breaks_of, names_of}
 use Rattle.consistency.specs.Courses.{Answered}
 use Rattle.consistency.specs.Leads.{Point}
 use Rattle.consistency.specs.Steps.{names_at}
-use Rattle.consistency.specs.Ways.{IsAtWork, Leg, PassedPoint, leg_after, stage_point}
+use Rattle.consistency.specs.Ways.{IsAtWork, Leg, PassedPoint, leg_after}
 use Rattle.mover.specs.declared.lane.Lane.{Lane}
-use Rattle.mover.specs.Epochs.{AllTurnOut, LanesBrokeAs}
+use Rattle.mover.specs.Epochs.{LanesBrokeAs}
 use Rattle.mover.specs.Working.{LinesAsked}
 use Rattle.xrc_command.specs.declared.line.Line.{Line}
 use Rattle.xrc_status.specs.declared.stop.Stop.{Stop}
 use Rattle.xrc_status.specs.declared.stop.Stop.TheVariants.{Spent}
 use Rattle.xrc_session.specs.declared.answering.LineAnswer.{LineAnswer}
-use Rattle.xrc_session.specs.Answering.{EndsCommand, HasCommanded, IsSiteAnswered, MayAnswer}
-use Rattle.xrc_session.specs.LinePauses.{GoesOnFrom, HasCut, IsAtSite, IsRunOfSession, RestsAtSite, StandsAtLeg, site_point, stage_behind}
+use Rattle.xrc_session.specs.Answering.{EndsCommand, IsSiteAnswered, MayAnswer}
+use Rattle.xrc_session.specs.LinePauses.{GoesOnFrom, HasCut, IsAtSite, IsRunOfSession, RestsAtSite, stage_behind}
 use Rattle.xrc_session.specs.Ends.{StopsInLine}
-use Rattle.xrc_session.specs.Lanes.{HaveHeadsOf}
-use Rattle.xrc_session.specs.States.{SessionState, session_time, site_time}
+use Rattle.xrc_session.specs.States.{SessionState}
 use Rattle.xrc_session.specs.Steps.{EndsBringing, EndsDoing, HasBrought, HasHeard, MayBring, PassesPointsOn}
 use Rattle.xrc_session.specs.Stops.{IsSpentNow}
 use Rattle.xrc_session.specs.Trails.{Trail, asked_with, first_leg, last_leg, with_points}

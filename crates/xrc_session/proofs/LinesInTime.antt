@@ -1,42 +1,35 @@
 -- A line that is answered from the start on, by the calls that bring a session to its time and do its command.
-use Rattle.std.proofs.Common.{◌≡◌, ◌⊎◌, inl, inr, ℕ, ◌^◌, ◌<◌, ◌≤◌, Bool, true, false, true≢false, List, [], ◌∷◌, ◌++◌, length, Option, Some, None, Result, Ok, Err, refl, sym, ap, subst, ◌∙◌, arith}
-use Rattle.std.specs.Prelude.{◌||◌, IfErr, IfOk, IfSome, IsErrOf, IsSomeAnd, MatchOption, OnOk, fold}
+use Rattle.std.proofs.Common.{◌≡◌, ◌⊎◌, inl, inr, ℕ, ◌^◌, ◌<◌, ◌≤◌, Bool, true, false, true≢false, List, ◌++◌, Option, Some, Result, Ok, Err, refl, sym, ap, subst, ◌∙◌, arith}
+use Rattle.std.specs.Prelude.{◌||◌, IfOk, IfSome, IsErrOf, IsSomeAnd, OnOk}
 use Rattle.std.specs.Option.{option_map}
 use Rattle.std.proofs.lemmas.Bool.{or_parts}
 use Rattle.crash_plant.specs.Calls.{Elapses, NoneLent, SameSite, Silent}
 use Rattle.crash_plant.specs.Moments.{PlantState}
-use Rattle.crash_plant.proofs.Steps.{elapses_trans, silent_trans, site_trans}
-use Rattle.crash_plant.specs.declared.device.Device.TheVariants.{Control}
-use Rattle.pair_table.specs.declared.command.Change.{Change}
-use Rattle.pair_table.specs.declared.command.Refusal.{Refusal}
 use Rattle.pair_table.specs.declared.row.PairRow.{PairRow}
-use Rattle.pair_table.specs.Commands.{answer, table_after}
+use Rattle.pair_table.specs.Commands.{answer}
 use Rattle.pair_table.specs.Naming.{Naming}
 use Rattle.pair_table.specs.Tables.{Table}
 use Rattle.group_state.specs.Groups.{Group}
 use Rattle.site_store.specs.Sites.{SiteState}
-use Rattle.consistency.specs.Stages.{ScriptRun, Stage, breaks_of, names_of}
+use Rattle.consistency.specs.Stages.{ScriptRun, breaks_of, names_of}
 use Rattle.consistency.specs.Courses.{Answered}
-use Rattle.consistency.specs.Leads.{Point}
 use Rattle.consistency.specs.Steps.{names_at}
-use Rattle.consistency.specs.Ways.{Leg, PassedPoint, leg_after}
 use Rattle.mover.specs.declared.lane.Lane.{Lane}
 use Rattle.mover.specs.Epochs.{AllTurnOut, AreSameLanes, LanesBrokeAs}
-use Rattle.mover.specs.Working.{LinesAsked}
 use Rattle.xrc_command.specs.declared.line.Line.{Line}
 use Rattle.xrc_status.specs.declared.stop.Stop.{Stop}
 use Rattle.xrc_status.specs.declared.stop.Stop.TheVariants.{Spent}
 use Rattle.xrc_session.specs.declared.answering.LineAnswer.{LineAnswer}
 use Rattle.xrc_session.specs.declared.kept.SessionParts.{SessionParts}
 use Rattle.xrc_session.specs.Answering.{AnswersCommands, IsSiteAnswered, MayAnswer, group_taken, is_end_accepted}
-use Rattle.xrc_session.specs.LinePauses.{HasCut, IsAtSite, IsBetween, IsReadyForEpoch, IsRunOver, RestsAtSite, RisesCover, stage_behind}
-use Rattle.xrc_session.specs.Bringing.{BreakOnAsTraces, IsSiteBrought, IsWorkOfStore}
+use Rattle.xrc_session.specs.LinePauses.{HasCut, IsAtSite, IsBetween, RestsAtSite, RisesCover, stage_behind}
+use Rattle.xrc_session.specs.Bringing.{BreakOnAsTraces, IsSiteBrought}
 use Rattle.xrc_session.specs.Frames.{SuspendsByCounts}
-use Rattle.xrc_session.specs.Lanes.{HaveVolumes, with_lanes_broken}
+use Rattle.xrc_session.specs.Lanes.{with_lanes_broken}
 use Rattle.xrc_session.specs.Lines.{IsDoneLine}
-use Rattle.xrc_session.specs.States.{SessionState, session_time, site_time}
-use Rattle.xrc_session.specs.Steps.{BringsOn, DoesLine, EndsBringing, EndsDoing, HasHeard, MayBring}
-use Rattle.xrc_session.specs.Stops.{HasStopCause, IsSpentNow, StopsByCount}
+use Rattle.xrc_session.specs.States.{SessionState, site_time}
+use Rattle.xrc_session.specs.Steps.{BringsOn, DoesLine, EndsBringing, HasHeard, MayBring}
+use Rattle.xrc_session.specs.Stops.{IsSpentNow}
 use Rattle.xrc_session.specs.Taking.{IsSoundForRows}
 use Rattle.xrc_session.specs.Trails.{Trail, asked_with, first_leg, last_leg, with_points}
 use Rattle.xrc_session.proofs.InTurn.{NoneFell, rises_before}

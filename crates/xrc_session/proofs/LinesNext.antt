@@ -1,8 +1,8 @@
 -- Where a script's run stands when its next line was heard, and how it ends there.
 use Rattle.xrc_session.proofs.Growing.{silent_grows}
 use Rattle.xrc_session.proofs.LinesDone.{between_told}
-use Rattle.std.proofs.Common.{◌≡◌, inl, inr, ℕ, ◌≤◌, List, [], length, Option, Some, None, Result, Ok, Err, refl, sym, ap, subst, ◌∙◌, append-nil, arith}
-use Rattle.std.specs.Prelude.{◌+◌, ◌-◌, IfSome, MatchOption}
+use Rattle.std.proofs.Common.{◌≡◌, inl, inr, ℕ, ◌≤◌, List, [], length, Option, Some, None, Result, Ok, Err, refl, sym, ap, subst, ◌∙◌, arith}
+use Rattle.std.specs.Prelude.{◌+◌, IfSome, MatchOption}
 use Rattle.xrc_edge.specs.Causes.{Rose}
 use Rattle.crash_plant.specs.declared.device.Device.TheVariants.{Control, Volume}
 use Rattle.crash_plant.specs.Calls.{WorksOnConsole}
@@ -90,14 +90,15 @@ pub record Heard {S : Type 0} (tells : Type 0) (left : S → Option (List ℕ)) 
   pub running : IsRunning tells left faults first s lanes lanes_now began old number before
   pub works : WorksOnConsole tells old mid
   pub console : old.console_faults ≤ mid.console_faults
+  pub once : mid.console_faults ≤ old.console_faults + 1
   pub hears : tells → HearsText text old mid
   pub silent : tells → SaysNothing old mid
   pub keeps : tells → KeepsHearing [] text began old mid
 
 pub hearing : {S : Type 0} {tells : Type 0} {left : S → Option (List ℕ)} {faults : S → ℕ} {first s : SessionState} {lanes lanes_now : List (Lane S)} {began old : PlantState} {number before : ℕ} {mid : PlantState} {text : List ℕ}
-    → IsRunning tells left faults first s lanes lanes_now began old number before → WorksOnConsole tells old mid → old.console_faults ≤ mid.console_faults → (tells → HearsText text old mid) → (tells → SaysNothing old mid) → (tells → KeepsHearing [] text began old mid)
+    → IsRunning tells left faults first s lanes lanes_now began old number before → WorksOnConsole tells old mid → old.console_faults ≤ mid.console_faults → mid.console_faults ≤ old.console_faults + 1 → (tells → HearsText text old mid) → (tells → SaysNothing old mid) → (tells → KeepsHearing [] text began old mid)
     → Heard tells left faults first s lanes lanes_now began old number before mid text
-hearing running works console hears silent keeps = record { running = running; works = works; console = console; hears = hears; silent = silent; keeps = keeps }
+hearing running works console once hears silent keeps = record { running = running; works = works; console = console; once = once; hears = hears; silent = silent; keeps = keeps }
 
 module _ {S : Type 0} {tells : Type 0} {left : S → Option (List ℕ)} {faults : S → ℕ} {first s : SessionState} {lanes lanes_now : List (Lane S)} {began old : PlantState} {number before : ℕ} {mid : PlantState} {text : List ℕ} (h : Heard tells left faults first s lanes lanes_now began old number before mid text) where
   pub fell_heard : NoneFell old mid
@@ -173,6 +174,7 @@ module _ {S : Type 0} {tells : Type 0} {left : S → Option (List ℕ)} {faults 
     console = λ other. absurd (other refl);
     later = λ d. omega (arith, h.running.counts.fell.devices d, h.works.faults d);
     console_later = omega (arith, h.running.counts.fell.console, h.console);
+    console_once = omega (arith, h.running.counts.console, h.once);
   }
 
   pub console_cause : Rose old.console_faults mid.console_faults → HasRunCause began mid ConsoleFault

@@ -1,12 +1,9 @@
 -- A line that is answered once the session has ended, by what its command leaves of the site.
-use Rattle.std.proofs.Common.{◌≡◌, ℕ, ◌^◌, ◌<◌, ◌≤◌, Bool, true, false, true≢false, List, Option, Some, Result, Ok, Err, refl, sym, ap, subst, ◌∙◌, arith}
+use Rattle.std.proofs.Common.{◌≡◌, ℕ, ◌^◌, ◌<◌, ◌≤◌, Bool, true, false, true≢false, List, Option, Result, Ok, Err, refl, sym, ap, subst, ◌∙◌}
 use Rattle.std.specs.Prelude.{◌||◌, IfOk, IsSomeAnd, OnOk}
 use Rattle.std.specs.Option.{option_map}
-use Rattle.crash_plant.specs.Calls.{NoneLent, Silent}
+use Rattle.crash_plant.specs.Calls.{Silent}
 use Rattle.crash_plant.specs.Moments.{PlantState}
-use Rattle.pair_table.specs.declared.row.PairRow.{PairRow}
-use Rattle.pair_table.specs.Tables.{Table}
-use Rattle.group_state.specs.Groups.{Group}
 use Rattle.site_store.specs.Sites.{SiteState}
 use Rattle.mover.specs.declared.lane.Lane.{Lane}
 use Rattle.mover.specs.Moves.{IsOfMover}

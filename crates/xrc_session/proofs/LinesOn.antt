@@ -1,8 +1,8 @@
 -- How a script's run goes on from one line to the next, or stops in it.
-use Rattle.std.proofs.Common.{◌≡◌, inl, ℕ, zero, ◌<◌, ◌≤◌, Bool, true, false, List, [], ◌∷◌, ◌++◌, length, Option, Some, None, Result, Ok, Err, refl, sym, ap, subst, ◌∙◌, append_assoc, append-nil, arith}
-use Rattle.std.specs.Prelude.{◌+◌, ◌-◌, ◌&&◌, IfSome, IsSomeAnd, MatchOption, fold, if◌then◌else◌, nat_le, nat_lt}
+use Rattle.std.proofs.Common.{◌≡◌, inl, ℕ, ◌<◌, ◌≤◌, Bool, true, false, List, [], ◌∷◌, ◌++◌, length, Option, Some, None, Result, Ok, Err, refl, sym, ap, subst, ◌∙◌, append-nil, arith}
+use Rattle.std.specs.Prelude.{◌+◌, ◌-◌, ◌&&◌, IfSome, IsSomeAnd, MatchOption, if◌then◌else◌, nat_le, nat_lt}
 use Rattle.std.proofs.lemmas.Bool.{leb-true, ltb-true}
-use Rattle.std.proofs.lemmas.List.{length_push, take_all}
+use Rattle.std.proofs.lemmas.List.{length_push}
 use Rattle.crash_plant.specs.declared.device.Device.TheVariants.{Control}
 use Rattle.crash_plant.specs.Calls.{HearsNothing}
 use Rattle.crash_plant.specs.Moments.{PlantState}

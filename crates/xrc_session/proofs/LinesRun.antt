@@ -1,9 +1,8 @@
 -- The lines of a script, one after another.
 use Rattle.xrc_session.proofs.OnTrail.{rests_on_trail}
 use Rattle.pair_table.specs.Tables.{Table}
-use Rattle.std.proofs.Common.{◌≡◌, inl, inr, ℕ, suc, ◌+◌, ◌-◌, ◌<◌, ◌≤◌, Bool, true, false, true≢false, cond, nat_eq, List, [], ◌++◌, length, Option, Some, None, sym, ap, ◌∙◌, append_assoc, append-nil, arith, refl}
-use Rattle.std.specs.Prelude.{◌&&◌, IfSome, IsSomeAnd, MatchOption, nat_lt, IsTrue}
-use Rattle.std.proofs.lemmas.Bool.{eq-eqb, or_left}
+use Rattle.std.proofs.Common.{◌≡◌, inl, inr, ℕ, suc, ◌+◌, ◌<◌, ◌≤◌, false, true≢false, List, [], ◌++◌, length, Option, Some, None, sym, ap, ◌∙◌, append_assoc, append-nil, arith, refl}
+use Rattle.std.specs.Prelude.{IfSome, IsSomeAnd, MatchOption, IsTrue}
 use Rattle.crash_plant.specs.declared.device.Device.TheVariants.{Volume}
 use Rattle.crash_plant.specs.Calls.{SameSite, WorksOnConsole}
 use Rattle.crash_plant.specs.Moments.{PlantState}
@@ -11,12 +10,10 @@ use Rattle.write_trace.specs.declared.trace.Trace.{Trace}
 use Rattle.pair_table.specs.declared.names.NamedDevice.{NamedDevice}
 use Rattle.site_store.specs.Sites.{SiteState}
 use Rattle.consistency.specs.Stages.{ScriptRun}
-use Rattle.consistency.specs.Courses.{Answered, first_line, is_whole_line, last_line_time, later_line, lines_begun, most_lines, texts_of, stage_at}
-use Rattle.consistency.proofs.Lines.{whole_at_end}
+use Rattle.consistency.specs.Courses.{Answered, last_line_time, lines_begun, most_lines, texts_of, stage_at}
 use Rattle.script_lines.specs.declared.next.Next.TheVariants as next
 use Rattle.script_lines.specs.Hearing.{HearsText, KeepsHearing, SaysNothing}
 use Rattle.script_lines.specs.NextLines.{IsNextLine}
-use Rattle.script_lines.specs.Texts.{IsWhole, has_feed}
 use Rattle.script_lines.proofs.EndLaws.{fed_has}
 use Rattle.mover.specs.declared.lane.Lane.{Lane}
 use Rattle.mover.specs.Epochs.{AllTurnOut}

@@ -2,25 +2,23 @@
 use Rattle.xrc_session.proofs.RepliesNow.{bears_behind}
 use Rattle.xrc_session.proofs.OnTrail.{rests_on_trail}
 use Rattle.pair_table.specs.Tables.{Table}
-use Rattle.std.proofs.Common.{◌≡◌, ◌⊎◌, inl, inr, ℕ, suc, ◌<◌, ◌≤◌, true, List, [], ◌∷◌, ◌++◌, length, take, Option, Some, None, refl, sym, ap, subst, ◌∙◌, append_assoc, append-nil, arith, true≢false}
+use Rattle.std.proofs.Common.{◌≡◌, ℕ, ◌<◌, ◌≤◌, true, List, [], ◌∷◌, ◌++◌, length, take, Option, Some, None, refl, sym, ap, subst, ◌∙◌, append_assoc, arith, true≢false}
 use Rattle.std.specs.Prelude.{MatchOption, IsTrue}
-use Rattle.std.proofs.lemmas.Bool.{cases_lt}
 use Rattle.crash_plant.specs.declared.device.Device.TheVariants.{Control}
 use Rattle.crash_plant.specs.Calls.{Says, WorksOnConsole}
 use Rattle.crash_plant.specs.Moments.{PlantState}
 use Rattle.site_store.specs.Sites.{SiteState}
-use Rattle.consistency.specs.Stages.{ScriptRun, Stage}
-use Rattle.consistency.specs.Pauses.{MayReply, RunGoesOn}
-use Rattle.consistency.specs.Courses.{Answered, AreAsked, IsAnswered, IsCourse, replies_of, stage_at, texts_of}
-use Rattle.consistency.specs.Moments.{BearsThroughout}
+use Rattle.consistency.specs.Stages.{ScriptRun}
+use Rattle.consistency.specs.Pauses.{MayReply}
+use Rattle.consistency.specs.Courses.{Answered, IsAnswered, replies_of, stage_at, texts_of}
 use Rattle.consistency.proofs.Between.{replies_fail, replies_go_on}
-use Rattle.consistency.proofs.Lines.{asked_more, course_more, replies_more, texts_more}
+use Rattle.consistency.proofs.Lines.{asked_more, course_more, texts_more}
 use Rattle.mover.specs.declared.lane.Lane.{Lane}
 use Rattle.xrc_command.specs.declared.line.Line.{Line}
 use Rattle.xrc_status.specs.Saying.{SaidWhole}
 use Rattle.xrc_status.specs.declared.stop.Stop.TheVariants.{ConsoleFault}
 use Rattle.xrc_session.specs.declared.answering.LineAnswer.{LineAnswer}
-use Rattle.xrc_session.specs.AppliedEnds.{AppliesEnds, IsAllApplied}
+use Rattle.xrc_session.specs.AppliedEnds.{AppliesBeforeReply, AppliesEnds, IsAllApplied}
 use Rattle.xrc_session.specs.LinePauses.{HasAnswered, HasNotBegun, RestsAtSite, StandsBehindLines, stage_behind}
 use Rattle.xrc_session.specs.Ends.{StopsInLine}
 use Rattle.xrc_session.specs.Replying.{reply_composed}
@@ -28,7 +26,7 @@ use Rattle.xrc_session.specs.States.{SessionState}
 use Rattle.xrc_session.specs.Steps.{IsExactBehind, IsToReply, line_answered}
 use Rattle.xrc_session.specs.Stops.{RepliesInPart}
 use Rattle.xrc_session.specs.Trails.{AreExact, GoesForth, Trail, first_leg, BeginsAtStart, StandsOnTrail}
-use Rattle.xrc_session.proofs.AppliedEnds.{applied_still, applies_more, applies_on, says_more}
+use Rattle.xrc_session.proofs.AppliedEnds.{applied_still, applies_before, applies_more, applies_on, said_before}
 use Rattle.xrc_session.proofs.Consoles.{behind_on}
 use Rattle.xrc_session.proofs.Courses.{none_next}
 use Rattle.xrc_session.proofs.Exactly.{exact_more}
@@ -58,6 +56,13 @@ module _ {S : Type 0} (run : ScriptRun) (lines : List Answered) (trail : Trail) 
   applied_now : (stage_behind run (lines ++ a ∷ []) [] began).table.is_ended ≡ true → IsAllApplied new new.clock
   applied_now ended = applied_still tells told mid new works (to.applied reply ended)
 
+  later : mid.clock ≤ new.clock
+  later = ((works.elapses told).kept Control).later
+
+  -- It was before the reply.
+  before_now : 0 < began.clock → (stage_behind run (lines ++ a ∷ []) [] began).table.is_ended ≡ true → AppliesBeforeReply lines began new new.clock
+  before_now up ended = applies_before tells told lines began mid new works to.goes.now.later (said_before run lines text began mid (to.goes.keeps up)) (to.applied reply ended) up
+
   -- Once it was said whole, the line is answered.
   pub said_whole : AppliesEnds run lines began mid → SaidWhole reply mid new → HasAnswered run (lines ++ a ∷ []) trail [] s lanes began new
   said_whole ends whole =
@@ -67,13 +72,8 @@ module _ {S : Type 0} (run : ScriptRun) (lines : List Answered) (trail : Trail) 
         exact = exact_all;
         stands = stands;
         broke = to.broke;
-        applied =
-            applies_more run lines a began new tells told mid works to.goes.now.later on.now.said (λ up. says_more run lines a text _ began mid new (to.goes.keeps up) answered.is_reply on.now.said) (to.applied reply)
-            (applies_on run lines began mid new to.goes.now.later works.site (works.elapses told) ends);
+        applied = applies_more run lines a began new (omega (arith, to.goes.now.later, later)) on.now.said applied_now before_now (applies_on run lines began mid new to.goes.now.later works.site (works.elapses told) ends);
       }
-
-  later : mid.clock ≤ new.clock
-  later = ((works.elapses told).kept Control).later
 
   in_part : RepliesInPart run lines a began new
   in_part =
@@ -85,6 +85,7 @@ module _ {S : Type 0} (run : ScriptRun) (lines : List Answered) (trail : Trail) 
         script = to.goes.now.script ∙ ap (λ (l : List ℕ). texts_of lines ++ text ++ l) (sym says.script) ∙ ap (λ (l : List ℕ). l ++ new.script) (sym (texts_more lines a));
         front = (said.0, said.1, said.2 ∙ ap (λ (l : List ℕ). l ++ take said.0 reply) to.goes.now.said ∙ append_assoc (began.said began.clock) (replies_of lines) (take said.0 reply));
         applied = applied_now;
+        before = before_now;
         bears = λ up. replies_fail run lines (first_leg run (lines ++ a ∷ []) trail) trail.points a began mid new to.goes may tells told works says up;
         bears_now = bears_behind run lines (first_leg run (lines ++ a ∷ []) trail) trail.points a began mid new to.goes may tells told works;
       }

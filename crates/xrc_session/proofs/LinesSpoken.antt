@@ -1,10 +1,9 @@
 -- A line whose reply is said, once it was done.
 use Rattle.xrc_session.proofs.Growing.{says_grows}
-use Rattle.std.proofs.Common.{◌≡◌, ◌⊎◌, inl, inr, ℕ, ◌<◌, ◌≤◌, Bool, true, false, List, [], ◌∷◌, ◌++◌, length, Option, Some, None, Result, Ok, Err, refl, sym, ap, subst, ◌∙◌, append-nil, arith}
-use Rattle.std.specs.Prelude.{IfSome, IsErrOf, IsSomeAnd, OnOk}
-use Rattle.xrc_edge.specs.Causes.{HasCause, Rose}
-use Rattle.crash_plant.specs.Calls.{Elapses, HearsNothing, SameSite, Silent, WorksOnConsole}
-use Rattle.crash_plant.specs.declared.device.Device.{Device}
+use Rattle.std.proofs.Common.{◌≡◌, ℕ, ◌≤◌, List, ◌++◌, length, Option, Some, None, Result, Ok, Err, refl, sym, ap, ◌∙◌, arith}
+use Rattle.std.specs.Prelude.{IfSome, IsSomeAnd}
+use Rattle.xrc_edge.specs.Causes.{Rose}
+use Rattle.crash_plant.specs.Calls.{HearsNothing, Silent, WorksOnConsole}
 use Rattle.crash_plant.specs.declared.device.Device.TheVariants.{Control, Volume}
 use Rattle.crash_plant.specs.Moments.{PlantState}
 use Rattle.pair_table.specs.declared.command.Change.{Change}
@@ -16,12 +15,9 @@ use Rattle.pair_table.specs.declared.level.Level.{Level}
 use Rattle.pair_table.specs.declared.names.NamedDevice.{NamedDevice}
 use Rattle.pair_table.specs.declared.row.PairRow.{PairRow}
 use Rattle.sidefile.specs.Breaks.{stamp}
-use Rattle.site_store.specs.Records.{IsStore}
 use Rattle.site_store.specs.Sites.{SiteState}
 use Rattle.ckd_track.specs.declared.write.Cause.{Cause}
 use Rattle.xquery_report.specs.Replies.{reply_line}
-use Rattle.consistency.specs.Stages.{ScriptRun}
-use Rattle.consistency.specs.Courses.{Answered}
 use Rattle.mover.specs.declared.lane.Lane.{Lane}
 use Rattle.xrc_command.specs.declared.line.Line.{Line}
 use Rattle.xrc_status.specs.Saying.{SaidWhole, SaysText}
@@ -35,12 +31,11 @@ use Rattle.xrc_session.specs.Replying.{causes_in, reply_composed, report_in, rep
 use Rattle.xrc_session.specs.Runs.{AreLabelsRead}
 use Rattle.xrc_session.specs.Starting.{BeginsByLine, RepliesToStart, StandsBehindStart, level_started, reply_to_start}
 use Rattle.xrc_session.specs.States.{SessionState}
-use Rattle.xrc_session.specs.Steps.{AnswersLine, DoesLine, EndsDoing, HasHeard, known_by, line_answered}
+use Rattle.xrc_session.specs.Steps.{AnswersLine, DoesLine, known_by, line_answered}
 use Rattle.xrc_session.specs.Stops.{HasStopCause, StopsByCount}
-use Rattle.xrc_session.specs.Trails.{Trail}
 use Rattle.xrc_session.proofs.AppliedEnds.{applies_on}
 use Rattle.xrc_session.proofs.Consoles.{between_on}
-use Rattle.xrc_session.proofs.InTurn.{NoneFell, NoneRisen, cause_before, fell_then, keeps_console, keeps_then, none_risen_then, none_stop, suspends_same, suspends_then}
+use Rattle.xrc_session.proofs.InTurn.{NoneFell, NoneRisen, cause_before, fell_then, keeps_console, keeps_then, none_risen_then, suspends_same, suspends_then}
 use Rattle.xrc_session.proofs.LinesBefore.{started_command}
 use Rattle.xrc_session.proofs.LinesDone.{between_told}
 use Rattle.xrc_session.proofs.Labelled.{read_still}
@@ -147,6 +142,7 @@ module _ {S : Type 0} (tells : Type 0) (left : S → Option (List ℕ)) (s next 
     console = λ other. absurd (other refl);
     later = spoken_fell.devices;
     console_later = spoken_fell.console;
+    console_once = (let same = none.console in let once = says.cause.by_one in omega (arith, same, once));
   }
 
   pub fault_cause : Rose mid.console_faults new.console_faults → HasStopCause old new ConsoleFault

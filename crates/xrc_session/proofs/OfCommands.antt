@@ -1,24 +1,20 @@
 -- Lines that are answered by the points of their commands.
-use Rattle.std.proofs.Common.{◌≡◌, ◌⊎◌, inl, inr, ℕ, suc, Bool, true, false, cond, List, [], ◌∷◌, ◌++◌, length, Option, Some, None, refl, sym, ap, subst, ◌∙◌, append_assoc, append-nil, arith}
-use Rattle.std.specs.Prelude.{fold, is_none, not, ◌&&◌, ◌||◌, if◌then◌else◌}
+use Rattle.std.proofs.Common.{◌≡◌, ◌⊎◌, inl, inr, ℕ, suc, Bool, true, false, List, [], ◌∷◌, ◌++◌, length, Option, Some, refl, sym, ap, subst, ◌∙◌, append-nil, arith}
+use Rattle.std.specs.Prelude.{fold, if◌then◌else◌}
 use Rattle.std.proofs.lemmas.Bool.{cond-true, eq-eqb}
-use Rattle.pair_table.specs.declared.level.Level.{Level}
-use Rattle.pair_table.specs.declared.command.Command.TheVariants.{Start}
-use Rattle.pair_table.specs.declared.row.PairRow.{PairRow}
-use Rattle.pair_table.specs.Commands.{is_end}
 use Rattle.pair_table.specs.Tables.{Table}
 use Rattle.crash_plant.specs.Moments.{PlantState}
 use Rattle.row_changes.specs.Changes.{Timed, after_changes}
 use Rattle.row_changes.specs.Spans.{AreCounted}
 use Rattle.xrc_command.specs.declared.line.Line.{Line}
 use Rattle.consistency.specs.Answering.{answered_by, is_command_of, points_before}
-use Rattle.consistency.specs.Stages.{ScriptRun, Stage, accepts, accepts_end, breaks_of}
+use Rattle.consistency.specs.Stages.{ScriptRun, Stage, accepts}
 use Rattle.consistency.specs.Pauses.{AreToldOf, HasPassed, asked_in}
 use Rattle.consistency.specs.Courses.{Answered, IsAnswered}
 use Rattle.consistency.specs.Leads.{Point}
 use Rattle.consistency.specs.Replies.{IsReply}
 use Rattle.consistency.specs.Replying.{HasNames, IsExact}
-use Rattle.consistency.specs.Ways.{ComesBy, ComesNext, HasCountedHits, IsCommanding, IsEnding, IsLegOf, Leg, PassedPoint, Way, going_on, is_on_the_way, leg_after, leg_by, table_at}
+use Rattle.consistency.specs.Ways.{ComesBy, ComesNext, HasCountedHits, IsCommanding, IsEnding, IsLegOf, Leg, PassedPoint, Way, going_on, is_on_the_way, leg_after, leg_by}
 use Rattle.consistency.specs.Ways.Way.{Commanded, Ending, MarkedFor, OnTheWay}
 use Rattle.consistency.proofs.Answering.{line_is_answered}
 use Rattle.consistency.proofs.CountingHits.{command_is_counted, end_is_counted}

@@ -1,6 +1,6 @@
 -- A started session stands on its trail.
 use Rattle.std.proofs.Common.{◌≡◌, List, [], Option, Some, None, sym, ap, subst, ◌∙◌}
-use Rattle.std.specs.Prelude.{◌++◌, fold, IfSome}
+use Rattle.std.specs.Prelude.{fold, IfSome}
 use Rattle.crash_plant.specs.Choices.{AtNow}
 use Rattle.crash_plant.specs.Moments.{PlantState}
 use Rattle.site_means.specs.Images.{shape_of}

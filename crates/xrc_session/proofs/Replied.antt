@@ -1,8 +1,8 @@
 -- The reply that a session composes is the exact one.
-use Rattle.std.proofs.Common.{◌≡◌, ◌⊎◌, inl, inr, ℕ, zero, suc, ◌<◌, ◌≤◌, Bool, true, false, true≢false, List, [], ◌∷◌, ◌++◌, length, map, Option, Some, None, refl, sym, ap, subst, ◌∙◌, arith, slice_get}
-use Rattle.std.specs.Prelude.{◌&&◌, ◌||◌, not, is_none, is_ok, Result, Ok, Err, IfSome, IsSomeAnd, IsTrue, MatchOption, bytes_eq, nat_lt, if◌then◌else◌, slice_index_or}
+use Rattle.std.proofs.Common.{◌≡◌, ℕ, suc, Bool, true, false, true≢false, List, [], ◌∷◌, ◌++◌, length, map, Option, Some, None, refl, sym, ap, subst, ◌∙◌, arith, slice_get}
+use Rattle.std.specs.Prelude.{◌&&◌, ◌||◌, not, is_none, is_ok, Result, Ok, Err, IfSome, MatchOption, bytes_eq, nat_lt, if◌then◌else◌, slice_index_or}
 use Rattle.std.specs.Option.{option_map}
-use Rattle.std.proofs.lemmas.Bool.{and_parts, and_right}
+use Rattle.std.proofs.lemmas.Bool.{and_parts}
 use Rattle.crash_plant.specs.Moments.{PlantState}
 use Rattle.ckd_track.specs.declared.write.Cause.{Cause}
 use Rattle.tod_stamp.specs.declared.stamp.Stamp.{Stamp}
@@ -14,7 +14,7 @@ use Rattle.pair_table.specs.declared.command.Command.TheVariants.{Start, AddPair
 use Rattle.pair_table.specs.declared.command.Refusal.{Refusal}
 use Rattle.pair_table.specs.declared.command.Refusal.TheVariants.{Ended, NoSession}
 use Rattle.pair_table.specs.declared.level.Level.{Level}
-use Rattle.pair_table.specs.Commands.{accepted, answer_by, change_of}
+use Rattle.pair_table.specs.Commands.{accepted}
 use Rattle.pair_table.specs.Refusals.{refusal}
 use Rattle.pair_table.specs.Tables.{Table}
 use Rattle.row_changes.specs.Changes.{Timed}
@@ -22,9 +22,9 @@ use Rattle.xquery_report.specs.Replies.{answer_part, command_part, reply_line, t
 use Rattle.xquery_report.specs.Reports.{report_text}
 use Rattle.tod_stamp.specs.Stamps.{stamp_text}
 use Rattle.site_store.specs.Sites.{SiteState}
-use Rattle.consistency.specs.Answering.{ReplyContent, answered_by, reply_content}
+use Rattle.consistency.specs.Answering.{ReplyContent}
 use Rattle.consistency.specs.Stages.{ScriptRun, Stage, accepts, breaks_of, names_of}
-use Rattle.consistency.specs.Courses.{Answered, replied_after, stage_after, stage_at}
+use Rattle.consistency.specs.Courses.{Answered, replied_after}
 use Rattle.consistency.specs.Leads.{Point}
 use Rattle.consistency.specs.Replying.{is_query, is_reported, own_line, report_before, told_tracks}
 use Rattle.consistency.specs.Steps.{commanded, names_at, table_after_line, table_on_the_way}
@@ -38,9 +38,9 @@ use Rattle.xrc_command.specs.declared.line.Line.{Line}
 use Rattle.xrc_session.specs.declared.answering.LineAnswer.{LineAnswer}
 use Rattle.xrc_session.specs.LinePauses.{HasNotBegun, RestsAtSite, StandsBehindLines, stage_behind}
 use Rattle.xrc_session.specs.Replying.{cause_in, causes_in, reply_composed, report_in, reported_site, time_told}
-use Rattle.xrc_session.specs.States.{SessionState, site_time, session_time}
+use Rattle.xrc_session.specs.States.{SessionState, site_time}
 use Rattle.xrc_session.specs.Steps.{IsExactBehind, IsToReply, content_behind_lines, line_answered}
-use Rattle.xrc_session.specs.Trails.{Trail, first_leg, last_leg}
+use Rattle.xrc_session.specs.Trails.{Trail, first_leg}
 use Rattle.xrc_session.proofs.Exactly.{part_told}
 
 -- ---- causes

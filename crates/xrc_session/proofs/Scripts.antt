@@ -36,7 +36,6 @@ use Rattle.xrc_session.specs.Starting.BeginsRun.{Unstarted}
 use Rattle.xrc_session.specs.States.{SessionState}
 use Rattle.xrc_session.specs.Steps.{EndsFinishing, FinishesRuns}
 use Rattle.xrc_session.specs.Stops.{HasStopCause}
-use Rattle.xrc_session.specs.Trails.{Trail}
 use Rattle.xrc_session.proofs.InTurn.{NoneFell, fell_here, fell_then, rises_before}
 use Rattle.xrc_session.proofs.LinesNext.{no_trail}
 use Rattle.xrc_session.proofs.LinesRun.{labels_later}

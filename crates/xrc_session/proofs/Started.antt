@@ -41,7 +41,6 @@ use Rattle.mover.specs.Bearing.{StandsSoFar}
 use Rattle.mover.specs.Epochs.{AllTurnOut, IsSamePair, point_of}
 use Rattle.mover.specs.Rounds.{AreLanesOf}
 use Rattle.mover.specs.Working.{LinesAsked, StandsForRows}
-use Rattle.xrc_status.specs.declared.stop.Stop.TheVariants as stops
 use Rattle.xrc_session.specs.declared.kept.SessionParts.{SessionParts}
 use Rattle.xrc_session.specs.Beginnings.{HasJustStarted, run_at_start, stage_at_start}
 use Rattle.xrc_session.specs.LinePauses.{AreCountsFrom, HasCut, IsReadyForEpoch, MayCommandSite, RisesCover, StandsForSite, site_point}

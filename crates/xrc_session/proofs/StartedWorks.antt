@@ -58,6 +58,7 @@ works_then {A} {T} tells site after old mid new value r result unworked to from 
     console = λ not. then.counts.console (λ fault. not (from stops.ConsoleFault fault)) ∙ quiet;
     later = λ d. (let one = first.counts.later d in let two = then.counts.later d in omega (arith, one, two));
     console_later = (let one = first.counts.console_later in let two = then.counts.console_later in omega (arith, one, two));
+    console_once = (let one = quiet in let two = then.counts.console_once in omega (arith, one, two));
   };
   spent = λ told is. then.spent told (to stops.Spent is);
 }

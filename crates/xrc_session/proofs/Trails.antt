@@ -1,6 +1,6 @@
 -- The way of a session's devices, and what a run bears on it.
-use Rattle.std.proofs.Common.{◌≡◌, ◌⊎◌, inl, inr, ℕ, suc, ◌<◌, ◌≤◌, Bool, true, false, List, [], ◌∷◌, ◌++◌, length, take, Option, Some, None, refl, sym, ap, subst, ◌∙◌, append_assoc, append-nil, arith, nat_eq}
-use Rattle.std.specs.Prelude.{◌-◌, fold, IfSome, is_none, not, if◌then◌else◌}
+use Rattle.std.proofs.Common.{◌≡◌, ◌⊎◌, inl, inr, ℕ, ◌<◌, ◌≤◌, Bool, true, false, List, [], ◌∷◌, ◌++◌, length, Option, Some, None, refl, sym, ap, subst, ◌∙◌, append-nil, arith, nat_eq}
+use Rattle.std.specs.Prelude.{◌-◌, fold, IfSome, is_none, not}
 use Rattle.std.specs.List.{All}
 use Rattle.std.proofs.lemmas.Bool.{cases_lt}
 use Rattle.std.proofs.lemmas.List.{take-append-le}
@@ -11,9 +11,7 @@ use Rattle.crash_plant.specs.Choices.{AtNow, Choice, IsChoice}
 use Rattle.crash_plant.specs.Moments.{PlantState}
 use Rattle.crash_plant.proofs.Choices.{past_choice}
 use Rattle.crash_plant.proofs.Steps.{site_trans}
-use Rattle.pair_table.specs.Tables.{Table}
-use Rattle.row_changes.specs.Changes.{Due, Timed, may_end}
-use Rattle.row_changes.specs.Changes.Due.{NoneDue}
+use Rattle.row_changes.specs.Changes.{Timed}
 use Rattle.row_changes.specs.Spans.{AreCounted}
 use Rattle.site_means.specs.Images.{Shape, shape_of}
 use Rattle.site_means.proofs.Goes.{shape_same}
@@ -21,7 +19,7 @@ use Rattle.xrc_command.specs.declared.line.Line.{Line}
 use Rattle.consistency.specs.Bearing.{GoesThroughPoints, MayBeMeant, ShowsPoint}
 use Rattle.consistency.specs.Stages.{IsTime, ScriptRun, Stage}
 use Rattle.consistency.specs.Pauses.{RunGoesOn, ShowsMeant}
-use Rattle.consistency.specs.Courses.{Answered, AreAsked, last_line_time, next_line, replies_of, stage_at, texts_of}
+use Rattle.consistency.specs.Courses.{Answered, AreAsked, last_line_time, replies_of, stage_at, texts_of}
 use Rattle.consistency.specs.Keeping.{stage_now}
 use Rattle.consistency.specs.Leads.{Point, may_rest}
 use Rattle.consistency.specs.Moments.{AreUpTo, BearsTime}

@@ -1,6 +1,6 @@
 -- What a line's command leaves of a site and of the shared state, once it was logged.
 use Rattle.xrc_session.specs.MapsTaken.{WantsOwed}
-use Rattle.std.specs.Prelude.{◌≡◌, ◌⊎◌, ℕ, ◌<◌, ◌+◌, List, [], ◌∷◌, ◌++◌, length, fold, Bool, true, false, Option, Some, None, Result, Ok, Err, IsSomeAnd, IsTrue}
+use Rattle.std.specs.Prelude.{◌≡◌, ◌⊎◌, ℕ, ◌<◌, List, [], ◌∷◌, ◌++◌, length, fold, Bool, true, false, Option, Some, None, Result, Ok, Err, IsSomeAnd, IsTrue}
 use Rattle.std.specs.List.{All, Contains, list_all}
 use Rattle.crash_plant.specs.Choices.{AtNow}
 use Rattle.crash_plant.specs.Moments.{PlantState}

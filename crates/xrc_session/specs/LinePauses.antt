@@ -8,7 +8,6 @@ use Rattle.crash_plant.specs.Choices.{AtNow}
 use Rattle.crash_plant.specs.Moments.{PlantState, Stays, on}
 use Rattle.pair_table.specs.Naming.{Naming, none_alike}
 use Rattle.pair_table.specs.Tables.{new_table}
-use Rattle.group_state.specs.Controls.{counts}
 use Rattle.group_state.specs.Groups.{Group, new_group}
 use Rattle.passages.specs.Points.{last_point}
 use Rattle.record_rows.specs.Hits.{hit_now}

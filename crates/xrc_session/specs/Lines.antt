@@ -1,5 +1,5 @@
 -- What a session's calls make of it, from line to line.
-use Rattle.std.specs.Prelude.{◌≡◌, ℕ, ◌≤◌, List, [], true, false, Option, None, Some, Ok, IfSome, IsSomeAnd, MatchOption}
+use Rattle.std.specs.Prelude.{◌≡◌, ℕ, ◌≤◌, List, [], true, false, Option, None, Ok, IfSome, IsSomeAnd, MatchOption}
 use Rattle.crash_plant.specs.Calls.{NoneLent}
 use Rattle.crash_plant.specs.Moments.{PlantState}
 use Rattle.pair_table.specs.declared.command.Change.TheVariants.{Started}

@@ -1,12 +1,11 @@
 -- What stands within a line: behind what was heard of it, once the session has come to its time, and once its command was done or refused.
 use Rattle.pair_table.specs.declared.command.Change.TheVariants.{Resumed}
 use Rattle.xrc_session.specs.MapsTaken.{WantsOwed}
-use Rattle.std.specs.Prelude.{◌≡◌, ◌⊎◌, ℕ, ◌+◌, ◌<◌, false, List, [], ◌∷◌, ◌++◌, length, fold, Option, Some, None, Result, Ok, Err, IfSome, IsSomeAnd, IsTrue}
+use Rattle.std.specs.Prelude.{◌≡◌, ℕ, ◌<◌, false, List, [], ◌∷◌, ◌++◌, length, fold, Option, Some, None, Result, Ok, Err, IfSome, IsSomeAnd, IsTrue}
 use Rattle.std.specs.List.{All}
-use Rattle.crash_plant.specs.Choices.{AtNow, Choice}
+use Rattle.crash_plant.specs.Choices.{AtNow}
 use Rattle.crash_plant.specs.Moments.{PlantState}
 use Rattle.row_changes.specs.Changes.{Timed}
-use Rattle.site_means.specs.Images.{shape_of}
 use Rattle.xrc_command.specs.declared.line.Line.{Line}
 use Rattle.site_store.specs.Sites.{SiteState}
 use Rattle.group_state.specs.Groups.{Group}
@@ -16,7 +15,7 @@ use Rattle.consistency.specs.Steps.{table_on_the_way}
 use Rattle.mover.specs.Working.{LinesAsked, IsOnItsWay, ShowsLast}
 use Rattle.passages.specs.Points.{AreLinked, last_point}
 use Rattle.consistency.specs.Answering.{ReplyContent, answered_by, reply_content, points_before}
-use Rattle.consistency.specs.Bearing.{GoesThroughPoints, MayBeMeant, ShowsPoint}
+use Rattle.consistency.specs.Bearing.{GoesThroughPoints, MayBeMeant}
 use Rattle.consistency.specs.Pauses.{MayReply, RunGoesOn}
 use Rattle.consistency.specs.Leads.{Point}
 use Rattle.consistency.specs.Replying.{IsExact, is_reported, told_tracks}

@@ -1,5 +1,5 @@
 -- The way of a session's devices since its start, from point to point.
-use Rattle.std.specs.Prelude.{◌≡◌, ◌⊎◌, ℕ, suc, ◌-◌, ◌+◌, ◌≤◌, ◌<◌, ◌==◌, false, List, [], ◌++◌, length, take, fold, Option, IfSome, if◌then◌else◌, slice_get, Some, IsTrue}
+use Rattle.std.specs.Prelude.{◌≡◌, ℕ, suc, ◌-◌, ◌+◌, ◌≤◌, ◌<◌, ◌==◌, false, List, [], ◌++◌, length, take, fold, Option, IfSome, if◌then◌else◌, slice_get, Some, IsTrue}
 use Rattle.crash_plant.specs.declared.device.Device.TheVariants.{Volume}
 use Rattle.crash_plant.specs.Choices.{AtMoment, AtNow}
 use Rattle.crash_plant.specs.Moments.{PlantState}
@@ -14,7 +14,7 @@ use Rattle.consistency.specs.Bearing.{GoesThroughPoints, ShowsPoint}
 use Rattle.consistency.specs.Pauses.{asked_in}
 use Rattle.consistency.specs.Leads.{Point}
 use Rattle.consistency.specs.Replying.{IsExact}
-use Rattle.consistency.specs.Ways.{ComesBy, ComesNext, Leg, PassedPoint, Way, hits_of_leg, leg_after, leg_at}
+use Rattle.consistency.specs.Ways.{ComesNext, Leg, PassedPoint, hits_of_leg, leg_after, leg_at}
 use Rattle.mover.specs.Moves.{most_faults}
 use Rattle.mover.specs.Working.{IsOnItsWay, ShowsLast}
 use Rattle.xrc_session.specs.WrittenLines.{AreWrittenByLines}

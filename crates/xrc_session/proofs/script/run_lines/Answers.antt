@@ -1,4 +1,4 @@
-use Rattle.std.proofs.Common.{rules, ◌≡◌, inr, ℕ, List, Ok, Err, refl, sym, ap, subst, ◌∙◌, arith}
+use Rattle.std.proofs.Common.{inr, refl, sym, subst, ◌∙◌, arith}
 use Rattle.script_lines.specs.NextLines.{IsNextLine}
 use Rattle.xrc_session.specs.Runs.{RunsLines}
 use Rattle.xrc_session.specs.Steps.{AnswersLine}
@@ -17,20 +17,20 @@ loop-number-init g c =
 pub line-requires-clause-between : goal.line-requires-clause-between
 line-requires-clause-between g c κs within =
     let next = c.next_line.ensures in
-    let h = hearing c.loop-number.invariant next.only next.cause.later next.heard next.silent (λ told. next.keeps told c.args.plant.now) in
+    let h = hearing c.loop-number.invariant next.only next.cause.later next.cause.by_one next.heard next.silent (λ told. next.keeps told c.args.plant.now) in
     heard_between h
 
 pub line-requires-clause-time : goal.line-requires-clause-time
 line-requires-clause-time g c κs within =
     let next = c.next_line.ensures in
-    let h = hearing c.loop-number.invariant next.only next.cause.later next.heard next.silent (λ told. next.keeps told c.args.plant.now) in
+    let h = hearing c.loop-number.invariant next.only next.cause.later next.cause.by_one next.heard next.silent (λ told. next.keeps told c.args.plant.now) in
     let is = subst (λ n. IsNextLine g.P.Plant.tells c.loop-number.number c.loop-number.before.0 c.next_line.new.text (g.P.Plant.state c.next_line.new.plant).script n) c.in-Ok-Line.field-0-is c.in-Ok-Line.ensures.next in
     line_time h c.in-Ok-Line.line is
 
 pub returns-in-Ok-Bad-clause-keeps : goal.returns-in-Ok-Bad-clause-keeps
 returns-in-Ok-Bad-clause-keeps g c =
     let next = c.next_line.ensures in
-    let h = hearing c.loop-number.invariant next.only next.cause.later next.heard next.silent (λ told. next.keeps told c.args.plant.now) in
+    let h = hearing c.loop-number.invariant next.only next.cause.later next.cause.by_one next.heard next.silent (λ told. next.keeps told c.args.plant.now) in
     heard_keeps h
 
 pub returns-in-Ok-Bad-clause-went : goal.returns-in-Ok-Bad-clause-went
@@ -40,14 +40,14 @@ returns-in-Ok-Bad-clause-went g c =
 pub returns-in-Ok-Bad-clause-lines : goal.returns-in-Ok-Bad-clause-lines
 returns-in-Ok-Bad-clause-lines g c =
     let next = c.next_line.ensures in
-    let h = hearing c.loop-number.invariant next.only next.cause.later next.heard next.silent (λ told. next.keeps told c.args.plant.now) in
+    let h = hearing c.loop-number.invariant next.only next.cause.later next.cause.by_one next.heard next.silent (λ told. next.keeps told c.args.plant.now) in
     let is = subst (λ n. IsNextLine g.P.Plant.tells c.loop-number.number c.loop-number.before.0 c.next_line.new.text (g.P.Plant.state c.next_line.new.plant).script n) c.in-Ok-Bad.field-0-is c.in-Ok-Bad.ensures.next in
     bad_ends h c.in-Ok-Bad.ensures.cause.ok is
 
 pub returns-in-Ok-Bad-clause-begins : goal.returns-in-Ok-Bad-clause-begins
 returns-in-Ok-Bad-clause-begins g c =
     let next = c.next_line.ensures in
-    let h = hearing c.loop-number.invariant next.only next.cause.later next.heard next.silent (λ told. next.keeps told c.args.plant.now) in
+    let h = hearing c.loop-number.invariant next.only next.cause.later next.cause.by_one next.heard next.silent (λ told. next.keeps told c.args.plant.now) in
     heard_begins h
 
 pub returns-in-Ok-Bad-clause-cause : goal.returns-in-Ok-Bad-clause-cause
@@ -57,19 +57,19 @@ returns-in-Ok-Bad-clause-cause g c =
 pub returns-in-Ok-Bad-clause-counts : goal.returns-in-Ok-Bad-clause-counts
 returns-in-Ok-Bad-clause-counts g c =
     let next = c.next_line.ensures in
-    let h = hearing c.loop-number.invariant next.only next.cause.later next.heard next.silent (λ told. next.keeps told c.args.plant.now) in
+    let h = hearing c.loop-number.invariant next.only next.cause.later next.cause.by_one next.heard next.silent (λ told. next.keeps told c.args.plant.now) in
     none_stop _ _ _ (heard_counts h c.in-Ok-Bad.ensures.cause.ok)
 
 pub returns-in-Ok-Nothing-clause-between : goal.returns-in-Ok-Nothing-clause-between
 returns-in-Ok-Nothing-clause-between g c =
     let next = c.next_line.ensures in
-    let h = hearing c.loop-number.invariant next.only next.cause.later next.heard next.silent (λ told. next.keeps told c.args.plant.now) in
+    let h = hearing c.loop-number.invariant next.only next.cause.later next.cause.by_one next.heard next.silent (λ told. next.keeps told c.args.plant.now) in
     heard_between h
 
 pub returns-in-Ok-Nothing-clause-keeps : goal.returns-in-Ok-Nothing-clause-keeps
 returns-in-Ok-Nothing-clause-keeps g c =
     let next = c.next_line.ensures in
-    let h = hearing c.loop-number.invariant next.only next.cause.later next.heard next.silent (λ told. next.keeps told c.args.plant.now) in
+    let h = hearing c.loop-number.invariant next.only next.cause.later next.cause.by_one next.heard next.silent (λ told. next.keeps told c.args.plant.now) in
     heard_keeps h
 
 pub returns-in-Ok-Nothing-clause-went : goal.returns-in-Ok-Nothing-clause-went
@@ -79,32 +79,32 @@ returns-in-Ok-Nothing-clause-went g c =
 pub returns-in-Ok-Nothing-clause-lines : goal.returns-in-Ok-Nothing-clause-lines
 returns-in-Ok-Nothing-clause-lines g c =
     let next = c.next_line.ensures in
-    let h = hearing c.loop-number.invariant next.only next.cause.later next.heard next.silent (λ told. next.keeps told c.args.plant.now) in
+    let h = hearing c.loop-number.invariant next.only next.cause.later next.cause.by_one next.heard next.silent (λ told. next.keeps told c.args.plant.now) in
     let is = subst (λ n. IsNextLine g.P.Plant.tells c.loop-number.number c.loop-number.before.0 c.next_line.new.text (g.P.Plant.state c.next_line.new.plant).script n) c.in-Ok-Nothing.field-0-is c.in-Ok-Nothing.ensures.next in
     nothing_ends h c.in-Ok-Nothing.ensures.cause.ok is
 
 pub returns-in-Ok-Nothing-clause-begins : goal.returns-in-Ok-Nothing-clause-begins
 returns-in-Ok-Nothing-clause-begins g c =
     let next = c.next_line.ensures in
-    let h = hearing c.loop-number.invariant next.only next.cause.later next.heard next.silent (λ told. next.keeps told c.args.plant.now) in
+    let h = hearing c.loop-number.invariant next.only next.cause.later next.cause.by_one next.heard next.silent (λ told. next.keeps told c.args.plant.now) in
     heard_begins h
 
 pub returns-in-Ok-Nothing-clause-begun : goal.returns-in-Ok-Nothing-clause-begun
 returns-in-Ok-Nothing-clause-begun g c =
     let next = c.next_line.ensures in
-    let h = hearing c.loop-number.invariant next.only next.cause.later next.heard next.silent (λ told. next.keeps told c.args.plant.now) in
+    let h = hearing c.loop-number.invariant next.only next.cause.later next.cause.by_one next.heard next.silent (λ told. next.keeps told c.args.plant.now) in
     heard_begun h
 
 pub returns-in-Ok-Nothing-clause-counts : goal.returns-in-Ok-Nothing-clause-counts
 returns-in-Ok-Nothing-clause-counts g c =
     let next = c.next_line.ensures in
-    let h = hearing c.loop-number.invariant next.only next.cause.later next.heard next.silent (λ told. next.keeps told c.args.plant.now) in
+    let h = hearing c.loop-number.invariant next.only next.cause.later next.cause.by_one next.heard next.silent (λ told. next.keeps told c.args.plant.now) in
     none_stop _ _ _ (heard_counts h c.in-Ok-Nothing.ensures.cause.ok)
 
 pub returns-in-Err-clause-keeps : goal.returns-in-Err-clause-keeps
 returns-in-Err-clause-keeps g c =
     let next = c.next_line.ensures in
-    let h = hearing c.loop-number.invariant next.only next.cause.later next.heard next.silent (λ told. next.keeps told c.args.plant.now) in
+    let h = hearing c.loop-number.invariant next.only next.cause.later next.cause.by_one next.heard next.silent (λ told. next.keeps told c.args.plant.now) in
     heard_keeps h
 
 pub returns-in-Err-clause-went : goal.returns-in-Err-clause-went
@@ -114,31 +114,31 @@ returns-in-Err-clause-went g c =
 pub returns-in-Err-clause-lines : goal.returns-in-Err-clause-lines
 returns-in-Err-clause-lines g c =
     let next = c.next_line.ensures in
-    let h = hearing c.loop-number.invariant next.only next.cause.later next.heard next.silent (λ told. next.keeps told c.args.plant.now) in
+    let h = hearing c.loop-number.invariant next.only next.cause.later next.cause.by_one next.heard next.silent (λ told. next.keeps told c.args.plant.now) in
     console_ends h c.in-Err.ensures.failed
 
 pub returns-in-Err-clause-begins : goal.returns-in-Err-clause-begins
 returns-in-Err-clause-begins g c =
     let next = c.next_line.ensures in
-    let h = hearing c.loop-number.invariant next.only next.cause.later next.heard next.silent (λ told. next.keeps told c.args.plant.now) in
+    let h = hearing c.loop-number.invariant next.only next.cause.later next.cause.by_one next.heard next.silent (λ told. next.keeps told c.args.plant.now) in
     heard_begins h
 
 pub returns-in-Err-clause-cause : goal.returns-in-Err-clause-cause
 returns-in-Err-clause-cause g c =
     let next = c.next_line.ensures in
-    let h = hearing c.loop-number.invariant next.only next.cause.later next.heard next.silent (λ told. next.keeps told c.args.plant.now) in
+    let h = hearing c.loop-number.invariant next.only next.cause.later next.cause.by_one next.heard next.silent (λ told. next.keeps told c.args.plant.now) in
     console_cause h c.in-Err.ensures.cause.failed
 
 pub returns-in-Err-clause-counts : goal.returns-in-Err-clause-counts
 returns-in-Err-clause-counts g c =
     let next = c.next_line.ensures in
-    let h = hearing c.loop-number.invariant next.only next.cause.later next.heard next.silent (λ told. next.keeps told c.args.plant.now) in
+    let h = hearing c.loop-number.invariant next.only next.cause.later next.cause.by_one next.heard next.silent (λ told. next.keeps told c.args.plant.now) in
     console_counts h
 
 pub returns-in_err-line-in-Ok-Line-clause-keeps : goal.returns-in_err-line-in-Ok-Line-clause-keeps
 returns-in_err-line-in-Ok-Line-clause-keeps g c =
     let next = c.next_line.ensures in
-    let h = hearing c.loop-number.invariant next.only next.cause.later next.heard next.silent (λ told. next.keeps told c.args.plant.now) in
+    let h = hearing c.loop-number.invariant next.only next.cause.later next.cause.by_one next.heard next.silent (λ told. next.keeps told c.args.plant.now) in
     let is = subst (λ n. IsNextLine g.P.Plant.tells c.loop-number.number c.loop-number.before.0 c.next_line.new.text (g.P.Plant.state c.next_line.new.plant).script n) c.in-Ok-Line.field-0-is c.in-Ok-Line.ensures.next in
     let run = c.line.ensures in
     let d = line_went_by h c.in-Ok-Line.line is c.in-Ok-Line.ensures.cause.ok run.same run.keeps (counts_fell (g.P.Plant.state c.next_line.new.plant) (g.P.Plant.state c.line.new.plant) c.line.result run.counts) run.went run.unheard run.begins run.labels in
@@ -147,7 +147,7 @@ returns-in_err-line-in-Ok-Line-clause-keeps g c =
 pub returns-in_err-line-in-Ok-Line-clause-went : goal.returns-in_err-line-in-Ok-Line-clause-went
 returns-in_err-line-in-Ok-Line-clause-went g c =
     let next = c.next_line.ensures in
-    let h = hearing c.loop-number.invariant next.only next.cause.later next.heard next.silent (λ told. next.keeps told c.args.plant.now) in
+    let h = hearing c.loop-number.invariant next.only next.cause.later next.cause.by_one next.heard next.silent (λ told. next.keeps told c.args.plant.now) in
     let is = subst (λ n. IsNextLine g.P.Plant.tells c.loop-number.number c.loop-number.before.0 c.next_line.new.text (g.P.Plant.state c.next_line.new.plant).script n) c.in-Ok-Line.field-0-is c.in-Ok-Line.ensures.next in
     let run = c.line.ensures in
     let d = line_went_by h c.in-Ok-Line.line is c.in-Ok-Line.ensures.cause.ok run.same run.keeps (counts_fell (g.P.Plant.state c.next_line.new.plant) (g.P.Plant.state c.line.new.plant) c.line.result run.counts) run.went run.unheard run.begins run.labels in
@@ -156,7 +156,7 @@ returns-in_err-line-in-Ok-Line-clause-went g c =
 pub returns-in_err-line-in-Ok-Line-clause-lines : goal.returns-in_err-line-in-Ok-Line-clause-lines
 returns-in_err-line-in-Ok-Line-clause-lines g c = λ told.
     let next = c.next_line.ensures in
-    let h = hearing c.loop-number.invariant next.only next.cause.later next.heard next.silent (λ told. next.keeps told c.args.plant.now) in
+    let h = hearing c.loop-number.invariant next.only next.cause.later next.cause.by_one next.heard next.silent (λ told. next.keeps told c.args.plant.now) in
     let is = subst (λ n. IsNextLine g.P.Plant.tells c.loop-number.number c.loop-number.before.0 c.next_line.new.text (g.P.Plant.state c.next_line.new.plant).script n) c.in-Ok-Line.field-0-is c.in-Ok-Line.ensures.next in
     let run = c.line.ensures in
     let d = line_went_by h c.in-Ok-Line.line is c.in-Ok-Line.ensures.cause.ok run.same run.keeps (counts_fell (g.P.Plant.state c.next_line.new.plant) (g.P.Plant.state c.line.new.plant) c.line.result run.counts) run.went run.unheard run.begins run.labels in
@@ -169,7 +169,7 @@ returns-in_err-line-in-Ok-Line-clause-lines g c = λ told.
 pub returns-in_err-line-in-Ok-Line-clause-begins : goal.returns-in_err-line-in-Ok-Line-clause-begins
 returns-in_err-line-in-Ok-Line-clause-begins g c =
     let next = c.next_line.ensures in
-    let h = hearing c.loop-number.invariant next.only next.cause.later next.heard next.silent (λ told. next.keeps told c.args.plant.now) in
+    let h = hearing c.loop-number.invariant next.only next.cause.later next.cause.by_one next.heard next.silent (λ told. next.keeps told c.args.plant.now) in
     let is = subst (λ n. IsNextLine g.P.Plant.tells c.loop-number.number c.loop-number.before.0 c.next_line.new.text (g.P.Plant.state c.next_line.new.plant).script n) c.in-Ok-Line.field-0-is c.in-Ok-Line.ensures.next in
     let run = c.line.ensures in
     let d = line_went_by h c.in-Ok-Line.line is c.in-Ok-Line.ensures.cause.ok run.same run.keeps (counts_fell (g.P.Plant.state c.next_line.new.plant) (g.P.Plant.state c.line.new.plant) c.line.result run.counts) run.went run.unheard run.begins run.labels in
@@ -178,7 +178,7 @@ returns-in_err-line-in-Ok-Line-clause-begins g c =
 pub returns-in_err-line-in-Ok-Line-clause-cause : goal.returns-in_err-line-in-Ok-Line-clause-cause
 returns-in_err-line-in-Ok-Line-clause-cause g c =
     let next = c.next_line.ensures in
-    let h = hearing c.loop-number.invariant next.only next.cause.later next.heard next.silent (λ told. next.keeps told c.args.plant.now) in
+    let h = hearing c.loop-number.invariant next.only next.cause.later next.cause.by_one next.heard next.silent (λ told. next.keeps told c.args.plant.now) in
     let is = subst (λ n. IsNextLine g.P.Plant.tells c.loop-number.number c.loop-number.before.0 c.next_line.new.text (g.P.Plant.state c.next_line.new.plant).script n) c.in-Ok-Line.field-0-is c.in-Ok-Line.ensures.next in
     let run = c.line.ensures in
     let d = line_went_by h c.in-Ok-Line.line is c.in-Ok-Line.ensures.cause.ok run.same run.keeps (counts_fell (g.P.Plant.state c.next_line.new.plant) (g.P.Plant.state c.line.new.plant) c.line.result run.counts) run.went run.unheard run.begins run.labels in
@@ -190,7 +190,7 @@ returns-in_err-line-in-Ok-Line-clause-cause g c =
 pub returns-in_err-line-in-Ok-Line-clause-counts : goal.returns-in_err-line-in-Ok-Line-clause-counts
 returns-in_err-line-in-Ok-Line-clause-counts g c =
     let next = c.next_line.ensures in
-    let h = hearing c.loop-number.invariant next.only next.cause.later next.heard next.silent (λ told. next.keeps told c.args.plant.now) in
+    let h = hearing c.loop-number.invariant next.only next.cause.later next.cause.by_one next.heard next.silent (λ told. next.keeps told c.args.plant.now) in
     let is = subst (λ n. IsNextLine g.P.Plant.tells c.loop-number.number c.loop-number.before.0 c.next_line.new.text (g.P.Plant.state c.next_line.new.plant).script n) c.in-Ok-Line.field-0-is c.in-Ok-Line.ensures.next in
     let run = c.line.ensures in
     let d = line_went_by h c.in-Ok-Line.line is c.in-Ok-Line.ensures.cause.ok run.same run.keeps (counts_fell (g.P.Plant.state c.next_line.new.plant) (g.P.Plant.state c.line.new.plant) c.line.result run.counts) run.went run.unheard run.begins run.labels in
@@ -202,7 +202,7 @@ returns-in_err-line-in-Ok-Line-clause-counts g c =
 pub loop-number-preserved : goal.loop-number-preserved
 loop-number-preserved g c =
     let next = c.next_line.ensures in
-    let h = hearing c.loop-number.invariant next.only next.cause.later next.heard next.silent (λ told. next.keeps told c.args.plant.now) in
+    let h = hearing c.loop-number.invariant next.only next.cause.later next.cause.by_one next.heard next.silent (λ told. next.keeps told c.args.plant.now) in
     let is = subst (λ n. IsNextLine g.P.Plant.tells c.loop-number.number c.loop-number.before.0 c.next_line.new.text (g.P.Plant.state c.next_line.new.plant).script n) c.in-Ok-Line.field-0-is c.in-Ok-Line.ensures.next in
     let run = c.line.ensures in
     let d = line_went_by h c.in-Ok-Line.line is c.in-Ok-Line.ensures.cause.ok run.same run.keeps (counts_fell (g.P.Plant.state c.next_line.new.plant) (g.P.Plant.state c.line.new.plant) c.line.result run.counts) run.went run.unheard run.begins run.labels in

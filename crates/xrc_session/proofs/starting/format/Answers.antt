@@ -1,5 +1,5 @@
 -- A site is formatted, and the labels are read.
-use Rattle.std.proofs.Common.{◌≡◌, ◌∙◌, Result, Ok, Err, refl, sym, subst, arith}
+use Rattle.std.proofs.Common.{◌≡◌, ◌∙◌, Result, Err, refl, sym, subst, arith}
 use Rattle.std.proofs.lemmas.Result.{IfOk-from_err}
 use Rattle.applier.proofs.Works.{lent_of_works, none_lent_lent}
 use Rattle.site_store.specs.Formats.{IsFormatted}

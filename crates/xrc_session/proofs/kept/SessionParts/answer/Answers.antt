@@ -1,5 +1,5 @@
 -- A line's command is done or refused, and an end is marked.
-use Rattle.std.proofs.Common.{◌∙◌, true, false, Result, subst, sym, true≢false}
+use Rattle.std.proofs.Common.{◌∙◌, true, Result, subst, sym, true≢false}
 use Rattle.xrc_status.specs.declared.stop.Stop.{Stop}
 use Rattle.xrc_session.specs.declared.answering.LineAnswer.{LineAnswer}
 use Rattle.xrc_session.specs.Answering.{AnswersCommands, MarksOn}

@@ -1,5 +1,5 @@
 -- A line is answered once the session has ended.
-use Rattle.std.proofs.Common.{◌≡◌, refl, sym, ap, arith}
+use Rattle.std.proofs.Common.{arith}
 use Rattle.xrc_session.proofs.LinesOfEnd.{end_at, end_does_line, end_done, end_flag, end_hits, end_keeps, end_kept, end_may, end_same, end_silent}
 use Rattle.xrc_session.proofs.LinesPlaces.{never_unstarted, session_at}
 use Rattle.xrc_session.proofs.run.SessionRun.answer_behind_end.Goals as goal

@@ -1,5 +1,5 @@
 -- A line is answered from the start on: once the session has ended, or in time.
-use Rattle.std.proofs.Common.{◌≡◌, ◌∙◌, refl, sym, ap}
+use Rattle.std.proofs.Common.{◌∙◌, refl, sym, ap}
 use Rattle.xrc_session.specs.States.{SessionState}
 use Rattle.xrc_session.proofs.LinesPlaces.{lanes_here, lanes_went}
 use Rattle.xrc_session.proofs.run.SessionRun.answer_from_start.Goals as goal

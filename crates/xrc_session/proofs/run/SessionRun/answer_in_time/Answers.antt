@@ -1,5 +1,5 @@
 -- A line is answered by a session that goes on.
-use Rattle.std.proofs.Common.{◌≡◌, refl, sym, ap, arith}
+use Rattle.std.proofs.Common.{arith}
 use Rattle.xrc_session.proofs.LinesOfTime.{done_counts, done_does, done_hits, done_keeps, done_line, done_same, done_silent, then_at, then_cause, then_counts, then_does, then_flag, then_keeps, then_kept, then_may, then_same, then_silent, time_goes, time_later, time_ready, way_cause, way_counts, way_does, way_keeps, way_same}
 use Rattle.xrc_session.proofs.LinesPlaces.{never_unstarted, ok_none, on_none, session_at}
 use Rattle.xrc_session.proofs.Numbered.{given_on}

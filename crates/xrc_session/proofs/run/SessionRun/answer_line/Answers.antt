@@ -1,6 +1,6 @@
 -- A line is answered before the start or from it on.
 use Rattle.xrc_session.proofs.Growing.{start_keeps}
-use Rattle.std.proofs.Common.{◌≡◌, refl, sym, ap}
+use Rattle.std.proofs.Common.{refl}
 use Rattle.xrc_session.proofs.LinesPlaces.{never_none, session_at, started_at, unstarted_at}
 use Rattle.xrc_session.proofs.run.SessionRun.answer_line.Goals as goal
 

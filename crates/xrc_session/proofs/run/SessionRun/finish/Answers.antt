@@ -1,5 +1,5 @@
 -- A session is finished by a mark, or there is nothing to do.
-use Rattle.std.proofs.Common.{◌≡◌, refl, sym, ap, arith}
+use Rattle.std.proofs.Common.{refl}
 use Rattle.xrc_session.proofs.FinishedRuns.{ended_at_end, mark_ends, mark_idle, mark_keeps, mark_told, still_counts, still_ends, still_keeps, still_silent, unstarted_at_end}
 use Rattle.xrc_session.proofs.LinesPlaces.{never_none, session_at}
 use Rattle.xrc_session.proofs.run.SessionRun.finish.Goals as goal

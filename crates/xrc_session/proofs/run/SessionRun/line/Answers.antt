@@ -1,5 +1,5 @@
 -- A line is answered, and its reply is composed and said.
-use Rattle.std.proofs.Common.{◌≡◌, ◌∙◌, refl, sym, ap, subst, arith}
+use Rattle.std.proofs.Common.{◌∙◌, sym, subst}
 use Rattle.xrc_status.specs.declared.stop.Stop.TheVariants.{NoMemory}
 use Rattle.xrc_session.specs.Lines.{IsSameSession}
 use Rattle.xrc_session.specs.States.{SessionState}
