@@ -1,11 +1,21 @@
 //! Works through files of cases: it runs the program over devices and traces in memory, and says what differs from what a case wants.
 #![tactic(auto)]
 
+mod book;
+mod call;
+mod case;
+mod endings;
+mod file;
+mod made;
 mod program;
+mod report;
+mod scene;
+mod tables;
 
+use crate::file::try_cases;
 use crate::program::Xrc;
+use crate::report::Report;
 use case_notation::{Lines, Wrong, written_out};
-use case_runner::{Report, try_cases};
 use std::alloc::Global;
 use std::process::ExitCode;
 use std::rt::{Env, Files};

@@ -33,13 +33,23 @@ pub fn try_cases<'a, R: Threads + Wait + Sync, P: Program>(
         case: None,
         is_in_left: false,
     };
-    for (line, number) in text.text().lines().zip(text.numbers()) {
-        reader.take(rt, program, Words::new(*number, line), report)?;
-    }
-    reader.end_case(report)
+    reader.take_all(rt, program, text, report)
 }
 
 impl<'a> Reader<'a> {
+    fn take_all<R: Threads + Wait + Sync, P: Program>(
+        &mut self,
+        rt: &R,
+        program: &P,
+        text: &'a Lines,
+        report: &mut Report<'a>,
+    ) -> Result<(), Wrong> {
+        for (line, number) in text.text().lines().zip(text.numbers()) {
+            self.take(rt, program, Words::new(*number, line), report)?;
+        }
+        self.end_case(report)
+    }
+
     fn take<R: Threads + Wait + Sync, P: Program>(
         &mut self,
         rt: &R,
@@ -87,7 +97,7 @@ impl<'a> Reader<'a> {
     }
 
     fn end_case(&mut self, report: &mut Report<'a>) -> Result<(), Wrong> {
-        match self.case.take() {
+        match &mut self.case {
             Some(case) => case.end(report),
             None => Ok(()),
         }

@@ -140,12 +140,26 @@ impl<'a> Call<'a> {
         past: &Past,
         fill: &[u8],
     ) -> Result<Outcome, Wrong> {
-        let words = self.recovery()?;
-        let left = past.crash(self.alloc, fill)?;
-        let mut past = left.freeze(self.alloc)?;
-        let sources = Vec::new(self.alloc);
-        let status = past.call(rt, program, self.alloc, words.as_slice(), sources)?;
+        let mut past = past.crash(self.alloc, fill)?.freeze(self.alloc)?;
+        let status = self.run_recovery(rt, program, &mut past)?;
         Ok(Outcome { status, past })
+    }
+
+    /// Recovers over these devices, and gives the status.
+    fn run_recovery<R: Threads + Wait + Sync, P: Program>(
+        &self,
+        rt: &R,
+        program: &P,
+        past: &mut Past,
+    ) -> Result<u8, Wrong> {
+        let words = self.recovery()?;
+        past.call(
+            rt,
+            program,
+            self.alloc,
+            words.as_slice(),
+            Vec::new(self.alloc),
+        )
     }
 
     fn all_words(&self) -> Result<Vec<String>, Wrong> {
@@ -178,13 +192,30 @@ impl<'a> Call<'a> {
         twist: Twist<'_>,
         fails: &[Fail],
     ) -> Result<Outcome, Wrong> {
-        let words = self.all_words()?;
-        let sources = sources(self.alloc, traces, twist.flaw)?;
+        let mut past = self.prepared(before, fails)?;
+        let status = self.run(rt, program, traces, twist, &mut past)?;
+        Ok(Outcome { status, past })
+    }
+
+    /// The devices with the call's script, of which calls will fail.
+    fn prepared(&self, before: &Past, fails: &[Fail]) -> Result<Past, Wrong> {
         let mut site = before.crash(self.alloc, b"")?;
         site.set_script(self.alloc, self.script.as_slice())?;
-        let mut past = site.into_past(self.alloc, fails)?;
-        let status = past.call(rt, program, self.alloc, words.as_slice(), sources)?;
-        Ok(Outcome { status, past })
+        site.into_past(self.alloc, fails)
+    }
+
+    /// Makes the call over these devices, and gives its status.
+    fn run<R: Threads + Wait + Sync, P: Program>(
+        &self,
+        rt: &R,
+        program: &P,
+        traces: &[Trace],
+        twist: Twist<'_>,
+        past: &mut Past,
+    ) -> Result<u8, Wrong> {
+        let words = self.all_words()?;
+        let sources = sources(self.alloc, traces, twist.flaw)?;
+        past.call(rt, program, self.alloc, words.as_slice(), sources)
     }
 
     /// The failures of the call, each counted from so many bytes. The lines are those that the call says without any of them.

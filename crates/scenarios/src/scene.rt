@@ -1,93 +1,18 @@
-//! Tables: the same call again and again, with another call that fails, another flaw of a trace, or other bytes.
+//! The calls of a table's rows.
 
 use crate::book::{Book, Left};
-use crate::call::{Call, Outcome, Planned, Twist};
+use crate::call::{Call, Outcome, Twist};
+use crate::endings::Ending;
 use crate::made::Made;
 use crate::report::{Part, Report};
-use case_notation::{
-    Cut, Flaw, Past, Program, Trace, Words, Wrong, length_of_lines, spell, spell_lines,
-};
-use crash_plant::Device;
+use crate::tables::Table;
+use case_notation::{Past, Program, Site, Trace, Words, Wrong, spell_lines};
 use std::alloc::Global;
 use std::sync::Wait;
 use std::thread::Threads;
 
-/// What the rows of a table change.
-#[derive(Clone, Copy)]
-pub enum Table {
-    None,
-    /// A call on a device, or on the console, fails.
-    Fails {
-        at: Option<Device>,
-        lines: u64,
-        stop: bool,
-    },
-    /// A trace is cut.
-    Cuts(usize),
-    /// A pull of a trace fails.
-    Pulls(usize),
-}
-
 /// What fills the ranges that are open in a crash, and how it is called.
 const FILLS: [(&[u8], &str); 3] = [(&[], ", zeros"), (&[1], ", 01"), (&[0xFF], ", FF")];
-
-impl Table {
-    /// The table that a line begins, for a case of so many traces.
-    pub fn begun(keyword: &str, mut words: Words<'_>, traces: usize) -> Result<Table, Wrong> {
-        let table = match keyword {
-            "stops" | "fails" => Table::Fails {
-                at: words.place_of_calls()?,
-                lines: words.said()?,
-                stop: keyword == "stops",
-            },
-            "cuts" => Table::Cuts(trace_of(&mut words, traces)?),
-            "pulls" => Table::Pulls(trace_of(&mut words, traces)?),
-            _ => return Err(words.wrong("the line begins with no word of the notation")),
-        };
-        words.end()?;
-        Ok(table)
-    }
-
-    /// The failure of a row's call.
-    fn fail(self, words: Words<'_>, call: u64) -> Result<Twist<'static>, Wrong> {
-        let Table::Fails { at, lines, stop } = self else {
-            return Err(words.wrong("it stands below stops or fails"));
-        };
-        let fail = Planned {
-            line: words.number(),
-            at,
-            lines,
-            call,
-            stop,
-        };
-        Ok(Twist {
-            fail: Some(fail),
-            flaw: None,
-            calm: None,
-        })
-    }
-
-    /// The flaw of a row's trace.
-    fn flaw(self, words: Words<'_>, number: u64) -> Result<Twist<'static>, Wrong> {
-        let Ok(number) = usize::try_from(number) else {
-            return Err(words.wrong("a number is too large"));
-        };
-        let cut = Cut {
-            line: words.number(),
-            length: number,
-        };
-        let flaw = match self {
-            Table::Cuts(trace) => (trace, Flaw::Cut(cut)),
-            Table::Pulls(trace) => (trace, Flaw::Pull(number)),
-            _ => return Err(words.wrong("it stands below cuts or pulls")),
-        };
-        Ok(Twist {
-            fail: None,
-            flaw: Some(flaw),
-            calm: None,
-        })
-    }
-}
 
 /// A call, the devices that it begins with, and its traces.
 #[derive(Clone, Copy)]
@@ -96,83 +21,6 @@ pub struct Scene<'s, 'a> {
     pub call: &'s Call<'a>,
     pub before: &'s Past,
     pub traces: &'s [Trace],
-}
-
-/// How a call ends that has failed or was stopped.
-#[derive(Clone, Copy)]
-struct Ending<'a> {
-    words: Words<'a>,
-    lines: u64,
-    part: &'a str,
-    /// What stands behind the part: the end of its line, or nothing.
-    part_end: &'static str,
-    status: u8,
-    /// The names of what is left, one for each fill or one for all.
-    lefts: Words<'a>,
-}
-
-impl<'a> Ending<'a> {
-    /// Reads `said N [part TEXT | line TEXT] status S leaves NAME..`.
-    fn read(mut words: Words<'a>) -> Result<Ending<'a>, Wrong> {
-        let line = words;
-        words.expect("said", "said N is wanted")?;
-        let lines = words.decimal()?;
-        let (part, part_end) = Ending::read_part(&mut words)?;
-        let status = words.small()?;
-        words.expect("leaves", "leaves NAME is wanted")?;
-        Ok(Ending {
-            words: line,
-            lines,
-            part,
-            part_end,
-            status,
-            lefts: words,
-        })
-    }
-
-    /// Reads `part TEXT` or `line TEXT`, if one is next, and the word `status`. Gives the text, and what stands behind it.
-    fn read_part(words: &mut Words<'a>) -> Result<(&'a str, &'static str), Wrong> {
-        let end = if words.skip("part") {
-            ""
-        } else if words.skip("line") {
-            "\n"
-        } else {
-            words.expect("status", "status S is wanted")?;
-            return Ok(("", ""));
-        };
-        let Some((text, rest)) = words.rest().split_once(" status ") else {
-            return Err(words.wrong("status S is wanted"));
-        };
-        *words = words.with_rest(rest);
-        Ok((text, end))
-    }
-
-    /// The names of what is left by each fill.
-    fn names(self) -> Result<(&'a str, &'a str, &'a str), Wrong> {
-        let mut words = self.lefts;
-        let first = words.word()?;
-        if words.rest().trim().is_empty() {
-            return Ok((first, first, first));
-        }
-        let second = words.word()?;
-        let third = words.word()?;
-        words.end()?;
-        Ok((first, second, third))
-    }
-
-    /// What has to be said, where a calm call says this.
-    fn said(self, alloc: Global, calm: &[u8]) -> Result<Vec<u8>, Wrong> {
-        let Some(length) = length_of_lines(calm, self.lines) else {
-            return Err(self.words.wrong("the call says fewer lines"));
-        };
-        let mut part = String::new(alloc);
-        spell(self.words, self.part, &mut part)?;
-        part.push_str(self.part_end)?;
-        let mut said = Vec::new(alloc);
-        said.extend_from_slice(calm.get(..length).unwrap_or(b""))?;
-        said.extend_from_slice(part.as_bytes())?;
-        Ok(said)
-    }
 }
 
 impl<'s, 'a> Scene<'s, 'a> {
@@ -257,9 +105,24 @@ impl<'s, 'a> Scene<'s, 'a> {
         report: &mut Report<'_>,
     ) -> Result<(), Wrong> {
         let outcome = self.make_failing(rt, program, table, ending.words, number, calm)?;
-        let said = ending.said(self.alloc, calm)?;
-        check_end(&outcome, ending, said.as_slice(), number, report)?;
-        self.try_lefts(rt, program, &outcome, ending, number, book, report)
+        self.check_end(rt, program, &outcome, ending, calm, number, book, report)
+    }
+
+    /// A call has ended so, and what a crash leaves then is recovered as it is named.
+    fn check_end<R: Threads + Wait + Sync, P: Program>(
+        self,
+        rt: &R,
+        program: &P,
+        outcome: &Outcome,
+        ending: Ending<'_>,
+        calm: &[u8],
+        number: u64,
+        book: &Book<'_>,
+        report: &mut Report<'_>,
+    ) -> Result<(), Wrong> {
+        let part = Part::at("said", number, "");
+        ending.check(self.alloc, outcome, calm, part, report)?;
+        self.try_lefts(rt, program, outcome, ending, number, book, report)
     }
 
     /// A row of calls that fail, each of which ends in one of these ways.
@@ -278,16 +141,49 @@ impl<'s, 'a> Scene<'s, 'a> {
         let calm = self.make(rt, program, Twist::NONE)?;
         for number in from..=to {
             let said = calm.past.said();
-            let outcome = self.make_failing(rt, program, table, words, number, said)?;
-            match self.way_of(ways, said, &outcome)? {
-                Some(way) => self.try_way(rt, program, &outcome, way, words, number, book, report)?,
-                None => {
-                    let part = Part::at("no way", number, "");
-                    report.compare(words.number(), part, b"", outcome.past.said())?;
-                }
-            }
+            self.try_number(rt, program, table, ways, said, words, number, book, report)?;
         }
         Ok(())
+    }
+
+    fn try_number<R: Threads + Wait + Sync, P: Program>(
+        self,
+        rt: &R,
+        program: &P,
+        table: Table,
+        ways: &[Words<'_>],
+        calm: &[u8],
+        words: Words<'_>,
+        number: u64,
+        book: &Book<'_>,
+        report: &mut Report<'_>,
+    ) -> Result<(), Wrong> {
+        let outcome = self.make_failing(rt, program, table, words, number, calm)?;
+        self.check_ways(
+            rt, program, &outcome, ways, calm, words, number, book, report,
+        )
+    }
+
+    /// A call has ended in one of these ways.
+    fn check_ways<R: Threads + Wait + Sync, P: Program>(
+        self,
+        rt: &R,
+        program: &P,
+        outcome: &Outcome,
+        ways: &[Words<'_>],
+        calm: &[u8],
+        words: Words<'_>,
+        number: u64,
+        book: &Book<'_>,
+        report: &mut Report<'_>,
+    ) -> Result<(), Wrong> {
+        match self.way_of(ways, calm, outcome)? {
+            Some(way) => self.try_way(rt, program, outcome, way, words, number, book, report),
+            None => {
+                let part = Part::at("no way", number, "");
+                report.compare(words.number(), part, b"", outcome.past.said())
+            }
+        }
     }
 
     /// The first of these ways in which a call has ended.
@@ -299,8 +195,7 @@ impl<'s, 'a> Scene<'s, 'a> {
     ) -> Result<Option<Ending<'w>>, Wrong> {
         for way in ways {
             let ending = Ending::read(*way)?;
-            let said = ending.said(self.alloc, calm)?;
-            if ending.status == outcome.status && said.as_slice() == outcome.past.said() {
+            if ending.is_end_of(self.alloc, outcome, calm)? {
                 return Ok(Some(ending));
             }
         }
@@ -321,27 +216,47 @@ impl<'s, 'a> Scene<'s, 'a> {
     ) -> Result<(), Wrong> {
         for (fill, shown) in FILLS.iter() {
             report.count_try();
+            let part = Part::at("no name of the way", number, *shown);
             let recovered = self.call.recover(rt, program, &outcome.past, *fill)?;
-            if !self.is_left(&recovered, way, book)? {
-                let part = Part::at("no name of the way", number, *shown);
-                report.compare(words.number(), part, b"", recovered.past.said())?;
-            }
+            self.check_recovery(&recovered, way, words.number(), part, book, report)?;
         }
         Ok(())
     }
 
-    /// Whether a recovery has said and left what one of a way's names says.
-    fn is_left(self, recovered: &Outcome, way: Ending<'_>, book: &Book<'_>) -> Result<bool, Wrong> {
+    fn check_recovery(
+        self,
+        recovered: &Outcome,
+        way: Ending<'_>,
+        line: u64,
+        part: Part,
+        book: &Book<'_>,
+        report: &mut Report<'_>,
+    ) -> Result<(), Wrong> {
         for name in way.lefts.rest().split_whitespace() {
-            let left = book.left(way.words, name)?;
-            let made = Made::new(self.alloc, recovered, b"", Part::of("recovery"))?;
-            let mut report = Report::new(self.alloc);
-            check_left(made, left, &mut report)?;
-            if !report.differs() {
-                return Ok(true);
+            if self.is_left(recovered, book.left(way.words, name)?)? {
+                return Ok(());
             }
         }
-        Ok(false)
+        report.compare(line, part, b"", recovered.past.said())
+    }
+
+    /// Whether a recovery has said and left what a name says.
+    fn is_left(self, recovered: &Outcome, left: &Left<'_>) -> Result<bool, Wrong> {
+        let mut report = Report::new(self.alloc);
+        self.check_left(recovered, left, Part::of("recovery"), &mut report)?;
+        Ok(!report.differs())
+    }
+
+    /// A recovery has said and left what a name says.
+    fn check_left(
+        self,
+        recovered: &Outcome,
+        left: &Left<'_>,
+        part: Part,
+        report: &mut Report<'_>,
+    ) -> Result<(), Wrong> {
+        let mut made = Made::new(self.alloc, recovered, b"", part)?;
+        check_lines_left(&mut made, left, report)
     }
 
     /// What a crash leaves then is recovered as it is named, by each fill.
@@ -377,8 +292,7 @@ impl<'s, 'a> Scene<'s, 'a> {
         report: &mut Report<'_>,
     ) -> Result<(), Wrong> {
         let recovered = self.call.recover(rt, program, &outcome.past, fill)?;
-        let made = Made::new(self.alloc, &recovered, b"", part)?;
-        check_left(made, left, report)
+        self.check_left(&recovered, left, part, report)
     }
 
     /// At a call behind the last one all is as without a failure.
@@ -394,11 +308,21 @@ impl<'s, 'a> Scene<'s, 'a> {
         words.end()?;
         report.count_try();
         let calm = self.make(rt, program, Twist::NONE)?;
+        self.check_calm(rt, program, table, &calm, words, number, report)
+    }
+
+    fn check_calm<R: Threads + Wait + Sync, P: Program>(
+        self,
+        rt: &R,
+        program: &P,
+        table: Table,
+        calm: &Outcome,
+        words: Words<'_>,
+        number: u64,
+        report: &mut Report<'_>,
+    ) -> Result<(), Wrong> {
         let outcome = self.make_failing(rt, program, table, words, number, calm.past.said())?;
-        let part = Part::at("status", number, "");
-        report.compare_status(words.number(), part, calm.status, outcome.status)?;
-        let (wanted, got) = (calm.past.said(), outcome.past.said());
-        report.compare(words.number(), part.with("said"), wanted, got)
+        check_same_end(calm, &outcome, words.number(), number, report)
     }
 
     /// A row of flaws of a trace.
@@ -414,9 +338,8 @@ impl<'s, 'a> Scene<'s, 'a> {
         words.expect("status", "status S is wanted")?;
         for number in from..=to {
             report.count_try();
-            let outcome = self.make(rt, program, table.flaw(words, number)?)?;
             let part = Part::at("said", number, "");
-            check_lines(self.alloc, &outcome, words, part, report)?;
+            self.try_lines(rt, program, table.flaw(words, number)?, words, part, report)?;
         }
         Ok(())
     }
@@ -437,27 +360,69 @@ impl<'s, 'a> Scene<'s, 'a> {
             before: &changed,
             traces: self.traces,
         };
-        let outcome = scene.make(rt, program, Twist::NONE)?;
-        check_lines(self.alloc, &outcome, words, Part::of("said"), report)
+        scene.try_lines(rt, program, Twist::NONE, words, Part::of("said"), report)
+    }
+
+    /// A call ends with the status that is next, and says just the lines behind it.
+    fn try_lines<R: Threads + Wait + Sync, P: Program>(
+        self,
+        rt: &R,
+        program: &P,
+        twist: Twist<'_>,
+        words: Words<'_>,
+        part: Part,
+        report: &mut Report<'_>,
+    ) -> Result<(), Wrong> {
+        let outcome = self.make(rt, program, twist)?;
+        check_lines(self.alloc, &outcome, words, part, report)
     }
 
     /// The devices with the bytes of a line, up to its status.
     fn changed(self, words: &mut Words<'_>) -> Result<Past, Wrong> {
         let mut site = self.before.crash(self.alloc, b"")?;
-        for _ in 0..words.rest().len() {
-            if words.skip("status") {
-                break;
-            }
-            let device = words.device()?;
-            let place = words.decimal()?;
-            let mut bytes = Vec::new(self.alloc);
-            words.bytes(&mut bytes)?;
-            if !site.put(device, place, bytes.as_slice()) {
-                return Err(words.wrong("the case has no such device, or it is shorter"));
-            }
-        }
+        put_all(self.alloc, words, &mut site)?;
         site.freeze(self.alloc)
     }
+}
+
+/// Puts the bytes of a line, up to its status.
+fn put_all(alloc: Global, words: &mut Words<'_>, site: &mut Site) -> Result<(), Wrong> {
+    for _ in 0..words.rest().len() {
+        if words.skip("status") {
+            break;
+        }
+        put_next(alloc, words, site)?;
+    }
+    Ok(())
+}
+
+fn put_next(alloc: Global, words: &mut Words<'_>, site: &mut Site) -> Result<(), Wrong> {
+    let device = words.device()?;
+    let place = words.decimal()?;
+    let mut bytes = Vec::new(alloc);
+    words.bytes(&mut bytes)?;
+    if !site.put(device, place, bytes.as_slice()) {
+        return Err(words.wrong("the case has no such device, or it is shorter"));
+    }
+    Ok(())
+}
+
+/// Two calls have ended with the same status, and have said the same.
+fn check_same_end(
+    calm: &Outcome,
+    outcome: &Outcome,
+    line: u64,
+    number: u64,
+    report: &mut Report<'_>,
+) -> Result<(), Wrong> {
+    let part = Part::at("status", number, "");
+    report.compare_status(line, part, calm.status, outcome.status)?;
+    report.compare(
+        line,
+        part.with("said"),
+        calm.past.said(),
+        outcome.past.said(),
+    )
 }
 
 /// The first and the last number of a row.
@@ -468,19 +433,6 @@ fn range(words: &mut Words<'_>) -> Result<(u64, u64), Wrong> {
         return Err(words.wrong("the row has no number"));
     }
     Ok((from, to))
-}
-
-fn check_end(
-    outcome: &Outcome,
-    ending: Ending<'_>,
-    said: &[u8],
-    number: u64,
-    report: &mut Report<'_>,
-) -> Result<(), Wrong> {
-    let line = ending.words.number();
-    let part = Part::at("said", number, "");
-    report.compare_status(line, part.with("status"), ending.status, outcome.status)?;
-    report.compare(line, part, said, outcome.past.said())
 }
 
 /// A call has ended with the status that is next, and has said just the lines behind it.
@@ -498,20 +450,15 @@ fn check_lines(
     report.compare(words.number(), part, wanted.as_bytes(), outcome.past.said())
 }
 
-fn check_left(mut made: Made, left: &Left<'_>, report: &mut Report<'_>) -> Result<(), Wrong> {
+fn check_lines_left(
+    made: &mut Made,
+    left: &Left<'_>,
+    report: &mut Report<'_>,
+) -> Result<(), Wrong> {
     for line in left.lines() {
         let mut words = *line;
         let keyword = words.word()?;
         made.take(keyword, words, report)?;
     }
     made.end_as_done(left.number(), report)
-}
-
-/// A trace of a case that has so many.
-fn trace_of(words: &mut Words<'_>, traces: usize) -> Result<usize, Wrong> {
-    let trace = words.size()?;
-    if trace >= traces {
-        return Err(words.wrong("the case has no such trace"));
-    }
-    Ok(trace)
 }

@@ -4,7 +4,8 @@ use crate::book::Book;
 use crate::call::{Call, Outcome, Twist};
 use crate::made::{Made, is_wanted};
 use crate::report::{Part, Report};
-use crate::tables::{Scene, Table};
+use crate::scene::Scene;
+use crate::tables::Table;
 use case_notation::{Past, Program, Setup, Trace, Words, Wrong};
 use std::alloc::Global;
 use std::sync::Wait;
@@ -254,19 +255,25 @@ impl<'a> Case<'a> {
 
     /// Ends what is wanted of a call that was made, and goes on with what it left.
     fn settle(&mut self, report: &mut Report<'_>) -> Result<(), Wrong> {
-        let Some(done) = self.done.take() else {
+        let Some(done) = &self.done else {
             return Ok(());
         };
+        done.made.end(self.wanted, report)?;
+        self.go_on()
+    }
+
+    /// Goes on with what the call has left.
+    fn go_on(&mut self) -> Result<(), Wrong> {
         self.before = None;
-        let Done { outcome: _, made } = done;
-        made.end(self.wanted, report)?;
-        self.left = Some(made.into_left().freeze(self.alloc)?);
+        if let Some(done) = self.done.take() {
+            self.left = Some(done.into_past(self.alloc)?);
+        }
         self.setup.go_on();
         Ok(())
     }
 
     /// Ends the case, which has to want something of its last call.
-    pub fn end(mut self, report: &mut Report<'_>) -> Result<(), Wrong> {
+    pub fn end(&mut self, report: &mut Report<'_>) -> Result<(), Wrong> {
         if self.progress != Progress::Tried {
             return Err(self.line.wrong("nothing is wanted of the case's last call"));
         }
@@ -276,6 +283,12 @@ impl<'a> Case<'a> {
 }
 
 impl Done {
+    /// The devices as a crash leaves them behind the call.
+    fn into_past(self, alloc: Global) -> Result<Past, Wrong> {
+        let Done { outcome: _, made } = self;
+        made.into_left().freeze(alloc)
+    }
+
     /// Takes a line that wants something of the call.
     fn take(
         &mut self,
